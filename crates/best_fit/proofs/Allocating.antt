@@ -2,12 +2,14 @@
 use Rattle.best_fit.proofs.Common.{◌≡◌, refl, sym, ap, subst, ◌∙◌, ℕ, ◌+◌, ◌-◌, ◌^◌, ◌<◌, ◌≤◌, ◌⊎◌, inl, inr, true}
 use Rattle.best_fit.proofs.Common.{false, List, [], ◌∷◌, ◌++◌, length, arith, IsTrue, none-some, same_Some, Option}
 use Rattle.best_fit.proofs.Common.{Some, None, map, filter, option_map, if◌then◌else◌, cases_Bool, and_from, leb-true}
-use Rattle.best_fit.proofs.Common.{lt-leb, cond-true, cond-false, Cut, bytes_of, Role, Tile, current, has_tags}
-use Rattle.best_fit.proofs.Common.{SaysTiles, bits, nodes_of, is_in, leads, all_from, none_some, Extent, Gap, LiveSet}
+use Rattle.best_fit.proofs.Common.{lt-leb, cond-true, cond-false, WindowState, bytes_of, Role, Tile, current, has_tags}
+use Rattle.best_fit.proofs.Common.{EncodesTiles, bits, nodes_of, is_in, leads, all_from, none_some, Extent, Gap}
+use Rattle.best_fit.proofs.Common.{LiveSet}
 use Rattle.best_fit.proofs.Common.{gaps, added, fit, least, place, precedes, room, share, IsTreeOf, cells_of, is_red}
 use Rattle.best_fit.proofs.Common.{payloads, sorted_gaps, gap_of, gaps_of, gaps_in, len_in, links_among, plain}
-use Rattle.best_fit.proofs.Common.{tiles_in, Good, Good-is_good, is_good-Good, AreSome, HasTree, OutOfTree, Regrown}
-use Rattle.best_fit.proofs.Common.{is_long, node_of, IsAllocated, IsHeap, Keeps, LaysOut, live_of}
+use Rattle.best_fit.proofs.Common.{tiles_in, IsGoodHeap, IsGoodHeap-is_good, is_good-IsGoodHeap, AreSome, HasGapTree}
+use Rattle.best_fit.proofs.Common.{IsUnlinkedGap, Regrown}
+use Rattle.best_fit.proofs.Common.{is_long, node_of, AllocatesOk, IsHeap, KeepsBlocks, EncodesLiveSet, live_of}
 use Rattle.std.proofs.lemmas.Int.Digits.{all_below_base_digits_of, length-digits_of-le, length-digits_of_step}
 use Rattle.std.proofs.lemmas.Int.Digits.{number_digits_of, number_lt}
 use Rattle.std.specs.Int.Digits.{digits_of}
@@ -16,7 +18,7 @@ use Rattle.best_fit.proofs.FreeTrees.{all_gaps, fits_one, in_here}
 use Rattle.best_fit.proofs.GapFacts.{FreeAt, NodeAt, node_at}
 use Rattle.best_fit.proofs.GapOrder.{in_sorted, lesser_of}
 use Rattle.best_fit.proofs.GapSteps.{same_gaps}
-use Rattle.best_fit.proofs.Laid.{heap-gaps, heap-says, legal_size, said_row}
+use Rattle.best_fit.proofs.TagsAndLiveSet.{heap-gaps, heap-says, legal_size, said_row}
 use Rattle.best_fit.proofs.Placing.{room-IsRoom}
 use Rattle.best_fit.proofs.Regrowths.{regrown_keeps, regrown_live, splits_alike}
 use Rattle.best_fit.proofs.Replanting.{closed_more, holds_closed}
@@ -37,15 +39,15 @@ bits_some n = omega (arith, length-digits_of_step 2 (n + 1) (omega arith) (omega
 -- ---- the tree of a heap
 
 -- its gaps are as many as the window's
-pub heap_bits : (c : Cut) → IsHeap current c.bytes → bits (length (gaps (live_of c.bytes)) + 1)
+pub heap_bits : (c : WindowState) → IsHeap current c.bytes → bits (length (gaps (live_of c.bytes)) + 1)
     ≡ bits (length (gaps_in c) + 1)
 heap_bits c h = ap (λ (hs : List Gap). bits (length hs + 1)) (heap-gaps c h)
 
-tags_of : (c : Cut) → IsHeap current c.bytes → IsTrue (has_tags current (bytes_of c.bytes) (length c.bytes))
+tags_of : (c : WindowState) → IsHeap current c.bytes → IsTrue (has_tags current (bytes_of c.bytes) (length c.bytes))
 unfolding live_of
 tags_of c h = h.tiles.tags
 
-pub heap_tree : (c : Cut) → IsHeap current c.bytes → HasTree c (gaps_in c)
+pub heap_tree : (c : WindowState) → IsHeap current c.bytes → HasGapTree c (gaps_in c)
 unfolding current
 heap_tree c h =
     let says = heap-says c h in
@@ -57,7 +59,7 @@ heap_tree c h =
     λ k i. sym (in_sorted k (gaps_in c)) ∙ ap (λ (ks : List ℕ). is_in k ks) (sym tree.lists) ∙ i in
     let outward : (k : ℕ) → is_in k ns ≡ true → is_in k (nodes_of tree.tree) ≡ true =
     λ k i. ap (λ (ks : List ℕ). is_in k ks) tree.lists ∙ in_sorted k (gaps_in c) ∙ i in
-    let good : Good c = record {
+    let good : IsGoodHeap c = record {
       size = says.said.size;
       tags = tags_of c h;
       links = all_from (links_among (bytes_of c.bytes) ns) ns (λ m i.
@@ -66,7 +68,7 @@ heap_tree c h =
           and_from (leads (λ k. is_in k ns) (cells_of (bytes_of c.bytes) m).left)
           (leads (λ k. is_in k ns) (cells_of (bytes_of c.bytes) m).right) closed.left closed.right);
     } in
-    record { good = Good-is_good c good; some = all_gaps c says.said; tree = tree }
+    record { good = IsGoodHeap-is_good c good; some = all_gaps c says.said; tree = tree }
 
 -- ---- the least gap that is long enough
 
@@ -134,14 +136,14 @@ abbrev front_of : ℕ → Role → Gap → Extent
 front_of n role g = record { offset = g.offset; len = share g.len (room n); role = role }
 
 -- what a request takes
-pub place_is : (c : Cut) (n : ℕ) (role : Role) (o : Option Gap) → IsHeap current c.bytes
+pub place_is : (c : WindowState) (n : ℕ) (role : Role) (o : Option Gap) → IsHeap current c.bytes
     → least (filter (is_long (room n)) (gaps_in c)) ≡ o → place (live_of c.bytes) n role
     ≡ option_map (front_of n role) o
 unfolding place fit
 place_is c n role o h e = ap (option_map (front_of n role))
     (ap (λ (gs : List Gap). least (filter (is_long (room n)) gs)) (heap-gaps c h) ∙ e)
 
-pub too_long : (c : Cut) (n : ℕ) (role : Role) → IsHeap current c.bytes → 1073741824 < n
+pub too_long : (c : WindowState) (n : ℕ) (role : Role) → IsHeap current c.bytes → 1073741824 < n
     → place (live_of c.bytes) n role ≡ None
 too_long c n role h l =
     let says = heap-says c h in
@@ -153,7 +155,7 @@ too_long c n role h l =
 
 -- ---- the gap that is found
 
-pub record Found (c : Cut) (wanted node : ℕ) : Type 0 where
+pub record Found (c : WindowState) (wanted node : ℕ) : Type 0 where
   pub gap : Gap
   pub least_is : least (filter (is_long wanted) (gaps_in c)) ≡ Some gap
   pub is : node ≡ node_of gap
@@ -161,7 +163,7 @@ pub record Found (c : Cut) (wanted node : ℕ) : Type 0 where
   pub len : len_in (gaps_in c) node ≡ gap.len
   pub enough : wanted ≤ gap.len
 
-found_by : (c : Cut) (wanted node : ℕ) → HasTree c (gaps_in c) → (o : Option Gap)
+found_by : (c : WindowState) (wanted node : ℕ) → HasGapTree c (gaps_in c) → (o : Option Gap)
     → least (filter (is_long wanted) (gaps_in c)) ≡ o → Some node ≡ option_map node_of o → Found c wanted node
 found_by c wanted node h None e f = absurd (none_some node (sym f))
 found_by c wanted node h (Some g) e f =
@@ -178,7 +180,7 @@ found_by c wanted node h (Some g) e f =
       enough = leb-true wanted g.len i.enough;
     }
 
-pub found : (c : Cut) (wanted node : ℕ) → HasTree c (gaps_in c)
+pub found : (c : WindowState) (wanted node : ℕ) → HasGapTree c (gaps_in c)
     → Some node ≡ option_map node_of (least (filter (is_long wanted) (gaps_in c))) → Found c wanted node
 found c wanted node h e = found_by c wanted node h (least (filter (is_long wanted) (gaps_in c))) refl e
 
@@ -186,23 +188,25 @@ none_by : (o : Option Gap) → None ≡ option_map node_of o → o ≡ None
 none_by None e = refl
 none_by (Some g) e = absurd (none_some (node_of g) e)
 
-pub none_found : (c : Cut) (wanted : ℕ) → None ≡ option_map node_of (least (filter (is_long wanted) (gaps_in c)))
+pub none_found : (c : WindowState) (wanted : ℕ)
+    → None ≡ option_map node_of (least (filter (is_long wanted) (gaps_in c)))
     → least (filter (is_long wanted) (gaps_in c)) ≡ None
 none_found c wanted e = none_by (least (filter (is_long wanted) (gaps_in c))) e
 
 -- its tile
-pub found_node : (c : Cut) (wanted node : ℕ) → HasTree c (gaps_in c) → Found c wanted node → NodeAt c node
-found_node c wanted node h f = node_at c node (record { good = is_good-Good c h.good; listed = f.listed })
+pub found_node : (c : WindowState) (wanted node : ℕ) → HasGapTree c (gaps_in c) → Found c wanted node → NodeAt c node
+found_node c wanted node h f = node_at c node (record { good = is_good-IsGoodHeap c h.good; listed = f.listed })
 
 -- all gaps, round it
-pub round_it : (c : Cut) (n : ℕ) → (f : FreeAt (tiles_in c) n)
+pub round_it : (c : WindowState) (n : ℕ) → (f : FreeAt (tiles_in c) n)
     → gaps_in c ≡ gaps_of f.front ++ (gap_of f.tile ∷ gaps_of f.back)
 round_it c n f = ap gaps_of f.list ∙ gaps_of-append f.front (f.tile ∷ f.back)
     ∙ ap (λ (hs : List Gap). gaps_of f.front ++ hs) (gaps_of-free f.tile f.back f.free)
 
 -- it is out of the tree
-pub out_of_tree : (c d : Cut) (node at len : ℕ) → (f : FreeAt (tiles_in c) node) → at + 16 ≡ node → f.tile.len ≡ len
-    → Regrown c d → HasTree d (gaps_of f.front ++ gaps_of f.back) → OutOfTree d at len
+pub out_of_tree : (c d : WindowState) (node at len : ℕ) → (f : FreeAt (tiles_in c) node) → at + 16 ≡ node
+    → f.tile.len ≡ len
+    → Regrown c d → HasGapTree d (gaps_of f.front ++ gaps_of f.back) → IsUnlinkedGap d at len
 out_of_tree c d node at len f o l r h =
     let s = splits_alike (tiles_in d) f.front f.tile f.back (r.tiles ∙ ap (λ (ts : List Tile). map plain ts) f.list) in
     let a = f.at in
@@ -215,18 +219,18 @@ out_of_tree c d node at len f o l r h =
       free = ap (λ (t : Tile). t.use_of) s.tiles ∙ f.free;
       offset = omega arith;
       len_is = ap (λ (t : Tile). t.len) s.tiles ∙ l;
-      tree = subst (λ (hs : List Gap). HasTree d hs)
+      tree = subst (λ (hs : List Gap). HasGapTree d hs)
           (sym (ap (λ (xs : List Gap). xs ++ gaps_of s.back') (same_gaps f.front s.front' s.fronts)
           ∙ ap (λ (ys : List Gap). gaps_of f.front ++ ys) (same_gaps f.back s.back' s.backs))) h;
     }
 
 -- the request is met
-pub met : (c d e : Cut) (n : ℕ) (role : Role) (wanted node at : ℕ) → IsHeap current c.bytes → wanted ≡ room n
-    → (f : Found c wanted node) → at + 16 ≡ node → (r : Regrown c d) → SaysTiles d (tiles_in d)
-    → LaysOut current e.bytes
+pub met : (c d e : WindowState) (n : ℕ) (role : Role) (wanted node at : ℕ) → IsHeap current c.bytes → wanted ≡ room n
+    → (f : Found c wanted node) → at + 16 ≡ node → (r : Regrown c d) → EncodesTiles d (tiles_in d)
+    → EncodesLiveSet current e.bytes
     (added (live_of d.bytes) (record { offset = at; len = share f.gap.len wanted; role = role }))
-    → is_red (bytes_of e.bytes) (at + 16) ≡ false → Keeps d e (live_of d.bytes).extents
-    → IsAllocated current c e n role node
+    → is_red (bytes_of e.bytes) (at + 16) ≡ false → KeepsBlocks d e (live_of d.bytes).extents
+    → AllocatesOk current c e n role node
 met c d e n role wanted node at h is f o r says live black keeps =
     let same = regrown_live c d r in
     let where_ : at ≡ f.gap.offset = let a = f.is in omega arith in
@@ -235,9 +239,9 @@ met c d e n role wanted node at h is f o r says live black keeps =
       placed = place_is c n role (Some f.gap) h
           (ap (λ k. least (filter (is_long k) (gaps_in c))) (sym is) ∙ f.least_is);
       at = f.is;
-      live = subst (LaysOut current e.bytes)
+      live = subst (EncodesLiveSet current e.bytes)
           ((λ i. added (same i) (record { offset = where_ i; len = share f.gap.len (is i); role = role }))) live;
       black = subst (λ k. is_red (bytes_of e.bytes) k ≡ false) o black;
       keeps = keeps-trans c d e (live_of c.bytes).extents (regrown_keeps c d (heap-says c h).said says r)
-          (subst (λ (l : LiveSet). Keeps d e l.extents) same keeps);
+          (subst (λ (l : LiveSet). KeepsBlocks d e l.extents) same keeps);
     }

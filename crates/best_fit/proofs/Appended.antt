@@ -1,12 +1,13 @@
 -- A block is put behind all others: the window is longer, and the bytes that it has more are a tile in use.
 use Rattle.best_fit.proofs.Common.{◌≡◌, refl, sym, ap, subst, ◌∙◌, ℕ, ◌+◌, ◌-◌, ◌%◌, ◌<◌, ◌≤◌, inl, inr, false, List}
 use Rattle.best_fit.proofs.Common.{[], ◌∷◌, ◌++◌, length, arith, IsTrue, ◌==◌, Some, list_any, append-nil, false≢true}
-use Rattle.best_fit.proofs.Common.{eq-eqb, or_left, or_right, Cut, Same, bytes_of, whole, current, Object, Tile}
+use Rattle.best_fit.proofs.Common.{eq-eqb, or_left, or_right, WindowState, SameBytes, bytes_of, whole, current, Object}
+use Rattle.best_fit.proofs.Common.{Tile}
 use Rattle.best_fit.proofs.Common.{is_legal_size, free_tile, used_for, with_use_at, FrontSaysTiles, MayBeUsed}
-use Rattle.best_fit.proofs.Common.{SaysTiles, SameBesideTags, front_is_a_window, tiles_are_read_off, HasBlockBehind}
-use Rattle.best_fit.proofs.Common.{HasEndMoved, KeepsTo, of_size, Extent, Gap, LiveSet, end_of, handle, proper_from}
+use Rattle.best_fit.proofs.Common.{EncodesTiles, SameExceptTags, front_is_a_window, tiles_are_read_off, AppendsBlock}
+use Rattle.best_fit.proofs.Common.{MovesEnd, KeepsTo, of_size, Extent, Gap, LiveSet, end_of, handle, proper_from}
 use Rattle.best_fit.proofs.Common.{others, released, IsTreeOf, payloads, sorted_gaps, gaps_in, gaps_of, tiles_in}
-use Rattle.best_fit.proofs.Common.{IsHeap, IsReleased, Keeps, LaysOut, is_live_in, live_of}
+use Rattle.best_fit.proofs.Common.{IsHeap, Deallocates, KeepsBlocks, EncodesLiveSet, is_live_in, live_of}
 use Rattle.raw_region.specs.Memory.{cut_at}
 use Rattle.block_tags.specs.Lists.{with_free}
 use Rattle.block_tags.specs.Windows.{CanAppend}
@@ -17,7 +18,7 @@ use Rattle.best_fit.proofs.Carrying.{Carries, carried_blocks, carried_tree, ends
 use Rattle.best_fit.proofs.Carrying.{resized_same}
 use Rattle.best_fit.proofs.Changes.{is_proper-IsProper}
 use Rattle.best_fit.proofs.Joins.{extents_of-append}
-use Rattle.best_fit.proofs.Laid.{IsLegal, SaysHeap, heap-says, legal_size, said_row, says-live}
+use Rattle.best_fit.proofs.TagsAndLiveSet.{IsLegal, SaysHeap, heap-says, legal_size, said_row, says-live}
 use Rattle.best_fit.proofs.LayOut.{lay_out_one}
 use Rattle.best_fit.proofs.Placed.{lays_out}
 use Rattle.best_fit.proofs.Proper.{IsHole, others-here, others-past, proper_from-IsFirst}
@@ -36,7 +37,8 @@ by_hole : (a b : ℕ) → IsHole a b → a ≤ b
 by_hole a b (inl e) = omega arith
 by_hole a b (inr l) = omega arith
 
-module _ (c c1 : Cut) (extra : ℕ) (heap : IsHeap current c.bytes) (long : 32 ≤ extra) (multiple : extra % 16 ≡ 0)
+module _ (c c1 : WindowState) (extra : ℕ) (heap : IsHeap current c.bytes) (long : 32 ≤ extra) (multiple : extra % 16
+    ≡ 0)
     (small : length c.bytes + extra ≤ 1073741824)
     (fits : length c.before + (length c.bytes + extra) ≤ length (whole c))
     (e1 : c1 ≡ cut_at (whole c) (length c.before) (length c.bytes + extra)) where
@@ -52,7 +54,7 @@ module _ (c c1 : Cut) (extra : ℕ) (heap : IsHeap current c.bytes) (long : 32 �
   size1 : length c1.bytes ≡ length c.bytes + extra
   size1 = (resized_ends c c1 (length c.bytes + extra) e1 fits).bytes
 
-  same1 : Same (bytes_of c.bytes) (bytes_of c1.bytes) 0 (length c.bytes)
+  same1 : SameBytes (bytes_of c.bytes) (bytes_of c1.bytes) 0 (length c.bytes)
   same1 = resized_same c c1 (length c.bytes + extra) e1 fits (length c.bytes) (omega arith) (omega arith)
 
   front1 : FrontSaysTiles c1 (length c.bytes) (tiles_in c)
@@ -70,14 +72,14 @@ module _ (c c1 : Cut) (extra : ℕ) (heap : IsHeap current c.bytes) (long : 32 �
         room = omega arith;
       }
 
-  module _ (c2 : Cut) (tags2 : (us : List Tile) → FrontSaysTiles c1 (length c.bytes) us
-      → SaysTiles c2 (with_free us (length c.bytes - 16) (length c1.bytes - 16)))
+  module _ (c2 : WindowState) (tags2 : (us : List Tile) → FrontSaysTiles c1 (length c.bytes) us
+      → EncodesTiles c2 (with_free us (length c.bytes - 16) (length c1.bytes - 16)))
       (rest2 : (us : List Tile) → FrontSaysTiles c1 (length c.bytes) us
-      → SameBesideTags c1 c2 us (with_free us (length c.bytes - 16) (length c1.bytes - 16))) where
+      → SameExceptTags c1 c2 us (with_free us (length c.bytes - 16) (length c1.bytes - 16))) where
     abbrev free : Tile
     free = free_tile (length c.bytes - 16) (length c1.bytes - 16 - (length c.bytes - 16))
 
-    said2 : SaysTiles c2 (tiles_in c ++ free ∷ [])
+    said2 : EncodesTiles c2 (tiles_in c ++ free ∷ [])
     said2 = tags2 (tiles_in c) front1
 
     away : Away (length c.bytes - 16) (tiles_in c)
@@ -94,10 +96,10 @@ module _ (c c1 : Cut) (extra : ℕ) (heap : IsHeap current c.bytes) (long : 32 �
       colour = refl;
     }
 
-    module _ (c3 : Cut) (tags3 : (us : List Tile) → SaysTiles c2 us
-        → SaysTiles c3 (with_use_at (length c.bytes - 16) (Some Object) us))
-        (rest3 : (us : List Tile) → SaysTiles c2 us
-        → SameBesideTags c2 c3 us (with_use_at (length c.bytes - 16) (Some Object) us)) where
+    module _ (c3 : WindowState) (tags3 : (us : List Tile) → EncodesTiles c2 us
+        → EncodesTiles c3 (with_use_at (length c.bytes - 16) (Some Object) us))
+        (rest3 : (us : List Tile) → EncodesTiles c2 us
+        → SameExceptTags c2 c3 us (with_use_at (length c.bytes - 16) (Some Object) us)) where
       abbrev used : Tile
       used = record {
         offset = length c.bytes - 16;
@@ -109,14 +111,14 @@ module _ (c c1 : Cut) (extra : ℕ) (heap : IsHeap current c.bytes) (long : 32 �
       list3 : with_use_at (length c.bytes - 16) (Some Object) (tiles_in c ++ free ∷ []) ≡ tiles_in c ++ used ∷ []
       list3 = changed_at-around (length c.bytes - 16) free [] refl (used_for (Some Object)) (tiles_in c) away
 
-      said3 : SaysTiles c3 (tiles_in c ++ used ∷ [])
-      said3 = subst (SaysTiles c3) list3 (tags3 (tiles_in c ++ free ∷ []) said2)
+      said3 : EncodesTiles c3 (tiles_in c ++ used ∷ [])
+      said3 = subst (EncodesTiles c3) list3 (tags3 (tiles_in c ++ free ∷ []) said2)
 
-      beside2 : SameBesideTags c1 c2 (tiles_in c) (tiles_in c ++ free ∷ [])
+      beside2 : SameExceptTags c1 c2 (tiles_in c) (tiles_in c ++ free ∷ [])
       beside2 = rest2 (tiles_in c) front1
 
-      beside3 : SameBesideTags c2 c3 (tiles_in c ++ free ∷ []) (tiles_in c ++ used ∷ [])
-      beside3 = subst (SameBesideTags c2 c3 (tiles_in c ++ free ∷ [])) list3 (rest3 (tiles_in c ++ free ∷ []) said2)
+      beside3 : SameExceptTags c2 c3 (tiles_in c ++ free ∷ []) (tiles_in c ++ used ∷ [])
+      beside3 = subst (SameExceptTags c2 c3 (tiles_in c ++ free ∷ [])) list3 (rest3 (tiles_in c ++ free ∷ []) said2)
 
       size2 : length c2.bytes ≡ length c.bytes + extra
       size2 = beside2.size ∙ size1
@@ -140,7 +142,7 @@ module _ (c c1 : Cut) (extra : ℕ) (heap : IsHeap current c.bytes) (long : 32 �
           beside3.bytes k b.beside d.beside (omega arith) ∙ beside2.bytes k a.beside b.beside (omega arith)
           ∙ same1.at k (omega arith) (omega arith)
 
-      header_stays : Same (bytes_of c.bytes) (bytes_of c3.bytes) 0 128
+      header_stays : SameBytes (bytes_of c.bytes) (bytes_of c3.bytes) 0 128
       header_stays =
           let s1 = size1 in let s2 = size2 in let n = size_c in let least = n.low in
           record {
@@ -174,7 +176,7 @@ module _ (c c1 : Cut) (extra : ℕ) (heap : IsHeap current c.bytes) (long : 32 �
       says3 : SaysHeap c3 (tiles_in c3)
       says3 =
           record {
-            said = subst (SaysTiles c3) (sym list_is) said3;
+            said = subst (EncodesTiles c3) (sym list_is) said3;
             apart = subst (Apart false) (sym list_is)
                 (apart_joined false (tiles_in c) (used ∷ []) says.apart (λ a no. absurd (false≢true no), tt));
           }
@@ -224,31 +226,35 @@ module _ (c c1 : Cut) (extra : ℕ) (heap : IsHeap current c.bytes) (long : 32 �
       unfolding live_of
       own_extents = refl
 
-      pub has_block_behind : HasBlockBehind current c c3 extra
+      pub has_block_behind : AppendsBlock current c c3 extra
       has_block_behind = record {
-        live = subst (LaysOut current c3.bytes) live3 (lays_out c3 says3 tree3);
+        live = subst (EncodesLiveSet current c3.bytes) live3 (lays_out c3 says3 tree3);
         keeps = blocks3 own_extents;
       }
 
 -- the same of a size that is that of the window
-pub record LongerWindow (c : Cut) (extra size : ℕ) (c1 : Cut) : Type 0 where
+pub record LongerWindow (c : WindowState) (extra size : ℕ) (c1 : WindowState) : Type 0 where
   pub room : CanAppend c1 size
-  pub used : (c2 : Cut)
-      → ((us : List Tile) → FrontSaysTiles c1 size us → SaysTiles c2 (with_free us (size - 16) (length c1.bytes - 16)))
+  pub used : (c2 : WindowState)
+      → ((us : List Tile) → FrontSaysTiles c1 size us
+      → EncodesTiles c2 (with_free us (size - 16) (length c1.bytes - 16)))
       → ((us : List Tile) → FrontSaysTiles c1 size us
       → SameBesideTags c1 c2 us (with_free us (size - 16) (length c1.bytes - 16)))
       → MayBeUsed c2 (size - 16) (Some Object)
-  pub block : (c2 : Cut)
-      → ((us : List Tile) → FrontSaysTiles c1 size us → SaysTiles c2 (with_free us (size - 16) (length c1.bytes - 16)))
+  pub block : (c2 : WindowState)
+      → ((us : List Tile) → FrontSaysTiles c1 size us
+      → EncodesTiles c2 (with_free us (size - 16) (length c1.bytes - 16)))
       → ((us : List Tile) → FrontSaysTiles c1 size us
       → SameBesideTags c1 c2 us (with_free us (size - 16) (length c1.bytes - 16)))
-      → (c3 : Cut) → ((us : List Tile) → SaysTiles c2 us → SaysTiles c3 (with_use_at (size - 16) (Some Object) us))
-      → ((us : List Tile) → SaysTiles c2 us → SameBesideTags c2 c3 us (with_use_at (size - 16) (Some Object) us))
+      → (c3 : WindowState) → ((us : List Tile) → EncodesTiles c2 us
+      → EncodesTiles c3 (with_use_at (size - 16) (Some Object) us))
+      → ((us : List Tile) → EncodesTiles c2 us → SameExceptTags c2 c3 us (with_use_at (size - 16) (Some Object) us))
       → HasBlockBehind current c c3 extra × (gaps_in c3 ≡ gaps_in c)
 
-pub longer_window : (c : Cut) (extra : ℕ) → IsHeap current c.bytes → 32 ≤ extra → extra % 16 ≡ 0
+pub longer_window : (c : WindowState) (extra : ℕ) → IsHeap current c.bytes → 32 ≤ extra → extra % 16 ≡ 0
     → length c.bytes + extra ≤ 1073741824
-    → length c.before + (length c.bytes + extra) ≤ length (whole c) → (size : ℕ) → size ≡ length c.bytes → (c1 : Cut)
+    → length c.before + (length c.bytes + extra) ≤ length (whole c) → (size : ℕ) → size ≡ length c.bytes
+    → (c1 : WindowState)
     → c1 ≡ cut_at (whole c) (length c.before) (size + extra)
     → LongerWindow c extra size c1
 longer_window c extra heap long multiple small fits size s c1 e =
@@ -291,7 +297,7 @@ live-last (x ∷ xs) y = or_right (handle x == handle y)
     (list_any (λ (z : Extent). handle z == handle y) (xs ++ y ∷ [])) (live-last xs y)
 
 -- what laid out the block behind all others lays out the others once it is given back
-module _ (old mid : Cut) (extra at : ℕ) (b : HasBlockBehind current old mid extra)
+module _ (old mid : WindowState) (extra at : ℕ) (b : AppendsBlock current old mid extra)
     (is : at + 16 ≡ length old.bytes) where
   abbrev live_mid : LiveSet
   live_mid = record {
@@ -325,7 +331,7 @@ module _ (old mid : Cut) (extra at : ℕ) (b : HasBlockBehind current old mid ex
       (others-last 128 (live_of old.bytes).extents (block_behind (length old.bytes) extra)
       (length old.bytes + extra - 16) p.list)
 
-  module _ (new : Cut) (r : IsReleased current mid new (at + 16)) where
+  module _ (new : WindowState) (r : Deallocates current mid new (at + 16)) where
     size_mid : length mid.bytes ≡ length old.bytes + extra
     size_mid = b.keeps.place.bytes
 
@@ -335,10 +341,10 @@ module _ (old mid : Cut) (extra at : ℕ) (b : HasBlockBehind current old mid ex
     size_new : length new.bytes ≡ length mid.bytes
     size_new = r.live.size ∙ ap (λ (l : LiveSet). l.size) mid_is ∙ sym size_mid
 
-    pub end_moved : HasEndMoved current old new (length old.bytes + extra)
+    pub end_moved : MovesEnd current old new (length old.bytes + extra)
     end_moved =
         record {
-          live = subst (LaysOut current new.bytes) live_new r.live;
+          live = subst (EncodesLiveSet current new.bytes) live_new r.live;
           keeps = keeps_to-then old mid new (length old.bytes + extra) (live_of old.bytes).extents b.keeps
-              (subst (Keeps mid new) others_are r.keeps) size_new;
+              (subst (KeepsBlocks mid new) others_are r.keeps) size_new;
         }

@@ -1,11 +1,12 @@
 -- Where only links and colours of gaps and word 24 change, all bytes beside the gaps stay, those of tags too.
 use Rattle.best_fit.proofs.Common.{◌≡◌, refl, sym, ap, subst, ◌∙◌, ℕ, zero, suc, ◌+◌, ◌-◌, ◌*◌, ◌<◌, ◌≤◌, ◌⊎◌, inl}
 use Rattle.best_fit.proofs.Common.{inr, List, [], ◌∷◌, length, arith, nat_lt, Some, map, AllByRecursion, cases_lt}
-use Rattle.best_fit.proofs.Common.{lt-ltb, or_left, Memory, Cut, Same, bytes_of, word_at, current, Role, Tile}
-use Rattle.best_fit.proofs.Common.{AreTags, is_free, tag_word, SaysTiles, gaps, gap_of, gaps_of, lies_behind, plain}
+use Rattle.best_fit.proofs.Common.{lt-ltb, or_left, Memory, WindowState, SameBytes, bytes_of, word_at, current, Role}
+use Rattle.best_fit.proofs.Common.{Tile}
+use Rattle.best_fit.proofs.Common.{AreTags, is_free, tag_word, EncodesTiles, gaps, gap_of, gaps_of, lies_behind, plain}
 use Rattle.best_fit.proofs.Common.{true, tiles_in, Regrown, live_of, AreBytes, Gap, Option}
 use Rattle.best_fit.specs.Rebuilding.{IsBesideGap}
-use Rattle.best_fit.proofs.Laid.{SaysHeap, gaps-live_in, legal_size, said_row, says-live}
+use Rattle.best_fit.proofs.TagsAndLiveSet.{SaysHeap, gaps-live_in, legal_size, said_row, says-live}
 use Rattle.best_fit.proofs.Regrowths.{empty_not, head_same, plain_used, regrown_block, regrown_gap, tail_same}
 use Rattle.best_fit.proofs.Rows.{unused, used, use_cases, used-not_free, gaps_of-free, gaps_of-used}
 use Rattle.best_fit.proofs.Steps.{In}
@@ -58,7 +59,7 @@ module _ (m m' : Memory) (small : (k : ℕ) → m k < 256) (small' : (k : ℕ) �
   -- the bytes from a tile on
   same_from : (at before : ℕ) (ts us : List Tile) (end : ℕ) → AreTags current m at before ts end
       → AreTags current m' at before us end → map plain us ≡ map plain ts
-      → ((t : Tile) (role : Role) → In t ts → t.use_of ≡ Some role → Same m m' (t.offset + 16) (t.offset + t.len))
+      → ((t : Tile) (role : Role) → In t ts → t.use_of ≡ Some role → SameBytes m m' (t.offset + 16) (t.offset + t.len))
       → (k : ℕ) → at ≤ k → k < end + 16 → AllByRecursion (IsBesideGap k) (gaps_of ts) → m' k ≡ m k
   same_from at before [] [] end a b p pays k low high beside = let e = a.0 in
       in_tag at (b.1 ∙ sym a.1) (b.2 ∙ sym a.2) k low (omega arith)
@@ -90,7 +91,7 @@ module _ (m m' : Memory) (small : (k : ℕ) → m k < 256) (small' : (k : ℕ) �
             ]
       ]
 
-module _ (old new : Cut) (says : SaysHeap old (tiles_in old)) (said : SaysTiles new (tiles_in new))
+module _ (old new : WindowState) (says : SaysHeap old (tiles_in old)) (said : EncodesTiles new (tiles_in new))
     (r : Regrown old new) (small : AreBytes old.bytes) (small' : AreBytes new.bytes) where
   gaps_old : gaps (live_of old.bytes) ≡ gaps_of (tiles_in old)
   gaps_old = ap gaps (says-live old (tiles_in old) says) ∙ gaps-live_in (length old.bytes) (tiles_in old)
@@ -125,10 +126,10 @@ module _ (old new : Cut) (says : SaysHeap old (tiles_in old)) (said : SaysTiles 
   ]
 
   -- the free bytes of gaps stay
-  pub free_bytes : AllByRecursion (λ (g : Gap). Same (bytes_of old.bytes) (bytes_of new.bytes) (g.offset + 32)
+  pub free_bytes : AllByRecursion (λ (g : Gap). SameBytes (bytes_of old.bytes) (bytes_of new.bytes) (g.offset + 32)
       (g.offset + g.len)) (gaps (live_of old.bytes))
   free_bytes =
-      let P : Gap → Type 0 = λ (g : Gap). Same (bytes_of old.bytes) (bytes_of new.bytes) (g.offset + 32)
+      let P : Gap → Type 0 = λ (g : Gap). SameBytes (bytes_of old.bytes) (bytes_of new.bytes) (g.offset + 32)
       (g.offset + g.len) in
       subst (AllByRecursion P) (sym gaps_old)
       (each_gap P (tiles_in old) (λ t i f. regrown_gap old new says.said said r t i f))

@@ -2,10 +2,12 @@
 -- that ends elsewhere.
 use Rattle.best_fit.proofs.Common.{◌≡◌, sym, ap, subst, ◌∙◌, ℕ, ◌+◌, ◌-◌, ◌/◌, ◌%◌, ◌≤◌, true, List, ◌++◌, length}
 use Rattle.best_fit.proofs.Common.{take, drop, arith, ◌==◌, append_assoc, Option, slice_index, AllByRecursion}
-use Rattle.best_fit.proofs.Common.{length-append, Memory, Cut, Same, SamePlace, bytes_of, part, whole, word_at}
-use Rattle.best_fit.proofs.Common.{Same-trans, Same-word, length-part, part-at, whole-cut_at, Tile, IsTree, is_in}
+use Rattle.best_fit.proofs.Common.{length-append, Memory, WindowState, SameBytes, SameSurroundings, bytes_of, part}
+use Rattle.best_fit.proofs.Common.{whole, word_at}
+use Rattle.best_fit.proofs.Common.{SameBytes-trans, SameBytes-word, length-part, part-at, whole-cut_at, Tile, IsTree}
+use Rattle.best_fit.proofs.Common.{is_in}
 use Rattle.best_fit.proofs.Common.{tree_same, link_at, target_of, KeepsTo, Extent, IsTreeOf, cells_of, payloads}
-use Rattle.best_fit.proofs.Common.{sorted_gaps, gaps_of, Keeps, SameBlock}
+use Rattle.best_fit.proofs.Common.{sorted_gaps, gaps_of, KeepsBlocks, SameBlock}
 use Rattle.std.proofs.Math.Seq.{drop-append_seam, take-append_seam}
 use Rattle.std.proofs.lemmas.List.{drop-drop}
 use Rattle.raw_region.specs.Memory.{cut_at}
@@ -24,8 +26,8 @@ pub record Carries (m m' : Memory) (ts : List Tile) (end : ℕ) : Type 0 where
   pub row : Row 128 ts end
   pub old : (t : Tile) → In t ts → HasTag m t
   pub new : (t : Tile) → In t ts → HasTag m' t
-  pub payload : (t : Tile) → In t ts → Same m m' (t.offset + 16) (t.offset + t.len)
-  pub header : Same m m' 0 128
+  pub payload : (t : Tile) → In t ts → SameBytes m m' (t.offset + 16) (t.offset + t.len)
+  pub header : SameBytes m m' 0 128
 
 module _ (m m' : Memory) (ts : List Tile) (end : ℕ) (c : Carries m m' ts end) where
   tag_stays : (t : Tile) → In t ts → word_at m' (t.offset + 8) ≡ word_at m (t.offset + 8)
@@ -39,7 +41,7 @@ module _ (m m' : Memory) (ts : List Tile) (end : ℕ) (c : Carries m m' ts end) 
   link_stays : (t : Tile) → In t ts → (n : ℕ) → t.offset + 16 ≤ n → n + 8 ≤ t.offset + t.len
       → link_at m' n ≡ link_at m n
   link_stays t i n low high =
-      ap (target_of n) (Same-word m m' (t.offset + 16) (t.offset + t.len) n (c.payload t i) low high)
+      ap (target_of n) (SameBytes-word m m' (t.offset + 16) (t.offset + t.len) n (c.payload t i) low high)
 
   -- the fields of the gaps among them stay
   carried_cell : (n : ℕ) → is_in n (payloads (gaps_of ts)) ≡ true → cells_of m' n ≡ cells_of m n
@@ -55,7 +57,7 @@ module _ (m m' : Memory) (ts : List Tile) (end : ℕ) (c : Carries m m' ts end) 
 
   -- the root is in the header
   carried_root : link_at m' 24 ≡ link_at m 24
-  carried_root = ap (target_of 24) (Same-word m m' 0 128 24 c.header (omega arith) (omega arith))
+  carried_root = ap (target_of 24) (SameBytes-word m m' 0 128 24 c.header (omega arith) (omega arith))
 
   -- and so does their tree
   pub carried_tree : IsTreeOf m 24 (payloads (sorted_gaps (gaps_of ts)))
@@ -74,22 +76,22 @@ module _ (m m' : Memory) (ts : List Tile) (end : ℕ) (c : Carries m m' ts end) 
 -- ---- a window that ends elsewhere
 
 -- the bytes behind the base are the window's, and then those behind it
-in_three : (c : Cut) → whole c ≡ c.before ++ (c.bytes ++ c.after)
+in_three : (c : WindowState) → whole c ≡ c.before ++ (c.bytes ++ c.after)
 in_three c = append_assoc c.before c.bytes c.after
 
-behind_base : (c : Cut) → drop (length c.before) (whole c) ≡ c.bytes ++ c.after
+behind_base : (c : WindowState) → drop (length c.before) (whole c) ≡ c.bytes ++ c.after
 behind_base c = ap (λ (l : List ℕ). drop (length c.before) l) (in_three c)
     ∙ drop-append_seam c.before (c.bytes ++ c.after)
 
-behind_window : (c : Cut) → drop (length c.before + length c.bytes) (whole c) ≡ c.after
+behind_window : (c : WindowState) → drop (length c.before + length c.bytes) (whole c) ≡ c.after
 behind_window c =
     sym (drop-drop (length c.bytes) (length c.before) (whole c))
     ∙ ap (λ (l : List ℕ). drop (length c.bytes) l) (behind_base c) ∙ drop-append_seam c.bytes c.after
 
-own_bytes : (c : Cut) → part (whole c) (length c.before) (length c.bytes) ≡ c.bytes
+own_bytes : (c : WindowState) → part (whole c) (length c.before) (length c.bytes) ≡ c.bytes
 own_bytes c = ap (λ (l : List ℕ). take (length c.bytes) l) (behind_base c) ∙ take-append_seam c.bytes c.after
 
-own_before : (c : Cut) → take (length c.before) (whole c) ≡ c.before
+own_before : (c : WindowState) → take (length c.before) (whole c) ≡ c.before
 own_before c = ap (λ (l : List ℕ). take (length c.before) l) (in_three c)
     ∙ take-append_seam c.before (c.bytes ++ c.after)
 
@@ -98,12 +100,12 @@ dropped_twice l base n m =
     let e : base + m + (n - m) ≡ base + n + (m - n) = omega arith in
     drop-drop (n - m) (base + m) l ∙ ap (λ (k : ℕ). drop k l) e ∙ sym (drop-drop (m - n) (base + n) l)
 
-module _ (c d : Cut) (size : ℕ) (e : d ≡ cut_at (whole c) (length c.before) size)
+module _ (c d : WindowState) (size : ℕ) (e : d ≡ cut_at (whole c) (length c.before) size)
     (inside : length c.before + size ≤ length (whole c)) where
   -- it has the same place in the region
   pub resized_ends : EndsAt c d size
   resized_ends =
-      subst (λ (v : Cut). EndsAt c v size) (sym e) (record {
+      subst (λ (v : WindowState). EndsAt c v size) (sym e) (record {
         before = own_before c;
         bytes = length-part (whole c) (length c.before) size inside;
         capacity = ap (λ (l : List ℕ). length l) (whole-cut_at (whole c) (length c.before) size);
@@ -112,9 +114,9 @@ module _ (c d : Cut) (size : ℕ) (e : d ≡ cut_at (whole c) (length c.before) 
       })
 
   -- and the same bytes as far as both go
-  pub resized_same : (n : ℕ) → n ≤ length c.bytes → n ≤ size → Same (bytes_of c.bytes) (bytes_of d.bytes) 0 n
+  pub resized_same : (n : ℕ) → n ≤ length c.bytes → n ≤ size → SameBytes (bytes_of c.bytes) (bytes_of d.bytes) 0 n
   resized_same n a b =
-      subst (λ (v : Cut). Same (bytes_of c.bytes) (bytes_of v.bytes) 0 n) (sym e) (record {
+      subst (λ (v : WindowState). SameBytes (bytes_of c.bytes) (bytes_of v.bytes) 0 n) (sym e) (record {
         at = λ k low high.
             part-at (whole c) (length c.before) size k (omega arith)
             ∙ sym (part-at (whole c) (length c.before) (length c.bytes) k (omega arith))
@@ -123,7 +125,7 @@ module _ (c d : Cut) (size : ℕ) (e : d ≡ cut_at (whole c) (length c.before) 
 
 -- ---- what stays before the end moves, and after
 
-length_whole : (a b : Cut) → b.before ≡ a.before → b.after ≡ a.after → length b.bytes ≡ length a.bytes
+length_whole : (a b : WindowState) → b.before ≡ a.before → b.after ≡ a.after → length b.bytes ≡ length a.bytes
     → length (whole b) ≡ length (whole a)
 length_whole a b e f g =
     let first : length b.before ≡ length a.before = ap (λ (l : List ℕ). length l) e in
@@ -136,7 +138,8 @@ length_whole a b e f g =
       length-append b.before b.bytes,
     )
 
-pub ends-then : (a b c : Cut) (n : ℕ) → EndsAt a b n → SamePlace b c → length c.bytes ≡ length b.bytes → EndsAt a c n
+pub ends-then : (a b c : WindowState) (n : ℕ) → EndsAt a b n → SameSurroundings b c
+    → length c.bytes ≡ length b.bytes → EndsAt a c n
 ends-then a b c n p place size =
     record {
       before = place.before ∙ p.before;
@@ -145,7 +148,8 @@ ends-then a b c n p place size =
       after = ap (λ (l : List ℕ). drop (length a.bytes - n) l) place.after ∙ p.after;
     }
 
-pub then-ends : (a b c : Cut) (n : ℕ) → SamePlace a b → length b.bytes ≡ length a.bytes → EndsAt b c n → EndsAt a c n
+pub then-ends : (a b c : WindowState) (n : ℕ) → SameSurroundings a b → length b.bytes ≡ length a.bytes
+    → EndsAt b c n → EndsAt a c n
 then-ends a b c n place size p =
     record {
       before = p.before ∙ place.before;
@@ -155,22 +159,23 @@ then-ends a b c n place size p =
           ∙ ap (λ (k : ℕ). drop (n - k) b.after) size ∙ ap (λ (l : List ℕ). drop (n - length a.bytes) l) place.after;
     }
 
-pub keeps_to-then : (a b c : Cut) (n : ℕ) (xs : List Extent) → KeepsTo a b n xs → Keeps b c xs
+pub keeps_to-then : (a b c : WindowState) (n : ℕ) (xs : List Extent) → KeepsTo a b n xs → KeepsBlocks b c xs
     → length c.bytes ≡ length b.bytes → KeepsTo a c n xs
 keeps_to-then a b c n xs p q size =
     record {
       place = ends-then a b c n p.place q.place size;
-      front = Same-trans (bytes_of a.bytes) (bytes_of b.bytes) (bytes_of c.bytes) 0 24 p.front q.front;
-      behind = Same-trans (bytes_of a.bytes) (bytes_of b.bytes) (bytes_of c.bytes) 32 128 p.behind q.behind;
+      front = SameBytes-trans (bytes_of a.bytes) (bytes_of b.bytes) (bytes_of c.bytes) 0 24 p.front q.front;
+      behind = SameBytes-trans (bytes_of a.bytes) (bytes_of b.bytes) (bytes_of c.bytes) 32 128 p.behind q.behind;
       blocks = blocks-trans (bytes_of a.bytes) (bytes_of b.bytes) (bytes_of c.bytes) xs p.blocks q.blocks;
     }
 
-pub then-keeps_to : (a b c : Cut) (n : ℕ) (xs : List Extent) → Keeps a b xs → length b.bytes ≡ length a.bytes
+pub then-keeps_to : (a b c : WindowState) (n : ℕ) (xs : List Extent) → KeepsBlocks a b xs
+    → length b.bytes ≡ length a.bytes
     → KeepsTo b c n xs → KeepsTo a c n xs
 then-keeps_to a b c n xs p size q =
     record {
       place = then-ends a b c n p.place size q.place;
-      front = Same-trans (bytes_of a.bytes) (bytes_of b.bytes) (bytes_of c.bytes) 0 24 p.front q.front;
-      behind = Same-trans (bytes_of a.bytes) (bytes_of b.bytes) (bytes_of c.bytes) 32 128 p.behind q.behind;
+      front = SameBytes-trans (bytes_of a.bytes) (bytes_of b.bytes) (bytes_of c.bytes) 0 24 p.front q.front;
+      behind = SameBytes-trans (bytes_of a.bytes) (bytes_of b.bytes) (bytes_of c.bytes) 32 128 p.behind q.behind;
       blocks = blocks-trans (bytes_of a.bytes) (bytes_of b.bytes) (bytes_of c.bytes) xs p.blocks q.blocks;
     }

@@ -20,26 +20,30 @@ pub use Rattle.block_tags.specs.Lists.{IsBesideTags, first_in, free_tile, in_two
 pub use Rattle.block_tags.specs.Lists.{previous_in, tile_in, used_for, with_red_at, with_use_at, without_last}
 pub use Rattle.block_tags.specs.Tiles.{AreTags, has_tags, is_free, is_merged, may_be_red, tag_word, tile_at, tiles_of}
 pub use Rattle.block_tags.specs.Windows.{FrontSaysTiles, HasFreeNext, HasTileAt, MayBeUsed, MayHaveColour}
-pub use Rattle.block_tags.specs.Windows.{SameBesideTags, SaysTiles}
+pub use Rattle.block_tags.specs.Windows.{SameExceptTags, EncodesTiles}
 pub use Rattle.block_tags.specs.declared.tile.Role.{Role}
 pub use Rattle.block_tags.specs.declared.tile.Role.TheVariants.{Index, Node, Object, Storage}
 pub use Rattle.block_tags.specs.declared.tile.Tile.{Tile}
 pub use Rattle.link_tree.proofs.Laws.{all_from, none_some, tree_same}
-pub use Rattle.link_tree.specs.Nodes.{first_not, has_place, is_in, leads, put, without}
-pub use Rattle.link_tree.specs.Tree.{Cell, IsSearchTree, IsTree, Tree, bits, fork, leaf, nodes_of, rises}
-pub use Rattle.offset_link.proofs.Laws.{SameBut-link}
+pub use Rattle.link_tree.specs.Nodes.{first_not_before, is_ordered_with, is_in, leads, put, without}
+pub use Rattle.link_tree.specs.Tree.{Cell, IsSearchTree, IsTree, Tree, bits, fork, leaf, nodes_of, is_sorted}
+pub use Rattle.offset_link.proofs.Laws.{SameBytesExcept-link}
 pub use Rattle.offset_link.specs.Link.{link_at, target_of}
 pub use Rattle.offset_link.specs.Relinked.{KeepTargets, relinked}
-pub use Rattle.raw_region.proofs.Laws.{Same-refl, Same-trans, Same-word, SameBut-Same, SameBut-word, SamePlace-trans}
-pub use Rattle.raw_region.proofs.Laws.{length-part, length-patched, part-at, patched-Has, patched-SameBut, read-part}
-pub use Rattle.raw_region.proofs.Laws.{refill-all, whole-cut_at, with_bytes-SamePlace, word_written-SameBut}
+pub use Rattle.raw_region.proofs.Laws.{SameBytes-refl, SameBytes-trans, SameBytes-word, SameBytesExcept-SameBytes}
+pub use Rattle.raw_region.proofs.Laws.{SameBytesExcept-word, SameSurroundings-trans}
+pub use Rattle.raw_region.proofs.Laws.{length-part, length-patched, part-at, patched-HasBytesAt}
+pub use Rattle.raw_region.proofs.Laws.{patched-SameBytesExcept, read-part}
+pub use Rattle.raw_region.proofs.Laws.{refill-all, whole-cut_at, with_bytes-SameSurroundings}
+pub use Rattle.raw_region.proofs.Laws.{word_written-SameBytesExcept}
 unfoldable pub use Rattle.raw_region.specs.Format.{current}
-pub use Rattle.raw_region.specs.Memory.{Cut, Has, Memory, Same, SameBut, SamePlace, bytes_of, part, patched, read}
+pub use Rattle.raw_region.specs.Memory.{WindowState, HasBytesAt, Memory, SameBytes, SameBytesExcept, SameSurroundings}
+pub use Rattle.raw_region.specs.Memory.{bytes_of, part, patched, read}
 pub use Rattle.raw_region.specs.Memory.{whole}
 unfoldable pub use Rattle.raw_region.specs.Memory.{word_at}
 pub use Rattle.raw_region.specs.Regions.{with_bytes}
-pub use Rattle.best_fit.specs.Ends.{HasBlockBehind, HasEndMoved, KeepsTo, last_end, least_size, of_size}
-pub use Rattle.best_fit.specs.Exchange.{IsExchanged, IsGivenRoom, Regrows, SameBlockBut, exchanged, inserted}
+pub use Rattle.best_fit.specs.Ends.{AppendsBlock, MovesEnd, KeepsTo, last_end, least_size, of_size}
+pub use Rattle.best_fit.specs.Exchange.{ExchangesBlocks, RegrowsOk, Regrows, SameBlockExcept, exchanged, inserted}
 pub use Rattle.best_fit.specs.Exchange.{without_all}
 pub use Rattle.best_fit.specs.Extents.{Extent, Gap, LiveSet, Span, end_of, gap_between, gaps_from, handle, holds}
 pub use Rattle.best_fit.specs.Extents.{is_hole, proper_from, span_between, spans_from}
@@ -48,21 +52,24 @@ pub use Rattle.best_fit.specs.Fit.{added, insert, is_extent, least, others, prec
 unfoldable pub use Rattle.best_fit.specs.Fit.{fit, gap_after, longer, place, regrow, shorter}
 pub use Rattle.best_fit.specs.FreeTree.{IsFreeTree, IsTreeOf, cells_of, insert_gap, is_red, payloads, sorted_gaps}
 pub use Rattle.best_fit.specs.FreeTree.{span}
-pub use Rattle.best_fit.specs.GapLaws.{GapNode, GapNode-is_gap_node, Good, Good-is_good, cells_at}
-pub use Rattle.best_fit.specs.GapLaws.{is_gap_node-GapNode, is_good-Good, links_at}
-pub use Rattle.best_fit.specs.GapNodes.{Kept, as_gap, comes_before, from_first, gap_cells, gap_of, gaps_in, gaps_of, is_kept}
+pub use Rattle.best_fit.specs.GapLaws.{GapNode, GapNode-is_gap_node, IsGoodHeap, IsGoodHeap-is_good, cells_at}
+pub use Rattle.best_fit.specs.GapLaws.{is_gap_node-GapNode, is_good-IsGoodHeap, links_at}
+pub use Rattle.best_fit.specs.GapNodes.{GapTreeFrame, as_gap, comes_before, from_first, gap_cells, gap_of, gaps_in}
+pub use Rattle.best_fit.specs.GapNodes.{gaps_of, is_kept}
 pub use Rattle.best_fit.specs.GapNodes.{len_in, lies_behind, own_from, links_among, plain, stands_before, tiles_in}
 unfoldable pub use Rattle.best_fit.specs.GapNodes.{is_gap_node, kept_of}
-pub use Rattle.best_fit.specs.GapTrees.{AreSome, Fits, HasTree, LacksOne, MayBegin, OutOfTree, Regrown, Rises, gap_offset}
+pub use Rattle.best_fit.specs.GapTrees.{AreSome, HaveGapLengths, HasGapTree, LacksOne, MayBegin, IsUnlinkedGap, Regrown}
+pub use Rattle.best_fit.specs.GapTrees.{AreAscending, gap_offset}
 pub use Rattle.best_fit.specs.GapTrees.{is_long, node_of, of_option, offset_of, start_of}
-pub use Rattle.best_fit.specs.Heap.{Allocates, IsAllocated, IsChanged, IsExtended, IsHeap, IsRecoloured, IsReleased}
-pub use Rattle.best_fit.specs.Heap.{IsResized, IsShortened, IsZeroed, Keeps, LaysOut, SameBlock, as_extent, extent_at}
+pub use Rattle.best_fit.specs.Heap.{Allocates, AllocatesOk, ChangesBytes, TryExtends, IsHeap, Recolours, Deallocates}
+pub use Rattle.best_fit.specs.Heap.{ResizesBlock, ShrinksInPlace, ZeroesFree, KeepsBlocks, EncodesLiveSet, SameBlock}
+pub use Rattle.best_fit.specs.Heap.{as_extent, extent_at}
 pub use Rattle.best_fit.specs.Heap.{has_room, heap_touches, is_live_in, is_node_in, no_blocks, payload_at}
 unfoldable pub use Rattle.best_fit.specs.Heap.{live_of}
 pub use Rattle.raw_region.specs.Memory.{AreBytes}
-pub use Rattle.best_fit.specs.Resizes.{IsCut}
+pub use Rattle.best_fit.specs.Resizes.{SplitsBlock}
 pub use Rattle.best_fit.specs.Table.{same_role, serves}
 pub use Rattle.best_fit.specs.Tiling.{cut_to, free_behind, free_len, joined_before, joined_free_at, with_free_behind}
-pub use Rattle.best_fit.specs.WayPoints.{IsHeld, IsNoted, LeadToBlocks, place_of}
-pub use Rattle.best_fit.specs.declared.heap.nodes.Gaps.{Gaps}
-pub use Rattle.best_fit.specs.declared.way_points.WayPoints.{WayPoints}
+pub use Rattle.best_fit.specs.BlockHints.{IsHintedHeap, IsHinted, LeadToBlocks, place_of}
+pub use Rattle.best_fit.specs.declared.heap.nodes.GapTree.{GapTree}
+pub use Rattle.best_fit.specs.declared.block_hints.BlockHints.{BlockHints}

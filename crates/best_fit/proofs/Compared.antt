@@ -11,7 +11,8 @@ as_long k l a b p q e f h same =
     sym (ap (λ (x : Bool). x || ((k == l) && nat_lt a b)) (le-ltb k l (omega arith))
     ∙ ap (λ (x : Bool). x && nat_lt a b) (eq-eqb k l (omega arith)))
 
-pub longer : (k l a b p q : ℕ) → p ≡ k → q ≡ l → q ≤ p → (p ≡ q → ⊥) → (p == q) ≡ (nat_lt k l || ((k == l) && nat_lt a b))
+pub longer : (k l a b p q : ℕ) → p ≡ k → q ≡ l → q ≤ p → (p ≡ q → ⊥)
+    → (p == q) ≡ (nat_lt k l || ((k == l) && nat_lt a b))
 longer k l a b p q e f h other =
     ne_eqb p q other ∙ sym (ap (λ (x : Bool). x || ((k == l) && nat_lt a b)) (le-ltb k l (omega arith))
     ∙ ap (λ (x : Bool). x && nat_lt a b) (ne_eqb k l (λ same. other (omega arith))))

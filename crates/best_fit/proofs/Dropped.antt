@@ -1,21 +1,23 @@
 -- The gap at the end is dropped: the window is shorter, and ends behind the last block.
 use Rattle.best_fit.proofs.Common.{◌≡◌, refl, sym, ap, subst, ◌∙◌, ℕ, ◌+◌, ◌-◌, ◌<◌, ◌≤◌, Bool, true, false, List, []}
 use Rattle.best_fit.proofs.Common.{◌∷◌, ◌++◌, length, arith, IsTrue, Some, None, both_ways, append-nil, length-append}
-use Rattle.best_fit.proofs.Common.{same_Some, none-some, Cut, Same, bytes_of, whole, current, Tile, last_in}
-use Rattle.best_fit.proofs.Common.{without_last, is_free, FrontSaysTiles, SaysTiles, SameBesideTags}
-use Rattle.best_fit.proofs.Common.{front_is_a_window, tiles_are_read_off, HasEndMoved, KeepsTo, last_end, least_size}
+use Rattle.best_fit.proofs.Common.{same_Some, none-some, WindowState, SameBytes, bytes_of, whole, current, Tile}
+use Rattle.best_fit.proofs.Common.{last_in}
+use Rattle.best_fit.proofs.Common.{without_last, is_free, FrontSaysTiles, EncodesTiles, SameExceptTags}
+use Rattle.best_fit.proofs.Common.{front_is_a_window, tiles_are_read_off, MovesEnd, KeepsTo, last_end, least_size}
 use Rattle.best_fit.proofs.Common.{of_size, Extent, IsTreeOf, payloads, sorted_gaps, gaps_in, gaps_of, tiles_in}
-use Rattle.best_fit.proofs.Common.{HasTree, LaysOut, live_of}
+use Rattle.best_fit.proofs.Common.{HasGapTree, EncodesLiveSet, live_of}
 use Rattle.raw_region.specs.Memory.{cut_at}
 use Rattle.block_tags.specs.Windows.{HasFreeLast}
-use Rattle.block_tags.proofs.Laws.{AreTags-Fill}
+use Rattle.block_tags.proofs.Laws.{AreTags-AreContiguous}
 use Rattle.best_fit.proofs.Around.{apart_front}
 use Rattle.best_fit.proofs.Carrying.{Carries, carried_blocks, carried_tree, resized_ends, resized_same, then-ends}
 use Rattle.best_fit.proofs.Joins.{extents_of-around_free}
-use Rattle.best_fit.proofs.Laid.{IsLegal, SaysHeap, legal_size, said_row, says-live}
+use Rattle.best_fit.proofs.TagsAndLiveSet.{IsLegal, SaysHeap, legal_size, said_row, says-live}
 use Rattle.best_fit.proofs.Placed.{lays_out}
 use Rattle.best_fit.proofs.Regrowths.{tree_says}
-use Rattle.best_fit.proofs.Rows.{Apart, Fill-Row, Row, extents_of, extents_of-free, extents_of-used, unused, used}
+use Rattle.best_fit.proofs.Rows.{Apart, AreContiguous-Row, Row, extents_of, extents_of-free, extents_of-used, unused}
+use Rattle.best_fit.proofs.Rows.{used}
 use Rattle.best_fit.proofs.Rows.{use_cases, unused-free}
 use Rattle.best_fit.proofs.Steps.{In, in_front, inside, low_beside, tag_in}
 
@@ -75,16 +77,16 @@ at_most : (n : ℕ) → n ≤ n
 at_most n = omega arith
 
 -- how long the region is
-length_cut : (c : Cut) → length (whole c) ≡ length c.before + (length c.bytes + length c.after)
+length_cut : (c : WindowState) → length (whole c) ≡ length c.before + (length c.bytes + length c.after)
 length_cut c = omega (arith, length-append (c.before ++ c.bytes) c.after, length-append c.before c.bytes)
 
-module _ (c : Cut) (front : List Tile) (t : Tile) (list : tiles_in c ≡ front ++ t ∷ []) (free : t.use_of ≡ None)
-    (tree : HasTree c (gaps_of front)) where
+module _ (c : WindowState) (front : List Tile) (t : Tile) (list : tiles_in c ≡ front ++ t ∷ []) (free : t.use_of ≡ None)
+    (tree : HasGapTree c (gaps_of front)) where
   says : SaysHeap c (tiles_in c)
   says = tree_says c (gaps_of front) tree
 
-  said : SaysTiles c (front ++ t ∷ [])
-  said = subst (SaysTiles c) list says.said
+  said : EncodesTiles c (front ++ t ∷ [])
+  said = subst (EncodesTiles c) list says.said
 
   -- what the drop needs
   pub has_free_last : HasFreeLast c
@@ -99,30 +101,31 @@ module _ (c : Cut) (front : List Tile) (t : Tile) (list : tiles_in c ≡ front +
   row_c : Row 128 (front ++ t ∷ []) (length c.bytes - 16)
   row_c = said_row c (front ++ t ∷ []) said
 
-  module _ (d : Cut) (n : ℕ) (tags : (ts : List Tile) → SaysTiles c ts → FrontSaysTiles d n (without_last ts))
-      (rest : (ts : List Tile) → SaysTiles c ts → SameBesideTags c d ts (without_last ts)) where
+  module _ (d : WindowState) (n : ℕ) (tags : (ts : List Tile) → EncodesTiles c ts
+      → FrontSaysTiles d n (without_last ts))
+      (rest : (ts : List Tile) → EncodesTiles c ts → SameExceptTags c d ts (without_last ts)) where
     front_d : FrontSaysTiles d n front
     front_d = subst (FrontSaysTiles d n) (without_behind front t) (tags (front ++ t ∷ []) said)
 
-    beside : SameBesideTags c d (front ++ t ∷ []) front
-    beside = subst (SameBesideTags c d (front ++ t ∷ [])) (without_behind front t) (rest (front ++ t ∷ []) said)
+    beside : SameExceptTags c d (front ++ t ∷ []) front
+    beside = subst (SameExceptTags c d (front ++ t ∷ [])) (without_behind front t) (rest (front ++ t ∷ []) said)
 
     -- what the cut needs
     pub drop_fits : length d.before + n ≤ length (whole d)
     drop_fits = let within = front_d.within in omega (arith, length_cut d)
 
     row_d : Row 128 front (n - 16)
-    row_d = Fill-Row current 128 front (n - 16)
-        (AreTags-Fill current (bytes_of d.bytes) 128 0 front (n - 16) front_d.tags)
+    row_d = AreContiguous-Row current 128 front (n - 16)
+        (AreTags-AreContiguous current (bytes_of d.bytes) 128 0 front (n - 16) front_d.tags)
 
-    module _ (e : Cut) (is : e ≡ cut_at (whole d) (length d.before) n) where
+    module _ (e : WindowState) (is : e ≡ cut_at (whole d) (length d.before) n) where
       size_e : length e.bytes ≡ n
       size_e = (resized_ends d e n is drop_fits).bytes
 
-      same_d : Same (bytes_of d.bytes) (bytes_of e.bytes) 0 n
+      same_d : SameBytes (bytes_of d.bytes) (bytes_of e.bytes) 0 n
       same_d = resized_same d e n is drop_fits n front_d.within (at_most n)
 
-      said_e : SaysTiles e front
+      said_e : EncodesTiles e front
       said_e =
           let s = size_e in let within = front_d.within in
           (front_is_a_window e d front (omega arith)
@@ -143,7 +146,7 @@ module _ (c : Cut) (front : List Tile) (t : Tile) (list : tiles_in c ≡ front +
           let below = a.high in let under = b.high in let l = legal_n in let least = l.low in
           same_d.at k (omega arith) (omega arith) ∙ beside.bytes k a.beside b.beside (omega arith)
 
-      header_stays : Same (bytes_of c.bytes) (bytes_of e.bytes) 0 128
+      header_stays : SameBytes (bytes_of c.bytes) (bytes_of e.bytes) 0 128
       header_stays =
           let l = legal_n in let least = l.low in let s = shorter in
           record {
@@ -173,7 +176,7 @@ module _ (c : Cut) (front : List Tile) (t : Tile) (list : tiles_in c ≡ front +
 
       says_e : SaysHeap e (tiles_in e)
       says_e = record {
-        said = subst (SaysTiles e) (sym list_e) said_e;
+        said = subst (EncodesTiles e) (sym list_e) said_e;
         apart = subst (Apart false) (sym list_e) (apart_front false front (t ∷ []) apart_c);
       }
 
@@ -206,8 +209,11 @@ module _ (c : Cut) (front : List Tile) (t : Tile) (list : tiles_in c ≡ front +
             blocks = rw extents_c (carried_blocks (bytes_of c.bytes) (bytes_of e.bytes) front (n - 16) carries);
           }
 
-      moved : HasEndMoved current c e n
-      moved = record { live = subst (LaysOut current e.bytes) live_e (lays_out e says_e tree_e); keeps = keeps_e }
+      moved : MovesEnd current c e n
+      moved = record {
+        live = subst (EncodesLiveSet current e.bytes) live_e (lays_out e says_e tree_e);
+        keeps = keeps_e;
+      }
 
-      pub gap_dropped : HasEndMoved current c e (least_size (live_of c.bytes))
-      gap_dropped = subst (λ k. HasEndMoved current c e k) (sym least_is) moved
+      pub gap_dropped : MovesEnd current c e (least_size (live_of c.bytes))
+      gap_dropped = subst (λ k. MovesEnd current c e k) (sym least_is) moved

@@ -1,17 +1,20 @@
 -- A block that comes in the place of another.
-use Rattle.best_fit.proofs.Common.{◌≡◌, ◌≢◌, refl, sym, ap, subst, ◌∙◌, inl, ℕ, ◌+◌, ◌-◌, ◌%◌, ◌<◌, ◌≤◌, Bool, true, false}
+use Rattle.best_fit.proofs.Common.{◌≡◌, ◌≢◌, refl, sym, ap, subst, ◌∙◌, inl, ℕ, ◌+◌, ◌-◌, ◌%◌, ◌<◌, ◌≤◌, Bool, true}
+use Rattle.best_fit.proofs.Common.{false}
 use Rattle.best_fit.proofs.Common.{Option, Some, None, List, [], ◌∷◌, arith, if◌then◌else◌, IsTrue, IfSome}
 use Rattle.best_fit.proofs.Common.{option_map, min, Result, and_from, le-leb, leb-true, lt-leb, AllByRecursion}
-use Rattle.best_fit.proofs.Common.{both_ways, same_Some, none-some, Same-trans, SameBut-word, Memory, Cut, SameBut}
+use Rattle.best_fit.proofs.Common.{both_ways, same_Some, none-some, SameBytes-trans, SameBytesExcept-word, Memory}
+use Rattle.best_fit.proofs.Common.{WindowState, SameBytesExcept}
 use Rattle.best_fit.proofs.Common.{bytes_of}
-use Rattle.best_fit.proofs.Common.{read, Storage, current, exchanged, without_all, IsExchanged, SameBlockBut}
-use Rattle.best_fit.proofs.Common.{IsGivenRoom, Regrows, serves, same_role, Extent, LiveSet, handle, end_of, holds}
+use Rattle.best_fit.proofs.Common.{read, Storage, current, exchanged, without_all, ExchangesBlocks, SameBlockExcept}
+use Rattle.best_fit.proofs.Common.{RegrowsOk, Regrows, serves, same_role, Extent, LiveSet, handle, end_of, holds}
 use Rattle.best_fit.proofs.Common.{is_proper, insert, others, added, released, place, regrow, longer, Allocates}
-use Rattle.best_fit.proofs.Common.{IsAllocated, IsChanged, IsExtended, IsResized, IsHeap, IsReleased, LaysOut}
-use Rattle.best_fit.proofs.Common.{SameBlock, Keeps, extent_at, has_room, live_of}
+use Rattle.best_fit.proofs.Common.{AllocatesOk, ChangesBytes, TryExtends, ResizesBlock, IsHeap, Deallocates}
+use Rattle.best_fit.proofs.Common.{EncodesLiveSet}
+use Rattle.best_fit.proofs.Common.{SameBlock, KeepsBlocks, extent_at, has_room, live_of}
 use Rattle.std.specs.Prelude.{Ok, Err, MatchResult}
-use Rattle.raw_region.proofs.Laws.{Same-read}
-use Rattle.best_fit.specs.Exchange.{IsRegrown, IsReplaced, IsNotGivenRoom, Replaces}
+use Rattle.raw_region.proofs.Laws.{SameBytes-read}
+use Rattle.best_fit.specs.Exchange.{ReplacesBlocks, ReplacesBlock, RegrowsNoSpace, Replaces}
 use Rattle.best_fit.proofs.LayOut.{lay_out_one}
 use Rattle.best_fit.proofs.Writes.{Room, room_block}
 use Rattle.best_fit.proofs.Frames.{keeps-refl, keeps-trans}
@@ -31,7 +34,7 @@ pub record IsRoomy (l : LiveSet) (h n : ℕ) : Type 0 where
   pub at : handle extent ≡ h
   pub room : n + 16 ≤ extent.len
 
-pub roomy : (c : Cut) (h n : ℕ) → IsHeap current c.bytes → IsTrue (has_room (live_of c.bytes) h n)
+pub roomy : (c : WindowState) (h n : ℕ) → IsHeap current c.bytes → IsTrue (has_room (live_of c.bytes) h n)
     → IsRoomy (live_of c.bytes) h n
 roomy c h n heap t =
     let r : Room c h n = room_block c h n heap t in
@@ -44,11 +47,11 @@ roomy c h n heap t =
     }
 
 -- a new block is taken, bytes are copied to it, and the old one is given back
-pub replaced : (s0 s1 s2 s3 : Cut) (h n used g : ℕ) → IsHeap current s0.bytes
+pub replaced : (s0 s1 s2 s3 : WindowState) (h n used g : ℕ) → IsHeap current s0.bytes
     → IsTrue (has_room (live_of s0.bytes) h used) → used ≤ n
-    → (a : IsAllocated current s0 s1 n Storage g) → n + 16 ≤ a.extent.len → IsChanged current s1 s2 g used
+    → (a : AllocatesOk current s0 s1 n Storage g) → n + 16 ≤ a.extent.len → ChangesBytes current s1 s2 g used
     → read (bytes_of s2.bytes) g used ≡ read (bytes_of s1.bytes) h used
-    → IsReleased current s2 s3 h → IsReplaced current s0 s3 h n used g
+    → Deallocates current s2 s3 h → ReplacesBlock current s0 s3 h n used g
 replaced s0 s1 s2 s3 h n used g heap t f a fits c e r =
     let l : LiveSet = live_of s0.bytes in
     let y : Extent = a.extent in
@@ -60,13 +63,13 @@ replaced s0 s1 s2 s3 h n used g heap t f a fits c e r =
     let two : live_of s2.bytes ≡ added l y = changed-live current s1 s2 g used c ∙ one in
     let swap : others h (insert y l.extents) ≡ insert y rest = exchange-moved l h x y heap.proper
     q.found a.live.proper in
-    let k3 : Keeps s2 s3 (insert y rest) =
-    subst (Keeps s2 s3) (ap (λ (s : LiveSet). others h s.extents) two ∙ swap) r.keeps in
+    let k3 : KeepsBlocks s2 s3 (insert y rest) =
+    subst (KeepsBlocks s2 s3) (ap (λ (s : LiveSet). others h s.extents) two ∙ swap) r.keeps in
     let alone : IsAlone 128 y l.extents = spaced-insert 128 y l.extents (live-spaced (added l y) a.live.proper) in
-    let k2 : Keeps s1 s2 l.extents = written-keeps s1 s2 y l.extents g used alone c.place c.rest
+    let k2 : KeepsBlocks s1 s2 l.extents = written-keeps s1 s2 y l.extents g used alone c.place c.rest
     (omega (arith, at)) (omega (arith, at)) in
-    let k1 : Keeps s0 s2 l.extents = keeps-trans s0 s1 s2 l.extents a.keeps k2 in
-    let k : Keeps s0 s3 rest =
+    let k1 : KeepsBlocks s0 s2 l.extents = keeps-trans s0 s1 s2 l.extents a.keeps k2 in
+    let k : KeepsBlocks s0 s3 rest =
     keeps-trans s0 s2 s3 rest
     (keeps-of s0 s2 l.extents rest k1
     (λ b. (in_use-all (SameBlock (bytes_of s0.bytes) (bytes_of s2.bytes)) l h x heap.proper q.found b).1))
@@ -78,8 +81,8 @@ replaced s0 s1 s2 s3 h n used g heap t f a fits c e r =
     (in_use-all (SameBlock (bytes_of s0.bytes) (bytes_of s1.bytes)) l h x heap.proper q.found a.keeps.blocks).0 in
     let big : used + 16 ≤ x.len = q.room in
     let here : handle x ≡ h = q.at in
-    let live : LaysOut current s3.bytes (exchanged l (x ∷ []) (y ∷ [])) =
-    subst (LaysOut current s3.bytes) (ap (λ s. released s h) two
+    let live : EncodesLiveSet current s3.bytes (exchanged l (x ∷ []) (y ∷ [])) =
+    subst (EncodesLiveSet current s3.bytes) (ap (λ s. released s h) two
     ∙ ap (λ xs. let s : LiveSet = record l { extents = xs } in s)
     (swap ∙ ap (λ k. insert y (others k l.extents)) (sym here))) r.live in
     record {
@@ -88,30 +91,31 @@ replaced s0 s1 s2 s3 h n used g heap t f a fits c e r =
       at = at;
       change = λ z found. let same : x ≡ z = same_Some _ _ (sym q.found ∙ found) in
           record {
-            live = subst (λ (z : Extent). LaysOut current s3.bytes (exchanged l (z ∷ []) (y ∷ []))) same live;
-            keeps = subst (λ (z : Extent). Keeps s0 s3 (others (handle z) l.extents)) same
-                (subst (λ k. Keeps s0 s3 (others k l.extents)) (sym here) k);
+            live = subst (λ (z : Extent). EncodesLiveSet current s3.bytes (exchanged l (z ∷ []) (y ∷ []))) same live;
+            keeps = subst (λ (z : Extent). KeepsBlocks s0 s3 (others (handle z) l.extents)) same
+                (subst (λ k. KeepsBlocks s0 s3 (others k l.extents)) (sym here) k);
           };
-      carried = Same-read (bytes_of s2.bytes) (bytes_of s3.bytes) (handle y) (end_of y) (handle y) used own.payload
+      carried = SameBytes-read (bytes_of s2.bytes) (bytes_of s3.bytes) (handle y) (end_of y) (handle y) used own.payload
           (omega arith) (omega arith)
           ∙ ap (λ k. read (bytes_of s2.bytes) k used) (sym at) ∙ e
-          ∙ Same-read (bytes_of s0.bytes) (bytes_of s1.bytes) (handle x) (end_of x) h used was.payload
+          ∙ SameBytes-read (bytes_of s0.bytes) (bytes_of s1.bytes) (handle x) (end_of x) h used was.payload
           (omega arith) (omega arith);
     }
 
 -- ---- what a request is given
 
-pub allocated-fits : (old mid : Cut) (n h : ℕ) → (a : IsAllocated current old mid n Storage h) → n + 16 ≤ a.extent.len
+pub allocated-fits : (old mid : WindowState) (n h : ℕ) → (a : AllocatesOk current old mid n Storage h)
+    → n + 16 ≤ a.extent.len
 allocated-fits old mid n h a =
     leb-true (n + 16) a.extent.len (place-holds (live_of old.bytes) n Storage a.extent a.placed)
 
 -- ---- regrowing
 
 -- a block that has the room stays
-pub given-same : (c : Cut) (h n used : ℕ) → IsHeap current c.bytes
+pub given-same : (c : WindowState) (h n used : ℕ) → IsHeap current c.bytes
     → IsTrue (has_room (live_of c.bytes) h used) → (r : ℕ)
     → option_map (λ (x : Extent). x.len - 16) (extent_at (live_of c.bytes) h) ≡ Some r → n ≤ r
-    → IsGivenRoom current c c (extent_at (live_of c.bytes) h) n used h
+    → RegrowsOk current c c (extent_at (live_of c.bytes) h) n used h
 unfolding regrow
 given-same c h n used heap t r e f =
     let q : IsRoomy (live_of c.bytes) h used = roomy c h used heap t in
@@ -120,7 +124,7 @@ given-same c h n used heap t r e f =
     let is : Some (x.len - 16) ≡ Some r = ap (option_map (λ (x : Extent). x.len - 16)) (sym q.found) ∙ e in
     let long : x.len - 16 ≡ r = cc in
     let l : LiveSet = live_of c.bytes in
-    let given : IsGivenRoom current c c (Some x) n used h = record {
+    let given : RegrowsOk current c c (Some x) n used h = record {
       extent = x;
       regrown = ap (λ b. if b then Some x else elim (longer l x n) as (λ _. Option Extent) [
         | Some y ↦ Some y
@@ -128,20 +132,21 @@ given-same c h n used heap t r e f =
       ]) (le-leb (n + 16) x.len (omega (arith, long, f, has)));
       at = sym q.at;
       change = record {
-        live = subst (LaysOut current c.bytes) (sym (exchange-back l h x heap.proper q.found)) heap;
+        live = subst (EncodesLiveSet current c.bytes) (sym (exchange-back l h x heap.proper q.found)) heap;
         keeps = keeps-refl c (others (handle x) l.extents);
       };
       carried = refl;
       same = λ f. refl;
     } in
-    subst (λ o. IsGivenRoom current c c o n used h) (sym q.found) given
+    subst (λ o. RegrowsOk current c c o n used h) (sym q.found) given
 
 -- a block that has not the room
-record IsShort (c : Cut) (h n used : ℕ) : Type 0 where
+record IsShort (c : WindowState) (h n used : ℕ) : Type 0 where
   roomy : IsRoomy (live_of c.bytes) h used
   short : holds roomy.extent n ≡ false
 
-is_short : (c : Cut) (h n used : ℕ) → IsHeap current c.bytes → IsTrue (has_room (live_of c.bytes) h used) → (r : ℕ)
+is_short : (c : WindowState) (h n used : ℕ) → IsHeap current c.bytes → IsTrue (has_room (live_of c.bytes) h used)
+    → (r : ℕ)
     → option_map (λ (x : Extent). x.len - 16) (extent_at (live_of c.bytes) h) ≡ Some r → r < n → IsShort c h n used
 is_short c h n used heap t r e f =
     let q : IsRoomy (live_of c.bytes) h used = roomy c h used heap t in
@@ -169,13 +174,14 @@ regrow-short l x n o e f = λ i. if e i then Some x else elim (f i) as (λ _. Op
 ]
 
 -- the block that is found is lengthened, where the answer is yes
-pub record IsLengthened (old new : Cut) (x : Extent) (n : ℕ) : Type 0 where
+pub record IsLengthened (old new : WindowState) (x : Extent) (n : ℕ) : Type 0 where
   pub after : Extent
   pub longer : longer (live_of old.bytes) x n ≡ Some after
-  pub resized : IsResized current old new x after
+  pub resized : ResizesBlock current old new x after
 
-pub lengthened_at : (old new : Cut) (h n : ℕ) (result : Bool) (x : Extent) → extent_at (live_of old.bytes) h ≡ Some x
-    → IsExtended current old new h n result → result ≡ true → IsLengthened old new x n
+pub lengthened_at : (old new : WindowState) (h n : ℕ) (result : Bool) (x : Extent)
+    → extent_at (live_of old.bytes) h ≡ Some x
+    → TryExtends current old new h n result → result ≡ true → IsLengthened old new x n
 lengthened_at old new h n result x found e is = by_or (longer (live_of old.bytes) x n) refl
   where
     same : e.extent ≡ x
@@ -186,13 +192,14 @@ lengthened_at old new h n result x found e is = by_or (longer (live_of old.bytes
     by_or (Some y) f = record {
       after = y;
       longer = f;
-      resized = subst (λ z. IsResized current old new z y) same
+      resized = subst (λ z. ResizesBlock current old new z y) same
           (e.lengthened y (ap (λ z. longer (live_of old.bytes) z n) same ∙ f)).1;
     }
 
 -- and else nothing changes
-pub not_lengthened : (old new : Cut) (h n : ℕ) (result : Bool) (x : Extent) → extent_at (live_of old.bytes) h ≡ Some x
-    → IsExtended current old new h n result → result ≡ false
+pub not_lengthened : (old new : WindowState) (h n : ℕ) (result : Bool) (x : Extent)
+    → extent_at (live_of old.bytes) h ≡ Some x
+    → TryExtends current old new h n result → result ≡ false
     → (longer (live_of old.bytes) x n ≡ None) × (new ≡ old)
 not_lengthened old new h n result x found e was = by_or (longer (live_of old.bytes) x n) refl
   where
@@ -206,11 +213,11 @@ not_lengthened old new h n result x found e was = by_or (longer (live_of old.byt
         absurd (both_ways result was (e.lengthened y (ap (λ z. longer (live_of old.bytes) z n) same ∙ f)).0)
 
 -- a block that was lengthened
-pub given-longer : (old new : Cut) (h n used : ℕ) (result : Bool) → IsHeap current old.bytes
+pub given-longer : (old new : WindowState) (h n used : ℕ) (result : Bool) → IsHeap current old.bytes
     → IsTrue (has_room (live_of old.bytes) h used) → (r : ℕ)
     → option_map (λ (x : Extent). x.len - 16) (extent_at (live_of old.bytes) h) ≡ Some r → r < n
-    → IsExtended current old new h n result → result ≡ true
-    → IsGivenRoom current old new (extent_at (live_of old.bytes) h) n used h
+    → TryExtends current old new h n result → result ≡ true
+    → RegrowsOk current old new (extent_at (live_of old.bytes) h) n used h
 given-longer old new h n used result heap t r e f ext is =
     let q : IsShort old h n used = is_short old h n used heap t r e f in
     let l : LiveSet = live_of old.bytes in
@@ -219,35 +226,37 @@ given-longer old new h n used result heap t r e f ext is =
     let y : Extent = a.after in
     let g = longer-IsLonger l x y n a.longer in
     let begins = g.begins in let long = g.more in let at = q.roomy.at in let big = q.roomy.room in
-    subst (λ o. IsGivenRoom current old new o n used h) (sym q.roomy.found) (record {
+    subst (λ o. RegrowsOk current old new o n used h) (sym q.roomy.found) (record {
       extent = y;
       regrown = regrow-short l x n (Some y) q.short a.longer;
       at = omega (arith, begins, at);
       change = record {
-        live = subst (LaysOut current new.bytes)
+        live = subst (EncodesLiveSet current new.bytes)
             (ap (λ k. let s : LiveSet = record l { extents = insert y (others (k + 16) l.extents) } in s) begins)
             a.resized.live;
         keeps = a.resized.keeps;
       };
       carried = ap (λ k. read (bytes_of new.bytes) (k + 16) used) begins
-          ∙ Same-read (bytes_of old.bytes) (bytes_of new.bytes) (handle x) (x.offset + min x.len y.len) (handle x) used
+          ∙ SameBytes-read (bytes_of old.bytes) (bytes_of new.bytes) (handle x) (x.offset + min x.len y.len)
+          (handle x) used
           a.resized.still.payload (omega arith) (omega arith);
       same = λ f. let is = ap (λ (z : Extent). z.len) (same_Some x y f) in absurd (omega arith);
     })
 
 -- a block that was not lengthened is as it was
-pub not_longer-same : (old new : Cut) (h n used : ℕ) (result : Bool) → IsHeap current old.bytes
+pub not_longer-same : (old new : WindowState) (h n used : ℕ) (result : Bool) → IsHeap current old.bytes
     → IsTrue (has_room (live_of old.bytes) h used) → (r : ℕ)
     → option_map (λ (x : Extent). x.len - 16) (extent_at (live_of old.bytes) h) ≡ Some r → r < n
-    → IsExtended current old new h n result → result ≡ false → new ≡ old
+    → TryExtends current old new h n result → result ≡ false → new ≡ old
 not_longer-same old new h n used result heap t r e f x was =
     let q = roomy old h used heap t in (not_lengthened old new h n result q.extent q.found x was).1
 
-given-replaced : {E : Type 0} → (old new : Cut) (h n used : ℕ) (x : Extent) (r : Result ℕ E) → IsHeap current old.bytes
+given-replaced : {E : Type 0} → (old new : WindowState) (h n used : ℕ) (x : Extent) (r : Result ℕ E)
+    → IsHeap current old.bytes
     → extent_at (live_of old.bytes) h ≡ Some x → handle x ≡ h → holds x n ≡ false
     → longer (live_of old.bytes) x n ≡ None
-    → Replaces current old new h n used r → MatchResult r (IsGivenRoom current old new (Some x) n used)
-    (λ e. IsNotGivenRoom old new (Some x) n)
+    → Replaces current old new h n used r → MatchResult r (RegrowsOk current old new (Some x) n used)
+    (λ e. RegrowsNoSpace old new (Some x) n)
 given-replaced old new h n used x (Ok g) heap found at e f p = record {
   extent = p.extent;
   regrown = regrow-short (live_of old.bytes) x n None e f ∙ p.placed;
@@ -260,22 +269,22 @@ given-replaced old new h n used x (Err e') heap found at e f p =
     record { none = regrow-short (live_of old.bytes) x n None e f ∙ p.none; same = p.same }
 
 -- a block that was replaced
-pub regrows-replaced : {E : Type 0} → (old mid new : Cut) (h n used : ℕ) (result : Bool) (res : Result ℕ E)
+pub regrows-replaced : {E : Type 0} → (old mid new : WindowState) (h n used : ℕ) (result : Bool) (res : Result ℕ E)
     → IsHeap current old.bytes → IsTrue (has_room (live_of old.bytes) h used) → (r : ℕ)
     → option_map (λ (x : Extent). x.len - 16) (extent_at (live_of old.bytes) h) ≡ Some r → r < n
-    → IsExtended current old mid h n result → result ≡ false
+    → TryExtends current old mid h n result → result ≡ false
     → Replaces current mid new h n used res → Regrows current old new (Some h) n used res
 regrows-replaced old mid new h n used result res heap t r e f x was p =
     let q : IsShort old h n used = is_short old h n used heap t r e f in
     let both = not_lengthened old mid h n result q.roomy.extent q.roomy.found x was in
     let p' : Replaces current old new h n used res =
-    subst (λ (c : Cut). Replaces current c new h n used res) both.1 p in
-    subst (λ o. MatchResult res (IsGivenRoom current old new o n used) (λ e. IsNotGivenRoom old new o n))
+    subst (λ (c : WindowState). Replaces current c new h n used res) both.1 p in
+    subst (λ o. MatchResult res (RegrowsOk current old new o n used) (λ e. RegrowsNoSpace old new o n))
     (sym q.roomy.found)
     (given-replaced old new h n used q.roomy.extent res heap q.roomy.found q.roomy.at q.short both.0 p')
 
 -- a new block where there was none
-pub regrows-none : {E : Type 0} → (old new : Cut) (n used : ℕ) (r : Result ℕ E)
+pub regrows-none : {E : Type 0} → (old new : WindowState) (n used : ℕ) (r : Result ℕ E)
     → Allocates current old new n Storage r → Regrows current old new None n used r
 unfolding regrow
 regrows-none old new n used (Ok h) a = record {
@@ -291,20 +300,20 @@ regrows-none old new n used (Err e) a = record { none = a.none; same = a.same }
 -- ---- a block regrown, and then bytes written in a block that stayed
 
 -- the live set afterwards
-pub regrown-live : (old mid : Cut) (gone : List Extent) (y : Extent) → IsRegrown current old mid gone y
+pub regrown-live : (old mid : WindowState) (gone : List Extent) (y : Extent) → ReplacesBlocks current old mid gone y
     → live_of mid.bytes ≡ exchanged (live_of old.bytes) gone (y ∷ [])
 regrown-live old mid gone y r = lay_out_one current mid.bytes (exchanged (live_of old.bytes) gone (y ∷ [])) r.live
 
-same-but : (m m' : Memory) (from n : ℕ) (x : Extent) → SameBlock m m' x → SameBlockBut m m' from n x
+same-but : (m m' : Memory) (from n : ℕ) (x : Extent) → SameBlock m m' x → SameBlockExcept m m' from n x
 same-but m m' from n x s = record { payload = λ k f g h. s.payload.at k f g; colour = s.colour }
 
 pub all-same-but : (m m' : Memory) (from n : ℕ) (xs : List Extent) → AllByRecursion (SameBlock m m') xs
-    → AllByRecursion (SameBlockBut m m' from n) xs
+    → AllByRecursion (SameBlockExcept m m' from n) xs
 all-same-but m m' from n [] s = tt
 all-same-but m m' from n (x ∷ xs) s = (same-but m m' from n x s.0, all-same-but m m' from n xs s.1)
 
 pub but-trans : (a b c : Memory) (from n : ℕ) (xs : List Extent) → AllByRecursion (SameBlock a b) xs
-    → AllByRecursion (SameBlockBut b c from n) xs → AllByRecursion (SameBlockBut a c from n) xs
+    → AllByRecursion (SameBlockExcept b c from n) xs → AllByRecursion (SameBlockExcept a c from n) xs
 but-trans a b c from n [] p q = tt
 but-trans a b c from n (x ∷ xs) p q = (
   record { payload = λ k f g h. q.0.payload k f g h ∙ p.0.payload.at k f g; colour = q.0.colour ∙ p.0.colour },
@@ -312,46 +321,47 @@ but-trans a b c from n (x ∷ xs) p q = (
 )
 
 -- the block that is written in
-own-but : (m m' : Memory) (from n : ℕ) (x : Extent) → SameBut m m' from n → handle x ≤ from → SameBlockBut m m' from n x
+own-but : (m m' : Memory) (from n : ℕ) (x : Extent) → SameBytesExcept m m' from n → handle x ≤ from
+    → SameBlockExcept m m' from n x
 own-but m m' from n x s f = record {
   payload = λ k a b h. s.at k h;
-  colour = ap (λ w. w % 16) (SameBut-word m m' from n (x.offset + 8) s (inl (omega arith)));
+  colour = ap (λ w. w % 16) (SameBytesExcept-word m m' from n (x.offset + 8) s (inl (omega arith)));
 }
 
 -- all blocks of a heap in which bytes are written in one
-pub written-but : (mid new : Cut) (l : LiveSet) (h from n : ℕ) (x : Extent) → IsTrue (is_proper l)
-    → extent_at l h ≡ Some x → IsChanged current mid new from n → handle x ≤ from → from + n ≤ end_of x
-    → AllByRecursion (SameBlockBut (bytes_of mid.bytes) (bytes_of new.bytes) from n) l.extents
+pub written-but : (mid new : WindowState) (l : LiveSet) (h from n : ℕ) (x : Extent) → IsTrue (is_proper l)
+    → extent_at l h ≡ Some x → ChangesBytes current mid new from n → handle x ≤ from → from + n ≤ end_of x
+    → AllByRecursion (SameBlockExcept (bytes_of mid.bytes) (bytes_of new.bytes) from n) l.extents
 written-but mid new l h from n x p e c f g =
     let m : Memory = bytes_of mid.bytes in
     let m' : Memory = bytes_of new.bytes in
-    let k : Keeps mid new (others h l.extents) = written-keeps mid new x (others h l.extents) from n
+    let k : KeepsBlocks mid new (others h l.extents) = written-keeps mid new x (others h l.extents) from n
     (in_use-alone l h x p e) c.place c.rest f g in
-    subst (AllByRecursion (SameBlockBut m m' from n)) (sym (in_use l h x p e).is)
-    (AllByRecursion-insert_from (SameBlockBut m m' from n) x (others h l.extents) (own-but m m' from n x c.rest f)
+    subst (AllByRecursion (SameBlockExcept m m' from n)) (sym (in_use l h x p e).is)
+    (AllByRecursion-insert_from (SameBlockExcept m m' from n) x (others h l.extents) (own-but m m' from n x c.rest f)
     (all-same-but m m' from n (others h l.extents) k.blocks))
 
 -- the heap afterwards
-pub exchanged-written : (old mid new : Cut) (gone : List Extent) (y x : Extent) (h from n : ℕ)
-    → IsRegrown current old mid gone y → extent_at (exchanged (live_of old.bytes) gone (y ∷ [])) h ≡ Some x
-    → IsChanged current mid new from n → handle x ≤ from → from + n ≤ end_of x
-    → IsExchanged current old new from n gone (y ∷ [])
+pub exchanged-written : (old mid new : WindowState) (gone : List Extent) (y x : Extent) (h from n : ℕ)
+    → ReplacesBlocks current old mid gone y → extent_at (exchanged (live_of old.bytes) gone (y ∷ [])) h ≡ Some x
+    → ChangesBytes current mid new from n → handle x ≤ from → from + n ≤ end_of x
+    → ExchangesBlocks current old new from n gone (y ∷ [])
 exchanged-written old mid new gone y x h from n r e c f g =
     let l : LiveSet = exchanged (live_of old.bytes) gone (y ∷ []) in
     let m : Memory = bytes_of mid.bytes in
     let m' : Memory = bytes_of new.bytes in
     let rest : List Extent = without_all gone (live_of old.bytes).extents in
-    let all : AllByRecursion (SameBlockBut m m' from n) (insert y rest) = written-but mid new l h from n x
+    let all : AllByRecursion (SameBlockExcept m m' from n) (insert y rest) = written-but mid new l h from n x
     r.live.proper e c f g in
-    let k : Keeps mid new (others h l.extents) = written-keeps mid new x (others h l.extents) from n
+    let k : KeepsBlocks mid new (others h l.extents) = written-keeps mid new x (others h l.extents) from n
     (in_use-alone l h x r.live.proper e) c.place c.rest f g in
     record {
-      live = subst (LaysOut current new.bytes) (regrown-live old mid gone y r) c.live;
+      live = subst (EncodesLiveSet current new.bytes) (regrown-live old mid gone y r) c.live;
       place = record { before = c.place.before ∙ r.keeps.place.before; after = c.place.after ∙ r.keeps.place.after };
-      front = Same-trans (bytes_of old.bytes) m m' 0 24 r.keeps.front k.front;
-      behind = Same-trans (bytes_of old.bytes) m m' 32 128 r.keeps.behind k.behind;
+      front = SameBytes-trans (bytes_of old.bytes) m m' 0 24 r.keeps.front k.front;
+      behind = SameBytes-trans (bytes_of old.bytes) m m' 32 128 r.keeps.behind k.behind;
       blocks = but-trans (bytes_of old.bytes) m m' from n rest r.keeps.blocks
-          (all_of-insert (SameBlockBut m m' from n) y rest all).1;
+          (all_of-insert (SameBlockExcept m m' from n) y rest all).1;
     }
 
 -- ---- what regrowing gives

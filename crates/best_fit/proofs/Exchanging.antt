@@ -1,9 +1,12 @@
 -- Blocks exchanged several times, one after another: what all of it comes to, and what stays.
 use Rattle.best_fit.proofs.Common.{◌≡◌, ◌≢◌, refl, sym, ap, subst, ◌∙◌, inl, inr, ◌⊎◌, ℕ, ◌+◌, ◌<◌, ◌≤◌, Some, List}
-use Rattle.best_fit.proofs.Common.{[], ◌∷◌, ◌++◌, ◌==◌, arith, IsTrue, find, ⊤, AllByRecursion, Memory, Cut, bytes_of}
-use Rattle.best_fit.proofs.Common.{Same-refl, Same-trans, SamePlace-trans, Role, IsExchanged, SameBlockBut, exchanged}
+use Rattle.best_fit.proofs.Common.{[], ◌∷◌, ◌++◌, ◌==◌, arith, IsTrue, find, ⊤, AllByRecursion, Memory, WindowState}
+use Rattle.best_fit.proofs.Common.{bytes_of}
+use Rattle.best_fit.proofs.Common.{SameBytes-refl, SameBytes-trans, SameSurroundings-trans, Role, ExchangesBlocks}
+use Rattle.best_fit.proofs.Common.{SameBlockExcept, exchanged}
 use Rattle.best_fit.proofs.Common.{inserted, without_all, Extent, LiveSet, handle, end_of, is_proper, insert, others}
-use Rattle.best_fit.proofs.Common.{released, IsAllocated, IsChanged, IsHeap, IsReleased, IsResized, Keeps, LaysOut}
+use Rattle.best_fit.proofs.Common.{released, AllocatesOk, ChangesBytes, IsHeap, Deallocates, ResizesBlock, KeepsBlocks}
+use Rattle.best_fit.proofs.Common.{EncodesLiveSet}
 use Rattle.best_fit.proofs.Common.{SameBlock, extent_at, has_room, live_of}
 use Rattle.best_fit.proofs.Allocated.{changed-keeps_block}
 use Rattle.best_fit.proofs.Exchanges.{all-same-but}
@@ -90,14 +93,14 @@ exchanged-twice l gone come again left more x h =
     ∙ ap (of_extents l) (sym (inserted-append more left (without_all gone l.extents)))
 
 -- the live set afterwards
-pub exchanged-live : (a b : Cut) (from n : ℕ) (gone come : List Extent) (format : ℕ)
-    → IsExchanged format a b from n gone come → live_of b.bytes ≡ exchanged (live_of a.bytes) gone come
+pub exchanged-live : (a b : WindowState) (from n : ℕ) (gone come : List Extent) (format : ℕ)
+    → ExchangesBlocks format a b from n gone come → live_of b.bytes ≡ exchanged (live_of a.bytes) gone come
 exchanged-live a b from n gone come format p = lay_out_one format b.bytes (exchanged (live_of a.bytes) gone come) p.live
 
 -- ---- what stays
 
-but-both : (a b c : Memory) (from n : ℕ) (xs : List Extent) → AllByRecursion (SameBlockBut a b from n) xs
-    → AllByRecursion (SameBlockBut b c from n) xs → AllByRecursion (SameBlockBut a c from n) xs
+but-both : (a b c : Memory) (from n : ℕ) (xs : List Extent) → AllByRecursion (SameBlockExcept a b from n) xs
+    → AllByRecursion (SameBlockExcept b c from n) xs → AllByRecursion (SameBlockExcept a c from n) xs
 but-both a b c from n [] p q = tt
 but-both a b c from n (x ∷ xs) p q = (
   record { payload = λ k f g h. q.0.payload k f g h ∙ p.0.payload k f g h; colour = q.0.colour ∙ p.0.colour },
@@ -106,10 +109,10 @@ but-both a b c from n (x ∷ xs) p q = (
 
 -- Blocks are exchanged, and then some of those that came for others. Each block that is written in, but for the n
 -- bytes, is gone and comes.
-pub exchange-next : (format : ℕ) (a b c : Cut) (from n : ℕ) (gone come again left more : List Extent)
+pub exchange-next : (format : ℕ) (a b c : WindowState) (from n : ℕ) (gone come again left more : List Extent)
     → SameSpread come (again ++ left)
-    → IsExchanged format a b from n gone come → IsExchanged format b c from n again more
-    → IsExchanged format a c from n gone (more ++ left)
+    → ExchangesBlocks format a b from n gone come → ExchangesBlocks format b c from n again more
+    → ExchangesBlocks format a c from n gone (more ++ left)
 exchange-next format a b c from n gone come again left more x p q =
     let l : LiveSet = live_of a.bytes in
     let A : Memory = bytes_of a.bytes in
@@ -118,27 +121,28 @@ exchange-next format a b c from n gone come again left more x p q =
     let now : live_of b.bytes ≡ exchanged l gone come = exchanged-live a b from n gone come format p in
     let stay : without_all again (live_of b.bytes).extents ≡ inserted left (without_all gone l.extents) =
     ap (λ (s : LiveSet). without_all again s.extents) now ∙ left-over l gone come again left x p.live.proper in
-    let second : AllByRecursion (SameBlockBut B C from n) (without_all gone l.extents) =
-    (all_of-inserted (SameBlockBut B C from n) left (without_all gone l.extents)
-    (subst (AllByRecursion (SameBlockBut B C from n)) stay q.blocks)).1 in
+    let second : AllByRecursion (SameBlockExcept B C from n) (without_all gone l.extents) =
+    (all_of-inserted (SameBlockExcept B C from n) left (without_all gone l.extents)
+    (subst (AllByRecursion (SameBlockExcept B C from n)) stay q.blocks)).1 in
     record {
-      live = subst (LaysOut format c.bytes) (ap (λ (s : LiveSet). exchanged s again more) now
+      live = subst (EncodesLiveSet format c.bytes) (ap (λ (s : LiveSet). exchanged s again more) now
           ∙ exchanged-twice l gone come again left more x p.live.proper) q.live;
-      place = SamePlace-trans a b c p.place q.place;
-      front = Same-trans A B C 0 24 p.front q.front;
-      behind = Same-trans A B C 32 128 p.behind q.behind;
+      place = SameSurroundings-trans a b c p.place q.place;
+      front = SameBytes-trans A B C 0 24 p.front q.front;
+      behind = SameBytes-trans A B C 32 128 p.behind q.behind;
       blocks = but-both A B C from n (without_all gone l.extents) p.blocks second;
     }
 
 -- in another order
-pub exchange-order : (format : ℕ) (a b : Cut) (from n : ℕ) (gone come other : List Extent) → SameSpread come other
-    → IsExchanged format a b from n gone come → IsExchanged format a b from n gone other
+pub exchange-order : (format : ℕ) (a b : WindowState) (from n : ℕ) (gone come other : List Extent)
+    → SameSpread come other
+    → ExchangesBlocks format a b from n gone come → ExchangesBlocks format a b from n gone other
 exchange-order format a b from n gone come other x p =
     let l : LiveSet = live_of a.bytes in
     let w : List Extent = without_all gone l.extents in
     let up : Rising 128 (inserted come w) = live-rises (of_extents l (inserted come w)) p.live.proper in
     record {
-      live = subst (LaysOut format b.bytes) (ap (of_extents l) (x.same w up)) p.live;
+      live = subst (EncodesLiveSet format b.bytes) (ap (of_extents l) (x.same w up)) p.live;
       place = p.place;
       front = p.front;
       behind = p.behind;
@@ -149,16 +153,16 @@ wide-side : (from n k : ℕ) → (k < 0) ⊎ (0 + 0 ≤ k)
 wide-side from n k = inr (omega arith)
 
 -- where nothing of the blocks that stay changes, nothing but any n bytes does
-but-wide : (a b : Memory) (from n : ℕ) (xs : List Extent) → AllByRecursion (SameBlockBut a b 0 0) xs
-    → AllByRecursion (SameBlockBut a b from n) xs
+but-wide : (a b : Memory) (from n : ℕ) (xs : List Extent) → AllByRecursion (SameBlockExcept a b 0 0) xs
+    → AllByRecursion (SameBlockExcept a b from n) xs
 but-wide a b from n [] p = tt
 but-wide a b from n (x ∷ xs) p = (
   record { payload = λ k f g h. p.0.payload k f g (wide-side from n k); colour = p.0.colour },
   but-wide a b from n xs p.1,
 )
 
-pub exchange-wide : (format : ℕ) (a b : Cut) (from n : ℕ) (gone come : List Extent)
-    → IsExchanged format a b 0 0 gone come → IsExchanged format a b from n gone come
+pub exchange-wide : (format : ℕ) (a b : WindowState) (from n : ℕ) (gone come : List Extent)
+    → ExchangesBlocks format a b 0 0 gone come → ExchangesBlocks format a b from n gone come
 exchange-wide format a b from n gone come p =
     record {
       live = p.live;
@@ -171,7 +175,7 @@ exchange-wide format a b from n gone come p =
 
 -- ---- the calls of the heap, as exchanges
 
-but-refl : (m : Memory) (from n : ℕ) (xs : List Extent) → AllByRecursion (SameBlockBut m m from n) xs
+but-refl : (m : Memory) (from n : ℕ) (xs : List Extent) → AllByRecursion (SameBlockExcept m m from n) xs
 but-refl m from n [] = tt
 but-refl m from n (x ∷ xs) = (record { payload = λ k a b c. refl; colour = refl }, but-refl m from n xs)
 
@@ -184,20 +188,20 @@ back-again l xs rest h e =
     (without-inserted 128 xs rest up) ∙ ap (of_extents l) (sym e)
 
 -- nothing changed: to begin with, where these blocks are written in then
-pub exchange-same : (format : ℕ) (a : Cut) (from n : ℕ) (xs rest : List Extent)
-    → LaysOut format a.bytes (live_of a.bytes) → (live_of a.bytes).extents ≡ inserted xs rest
-    → IsExchanged format a a from n xs xs
+pub exchange-same : (format : ℕ) (a : WindowState) (from n : ℕ) (xs rest : List Extent)
+    → EncodesLiveSet format a.bytes (live_of a.bytes) → (live_of a.bytes).extents ≡ inserted xs rest
+    → ExchangesBlocks format a a from n xs xs
 exchange-same format a from n xs rest h e = record {
-  live = subst (LaysOut format a.bytes) (sym (back-again (live_of a.bytes) xs rest h.proper e)) h;
+  live = subst (EncodesLiveSet format a.bytes) (sym (back-again (live_of a.bytes) xs rest h.proper e)) h;
   place = record { before = refl; after = refl };
-  front = Same-refl (bytes_of a.bytes) 0 24;
-  behind = Same-refl (bytes_of a.bytes) 32 128;
+  front = SameBytes-refl (bytes_of a.bytes) 0 24;
+  behind = SameBytes-refl (bytes_of a.bytes) 32 128;
   blocks = but-refl (bytes_of a.bytes) from n (without_all xs (live_of a.bytes).extents);
 }
 
 -- a block was taken into use
-pub exchange-taken : (format : ℕ) (old new : Cut) (m : ℕ) (role : Role) (h from n : ℕ)
-    → (a : IsAllocated format old new m role h) → IsExchanged format old new from n [] (a.extent ∷ [])
+pub exchange-taken : (format : ℕ) (old new : WindowState) (m : ℕ) (role : Role) (h from n : ℕ)
+    → (a : AllocatesOk format old new m role h) → ExchangesBlocks format old new from n [] (a.extent ∷ [])
 exchange-taken format old new m role h from n a = record {
   live = a.live;
   place = a.keeps.place;
@@ -207,8 +211,9 @@ exchange-taken format old new m role h from n a = record {
 }
 
 -- one was given back
-pub exchange-released : (format : ℕ) (old new : Cut) (x : Extent) (from n : ℕ) → IsReleased format old new (handle x)
-    → IsExchanged format old new from n (x ∷ []) []
+pub exchange-released : (format : ℕ) (old new : WindowState) (x : Extent) (from n : ℕ)
+    → Deallocates format old new (handle x)
+    → ExchangesBlocks format old new from n (x ∷ []) []
 exchange-released format old new x from n r = record {
   live = r.live;
   place = r.keeps.place;
@@ -219,10 +224,10 @@ exchange-released format old new x from n r = record {
 }
 
 -- one has another length
-pub exchange-resized : (format : ℕ) (old new : Cut) (x y : Extent) (from n : ℕ) → handle y ≡ handle x
-    → IsResized format old new x y → IsExchanged format old new from n (x ∷ []) (y ∷ [])
+pub exchange-resized : (format : ℕ) (old new : WindowState) (x y : Extent) (from n : ℕ) → handle y ≡ handle x
+    → ResizesBlock format old new x y → ExchangesBlocks format old new from n (x ∷ []) (y ∷ [])
 exchange-resized format old new x y from n e r = record {
-  live = subst (λ k. LaysOut format new.bytes
+  live = subst (λ k. EncodesLiveSet format new.bytes
       (of_extents (live_of old.bytes) (insert y (others k (live_of old.bytes).extents)))) e r.live;
   place = r.keeps.place;
   front = r.keeps.front;
@@ -232,15 +237,17 @@ exchange-resized format old new x y from n e r = record {
 }
 
 -- one was written in
-pub exchange-written : (format : ℕ) (old new : Cut) (x : Extent) (rest : List Extent) (len at k from n : ℕ)
-    → LaysOut format old.bytes (live_of old.bytes) → (live_of old.bytes).extents ≡ inserted (x ∷ []) rest
-    → IsTrue (has_room (live_of old.bytes) (handle x) len) → IsChanged format old new at k → handle x ≤ at
-    → at + k ≤ handle x + len → IsExchanged format old new from n (x ∷ []) (x ∷ [])
+pub exchange-written : (format : ℕ) (old new : WindowState) (x : Extent) (rest : List Extent) (len at k from n : ℕ)
+    → EncodesLiveSet format old.bytes (live_of old.bytes) → (live_of old.bytes).extents ≡ inserted (x ∷ []) rest
+    → IsTrue (has_room (live_of old.bytes) (handle x) len) → ChangesBytes format old new at k → handle x ≤ at
+    → at + k ≤ handle x + len → ExchangesBlocks format old new from n (x ∷ []) (x ∷ [])
 exchange-written format old new x rest len at k from n h e room c low high =
-    let kept : Keeps old new (released (live_of old.bytes) (handle x)).extents = changed-keeps_block format old new at
+    let kept : KeepsBlocks old new (released (live_of old.bytes) (handle x)).extents =
+    changed-keeps_block format old new at
     k (handle x) len c room (omega arith) high in
     record {
-      live = subst (LaysOut format new.bytes) (sym (back-again (live_of old.bytes) (x ∷ []) rest h.proper e)) c.live;
+      live = subst (EncodesLiveSet format new.bytes) (sym (back-again (live_of old.bytes) (x ∷ []) rest h.proper e))
+          c.live;
       place = c.place;
       front = kept.front;
       behind = kept.behind;
@@ -367,16 +374,17 @@ rest-rises l gone come p =
     (rising-inserted 128 come (without_all gone l.extents) (live-rises (exchanged l gone come) p)).0
 
 -- what an exchange keeps of one block that is not gone, but for the n bytes
-pub kept-but : (a b : Cut) (from n h : ℕ) (y : Extent) (gone come : List Extent) (format : ℕ) → IsHeap format a.bytes
-    → IsExchanged format a b from n gone come → extent_at (live_of a.bytes) h ≡ Some y → IsNone h gone
-    → SameBlockBut (bytes_of a.bytes) (bytes_of b.bytes) from n y
+pub kept-but : (a b : WindowState) (from n h : ℕ) (y : Extent) (gone come : List Extent) (format : ℕ)
+    → IsHeap format a.bytes
+    → ExchangesBlocks format a b from n gone come → extent_at (live_of a.bytes) h ≡ Some y → IsNone h gone
+    → SameBlockExcept (bytes_of a.bytes) (bytes_of b.bytes) from n y
 kept-but a b from n h y gone come format heap p e d =
-    stays (SameBlockBut (bytes_of a.bytes) (bytes_of b.bytes) from n) (live_of a.bytes) h y gone heap.proper e d
+    stays (SameBlockExcept (bytes_of a.bytes) (bytes_of b.bytes) from n) (live_of a.bytes) h y gone heap.proper e d
     (rest-rises (live_of a.bytes) gone come p.live.proper) p.blocks
 
 -- it is in use still
-pub kept-found : (a b : Cut) (from n h : ℕ) (y : Extent) (gone come : List Extent) (format : ℕ)
-    → IsExchanged format a b from n gone come → extent_at (live_of a.bytes) h ≡ Some y → IsNone h gone
+pub kept-found : (a b : WindowState) (from n h : ℕ) (y : Extent) (gone come : List Extent) (format : ℕ)
+    → ExchangesBlocks format a b from n gone come → extent_at (live_of a.bytes) h ≡ Some y → IsNone h gone
     → extent_at (live_of b.bytes) h ≡ Some y
 kept-found a b from n h y gone come format p e d =
     let l : LiveSet = live_of a.bytes in
@@ -387,16 +395,16 @@ kept-found a b from n h y gone come format p e d =
     ∙ found-inserted h y come zs none here
 
 -- all of it, where nothing of the blocks that stay changes
-pub kept : (a b : Cut) (h : ℕ) (y : Extent) (gone come : List Extent) (format : ℕ) → IsHeap format a.bytes
-    → IsExchanged format a b 0 0 gone come → extent_at (live_of a.bytes) h ≡ Some y → IsNone h gone
+pub kept : (a b : WindowState) (h : ℕ) (y : Extent) (gone come : List Extent) (format : ℕ) → IsHeap format a.bytes
+    → ExchangesBlocks format a b 0 0 gone come → extent_at (live_of a.bytes) h ≡ Some y → IsNone h gone
     → SameBlock (bytes_of a.bytes) (bytes_of b.bytes) y
 kept a b h y gone come format heap p e d =
-    let s : SameBlockBut (bytes_of a.bytes) (bytes_of b.bytes) 0 0 y = kept-but a b 0 0 h y gone
+    let s : SameBlockExcept (bytes_of a.bytes) (bytes_of b.bytes) 0 0 y = kept-but a b 0 0 h y gone
     come format heap p e d in
     record { payload = record { at = λ k f g. s.payload k f g (wide-side 0 0 k) }; colour = s.colour }
 
 beside-but : (m m' : Memory) (from n : ℕ) (x y : Extent) → handle x ≤ from → from + n ≤ end_of x → LiesBeside x y
-    → SameBlockBut m m' from n y → SameBlock m m' y
+    → SameBlockExcept m m' from n y → SameBlock m m' y
 beside-but m m' from n x y f g (above h) s =
     record { payload = record { at = λ k a b. s.payload k a b (inl (omega arith)) }; colour = s.colour }
 beside-but m m' from n x y f g (below h) s =
@@ -405,7 +413,7 @@ beside-but m m' from n x y f g (below h) s =
 -- a block that stays but for n bytes stays, where these are in another block
 pub but-apart : (l : LiveSet) (m m' : Memory) (from n g h : ℕ) (x y : Extent) → IsTrue (is_proper l)
     → extent_at l g ≡ Some x → handle x ≤ from → from + n ≤ end_of x → g ≢ h → extent_at l h ≡ Some y
-    → SameBlockBut m m' from n y → SameBlock m m' y
+    → SameBlockExcept m m' from n y → SameBlock m m' y
 but-apart l m m' from n g h x y p ex low high other e s =
     let alone : IsAlone 128 x (others g l.extents) = in_use-alone l g x p ex in
     let rest : Rising 128 (others g l.extents) =
@@ -418,8 +426,8 @@ but-apart l m m' from n g h x y p ex low high other e s =
     beside-but m m' from n x y low high beside s
 
 -- and where the n bytes are those of another block
-pub kept-beside : (a b : Cut) (from n g h : ℕ) (x y : Extent) (gone come : List Extent) (format : ℕ)
-    → IsHeap format a.bytes → IsExchanged format a b from n gone come
+pub kept-beside : (a b : WindowState) (from n g h : ℕ) (x y : Extent) (gone come : List Extent) (format : ℕ)
+    → IsHeap format a.bytes → ExchangesBlocks format a b from n gone come
     → extent_at (live_of a.bytes) g ≡ Some x → handle x ≤ from → from + n ≤ end_of x → g ≢ h
     → extent_at (live_of a.bytes) h ≡ Some y → IsNone h gone
     → SameBlock (bytes_of a.bytes) (bytes_of b.bytes) y

@@ -3,47 +3,52 @@ use Rattle.best_fit.proofs.Common.{◌≡◌, refl, sym, ap, subst, ◌∙◌, �
 use Rattle.best_fit.proofs.Common.{true, false, ◌&&◌, ◌||◌, List, [], ◌∷◌, ◌++◌, length, arith, ◌==◌, IsTrue}
 use Rattle.best_fit.proofs.Common.{length-append, append_assoc, Option, Some, None, map, if◌then◌else◌, list_all}
 use Rattle.best_fit.proofs.Common.{cases_Bool, or_cases, or_left, or_right, eqb-true, eq-eqb, cond-true, cond_both}
-use Rattle.best_fit.proofs.Common.{Cut, SameBut, SamePlace, bytes_of, SameBut-word, Tile, is_legal_size, SaysTiles}
+use Rattle.best_fit.proofs.Common.{WindowState, SameBytesExcept, SameSurroundings, bytes_of, SameBytesExcept-word, Tile}
+use Rattle.best_fit.proofs.Common.{is_legal_size, EncodesTiles}
 use Rattle.best_fit.proofs.Common.{good_tags_say_tiles, header_may_change, tiles_are_read_off, Cell, Tree, IsTree}
-use Rattle.best_fit.proofs.Common.{IsSearchTree, nodes_of, rises, is_in, leads, tree_same, all_from, link_at}
-use Rattle.best_fit.proofs.Common.{SameBut-link, Gap, precedes, cells_of, insert_gap, payloads, sorted_gaps, Kept}
+use Rattle.best_fit.proofs.Common.{IsSearchTree, nodes_of, is_sorted, is_in, leads, tree_same, all_from, link_at}
+use Rattle.best_fit.proofs.Common.{SameBytesExcept-link, Gap, precedes, cells_of, insert_gap, payloads, sorted_gaps}
+use Rattle.best_fit.proofs.Common.{GapTreeFrame}
 use Rattle.best_fit.proofs.Common.{comes_before, gap_cells, gap_of, gaps_of, gaps_in, is_gap_node, is_kept, kept_of}
-use Rattle.best_fit.proofs.Common.{len_in, links_among, plain, tiles_in, Good, GapNode-is_gap_node, Good-is_good}
-use Rattle.best_fit.proofs.Common.{is_good-Good, links_at, cells_at, AreSome, Fits, HasTree, Regrown, Rises}
+use Rattle.best_fit.proofs.Common.{len_in, links_among, plain, tiles_in, IsGoodHeap, GapNode-is_gap_node}
+use Rattle.best_fit.proofs.Common.{IsGoodHeap-is_good}
+use Rattle.best_fit.proofs.Common.{is_good-IsGoodHeap, links_at, cells_at, AreSome, HaveGapLengths, HasGapTree, Regrown}
+use Rattle.best_fit.proofs.Common.{AreAscending}
 use Rattle.link_tree.proofs.Laws.{root_in}
 use Rattle.best_fit.specs.GapLaws.{length-payloads}
 use Rattle.best_fit.proofs.GapFacts.{len_in_row, node_at, said_of, apart_of}
-use Rattle.best_fit.proofs.GapOrder.{NoneAt, in_sorted, none_above, sorted-rises}
+use Rattle.best_fit.proofs.GapOrder.{NoneAt, in_sorted, none_above, sorted-is_sorted}
 use Rattle.best_fit.proofs.GapSetters.{cell_stays}
 use Rattle.best_fit.proofs.GapSteps.{kept_same}
-use Rattle.best_fit.proofs.Laid.{said_row}
+use Rattle.best_fit.proofs.TagsAndLiveSet.{said_row}
 use Rattle.best_fit.proofs.Rows.{Row, unused, used, use_cases, gaps_of-free, gaps_of-used, Apart-is_merged}
 
 -- ---- a tree of some of the gaps
 
 -- its nodes are nodes
-pub tree_nodes : (c : Cut) (hs : List Gap) → (h : HasTree c hs) → (n : ℕ) → is_in n (nodes_of h.tree.tree) ≡ true
+pub tree_nodes : (c : WindowState) (hs : List Gap) → (h : HasGapTree c hs) → (n : ℕ)
+    → is_in n (nodes_of h.tree.tree) ≡ true
     → is_gap_node c n ≡ true
 tree_nodes c hs h n i =
     GapNode-is_gap_node c n (record {
-      good = is_good-Good c h.good;
+      good = is_good-IsGoodHeap c h.good;
       listed = h.some.listed n (sym (in_sorted n hs) ∙ ap (λ (ns : List ℕ). is_in n ns) (sym h.tree.lists) ∙ i);
     })
 
 -- it is a search tree
-pub search_tree : (c : Cut) (hs : List Gap) → (h : HasTree c hs) → IsSearchTree (comes_before (gaps_in c))
+pub search_tree : (c : WindowState) (hs : List Gap) → (h : HasGapTree c hs) → IsSearchTree (comes_before (gaps_in c))
     (gap_cells c) (link_at (bytes_of c.bytes) 24) h.tree.tree
 search_tree c hs h =
     record {
       tree = tree_same (cells_of (bytes_of c.bytes)) (gap_cells c) (link_at (bytes_of c.bytes) 24) h.tree.tree
           (λ m i. cells_at c m (tree_nodes c hs h m i)) h.tree.linked;
-      ordered = subst (λ (ns : List ℕ). rises (comes_before (gaps_in c)) ns ≡ true) (sym h.tree.lists)
-          (sorted-rises (gaps_in c) 0 hs h.some.fits h.some.rises);
+      ordered = subst (λ (ns : List ℕ). is_sorted (comes_before (gaps_in c)) ns ≡ true) (sym h.tree.lists)
+          (sorted-is_sorted (gaps_in c) 0 hs h.some.fits h.some.rises);
       red_black = h.tree.red_black;
     }
 
 -- its root is a node
-pub root_leads : (c : Cut) (hs : List Gap) → (h : HasTree c hs)
+pub root_leads : (c : WindowState) (hs : List Gap) → (h : HasGapTree c hs)
     → leads (is_gap_node c) (link_at (bytes_of c.bytes) 24) ≡ true
 root_leads c hs h = by_link (link_at (bytes_of c.bytes) 24) refl
   where
@@ -69,41 +74,41 @@ length-sorted hs = length-payloads (sorted_gaps hs) ∙ sorts hs
     sorts [] = refl
     sorts (g ∷ gs) = let ih = sorts gs in let one = length-inserted g (sorted_gaps gs) in omega arith
 
-pub tree_size : (c : Cut) (hs : List Gap) → (h : HasTree c hs) → length (nodes_of h.tree.tree) ≡ length hs
+pub tree_size : (c : WindowState) (hs : List Gap) → (h : HasGapTree c hs) → length (nodes_of h.tree.tree) ≡ length hs
 tree_size c hs h = ap length h.tree.lists ∙ length-sorted hs
 
 -- ---- all gaps, and all but one
 
 fits_after : (at : ℕ) (front : List Tile) (ts : List Tile) (end : ℕ) → Row at (front ++ ts) end
-    → Fits (gaps_of (front ++ ts)) (gaps_of ts)
+    → HaveGapLengths (gaps_of (front ++ ts)) (gaps_of ts)
 fits_after at front [] end r = tt
 fits_after at front (t ∷ ts) end r =
     let step : (front ++ (t ∷ ts)) ≡ ((front ++ (t ∷ [])) ++ ts) = sym (append_assoc front (t ∷ []) ts) in
-    let rest = subst (λ (us : List Tile). Fits (gaps_of us) (gaps_of ts)) (sym step)
+    let rest = subst (λ (us : List Tile). HaveGapLengths (gaps_of us) (gaps_of ts)) (sym step)
     (fits_after at (front ++ (t ∷ [])) ts end (subst (λ (us : List Tile). Row at us end) step r)) in
     elim (use_cases t) [
       | unused e ↦
-          let both : Fits (gaps_of (front ++ (t ∷ ts))) (gap_of t ∷ gaps_of ts) =
+          let both : HaveGapLengths (gaps_of (front ++ (t ∷ ts))) (gap_of t ∷ gaps_of ts) =
           (len_in_row at front t ts end (t.offset + 16) r e refl, rest) in
-          subst (Fits (gaps_of (front ++ (t ∷ ts)))) (sym (gaps_of-free t ts e)) both
-      | used role e ↦ subst (Fits (gaps_of (front ++ (t ∷ ts)))) (sym (gaps_of-used t ts role e)) rest
+          subst (HaveGapLengths (gaps_of (front ++ (t ∷ ts)))) (sym (gaps_of-free t ts e)) both
+      | used role e ↦ subst (HaveGapLengths (gaps_of (front ++ (t ∷ ts)))) (sym (gaps_of-used t ts role e)) rest
     ]
 
-rises_row : (low at : ℕ) (ts : List Tile) (end : ℕ) → low ≤ at → Row at ts end → Rises low (gaps_of ts)
+rises_row : (low at : ℕ) (ts : List Tile) (end : ℕ) → low ≤ at → Row at ts end → AreAscending low (gaps_of ts)
 rises_row low at [] end l r = tt
 rises_row low at (t ∷ ts) end l r =
     let o = r.0 in let long = r.1 in
     elim (use_cases t) [
       | unused e ↦
-          let both : Rises low (gap_of t ∷ gaps_of ts) =
+          let both : AreAscending low (gap_of t ∷ gaps_of ts) =
           (omega arith, rises_row (t.offset + 1) (at + t.len) ts end (omega arith) r.3) in
-          subst (Rises low) (sym (gaps_of-free t ts e)) both
-      | used role e ↦ subst (Rises low) (sym (gaps_of-used t ts role e))
+          subst (AreAscending low) (sym (gaps_of-free t ts e)) both
+      | used role e ↦ subst (AreAscending low) (sym (gaps_of-used t ts role e))
           (rises_row low (at + t.len) ts end (omega arith) r.3)
     ]
 
 -- all gaps of a window
-pub all_gaps : (c : Cut) → SaysTiles c (tiles_in c) → AreSome (gaps_in c) (gaps_in c)
+pub all_gaps : (c : WindowState) → EncodesTiles c (tiles_in c) → AreSome (gaps_in c) (gaps_in c)
 all_gaps c said =
     let row = said_row c (tiles_in c) said in
     record {
@@ -113,33 +118,36 @@ all_gaps c said =
       few = omega arith;
     }
 
-fits_drop : (gs xs : List Gap) (g : Gap) (ys : List Gap) → Fits gs (xs ++ (g ∷ ys)) → Fits gs (xs ++ ys)
+fits_drop : (gs xs : List Gap) (g : Gap) (ys : List Gap) → HaveGapLengths gs (xs ++ (g ∷ ys))
+    → HaveGapLengths gs (xs ++ ys)
 fits_drop gs [] g ys f = f.1
 fits_drop gs (x ∷ xs) g ys f = (f.0, fits_drop gs xs g ys f.1)
 
-pub fits_one : (gs xs : List Gap) (g : Gap) (ys : List Gap) → Fits gs (xs ++ (g ∷ ys))
+pub fits_one : (gs xs : List Gap) (g : Gap) (ys : List Gap) → HaveGapLengths gs (xs ++ (g ∷ ys))
     → len_in gs (g.offset + 16) ≡ g.len
 fits_one gs [] g ys f = f.0
 fits_one gs (x ∷ xs) g ys f = fits_one gs xs g ys f.1
 
-rises_lower : (low at : ℕ) (hs : List Gap) → low ≤ at → Rises at hs → Rises low hs
+rises_lower : (low at : ℕ) (hs : List Gap) → low ≤ at → AreAscending at hs → AreAscending low hs
 rises_lower low at [] l r = tt
 rises_lower low at (h ∷ hs) l r = let a = r.0 in (omega arith, r.1)
 
-rises_drop : (at : ℕ) (xs : List Gap) (g : Gap) (ys : List Gap) → Rises at (xs ++ (g ∷ ys)) → Rises at (xs ++ ys)
+rises_drop : (at : ℕ) (xs : List Gap) (g : Gap) (ys : List Gap) → AreAscending at (xs ++ (g ∷ ys))
+    → AreAscending at (xs ++ ys)
 rises_drop at [] g ys r = let a = r.0 in rises_lower at (g.offset + 1) ys (omega arith) r.1
 rises_drop at (x ∷ xs) g ys r = (r.0, rises_drop (x.offset + 1) xs g ys r.1)
 
-rises_low : (at : ℕ) (xs : List Gap) (g : Gap) (ys : List Gap) → Rises at (xs ++ (g ∷ ys)) → at ≤ g.offset
+rises_low : (at : ℕ) (xs : List Gap) (g : Gap) (ys : List Gap) → AreAscending at (xs ++ (g ∷ ys)) → at ≤ g.offset
 rises_low at [] g ys r = r.0
 rises_low at (x ∷ xs) g ys r = let a = r.0 in let b = rises_low (x.offset + 1) xs g ys r.1 in omega arith
 
-pub none_front : (at : ℕ) (xs : List Gap) (g : Gap) (ys : List Gap) → Rises at (xs ++ (g ∷ ys)) → NoneAt g.offset xs
+pub none_front : (at : ℕ) (xs : List Gap) (g : Gap) (ys : List Gap) → AreAscending at (xs ++ (g ∷ ys))
+    → NoneAt g.offset xs
 none_front at [] g ys r = tt
 none_front at (x ∷ xs) g ys r = let b = rises_low (x.offset + 1) xs g ys r.1 in
     (λ e. omega arith, none_front (x.offset + 1) xs g ys r.1)
 
-pub none_round : (at : ℕ) (xs : List Gap) (g : Gap) (ys : List Gap) → Rises at (xs ++ (g ∷ ys))
+pub none_round : (at : ℕ) (xs : List Gap) (g : Gap) (ys : List Gap) → AreAscending at (xs ++ (g ∷ ys))
     → NoneAt g.offset (xs ++ ys)
 none_round at [] g ys r = none_above g.offset (g.offset + 1) ys (omega arith) r.1
 none_round at (x ∷ xs) g ys r = let b = rises_low (x.offset + 1) xs g ys r.1 in
@@ -201,12 +209,13 @@ some_drop gs xs g ys s =
 -- ---- the root is stored
 
 -- a tree of gaps, and its root at word 24
-module _ (d e : Cut) (hs : List Gap) (t : Tree) (root : Option ℕ) (good : Good d) (some : AreSome (gaps_in d) hs)
+module _ (d e : WindowState) (hs : List Gap) (t : Tree) (root : Option ℕ) (good : IsGoodHeap d)
+    (some : AreSome (gaps_in d) hs)
     (tree : IsSearchTree (comes_before (gaps_in d)) (gap_cells d) root t)
     (lists : nodes_of t ≡ payloads (sorted_gaps hs))
     (leads_to : link_at (bytes_of e.bytes) 24 ≡ root) (size : length e.bytes ≡ length d.bytes)
-    (same : SameBut (bytes_of d.bytes) (bytes_of e.bytes) 24 8) where
-  said_d : SaysTiles d (tiles_in d)
+    (same : SameBytesExcept (bytes_of d.bytes) (bytes_of e.bytes) 24 8) where
+  said_d : EncodesTiles d (tiles_in d)
   said_d = said_of d good
 
   pub header_tiles : tiles_in e ≡ tiles_in d
@@ -218,16 +227,17 @@ module _ (d e : Cut) (hs : List Gap) (t : Tree) (root : Option ℕ) (good : Good
 
   header_cell : (n : ℕ) → 144 ≤ n → cells_of (bytes_of e.bytes) n ≡ cells_of (bytes_of d.bytes) n
   header_cell n l =
-      cell_stays (bytes_of d.bytes) (bytes_of e.bytes) n (SameBut-link (bytes_of d.bytes) (bytes_of e.bytes) 24 8 n
+      cell_stays (bytes_of d.bytes) (bytes_of e.bytes) n
+      (SameBytesExcept-link (bytes_of d.bytes) (bytes_of e.bytes) 24 8 n
       same (inr (omega arith)))
-      (SameBut-link (bytes_of d.bytes) (bytes_of e.bytes) 24 8 (n + 8) same (inr (omega arith)))
-      (ap (λ w. w / 2 % 2 == 1) (SameBut-word (bytes_of d.bytes) (bytes_of e.bytes) 24 8 (n - 8)
+      (SameBytesExcept-link (bytes_of d.bytes) (bytes_of e.bytes) 24 8 (n + 8) same (inr (omega arith)))
+      (ap (λ w. w / 2 % 2 == 1) (SameBytesExcept-word (bytes_of d.bytes) (bytes_of e.bytes) 24 8 (n - 8)
       same (inr (omega arith))))
 
   low : (n : ℕ) → is_in n (payloads (gaps_in d)) ≡ true → 144 ≤ n
   low n i = (node_at d n (record { good = good; listed = i })).low
 
-  header_good : Good e
+  header_good : IsGoodHeap e
   header_good =
       let legal : IsTrue (is_legal_size (length e.bytes)) =
       subst (λ k. IsTrue (is_legal_size k)) (sym size) good.size in
@@ -250,10 +260,10 @@ module _ (d e : Cut) (hs : List Gap) (t : Tree) (root : Option ℕ) (good : Good
   node_in : (n : ℕ) → is_in n (nodes_of t) ≡ true → is_in n (payloads (gaps_in d)) ≡ true
   node_in n i = some.listed n (sym (in_sorted n hs) ∙ ap (λ (ns : List ℕ). is_in n ns) (sym lists) ∙ i)
 
-  pub rooted : HasTree e hs
+  pub rooted : HasGapTree e hs
   rooted =
       record {
-        good = Good-is_good e header_good;
+        good = IsGoodHeap-is_good e header_good;
         some = subst (λ (gs : List Gap). AreSome gs hs) (sym header_gaps) some;
         tree = record {
           tree = t;
@@ -268,21 +278,21 @@ module _ (d e : Cut) (hs : List Gap) (t : Tree) (root : Option ℕ) (good : Good
       }
 
 -- and nothing else changes
-pub regrown : (c d e : Cut) → kept_of d ≡ kept_of c → SamePlace d e → length e.bytes ≡ length d.bytes
-    → tiles_in e ≡ tiles_in d → SameBut (bytes_of d.bytes) (bytes_of e.bytes) 24 8 → Regrown c e
+pub regrown : (c d e : WindowState) → kept_of d ≡ kept_of c → SameSurroundings d e → length e.bytes ≡ length d.bytes
+    → tiles_in e ≡ tiles_in d → SameBytesExcept (bytes_of d.bytes) (bytes_of e.bytes) 24 8 → Regrown c e
 unfolding kept_of
 regrown c d e kept place size tiles same =
-    let before : d.before ≡ c.before = ap (λ (k : Kept). k.before) kept in
-    let after : d.after ≡ c.after = ap (λ (k : Kept). k.after) kept in
-    let long : length d.bytes ≡ length c.bytes = ap (λ (k : Kept). k.size) kept in
-    let plain_tiles : map plain (tiles_in d) ≡ map plain (tiles_in c) = ap (λ (k : Kept). k.tiles) kept in
+    let before : d.before ≡ c.before = ap (λ (k : GapTreeFrame). k.before) kept in
+    let after : d.after ≡ c.after = ap (λ (k : GapTreeFrame). k.after) kept in
+    let long : length d.bytes ≡ length c.bytes = ap (λ (k : GapTreeFrame). k.size) kept in
+    let plain_tiles : map plain (tiles_in d) ≡ map plain (tiles_in c) = ap (λ (k : GapTreeFrame). k.tiles) kept in
     record {
       place = record { before = place.before ∙ before; after = place.after ∙ after };
       size = size ∙ long;
       tiles = ap (λ (ts : List Tile). map plain ts) tiles ∙ plain_tiles;
       bytes = λ k i away.
           let byte : (if is_kept (tiles_in d) k then bytes_of d.bytes k else 0)
-          ≡ (if is_kept (tiles_in c) k then bytes_of c.bytes k else 0) = ap (λ (x : Kept). x.byte k) kept in
+          ≡ (if is_kept (tiles_in c) k then bytes_of c.bytes k else 0) = ap (λ (x : GapTreeFrame). x.byte k) kept in
           let i' : is_kept (tiles_in d) k ≡ true = kept_same (tiles_in c) (tiles_in d) k plain_tiles ∙ i in
           same.at k away ∙ sym (cond-true (is_kept (tiles_in d) k) (bytes_of d.bytes k) 0 i') ∙ byte
           ∙ cond-true (is_kept (tiles_in c) k) (bytes_of c.bytes k) 0 i;

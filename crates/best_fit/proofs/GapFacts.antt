@@ -2,12 +2,13 @@
 use Rattle.best_fit.proofs.Common.{◌≡◌, refl, sym, ap, subst, ◌∙◌, ℕ, ◌+◌, ◌-◌, ◌/◌, ◌%◌, ◌≤◌, ◌⊎◌, inl, inr, true}
 use Rattle.best_fit.proofs.Common.{false, List, [], ◌∷◌, ◌++◌, length, arith, ◌==◌, Option, Some, None, find}
 use Rattle.best_fit.proofs.Common.{false≢true, or_cases, or_left, or_right, eqb-true, eq-eqb, ne_eqb, cond-true}
-use Rattle.best_fit.proofs.Common.{cond-false, same_Some, Cut, bytes_of, word_at, Tile, tile_in, tile_at, HasTileAt}
-use Rattle.best_fit.proofs.Common.{SaysTiles, good_tags_say_tiles, one_tile_at_an_offset, tile_is_read_off}
+use Rattle.best_fit.proofs.Common.{cond-false, same_Some, WindowState, bytes_of, word_at, Tile, tile_in, tile_at}
+use Rattle.best_fit.proofs.Common.{HasTileAt}
+use Rattle.best_fit.proofs.Common.{EncodesTiles, good_tags_say_tiles, one_tile_at_an_offset, tile_is_read_off}
 use Rattle.best_fit.proofs.Common.{tiles_are_read_off, is_in, Gap, is_red, payloads, gap_of, gaps_of, gaps_in, len_in}
-use Rattle.best_fit.proofs.Common.{tiles_in, Good, GapNode}
+use Rattle.best_fit.proofs.Common.{tiles_in, IsGoodHeap, GapNode}
 use Rattle.best_fit.proofs.Around.{row_reaches}
-use Rattle.best_fit.proofs.Laid.{said_row, legal_size}
+use Rattle.best_fit.proofs.TagsAndLiveSet.{said_row, legal_size}
 use Rattle.best_fit.proofs.Rows.{Row, Apart, is_merged-Apart, unused, used, use_cases, gaps_of-free, gaps_of-used}
 use Rattle.best_fit.proofs.Steps.{In, in_back}
 
@@ -151,8 +152,8 @@ len_in_row at (u ∷ us) t back end n r e o =
 
 -- ---- a node of a window
 
-pub record NodeAt (c : Cut) (n : ℕ) : Type 0 where
-  pub said : SaysTiles c (tiles_in c)
+pub record NodeAt (c : WindowState) (n : ℕ) : Type 0 where
+  pub said : EncodesTiles c (tiles_in c)
   pub apart : Apart false (tiles_in c)
   pub row : Row 128 (tiles_in c) (length c.bytes - 16)
   pub free_tile : FreeAt (tiles_in c) n
@@ -164,18 +165,18 @@ pub record NodeAt (c : Cut) (n : ℕ) : Type 0 where
   pub ends : n + free_tile.tile.len ≤ length c.bytes
   pub size : length c.bytes ≤ 1073741824
 
-pub said_of : (c : Cut) → Good c → SaysTiles c (tiles_in c)
+pub said_of : (c : WindowState) → IsGoodHeap c → EncodesTiles c (tiles_in c)
 said_of c g =
     let good = (good_tags_say_tiles c g.size).0 g.tags in
-    subst (SaysTiles c) (sym (tiles_are_read_off c good.0 good.1)) good.1
+    subst (EncodesTiles c) (sym (tiles_are_read_off c good.0 good.1)) good.1
 
-pub apart_of : (c : Cut) → Good c → Apart false (tiles_in c)
+pub apart_of : (c : WindowState) → IsGoodHeap c → Apart false (tiles_in c)
 apart_of c g =
     let good = (good_tags_say_tiles c g.size).0 g.tags in
     subst (Apart false) (sym (tiles_are_read_off c good.0 good.1)) (is_merged-Apart good.0 good.2)
 
 -- a free tile is a node, whatever its links are
-pub node_from : (c : Cut) (n : ℕ) → SaysTiles c (tiles_in c) → Apart false (tiles_in c)
+pub node_from : (c : WindowState) (n : ℕ) → EncodesTiles c (tiles_in c) → Apart false (tiles_in c)
     → is_in n (payloads (gaps_in c)) ≡ true → NodeAt c n
 node_from c n said apart listed =
     let row = said_row c (tiles_in c) said in
@@ -193,7 +194,7 @@ node_from c n said apart listed =
       free_tile = f;
       is_in_list = i;
       stands = ap (λ (ts : List Tile). tile_in ts f.tile.offset) f.list ∙ one_tile_at_an_offset c f.front f.tile
-          f.back (subst (SaysTiles c) f.list said);
+          f.back (subst (EncodesTiles c) f.list said);
       low = omega arith;
       whole = omega arith;
       long = long;
@@ -201,11 +202,11 @@ node_from c n said apart listed =
       size = n'.high;
     }
 
-pub node_at : (c : Cut) (n : ℕ) → GapNode c n → NodeAt c n
+pub node_at : (c : WindowState) (n : ℕ) → GapNode c n → NodeAt c n
 node_at c n g = node_from c n (said_of c g.good) (apart_of c g.good) g.listed
 
 -- its tile stands there
-pub node_tile : (c : Cut) (n at : ℕ) → NodeAt c n → at + 16 ≡ n → HasTileAt c at
+pub node_tile : (c : WindowState) (n at : ℕ) → NodeAt c n → at + 16 ≡ n → HasTileAt c at
 node_tile c n at d e =
     let o = d.free_tile.at in let same : d.free_tile.tile.offset ≡ at = omega arith in
     record {
@@ -215,15 +216,16 @@ node_tile c n at d e =
       stands = subst (λ k. tile_in (tiles_in c) k ≡ Some d.free_tile.tile) same d.stands;
     }
 
-pub node_read : (c : Cut) (n at : ℕ) → (d : NodeAt c n) → at + 16 ≡ n → (t : Tile)
-    → ((ts : List Tile) → SaysTiles c ts → tile_in ts at ≡ Some t) → t ≡ d.free_tile.tile
+pub node_read : (c : WindowState) (n at : ℕ) → (d : NodeAt c n) → at + 16 ≡ n → (t : Tile)
+    → ((ts : List Tile) → EncodesTiles c ts → tile_in ts at ≡ Some t) → t ≡ d.free_tile.tile
 node_read c n at d e t is =
     let o = d.free_tile.at in let same : d.free_tile.tile.offset ≡ at = omega arith in
     same_Some t d.free_tile.tile (sym (is (tiles_in c) d.said)
     ∙ subst (λ k. tile_in (tiles_in c) k ≡ Some d.free_tile.tile) same d.stands)
 
 -- its colour is the tile's, and so is its length
-pub tile_colour : (c : Cut) (ts : List Tile) (t : Tile) (n : ℕ) → SaysTiles c ts → tile_in ts t.offset ≡ Some t
+pub tile_colour : (c : WindowState) (ts : List Tile) (t : Tile) (n : ℕ) → EncodesTiles c ts
+    → tile_in ts t.offset ≡ Some t
     → t.offset + 16 ≡ n → is_red (bytes_of c.bytes) n ≡ t.red
 tile_colour c ts t n said stands o =
     let read : tile_at (bytes_of c.bytes) t.offset ≡ t = tile_is_read_off c ts t.offset t said stands in
@@ -231,10 +233,10 @@ tile_colour c ts t n said stands o =
     let tag : n - 8 ≡ t.offset + 8 = omega arith in
     ap (λ k. word_at (bytes_of c.bytes) k / 2 % 2 == 1) tag ∙ red
 
-pub node_colour : (c : Cut) (n : ℕ) → (d : NodeAt c n) → is_red (bytes_of c.bytes) n ≡ d.free_tile.tile.red
+pub node_colour : (c : WindowState) (n : ℕ) → (d : NodeAt c n) → is_red (bytes_of c.bytes) n ≡ d.free_tile.tile.red
 node_colour c n d = tile_colour c (tiles_in c) d.free_tile.tile n d.said d.stands d.free_tile.at
 
-pub node_len : (c : Cut) (n : ℕ) → (d : NodeAt c n) → len_in (gaps_in c) n ≡ d.free_tile.tile.len
+pub node_len : (c : WindowState) (n : ℕ) → (d : NodeAt c n) → len_in (gaps_in c) n ≡ d.free_tile.tile.len
 node_len c n d =
     let f = d.free_tile in
     ap (λ (ts : List Tile). len_in (gaps_of ts) n) f.list
@@ -242,7 +244,7 @@ node_len c n d =
     (subst (λ (ts : List Tile). Row 128 ts (length c.bytes - 16)) f.list d.row) f.free f.at
 
 -- two nodes share no byte
-pub nodes_apart : (c : Cut) (n m : ℕ) → NodeAt c n → NodeAt c m → (m ≡ n → ⊥) → (m + 32 ≤ n) ⊎ (n + 32 ≤ m)
+pub nodes_apart : (c : WindowState) (n m : ℕ) → NodeAt c n → NodeAt c m → (m ≡ n → ⊥) → (m + 32 ≤ n) ⊎ (n + 32 ≤ m)
 nodes_apart c n m d e other =
     by_case (row_disjoint 128 (tiles_in c) (length c.bytes - 16) d.free_tile.tile e.free_tile.tile d.row
     d.is_in_list e.is_in_list)

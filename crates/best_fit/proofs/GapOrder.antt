@@ -3,9 +3,11 @@ use Rattle.best_fit.proofs.Common.{◌≡◌, refl, sym, ap, subst, ◌∙◌, �
 use Rattle.best_fit.proofs.Common.{◌&&◌, ◌||◌, not, List, [], ◌∷◌, ◌++◌, arith, nat_lt, nat_le, ◌==◌, Option, Some}
 use Rattle.best_fit.proofs.Common.{None, filter, find, option_map, if◌then◌else◌, list_all, AllByRecursion, both_ways}
 use Rattle.best_fit.proofs.Common.{cases_Bool, cases_eq, cases_lt, and_from, or_left, or_right, leb-true, le-leb}
-use Rattle.best_fit.proofs.Common.{eq-eqb, ne_eqb, cond-true, cond-false, cond_both, lt-ltb, le-ltb, lt-leb, rises}
-use Rattle.best_fit.proofs.Common.{first_not, has_place, is_in, put, without, Gap, least, precedes, insert_gap}
-use Rattle.best_fit.proofs.Common.{payloads, sorted_gaps, comes_before, from_first, len_in, stands_before, Fits, Rises, is_long}
+use Rattle.best_fit.proofs.Common.{eq-eqb, ne_eqb, cond-true, cond-false, cond_both, lt-ltb, le-ltb, lt-leb, is_sorted}
+use Rattle.best_fit.proofs.Common.{first_not_before, is_ordered_with, is_in, put, without, Gap, least, precedes}
+use Rattle.best_fit.proofs.Common.{insert_gap}
+use Rattle.best_fit.proofs.Common.{payloads, sorted_gaps, comes_before, from_first, len_in, stands_before}
+use Rattle.best_fit.proofs.Common.{HaveGapLengths, AreAscending, is_long}
 use Rattle.best_fit.proofs.Common.{node_of}
 use Rattle.link_tree.proofs.Laws.{rises_put, without_none}
 use Rattle.best_fit.specs.GapLaws.{Comes, comes, comes-Comes, Comes-comes, comes-false, comes-trans, comes_transitive}
@@ -169,19 +171,19 @@ before_is gs g h a b =
       | inr l ↦ rw (le-ltb a b l, le-ltb (a + 16) (b + 16) (omega arith)) refl
     ]
 
-fits-insert : (gs : List Gap) (g : Gap) (hs : List Gap) → len_in gs (node_of g) ≡ g.len → Fits gs hs
-    → Fits gs (insert_gap g hs)
+fits-insert : (gs : List Gap) (g : Gap) (hs : List Gap) → len_in gs (node_of g) ≡ g.len → HaveGapLengths gs hs
+    → HaveGapLengths gs (insert_gap g hs)
 fits-insert gs g [] a f = (a, tt)
 fits-insert gs g (h ∷ hs) a f =
     let ih = fits-insert gs g hs a f.1 in
-    cond_both (precedes g h) (g ∷ h ∷ hs) (h ∷ insert_gap g hs) (Fits gs) (λ _. (a, f)) (λ _. (f.0, ih))
+    cond_both (precedes g h) (g ∷ h ∷ hs) (h ∷ insert_gap g hs) (HaveGapLengths gs) (λ _. (a, f)) (λ _. (f.0, ih))
 
-pub fits-sorted : (gs hs : List Gap) → Fits gs hs → Fits gs (sorted_gaps hs)
+pub fits-sorted : (gs hs : List Gap) → HaveGapLengths gs hs → HaveGapLengths gs (sorted_gaps hs)
 fits-sorted gs [] f = tt
 fits-sorted gs (h ∷ hs) f = fits-insert gs h (sorted_gaps hs) f.0 (fits-sorted gs hs f.1)
 
 -- a gap put in is a node put in
-pub put_is : (gs : List Gap) (g : Gap) (hs : List Gap) → len_in gs (node_of g) ≡ g.len → Fits gs hs
+pub put_is : (gs : List Gap) (g : Gap) (hs : List Gap) → len_in gs (node_of g) ≡ g.len → HaveGapLengths gs hs
     → put (comes_before gs) (node_of g) (payloads hs) ≡ payloads (insert_gap g hs)
 put_is gs g [] a f = refl
 put_is gs g (h ∷ hs) a f =
@@ -200,12 +202,13 @@ put_is gs g (h ∷ hs) a f =
 -- ---- the payloads rise
 
 -- gaps at different offsets have their places
-pub none_above : (at k : ℕ) (hs : List Gap) → at < k → Rises k hs → NoneAt at hs
+pub none_above : (at k : ℕ) (hs : List Gap) → at < k → AreAscending k hs → NoneAt at hs
 none_above at k [] l r = tt
 none_above at k (h ∷ hs) l r = let low = r.0 in (λ e. omega arith, none_above at (h.offset + 1) hs (omega arith) r.1)
 
-place_in : (gs : List Gap) (g : Gap) (hs : List Gap) → len_in gs (node_of g) ≡ g.len → Fits gs hs → NoneAt g.offset hs
-    → has_place (comes_before gs) (node_of g) (payloads hs) ≡ true
+place_in : (gs : List Gap) (g : Gap) (hs : List Gap) → len_in gs (node_of g) ≡ g.len → HaveGapLengths gs hs
+    → NoneAt g.offset hs
+    → is_ordered_with (comes_before gs) (node_of g) (payloads hs) ≡ true
 place_in gs g [] a f n = refl
 place_in gs g (h ∷ hs) a f n =
     and_from (comes_before gs (node_of g) (node_of h) || comes_before gs (node_of h) (node_of g))
@@ -231,17 +234,17 @@ none-sorted at [] n = tt
 none-sorted at (h ∷ hs) n = none-insert at h (sorted_gaps hs) n.0 (none-sorted at hs n.1)
 
 -- a gap among sorted ones has its place
-pub place_sorted : (gs : List Gap) (g : Gap) (hs : List Gap) → len_in gs (node_of g) ≡ g.len → Fits gs hs
-    → NoneAt g.offset hs → has_place (comes_before gs) (node_of g) (payloads (sorted_gaps hs)) ≡ true
+pub place_sorted : (gs : List Gap) (g : Gap) (hs : List Gap) → len_in gs (node_of g) ≡ g.len → HaveGapLengths gs hs
+    → NoneAt g.offset hs → is_ordered_with (comes_before gs) (node_of g) (payloads (sorted_gaps hs)) ≡ true
 place_sorted gs g hs a f n = place_in gs g (sorted_gaps hs) a (fits-sorted gs hs f) (none-sorted g.offset hs n)
 
-pub sorted-rises : (gs : List Gap) (at : ℕ) (hs : List Gap) → Fits gs hs → Rises at hs
-    → rises (comes_before gs) (payloads (sorted_gaps hs)) ≡ true
-sorted-rises gs at [] f r = refl
-sorted-rises gs at (h ∷ hs) f r =
-    let ih = sorted-rises gs (h.offset + 1) hs f.1 r.1 in
+pub sorted-is_sorted : (gs : List Gap) (at : ℕ) (hs : List Gap) → HaveGapLengths gs hs → AreAscending at hs
+    → is_sorted (comes_before gs) (payloads (sorted_gaps hs)) ≡ true
+sorted-is_sorted gs at [] f r = refl
+sorted-is_sorted gs at (h ∷ hs) f r =
+    let ih = sorted-is_sorted gs (h.offset + 1) hs f.1 r.1 in
     let place = place_sorted gs h hs f.0 f.1 (none_above h.offset (h.offset + 1) hs (omega arith) r.1) in
-    subst (λ (ns : List ℕ). rises (comes_before gs) ns ≡ true)
+    subst (λ (ns : List ℕ). is_sorted (comes_before gs) ns ≡ true)
     (put_is gs h (sorted_gaps hs) f.0 (fits-sorted gs hs f.1))
     (rises_put (comes_before gs) (comes_transitive gs) (node_of h) (payloads (sorted_gaps hs)) ih place)
 
@@ -261,19 +264,19 @@ not_before k n w = elim (cases_lt k w) [
 abbrev pub node_option : Option Gap → Option ℕ
 node_option o = option_map node_of o
 
-first_long : (gs : List Gap) (wanted : ℕ) (hs : List Gap) → Fits gs hs
-    → first_not (stands_before gs (from_first wanted)) (payloads hs) ≡ node_option (find (is_long wanted) hs)
+first_long : (gs : List Gap) (wanted : ℕ) (hs : List Gap) → HaveGapLengths gs hs
+    → first_not_before (stands_before gs (from_first wanted)) (payloads hs) ≡ node_option (find (is_long wanted) hs)
 first_long gs wanted [] f = refl
 first_long gs wanted (h ∷ hs) f =
     let ih = first_long gs wanted hs f.1 in
     let before : ℕ → Bool = stands_before gs (from_first wanted) in
     let e : not (before (node_of h)) ≡ is_long wanted h =
     not_before (len_in gs (node_of h)) (node_of h) wanted ∙ ap (nat_le wanted) f.0 in
-    ap (λ (b : Bool). if b then Some (node_of h) else first_not before (payloads hs)) e
+    ap (λ (b : Bool). if b then Some (node_of h) else first_not_before before (payloads hs)) e
     ∙ cond_both (is_long wanted h) (Some h) (find (is_long wanted) hs)
-    (λ o. (if is_long wanted h then Some (node_of h) else first_not before (payloads hs)) ≡ node_option o)
-    (λ t. cond-true (is_long wanted h) (Some (node_of h)) (first_not before (payloads hs)) t)
-    (λ t. cond-false (is_long wanted h) (Some (node_of h)) (first_not before (payloads hs)) t ∙ ih)
+    (λ o. (if is_long wanted h then Some (node_of h) else first_not_before before (payloads hs)) ≡ node_option o)
+    (λ t. cond-true (is_long wanted h) (Some (node_of h)) (first_not_before before (payloads hs)) t)
+    (λ t. cond-false (is_long wanted h) (Some (node_of h)) (first_not_before before (payloads hs)) t ∙ ih)
 
 -- the lesser of a gap and another, if there is one
 abbrev pub lesser_of : Gap → Option Gap → Option Gap
@@ -345,7 +348,8 @@ least_long wanted (h ∷ hs) = by_test (least_long wanted hs) (cases_Bool (is_lo
         find-short wanted h (sorted_gaps hs) t ∙ ih
         ∙ sym (ap least (cond-false (is_long wanted h) (h ∷ filter (is_long wanted) hs) (filter (is_long wanted) hs) t))
 
-pub first_is_least : (gs : List Gap) (wanted : ℕ) (hs : List Gap) → Fits gs hs
-    → first_not (stands_before gs (from_first wanted)) (payloads (sorted_gaps hs)) ≡ node_option (least (filter (is_long wanted) hs))
+pub first_is_least : (gs : List Gap) (wanted : ℕ) (hs : List Gap) → HaveGapLengths gs hs
+    → first_not_before (stands_before gs (from_first wanted)) (payloads (sorted_gaps hs))
+    ≡ node_option (least (filter (is_long wanted) hs))
 first_is_least gs wanted hs f = first_long gs wanted (sorted_gaps hs) (fits-sorted gs hs f)
     ∙ ap node_option (least_long wanted hs)

@@ -1,41 +1,45 @@
 -- What each setter does to the window.
 use Rattle.best_fit.proofs.Common.{◌≡◌, refl, sym, ap, subst, ◌∙◌, ℕ, ◌+◌, ◌-◌, ◌/◌, ◌%◌, ◌<◌, ◌≤◌, ◌⊎◌, inl, inr}
 use Rattle.best_fit.proofs.Common.{Bool, true, false, ◌&&◌, ◌||◌, not, List, [], ◌∷◌, ◌++◌, length, arith, ◌==◌}
-use Rattle.best_fit.proofs.Common.{Option, Some, None, IfSome, map, and_parts, and_from, Memory, Cut, SameBut}
-use Rattle.best_fit.proofs.Common.{SamePlace, bytes_of, patched, word_at, with_bytes, word_written-SameBut, Same-word}
-use Rattle.best_fit.proofs.Common.{SameBut-word, Role, Tile, IsBesideTags, of_colour, tile_in, with_red_at, current}
-use Rattle.best_fit.proofs.Common.{is_free, may_be_red, MayHaveColour, SaysTiles, SameBesideTags}
+use Rattle.best_fit.proofs.Common.{Option, Some, None, IfSome, map, and_parts, and_from, Memory, WindowState}
+use Rattle.best_fit.proofs.Common.{SameBytesExcept}
+use Rattle.best_fit.proofs.Common.{SameSurroundings, bytes_of, patched, word_at, with_bytes}
+use Rattle.best_fit.proofs.Common.{word_written-SameBytesExcept, SameBytes-word}
+use Rattle.best_fit.proofs.Common.{SameBytesExcept-word, Role, Tile, IsBesideTags, of_colour, tile_in, with_red_at}
+use Rattle.best_fit.proofs.Common.{current}
+use Rattle.best_fit.proofs.Common.{is_free, may_be_red, MayHaveColour, EncodesTiles, SameExceptTags}
 use Rattle.best_fit.proofs.Common.{one_tile_at_an_offset, payload_may_change, Cell, is_in, leads, link_at, target_of}
-use Rattle.best_fit.proofs.Common.{SameBut-link, cells_of, is_red, payloads, gaps_in, gap_cells, is_gap_node}
+use Rattle.best_fit.proofs.Common.{SameBytesExcept-link, cells_of, is_red, payloads, gaps_in, gap_cells, is_gap_node}
 use Rattle.best_fit.proofs.Common.{links_among, plain, tiles_in, GapNode, is_gap_node-GapNode, links_at}
 use Rattle.link_tree.specs.Nodes.{with_left, with_right, with_red}
 use Rattle.offset_link.specs.Link.{link, link_word}
 use Rattle.best_fit.proofs.Around.{Away, away_front, changed_at-around}
 use Rattle.best_fit.proofs.GapFacts.{NodeAt, node_at, nodes_apart, node_colour, tile_colour}
 use Rattle.best_fit.proofs.GapSteps.{Changed, one_cell}
-use Rattle.best_fit.proofs.Laid.{said_row}
+use Rattle.best_fit.proofs.TagsAndLiveSet.{said_row}
 use Rattle.best_fit.proofs.Steps.{inside}
 
 -- the bytes of a link are its word's
-pub link-SameBut : (c d : Cut) (at : ℕ) (target : Option ℕ) → at + 8 ≤ length c.bytes
-    → d ≡ with_bytes c (patched c.bytes at (link at target)) → SameBut (bytes_of c.bytes) (bytes_of d.bytes) at 8
-link-SameBut c d at target inside e =
-    let P : Cut → Type 0 = λ (v : Cut). SameBut (bytes_of c.bytes) (bytes_of v.bytes) at 8 in
-    subst P (sym e) (word_written-SameBut c.bytes at (link_word at target) inside)
+pub link-SameBytesExcept : (c d : WindowState) (at : ℕ) (target : Option ℕ) → at + 8 ≤ length c.bytes
+    → d ≡ with_bytes c (patched c.bytes at (link at target))
+    → SameBytesExcept (bytes_of c.bytes) (bytes_of d.bytes) at 8
+link-SameBytesExcept c d at target inside e =
+    let P : WindowState → Type 0 = λ (v : WindowState). SameBytesExcept (bytes_of c.bytes) (bytes_of v.bytes) at 8 in
+    subst P (sym e) (word_written-SameBytesExcept c.bytes at (link_word at target) inside)
 
 -- a node is a multiple of 16
-pub target_whole : (c : Cut) (to : Option ℕ) → leads (is_gap_node c) to ≡ true → IfSome to (λ t. t % 16 ≡ 0)
+pub target_whole : (c : WindowState) (to : Option ℕ) → leads (is_gap_node c) to ≡ true → IfSome to (λ t. t % 16 ≡ 0)
 target_whole c None h = tt
 target_whole c (Some n) h = (node_at c n (is_gap_node-GapNode c n h)).whole
 
 -- the links of a node are words of the window
-pub record LinksFit (c : Cut) (n : ℕ) : Type 0 where
+pub record LinksFit (c : WindowState) (n : ℕ) : Type 0 where
   pub left_whole : n % 8 ≡ 0
   pub left_inside : n + 8 ≤ length c.bytes
   pub right_whole : (n + 8) % 8 ≡ 0
   pub right_inside : n + 8 + 8 ≤ length c.bytes
 
-pub link_fits : (c : Cut) (n : ℕ) → is_gap_node c n ≡ true → LinksFit c n
+pub link_fits : (c : WindowState) (n : ℕ) → is_gap_node c n ≡ true → LinksFit c n
 link_fits c n h =
     let d = node_at c n (is_gap_node-GapNode c n h) in let whole = d.whole in let long = d.long in let ends = d.ends in
     record {
@@ -46,7 +50,7 @@ link_fits c n h =
     }
 
 -- a link that leads to a node leads to one of the list
-leads_in : (c : Cut) (to : Option ℕ) → leads (is_gap_node c) to ≡ true
+leads_in : (c : WindowState) (to : Option ℕ) → leads (is_gap_node c) to ≡ true
     → leads (λ k. is_in k (payloads (gaps_in c))) to ≡ true
 leads_in c None h = refl
 leads_in c (Some n) h = (is_gap_node-GapNode c n h).listed
@@ -57,12 +61,12 @@ pub cell_stays : (m m' : Memory) (n : ℕ) → link_at m' n ≡ link_at m n → 
 cell_stays m m' n a b e = λ i. record { left = a i; right = b i; red = e i }
 
 -- the fields of a node away from some bytes that change
-pub beside_cell : (m m' : Memory) (from len n : ℕ) → SameBut m m' from len → 144 ≤ n
+pub beside_cell : (m m' : Memory) (from len n : ℕ) → SameBytesExcept m m' from len → 144 ≤ n
     → (n + 16 ≤ from) ⊎ (from + len ≤ n - 8) → cells_of m' n ≡ cells_of m n
 beside_cell m m' from len n same low apart =
-    cell_stays m m' n (SameBut-link m m' from len n same (first apart))
-    (SameBut-link m m' from len (n + 8) same (second apart))
-    (ap (λ w. w / 2 % 2 == 1) (SameBut-word m m' from len (n - 8) same (tag apart)))
+    cell_stays m m' n (SameBytesExcept-link m m' from len n same (first apart))
+    (SameBytesExcept-link m m' from len (n + 8) same (second apart))
+    (ap (λ w. w / 2 % 2 == 1) (SameBytesExcept-word m m' from len (n - 8) same (tag apart)))
   where
     first : (n + 16 ≤ from) ⊎ (from + len ≤ n - 8) → (n + 8 ≤ from) ⊎ (from + len ≤ n)
     first (inl l) = inl (omega arith)
@@ -78,10 +82,10 @@ beside_cell m m' from len n same low apart =
 
 -- ---- a link is set
 
-module _ (c d : Cut) (n from : ℕ) (to : Option ℕ) (g : GapNode c n) (target : leads (is_gap_node c) to ≡ true)
+module _ (c d : WindowState) (n from : ℕ) (to : Option ℕ) (g : GapNode c n) (target : leads (is_gap_node c) to ≡ true)
     (low : n ≤ from) (high : from + 8 ≤ n + 16)
-    (set : link_at (bytes_of d.bytes) from ≡ to) (size : length d.bytes ≡ length c.bytes) (place : SamePlace c d)
-    (same : SameBut (bytes_of c.bytes) (bytes_of d.bytes) from 8) where
+    (set : link_at (bytes_of d.bytes) from ≡ to) (size : length d.bytes ≡ length c.bytes) (place : SameSurroundings c d)
+    (same : SameBytesExcept (bytes_of c.bytes) (bytes_of d.bytes) from 8) where
   node : NodeAt c n
   node = node_at c n g
 
@@ -115,17 +119,18 @@ module _ (c d : Cut) (n from : ℕ) (to : Option ℕ) (g : GapNode c n) (target 
       }
 
 -- the colour in the tag stays
-colour_beside : (m m' : Memory) (from n : ℕ) → SameBut m m' from 8 → 144 ≤ n → n ≤ from → is_red m' n ≡ is_red m n
+colour_beside : (m m' : Memory) (from n : ℕ) → SameBytesExcept m m' from 8 → 144 ≤ n → n ≤ from
+    → is_red m' n ≡ is_red m n
 colour_beside m m' from n same low l = ap (λ w. w / 2 % 2 == 1)
-    (SameBut-word m m' from 8 (n - 8) same (inl (omega arith)))
+    (SameBytesExcept-word m m' from 8 (n - 8) same (inl (omega arith)))
 
-module _ (c d : Cut) (n : ℕ) (to : Option ℕ) (g : GapNode c n) (target : leads (is_gap_node c) to ≡ true)
-    (set : link_at (bytes_of d.bytes) n ≡ to) (size : length d.bytes ≡ length c.bytes) (place : SamePlace c d)
-    (same : SameBut (bytes_of c.bytes) (bytes_of d.bytes) n 8) where
+module _ (c d : WindowState) (n : ℕ) (to : Option ℕ) (g : GapNode c n) (target : leads (is_gap_node c) to ≡ true)
+    (set : link_at (bytes_of d.bytes) n ≡ to) (size : length d.bytes ≡ length c.bytes) (place : SameSurroundings c d)
+    (same : SameBytesExcept (bytes_of c.bytes) (bytes_of d.bytes) n 8) where
   left_own : cells_of (bytes_of d.bytes) n ≡ record (cells_of (bytes_of c.bytes) n) { left = to }
   left_own =
       let low = (node_at c n g).low in
-      let right = SameBut-link (bytes_of c.bytes) (bytes_of d.bytes) n 8 (n + 8) same (inr (omega arith)) in
+      let right = SameBytesExcept-link (bytes_of c.bytes) (bytes_of d.bytes) n 8 (n + 8) same (inr (omega arith)) in
       let red = colour_beside (bytes_of c.bytes) (bytes_of d.bytes) n n same low (omega arith) in
       λ i. record { left = set i; right = right i; red = red i }
 
@@ -143,13 +148,14 @@ module _ (c d : Cut) (n : ℕ) (to : Option ℕ) (g : GapNode c n) (target : lea
   unfolding with_left
   left_cells = one_cell c d n g left_changed (λ (x : Cell). record x { left = to }) left_own
 
-module _ (c d : Cut) (n : ℕ) (to : Option ℕ) (g : GapNode c n) (target : leads (is_gap_node c) to ≡ true)
-    (set : link_at (bytes_of d.bytes) (n + 8) ≡ to) (size : length d.bytes ≡ length c.bytes) (place : SamePlace c d)
-    (same : SameBut (bytes_of c.bytes) (bytes_of d.bytes) (n + 8) 8) where
+module _ (c d : WindowState) (n : ℕ) (to : Option ℕ) (g : GapNode c n) (target : leads (is_gap_node c) to ≡ true)
+    (set : link_at (bytes_of d.bytes) (n + 8) ≡ to) (size : length d.bytes
+    ≡ length c.bytes) (place : SameSurroundings c d)
+    (same : SameBytesExcept (bytes_of c.bytes) (bytes_of d.bytes) (n + 8) 8) where
   right_own : cells_of (bytes_of d.bytes) n ≡ record (cells_of (bytes_of c.bytes) n) { right = to }
   right_own =
       let low = (node_at c n g).low in
-      let left = SameBut-link (bytes_of c.bytes) (bytes_of d.bytes) (n + 8) 8 n same (inl (omega arith)) in
+      let left = SameBytesExcept-link (bytes_of c.bytes) (bytes_of d.bytes) (n + 8) 8 n same (inl (omega arith)) in
       let red = colour_beside (bytes_of c.bytes) (bytes_of d.bytes) (n + 8) n same low (omega arith) in
       λ i. record { left = left i; right = set i; red = red i }
 
@@ -189,9 +195,9 @@ pub tile_in-other : (front : List Tile) (t u : Tile) (back : List Tile) (at : �
 tile_in-other [] t u back at v e o h = grind (arith)
 tile_in-other (w ∷ ws) t u back at v e o h = let ih = tile_in-other ws t u back at v e o in grind (arith, ih)
 
-module _ (c d : Cut) (n at : ℕ) (red : Bool) (g : GapNode c n) (o : at + 16 ≡ n)
-    (tags : (ts : List Tile) → SaysTiles c ts → SaysTiles d (with_red_at at red ts)) (rest : (ts : List Tile)
-    → SaysTiles c ts → SameBesideTags c d ts (with_red_at at red ts)) where
+module _ (c d : WindowState) (n at : ℕ) (red : Bool) (g : GapNode c n) (o : at + 16 ≡ n)
+    (tags : (ts : List Tile) → EncodesTiles c ts → EncodesTiles d (with_red_at at red ts)) (rest : (ts : List Tile)
+    → EncodesTiles c ts → SameExceptTags c d ts (with_red_at at red ts)) where
   gap : NodeAt c n
   gap = node_at c n g
 
@@ -212,17 +218,17 @@ module _ (c d : Cut) (n at : ℕ) (red : Bool) (g : GapNode c n) (o : at + 16 �
 
   list : with_red_at at red (tiles_in c) ≡ painted
   list =
-      let said : SaysTiles c (front ++ (tile ∷ back)) = subst (SaysTiles c) gap.free_tile.list gap.said in
+      let said : EncodesTiles c (front ++ (tile ∷ back)) = subst (EncodesTiles c) gap.free_tile.list gap.said in
       ap (λ (ts : List Tile). with_red_at at red ts) gap.free_tile.list
       ∙ changed_at-around at tile back begins (of_colour red) front
       (subst (λ k. Away k front) begins
       (away_front 128 front tile back (length c.bytes - 16) (said_row c (front ++ (tile ∷ back)) said)))
 
-  said : SaysTiles d painted
-  said = subst (SaysTiles d) list (tags (tiles_in c) gap.said)
+  said : EncodesTiles d painted
+  said = subst (EncodesTiles d) list (tags (tiles_in c) gap.said)
 
-  same : SameBesideTags c d (tiles_in c) painted
-  same = subst (SameBesideTags c d (tiles_in c)) list (rest (tiles_in c) gap.said)
+  same : SameExceptTags c d (tiles_in c) painted
+  same = subst (SameExceptTags c d (tiles_in c)) list (rest (tiles_in c) gap.said)
 
   beside : (k : ℕ) → IsBesideTags (tiles_in c) k → k < length c.bytes - 16 → bytes_of d.bytes k ≡ bytes_of c.bytes k
   beside k b l =
@@ -234,7 +240,7 @@ module _ (c d : Cut) (n at : ℕ) (red : Bool) (g : GapNode c n) (o : at + 16 �
       → word_at (bytes_of d.bytes) k ≡ word_at (bytes_of c.bytes) k
   word_stays m k e low high =
       let t = e.free_tile in let p = t.at in let long = e.long in
-      Same-word (bytes_of c.bytes) (bytes_of d.bytes) k (k + 8) k (record {
+      SameBytes-word (bytes_of c.bytes) (bytes_of d.bytes) k (k + 8) k (record {
         at = λ j a b.
             let i = inside 128 t.tile (tiles_in c) (length c.bytes - 16) j e.row e.is_in_list
             (omega arith) (omega arith) in
@@ -285,7 +291,7 @@ module _ (c d : Cut) (n at : ℕ) (red : Bool) (g : GapNode c n) (o : at + 16 �
   red_cells = one_cell c d n g red_changed (λ (x : Cell). record x { red = red }) red_own
   -- a free tile may have any colour
 
-pub gap_may : (c : Cut) (n at : ℕ) (red : Bool) → GapNode c n → at + 16 ≡ n → MayHaveColour c at red
+pub gap_may : (c : WindowState) (n at : ℕ) (red : Bool) → GapNode c n → at + 16 ≡ n → MayHaveColour c at red
 unfolding current
 gap_may c n at red g o =
     let node = node_at c n g in

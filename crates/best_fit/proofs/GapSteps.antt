@@ -3,16 +3,19 @@ use Rattle.best_fit.proofs.Common.{◌≡◌, refl, sym, ap, subst, ◌∙◌, �
 use Rattle.best_fit.proofs.Common.{false, ◌&&◌, ◌||◌, not, List, [], ◌∷◌, length, arith, nat_lt, nat_le, ◌==◌, IsTrue}
 use Rattle.best_fit.proofs.Common.{Option, None, map, if◌then◌else◌, list_all, cons_option, false≢true}
 use Rattle.best_fit.proofs.Common.{cases_Bool, cases_eq, and_parts, or_cases, eq-eqb, ne_eqb, leb-true, ltb-true}
-use Rattle.best_fit.proofs.Common.{cond-true, cond-false, Cut, SamePlace, bytes_of, Tile, is_legal_size, IsBesideTags}
-use Rattle.best_fit.proofs.Common.{is_free, is_merged, SaysTiles, good_tags_say_tiles, tiles_are_read_off, Cell}
+use Rattle.best_fit.proofs.Common.{cond-true, cond-false, WindowState, SameSurroundings, bytes_of, Tile, is_legal_size}
+use Rattle.best_fit.proofs.Common.{IsBesideTags}
+use Rattle.best_fit.proofs.Common.{is_free, is_merged, EncodesTiles, good_tags_say_tiles, tiles_are_read_off, Cell}
 use Rattle.best_fit.proofs.Common.{is_in, leads, all_from, Gap, cells_of, payloads, as_gap, comes_before, gap_cells}
-use Rattle.best_fit.proofs.Common.{gaps_of, gaps_in, is_gap_node, is_kept, kept_of, lies_behind, own_from, stands_before}
-use Rattle.best_fit.proofs.Common.{links_among, plain, tiles_in, Good, GapNode, GapNode-is_gap_node, Good-is_good}
+use Rattle.best_fit.proofs.Common.{gaps_of, gaps_in, is_gap_node, is_kept, kept_of, lies_behind, own_from}
+use Rattle.best_fit.proofs.Common.{stands_before}
+use Rattle.best_fit.proofs.Common.{links_among, plain, tiles_in, IsGoodHeap, GapNode, GapNode-is_gap_node}
+use Rattle.best_fit.proofs.Common.{IsGoodHeap-is_good}
 use Rattle.best_fit.proofs.Common.{is_gap_node-GapNode, links_at, cells_at}
 use Rattle.best_fit.specs.GapNodes.{is_good}
 use Rattle.best_fit.specs.GapLaws.{cells_off}
 use Rattle.best_fit.proofs.GapFacts.{Disjoint, NodeAt, node_at, row_disjoint}
-use Rattle.best_fit.proofs.Laid.{legal_size}
+use Rattle.best_fit.proofs.TagsAndLiveSet.{legal_size}
 use Rattle.best_fit.proofs.Rows.{Apart-is_merged}
 use Rattle.best_fit.proofs.Steps.{In, inside, low_beside}
 
@@ -77,12 +80,13 @@ behind_tag true o k l = omega arith
 behind_tag false o k l = l
 
 -- it lies beside all tags, and beside the links of a gap
-record IsClear (c : Cut) (n k : ℕ) : Type 0 where
+record IsClear (c : WindowState) (n k : ℕ) : Type 0 where
   beside : IsBesideTags (tiles_in c) k
   below : k < length c.bytes - 16
   away : (k < n) ⊎ (n + 16 ≤ k)
 
-kept_clear : (c : Cut) (n k : ℕ) → NodeAt c n → 144 ≤ length c.bytes → is_kept (tiles_in c) k ≡ true → IsClear c n k
+kept_clear : (c : WindowState) (n k : ℕ) → NodeAt c n → 144 ≤ length c.bytes → is_kept (tiles_in c) k ≡ true
+    → IsClear c n k
 kept_clear c n k d least h = by_place (or_cases (nat_lt k 128) (lies_behind (tiles_in c) k) h)
   where
     off : (t : Tile) → d.free_tile.tile.use_of ≡ None → own_from t ≤ k → t.offset + 16 ≤ k → k < t.offset + t.len
@@ -115,7 +119,8 @@ kept_clear c n k d least h = by_place (or_cases (nat_lt k 128) (lies_behind (til
         }
 
 -- a change of the links and the colour of one gap keeps what is kept
-module _ (c d : Cut) (n : ℕ) (node : NodeAt c n) (place : SamePlace c d) (size : length d.bytes ≡ length c.bytes)
+module _ (c d : WindowState) (n : ℕ) (node : NodeAt c n) (place : SameSurroundings c d) (size : length d.bytes
+    ≡ length c.bytes)
     (tiles : map plain (tiles_in d) ≡ map plain (tiles_in c))
     (bytes : (k : ℕ) → IsBesideTags (tiles_in c) k → k < length c.bytes - 16 → (k < n) ⊎ (n + 16 ≤ k)
     → bytes_of d.bytes k ≡ bytes_of c.bytes k) where
@@ -148,11 +153,11 @@ module _ (c d : Cut) (n : ℕ) (node : NodeAt c n) (place : SamePlace c d) (size
 -- ---- one field
 
 -- what a setter does to the window
-pub record Changed (c d : Cut) (n : ℕ) : Type 0 where
+pub record Changed (c d : WindowState) (n : ℕ) : Type 0 where
   pub us : List Tile
-  pub said : SaysTiles d us
+  pub said : EncodesTiles d us
   pub tiles : map plain us ≡ map plain (tiles_in c)
-  pub place : SamePlace c d
+  pub place : SameSurroundings c d
   pub size : length d.bytes ≡ length c.bytes
   pub bytes : (k : ℕ) → IsBesideTags (tiles_in c) k → k < length c.bytes - 16 → (k < n) ⊎ (n + 16 ≤ k)
       → bytes_of d.bytes k ≡ bytes_of c.bytes k
@@ -160,7 +165,7 @@ pub record Changed (c d : Cut) (n : ℕ) : Type 0 where
   pub others : (m : ℕ) → is_in m (payloads (gaps_in c)) ≡ true → (m ≡ n → ⊥) → cells_of (bytes_of d.bytes) m
       ≡ cells_of (bytes_of c.bytes) m
 
-module _ (c d : Cut) (n : ℕ) (g : GapNode c n) (h : Changed c d n) where
+module _ (c d : WindowState) (n : ℕ) (g : GapNode c n) (h : Changed c d n) where
   node : NodeAt c n
   node = node_at c n g
 
@@ -184,7 +189,7 @@ module _ (c d : Cut) (n : ℕ) (g : GapNode c n) (h : Changed c d n) where
           (λ k. is_in k (payloads (gaps_in c))) x.right) ≡ true) (sym (h.others m i o))
           (links_at c m (record { good = g.good; listed = i }))
 
-  pub good_stays : Good d
+  pub good_stays : IsGoodHeap d
   good_stays =
       let size : IsTrue (is_legal_size (length d.bytes)) = subst (λ k. IsTrue (is_legal_size k))
       (sym h.size) g.good.size in
@@ -201,7 +206,7 @@ module _ (c d : Cut) (n : ℕ) (g : GapNode c n) (h : Changed c d n) where
   pub nodes_stay : is_gap_node d ≡ is_gap_node c
   unfolding is_gap_node
   nodes_stay =
-      let good : is_good d ≡ is_good c = Good-is_good d good_stays ∙ sym (Good-is_good c g.good) in
+      let good : is_good d ≡ is_good c = IsGoodHeap-is_good d good_stays ∙ sym (IsGoodHeap-is_good c g.good) in
       λ i m. good i && is_in m (payloads (gaps_stay i))
 
   pub order_stays : comes_before (gaps_in d) ≡ comes_before (gaps_in c)

@@ -1,19 +1,20 @@
 -- A block is given back: its free neighbours leave the tree, and the gap that it becomes with them enters it.
 use Rattle.best_fit.proofs.Common.{◌≡◌, refl, sym, ap, subst, ◌∙◌, ℕ, ◌+◌, ◌-◌, ◌*◌, ◌≤◌, false, List, [], ◌∷◌, ◌++◌}
-use Rattle.best_fit.proofs.Common.{length, append_assoc, arith, Option, Some, None, map, Cut, bytes_of, Tile, current}
+use Rattle.best_fit.proofs.Common.{length, append_assoc, arith, Option, Some, None, map, WindowState, bytes_of, Tile}
+use Rattle.best_fit.proofs.Common.{current}
 use Rattle.best_fit.proofs.Common.{first_in, last_in, next_in, previous_in, with_red_at, with_use_at, without_last}
-use Rattle.best_fit.proofs.Common.{HasTileAt, MayBeUsed, MayHaveColour, SaysTiles, SameBesideTags, IsTree, bits}
+use Rattle.best_fit.proofs.Common.{HasTileAt, MayBeUsed, MayHaveColour, EncodesTiles, SameExceptTags, IsTree, bits}
 use Rattle.best_fit.proofs.Common.{is_in, tree_same, link_at, target_of, Gap, LiveSet, others, released, IsTreeOf}
 use Rattle.best_fit.proofs.Common.{cells_of, payloads, sorted_gaps, gap_of, gaps_of, gaps_in, plain, tiles_in}
-use Rattle.best_fit.proofs.Common.{HasTree, LacksOne, Regrown, node_of, of_option, start_of, IsHeap, IsReleased}
-use Rattle.best_fit.proofs.Common.{Keeps, LaysOut, live_of, joined_before, joined_free_at}
+use Rattle.best_fit.proofs.Common.{HasGapTree, LacksOne, Regrown, node_of, of_option, start_of, IsHeap, Deallocates}
+use Rattle.best_fit.proofs.Common.{KeepsBlocks, EncodesLiveSet, live_of, joined_before, joined_free_at}
 use Rattle.best_fit.proofs.Allocating.{bits-le, heap_tree}
 use Rattle.best_fit.proofs.Around.{Away, away_front, next_in-around, previous_in-around}
 use Rattle.best_fit.proofs.Frames.{keeps-others, keeps-trans}
 use Rattle.best_fit.proofs.GapOrder.{in_sorted}
 use Rattle.best_fit.proofs.GapSteps.{kept_same, same_gaps}
 use Rattle.best_fit.proofs.Joins.{rest_of}
-use Rattle.best_fit.proofs.Laid.{SaysHeap, heap-says, said_row}
+use Rattle.best_fit.proofs.TagsAndLiveSet.{SaysHeap, heap-says, said_row}
 use Rattle.best_fit.proofs.Placed.{lays_out}
 use Rattle.best_fit.proofs.Regrowths.{SplitsAlike, regrown_keeps, regrown_live, splits_alike, tree_says}
 use Rattle.best_fit.proofs.Releases.{Freed, colour_may, freed, stands2, stands3, use_may}
@@ -58,7 +59,7 @@ same_start : (ts us : List Tile) (at : ℕ) → map plain us ≡ map plain ts
 same_start ts us at e = sym (start-plain us at) ∙ ap (λ (vs : List Tile). start_of (last_in vs) at) e
     ∙ start-plain ts at
 
-pub regrown-trans : (a b c : Cut) → Regrown a b → Regrown b c → Regrown a c
+pub regrown-trans : (a b c : WindowState) → Regrown a b → Regrown b c → Regrown a c
 regrown-trans a b c r s =
     record {
       place = record { before = s.place.before ∙ r.place.before; after = s.place.after ∙ r.place.after };
@@ -70,7 +71,7 @@ regrown-trans a b c r s =
 -- What is known before the last step: the gap that the block has become is to be put into the tree of the others, and
 -- with it there the
 -- block is given back.
-pub record GivenBack (w four : Cut) (at start : ℕ) : Type 0 where
+pub record GivenBack (w four : WindowState) (at start : ℕ) : Type 0 where
   pub front : List Gap
   pub gap : Gap
   pub back : List Gap
@@ -78,9 +79,10 @@ pub record GivenBack (w four : Cut) (at start : ℕ) : Type 0 where
   pub lacks : LacksOne four front gap back
   pub small : start + 16 ≤ 1073741824
   pub few : length (front ++ back) ≤ length (gaps_in w)
-  pub released : (e : Cut) → HasTree e (front ++ (gap ∷ back)) → Regrown four e → IsReleased current w e (at + 16)
+  pub released : (e : WindowState) → HasGapTree e (front ++ (gap ∷ back)) → Regrown four e
+      → Deallocates current w e (at + 16)
 
-module _ (w : Cut) (at : ℕ) (heap : IsHeap current w.bytes) (b : Block w (at + 16)) where
+module _ (w : WindowState) (at : ℕ) (heap : IsHeap current w.bytes) (b : Block w (at + 16)) where
   begins : b.tile.offset ≡ at
   begins = let e = b.at in omega arith
 
@@ -119,34 +121,36 @@ module _ (w : Cut) (at : ℕ) (heap : IsHeap current w.bytes) (b : Block w (at +
       ∙ ap (λ (hs : List Gap). hs ++ gaps_of b.back) front_gaps ∙ ap (λ (hs : List Gap). (init ++ last) ++ hs) back_gaps
 
   -- before the first call
-  pub first_tree : HasTree w ((init ++ last) ++ (first ++ tail))
-  first_tree = subst (λ (hs : List Gap). HasTree w hs) all_gaps (heap_tree w heap)
+  pub first_tree : HasGapTree w ((init ++ last) ++ (first ++ tail))
+  first_tree = subst (λ (hs : List Gap). HasGapTree w hs) all_gaps (heap_tree w heap)
 
   -- the gap behind has left the tree, after so many touches from so many on
-  pub record HalfUprooted (d : Cut) (start count : ℕ) : Type 0 where
-    pub tree : HasTree d (init ++ (last ++ tail))
+  pub record HalfUprooted (d : WindowState) (start count : ℕ) : Type 0 where
+    pub tree : HasGapTree d (init ++ (last ++ tail))
     pub rest : Regrown w d
     pub steps : count ≤ start + 32 * bits (length (gaps_in w) + 1) + 35
 
-  pub half_uprooted : (d : Cut) (start n count : ℕ) → HasTree d ((init ++ last) ++ tail) → Regrown w d → n ≤ start + 2
+  pub half_uprooted : (d : WindowState) (start n count : ℕ) → HasGapTree d ((init ++ last) ++ tail) → Regrown w d
+      → n ≤ start + 2
       → count ≤ n + 32 * bits (length ((init ++ last) ++ (first ++ tail)) + 1) + 33
       → HalfUprooted d start count
   half_uprooted d start n count tree rest low high =
       let few = first_tree.some.few in
       let b1 = bits-le (length ((init ++ last) ++ (first ++ tail)) + 1) (length (gaps_in w) + 1) (omega arith) in
       record {
-        tree = subst (λ (hs : List Gap). HasTree d hs) (append_assoc init last tail) tree;
+        tree = subst (λ (hs : List Gap). HasGapTree d hs) (append_assoc init last tail) tree;
         rest = rest;
         steps = omega arith;
       }
 
   -- and so has the gap before
-  pub record Uprooted (d : Cut) (start count : ℕ) : Type 0 where
-    pub tree : HasTree d (init ++ tail)
+  pub record Uprooted (d : WindowState) (start count : ℕ) : Type 0 where
+    pub tree : HasGapTree d (init ++ tail)
     pub rest : Regrown w d
     pub steps : count ≤ start + 64 * bits (length (gaps_in w) + 1) + 68
 
-  pub uprooted : (d1 d : Cut) (start n count : ℕ) → HalfUprooted d1 start n → HasTree d (init ++ tail) → Regrown d1 d
+  pub uprooted : (d1 d : WindowState) (start n count : ℕ) → HalfUprooted d1 start n → HasGapTree d (init ++ tail)
+      → Regrown d1 d
       → count ≤ n + 32 * bits (length (init ++ (last ++ tail)) + 1) + 33 → Uprooted d start count
   uprooted d1 d start n count half tree rest high =
       let few = half.tree.some.few in let low = half.steps in
@@ -158,7 +162,7 @@ module _ (w : Cut) (at : ℕ) (heap : IsHeap current w.bytes) (b : Block w (at +
   pub few_steps : bits (length (gaps_in w) + 1) ≤ 41
   few_steps = few_bits w (gaps_in w) (heap_tree w heap)
 
-  module _ (d : Cut) (h : HasTree d (init ++ tail)) (r : Regrown w d) where
+  module _ (d : WindowState) (h : HasGapTree d (init ++ tail)) (r : Regrown w d) where
     s : SplitsAlike (tiles_in d) b.front b.tile b.back
     s = splits_alike (tiles_in d) b.front b.tile b.back (r.tiles ∙ ap (λ (ts : List Tile). map plain ts) b.list)
 
@@ -175,32 +179,37 @@ module _ (w : Cut) (at : ℕ) (heap : IsHeap current w.bytes) (b : Block w (at +
     same_gaps_d = sym (ap (λ (hs : List Gap). hs ++ gaps_of (rest_of s.back')) (same_init b.front s.front' s.fronts)
         ∙ ap (λ (hs : List Gap). init ++ hs) (same_rest b.back s.back' s.backs))
 
-    tree_d : HasTree d (gaps_of (without_last s.front') ++ gaps_of (rest_of s.back'))
-    tree_d = subst (λ (hs : List Gap). HasTree d hs) same_gaps_d h
+    tree_d : HasGapTree d (gaps_of (without_last s.front') ++ gaps_of (rest_of s.back'))
+    tree_d = subst (λ (hs : List Gap). HasGapTree d hs) same_gaps_d h
 
     pub r_colour : MayHaveColour d at false
     r_colour = colour_may d says_d at s.front' s.tile' s.back' b.role s.list used_d begins_d
 
-    module _ (one : Cut) (paint : (ts : List Tile) → SaysTiles d ts → SaysTiles one (with_red_at at false ts))
-        (paint_same : (ts : List Tile) → SaysTiles d ts → SameBesideTags d one ts (with_red_at at false ts)) where
+    module _ (one : WindowState) (paint : (ts : List Tile) → EncodesTiles d ts
+        → EncodesTiles one (with_red_at at false ts))
+        (paint_same : (ts : List Tile) → EncodesTiles d ts → SameExceptTags d one ts (with_red_at at false ts)) where
       pub r_use : MayBeUsed one at None
       r_use = use_may d says_d at s.front' s.tile' s.back' b.role s.list used_d begins_d one paint paint_same
 
-      module _ (two : Cut) (change : (ts : List Tile) → SaysTiles one ts → SaysTiles two (with_use_at at None ts))
-          (change_same : (ts : List Tile) → SaysTiles one ts → SameBesideTags one two ts (with_use_at at None ts)) where
+      module _ (two : WindowState) (change : (ts : List Tile) → EncodesTiles one ts
+          → EncodesTiles two (with_use_at at None ts))
+          (change_same : (ts : List Tile) → EncodesTiles one ts
+          → SameExceptTags one two ts (with_use_at at None ts)) where
         pub r_stands2 : HasTileAt two at
         r_stands2 = stands2 d says_d at s.front' s.tile' s.back' b.role s.list used_d begins_d one paint
             paint_same two change change_same
 
-        module _ (three : Cut) (join : (ts : List Tile) → SaysTiles two ts → SaysTiles three (joined_free_at at ts))
-            (join_same : (ts : List Tile) → SaysTiles two ts → SameBesideTags two three ts (joined_free_at at ts)) where
+        module _ (three : WindowState) (join : (ts : List Tile) → EncodesTiles two ts
+            → EncodesTiles three (joined_free_at at ts))
+            (join_same : (ts : List Tile) → EncodesTiles two ts
+            → SameExceptTags two three ts (joined_free_at at ts)) where
           pub r_stands3 : HasTileAt three at
           r_stands3 = stands3 d says_d at s.front' s.tile' s.back' b.role s.list used_d begins_d one paint paint_same
               two change change_same three join join_same
 
-          module _ (four : Cut) (last_join : (ts : List Tile) → SaysTiles three ts
-              → SaysTiles four (joined_before at ts)) (last_same : (ts : List Tile) → SaysTiles three ts
-              → SameBesideTags three four ts (joined_before at ts)) where
+          module _ (four : WindowState) (last_join : (ts : List Tile) → EncodesTiles three ts
+              → EncodesTiles four (joined_before at ts)) (last_same : (ts : List Tile) → EncodesTiles three ts
+              → SameExceptTags three four ts (joined_before at ts)) where
             f : Freed d four at s.front' s.back'
             f = freed d says_d at s.front' s.tile' s.back' b.role s.list used_d begins_d one paint paint_same two
                 change change_same three join join_same four last_join last_same
@@ -250,7 +259,8 @@ module _ (w : Cut) (at : ℕ) (heap : IsHeap current w.bytes) (b : Block w (at +
                 (same_gaps (tiles_in w) (tiles_in d) r.tiles) in
                 omega arith
 
-            module _ (e : Cut) (planted : HasTree e (xs ++ (gap_of f.whole ∷ ys))) (regrown : Regrown four e) where
+            module _ (e : WindowState) (planted : HasGapTree e (xs ++ (gap_of f.whole ∷ ys)))
+                (regrown : Regrown four e) where
               says_e : SaysHeap e (tiles_in e)
               says_e = tree_says e (xs ++ (gap_of f.whole ∷ ys)) planted
 
@@ -260,18 +270,19 @@ module _ (w : Cut) (at : ℕ) (heap : IsHeap current w.bytes) (b : Block w (at +
               live_four : live_of four.bytes ≡ released (live_of w.bytes) (at + 16)
               live_four = f.live ∙ ap (λ (l : LiveSet). released l (at + 16)) (regrown_live w d r)
 
-              released_block : IsReleased current w e (at + 16)
+              released_block : Deallocates current w e (at + 16)
               released_block =
                   let xs_ = (live_of w.bytes).extents in
                   let first_keeps = keeps-others w d (at + 16) xs_
                   (regrown_keeps w d (heap-says w heap).said says_d.said r) in
-                  let second_keeps : Keeps d four (others (at + 16) xs_) =
-                  subst (λ (l : LiveSet). Keeps d four (others (at + 16) l.extents)) (regrown_live w d r) f.keeps in
-                  let third_keeps : Keeps four e (others (at + 16) xs_) =
-                  subst (λ (l : LiveSet). Keeps four e l.extents) live_four
+                  let second_keeps : KeepsBlocks d four (others (at + 16) xs_) =
+                  subst (λ (l : LiveSet). KeepsBlocks d four (others (at + 16) l.extents)) (regrown_live w d r)
+                  f.keeps in
+                  let third_keeps : KeepsBlocks four e (others (at + 16) xs_) =
+                  subst (λ (l : LiveSet). KeepsBlocks four e l.extents) live_four
                   (regrown_keeps four e f.says.said says_e.said regrown) in
                   record {
-                    live = subst (LaysOut current e.bytes) (regrown_live four e regrown ∙ live_four)
+                    live = subst (EncodesLiveSet current e.bytes) (regrown_live four e regrown ∙ live_four)
                         (lays_out e says_e
                         (subst (λ (hs : List Gap). IsTreeOf (bytes_of e.bytes) 24 (payloads (sorted_gaps hs)))
                         (sym gaps_e) planted.tree));

@@ -2,16 +2,18 @@
 use Rattle.best_fit.proofs.Common.{◌≡◌, ◌≢◌, refl, sym, ap, subst, ◌∙◌, ℕ, zero, suc, ◌+◌, ◌-◌, ◌<◌, ◌≤◌, ◌⊎◌, inl}
 use Rattle.best_fit.proofs.Common.{inr, Bool, true, false, ◌||◌, List, [], ◌∷◌, ◌++◌, length, append_assoc, replicate}
 use Rattle.best_fit.proofs.Common.{slice_index, arith, ◌==◌, IsTrue, Option, Some, None, is_some, IfSome, list_any}
-use Rattle.best_fit.proofs.Common.{both_ways, cases_eq, eq-eqb, ne_eqb, or_left, or_right, Cut, Role, Tile, current}
-use Rattle.best_fit.proofs.Common.{next_in, tile_in, SaysTiles, next_stands_behind, tiles_are_read_off, WayPoints}
+use Rattle.best_fit.proofs.Common.{both_ways, cases_eq, eq-eqb, ne_eqb, or_left, or_right, WindowState, Role, Tile}
+use Rattle.best_fit.proofs.Common.{current}
+use Rattle.best_fit.proofs.Common.{next_in, tile_in, EncodesTiles, next_stands_behind, tiles_are_read_off, BlockHints}
 use Rattle.best_fit.proofs.Common.{Extent, LiveSet, handle, added, longer, others, released, resized, shorter}
-use Rattle.best_fit.proofs.Common.{IsAllocated, IsExtended, IsHeap, IsReleased, IsShortened, LaysOut, is_live_in}
-use Rattle.best_fit.proofs.Common.{live_of, IsHeld, IsNoted, LeadToBlocks}
-use Rattle.best_fit.specs.WayPoints.{AreNone}
+use Rattle.best_fit.proofs.Common.{AllocatesOk, TryExtends, IsHeap, Deallocates, ShrinksInPlace, EncodesLiveSet}
+use Rattle.best_fit.proofs.Common.{is_live_in}
+use Rattle.best_fit.proofs.Common.{live_of, IsHintedHeap, IsHinted, LeadToBlocks}
+use Rattle.best_fit.specs.BlockHints.{AreNone}
 use Rattle.best_fit.proofs.Allocated.{allocated-is_live}
 use Rattle.best_fit.proofs.Around.{row_back}
 use Rattle.best_fit.proofs.Joins.{row_before}
-use Rattle.best_fit.proofs.Laid.{said_row}
+use Rattle.best_fit.proofs.TagsAndLiveSet.{said_row}
 use Rattle.best_fit.proofs.LayOut.{lay_out_one}
 use Rattle.best_fit.proofs.Order.{list_any-insert, list_any-insert_others, list_any-others}
 use Rattle.best_fit.proofs.Rows.{Row, unused, used, use_cases, extents_of, extents_of-free, extents_of-used}
@@ -28,20 +30,20 @@ zeros-none (suc n) (suc i) = zeros-none n i
 pub none-noted : (n i h : ℕ) → 0 < h → slice_index (replicate n 0) i ≡ h → ⊥
 none-noted n i h pos e = let z = zeros-none n i in omega arith
 
-pub none-lead : (p : WayPoints) (b : List ℕ) → AreNone p → LeadToBlocks p b
+pub none-lead : (p : BlockHints) (b : List ℕ) → AreNone p → LeadToBlocks p b
 none-lead p b none h n = absurd (none h n)
 
 -- one more handle
-pub noted-lead : (p q : WayPoints) (b : List ℕ) (a : ℕ) → LeadToBlocks p b → IsTrue (is_live_in (live_of b) a)
-    → ((h : ℕ) → IsNoted q h → (h ≡ a) ⊎ IsNoted p h) → LeadToBlocks q b
+pub noted-lead : (p q : BlockHints) (b : List ℕ) (a : ℕ) → LeadToBlocks p b → IsTrue (is_live_in (live_of b) a)
+    → ((h : ℕ) → IsHinted q h → (h ≡ a) ⊎ IsHinted p h) → LeadToBlocks q b
 noted-lead p q b a lead live more h n =
     elim (more h n) [ inl e ↦ subst (λ (k : ℕ). IsTrue (is_live_in (live_of b) k)) (sym e) live | inr o ↦ lead h o ]
 
 -- ---- blocks that stay in use
 
 -- where all blocks of a live set are among those of the next one
-pub held-on : (p : WayPoints) (b b' : List ℕ) (live : LiveSet) → LeadToBlocks p b → LaysOut current b' live
-    → ((h : ℕ) → IsTrue (is_live_in (live_of b) h) → IsTrue (is_live_in live h)) → IsHeld b' p
+pub held-on : (p : BlockHints) (b b' : List ℕ) (live : LiveSet) → LeadToBlocks p b → EncodesLiveSet current b' live
+    → ((h : ℕ) → IsTrue (is_live_in (live_of b) h) → IsTrue (is_live_in live h)) → IsHintedHeap b' p
 held-on p b b' live lead laid stay =
     record {
       heap = laid-heap b' live laid;
@@ -50,7 +52,8 @@ held-on p b b' live lead laid stay =
     }
 
 -- the same blocks
-pub held-same : (p : WayPoints) (b b' : List ℕ) → LeadToBlocks p b → LaysOut current b' (live_of b) → IsHeld b' p
+pub held-same : (p : BlockHints) (b b' : List ℕ) → LeadToBlocks p b → EncodesLiveSet current b' (live_of b)
+    → IsHintedHeap b' p
 held-same p b b' lead laid = held-on p b b' (live_of b) lead laid (λ h l. l)
 
 pub added-stay : (live : LiveSet) (x : Extent) (h : ℕ) → IsTrue (is_live_in live h)
@@ -105,14 +108,15 @@ none_behind h at (t ∷ ts) end r l =
     ∙ none_behind h (at + t.len) ts end r.3 (omega arith)
 
 -- the tiles that are left, as a row
-row_left : (c : Cut) (passed : List Tile) (t : Tile) (back : List Tile) → SaysTiles c (passed ++ (t ∷ back))
+row_left : (c : WindowState) (passed : List Tile) (t : Tile) (back : List Tile) → EncodesTiles c (passed ++ (t ∷ back))
     → Row (t.offset + t.len) back (length c.bytes - 16)
 row_left c passed t back said =
     let r = row_back 128 passed (t ∷ back) (length c.bytes - 16) (said_row c (passed ++ (t ∷ back)) said) in
     subst (λ k. Row (k + t.len) back (length c.bytes - 16)) (sym r.0) r.3
 
 -- what a tile at or behind a handle tells of it
-pub names_told : (c : Cut) (h : ℕ) (t : Tile) → (n : Next c (StillNames c h) t) → h ≤ t.offset + 16 → (answer : Bool)
+pub names_told : (c : WindowState) (h : ℕ) (t : Tile) → (n : Next c (StillNames c h) t) → h ≤ t.offset + 16
+    → (answer : Bool)
     → ((t.offset + 16 ≡ h) → answer ≡ is_some t.use_of) → ((t.offset + 16 ≡ h → ⊥) → answer ≡ false)
     → answer ≡ is_live_in (live_of c.bytes) h
 names_told c h t n l answer same other =
@@ -133,8 +137,8 @@ names_told c h t n l answer same other =
     ]
 
 -- a walk that looks for a handle may begin at a block that does not stand behind it
-pub left_from : (c : Cut) (h known : ℕ) → IsHeap current c.bytes → IsTrue (is_live_in (live_of c.bytes) known)
-    → known ≤ h → (t : Tile) → ((ts : List Tile) → SaysTiles c ts → tile_in ts (known - 16) ≡ Some t)
+pub left_from : (c : WindowState) (h known : ℕ) → IsHeap current c.bytes → IsTrue (is_live_in (live_of c.bytes) known)
+    → known ≤ h → (t : Tile) → ((ts : List Tile) → EncodesTiles c ts → tile_in ts (known - 16) ≡ Some t)
     → Left c (Some t) (StillNames c h)
 left_from c h known heap live l t is =
     let b = live_block c known heap live in let o = b.at in
@@ -174,7 +178,7 @@ any_used (u ∷ us) t back some =
     ]
 
 -- a tile in use is a block
-pub used_is_live : (c : Cut) (P : List Tile → Type 0) (t : Tile) → Next c P t → is_some t.use_of ≡ true
+pub used_is_live : (c : WindowState) (P : List Tile → Type 0) (t : Tile) → Next c P t → is_some t.use_of ≡ true
     → IsTrue (is_live_in (live_of c.bytes) (t.offset + 16))
 used_is_live c P t n some =
     subst (λ xs. IsTrue (list_any (λ (x : Extent). handle x == t.offset + 16) xs))
@@ -184,70 +188,72 @@ used_is_live c P t n some =
 -- ---- the tiles behind a block
 
 -- they begin behind this offset
-abbrev pub Beyond : Cut → ℕ → List Tile → Type 0
+abbrev pub Beyond : WindowState → ℕ → List Tile → Type 0
 Beyond c k ts = (at : ℕ) × Row at ts (length c.bytes - 16) × (k ≤ at)
 
-pub left_behind : (c : Cut) (h : ℕ) → IsHeap current c.bytes → IsTrue (is_live_in (live_of c.bytes) h)
-    → (next : Option Tile) → ((ts : List Tile) → SaysTiles c ts → next ≡ next_in ts (h - 16)) → Left c next (Beyond c h)
+pub left_behind : (c : WindowState) (h : ℕ) → IsHeap current c.bytes → IsTrue (is_live_in (live_of c.bytes) h)
+    → (next : Option Tile) → ((ts : List Tile) → EncodesTiles c ts → next ≡ next_in ts (h - 16))
+    → Left c next (Beyond c h)
 left_behind c h heap live next is =
     let b = live_block c h heap live in let o = b.at in let long = b.long in
     let at : h - 16 ≡ b.tile.offset = omega arith in
     record {
       passed = b.front ++ (b.tile ∷ []);
       rest = b.back;
-      said = subst (SaysTiles c) (sym (append_assoc b.front (b.tile ∷ []) b.back)) b.said;
+      said = subst (EncodesTiles c) (sym (append_assoc b.front (b.tile ∷ []) b.back)) b.said;
       here = is (b.front ++ (b.tile ∷ b.back)) b.said ∙ ap (next_in (b.front ++ (b.tile ∷ b.back))) at
           ∙ next_stands_behind c b.front b.tile b.back b.said;
       holds = (b.tile.offset + b.tile.len, row_left c b.front b.tile b.back b.said, omega arith);
     }
 
-pub beyond_next : (c : Cut) (k : ℕ) (t : Tile) (back : List Tile) → Beyond c k (t ∷ back) → Beyond c k back
+pub beyond_next : (c : WindowState) (k : ℕ) (t : Tile) (back : List Tile) → Beyond c k (t ∷ back) → Beyond c k back
 beyond_next c k t back y = let l = y.2 in (y.0 + t.len, y.1.3, omega arith)
 
 -- one of them is another block
-pub beyond_other : (c : Cut) (k : ℕ) (t : Tile) (back : List Tile) → Beyond c k (t ∷ back) → t.offset + 16 ≢ k
+pub beyond_other : (c : WindowState) (k : ℕ) (t : Tile) (back : List Tile) → Beyond c k (t ∷ back) → t.offset + 16 ≢ k
 beyond_other c k t back y = let l = y.2 in let o = y.1.0 in λ e. omega arith
 
 -- ---- the nearest way-point
 
 -- it leads to a block that does not stand behind the handle
-pub record Nearest (c : Cut) (h known : ℕ) : Type 0 where
+pub record Nearest (c : WindowState) (h known : ℕ) : Type 0 where
   pub live : IsTrue (is_live_in (live_of c.bytes) known)
   pub block : Block c known
   pub near : known ≤ h
 
-pub nearest_block : (c : Cut) (p : WayPoints) (h known : ℕ) → IsHeld c.bytes p → (o : Option ℕ)
-    → IfSome o (λ k. IsNoted p k × (k ≤ h)) → o ≡ Some known → Nearest c h known
+pub nearest_block : (c : WindowState) (p : BlockHints) (h known : ℕ) → IsHintedHeap c.bytes p → (o : Option ℕ)
+    → IfSome o (λ k. IsHinted p k × (k ≤ h)) → o ≡ Some known → Nearest c h known
 nearest_block c p h known held o is e =
-    let two : IsNoted p known × (known ≤ h) = subst (λ v. IfSome v (λ k. IsNoted p k × (k ≤ h))) e is in
+    let two : IsHinted p known × (known ≤ h) = subst (λ v. IfSome v (λ k. IsHinted p k × (k ≤ h))) e is in
     let live = held.points known two.0 in
     record { live = live; block = live_block c known held.heap live; near = two.1 }
 
 -- ---- what each call of the heap leaves
 
-extended_cases : (p : WayPoints) (old new : Cut) (h n : ℕ) (r : Bool) → IsHeld old.bytes p
-    → (x : IsExtended current old new h n r) → (o : Option Extent) → longer (live_of old.bytes) x.extent n
-    ≡ o → IsHeld new.bytes p
-extended_cases p old new h n r held x None e = subst (λ (v : Cut). IsHeld v.bytes p) (sym (x.refused e).1) held
+extended_cases : (p : BlockHints) (old new : WindowState) (h n : ℕ) (r : Bool) → IsHintedHeap old.bytes p
+    → (x : TryExtends current old new h n r) → (o : Option Extent) → longer (live_of old.bytes) x.extent n
+    ≡ o → IsHintedHeap new.bytes p
+extended_cases p old new h n r held x None e =
+    subst (λ (v : WindowState). IsHintedHeap v.bytes p) (sym (x.refused e).1) held
 extended_cases p old new h n r held x (Some y) e =
     held-on p old.bytes new.bytes (resized (live_of old.bytes) y) held.points (x.lengthened y e).1.live
     (resized-stay (live_of old.bytes) y)
 
-pub extended-held : (p : WayPoints) (old new : Cut) (h n : ℕ) (r : Bool) → IsHeld old.bytes p
-    → IsExtended current old new h n r → IsHeld new.bytes p
+pub extended-held : (p : BlockHints) (old new : WindowState) (h n : ℕ) (r : Bool) → IsHintedHeap old.bytes p
+    → TryExtends current old new h n r → IsHintedHeap new.bytes p
 extended-held p old new h n r held x = extended_cases p old new h n r held x
     (longer (live_of old.bytes) x.extent n) refl
 
-pub shortened-held : (p : WayPoints) (old new : Cut) (h n : ℕ) → LeadToBlocks p old.bytes
-    → IsShortened current old new h n → IsHeld new.bytes p
+pub shortened-held : (p : BlockHints) (old new : WindowState) (h n : ℕ) → LeadToBlocks p old.bytes
+    → ShrinksInPlace current old new h n → IsHintedHeap new.bytes p
 shortened-held p old new h n lead x =
     held-on p old.bytes new.bytes (resized (live_of old.bytes) (shorter (live_of old.bytes) x.extent n)) lead
     x.shortened.live
     (resized-stay (live_of old.bytes) (shorter (live_of old.bytes) x.extent n))
 
-pub released-held : (p : WayPoints) (old new : Cut) (k : ℕ)
-    → ((h : ℕ) → IsNoted p h → (h ≢ k) × IsTrue (is_live_in (live_of old.bytes) h))
-    → IsReleased current old new k → IsHeld new.bytes p
+pub released-held : (p : BlockHints) (old new : WindowState) (k : ℕ)
+    → ((h : ℕ) → IsHinted p h → (h ≢ k) × IsTrue (is_live_in (live_of old.bytes) h))
+    → Deallocates current old new k → IsHintedHeap new.bytes p
 released-held p old new k lead x =
     record {
       heap = laid-heap new.bytes (released (live_of old.bytes) k) x.live;
@@ -257,8 +263,9 @@ released-held p old new k lead x =
     }
 
 -- with the new block among the way-points, or not
-pub allocated-held : (p q : WayPoints) (old new : Cut) (n : ℕ) (role : Role) (a : ℕ) → LeadToBlocks p old.bytes
-    → IsAllocated current old new n role a → ((h : ℕ) → IsNoted q h → (h ≡ a) ⊎ IsNoted p h) → IsHeld new.bytes q
+pub allocated-held : (p q : BlockHints) (old new : WindowState) (n : ℕ) (role : Role) (a : ℕ) → LeadToBlocks p old.bytes
+    → AllocatesOk current old new n role a → ((h : ℕ) → IsHinted q h → (h ≡ a) ⊎ IsHinted p h)
+    → IsHintedHeap new.bytes q
 allocated-held p q old new n role a lead x more =
     let held = held-on p old.bytes new.bytes (added (live_of old.bytes) x.extent) lead x.live
     (added-stay (live_of old.bytes) x.extent) in
@@ -268,8 +275,8 @@ allocated-held p q old new n role a lead x more =
     }
 
 -- none leads to the block k, and each to a block in use
-pub passed-lead : (p : WayPoints) (c d : Cut) (k : ℕ) → c ≡ d
-    → ((h : ℕ) → IsNoted p h → (h ≢ k) × IsTrue (is_live_in (live_of c.bytes) h)) → (h : ℕ) → IsNoted p h
+pub passed-lead : (p : BlockHints) (c d : WindowState) (k : ℕ) → c ≡ d
+    → ((h : ℕ) → IsHinted p h → (h ≢ k) × IsTrue (is_live_in (live_of c.bytes) h)) → (h : ℕ) → IsHinted p h
     → (h ≢ k) × IsTrue (is_live_in (live_of d.bytes) h)
 passed-lead p c d k e lead h n =
-    ((lead h n).0, subst (λ (v : Cut). IsTrue (is_live_in (live_of v.bytes) h)) e (lead h n).1)
+    ((lead h n).0, subst (λ (v : WindowState). IsTrue (is_live_in (live_of v.bytes) h)) e (lead h n).1)

@@ -2,9 +2,10 @@
 use Rattle.best_fit.proofs.Common.{◌≡◌, refl, subst, ℕ, ◌+◌, ◌-◌, ◌≤◌, ◌⊎◌, inl, inr, Bool, true, false}
 use Rattle.best_fit.proofs.Common.{List, [], ◌∷◌, arith, nat_lt, ◌==◌, ◌&&◌, if◌then◌else◌, IsTrue, list_any}
 use Rattle.best_fit.proofs.Common.{false≢true, or_cases, and_parts, eqb-true, leb-true, ltb-true, AllByRecursion}
-use Rattle.best_fit.proofs.Common.{Memory, Cut, Same, SameBut}
-use Rattle.best_fit.proofs.Common.{bytes_of, Same-refl, Same-trans, current, Extent, Gap, LiveSet, end_of, gap_between}
-use Rattle.best_fit.proofs.Common.{gaps, gaps_from, handle, holds, proper_from, IsChanged, has_room, live_of}
+use Rattle.best_fit.proofs.Common.{Memory, WindowState, SameBytes, SameBytesExcept}
+use Rattle.best_fit.proofs.Common.{bytes_of, SameBytes-refl, SameBytes-trans, current, Extent, Gap, LiveSet, end_of}
+use Rattle.best_fit.proofs.Common.{gap_between}
+use Rattle.best_fit.proofs.Common.{gaps, gaps_from, handle, holds, proper_from, ChangesBytes, has_room, live_of}
 use Rattle.best_fit.specs.Heap.{KeepsGaps}
 use Rattle.best_fit.proofs.Allocated.{changed-live, has_room-names}
 use Rattle.best_fit.proofs.Changes.{is_proper-IsProper}
@@ -13,10 +14,10 @@ use Rattle.best_fit.proofs.Steps.{all_joined}
 
 -- the bytes of a gap stay
 abbrev SameGap : Memory → Memory → Gap → Type 0
-SameGap m m' g = Same m m' g.offset (g.offset + g.len)
+SameGap m m' g = SameBytes m m' g.offset (g.offset + g.len)
 
 -- what lies between two offsets stays where bytes below or behind it change
-between : (m m' : Memory) (at n a b : ℕ) → SameBut m m' at n → (at + n ≤ a) ⊎ (b ≤ at)
+between : (m m' : Memory) (at n a b : ℕ) → SameBytesExcept m m' at n → (at + n ≤ a) ⊎ (b ≤ at)
     → AllByRecursion (SameGap m m') (gap_between a b)
 between m m' at n a b same beside = by_test (nat_lt a b) refl beside
   where
@@ -29,7 +30,7 @@ between m m' at n a b same beside = by_test (nat_lt a b) refl beside
         let less = ltb-true a b e in (record { at = λ k low high. same.at k (inl (omega arith)) }, tt)
 
 -- the gaps behind the bytes that change
-above : (m m' : Memory) (at n from : ℕ) (xs : List Extent) (to : ℕ) → SameBut m m' at n → at + n ≤ from
+above : (m m' : Memory) (at n from : ℕ) (xs : List Extent) (to : ℕ) → SameBytesExcept m m' at n → at + n ≤ from
     → IsTrue (proper_from from xs to) → AllByRecursion (SameGap m m') (gaps_from from xs to)
 above m m' at n from [] to same l p = between m m' at n from to same (inl l)
 above m m' at n from (x ∷ xs) to same l p =
@@ -42,7 +43,7 @@ abbrev has : ℕ → ℕ → Extent → Bool
 has h k x = (handle x == h) && holds x k
 
 -- the gaps round the block whose payload changes
-around : (m m' : Memory) (at n h k from : ℕ) (xs : List Extent) (to : ℕ) → SameBut m m' at n → h ≤ at
+around : (m m' : Memory) (at n h k from : ℕ) (xs : List Extent) (to : ℕ) → SameBytesExcept m m' at n → h ≤ at
     → at + n ≤ h + k → IsTrue (proper_from from xs to) → IsTrue (list_any (has h k) xs)
     → AllByRecursion (SameGap m m') (gaps_from from xs to)
 around m m' at n h k from [] to same begins ends p t = absurd (false≢true t)
@@ -69,7 +70,7 @@ around m m' at n h k from (x ∷ xs) to same begins ends p t =
 -- ---- the laws
 
 -- bytes of the payload of a block in use change
-pub gaps-payload : (old new : Cut) (h k from n : ℕ) → IsChanged current old new from n
+pub gaps-payload : (old new : WindowState) (h k from n : ℕ) → ChangesBytes current old new from n
     → IsTrue (has_room (live_of old.bytes) h k) → h ≤ from → from + n ≤ h + k → KeepsGaps old new
 unfolding gaps
 gaps-payload old new h k from n c room begins ends =
@@ -80,7 +81,8 @@ gaps-payload old new h k from n c room begins ends =
     }
 
 -- bytes of the header change
-pub gaps-header : (old new : Cut) (from n : ℕ) → IsChanged current old new from n → from + n ≤ 128 → KeepsGaps old new
+pub gaps-header : (old new : WindowState) (from n : ℕ) → ChangesBytes current old new from n → from + n ≤ 128
+    → KeepsGaps old new
 unfolding gaps
 gaps-header old new from n c ends =
     let live = live_of old.bytes in let p = is_proper-IsProper live c.live.proper in
@@ -91,36 +93,38 @@ gaps-header old new from n c ends =
 
 all-refl : (m : Memory) (gs : List Gap) → AllByRecursion (SameGap m m) gs
 all-refl m [] = tt
-all-refl m (g ∷ gs) = (Same-refl m g.offset (g.offset + g.len), all-refl m gs)
+all-refl m (g ∷ gs) = (SameBytes-refl m g.offset (g.offset + g.len), all-refl m gs)
 
 all-trans : (a b c : Memory) (gs : List Gap) → AllByRecursion (SameGap a b) gs → AllByRecursion (SameGap b c) gs
     → AllByRecursion (SameGap a c) gs
 all-trans a b c [] p q = tt
 all-trans a b c (g ∷ gs) p q =
-    (Same-trans a b c g.offset (g.offset + g.len) p.0 q.0, all-trans a b c gs p.1 q.1)
+    (SameBytes-trans a b c g.offset (g.offset + g.len) p.0 q.0, all-trans a b c gs p.1 q.1)
 
 -- nothing changes
-pub gaps-refl : (c : Cut) → KeepsGaps c c
+pub gaps-refl : (c : WindowState) → KeepsGaps c c
 gaps-refl c = record { each = all-refl (bytes_of c.bytes) (gaps (live_of c.bytes)) }
 
 -- one change after another, with the same blocks in use between them
-pub gaps-trans : (a b c : Cut) → live_of b.bytes ≡ live_of a.bytes → KeepsGaps a b → KeepsGaps b c → KeepsGaps a c
+pub gaps-trans : (a b c : WindowState) → live_of b.bytes ≡ live_of a.bytes → KeepsGaps a b → KeepsGaps b c
+    → KeepsGaps a c
 gaps-trans a b c e p q = record {
   each = all-trans (bytes_of a.bytes) (bytes_of b.bytes) (bytes_of c.bytes) (gaps (live_of a.bytes)) p.each
       (subst (λ (l : LiveSet). AllByRecursion (SameGap (bytes_of b.bytes) (bytes_of c.bytes)) (gaps l)) e q.each);
 }
 
 -- after a change of bytes
-pub gaps-then : (a b c : Cut) (from n : ℕ) → IsChanged current a b from n → KeepsGaps a b → KeepsGaps b c
+pub gaps-then : (a b c : WindowState) (from n : ℕ) → ChangesBytes current a b from n → KeepsGaps a b → KeepsGaps b c
     → KeepsGaps a c
 gaps-then a b c from n x p q = gaps-trans a b c (changed-live current a b from n x) p q
 
 free-all : (m : Memory) (gs : List Gap)
-    → AllByRecursion (λ (g : Gap). Same m m (g.offset + 32) (g.offset + g.len)) gs
+    → AllByRecursion (λ (g : Gap). SameBytes m m (g.offset + 32) (g.offset + g.len)) gs
 free-all m [] = tt
-free-all m (g ∷ gs) = (Same-refl m (g.offset + 32) (g.offset + g.len), free-all m gs)
+free-all m (g ∷ gs) = (SameBytes-refl m (g.offset + 32) (g.offset + g.len), free-all m gs)
 
 -- the free bytes of gaps, where nothing changes
-pub free-refl : (c : Cut) → AllByRecursion (λ (g : Gap). Same (bytes_of c.bytes) (bytes_of c.bytes) (g.offset + 32)
+pub free-refl : (c : WindowState)
+    → AllByRecursion (λ (g : Gap). SameBytes (bytes_of c.bytes) (bytes_of c.bytes) (g.offset + 32)
     (g.offset + g.len)) (gaps (live_of c.bytes))
 free-refl c = free-all (bytes_of c.bytes) (gaps (live_of c.bytes))

@@ -1,17 +1,18 @@
 -- The gap at the end of a heap, where there is one: it leaves the tree and is dropped.
 use Rattle.best_fit.proofs.Common.{◌≡◌, refl, sym, ap, subst, ◌∙◌, ℕ, ◌+◌, ◌-◌, ◌≤◌, true, false, List, [], ◌∷◌, ◌++◌}
 use Rattle.best_fit.proofs.Common.{length, arith, Option, Some, None, map, cond-false, cond-true, append-nil}
-use Rattle.best_fit.proofs.Common.{same_Some, none-some, Cut, bytes_of, current, Same-refl, Tile, last_in, is_free}
-use Rattle.best_fit.proofs.Common.{is_in, HasEndMoved, KeepsTo, last_end, least_size, of_size, Extent, Gap, LiveSet}
-use Rattle.best_fit.proofs.Common.{payloads, gap_of, gaps_in, gaps_of, plain, tiles_in, HasTree, Regrown, gap_offset}
-use Rattle.best_fit.proofs.Common.{node_of, IsHeap, LaysOut, live_of}
+use Rattle.best_fit.proofs.Common.{same_Some, none-some, WindowState, bytes_of, current, SameBytes-refl, Tile, last_in}
+use Rattle.best_fit.proofs.Common.{is_free}
+use Rattle.best_fit.proofs.Common.{is_in, MovesEnd, KeepsTo, last_end, least_size, of_size, Extent, Gap, LiveSet}
+use Rattle.best_fit.proofs.Common.{payloads, gap_of, gaps_in, gaps_of, plain, tiles_in, HasGapTree, Regrown, gap_offset}
+use Rattle.best_fit.proofs.Common.{node_of, IsHeap, EncodesLiveSet, live_of}
 use Rattle.best_fit.proofs.Allocating.{heap_tree}
 use Rattle.best_fit.proofs.Around.{last_in-EndsWith}
 use Rattle.best_fit.proofs.Carrying.{then-keeps_to}
 use Rattle.best_fit.proofs.Dropped.{EndsUsed, ends_used}
 use Rattle.best_fit.proofs.Frames.{blocks-refl}
 use Rattle.best_fit.proofs.GapSteps.{same_gaps}
-use Rattle.best_fit.proofs.Laid.{heap-says, legal_size, said_row}
+use Rattle.best_fit.proofs.TagsAndLiveSet.{heap-says, legal_size, said_row}
 use Rattle.best_fit.proofs.Regrowths.{SplitsAlike, regrown_keeps, regrown_live, splits_alike, tree_says}
 use Rattle.best_fit.proofs.Rows.{Row, extents_of, extents_of-free, extents_of-used, gaps_of-append, gaps_of-free}
 use Rattle.best_fit.proofs.Rows.{unused, used}
@@ -22,14 +23,15 @@ use Rattle.best_fit.proofs.Uprooting.{One, one_listed, one_small}
 -- ---- there is one
 
 -- the last tile of a heap is free
-pub record LastGap (w : Cut) (at : ℕ) : Type 0 where
+pub record LastGap (w : WindowState) (at : ℕ) : Type 0 where
   pub front : List Tile
   pub tile : Tile
   pub list : tiles_in w ≡ front ++ tile ∷ []
   pub free : tile.use_of ≡ None
   pub offset : tile.offset ≡ at
 
-pub last_gap : (w : Cut) (at : ℕ) (o : Option Tile) → o ≡ last_in (tiles_in w) → gap_offset o ≡ Some at → LastGap w at
+pub last_gap : (w : WindowState) (at : ℕ) (o : Option Tile) → o ≡ last_in (tiles_in w) → gap_offset o ≡ Some at
+    → LastGap w at
 last_gap w at None e g = absurd (none-some at g)
 last_gap w at (Some t) e g =
     elim (use_cases t) [
@@ -66,7 +68,7 @@ ends_before from at (u ∷ front) t end r free low =
           let rest = ends_before (u.offset + u.len) (at + u.len) front t end r.3 free (omega arith) in omega arith
     ]
 
-module _ (w : Cut) (heap : IsHeap current w.bytes) (at : ℕ) (l : LastGap w at) where
+module _ (w : WindowState) (heap : IsHeap current w.bytes) (at : ℕ) (l : LastGap w at) where
   one : One (gap_of l.tile ∷ []) at
   one = record { gap = gap_of l.tile; list = refl; offset = sym l.offset }
 
@@ -75,8 +77,8 @@ module _ (w : Cut) (heap : IsHeap current w.bytes) (at : ℕ) (l : LastGap w at)
       (gaps_of-free l.tile [] l.free)
 
   -- the tree has it as the last
-  pub last_tree : HasTree w (gaps_of l.front ++ (gap_of l.tile ∷ []))
-  last_tree = subst (λ (hs : List Gap). HasTree w hs) last_gaps (heap_tree w heap)
+  pub last_tree : HasGapTree w (gaps_of l.front ++ (gap_of l.tile ∷ []))
+  last_tree = subst (λ (hs : List Gap). HasGapTree w hs) last_gaps (heap_tree w heap)
 
   pub last_small : at + 16 ≤ 1073741824
   last_small = one_small w (gaps_of l.front) (gap_of l.tile ∷ []) [] at one last_tree
@@ -97,13 +99,13 @@ module _ (w : Cut) (heap : IsHeap current w.bytes) (at : ℕ) (l : LastGap w at)
       absurd (omega arith)
 
   -- once it has left the tree
-  module _ (d : Cut) (tree : HasTree d (gaps_of l.front ++ [])) (r : Regrown w d) where
+  module _ (d : WindowState) (tree : HasGapTree d (gaps_of l.front ++ [])) (r : Regrown w d) where
     alike : SplitsAlike (tiles_in d) l.front l.tile []
     alike = splits_alike (tiles_in d) l.front l.tile [] (r.tiles ∙ ap (λ (ts : List Tile). map plain ts) l.list)
 
     -- what the drop needs
     pub left_alone : (front : List Tile) × (t : Tile) × (tiles_in d ≡ front ++ t ∷ []) × (t.use_of ≡ None)
-        × HasTree d (gaps_of front)
+        × HasGapTree d (gaps_of front)
     left_alone =
         let s = alike in
         let none : s.back' ≡ [] = none_plain s.back' s.backs in (
@@ -111,39 +113,39 @@ module _ (w : Cut) (heap : IsHeap current w.bytes) (at : ℕ) (l : LastGap w at)
           s.tile',
           s.list ∙ ap (λ (ts : List Tile). s.front' ++ s.tile' ∷ ts) none,
           ap (λ (t : Tile). t.use_of) s.tiles ∙ l.free,
-          subst (λ (gs : List Gap). HasTree d gs) (append-nil (gaps_of l.front)
+          subst (λ (gs : List Gap). HasGapTree d gs) (append-nil (gaps_of l.front)
               ∙ sym (same_gaps l.front s.front' s.fronts)) tree,
         )
 
     live_same : live_of d.bytes ≡ live_of w.bytes
     live_same = regrown_live w d r
 
-    pub end_cut : (e : Cut) → HasEndMoved current d e (least_size (live_of d.bytes))
-        → HasEndMoved current w e (least_size (live_of w.bytes))
+    pub end_cut : (e : WindowState) → MovesEnd current d e (least_size (live_of d.bytes))
+        → MovesEnd current w e (least_size (live_of w.bytes))
     end_cut e m =
         let k : KeepsTo d e (least_size (live_of w.bytes)) (live_of w.bytes).extents =
         subst (λ (x : LiveSet). KeepsTo d e (least_size x) x.extents) live_same m.keeps in
         record {
-          live = subst (λ (x : LiveSet). LaysOut current e.bytes (of_size x (least_size x))) live_same m.live;
+          live = subst (λ (x : LiveSet). EncodesLiveSet current e.bytes (of_size x (least_size x))) live_same m.live;
           keeps = then-keeps_to w d e (least_size (live_of w.bytes)) (live_of w.bytes).extents
               (regrown_keeps w d (heap-says w heap).said (tree_says d (gaps_of l.front ++ []) tree).said r) r.size k;
         }
 
 -- ---- there is none
 
-own_size : (w : Cut) → live_of w.bytes ≡ of_size (live_of w.bytes) (length w.bytes)
+own_size : (w : WindowState) → live_of w.bytes ≡ of_size (live_of w.bytes) (length w.bytes)
 unfolding live_of
 own_size w = refl
 
 -- the window ends where it ended
-same_end : (w : Cut) (n : ℕ) → IsHeap current w.bytes → length w.bytes ≡ n → HasEndMoved current w w n
+same_end : (w : WindowState) (n : ℕ) → IsHeap current w.bytes → length w.bytes ≡ n → MovesEnd current w w n
 same_end w n heap e =
-    subst (λ k. HasEndMoved current w w k) e (record {
-      live = subst (LaysOut current w.bytes) (own_size w) heap;
+    subst (λ k. MovesEnd current w w k) e (record {
+      live = subst (EncodesLiveSet current w.bytes) (own_size w) heap;
       keeps = record {
         place = record { before = refl; bytes = refl; capacity = refl; after = refl };
-        front = Same-refl (bytes_of w.bytes) 0 24;
-        behind = Same-refl (bytes_of w.bytes) 32 128;
+        front = SameBytes-refl (bytes_of w.bytes) 0 24;
+        behind = SameBytes-refl (bytes_of w.bytes) 32 128;
         blocks = blocks-refl (bytes_of w.bytes) (live_of w.bytes).extents;
       };
     })
@@ -156,8 +158,9 @@ no_gap (Some u) g t e =
       | used role f ↦ subst (λ (v : Tile). is_free v ≡ false) (same_Some u t e) (used-not_free u role f)
     ]
 
-pub ends_there : (w : Cut) (o : Option Tile) → IsHeap current w.bytes → o ≡ last_in (tiles_in w) → gap_offset o ≡ None
-    → HasEndMoved current w w (least_size (live_of w.bytes))
+pub ends_there : (w : WindowState) (o : Option Tile) → IsHeap current w.bytes → o ≡ last_in (tiles_in w)
+    → gap_offset o ≡ None
+    → MovesEnd current w w (least_size (live_of w.bytes))
 ends_there w o heap e g =
     let says = heap-says w heap in
     let size = legal_size (length w.bytes) says.said.size in let low = size.low in

@@ -18,7 +18,7 @@ mod Gaps
 mod GivingBack
 mod Joins
 mod KeptGaps
-mod Laid
+mod TagsAndLiveSet
 mod LayOut
 mod Lengths
 mod Linked

@@ -1,11 +1,11 @@
 -- A node's cell changes, and nothing else that a tree of nodes is told of.
-use Rattle.best_fit.proofs.Common.{refl, ℕ, GapNode, Gaps}
-use Rattle.link_tree.specs.Frame.{SameBesideCells}
-use Rattle.best_fit.specs.contracts.heap.nodes.GapsNodes.TheImpl.{ghosts}
+use Rattle.best_fit.proofs.Common.{refl, ℕ, GapNode, GapTree}
+use Rattle.link_tree.specs.Frame.{SameExceptCells}
+use Rattle.best_fit.specs.contracts.heap.nodes.GapTreeNodes.TheImpl.{ghosts}
 use Rattle.best_fit.proofs.GapSteps.{Changed, nodes_stay, order_stays, probes_stay, kept_stays}
 
-pub same_beside_cells : (old new : Gaps) (n : ℕ) → GapNode old.window n → Changed old.window new.window n
-    → SameBesideCells ghosts old new
+pub same_beside_cells : (old new : GapTree) (n : ℕ) → GapNode old.window n → Changed old.window new.window n
+    → SameExceptCells ghosts old new
 same_beside_cells old new n g changed =
     record {
       nodes = nodes_stay old.window new.window n g changed;

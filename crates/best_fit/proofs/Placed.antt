@@ -1,13 +1,14 @@
 -- A gap that is not in the tree becomes a block, and what is left of it a gap.
 use Rattle.best_fit.proofs.Common.{◌≡◌, refl, sym, ap, subst, ◌∙◌, ℕ, ◌+◌, ◌-◌, ◌≤◌, inl, inr, Bool, true, false}
-use Rattle.best_fit.proofs.Common.{List, [], ◌∷◌, ◌++◌, length, arith, nat_le, length-append, Option, Some, Cut}
-use Rattle.best_fit.proofs.Common.{bytes_of, Role, Tile, current, Same-word, free_tile, of_colour, tile_in}
-use Rattle.best_fit.proofs.Common.{with_red_at, with_use_at, is_free, HasTileAt, MayBeUsed, MayHaveColour, SaysTiles}
-use Rattle.best_fit.proofs.Common.{SameBesideTags, one_tile_at_an_offset, tiles_are_read_off, IsTree, is_in}
+use Rattle.best_fit.proofs.Common.{List, [], ◌∷◌, ◌++◌, length, arith, nat_le, length-append, Option, Some, WindowState}
+use Rattle.best_fit.proofs.Common.{bytes_of, Role, Tile, current, SameBytes-word, free_tile, of_colour, tile_in}
+use Rattle.best_fit.proofs.Common.{with_red_at, with_use_at, is_free, HasTileAt, MayBeUsed, MayHaveColour, EncodesTiles}
+use Rattle.best_fit.proofs.Common.{SameExceptTags, one_tile_at_an_offset, tiles_are_read_off, IsTree, is_in}
 use Rattle.best_fit.proofs.Common.{tree_same, link_at, target_of, Extent, Gap, LiveSet, gaps, added, insert, share}
 use Rattle.best_fit.proofs.Common.{IsTreeOf, cells_of, is_red, payloads, sorted_gaps, gap_of, gaps_of, gaps_in}
-use Rattle.best_fit.proofs.Common.{tiles_in, GapNode, is_good-Good, HasTree, LacksOne, OutOfTree, Regrown, node_of}
-use Rattle.best_fit.proofs.Common.{Keeps, LaysOut, live_of}
+use Rattle.best_fit.proofs.Common.{tiles_in, GapNode, is_good-IsGoodHeap, HasGapTree, LacksOne, IsUnlinkedGap, Regrown}
+use Rattle.best_fit.proofs.Common.{node_of}
+use Rattle.best_fit.proofs.Common.{KeepsBlocks, EncodesLiveSet, live_of}
 use Rattle.best_fit.specs.Tiling.{cut_at}
 use Rattle.best_fit.proofs.Around.{Away, away_front, changed_at-around}
 use Rattle.best_fit.proofs.Frames.{keeps-insert, keeps-trans}
@@ -16,7 +17,8 @@ use Rattle.best_fit.proofs.GapOrder.{in_sorted}
 use Rattle.best_fit.proofs.GapSetters.{gap_may}
 use Rattle.best_fit.proofs.GapSteps.{same_gaps}
 use Rattle.best_fit.proofs.Joins.{extents_of-append}
-use Rattle.best_fit.proofs.Laid.{SaysHeap, gaps-live_in, legal_size, live_in, said_row, says-LaysOut, says-live}
+use Rattle.best_fit.proofs.TagsAndLiveSet.{SaysHeap, gaps-live_in, legal_size, live_in, said_row, says-EncodesLiveSet}
+use Rattle.best_fit.proofs.TagsAndLiveSet.{says-live}
 use Rattle.best_fit.proofs.Regrowths.{regrown_keeps, regrown_live, step_cell, tree_says, used_stays}
 use Rattle.best_fit.proofs.Rows.{Apart, Apart-is_merged, extents_of, extents_of-free, gaps_of-free, gaps_of-used}
 use Rattle.best_fit.proofs.Rows.{used-not_free, gaps_of-append}
@@ -25,14 +27,15 @@ use Rattle.best_fit.proofs.Takes.{Taking, taking, taking_stands, taking_used, mi
 use Rattle.best_fit.proofs.Takes.{taken_black, taken_header, taken_keeps, taken_says, taken_size, new_extents}
 
 -- tags and a tree of all gaps lay out what they say
-pub lays_out : (c : Cut) → SaysHeap c (tiles_in c)
-    → IsTreeOf (bytes_of c.bytes) 24 (payloads (sorted_gaps (gaps_in c))) → LaysOut current c.bytes (live_of c.bytes)
+pub lays_out : (c : WindowState) → SaysHeap c (tiles_in c)
+    → IsTreeOf (bytes_of c.bytes) 24 (payloads (sorted_gaps (gaps_in c)))
+    → EncodesLiveSet current c.bytes (live_of c.bytes)
 unfolding current
 lays_out c says tree =
     let gs : gaps (live_in (length c.bytes) (tiles_in c)) ≡ gaps_in c = gaps-live_in (length c.bytes) (tiles_in c)
     (said_row c (tiles_in c) says.said) says.apart in
-    subst (LaysOut current c.bytes) (sym (says-live c (tiles_in c) says))
-    (says-LaysOut c (tiles_in c) says
+    subst (EncodesLiveSet current c.bytes) (sym (says-live c (tiles_in c) says))
+    (says-EncodesLiveSet c (tiles_in c) says
     (subst (λ (hs : List Gap). IsTreeOf (bytes_of c.bytes) 24 (payloads (sorted_gaps hs))) (sym gs) tree))
 
 -- a tile between others
@@ -52,11 +55,12 @@ splits t (u ∷ us) (inl e) = record { front = []; back = us; list = ap (λ (v :
 splits t (u ∷ us) (inr h) = let s = splits t us h in
     record { front = u ∷ s.front; back = s.back; list = ap (λ (vs : List Tile). u ∷ vs) s.list }
 
-pub in_stands : (c : Cut) (ts : List Tile) (t : Tile) → SaysTiles c ts → In t ts → tile_in ts t.offset ≡ Some t
+pub in_stands : (c : WindowState) (ts : List Tile) (t : Tile) → EncodesTiles c ts → In t ts
+    → tile_in ts t.offset ≡ Some t
 in_stands c ts t said h =
     let s = splits t ts h in
     ap (λ (us : List Tile). tile_in us t.offset) s.list ∙ one_tile_at_an_offset c s.front t s.back
-    (subst (SaysTiles c) s.list said)
+    (subst (EncodesTiles c) s.list said)
 
 pub apart_recoloured : (b : Bool) (front : List Tile) (t : Tile) (red : Bool) (back : List Tile)
     → Apart b (front ++ (t ∷ back)) → Apart b (front ++ (record t { red = red } ∷ back))
@@ -69,7 +73,7 @@ extents_recoloured front t red back = extents_of-append front (record t { red = 
     ∙ sym (extents_of-append front (t ∷ back))
 
 -- the gaps but for one that is not in the tree
-out_count : (c : Cut) (at len : ℕ) → (o : OutOfTree c at len)
+out_count : (c : WindowState) (at len : ℕ) → (o : IsUnlinkedGap c at len)
     → length (gaps_in c) ≡ length (gaps_of o.front ++ gaps_of o.back) + 1
 out_count c at len o =
     let e : gaps_in c ≡ gaps_of o.front ++ (gap_of o.tile ∷ gaps_of o.back) = ap gaps_of o.list
@@ -82,14 +86,14 @@ out_count c at len o =
     )
 
 -- what is known of the heap with the block, once the rest of the gap, if there is one, is in the tree
-pub record Planted (c e : Cut) (at len wanted : ℕ) (role : Role) : Type 0 where
-  pub live : LaysOut current e.bytes
+pub record Planted (c e : WindowState) (at len wanted : ℕ) (role : Role) : Type 0 where
+  pub live : EncodesLiveSet current e.bytes
       (added (live_of c.bytes) (record { offset = at; len = share len wanted; role = role }))
-  pub keeps : Keeps c e (live_of c.bytes).extents
+  pub keeps : KeepsBlocks c e (live_of c.bytes).extents
   pub black : is_red (bytes_of e.bytes) (at + 16) ≡ false
 
 -- What is known once the front of the gap is in use: if it was cut, the rest is to be put into the tree of the others.
-pub record Taken (c new : Cut) (at len wanted : ℕ) (role : Role) (is_cut : Bool) : Type 0 where
+pub record Taken (c new : WindowState) (at len wanted : ℕ) (role : Role) (is_cut : Bool) : Type 0 where
   pub front : List Gap
   pub gap : Gap
   pub back : List Gap
@@ -97,15 +101,15 @@ pub record Taken (c new : Cut) (at len wanted : ℕ) (role : Role) (is_cut : Boo
   pub count : length (gaps_in c) ≡ length (front ++ back) + 1
   pub lacks : is_cut ≡ true → LacksOne new front gap back
   pub whole : is_cut ≡ false → Planted c new at len wanted role
-  pub planted : is_cut ≡ true → (e : Cut) → HasTree e (front ++ (gap ∷ back)) → Regrown new e
+  pub planted : is_cut ≡ true → (e : WindowState) → HasGapTree e (front ++ (gap ∷ back)) → Regrown new e
       → Planted c e at len wanted role
 
-module _ (c : Cut) (at len : ℕ) (o : OutOfTree c at len) (wanted : ℕ) (role : Role) where
+module _ (c : WindowState) (at len : ℕ) (o : IsUnlinkedGap c at len) (wanted : ℕ) (role : Role) where
   says_c : SaysHeap c (tiles_in c)
   says_c = tree_says c (gaps_of o.front ++ gaps_of o.back) o.tree
 
-  said_c : SaysTiles c (o.front ++ (o.tile ∷ o.back))
-  said_c = subst (SaysTiles c) o.list says_c.said
+  said_c : EncodesTiles c (o.front ++ (o.tile ∷ o.back))
+  said_c = subst (EncodesTiles c) o.list says_c.said
 
   away : Away at o.front
   away = subst (λ k. Away k o.front) o.offset (away_front 128 o.front o.tile o.back (length c.bytes - 16)
@@ -113,7 +117,7 @@ module _ (c : Cut) (at len : ℕ) (o : OutOfTree c at len) (wanted : ℕ) (role 
 
   gap_node : GapNode c (at + 16)
   gap_node = record {
-    good = is_good-Good c o.tree.good;
+    good = is_good-IsGoodHeap c o.tree.good;
     listed = listed_at (tiles_in c) (at + 16) (record {
       front = o.front;
       tile = o.tile;
@@ -130,16 +134,16 @@ module _ (c : Cut) (at len : ℕ) (o : OutOfTree c at len) (wanted : ℕ) (role 
   abbrev g1 : Tile
   g1 = record o.tile { red = false }
 
-  module _ (c1 : Cut) (paint : (ts : List Tile) → SaysTiles c ts → SaysTiles c1 (with_red_at at false ts))
-      (paint_rest : (ts : List Tile) → SaysTiles c ts → SameBesideTags c c1 ts (with_red_at at false ts)) where
+  module _ (c1 : WindowState) (paint : (ts : List Tile) → EncodesTiles c ts → EncodesTiles c1 (with_red_at at false ts))
+      (paint_rest : (ts : List Tile) → EncodesTiles c ts → SameExceptTags c c1 ts (with_red_at at false ts)) where
     list1 : with_red_at at false (o.front ++ (o.tile ∷ o.back)) ≡ o.front ++ (g1 ∷ o.back)
     list1 = changed_at-around at o.tile o.back o.offset (of_colour false) o.front away
 
-    said1 : SaysTiles c1 (o.front ++ (g1 ∷ o.back))
-    said1 = subst (SaysTiles c1) list1 (paint (o.front ++ (o.tile ∷ o.back)) said_c)
+    said1 : EncodesTiles c1 (o.front ++ (g1 ∷ o.back))
+    said1 = subst (EncodesTiles c1) list1 (paint (o.front ++ (o.tile ∷ o.back)) said_c)
 
-    same1 : SameBesideTags c c1 (o.front ++ (o.tile ∷ o.back)) (o.front ++ (g1 ∷ o.back))
-    same1 = subst (SameBesideTags c c1 (o.front ++ (o.tile ∷ o.back))) list1
+    same1 : SameExceptTags c c1 (o.front ++ (o.tile ∷ o.back)) (o.front ++ (g1 ∷ o.back))
+    same1 = subst (SameExceptTags c c1 (o.front ++ (o.tile ∷ o.back))) list1
         (paint_rest (o.front ++ (o.tile ∷ o.back)) said_c)
 
     tiles1 : tiles_in c1 ≡ o.front ++ (g1 ∷ o.back)
@@ -147,7 +151,7 @@ module _ (c : Cut) (at len : ℕ) (o : OutOfTree c at len) (wanted : ℕ) (role 
 
     says1 : SaysHeap c1 (tiles_in c1)
     says1 = record {
-      said = subst (SaysTiles c1) (sym tiles1) said1;
+      said = subst (EncodesTiles c1) (sym tiles1) said1;
       apart = subst (Apart false) (sym tiles1)
           (apart_recoloured false o.front o.tile false o.back (subst (Apart false) o.list says_c.apart));
     }
@@ -159,10 +163,10 @@ module _ (c : Cut) (at len : ℕ) (o : OutOfTree c at len) (wanted : ℕ) (role 
         let n = same1.size in
         λ i. record { size = n i; extents = e i }
 
-    keeps1 : Keeps c c1 (live_of c.bytes).extents
+    keeps1 : KeepsBlocks c c1 (live_of c.bytes).extents
     unfolding live_of
     keeps1 =
-        subst (λ (xs : List Extent). Keeps c c1 xs)
+        subst (λ (xs : List Extent). KeepsBlocks c c1 xs)
         (sym (ap extents_of o.list ∙ extents_of-append o.front (o.tile ∷ o.back)
         ∙ ap (λ (xs : List Extent). extents_of o.front ++ xs) (extents_of-free o.tile o.back o.free)))
         (around_keeps c c1 o.front (o.tile ∷ []) (g1 ∷ []) o.back said_c said1 same1)
@@ -173,38 +177,40 @@ module _ (c : Cut) (at len : ℕ) (o : OutOfTree c at len) (wanted : ℕ) (role 
         (taking_stands c1 says1 g1 o.front o.back tiles1 o.free refl wanted role)
 
     -- whether a rest is left
-    cut_tile_stands : (ts : List Tile) → SaysTiles c1 ts → tile_in ts at ≡ Some g1
+    cut_tile_stands : (ts : List Tile) → EncodesTiles c1 ts → tile_in ts at ≡ Some g1
     cut_tile_stands ts said =
         ap (λ (us : List Tile). tile_in us at) (sym (tiles_are_read_off c1 ts said) ∙ tiles1)
         ∙ subst (λ k. tile_in (o.front ++ (g1 ∷ o.back)) k ≡ Some g1) o.offset
         (one_tile_at_an_offset c1 o.front g1 o.back said1)
 
-    module _ (c2 : Cut) (cuts : (ts : List Tile) → SaysTiles c1 ts → SaysTiles c2 (cut_at at wanted ts))
-        (cuts_rest : (ts : List Tile) → SaysTiles c1 ts → SameBesideTags c1 c2 ts (cut_at at wanted ts)) where
+    module _ (c2 : WindowState) (cuts : (ts : List Tile) → EncodesTiles c1 ts → EncodesTiles c2 (cut_at at wanted ts))
+        (cuts_rest : (ts : List Tile) → EncodesTiles c1 ts → SameExceptTags c1 c2 ts (cut_at at wanted ts)) where
       t : Taking c1 says1 g1 o.front o.back tiles1 o.free refl wanted role
       t = taking c1 says1 g1 o.front o.back tiles1 o.free refl wanted role
 
-      cuts' : (ts : List Tile) → SaysTiles c1 ts → SaysTiles c2 (cut_at g1.offset wanted ts)
-      cuts' = subst (λ k. (ts : List Tile) → SaysTiles c1 ts → SaysTiles c2 (cut_at k wanted ts)) (sym o.offset) cuts
+      cuts' : (ts : List Tile) → EncodesTiles c1 ts → EncodesTiles c2 (cut_at g1.offset wanted ts)
+      cuts' = subst (λ k. (ts : List Tile) → EncodesTiles c1 ts
+          → EncodesTiles c2 (cut_at k wanted ts)) (sym o.offset) cuts
 
-      cuts_rest' : (ts : List Tile) → SaysTiles c1 ts → SameBesideTags c1 c2 ts (cut_at g1.offset wanted ts)
-      cuts_rest' = subst (λ k. (ts : List Tile) → SaysTiles c1 ts → SameBesideTags c1 c2 ts (cut_at k wanted ts))
+      cuts_rest' : (ts : List Tile) → EncodesTiles c1 ts → SameExceptTags c1 c2 ts (cut_at g1.offset wanted ts)
+      cuts_rest' = subst (λ k. (ts : List Tile) → EncodesTiles c1 ts → SameExceptTags c1 c2 ts (cut_at k wanted ts))
           (sym o.offset) cuts_rest
 
       pub use_may : MayBeUsed c2 at (Some role)
       use_may = subst (λ k. MayBeUsed c2 k (Some role)) o.offset
           (taking_used c1 says1 g1 o.front o.back tiles1 o.free refl wanted role t c2 cuts' cuts_rest')
 
-      module _ (c3 : Cut) (used_tags : (ts : List Tile) → SaysTiles c2 ts
-          → SaysTiles c3 (with_use_at at (Some role) ts)) (used_rest : (ts : List Tile) → SaysTiles c2 ts
-          → SameBesideTags c2 c3 ts (with_use_at at (Some role) ts)) where
-        used' : (ts : List Tile) → SaysTiles c2 ts → SaysTiles c3 (with_use_at g1.offset (Some role) ts)
-        used' = subst (λ k. (ts : List Tile) → SaysTiles c2 ts → SaysTiles c3 (with_use_at k (Some role) ts))
+      module _ (c3 : WindowState) (used_tags : (ts : List Tile) → EncodesTiles c2 ts
+          → EncodesTiles c3 (with_use_at at (Some role) ts)) (used_rest : (ts : List Tile) → EncodesTiles c2 ts
+          → SameExceptTags c2 c3 ts (with_use_at at (Some role) ts)) where
+        used' : (ts : List Tile) → EncodesTiles c2 ts → EncodesTiles c3 (with_use_at g1.offset (Some role) ts)
+        used' = subst (λ k. (ts : List Tile) → EncodesTiles c2 ts → EncodesTiles c3 (with_use_at k (Some role) ts))
             (sym o.offset) used_tags
 
-        used_rest' : (ts : List Tile) → SaysTiles c2 ts → SameBesideTags c2 c3 ts (with_use_at g1.offset (Some role) ts)
-        used_rest' = subst (λ k. (ts : List Tile) → SaysTiles c2 ts
-            → SameBesideTags c2 c3 ts (with_use_at k (Some role) ts)) (sym o.offset) used_rest
+        used_rest' : (ts : List Tile) → EncodesTiles c2 ts
+            → SameExceptTags c2 c3 ts (with_use_at g1.offset (Some role) ts)
+        used_rest' = subst (λ k. (ts : List Tile) → EncodesTiles c2 ts
+            → SameExceptTags c2 c3 ts (with_use_at k (Some role) ts)) (sym o.offset) used_rest
 
         abbrev cut_tile : Tile
         cut_tile = record g1 { len = share g1.len wanted }
@@ -225,20 +231,20 @@ module _ (c : Cut) (at len : ℕ) (o : OutOfTree c at len) (wanted : ℕ) (role 
         says3 : SaysHeap c3 (tiles_in c3)
         says3 = subst (SaysHeap c3) (sym tiles3) says3'
 
-        said2 : SaysTiles c2 (o.front ++ (cut_tile ∷ (t.left ++ o.back)))
+        said2 : EncodesTiles c2 (o.front ++ (cut_tile ∷ (t.left ++ o.back)))
         said2 = mid_said c1 says1 g1 o.front o.back tiles1 o.free refl wanted role t c2 cuts' cuts_rest'
 
-        same2 : SameBesideTags c1 c2 (o.front ++ (g1 ∷ o.back)) (o.front ++ (cut_tile ∷ (t.left ++ o.back)))
+        same2 : SameExceptTags c1 c2 (o.front ++ (g1 ∷ o.back)) (o.front ++ (cut_tile ∷ (t.left ++ o.back)))
         same2 = mid_same c1 says1 g1 o.front o.back tiles1 o.free refl wanted role t c2 cuts' cuts_rest'
 
-        same3 : SameBesideTags c2 c3 (o.front ++ (cut_tile ∷ (t.left ++ o.back))) list3
+        same3 : SameExceptTags c2 c3 (o.front ++ (cut_tile ∷ (t.left ++ o.back))) list3
         same3 = new_same c1 says1 g1 o.front o.back tiles1 o.free refl wanted role t c2 cuts'
             cuts_rest' c3 used' used_rest'
 
-        keeps3 : Keeps c c3 (live_of c.bytes).extents
+        keeps3 : KeepsBlocks c c3 (live_of c.bytes).extents
         keeps3 =
             keeps-trans c c1 c3 (live_of c.bytes).extents keeps1
-            (subst (λ (l : LiveSet). Keeps c1 c3 l.extents) live1
+            (subst (λ (l : LiveSet). KeepsBlocks c1 c3 l.extents) live1
             (taken_keeps c1 says1 g1 o.front o.back tiles1 o.free refl wanted role t c2 cuts'
             cuts_rest' c3 used' used_rest'))
 
@@ -292,8 +298,9 @@ module _ (c : Cut) (at len : ℕ) (o : OutOfTree c at len) (wanted : ℕ) (role 
             let h1 = step_header c c1 (o.front ++ (o.tile ∷ o.back)) (o.front ++ (g1 ∷ o.back)) said_c said1 same1 in
             let h3 = taken_header c1 says1 g1 o.front o.back tiles1 o.free refl wanted role t c2 cuts'
             cuts_rest' c3 used' used_rest' in
-            ap (target_of 24) (Same-word (bytes_of c1.bytes) (bytes_of c3.bytes) 0 128 24 h3 (omega arith)
-            (omega arith) ∙ Same-word (bytes_of c.bytes) (bytes_of c1.bytes) 0 128 24 h1 (omega arith) (omega arith))
+            ap (target_of 24) (SameBytes-word (bytes_of c1.bytes) (bytes_of c3.bytes) 0 128 24 h3 (omega arith)
+            (omega arith) ∙ SameBytes-word (bytes_of c.bytes) (bytes_of c1.bytes) 0 128 24 h1 (omega arith)
+            (omega arith))
 
         -- and so does the tree
         tree3 : IsTreeOf (bytes_of c3.bytes) 24 (payloads (sorted_gaps (gaps_of o.front ++ gaps_of o.back)))
@@ -319,12 +326,12 @@ module _ (c : Cut) (at len : ℕ) (o : OutOfTree c at len) (wanted : ℕ) (role 
 
         -- where nothing is left
         kept_whole : nat_le (wanted + 32) g1.len ≡ false
-            → LaysOut current c3.bytes
+            → EncodesLiveSet current c3.bytes
             (added (live_of c.bytes) (record { offset = at; len = share len wanted; role = role }))
         kept_whole e =
             let gs : gaps_in c3 ≡ gaps_of o.front ++ gaps_of o.back = gaps3
             ∙ ap (λ (ts : List Tile). gaps_of o.front ++ (gaps_of ts ++ gaps_of o.back)) (t.keeps e) in
-            subst (LaysOut current c3.bytes) live3
+            subst (EncodesLiveSet current c3.bytes) live3
             (lays_out c3 says3
             (subst (λ (hs : List Gap). IsTreeOf (bytes_of c3.bytes) 24 (payloads (sorted_gaps hs))) (sym gs) tree3))
 
@@ -341,7 +348,7 @@ module _ (c : Cut) (at len : ℕ) (o : OutOfTree c at len) (wanted : ℕ) (role 
               tree = tree3;
             }
 
-        module _ (e : Cut) (planted : HasTree e (gaps_of o.front ++ (gap_of rest ∷ gaps_of o.back)))
+        module _ (e : WindowState) (planted : HasGapTree e (gaps_of o.front ++ (gap_of rest ∷ gaps_of o.back)))
             (regrown : Regrown c3 e) (split : nat_le (wanted + 32) g1.len ≡ true) where
           says_e : SaysHeap e (tiles_in e)
           says_e = tree_says e (gaps_of o.front ++ (gap_of rest ∷ gaps_of o.back)) planted
@@ -349,19 +356,20 @@ module _ (c : Cut) (at len : ℕ) (o : OutOfTree c at len) (wanted : ℕ) (role 
           gaps_e : gaps_in e ≡ gaps_of o.front ++ (gap_of rest ∷ gaps_of o.back)
           gaps_e = same_gaps (tiles_in c3) (tiles_in e) regrown.tiles ∙ (rest_lacks split).gaps
 
-          planted_live : LaysOut current e.bytes
+          planted_live : EncodesLiveSet current e.bytes
               (added (live_of c.bytes) (record { offset = at; len = share len wanted; role = role }))
           planted_live =
-              subst (LaysOut current e.bytes) (regrown_live c3 e regrown ∙ live3)
+              subst (EncodesLiveSet current e.bytes) (regrown_live c3 e regrown ∙ live3)
               (lays_out e says_e
               (subst (λ (hs : List Gap). IsTreeOf (bytes_of e.bytes) 24 (payloads (sorted_gaps hs)))
               (sym gaps_e) planted.tree))
 
-          planted_keeps : Keeps c e (live_of c.bytes).extents
+          planted_keeps : KeepsBlocks c e (live_of c.bytes).extents
           planted_keeps =
               keeps-trans c c3 e (live_of c.bytes).extents keeps3
               (keeps-insert c3 e (record { offset = at; len = share len wanted; role = role }) (live_of c.bytes).extents
-              (subst (λ (l : LiveSet). Keeps c3 e l.extents) live3 (regrown_keeps c3 e says3.said says_e.said regrown)))
+              (subst (λ (l : LiveSet). KeepsBlocks c3 e l.extents) live3
+              (regrown_keeps c3 e says3.said says_e.said regrown)))
 
           planted_black : is_red (bytes_of e.bytes) (at + 16) ≡ false
           planted_black =
@@ -371,7 +379,7 @@ module _ (c : Cut) (at len : ℕ) (o : OutOfTree c at len) (wanted : ℕ) (role 
               tile_colour e (tiles_in e) block (at + 16) says_e.said (in_stands e (tiles_in e) block says_e.said i)
               (ap (λ k. k + 16) o.offset)
 
-        pub taken : (is_cut : Bool) → ((ts : List Tile) (u : Tile) → SaysTiles c1 ts → tile_in ts at ≡ Some u
+        pub taken : (is_cut : Bool) → ((ts : List Tile) (u : Tile) → EncodesTiles c1 ts → tile_in ts at ≡ Some u
             → is_cut ≡ nat_le (wanted + 32) u.len) → Taken c c3 at len wanted role is_cut
         taken is_cut is =
             let hs = cut_stands in
@@ -394,7 +402,7 @@ module _ (c : Cut) (at len : ℕ) (o : OutOfTree c at len) (wanted : ℕ) (role 
             }
 
 -- where the gap lies
-pub out_bounds : (c : Cut) (at len : ℕ) → OutOfTree c at len → at + len ≤ 1073741824
+pub out_bounds : (c : WindowState) (at len : ℕ) → IsUnlinkedGap c at len → at + len ≤ 1073741824
 out_bounds c at len o =
     let says = tree_says c (gaps_of o.front ++ gaps_of o.back) o.tree in
     let n = (legal_size (length c.bytes) says.said.size).high in

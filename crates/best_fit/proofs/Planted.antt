@@ -1,19 +1,21 @@
 -- The gaps of a window are put into a tree, one after the other.
 use Rattle.best_fit.proofs.Common.{◌≡◌, refl, sym, ap, subst, ◌∙◌, ℕ, ◌+◌, ◌⊎◌, inl, inr, true, false, List, [], ◌∷◌}
 use Rattle.best_fit.proofs.Common.{◌++◌, length, append_assoc, length-append, arith, ◌==◌, Option, None, is_some, map}
-use Rattle.best_fit.proofs.Common.{false≢true, or_cases, or_left, or_right, append-nil, Cut, SameBut, bytes_of}
-use Rattle.best_fit.proofs.Common.{current, Tile, SaysTiles, tiles_are_read_off, Tree, IsSearchTree, nodes_of}
-use Rattle.best_fit.proofs.Common.{has_place, is_in, put, link_at, Gap, payloads, sorted_gaps, comes_before}
+use Rattle.best_fit.proofs.Common.{false≢true, or_cases, or_left, or_right, append-nil, WindowState, SameBytesExcept}
+use Rattle.best_fit.proofs.Common.{bytes_of}
+use Rattle.best_fit.proofs.Common.{current, Tile, EncodesTiles, tiles_are_read_off, Tree, IsSearchTree, nodes_of}
+use Rattle.best_fit.proofs.Common.{is_ordered_with, is_in, put, link_at, Gap, payloads, sorted_gaps, comes_before}
 use Rattle.best_fit.proofs.Common.{gap_cells, gap_of, gaps_in, gaps_of, is_gap_node, kept_of, plain, tiles_in}
-use Rattle.best_fit.proofs.Common.{GapNode-is_gap_node, is_good-Good, AreSome, Fits, HasTree, Regrown, Rises, node_of}
-use Rattle.best_fit.proofs.Common.{IsHeap, LaysOut, AreBytes}
-use Rattle.best_fit.specs.Rebuilding.{IsNextGap, IsRebuilt}
+use Rattle.best_fit.proofs.Common.{GapNode-is_gap_node, is_good-IsGoodHeap, AreSome, HaveGapLengths, HasGapTree}
+use Rattle.best_fit.proofs.Common.{Regrown, AreAscending, node_of}
+use Rattle.best_fit.proofs.Common.{IsHeap, EncodesLiveSet, AreBytes}
+use Rattle.best_fit.specs.Rebuilding.{IsNextGap, RebuildsFreeTree}
 use Rattle.best_fit.proofs.BesideGaps.{beside_gaps, free_bytes}
 use Rattle.best_fit.proofs.FreeTrees.{all_gaps, in_here}
 use Rattle.best_fit.proofs.GapFacts.{said_of}
 use Rattle.best_fit.proofs.GapSteps.{same_gaps}
 use Rattle.best_fit.proofs.GivingBack.{regrown-trans}
-use Rattle.best_fit.proofs.Laid.{SaysHeap}
+use Rattle.best_fit.proofs.TagsAndLiveSet.{SaysHeap}
 use Rattle.best_fit.proofs.Placed.{lays_out}
 use Rattle.best_fit.proofs.Regrowths.{SplitsAlike, regrown_keeps, regrown_live, splits_alike, tree_says}
 use Rattle.best_fit.proofs.Replanting.{grown_place, grown_tree}
@@ -23,11 +25,11 @@ use Rattle.best_fit.proofs.Uprooting.{regrown-refl}
 
 -- ---- the first of some gaps
 
-fits_front : (gs xs ys : List Gap) → Fits gs (xs ++ ys) → Fits gs xs
+fits_front : (gs xs ys : List Gap) → HaveGapLengths gs (xs ++ ys) → HaveGapLengths gs xs
 fits_front gs [] ys f = tt
 fits_front gs (x ∷ xs) ys f = (f.0, fits_front gs xs ys f.1)
 
-rises_front : (at : ℕ) (xs ys : List Gap) → Rises at (xs ++ ys) → Rises at xs
+rises_front : (at : ℕ) (xs ys : List Gap) → AreAscending at (xs ++ ys) → AreAscending at xs
 rises_front at [] ys r = tt
 rises_front at (x ∷ xs) ys r = (r.0, rises_front (x.offset + 1) xs ys r.1)
 
@@ -53,22 +55,22 @@ some_front gs xs ys s =
 
 -- ---- the next gap
 
-module _ (c : Cut) (xs : List Gap) (g : Gap) (node : ℕ) (is : node ≡ node_of g) (n : IsNextGap c xs g) where
+module _ (c : WindowState) (xs : List Gap) (g : Gap) (node : ℕ) (is : node ≡ node_of g) (n : IsNextGap c xs g) where
   -- it is a node
   pub is_a_node : is_gap_node c node ≡ true
   is_a_node = GapNode-is_gap_node c node (record {
-    good = is_good-Good c n.tree.good;
+    good = is_good-IsGoodHeap c n.tree.good;
     listed = subst (λ k. is_in k (payloads (gaps_in c)) ≡ true) (sym is)
         (subst (λ (gs : List Gap). is_in (node_of g) (payloads gs) ≡ true) (sym n.gaps) (in_here xs g n.behind));
   })
 
   with_next : AreSome (gaps_in c) (xs ++ (g ∷ []))
   with_next =
-      let all = all_gaps c (said_of c (is_good-Good c n.tree.good)) in
+      let all = all_gaps c (said_of c (is_good-IsGoodHeap c n.tree.good)) in
       let list : gaps_in c ≡ (xs ++ (g ∷ [])) ++ n.behind = n.gaps ∙ sym (append_assoc xs (g ∷ []) n.behind) in
       some_front (gaps_in c) (xs ++ (g ∷ [])) n.behind (subst (λ (hs : List Gap). AreSome (gaps_in c) hs) list all)
 
-  before_it : HasTree c (xs ++ [])
+  before_it : HasGapTree c (xs ++ [])
   before_it =
       let e : xs ≡ xs ++ [] = sym (append-nil xs) in
       record {
@@ -83,17 +85,17 @@ module _ (c : Cut) (xs : List Gap) (g : Gap) (node : ℕ) (is : node ≡ node_of
       }
 
   -- it has its place behind the gaps of the tree
-  pub next_place : has_place (comes_before (gaps_in c)) node (nodes_of n.tree.tree.tree) ≡ true
+  pub next_place : is_ordered_with (comes_before (gaps_in c)) node (nodes_of n.tree.tree.tree) ≡ true
   unfolding before_it
   next_place = grown_place c c c xs g [] node is with_next before_it
 
-  pub next_tree : (d e : Cut) → (root : Option ℕ)
+  pub next_tree : (d e : WindowState) → (root : Option ℕ)
       → ((t : Tree) → IsSearchTree (comes_before (gaps_in c)) (gap_cells c) (link_at (bytes_of c.bytes) 24) t
       → (grown : Tree) × IsSearchTree (comes_before (gaps_in d)) (gap_cells d) root grown
       × (nodes_of grown ≡ put (comes_before (gaps_in c)) node (nodes_of t)))
       → is_gap_node d ≡ is_gap_node c → kept_of d ≡ kept_of c
       → link_at (bytes_of e.bytes) 24 ≡ root → length e.bytes ≡ length d.bytes
-      → SameBut (bytes_of d.bytes) (bytes_of e.bytes) 24 8 → HasTree e (xs ++ (g ∷ []))
+      → SameBytesExcept (bytes_of d.bytes) (bytes_of e.bytes) 24 8 → HasGapTree e (xs ++ (g ∷ []))
   unfolding before_it
   next_tree d e root grows nodes kept leads_to size same = grown_tree c d e xs g [] node is with_next before_it root
       grows is_a_node nodes kept leads_to size same
@@ -101,18 +103,18 @@ module _ (c : Cut) (xs : List Gap) (g : Gap) (node : ℕ) (is : node ≡ node_of
 -- ---- the walk
 
 -- the tree has the gaps among the tiles that are passed, and nothing else has changed
-pub record HasPlanted (old new : Cut) (passed rest : List Tile) : Type 0 where
+pub record HasPlanted (old new : WindowState) (passed rest : List Tile) : Type 0 where
   pub change : Regrown old new
-  pub tree : HasTree new (gaps_of passed)
+  pub tree : HasGapTree new (gaps_of passed)
 
-pub planted_start : (c : Cut) → HasTree c [] → HasPlanted c c [] (tiles_in c)
+pub planted_start : (c : WindowState) → HasGapTree c [] → HasPlanted c c [] (tiles_in c)
 planted_start c h = record { change = regrown-refl c; tree = h }
 
 -- a block is passed as it is
-pub planted_block : (old new next : Cut) (tile : Tile) (t : Turn new (HasPlanted old new) tile)
+pub planted_block : (old new next : WindowState) (tile : Tile) (t : Turn new (HasPlanted old new) tile)
     → is_some tile.use_of ≡ true → next ≡ new → Passed next (HasPlanted old next) tile.offset
 planted_block old new next tile t some e =
-    let P : Cut → Type 0 = λ (c : Cut). Passed c (HasPlanted old c) tile.offset in
+    let P : WindowState → Type 0 = λ (c : WindowState). Passed c (HasPlanted old c) tile.offset in
     subst P (sym e) (record {
       passed = t.passed;
       tile = tile;
@@ -121,12 +123,12 @@ planted_block old new next tile t some e =
       offset = refl;
       holds = record {
         change = t.holds.change;
-        tree = subst (HasTree new) (sym (gaps_past_block t.passed tile some)) t.holds.tree;
+        tree = subst (HasGapTree new) (sym (gaps_past_block t.passed tile some)) t.holds.tree;
       };
     })
 
 -- a gap is put into the tree, and passed
-module _ (old new : Cut) (tile : Tile) (t : Turn new (HasPlanted old new) tile)
+module _ (old new : WindowState) (tile : Tile) (t : Turn new (HasPlanted old new) tile)
     (none : is_some tile.use_of ≡ false) where
   free : tile.use_of ≡ None
   free = free_if tile none
@@ -143,7 +145,7 @@ module _ (old new : Cut) (tile : Tile) (t : Turn new (HasPlanted old new) tile)
         tree = t.holds.tree;
       }
 
-  pub planted_gap : (next : Cut) → HasTree next (gaps_of t.passed ++ (gap_of tile ∷ [])) → Regrown new next
+  pub planted_gap : (next : WindowState) → HasGapTree next (gaps_of t.passed ++ (gap_of tile ∷ [])) → Regrown new next
       → Passed next (HasPlanted old next) tile.offset
   planted_gap next h r =
       let says = tree_says next (gaps_of t.passed ++ (gap_of tile ∷ [])) h in
@@ -159,20 +161,21 @@ module _ (old new : Cut) (tile : Tile) (t : Turn new (HasPlanted old new) tile)
         passed = s.front';
         tile = s.tile';
         back = s.back';
-        said = subst (SaysTiles next) s.list says.said;
+        said = subst (EncodesTiles next) s.list says.said;
         offset = ap (λ (u : Tile). u.offset) s.tiles;
-        holds = record { change = regrown-trans old new next t.holds.change r; tree = subst (HasTree next) list h };
+        holds = record { change = regrown-trans old new next t.holds.change r; tree = subst (HasGapTree next) list h };
       }
 
 -- at the end the tree has all gaps
-pub planted_all : (old new : Cut) → Ended new (HasPlanted old new) → HasTree new (gaps_in new)
-planted_all old new e = subst (λ (us : List Tile). HasTree new (gaps_of us))
+pub planted_all : (old new : WindowState) → Ended new (HasPlanted old new) → HasGapTree new (gaps_in new)
+planted_all old new e = subst (λ (us : List Tile). HasGapTree new (gaps_of us))
     (sym (tiles_are_read_off new e.tiles e.said)) e.holds.tree
 
 -- ---- the heap
 
-module _ (old mid new : Cut) (says : SaysHeap old (tiles_in old)) (empty : Regrown old mid) (change : Regrown mid new)
-    (h : HasTree new (gaps_in new)) where
+module _ (old mid new : WindowState) (says : SaysHeap old (tiles_in old)) (empty : Regrown old mid)
+    (change : Regrown mid new)
+    (h : HasGapTree new (gaps_in new)) where
   says_new : SaysHeap new (tiles_in new)
   says_new = tree_says new (gaps_in new) h
 
@@ -182,10 +185,10 @@ module _ (old mid new : Cut) (says : SaysHeap old (tiles_in old)) (empty : Regro
   pub rebuilt_heap : IsHeap current new.bytes
   rebuilt_heap = lays_out new says_new h.tree
 
-  pub rebuilt : AreBytes old.bytes → AreBytes new.bytes → IsRebuilt current old new
+  pub rebuilt : AreBytes old.bytes → AreBytes new.bytes → RebuildsFreeTree current old new
   unfolding current
   rebuilt small small' = record {
-    live = subst (LaysOut current new.bytes) (regrown_live old new whole_change) rebuilt_heap;
+    live = subst (EncodesLiveSet current new.bytes) (regrown_live old new whole_change) rebuilt_heap;
     keeps = regrown_keeps old new says.said says_new.said whole_change;
     rest = beside_gaps old new says says_new.said whole_change small small';
     free = free_bytes old new says says_new.said whole_change small small';

@@ -2,19 +2,22 @@
 use Rattle.best_fit.proofs.Common.{◌≡◌, refl, sym, ap, subst, ◌∙◌, ℕ, ◌+◌, ◌-◌, ◌%◌, ◌≤◌, ◌⊎◌, inl, inr, true, false}
 use Rattle.best_fit.proofs.Common.{◌&&◌, ◌||◌, not, List, [], ◌∷◌, ◌++◌, length, append_assoc, arith, nat_le, ◌==◌}
 use Rattle.best_fit.proofs.Common.{IsTrue, Option, Some, None, is_some, map, AllByRecursion, list_all, false≢true}
-use Rattle.best_fit.proofs.Common.{and_parts, and_from, or_cases, or_left, or_right, append-nil, Memory, Cut, SameBut}
-use Rattle.best_fit.proofs.Common.{SamePlace, bytes_of, word_at, current, Role, Object, Index, Storage, Node, Tile}
-use Rattle.best_fit.proofs.Common.{is_legal_size, has_tags, is_merged, may_be_red, tag_word, tiles_of, SaysTiles}
+use Rattle.best_fit.proofs.Common.{and_parts, and_from, or_cases, or_left, or_right, append-nil, Memory, WindowState}
+use Rattle.best_fit.proofs.Common.{SameBytesExcept}
+use Rattle.best_fit.proofs.Common.{SameSurroundings, bytes_of, word_at, current, Role, Object, Index, Storage, Node}
+use Rattle.best_fit.proofs.Common.{Tile}
+use Rattle.best_fit.proofs.Common.{is_legal_size, has_tags, is_merged, may_be_red, tag_word, tiles_of, EncodesTiles}
 use Rattle.best_fit.proofs.Common.{good_tags_say_tiles, header_may_change, one_tile_at_an_offset, payload_may_change}
-use Rattle.best_fit.proofs.Common.{tiles_are_read_off, leaf, IsSearchTree, is_in, leads, link_at, SameBut-link, Gap}
+use Rattle.best_fit.proofs.Common.{tiles_are_read_off, leaf, IsSearchTree, is_in, leads, link_at, SameBytesExcept-link}
+use Rattle.best_fit.proofs.Common.{Gap}
 use Rattle.best_fit.proofs.Common.{cells_of, payloads, comes_before, gap_cells, gap_of, gaps_in, gaps_of, kept_of}
-use Rattle.best_fit.proofs.Common.{links_among, plain, tiles_in, Good, AreSome, HasTree, Regrown}
+use Rattle.best_fit.proofs.Common.{links_among, plain, tiles_in, IsGoodHeap, AreSome, HasGapTree, Regrown}
 use Rattle.block_tags.specs.Tiles.{are_tags, is_tile}
 use Rattle.best_fit.proofs.Around.{row_back, row_end, row_front, row_reaches}
 use Rattle.best_fit.proofs.FreeTrees.{regrown, rooted}
 use Rattle.best_fit.proofs.GapFacts.{NodeAt, in_around, listed_at, node_from, row_aligned}
 use Rattle.best_fit.proofs.GapSteps.{kept_round}
-use Rattle.best_fit.proofs.Laid.{SaysHeap, said_row}
+use Rattle.best_fit.proofs.TagsAndLiveSet.{SaysHeap, said_row}
 use Rattle.best_fit.proofs.Rows.{Apart, Row, is_merged-Apart, Apart-is_merged, unused, used, use_cases, gaps_of-free}
 use Rattle.best_fit.proofs.Rows.{gaps_of-used}
 use Rattle.best_fit.proofs.Steps.{all_joined}
@@ -63,7 +66,7 @@ tagged_too m size h =
     (tags_too m 128 0 (tiles_of m size) (size - 16) two.0) two.1
 
 -- they say tiles
-pub tagged_says : (c : Cut) → IsTrue (is_legal_size (length c.bytes))
+pub tagged_says : (c : WindowState) → IsTrue (is_legal_size (length c.bytes))
     → IsTrue (has_tags current (bytes_of c.bytes) (length c.bytes)) → SaysHeap c (tiles_in c)
 tagged_says c size tags =
     let good = (good_tags_say_tiles c size).0 tags in
@@ -77,22 +80,22 @@ abbrev pub IsNull : Memory → Gap → Type 0
 IsNull m g = (link_at m (g.offset + 16) ≡ None) × (link_at m (g.offset + 16 + 8) ≡ None)
 
 -- the links of the gaps that are passed are null, and nothing but links has changed
-pub record Cleared (old new : Cut) (passed rest : List Tile) : Type 0 where
+pub record Cleared (old new : WindowState) (passed rest : List Tile) : Type 0 where
   pub list : tiles_in old ≡ passed ++ rest
   pub kept : kept_of new ≡ kept_of old
   pub size : length new.bytes ≡ length old.bytes
   pub null : AllByRecursion (IsNull (bytes_of new.bytes)) (gaps_of passed)
 
-pub cleared_start : (c : Cut) → Cleared c c [] (tiles_in c)
+pub cleared_start : (c : WindowState) → Cleared c c [] (tiles_in c)
 cleared_start c = record { list = refl; kept = refl; size = refl; null = tt }
 
 -- where the links of a tile stand
-pub record LinkPlace (c : Cut) (at : ℕ) : Type 0 where
+pub record LinkPlace (c : WindowState) (at : ℕ) : Type 0 where
   pub whole : (at + 16) % 16 ≡ 0
   pub inside : at + 32 ≤ length c.bytes
   pub small : at + 32 ≤ 1073741824
 
-pub link_place : (old new : Cut) (tile : Tile) → Turn new (Cleared old new) tile → LinkPlace new tile.offset
+pub link_place : (old new : WindowState) (tile : Tile) → Turn new (Cleared old new) tile → LinkPlace new tile.offset
 link_place old new tile t =
     let m = t.meets in let long = m.long in let within = m.within in let size = m.size in
     let aligned = row_aligned 128 (t.passed ++ (tile ∷ t.back)) (length new.bytes - 16) tile (omega arith)
@@ -100,11 +103,11 @@ link_place old new tile t =
     record { whole = omega arith; inside = omega arith; small = omega arith }
 
 -- a block is passed as it is
-pub cleared_block : (old new next : Cut) (tile : Tile) (t : Turn new (Cleared old new) tile)
+pub cleared_block : (old new next : WindowState) (tile : Tile) (t : Turn new (Cleared old new) tile)
     → is_some tile.use_of ≡ true → next ≡ new → Passed next (Cleared old next) tile.offset
 cleared_block old new next tile t some e =
     let z = t.holds in
-    let P : Cut → Type 0 = λ (c : Cut). Passed c (Cleared old c) tile.offset in
+    let P : WindowState → Type 0 = λ (c : WindowState). Passed c (Cleared old c) tile.offset in
     subst P (sym e) (record {
       passed = t.passed;
       tile = tile;
@@ -121,7 +124,7 @@ cleared_block old new next tile t some e =
 
 -- null links before the bytes that change stay null
 null_kept : (m m' : Memory) (at : ℕ) (ts : List Tile) (end from n : ℕ) → Row at ts end → end ≤ from
-    → SameBut m m' from n → AllByRecursion (IsNull m) (gaps_of ts) → AllByRecursion (IsNull m') (gaps_of ts)
+    → SameBytesExcept m m' from n → AllByRecursion (IsNull m) (gaps_of ts) → AllByRecursion (IsNull m') (gaps_of ts)
 null_kept m m' at [] end from n r l same null = tt
 null_kept m m' at (t ∷ ts) end from n r l same null =
     let o = r.0 in let long = r.1 in let on = row_reaches (at + t.len) ts end r.3 in
@@ -133,20 +136,21 @@ null_kept m m' at (t ∷ ts) end from n r l same null =
       | unused e ↦
           let all : AllByRecursion (IsNull m) (gap_of t ∷ gaps_of ts) = subst (AllByRecursion (IsNull m))
           (gaps_of-free t ts e) null in
-          let left = SameBut-link m m' from n (t.offset + 16) same (inl (omega arith)) in
-          let right = SameBut-link m m' from n (t.offset + 16 + 8) same (inl (omega arith)) in
+          let left = SameBytesExcept-link m m' from n (t.offset + 16) same (inl (omega arith)) in
+          let right = SameBytesExcept-link m m' from n (t.offset + 16 + 8) same (inl (omega arith)) in
           let both : AllByRecursion (IsNull m') (gap_of t ∷ gaps_of ts) =
           ((left ∙ all.0.0, right ∙ all.0.1), null_kept m m' (at + t.len) ts end from n r.3 l same all.1) in
           subst (AllByRecursion (IsNull m')) (sym (gaps_of-free t ts e)) both
     ]
 
 -- the links of a gap are made null, and it is passed
-module _ (old new next : Cut) (tile : Tile) (t : Turn new (Cleared old new) tile) (says : SaysHeap old (tiles_in old))
+module _ (old new next : WindowState) (tile : Tile) (t : Turn new (Cleared old new) tile)
+    (says : SaysHeap old (tiles_in old))
     (none : is_some tile.use_of ≡ false)
     (left : link_at (bytes_of next.bytes) (tile.offset + 16) ≡ None)
     (right : link_at (bytes_of next.bytes) (tile.offset + 16 + 8) ≡ None)
-    (size : length next.bytes ≡ length new.bytes) (place : SamePlace new next)
-    (same : SameBut (bytes_of new.bytes) (bytes_of next.bytes) (tile.offset + 16) 16) where
+    (size : length next.bytes ≡ length new.bytes) (place : SameSurroundings new next)
+    (same : SameBytesExcept (bytes_of new.bytes) (bytes_of next.bytes) (tile.offset + 16) 16) where
   abbrev ts : List Tile
   ts = t.passed ++ (tile ∷ t.back)
 
@@ -156,7 +160,7 @@ module _ (old new next : Cut) (tile : Tile) (t : Turn new (Cleared old new) tile
   tiles : tiles_in new ≡ ts
   tiles = tiles_are_read_off new ts t.said
 
-  says_next : SaysTiles next ts
+  says_next : EncodesTiles next ts
   says_next =
       let long = t.meets.long in
       payload_may_change new next ts tile.offset tile t.said (one_tile_at_an_offset new t.passed tile t.back t.said)
@@ -164,7 +168,7 @@ module _ (old new next : Cut) (tile : Tile) (t : Turn new (Cleared old new) tile
 
   node : NodeAt new (tile.offset + 16)
   node =
-      node_from new (tile.offset + 16) (subst (SaysTiles new) (sym tiles) t.said)
+      node_from new (tile.offset + 16) (subst (EncodesTiles new) (sym tiles) t.said)
       (subst (Apart false) (t.holds.list ∙ sym tiles) says.apart)
       (listed_at (tiles_in new) (tile.offset + 16)
       (record { front = t.passed; tile = tile; back = t.back; list = tiles; free = free; at = refl }))
@@ -211,16 +215,17 @@ null_links m ns (g ∷ gs) h =
     (ap (λ (o : Option ℕ). leads (λ k. is_in k ns) o) h.0.0) (ap (λ (o : Option ℕ). leads (λ k. is_in k ns) o) h.0.1))
     (null_links m ns gs h.1)
 
-module _ (old c d : Cut) (says : SaysHeap old (tiles_in old)) (end : Ended c (Cleared old c))
-    (root : link_at (bytes_of d.bytes) 24 ≡ None) (size : length d.bytes ≡ length c.bytes) (place : SamePlace c d)
-    (same : SameBut (bytes_of c.bytes) (bytes_of d.bytes) 24 8) where
+module _ (old c d : WindowState) (says : SaysHeap old (tiles_in old)) (end : Ended c (Cleared old c))
+    (root : link_at (bytes_of d.bytes) 24 ≡ None) (size : length d.bytes
+    ≡ length c.bytes) (place : SameSurroundings c d)
+    (same : SameBytesExcept (bytes_of c.bytes) (bytes_of d.bytes) 24 8) where
   tiles_c : tiles_in c ≡ end.tiles
   tiles_c = tiles_are_read_off c end.tiles end.said
 
   list : tiles_in old ≡ end.tiles
   list = end.holds.list ∙ append-nil end.tiles
 
-  good : Good c
+  good : IsGoodHeap c
   good =
       record {
         size = end.said.size;
@@ -241,7 +246,7 @@ module _ (old c d : Cut) (says : SaysHeap old (tiles_in old)) (end : Ended c (Cl
     red_black = record { root = refl; no_red_pair = refl; black = (0, refl) };
   }
 
-  pub emptied : HasTree d []
+  pub emptied : HasGapTree d []
   emptied = rooted c d [] leaf None good some empty refl root size same
 
   pub emptied_rest : Regrown old d

@@ -1,15 +1,17 @@
 -- The colour of a block's tile changes.
 use Rattle.best_fit.proofs.Common.{◌≡◌, refl, sym, ap, subst, ◌∙◌, ℕ, ◌+◌, ◌-◌, ◌<◌, ◌≤◌, Bool, true, false, ◌||◌}
 use Rattle.best_fit.proofs.Common.{not, List, [], ◌∷◌, ◌++◌, length, arith, IsTrue, Option, Some, AllByRecursion}
-use Rattle.best_fit.proofs.Common.{none-some, Cut, Same, SameBut, bytes_of, word_at, Role, Node, Tile, current}
-use Rattle.best_fit.proofs.Common.{Same-word, of_colour, tile_in, with_red_at, IsBesideTags, may_be_red}
-use Rattle.best_fit.proofs.Common.{MayHaveColour, SaysTiles, SameBesideTags, one_tile_at_an_offset, target_of, Extent}
+use Rattle.best_fit.proofs.Common.{none-some, WindowState, SameBytes, SameBytesExcept, bytes_of, word_at, Role, Node}
+use Rattle.best_fit.proofs.Common.{Tile, current}
+use Rattle.best_fit.proofs.Common.{SameBytes-word, of_colour, tile_in, with_red_at, IsBesideTags, may_be_red}
+use Rattle.best_fit.proofs.Common.{MayHaveColour, EncodesTiles, SameExceptTags, one_tile_at_an_offset, target_of}
+use Rattle.best_fit.proofs.Common.{Extent}
 use Rattle.best_fit.proofs.Common.{LiveSet, handle, end_of, others, IsFreeTree, cells_of, is_red, IsHeap}
-use Rattle.best_fit.proofs.Common.{IsRecoloured, Keeps, LaysOut, live_of}
+use Rattle.best_fit.proofs.Common.{Recolours, KeepsBlocks, EncodesLiveSet, live_of}
 use Rattle.best_fit.proofs.Around.{Away, away_front, changed_at-around}
 use Rattle.best_fit.proofs.GapFacts.{NodeAt, node_colour, tile_colour}
 use Rattle.best_fit.proofs.GapSetters.{beside_recoloured, cell_stays, tile_in-other}
-use Rattle.best_fit.proofs.Laid.{SaysHeap, heap-says, said_row, says-LaysOut, live_in}
+use Rattle.best_fit.proofs.TagsAndLiveSet.{SaysHeap, heap-says, said_row, says-EncodesLiveSet, live_in}
 use Rattle.best_fit.proofs.Placed.{apart_recoloured, extents_recoloured}
 use Rattle.best_fit.proofs.Joins.{others_between, extents_of-around}
 use Rattle.best_fit.proofs.Rows.{Apart, Row, extent_of, extents_of}
@@ -17,7 +19,7 @@ use Rattle.best_fit.proofs.Steps.{In, all_extents, around_keeps, inside, step_wo
 use Rattle.best_fit.proofs.Writes.{Block, NodeBlock, free_stays}
 
 -- it may have any colour
-pub node_may : (c : Cut) (h at : ℕ) (red : Bool) → NodeBlock c h → at + 16 ≡ h → MayHaveColour c at red
+pub node_may : (c : WindowState) (h at : ℕ) (red : Bool) → NodeBlock c h → at + 16 ≡ h → MayHaveColour c at red
 node_may c h at red n e =
     let b = n.block in let o = b.at in let same : b.tile.offset ≡ at = omega arith in
     record {
@@ -32,10 +34,10 @@ node_may c h at red n e =
     colour true t u = ap (λ (o : Option Role). may_be_red current o) u
     colour false t u = refl
 
-module _ (c d : Cut) (h at : ℕ) (red : Bool) (heap : IsHeap current c.bytes) (b : Block c h) (e : at + 16 ≡ h)
-    (tags : (ts : List Tile) → SaysTiles c ts → SaysTiles d (with_red_at at red ts)) (rest : (ts : List Tile)
-    → SaysTiles c ts → SameBesideTags c d ts (with_red_at at red ts))
-    (word : SameBut (bytes_of c.bytes) (bytes_of d.bytes) (at + 8) 8) where
+module _ (c d : WindowState) (h at : ℕ) (red : Bool) (heap : IsHeap current c.bytes) (b : Block c h) (e : at + 16 ≡ h)
+    (tags : (ts : List Tile) → EncodesTiles c ts → EncodesTiles d (with_red_at at red ts)) (rest : (ts : List Tile)
+    → EncodesTiles c ts → SameExceptTags c d ts (with_red_at at red ts))
+    (word : SameBytesExcept (bytes_of c.bytes) (bytes_of d.bytes) (at + 8) 8) where
   abbrev front : List Tile
   front = b.front
 
@@ -58,11 +60,11 @@ module _ (c d : Cut) (h at : ℕ) (red : Bool) (heap : IsHeap current c.bytes) (
   list = changed_at-around at tile back begins (of_colour red) front
       (subst (λ k. Away k front) begins (away_front 128 front tile back (length c.bytes - 16) row))
 
-  said : SaysTiles d painted
-  said = subst (SaysTiles d) list (tags (front ++ (tile ∷ back)) b.said)
+  said : EncodesTiles d painted
+  said = subst (EncodesTiles d) list (tags (front ++ (tile ∷ back)) b.said)
 
-  same : SameBesideTags c d (front ++ (tile ∷ back)) painted
-  same = subst (SameBesideTags c d (front ++ (tile ∷ back))) list (rest (front ++ (tile ∷ back)) b.said)
+  same : SameExceptTags c d (front ++ (tile ∷ back)) painted
+  same = subst (SameExceptTags c d (front ++ (tile ∷ back))) list (rest (front ++ (tile ∷ back)) b.said)
 
   beside : (k : ℕ) → IsBesideTags (front ++ (tile ∷ back)) k → k < length c.bytes - 16
       → bytes_of d.bytes k ≡ bytes_of c.bytes k
@@ -80,7 +82,7 @@ module _ (c d : Cut) (h at : ℕ) (red : Bool) (heap : IsHeap current c.bytes) (
   gap_word m k n low high =
       let t = n.free_tile in let p = t.at in let long = n.long in
       let here : In t.tile (front ++ (tile ∷ back)) = subst (λ (ts : List Tile). In t.tile ts) b.list n.is_in_list in
-      Same-word (bytes_of c.bytes) (bytes_of d.bytes) k (k + 8) k
+      SameBytes-word (bytes_of c.bytes) (bytes_of d.bytes) k (k + 8) k
       (record { at = λ j low' high'. payload_byte t.tile here j (omega arith) (omega arith) })
       (omega arith) (omega arith)
 
@@ -119,10 +121,10 @@ module _ (c d : Cut) (h at : ℕ) (red : Bool) (heap : IsHeap current c.bytes) (
       let size = same.size in let extents = extents_recoloured front tile red back ∙ ap extents_of (sym b.list) in
       λ i. record { size = size i; extents = extents i }
 
-  laid : LaysOut current d.bytes (live_of c.bytes)
+  laid : EncodesLiveSet current d.bytes (live_of c.bytes)
   laid =
-      subst (LaysOut current d.bytes) live_same
-      (says-LaysOut d painted says
+      subst (EncodesLiveSet current d.bytes) live_same
+      (says-EncodesLiveSet d painted says
       (subst (λ (l : LiveSet). IsFreeTree current (bytes_of d.bytes) l) (sym live_same) free))
 
   old_extents : (live_of c.bytes).extents ≡ extents_of front ++ (extent_of tile b.role ∷ extents_of back)
@@ -134,21 +136,22 @@ module _ (c d : Cut) (h at : ℕ) (red : Bool) (heap : IsHeap current c.bytes) (
       ap (others h) old_extents ∙ others_between 128 front tile back (length c.bytes - 16)
       (extent_of tile b.role) h row refl b.at
 
-  keeps : Keeps c d (others h (live_of c.bytes).extents)
-  keeps = subst (Keeps c d) (sym left_extents)
+  keeps : KeepsBlocks c d (others h (live_of c.bytes).extents)
+  keeps = subst (KeepsBlocks c d) (sym left_extents)
       (around_keeps c d front (tile ∷ []) (record tile { red = red } ∷ []) back b.said said same)
 
-  payloads : AllByRecursion (λ (x : Extent). Same (bytes_of c.bytes) (bytes_of d.bytes) (handle x) (end_of x))
+  payloads : AllByRecursion (λ (x : Extent). SameBytes (bytes_of c.bytes) (bytes_of d.bytes) (handle x) (end_of x))
       (live_of c.bytes).extents
   unfolding live_of
   payloads =
-      subst (λ (ts : List Tile). AllByRecursion (λ (x : Extent). Same (bytes_of c.bytes) (bytes_of d.bytes) (handle x)
+      subst (λ (ts : List Tile). AllByRecursion (λ (x : Extent).
+      SameBytes (bytes_of c.bytes) (bytes_of d.bytes) (handle x)
       (end_of x)) (extents_of ts)) (sym b.list)
-      (all_extents (λ (x : Extent). Same (bytes_of c.bytes) (bytes_of d.bytes) (handle x) (end_of x))
+      (all_extents (λ (x : Extent). SameBytes (bytes_of c.bytes) (bytes_of d.bytes) (handle x) (end_of x))
       (front ++ (tile ∷ back))
       (λ t i role. record { at = λ k low high. payload_byte t i k low high }))
 
-  pub recoloured : IsRecoloured current c d h red
+  pub recoloured : Recolours current c d h red
   recoloured =
       let painted_tile : Tile = record tile { red = red } in
       record {
@@ -156,5 +159,5 @@ module _ (c d : Cut) (h at : ℕ) (red : Bool) (heap : IsHeap current c.bytes) (
         colour = tile_colour d painted painted_tile h said (one_tile_at_an_offset d front painted_tile back said) b.at;
         keeps = keeps;
         payloads = payloads;
-        rest = subst (λ k. SameBut (bytes_of c.bytes) (bytes_of d.bytes) k 8) (omega arith) word;
+        rest = subst (λ k. SameBytesExcept (bytes_of c.bytes) (bytes_of d.bytes) k 8) (omega arith) word;
       }

@@ -1,13 +1,15 @@
 -- A block takes the gap behind it, which leaves the tree, and what is cut off enters it.
 use Rattle.best_fit.proofs.Common.{◌≡◌, refl, sym, ap, subst, ◌∙◌, ℕ, ◌+◌, ◌-◌, ◌*◌, ◌≤◌, Bool, true, false, List, []}
-use Rattle.best_fit.proofs.Common.{◌∷◌, ◌++◌, length, arith, nat_le, Option, Some, map, min, Memory, Cut, bytes_of}
-use Rattle.best_fit.proofs.Common.{Tile, current, first_in, free_tile, next_in, tile_in, HasTileAt, SaysTiles}
-use Rattle.best_fit.proofs.Common.{SameBesideTags, IsTree, bits, is_in, tree_same, link_at, target_of, Extent, Gap}
+use Rattle.best_fit.proofs.Common.{◌∷◌, ◌++◌, length, arith, nat_le, Option, Some, map, min, Memory, WindowState}
+use Rattle.best_fit.proofs.Common.{bytes_of}
+use Rattle.best_fit.proofs.Common.{Tile, current, first_in, free_tile, next_in, tile_in, HasTileAt, EncodesTiles}
+use Rattle.best_fit.proofs.Common.{SameExceptTags, IsTree, bits, is_in, tree_same, link_at, target_of, Extent, Gap}
 use Rattle.best_fit.proofs.Common.{LiveSet, handle, end_of, gap_after, others, resized, share, IsTreeOf, cells_of}
-use Rattle.best_fit.proofs.Common.{payloads, sorted_gaps, gap_of, gaps_of, gaps_in, plain, tiles_in, HasTree}
-use Rattle.best_fit.proofs.Common.{LacksOne, Regrown, node_of, of_option, IsHeap, Keeps, LaysOut, SameBlock, live_of}
-use Rattle.best_fit.proofs.Common.{IsCut, free_len, joined_free_at}
-use Rattle.raw_region.proofs.Laws.{Same-part}
+use Rattle.best_fit.proofs.Common.{payloads, sorted_gaps, gap_of, gaps_of, gaps_in, plain, tiles_in, HasGapTree}
+use Rattle.best_fit.proofs.Common.{LacksOne, Regrown, node_of, of_option, IsHeap, KeepsBlocks, EncodesLiveSet}
+use Rattle.best_fit.proofs.Common.{SameBlock, live_of}
+use Rattle.best_fit.proofs.Common.{SplitsBlock, free_len, joined_free_at}
+use Rattle.raw_region.proofs.Laws.{SameBytes-part}
 use Rattle.best_fit.specs.Tiling.{cut_at}
 use Rattle.best_fit.proofs.Allocating.{heap_tree, bits-le}
 use Rattle.best_fit.proofs.Around.{Away, away_front, next_in-around}
@@ -17,7 +19,7 @@ use Rattle.best_fit.proofs.GapOrder.{in_sorted}
 use Rattle.best_fit.proofs.GapSteps.{same_gaps}
 use Rattle.best_fit.proofs.Joins.{rest_of}
 use Rattle.best_fit.proofs.GivingBack.{back_parts, same_rest}
-use Rattle.best_fit.proofs.Laid.{SaysHeap, heap-says, said_row}
+use Rattle.best_fit.proofs.TagsAndLiveSet.{SaysHeap, heap-says, said_row}
 use Rattle.best_fit.proofs.Placed.{lays_out}
 use Rattle.best_fit.proofs.Regrowths.{SplitsAlike, regrown_block, regrown_keeps, regrown_live, splits_alike}
 use Rattle.best_fit.proofs.Regrowths.{tree_says}
@@ -39,7 +41,7 @@ same_free ts us e = sym (free-plain us) ∙ ap (λ (vs : List Tile). free_len (f
 front_block : (m m' : Memory) (x : Extent) (k : ℕ) → k ≤ x.len → SameBlock m m' x
     → SameBlock m m' (record x { len = k })
 front_block m m' x k l s = record {
-  payload = Same-part m m' (handle x) (end_of x) (handle x) (x.offset + k) s.payload
+  payload = SameBytes-part m m' (handle x) (end_of x) (handle x) (x.offset + k) s.payload
       (omega arith) (omega arith);
   colour = s.colour;
 }
@@ -47,18 +49,18 @@ front_block m m' x k l s = record {
 -- What is known once the block has taken the gap behind it and is cut, or not: if it is, the gap that is cut off is
 -- to be put into the
 -- tree of the others.
-pub record Recut (w new : Cut) (at wanted : ℕ) (is_cut : Bool) : Type 0 where
+pub record Recut (w new : WindowState) (at wanted : ℕ) (is_cut : Bool) : Type 0 where
   pub front : List Gap
   pub gap : Gap
   pub back : List Gap
   pub node : at + wanted + 16 ≡ node_of gap
   pub lacks : is_cut ≡ true → LacksOne new front gap back
   pub few : length (front ++ back) ≤ length (gaps_in w)
-  pub whole : is_cut ≡ false → IsCut current w new (at + 16) wanted
-  pub split : is_cut ≡ true → (e : Cut) → HasTree e (front ++ (gap ∷ back)) → Regrown new e
+  pub whole : is_cut ≡ false → SplitsBlock current w new (at + 16) wanted
+  pub split : is_cut ≡ true → (e : WindowState) → HasGapTree e (front ++ (gap ∷ back)) → Regrown new e
       → IsCut current w e (at + 16) wanted
 
-module _ (w : Cut) (at : ℕ) (heap : IsHeap current w.bytes) (b : Block w (at + 16)) (wanted : ℕ) where
+module _ (w : WindowState) (at : ℕ) (heap : IsHeap current w.bytes) (b : Block w (at + 16)) (wanted : ℕ) where
   begins : b.tile.offset ≡ at
   begins = let e = b.at in omega arith
 
@@ -76,8 +78,8 @@ module _ (w : Cut) (at : ℕ) (heap : IsHeap current w.bytes) (b : Block w (at +
       ∙ ap (λ (hs : List Gap). gaps_of b.front ++ hs) (ap gaps_of (back_parts b.back)
       ∙ gaps_of-append (of_option (first_in b.back)) (rest_of b.back))
 
-  pub tree_w : HasTree w (gaps_of b.front ++ (gaps_of (of_option (first_in b.back)) ++ gaps_of (rest_of b.back)))
-  tree_w = subst (λ (hs : List Gap). HasTree w hs) gaps_w (heap_tree w heap)
+  pub tree_w : HasGapTree w (gaps_of b.front ++ (gaps_of (of_option (first_in b.back)) ++ gaps_of (rest_of b.back)))
+  tree_w = subst (λ (hs : List Gap). HasGapTree w hs) gaps_w (heap_tree w heap)
 
   abbrev x : Extent
   x = extent_of b.tile b.role
@@ -90,12 +92,13 @@ module _ (w : Cut) (at : ℕ) (heap : IsHeap current w.bytes) (b : Block w (at +
   }
 
   -- the gap behind has left the tree, after this many touches of some before
-  pub record TailUprooted (d : Cut) (before count : ℕ) : Type 0 where
-    pub tree : HasTree d (gaps_of b.front ++ gaps_of (rest_of b.back))
+  pub record TailUprooted (d : WindowState) (before count : ℕ) : Type 0 where
+    pub tree : HasGapTree d (gaps_of b.front ++ gaps_of (rest_of b.back))
     pub rest : Regrown w d
     pub steps : count ≤ before + 32 * bits (length (gaps_in w) + 1) + 34
 
-  pub tail_uprooted : (d : Cut) (before n count : ℕ) → HasTree d (gaps_of b.front ++ gaps_of (rest_of b.back))
+  pub tail_uprooted : (d : WindowState) (before n count : ℕ)
+      → HasGapTree d (gaps_of b.front ++ gaps_of (rest_of b.back))
       → Regrown w d → n ≤ before + 1
       → count ≤ n + 32
       * bits (length (gaps_of b.front ++ (gaps_of (of_option (first_in b.back)) ++ gaps_of (rest_of b.back))) + 1)
@@ -110,7 +113,7 @@ module _ (w : Cut) (at : ℕ) (heap : IsHeap current w.bytes) (b : Block w (at +
   pub few_steps : bits (length (gaps_in w) + 1) ≤ 41
   few_steps = few_bits w (gaps_in w) (heap_tree w heap)
 
-  module _ (d : Cut) (h : HasTree d (gaps_of b.front ++ gaps_of (rest_of b.back))) (r : Regrown w d) where
+  module _ (d : WindowState) (h : HasGapTree d (gaps_of b.front ++ gaps_of (rest_of b.back))) (r : Regrown w d) where
     s : SplitsAlike (tiles_in d) b.front b.tile b.back
     s = splits_alike (tiles_in d) b.front b.tile b.back (r.tiles ∙ ap (λ (ts : List Tile). map plain ts) b.list)
 
@@ -126,8 +129,8 @@ module _ (w : Cut) (at : ℕ) (heap : IsHeap current w.bytes) (b : Block w (at +
     begins_d : s.tile'.offset ≡ at
     begins_d = offset_d ∙ begins
 
-    tree_d : HasTree d (gaps_of s.front' ++ gaps_of (rest_of s.back'))
-    tree_d = subst (λ (hs : List Gap). HasTree d hs)
+    tree_d : HasGapTree d (gaps_of s.front' ++ gaps_of (rest_of s.back'))
+    tree_d = subst (λ (hs : List Gap). HasGapTree d hs)
         (sym (ap (λ (hs : List Gap). hs ++ gaps_of (rest_of s.back')) (same_gaps b.front s.front' s.fronts)
         ∙ ap (λ (hs : List Gap). gaps_of b.front ++ hs) (same_rest b.back s.back' s.backs))) h
 
@@ -147,13 +150,14 @@ module _ (w : Cut) (at : ℕ) (heap : IsHeap current w.bytes) (b : Block w (at +
     pub c_stands0 : HasTileAt d at
     c_stands0 = t_stands0 d says_d at s.front' s.tile' s.back' b.role s.list used_d begins_d wanted
 
-    module _ (mid : Cut) (join : (ts : List Tile) → SaysTiles d ts → SaysTiles mid (joined_free_at at ts))
-        (join_same : (ts : List Tile) → SaysTiles d ts → SameBesideTags d mid ts (joined_free_at at ts)) where
+    module _ (mid : WindowState) (join : (ts : List Tile) → EncodesTiles d ts → EncodesTiles mid (joined_free_at at ts))
+        (join_same : (ts : List Tile) → EncodesTiles d ts → SameExceptTags d mid ts (joined_free_at at ts)) where
       pub c_stands1 : HasTileAt mid at
       c_stands1 = t_stands1 d says_d at s.front' s.tile' s.back' b.role s.list used_d begins_d wanted mid join join_same
 
-      module _ (new : Cut) (cut : (ts : List Tile) → SaysTiles mid ts → SaysTiles new (cut_at at wanted ts))
-          (cut_same : (ts : List Tile) → SaysTiles mid ts → SameBesideTags mid new ts (cut_at at wanted ts)) where
+      module _ (new : WindowState) (cut : (ts : List Tile) → EncodesTiles mid ts
+          → EncodesTiles new (cut_at at wanted ts))
+          (cut_same : (ts : List Tile) → EncodesTiles mid ts → SameExceptTags mid new ts (cut_at at wanted ts)) where
         says_new : SaysHeap new (tiles_in new)
         says_new = t_says d says_d at s.front' s.tile' s.back' b.role s.list used_d begins_d wanted mid join
             join_same new cut cut_same
@@ -172,14 +176,14 @@ module _ (w : Cut) (at : ℕ) (heap : IsHeap current w.bytes) (b : Block w (at +
             })) (regrown_live w d r)
             ∙ ap (resized (live_of w.bytes)) y_is
 
-        keeps_new : Keeps w new (others (handle x) (live_of w.bytes).extents)
+        keeps_new : KeepsBlocks w new (others (handle x) (live_of w.bytes).extents)
         keeps_new =
             let first = keeps-others w d (at + 16) (live_of w.bytes).extents
             (regrown_keeps w d (heap-says w heap).said says_d.said r) in
-            let second = subst (λ (l : LiveSet). Keeps d new (others (at + 16) l.extents)) (regrown_live w d r)
+            let second = subst (λ (l : LiveSet). KeepsBlocks d new (others (at + 16) l.extents)) (regrown_live w d r)
             (t_keeps d says_d at s.front' s.tile' s.back' b.role s.list used_d begins_d wanted mid join
             join_same new cut cut_same) in
-            subst (λ k. Keeps w new (others (k + 16) (live_of w.bytes).extents)) (sym begins)
+            subst (λ k. KeepsBlocks w new (others (k + 16) (live_of w.bytes).extents)) (sym begins)
             (keeps-trans w d new (others (at + 16) (live_of w.bytes).extents) first second)
 
         abbrev both : Extent
@@ -229,7 +233,7 @@ module _ (w : Cut) (at : ℕ) (heap : IsHeap current w.bytes) (b : Block w (at +
             join_same new cut cut_same
 
         -- whether a rest is left
-        c_cut : (left : Bool) → ((ts : List Tile) (t : Tile) → SaysTiles mid ts → tile_in ts at ≡ Some t
+        c_cut : (left : Bool) → ((ts : List Tile) (t : Tile) → EncodesTiles mid ts → tile_in ts at ≡ Some t
             → left ≡ nat_le (wanted + 32) t.len)
             → nat_le (wanted + 32) (b.tile.len + gap_after (live_of w.bytes) (extent_of b.tile b.role)) ≡ left
         c_cut left is =
@@ -240,7 +244,7 @@ module _ (w : Cut) (at : ℕ) (heap : IsHeap current w.bytes) (b : Block w (at +
             new cut cut_same h1.tiles h1.said)))
 
         c_whole : nat_le (wanted + 32) (b.tile.len + gap_after (live_of w.bytes) (extent_of b.tile b.role)) ≡ false
-            → IsCut current w new (at + 16) wanted
+            → SplitsBlock current w new (at + 16) wanted
         c_whole e =
             let gs : gaps_in new ≡ gaps_of s.front' ++ gaps_of (rest_of s.back') =
             gaps_new ∙ ap (λ (ts : List Tile). gaps_of s.front' ++ (gaps_of ts ++ gaps_of (rest_of s.back')))
@@ -250,7 +254,7 @@ module _ (w : Cut) (at : ℕ) (heap : IsHeap current w.bytes) (b : Block w (at +
               extent = x;
               found = b.extent;
               resized = record {
-                live = subst (LaysOut current new.bytes) live_new
+                live = subst (EncodesLiveSet current new.bytes) live_new
                     (lays_out new says_new
                     (subst (λ (hs : List Gap). IsTreeOf (bytes_of new.bytes) 24 (payloads (sorted_gaps hs)))
                     (sym gs) tree_new));
@@ -293,7 +297,7 @@ module _ (w : Cut) (at : ℕ) (heap : IsHeap current w.bytes) (b : Block w (at +
             (same_gaps (tiles_in w) (tiles_in d) r.tiles) in
             omega arith
 
-        module _ (e : Cut) (planted : HasTree e (fronts ++ (rest_gap ∷ backs))) (regrown : Regrown new e)
+        module _ (e : WindowState) (planted : HasGapTree e (fronts ++ (rest_gap ∷ backs))) (regrown : Regrown new e)
             (split : nat_le (wanted + 32)
             (b.tile.len + gap_after (live_of w.bytes) (extent_of b.tile b.role)) ≡ true) where
           says_e : SaysHeap e (tiles_in e)
@@ -302,9 +306,9 @@ module _ (w : Cut) (at : ℕ) (heap : IsHeap current w.bytes) (b : Block w (at +
           gaps_e : gaps_in e ≡ fronts ++ (rest_gap ∷ backs)
           gaps_e = same_gaps (tiles_in new) (tiles_in e) regrown.tiles ∙ (c_lacks split).gaps
 
-          c_split : IsCut current w e (at + 16) wanted
+          c_split : SplitsBlock current w e (at + 16) wanted
           c_split =
-              let last = subst (λ (l : LiveSet). Keeps new e l.extents) live_new
+              let last = subst (λ (l : LiveSet). KeepsBlocks new e l.extents) live_new
               (regrown_keeps new e says_new.said says_e.said regrown) in
               let keep_last = keeps-insert new e y (others (handle x) (live_of w.bytes).extents) last in
               let l = long_d in
@@ -320,7 +324,7 @@ module _ (w : Cut) (at : ℕ) (heap : IsHeap current w.bytes) (b : Block w (at +
                 extent = x;
                 found = b.extent;
                 resized = record {
-                  live = subst (LaysOut current e.bytes) (regrown_live new e regrown ∙ live_new)
+                  live = subst (EncodesLiveSet current e.bytes) (regrown_live new e regrown ∙ live_new)
                       (lays_out e says_e
                       (subst (λ (hs : List Gap). IsTreeOf (bytes_of e.bytes) 24 (payloads (sorted_gaps hs)))
                       (sym gaps_e) planted.tree));
@@ -330,7 +334,7 @@ module _ (w : Cut) (at : ℕ) (heap : IsHeap current w.bytes) (b : Block w (at +
                 };
               }
 
-        pub recut : (left : Bool) → ((ts : List Tile) (t : Tile) → SaysTiles mid ts → tile_in ts at ≡ Some t
+        pub recut : (left : Bool) → ((ts : List Tile) (t : Tile) → EncodesTiles mid ts → tile_in ts at ≡ Some t
             → left ≡ nat_le (wanted + 32) t.len) → Recut w new at wanted left
         recut left is =
             record {

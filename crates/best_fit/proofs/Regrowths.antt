@@ -1,20 +1,20 @@
 -- What stays where only links and colours of gaps, and word 24, change.
-use Rattle.best_fit.proofs.Common.{if◌then◌else◌, Same}
+use Rattle.best_fit.proofs.Common.{if◌then◌else◌, SameBytes}
 use Rattle.best_fit.proofs.Common.{◌≡◌, refl, sym, ap, subst, ◌∙◌, ℕ, ◌+◌, ◌-◌, ◌%◌, ◌<◌, ◌≤◌, ◌⊎◌, inl, inr, Bool}
 use Rattle.best_fit.proofs.Common.{true, false, ◌&&◌, not, List, [], ◌∷◌, ◌++◌, length, arith, nat_lt, nat_le, Some}
-use Rattle.best_fit.proofs.Common.{map, cons_option, and_from, or_left, or_right, le-leb, lt-ltb, Cut, bytes_of}
-use Rattle.best_fit.proofs.Common.{word_at, Role, Tile, current, Same-word, tile_in, is_free, SaysTiles}
-use Rattle.best_fit.proofs.Common.{SameBesideTags, target_of, Gap, cells_of, lies_behind, own_from, plain, tiles_in}
-use Rattle.best_fit.proofs.Common.{is_good-Good, HasTree, Regrown, Keeps, SameBlock, as_extent, live_of}
+use Rattle.best_fit.proofs.Common.{map, cons_option, and_from, or_left, or_right, le-leb, lt-ltb, WindowState, bytes_of}
+use Rattle.best_fit.proofs.Common.{word_at, Role, Tile, current, SameBytes-word, tile_in, is_free, EncodesTiles}
+use Rattle.best_fit.proofs.Common.{SameExceptTags, target_of, Gap, cells_of, lies_behind, own_from, plain, tiles_in}
+use Rattle.best_fit.proofs.Common.{is_good-IsGoodHeap, HasGapTree, Regrown, KeepsBlocks, SameBlock, as_extent, live_of}
 use Rattle.best_fit.proofs.GapFacts.{apart_of, said_of, tile_colour}
 use Rattle.best_fit.proofs.GapSetters.{cell_stays}
-use Rattle.best_fit.proofs.Laid.{SaysHeap, said_row}
+use Rattle.best_fit.proofs.TagsAndLiveSet.{SaysHeap, said_row}
 use Rattle.best_fit.proofs.Rows.{Row, extents_of, extent_of, used-not_free}
 use Rattle.best_fit.proofs.Steps.{In, inside, tag_in, all_used}
 
 -- a window with a tree says its tiles
-pub tree_says : (c : Cut) (hs : List Gap) → HasTree c hs → SaysHeap c (tiles_in c)
-tree_says c hs h = let g = is_good-Good c h.good in record { said = said_of c g; apart = apart_of c g }
+pub tree_says : (c : WindowState) (hs : List Gap) → HasGapTree c hs → SaysHeap c (tiles_in c)
+tree_says c hs h = let g = is_good-IsGoodHeap c h.good in record { said = said_of c g; apart = apart_of c g }
 
 extents-plain : (ts : List Tile) → extents_of (map plain ts) ≡ extents_of ts
 extents-plain [] = refl
@@ -24,7 +24,7 @@ pub same_extents : (ts us : List Tile) → map plain us ≡ map plain ts → ext
 same_extents ts us e = sym (extents-plain us) ∙ ap extents_of e ∙ extents-plain ts
 
 -- the live set stays
-pub regrown_live : (c d : Cut) → Regrown c d → live_of d.bytes ≡ live_of c.bytes
+pub regrown_live : (c d : WindowState) → Regrown c d → live_of d.bytes ≡ live_of c.bytes
 unfolding live_of
 regrown_live c d r = let e = same_extents (tiles_in c) (tiles_in d) r.tiles in
     λ i. record { size = r.size i; extents = e i }
@@ -66,7 +66,8 @@ in_any t (u ∷ us) k (inr h) low high =
 own_at : (t : Tile) (b : Bool) (k : ℕ) → is_free t ≡ b → t.offset + (if b then 32 else 16) ≤ k → own_from t ≤ k
 own_at t b k e l = subst (λ (c : Bool). t.offset + (if c then 32 else 16) ≤ k) (sym e) l
 
-module _ (c d : Cut) (said : SaysTiles c (tiles_in c)) (says : SaysTiles d (tiles_in d)) (r : Regrown c d) where
+module _ (c d : WindowState) (said : EncodesTiles c (tiles_in c)) (says : EncodesTiles d (tiles_in d))
+    (r : Regrown c d) where
   row : Row 128 (tiles_in c) (length c.bytes - 16)
   row = said_row c (tiles_in c) said
 
@@ -97,7 +98,7 @@ module _ (c d : Cut) (said : SaysTiles c (tiles_in c)) (says : SaysTiles d (tile
 
   -- and the free bytes of a gap
   pub regrown_gap : (t : Tile) → In t (tiles_in c) → is_free t ≡ true
-      → Same (bytes_of c.bytes) (bytes_of d.bytes) (t.offset + 32) (t.offset + t.len)
+      → SameBytes (bytes_of c.bytes) (bytes_of d.bytes) (t.offset + 32) (t.offset + t.len)
   regrown_gap t i free = record {
     at = λ k low high.
         let j = inside 128 t (tiles_in c) (length c.bytes - 16) k row i (omega arith) high in let a = j.low in
@@ -109,7 +110,7 @@ module _ (c d : Cut) (said : SaysTiles c (tiles_in c)) (says : SaysTiles d (tile
   header : (k : ℕ) → k < 128 → (k < 24) ⊎ (32 ≤ k) → bytes_of d.bytes k ≡ bytes_of c.bytes k
   header k l away = r.bytes k (or_left (nat_lt k 128) (lies_behind (tiles_in c) k) (lt-ltb k 128 l)) away
 
-  pub regrown_keeps : Keeps c d (live_of c.bytes).extents
+  pub regrown_keeps : KeepsBlocks c d (live_of c.bytes).extents
   unfolding live_of
   regrown_keeps =
       record {
@@ -169,15 +170,15 @@ splits_alike (u ∷ us) (f ∷ fs) t back e =
 
 -- ---- a gap that stands before and afterwards
 
-module _ (old new : Cut) (ts us : List Tile) (said : SaysTiles old ts) (says : SaysTiles new us)
-    (same : SameBesideTags old new ts us) (u : Tile) (m : ℕ) (i : In u ts) (j : In u us)
+module _ (old new : WindowState) (ts us : List Tile) (said : EncodesTiles old ts) (says : EncodesTiles new us)
+    (same : SameExceptTags old new ts us) (u : Tile) (m : ℕ) (i : In u ts) (j : In u us)
     (at : u.offset + 16 ≡ m) (long : 32 ≤ u.len)
     (here : tile_in ts u.offset ≡ Some u) (there : tile_in us u.offset ≡ Some u) where
   word_stays : (k : ℕ) → m ≤ k → k + 8 ≤ m + 16 → word_at (bytes_of new.bytes) k ≡ word_at (bytes_of old.bytes) k
   word_stays k low high =
       let new_row : Row 128 us (length old.bytes - 16) = subst (λ n. Row 128 us (n - 16)) same.size
       (said_row new us says) in
-      Same-word (bytes_of old.bytes) (bytes_of new.bytes) k (k + 8) k (record {
+      SameBytes-word (bytes_of old.bytes) (bytes_of new.bytes) k (k + 8) k (record {
         at = λ l a b.
             let p = inside 128 u ts (length old.bytes - 16) l (said_row old ts said) i (omega arith) (omega arith) in
             let q = inside 128 u us (length old.bytes - 16) l new_row j (omega arith) (omega arith) in

@@ -1,16 +1,19 @@
 -- A gap is taken out of the tree, or put into it.
 use Rattle.best_fit.proofs.Common.{◌≡◌, refl, sym, ap, subst, ◌∙◌, ℕ, ◌+◌, ◌-◌, ◌≤◌, ◌⊎◌, inl, inr, Bool, true, ◌&&◌}
 use Rattle.best_fit.proofs.Common.{List, ◌∷◌, ◌++◌, length, arith, IsTrue, Option, Some, None, map, list_all}
-use Rattle.best_fit.proofs.Common.{false≢true, both_ways, cases_eq, and_from, Cut, SameBut, SamePlace, bytes_of, Tile}
-use Rattle.best_fit.proofs.Common.{is_legal_size, SaysTiles, good_tags_say_tiles, header_may_change}
+use Rattle.best_fit.proofs.Common.{false≢true, both_ways, cases_eq, and_from, WindowState, SameBytesExcept}
+use Rattle.best_fit.proofs.Common.{SameSurroundings, bytes_of, Tile}
+use Rattle.best_fit.proofs.Common.{is_legal_size, EncodesTiles, good_tags_say_tiles, header_may_change}
 use Rattle.best_fit.proofs.Common.{payload_may_change, tiles_are_read_off, Cell, Tree, leaf, fork, IsTree}
-use Rattle.best_fit.proofs.Common.{IsSearchTree, nodes_of, bits, is_in, leads, put, without, has_place, tree_same}
-use Rattle.best_fit.proofs.Common.{all_from, link_at, SameBut-link, Gap, cells_of, payloads, sorted_gaps, Kept}
+use Rattle.best_fit.proofs.Common.{IsSearchTree, nodes_of, bits, is_in, leads, put, without, is_ordered_with, tree_same}
+use Rattle.best_fit.proofs.Common.{all_from, link_at, SameBytesExcept-link, Gap, cells_of, payloads, sorted_gaps}
+use Rattle.best_fit.proofs.Common.{GapTreeFrame}
 use Rattle.best_fit.proofs.Common.{comes_before, gap_cells, gaps_of, gaps_in, is_gap_node, kept_of, links_among}
-use Rattle.best_fit.proofs.Common.{plain, tiles_in, Good, GapNode-is_gap_node, Good-is_good, is_good-Good}
-use Rattle.best_fit.proofs.Common.{is_gap_node-GapNode, AreSome, HasTree, LacksOne, Regrown, node_of}
-use Rattle.raw_region.proofs.Laws.{SameBut-wider}
-use Rattle.link_tree.specs.Tree.{root_of, Holds}
+use Rattle.best_fit.proofs.Common.{plain, tiles_in, IsGoodHeap, GapNode-is_gap_node, IsGoodHeap-is_good}
+use Rattle.best_fit.proofs.Common.{is_good-IsGoodHeap}
+use Rattle.best_fit.proofs.Common.{is_gap_node-GapNode, AreSome, HasGapTree, LacksOne, Regrown, node_of}
+use Rattle.raw_region.proofs.Laws.{SameBytesExcept-wider}
+use Rattle.link_tree.specs.Tree.{root_of, AreCellsOf}
 use Rattle.link_tree.proofs.Laws.{bits_most, in_left, in_middle, in_parts, in_right}
 use Rattle.best_fit.specs.GapLaws.{few_gaps_in}
 use Rattle.best_fit.proofs.FreeTrees.{all_gaps, fits_one, in_here, in_other, none_in, none_front, none_round, regrown}
@@ -19,40 +22,40 @@ use Rattle.best_fit.proofs.GapFacts.{NodeAt, node_from, nodes_apart, said_of}
 use Rattle.best_fit.proofs.GapOrder.{fits-sorted, in_sorted, place_sorted, put_is, sorted-around, without-inserted}
 use Rattle.best_fit.proofs.GapSetters.{beside_cell}
 use Rattle.best_fit.proofs.GapSteps.{kept_round, same_gaps}
-use Rattle.best_fit.proofs.Laid.{legal_size}
+use Rattle.best_fit.proofs.TagsAndLiveSet.{legal_size}
 use Rattle.best_fit.proofs.Rows.{is_merged-Apart}
 
 -- the steps fit
-pub few_bits : (c : Cut) (hs : List Gap) → HasTree c hs → bits (length hs + 1) ≤ 41
+pub few_bits : (c : WindowState) (hs : List Gap) → HasGapTree c hs → bits (length hs + 1) ≤ 41
 few_bits c hs h =
-    let few = h.some.few in let all = few_gaps_in c (is_good-Good c h.good) in
+    let few = h.some.few in let all = few_gaps_in c (is_good-IsGoodHeap c h.good) in
     bits_most (length hs) (omega arith)
 
-pub kept_gaps : (c d : Cut) → kept_of d ≡ kept_of c → gaps_in d ≡ gaps_in c
+pub kept_gaps : (c d : WindowState) → kept_of d ≡ kept_of c → gaps_in d ≡ gaps_in c
 unfolding kept_of
-kept_gaps c d kept = same_gaps (tiles_in c) (tiles_in d) (ap (λ (k : Kept). k.tiles) kept)
+kept_gaps c d kept = same_gaps (tiles_in c) (tiles_in d) (ap (λ (k : GapTreeFrame). k.tiles) kept)
 
-good_of : (d : Cut) (n : ℕ) → is_gap_node d n ≡ true → Good d
+good_of : (d : WindowState) (n : ℕ) → is_gap_node d n ≡ true → IsGoodHeap d
 good_of d n h = (is_gap_node-GapNode d n h).good
 
 -- ---- taken out
 
-module _ (c d e : Cut) (xs : List Gap) (g : Gap) (ys : List Gap) (node : ℕ) (is : node ≡ node_of g)
-    (h : HasTree c (xs ++ (g ∷ ys)))
+module _ (c d e : WindowState) (xs : List Gap) (g : Gap) (ys : List Gap) (node : ℕ) (is : node ≡ node_of g)
+    (h : HasGapTree c (xs ++ (g ∷ ys)))
     (root : Option ℕ)
     (shrinks : (t : Tree) → IsSearchTree (comes_before (gaps_in c)) (gap_cells c) (link_at (bytes_of c.bytes) 24) t
     → (shrunk : Tree) × IsSearchTree (comes_before (gaps_in d)) (gap_cells d) root shrunk
     × (nodes_of shrunk ≡ without node (nodes_of t)))
     (nodes : is_gap_node d ≡ is_gap_node c) (kept : kept_of d ≡ kept_of c)
     (leads_to : link_at (bytes_of e.bytes) 24 ≡ root) (size : length e.bytes ≡ length d.bytes)
-    (same : SameBut (bytes_of d.bytes) (bytes_of e.bytes) 24 8) where
+    (same : SameBytesExcept (bytes_of d.bytes) (bytes_of e.bytes) 24 8) where
   listed : is_gap_node c node ≡ true
   listed = GapNode-is_gap_node c node (record {
-    good = is_good-Good c h.good;
+    good = is_good-IsGoodHeap c h.good;
     listed = subst (λ k. is_in k (payloads (gaps_in c)) ≡ true) (sym is) (h.some.listed (node_of g) (in_here xs g ys));
   })
 
-  pub taken_good : Good d
+  pub taken_good : IsGoodHeap d
   taken_good = good_of d node (ap (λ (p : ℕ → Bool). p node) nodes ∙ listed)
 
   some_left : AreSome (gaps_in d) (xs ++ ys)
@@ -66,7 +69,7 @@ module _ (c d e : Cut) (xs : List Gap) (g : Gap) (ys : List Gap) (node : ℕ) (i
       (in_sorted node (xs ++ ys) ∙ ap (λ k. is_in k (payloads (xs ++ ys))) is
       ∙ none_in g.offset (xs ++ ys) (none_round 0 xs g ys h.some.rises))
 
-  pub taken_tree : HasTree e (xs ++ ys)
+  pub taken_tree : HasGapTree e (xs ++ ys)
   taken_tree =
       let s = shrinks h.tree.tree (search_tree c (xs ++ (g ∷ ys)) h) in
       rooted d e (xs ++ ys) s.0 root taken_good some_left s.1 (s.2 ∙ left_nodes) leads_to size same
@@ -91,7 +94,7 @@ pub closed_more : (ns ms : List ℕ) (x : Cell) → ((k : ℕ) → is_in k ns �
     → Closed ns x → Closed ms x
 closed_more ns ms x f c = record { left = among_more ns ms x.left f c.left; right = among_more ns ms x.right f c.right }
 
-pub holds_closed : (f : ℕ → Cell) (t : Tree) (m : ℕ) → Holds f t → is_in m (nodes_of t) ≡ true
+pub holds_closed : (f : ℕ → Cell) (t : Tree) (m : ℕ) → AreCellsOf f t → is_in m (nodes_of t) ≡ true
     → Closed (nodes_of t) (f m)
 holds_closed f leaf m h i = absurd (false≢true i)
 holds_closed f (fork red l n r) m h i =
@@ -114,33 +117,35 @@ holds_closed f (fork red l n r) m h i =
     ]
 
 -- where the gap of a node lies whose links may be anything
-pub lacking_node : (c : Cut) (xs : List Gap) (g : Gap) (ys : List Gap) (node : ℕ) → node ≡ node_of g
+pub lacking_node : (c : WindowState) (xs : List Gap) (g : Gap) (ys : List Gap) (node : ℕ) → node ≡ node_of g
     → LacksOne c xs g ys → NodeAt c node
 lacking_node c xs g ys node is l =
     node_from c node l.said (is_merged-Apart (tiles_in c) l.merged)
     (subst (λ k. is_in k (payloads (gaps_in c)) ≡ true) (sym is)
     (subst (λ (gs : List Gap). is_in (node_of g) (payloads gs) ≡ true) (sym l.gaps) (in_here xs g ys)))
 
-module _ (c a b : Cut) (xs : List Gap) (g : Gap) (ys : List Gap) (node : ℕ) (is : node ≡ node_of g)
+module _ (c a b : WindowState) (xs : List Gap) (g : Gap) (ys : List Gap) (node : ℕ) (is : node ≡ node_of g)
     (l : LacksOne c xs g ys)
-    (left : link_at (bytes_of a.bytes) node ≡ None) (size1 : length a.bytes ≡ length c.bytes) (place1 : SamePlace c a)
-    (same1 : SameBut (bytes_of c.bytes) (bytes_of a.bytes) node 8)
+    (left : link_at (bytes_of a.bytes) node ≡ None) (size1 : length a.bytes
+    ≡ length c.bytes) (place1 : SameSurroundings c a)
+    (same1 : SameBytesExcept (bytes_of c.bytes) (bytes_of a.bytes) node 8)
     (right : link_at (bytes_of b.bytes) (node + 8) ≡ None) (size2 : length b.bytes ≡ length a.bytes)
-    (place2 : SamePlace a b) (same2 : SameBut (bytes_of a.bytes) (bytes_of b.bytes) (node + 8) 8) where
+    (place2 : SameSurroundings a b) (same2 : SameBytesExcept (bytes_of a.bytes) (bytes_of b.bytes) (node + 8) 8) where
   at_node : NodeAt c node
   at_node = lacking_node c xs g ys node is l
 
   size : length b.bytes ≡ length c.bytes
   size = size2 ∙ size1
 
-  same : SameBut (bytes_of c.bytes) (bytes_of b.bytes) node 16
+  same : SameBytesExcept (bytes_of c.bytes) (bytes_of b.bytes) node 16
   same =
-      let one = SameBut-wider (bytes_of c.bytes) (bytes_of a.bytes) node 8 node 16 same1 (omega arith) (omega arith) in
-      let two = SameBut-wider (bytes_of a.bytes) (bytes_of b.bytes) (node + 8) 8 node 16 same2
+      let one = SameBytesExcept-wider (bytes_of c.bytes) (bytes_of a.bytes) node 8 node 16 same1 (omega arith)
+      (omega arith) in
+      let two = SameBytesExcept-wider (bytes_of a.bytes) (bytes_of b.bytes) (node + 8) 8 node 16 same2
       (omega arith) (omega arith) in
       record { at = λ k o. two.at k o ∙ one.at k o }
 
-  said_b : SaysTiles b (tiles_in c)
+  said_b : EncodesTiles b (tiles_in c)
   said_b =
       let t = at_node.free_tile in let at = t.at in let long = at_node.long in
       payload_may_change c b (tiles_in c) t.tile.offset t.tile at_node.said at_node.stands size node 16
@@ -170,7 +175,7 @@ module _ (c a b : Cut) (xs : List Gap) (g : Gap) (ys : List Gap) (node : ℕ) (i
       by_case (inr x) = inr (omega arith)
 
   left_b : link_at (bytes_of b.bytes) node ≡ None
-  left_b = SameBut-link (bytes_of a.bytes) (bytes_of b.bytes) (node + 8) 8 node same2 (inl (omega arith)) ∙ left
+  left_b = SameBytesExcept-link (bytes_of a.bytes) (bytes_of b.bytes) (node + 8) 8 node same2 (inl (omega arith)) ∙ left
 
   in_tree : (m : ℕ) → is_in m (nodes_of l.tree.tree) ≡ true → is_in m (payloads (xs ++ ys)) ≡ true
   in_tree m i = sym (in_sorted m (xs ++ ys)) ∙ ap (λ (ns : List ℕ). is_in m ns) (sym l.tree.lists) ∙ i
@@ -216,7 +221,7 @@ module _ (c a b : Cut) (xs : List Gap) (g : Gap) (ys : List Gap) (node : ℕ) (i
           (and_from (leads (λ k. is_in k (payloads (gaps_in c))) (cells_of (bytes_of c.bytes) m).left)
           (leads (λ k. is_in k (payloads (gaps_in c))) (cells_of (bytes_of c.bytes) m).right) closed.left closed.right)
 
-  good_b : Good b
+  good_b : IsGoodHeap b
   good_b =
       let legal : IsTrue (is_legal_size (length b.bytes)) = subst (λ k. IsTrue (is_legal_size k))
       (sym size) l.said.size in
@@ -235,12 +240,12 @@ module _ (c a b : Cut) (xs : List Gap) (g : Gap) (ys : List Gap) (node : ℕ) (i
         (subst (λ (gs : List Gap). is_in (node_of g) (payloads gs) ≡ true) (sym (gaps_b ∙ l.gaps)) (in_here xs g ys));
   })
 
-  pub cleared_tree : HasTree b (xs ++ ys)
+  pub cleared_tree : HasGapTree b (xs ++ ys)
   cleared_tree =
       let low = at_node.low in
-      let root = SameBut-link (bytes_of c.bytes) (bytes_of b.bytes) node 16 24 same (inl (omega arith)) in
+      let root = SameBytesExcept-link (bytes_of c.bytes) (bytes_of b.bytes) node 16 24 same (inl (omega arith)) in
       record {
-        good = Good-is_good b good_b;
+        good = IsGoodHeap-is_good b good_b;
         some = subst (λ (gs : List Gap). AreSome gs (xs ++ ys)) (sym gaps_b) some_rest;
         tree = record {
           tree = l.tree.tree;
@@ -256,12 +261,12 @@ module _ (c a b : Cut) (xs : List Gap) (g : Gap) (ys : List Gap) (node : ℕ) (i
 -- ---- put in
 
 -- a gap is put into a tree of some others
-module _ (b d e : Cut) (xs : List Gap) (g : Gap) (ys : List Gap) (node : ℕ) (is : node ≡ node_of g)
-    (whole : AreSome (gaps_in b) (xs ++ (g ∷ ys))) (h : HasTree b (xs ++ ys)) where
-  pub grown_place : has_place (comes_before (gaps_in b)) node (nodes_of h.tree.tree) ≡ true
+module _ (b d e : WindowState) (xs : List Gap) (g : Gap) (ys : List Gap) (node : ℕ) (is : node ≡ node_of g)
+    (whole : AreSome (gaps_in b) (xs ++ (g ∷ ys))) (h : HasGapTree b (xs ++ ys)) where
+  pub grown_place : is_ordered_with (comes_before (gaps_in b)) node (nodes_of h.tree.tree) ≡ true
   grown_place =
-      subst (λ (ns : List ℕ). has_place (comes_before (gaps_in b)) node ns ≡ true) (sym h.tree.lists)
-      (subst (λ k. has_place (comes_before (gaps_in b)) k (payloads (sorted_gaps (xs ++ ys))) ≡ true) (sym is)
+      subst (λ (ns : List ℕ). is_ordered_with (comes_before (gaps_in b)) node ns ≡ true) (sym h.tree.lists)
+      (subst (λ k. is_ordered_with (comes_before (gaps_in b)) k (payloads (sorted_gaps (xs ++ ys))) ≡ true) (sym is)
       (place_sorted (gaps_in b) g (xs ++ ys) (fits_one (gaps_in b) xs g ys whole.fits) h.some.fits
       (none_round 0 xs g ys whole.rises)))
 
@@ -279,26 +284,27 @@ module _ (b d e : Cut) (xs : List Gap) (g : Gap) (ys : List Gap) (node : ℕ) (i
       × (nodes_of grown ≡ put (comes_before (gaps_in b)) node (nodes_of t)))
       (node_there : is_gap_node b node ≡ true) (nodes : is_gap_node d ≡ is_gap_node b) (kept : kept_of d ≡ kept_of b)
       (leads_to : link_at (bytes_of e.bytes) 24 ≡ root) (size : length e.bytes ≡ length d.bytes)
-      (same : SameBut (bytes_of d.bytes) (bytes_of e.bytes) 24 8) where
-    grown_good : Good d
+      (same : SameBytesExcept (bytes_of d.bytes) (bytes_of e.bytes) 24 8) where
+    grown_good : IsGoodHeap d
     grown_good = good_of d node (ap (λ (p : ℕ → Bool). p node) nodes ∙ node_there)
 
-    pub grown_tree : HasTree e (xs ++ (g ∷ ys))
+    pub grown_tree : HasGapTree e (xs ++ (g ∷ ys))
     grown_tree =
         let s = grows h.tree.tree (search_tree b (xs ++ ys) h) in
         let some = subst (λ (gs : List Gap). AreSome gs (xs ++ (g ∷ ys))) (sym (kept_gaps b d kept)) whole in
         rooted d e (xs ++ (g ∷ ys)) s.0 root grown_good some s.1 (s.2 ∙ grown_nodes) leads_to size same
 
 -- the only gap that is not in the tree is put in
-module _ (c b d e : Cut) (xs : List Gap) (g : Gap) (ys : List Gap) (node : ℕ) (is : node ≡ node_of g)
-    (l : LacksOne c xs g ys) (h : HasTree b (xs ++ ys)) (cleared : kept_of b ≡ kept_of c) where
+module _ (c b d e : WindowState) (xs : List Gap) (g : Gap) (ys : List Gap) (node : ℕ) (is : node ≡ node_of g)
+    (l : LacksOne c xs g ys) (h : HasGapTree b (xs ++ ys)) (cleared : kept_of b ≡ kept_of c) where
   gaps_c : gaps_in b ≡ xs ++ (g ∷ ys)
   gaps_c = kept_gaps c b cleared ∙ l.gaps
 
   whole : AreSome (gaps_in b) (xs ++ (g ∷ ys))
-  whole = subst (λ (hs : List Gap). AreSome (gaps_in b) hs) gaps_c (all_gaps b (said_of b (is_good-Good b h.good)))
+  whole = subst (λ (hs : List Gap).
+      AreSome (gaps_in b) hs) gaps_c (all_gaps b (said_of b (is_good-IsGoodHeap b h.good)))
 
-  pub put_place : has_place (comes_before (gaps_in b)) node (nodes_of h.tree.tree) ≡ true
+  pub put_place : is_ordered_with (comes_before (gaps_in b)) node (nodes_of h.tree.tree) ≡ true
   put_place = grown_place b d e xs g ys node is whole h
 
   module _ (root : Option ℕ)
@@ -307,29 +313,32 @@ module _ (c b d e : Cut) (xs : List Gap) (g : Gap) (ys : List Gap) (node : ℕ) 
       × (nodes_of grown ≡ put (comes_before (gaps_in b)) node (nodes_of t)))
       (node_there : is_gap_node b node ≡ true) (nodes : is_gap_node d ≡ is_gap_node b) (kept : kept_of d ≡ kept_of b)
       (leads_to : link_at (bytes_of e.bytes) 24 ≡ root) (size : length e.bytes ≡ length d.bytes)
-      (same : SameBut (bytes_of d.bytes) (bytes_of e.bytes) 24 8) where
-    pub put_tree : HasTree e (xs ++ (g ∷ ys))
+      (same : SameBytesExcept (bytes_of d.bytes) (bytes_of e.bytes) 24 8) where
+    pub put_tree : HasGapTree e (xs ++ (g ∷ ys))
     put_tree = grown_tree b d e xs g ys node is whole h root grows node_there nodes kept leads_to size same
 
 -- ---- what the calls ask and answer
 
 -- a node of some gaps stands in the tree
-pub in_tree_of : (c : Cut) (hs : List Gap) (n : ℕ) → (h : HasTree c hs) → is_in n (payloads hs) ≡ true
+pub in_tree_of : (c : WindowState) (hs : List Gap) (n : ℕ) → (h : HasGapTree c hs) → is_in n (payloads hs) ≡ true
     → is_in n (nodes_of h.tree.tree) ≡ true
 in_tree_of c hs n h i = ap (λ (ns : List ℕ). is_in n ns) h.tree.lists ∙ in_sorted n hs ∙ i
 
 -- and is a node
-pub node_of_tree : (c : Cut) (hs : List Gap) (n : ℕ) → HasTree c hs → is_in n (payloads hs) ≡ true
+pub node_of_tree : (c : WindowState) (hs : List Gap) (n : ℕ) → HasGapTree c hs → is_in n (payloads hs) ≡ true
     → is_gap_node c n ≡ true
-node_of_tree c hs n h i = GapNode-is_gap_node c n (record { good = is_good-Good c h.good; listed = h.some.listed n i })
+node_of_tree c hs n h i = GapNode-is_gap_node c n (record {
+  good = is_good-IsGoodHeap c h.good;
+  listed = h.some.listed n i;
+})
 
 -- a window with a node has a header
-pub node_inside : (d : Cut) (n : ℕ) → is_gap_node d n ≡ true → 24 + 8 ≤ length d.bytes
+pub node_inside : (d : WindowState) (n : ℕ) → is_gap_node d n ≡ true → 24 + 8 ≤ length d.bytes
 node_inside d n h = let low = (legal_size (length d.bytes) (good_of d n h).size).low in omega arith
 
 -- the windows of the two calls differ as said
-pub taken_rest : (c d e : Cut) (n : ℕ) → is_gap_node d n ≡ true → kept_of d ≡ kept_of c → SamePlace d e
-    → length e.bytes ≡ length d.bytes → SameBut (bytes_of d.bytes) (bytes_of e.bytes) 24 8 → Regrown c e
+pub taken_rest : (c d e : WindowState) (n : ℕ) → is_gap_node d n ≡ true → kept_of d ≡ kept_of c → SameSurroundings d e
+    → length e.bytes ≡ length d.bytes → SameBytesExcept (bytes_of d.bytes) (bytes_of e.bytes) 24 8 → Regrown c e
 taken_rest c d e n h kept place size same =
     let said = said_of d (good_of d n h) in
     regrown c d e kept place size

@@ -3,10 +3,12 @@
 use Rattle.best_fit.proofs.Common.{◌≡◌, refl, sym, ap, subst, ◌∙◌, ℕ, ◌+◌, ◌-◌, ◌%◌, ◌<◌, ◌≤◌, ◌≢◌, Bool, true, false}
 use Rattle.best_fit.proofs.Common.{◌&&◌, ◌==◌, Some, None, List, [], ◌∷◌, arith, if◌then◌else◌, inl, inr, IsTrue}
 use Rattle.best_fit.proofs.Common.{nat_lt, ⊤, find, AllByRecursion, list_any, and_parts, leb-true, eqb-true, eq-eqb}
-use Rattle.best_fit.proofs.Common.{ne_eqb, le-leb, and_from, or_left, or_right, or_cases, SameBut-Same, SameBut-word}
-use Rattle.best_fit.proofs.Common.{Memory, Cut, SameBut, SamePlace, bytes_of, inserted, without_all, exchanged}
+use Rattle.best_fit.proofs.Common.{ne_eqb, le-leb, and_from, or_left, or_right, or_cases, SameBytesExcept-SameBytes}
+use Rattle.best_fit.proofs.Common.{SameBytesExcept-word}
+use Rattle.best_fit.proofs.Common.{Memory, WindowState, SameBytesExcept, SameSurroundings, bytes_of, inserted}
+use Rattle.best_fit.proofs.Common.{without_all, exchanged}
 use Rattle.best_fit.proofs.Common.{Extent, LiveSet, handle, end_of, holds, is_hole, is_proper, proper_from}
-use Rattle.best_fit.proofs.Common.{is_legal_size, insert, others, added, SameBlock, Keeps, extent_at, has_room}
+use Rattle.best_fit.proofs.Common.{is_legal_size, insert, others, added, SameBlock, KeepsBlocks, extent_at, has_room}
 use Rattle.std.proofs.Common.{cond}
 use Rattle.best_fit.proofs.Order.{AllByRecursion-insert_from, insert-comm, list_any-insert}
 use Rattle.best_fit.proofs.Proper.{is_hole-IsHole, insert-here, insert-past, others-here, others-past}
@@ -319,18 +321,18 @@ room-new l x n f = list_any-insert (λ (y : Extent). (handle y == handle x) && h
 
 -- ---- what stays
 
-beside-same : (m m' : Memory) (x y : Extent) (from n : ℕ) → SameBut m m' from n → handle x ≤ from
+beside-same : (m m' : Memory) (x y : Extent) (from n : ℕ) → SameBytesExcept m m' from n → handle x ≤ from
     → from + n ≤ end_of x → LiesBeside x y → SameBlock m m' y
 beside-same m m' x y from n s f g (above h) = record {
-  payload = SameBut-Same m m' from n (handle y) (end_of y) s (inl (omega arith));
-  colour = ap (λ w. w % 16) (SameBut-word m m' from n (y.offset + 8) s (inl (omega arith)));
+  payload = SameBytesExcept-SameBytes m m' from n (handle y) (end_of y) s (inl (omega arith));
+  colour = ap (λ w. w % 16) (SameBytesExcept-word m m' from n (y.offset + 8) s (inl (omega arith)));
 }
 beside-same m m' x y from n s f g (below h) = record {
-  payload = SameBut-Same m m' from n (handle y) (end_of y) s (inr (omega arith));
-  colour = ap (λ w. w % 16) (SameBut-word m m' from n (y.offset + 8) s (inr (omega arith)));
+  payload = SameBytesExcept-SameBytes m m' from n (handle y) (end_of y) s (inr (omega arith));
+  colour = ap (λ w. w % 16) (SameBytesExcept-word m m' from n (y.offset + 8) s (inr (omega arith)));
 }
 
-all-beside : (m m' : Memory) (x : Extent) (ys : List Extent) (from n : ℕ) → SameBut m m' from n
+all-beside : (m m' : Memory) (x : Extent) (ys : List Extent) (from n : ℕ) → SameBytesExcept m m' from n
     → handle x ≤ from → from + n ≤ end_of x
     → AllByRecursion (LiesBeside x) ys → AllByRecursion (SameBlock m m') ys
 all-beside m m' x [] from n s f g h = tt
@@ -338,22 +340,23 @@ all-beside m m' x (y ∷ ys) from n s f g h =
     (beside-same m m' x y from n s f g h.0, all-beside m m' x ys from n s f g h.1)
 
 -- bytes written in a block
-pub written-keeps : (a b : Cut) (x : Extent) (ys : List Extent) (from n : ℕ) → IsAlone 128 x ys → SamePlace a b
-    → SameBut (bytes_of a.bytes) (bytes_of b.bytes) from n
-    → handle x ≤ from → from + n ≤ end_of x → Keeps a b ys
+pub written-keeps : (a b : WindowState) (x : Extent) (ys : List Extent) (from n : ℕ) → IsAlone 128 x ys
+    → SameSurroundings a b
+    → SameBytesExcept (bytes_of a.bytes) (bytes_of b.bytes) from n
+    → handle x ≤ from → from + n ≤ end_of x → KeepsBlocks a b ys
 written-keeps a b x ys from n alone place s f g =
     let low = alone.from in
     record {
       place = place;
-      front = SameBut-Same (bytes_of a.bytes) (bytes_of b.bytes) from n 0 24 s (inl (omega arith));
-      behind = SameBut-Same (bytes_of a.bytes) (bytes_of b.bytes) from n 32 128 s (inl (omega arith));
+      front = SameBytesExcept-SameBytes (bytes_of a.bytes) (bytes_of b.bytes) from n 0 24 s (inl (omega arith));
+      behind = SameBytesExcept-SameBytes (bytes_of a.bytes) (bytes_of b.bytes) from n 32 128 s (inl (omega arith));
       blocks = all-beside (bytes_of a.bytes) (bytes_of b.bytes) x ys from n s f g alone.beside;
     }
 
 -- what is kept of these blocks
-pub keeps-of : (a b : Cut) (xs ys : List Extent) → Keeps a b xs
+pub keeps-of : (a b : WindowState) (xs ys : List Extent) → KeepsBlocks a b xs
     → (AllByRecursion (SameBlock (bytes_of a.bytes) (bytes_of b.bytes)) xs
-    → AllByRecursion (SameBlock (bytes_of a.bytes) (bytes_of b.bytes)) ys) → Keeps a b ys
+    → AllByRecursion (SameBlock (bytes_of a.bytes) (bytes_of b.bytes)) ys) → KeepsBlocks a b ys
 keeps-of a b xs ys k f = record { place = k.place; front = k.front; behind = k.behind; blocks = f k.blocks }
 
 -- ---- what is found

@@ -1,14 +1,15 @@
 -- The lengths of all gaps, added up along the tree of the gaps.
 use Rattle.best_fit.proofs.Common.{◌≡◌, refl, sym, ap, ◌∙◌, ℕ, ◌+◌, ◌-◌, ◌<◌, ◌≤◌, Bool, true, List, [], ◌∷◌, length}
-use Rattle.best_fit.proofs.Common.{arith, ◌==◌, cond_both, eq-eqb, or_left, or_right, Cut, current, Tile, nodes_of}
+use Rattle.best_fit.proofs.Common.{arith, ◌==◌, cond_both, eq-eqb, or_left, or_right, WindowState, current, Tile}
+use Rattle.best_fit.proofs.Common.{nodes_of}
 use Rattle.best_fit.proofs.Common.{is_in, Gap, free_bytes, precedes, insert_gap, payloads, sorted_gaps, gap_of}
-use Rattle.best_fit.proofs.Common.{gaps_in, gaps_of, len_in, tiles_in, Fits, HasTree, IsHeap, live_of}
+use Rattle.best_fit.proofs.Common.{gaps_in, gaps_of, len_in, tiles_in, HaveGapLengths, HasGapTree, IsHeap, live_of}
 use Rattle.std.specs.Prelude.{sum_by}
 use Rattle.std.specs.List.{FoldsTo}
 use Rattle.std.proofs.lemmas.List.Sums.{sum_by-cons}
 use Rattle.best_fit.proofs.Around.{row_reaches}
 use Rattle.best_fit.proofs.GapOrder.{fits-sorted}
-use Rattle.best_fit.proofs.Laid.{heap-gaps, heap-says, legal_size, said_row}
+use Rattle.best_fit.proofs.TagsAndLiveSet.{heap-gaps, heap-says, legal_size, said_row}
 use Rattle.best_fit.proofs.Rows.{Row, unused, used, use_cases, gaps_of-free, gaps_of-used}
 
 abbrev pub sum_of : List Gap → ℕ
@@ -32,7 +33,7 @@ sum-sorted (h ∷ hs) = let ih = sum-sorted hs in let one = sum-inserted h (sort
     let two = sum-first h hs in omega arith
 
 -- by the lengths of the nodes
-sum-nodes : (gs hs : List Gap) → Fits gs hs → sum_by (len_in gs) (payloads hs) ≡ sum_of hs
+sum-nodes : (gs hs : List Gap) → HaveGapLengths gs hs → sum_by (len_in gs) (payloads hs) ≡ sum_of hs
 sum-nodes gs [] f = refl
 sum-nodes gs (h ∷ hs) f =
     let ih = sum-nodes gs hs f.1 in let one = sum_by-cons (len_in gs) (h.offset + 16) (payloads hs) in
@@ -52,11 +53,12 @@ sum-row at (t ∷ ts) end r =
     ]
 
 -- the nodes of the tree have the bytes of all gaps, and they can be added up
-pub record IsSummed (c : Cut) (ns : List ℕ) : Type 0 where
+pub record IsSummed (c : WindowState) (ns : List ℕ) : Type 0 where
   pub all : sum_by (len_in (gaps_in c)) ns ≡ free_bytes (live_of c.bytes)
   pub few : sum_by (len_in (gaps_in c)) ns ≤ 1073741824
 
-pub tree_summed : (c : Cut) → IsHeap current c.bytes → (h : HasTree c (gaps_in c)) → IsSummed c (nodes_of h.tree.tree)
+pub tree_summed : (c : WindowState) → IsHeap current c.bytes → (h : HasGapTree c (gaps_in c))
+    → IsSummed c (nodes_of h.tree.tree)
 unfolding free_bytes
 tree_summed c heap h =
     let said = (heap-says c heap).said in

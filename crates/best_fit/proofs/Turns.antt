@@ -1,36 +1,37 @@
 -- A walk over the tiles of a window that changes on the way: each turn passes one tile.
 use Rattle.best_fit.proofs.Common.{◌≡◌, sym, ap, subst, ◌∙◌, ℕ, ◌-◌, ◌<◌, true, false, List, [], ◌∷◌, ◌++◌, length}
-use Rattle.best_fit.proofs.Common.{Option, Some, None, is_some, both_ways, append-nil, Cut, Tile, first_in, next_in}
-use Rattle.best_fit.proofs.Common.{HasTileAt, SaysTiles, Gap, gap_of, gaps_of}
+use Rattle.best_fit.proofs.Common.{Option, Some, None, is_some, both_ways, append-nil, WindowState, Tile, first_in}
+use Rattle.best_fit.proofs.Common.{next_in}
+use Rattle.best_fit.proofs.Common.{HasTileAt, EncodesTiles, Gap, gap_of, gaps_of}
 use Rattle.best_fit.proofs.Rows.{unused, used, use_cases, gaps_of-append, gaps_of-free, gaps_of-used}
 use Rattle.best_fit.proofs.Walks.{Meets, first_here, meets, next_here, next_nearer, none_left, passed_on, to_go}
 
 -- the tile at hand is the first of those left, and this holds of the tiles that are passed and of those
-pub record Walk (c : Cut) (P : List Tile → List Tile → Type 0) (ahead : Option Tile) : Type 0 where
+pub record Walk (c : WindowState) (P : List Tile → List Tile → Type 0) (ahead : Option Tile) : Type 0 where
   pub passed : List Tile
   pub rest : List Tile
-  pub said : SaysTiles c (passed ++ rest)
+  pub said : EncodesTiles c (passed ++ rest)
   pub here : ahead ≡ first_in rest
   pub holds : P passed rest
 
-pub walk_start : (c : Cut) (P : List Tile → List Tile → Type 0) (ts : List Tile) → SaysTiles c ts → P [] ts
-    → (ahead : Option Tile) → ((us : List Tile) → SaysTiles c us → ahead ≡ first_in us) → Walk c P ahead
+pub walk_start : (c : WindowState) (P : List Tile → List Tile → Type 0) (ts : List Tile) → EncodesTiles c ts → P [] ts
+    → (ahead : Option Tile) → ((us : List Tile) → EncodesTiles c us → ahead ≡ first_in us) → Walk c P ahead
 walk_start c P ts said holds ahead is = record { passed = []; rest = ts; said = said; here = is ts said; holds = holds }
 
 -- the tile that the walk has come to
-pub record Turn (c : Cut) (P : List Tile → List Tile → Type 0) (tile : Tile) : Type 0 where
+pub record Turn (c : WindowState) (P : List Tile → List Tile → Type 0) (tile : Tile) : Type 0 where
   pub passed : List Tile
   pub back : List Tile
-  pub said : SaysTiles c (passed ++ (tile ∷ back))
+  pub said : EncodesTiles c (passed ++ (tile ∷ back))
   pub holds : P passed (tile ∷ back)
   pub meets : Meets c tile
 
-pub turn : (c : Cut) (P : List Tile → List Tile → Type 0) (ahead : Option Tile) → Walk c P ahead → (tile : Tile)
+pub turn : (c : WindowState) (P : List Tile → List Tile → Type 0) (ahead : Option Tile) → Walk c P ahead → (tile : Tile)
     → ahead ≡ Some tile → Turn c P tile
 turn c P ahead w tile is =
     let h = first_here tile ahead w.rest is w.here in
-    let said : SaysTiles c (w.passed ++ (tile ∷ h.back)) =
-    subst (λ (ts : List Tile). SaysTiles c (w.passed ++ ts)) h.list w.said in
+    let said : EncodesTiles c (w.passed ++ (tile ∷ h.back)) =
+    subst (λ (ts : List Tile). EncodesTiles c (w.passed ++ ts)) h.list w.said in
     record {
       passed = w.passed;
       back = h.back;
@@ -40,31 +41,32 @@ turn c P ahead w tile is =
     }
 
 -- The tile at an offset is passed: what is left of the walk are the tiles behind it. Its colour may have changed.
-pub record Passed (c : Cut) (P : List Tile → List Tile → Type 0) (at : ℕ) : Type 0 where
+pub record Passed (c : WindowState) (P : List Tile → List Tile → Type 0) (at : ℕ) : Type 0 where
   pub passed : List Tile
   pub tile : Tile
   pub back : List Tile
-  pub said : SaysTiles c (passed ++ (tile ∷ back))
+  pub said : EncodesTiles c (passed ++ (tile ∷ back))
   pub offset : tile.offset ≡ at
   pub holds : P (passed ++ (tile ∷ [])) back
 
-pub passed_has : (c : Cut) (P : List Tile → List Tile → Type 0) (at : ℕ) → Passed c P at → HasTileAt c at
+pub passed_has : (c : WindowState) (P : List Tile → List Tile → Type 0) (at : ℕ) → Passed c P at → HasTileAt c at
 passed_has c P at p = subst (HasTileAt c) p.offset (meets c p.passed p.tile p.back p.said).has
 
 -- in an equal window
-pub passed_in : (P : Cut → List Tile → List Tile → Type 0) (at : ℕ) (c d : Cut) → d ≡ c
+pub passed_in : (P : WindowState → List Tile → List Tile → Type 0) (at : ℕ) (c d : WindowState) → d ≡ c
     → Passed c (P c) at → Passed d (P d) at
-passed_in P at c d e p = let Q : Cut → Type 0 = λ (x : Cut). Passed x (P x) at in subst Q (sym e) p
+passed_in P at c d e p = let Q : WindowState → Type 0 = λ (x : WindowState). Passed x (P x) at in subst Q (sym e) p
 
 -- the tile behind it is the next one
-behind_it : (c : Cut) (P : List Tile → List Tile → Type 0) (at : ℕ) → (p : Passed c P at) → (next : Option Tile)
-    → ((ts : List Tile) → SaysTiles c ts → next ≡ next_in ts at) → next ≡ first_in p.back
+behind_it : (c : WindowState) (P : List Tile → List Tile → Type 0) (at : ℕ) → (p : Passed c P at) → (next : Option Tile)
+    → ((ts : List Tile) → EncodesTiles c ts → next ≡ next_in ts at) → next ≡ first_in p.back
 behind_it c P at p next is =
     next_here c p.passed p.tile p.back p.said next
-    (subst (λ k. (ts : List Tile) → SaysTiles c ts → next ≡ next_in ts k) (sym p.offset) is)
+    (subst (λ k. (ts : List Tile) → EncodesTiles c ts → next ≡ next_in ts k) (sym p.offset) is)
 
-pub passed_goes_on : (c : Cut) (P : List Tile → List Tile → Type 0) (at : ℕ) → Passed c P at → (next : Option Tile)
-    → ((ts : List Tile) → SaysTiles c ts → next ≡ next_in ts at) → Walk c P next
+pub passed_goes_on : (c : WindowState) (P : List Tile → List Tile → Type 0) (at : ℕ) → Passed c P at
+    → (next : Option Tile)
+    → ((ts : List Tile) → EncodesTiles c ts → next ≡ next_in ts at) → Walk c P next
 passed_goes_on c P at p next is =
     record {
       passed = p.passed ++ (p.tile ∷ []);
@@ -74,9 +76,10 @@ passed_goes_on c P at p next is =
       holds = p.holds;
     }
 
-pub passed_nearer : (c : Cut) (P : List Tile → List Tile → Type 0) (n : ℕ) (tile : Tile) → Passed c P tile.offset
+pub passed_nearer : (c : WindowState) (P : List Tile → List Tile → Type 0) (n : ℕ) (tile : Tile)
+    → Passed c P tile.offset
     → length c.bytes ≡ n → (ahead next : Option Tile) → ahead ≡ Some tile
-    → ((ts : List Tile) → SaysTiles c ts → next ≡ next_in ts tile.offset) → to_go n next < to_go n ahead
+    → ((ts : List Tile) → EncodesTiles c ts → next ≡ next_in ts tile.offset) → to_go n next < to_go n ahead
 passed_nearer c P n tile p size ahead next here is =
     subst (λ (o : Option Tile). to_go n next < to_go n o) (sym here)
     (subst (λ k. to_go n next < n - k) p.offset
@@ -84,19 +87,19 @@ passed_nearer c P n tile p size ahead next here is =
     (next_nearer c p.passed p.tile p.back p.said next (behind_it c P tile.offset p next is))))
 
 -- at the end all tiles are passed
-pub record Ended (c : Cut) (P : List Tile → List Tile → Type 0) : Type 0 where
+pub record Ended (c : WindowState) (P : List Tile → List Tile → Type 0) : Type 0 where
   pub tiles : List Tile
-  pub said : SaysTiles c tiles
+  pub said : EncodesTiles c tiles
   pub holds : P tiles []
 
-pub walk_end : (c : Cut) (P : List Tile → List Tile → Type 0) (ahead : Option Tile) → Walk c P ahead
+pub walk_end : (c : WindowState) (P : List Tile → List Tile → Type 0) (ahead : Option Tile) → Walk c P ahead
     → ahead ≡ None → Ended c P
 walk_end c P ahead w end =
     let none = none_left w.rest (sym end ∙ w.here) in
     record {
       tiles = w.passed;
-      said = subst (SaysTiles c) (append-nil w.passed)
-          (subst (λ (ts : List Tile). SaysTiles c (w.passed ++ ts)) none w.said);
+      said = subst (EncodesTiles c) (append-nil w.passed)
+          (subst (λ (ts : List Tile). EncodesTiles c (w.passed ++ ts)) none w.said);
       holds = subst (P w.passed) none w.holds;
     }
 

@@ -1,16 +1,16 @@
 -- Two ranges lent together, of which the first stays as it is.
 use Rattle.best_fit.proofs.Common.{◌≡◌, refl, sym, ap, subst, ◌∙◌, ℕ, ◌+◌, ◌-◌, ◌≤◌, inl, inr, List, ◌++◌, length}
-use Rattle.best_fit.proofs.Common.{take, drop, zero-add, arith, length_refill, refill, slice_index, Cut, part}
+use Rattle.best_fit.proofs.Common.{take, drop, zero-add, arith, length_refill, refill, slice_index, WindowState, part}
 use Rattle.best_fit.proofs.Common.{patched, length-part, length-patched, part-at, refill-all, whole-cut_at, Tile}
 use Rattle.best_fit.proofs.Common.{current, IsHeap, live_of, payload_at, tiles_in}
 use Rattle.std.specs.Fn.{Once}
 use denote.Ref.{Bor, MutBor}
-use Rattle.raw_region.specs.Regions.{IsApart}
+use Rattle.raw_region.specs.Regions.{AreDisjoint}
 use Rattle.raw_region.specs.LentTwo.{with_two}
 use Rattle.raw_region.proofs.Laws.{patched-all, same_bytes}
 use Rattle.best_fit.specs.Pairs.{CallsOnTwo}
 use Rattle.best_fit.proofs.GapFacts.{Disjoint, in_around, row_disjoint}
-use Rattle.best_fit.proofs.Laid.{heap-says, said_row}
+use Rattle.best_fit.proofs.TagsAndLiveSet.{heap-says, said_row}
 use Rattle.best_fit.proofs.Steps.{In}
 use Rattle.best_fit.proofs.Writes.{Block, block_payload}
 
@@ -75,8 +75,9 @@ all_lent b B N size from n us s e h is =
     ap (λ (v : List ℕ). patched b 0 v) (refill-all size (part b 0 size) N (len ∙ sym s)) ∙ patched-all b N len ∙ N_is
 
 -- two blocks have no byte in common
-pub blocks_apart : (w : Cut) (h g n m : ℕ) → IsHeap current w.bytes → (b : Block w h) → (d : Block w g) → (h ≡ g → ⊥)
-    → n ≡ b.tile.len - 16 → m ≡ d.tile.len - 16 → IsApart h n g m
+pub blocks_apart : (w : WindowState) (h g n m : ℕ) → IsHeap current w.bytes → (b : Block w h) → (d : Block w g)
+    → (h ≡ g → ⊥)
+    → n ≡ b.tile.len - 16 → m ≡ d.tile.len - 16 → AreDisjoint h n g m
 blocks_apart w h g n m heap b d other e f =
     let row = said_row w (tiles_in w) (heap-says w heap).said in
     let i : In b.tile (tiles_in w) = subst (λ (ts : List Tile). In b.tile ts) (sym b.list)
@@ -85,15 +86,16 @@ blocks_apart w h g n m heap b d other e f =
     (in_around d.front d.tile d.back) in
     by_case (row_disjoint 128 (tiles_in w) (length w.bytes - 16) b.tile d.tile row i j)
   where
-    by_case : Disjoint b.tile d.tile → IsApart h n g m
+    by_case : Disjoint b.tile d.tile → AreDisjoint h n g m
     by_case (inl same) = let o = b.at in let p = d.at in let q : b.tile.offset ≡ d.tile.offset =
         ap (λ (t : Tile). t.offset) same in absurd (other (omega arith))
     by_case (inr (inl l)) = let o = b.at in let p = d.at in let long = b.long in inr (inr (inl (omega arith)))
     by_case (inr (inr l)) = let o = b.at in let p = d.at in let long = d.long in inr (inr (inr (omega arith)))
 
 -- a part of all bytes is the payload of a block
-pub payload_lent : (v w : Cut) (B : List ℕ) (size h n : ℕ) → v ≡ w → size ≡ length w.bytes → B ≡ part w.bytes 0 size
+pub payload_lent : (v w : WindowState) (B : List ℕ) (size h n : ℕ) → v ≡ w → size ≡ length w.bytes
+    → B ≡ part w.bytes 0 size
     → (b : Block w h) → n ≡ b.tile.len - 16 → part B h n ≡ payload_at v.bytes (live_of v.bytes) h
 payload_lent v w B size h n e s lent b len =
     ap (λ (x : List ℕ). part x h n) (lent ∙ whole_part w.bytes size s) ∙ ap (part w.bytes h) len
-    ∙ sym (block_payload w h b) ∙ ap (λ (u : Cut). payload_at u.bytes (live_of u.bytes) h) (sym e)
+    ∙ sym (block_payload w h b) ∙ ap (λ (u : WindowState). payload_at u.bytes (live_of u.bytes) h) (sym e)

@@ -2,12 +2,12 @@
 use Rattle.best_fit.proofs.Common.{◌≡◌, refl, sym, ap, subst, ◌∙◌, inl, inr, ◌⊎◌, ℕ, ◌+◌, ◌-◌, ◌%◌, ◌<◌, ◌≤◌, Bool}
 use Rattle.best_fit.proofs.Common.{true, false, ◌==◌, Option, Some, None, List, [], ◌∷◌, min, arith, if◌then◌else◌}
 use Rattle.best_fit.proofs.Common.{IsTrue, nat_le, nat_lt, option_map, eq-eqb, le-leb, lt-leb, lt-ltb, or_left}
-use Rattle.best_fit.proofs.Common.{or_right, AllByRecursion, same_Some, Memory, Cut, bytes_of, word_at, current}
+use Rattle.best_fit.proofs.Common.{or_right, AllByRecursion, same_Some, Memory, WindowState, bytes_of, word_at, current}
 use Rattle.best_fit.proofs.Common.{Storage, Extent, LiveSet, handle, end_of, holds, is_proper, added, gap_after}
 use Rattle.best_fit.proofs.Common.{insert, is_extent, longer, others, place, regrow, released, resized, room, share}
-use Rattle.best_fit.proofs.Common.{shorter, IsAllocated, IsExtended, IsHeap, IsReleased, IsResized, IsShortened}
-use Rattle.best_fit.proofs.Common.{Keeps, LaysOut, SameBlock, extent_at, live_of, Role}
-use Rattle.best_fit.specs.Exchange.{IsNotWidened, IsRestored, IsWidened}
+use Rattle.best_fit.proofs.Common.{shorter, AllocatesOk, TryExtends, IsHeap, Deallocates, ResizesBlock, ShrinksInPlace}
+use Rattle.best_fit.proofs.Common.{KeepsBlocks, EncodesLiveSet, SameBlock, extent_at, live_of, Role}
+use Rattle.best_fit.specs.Exchange.{CannotWiden, KeepsLiveSet, WidensBlock}
 use Rattle.best_fit.proofs.Changes.{IsNeighbour, is_extent-IsNeighbour, is_proper-IsProper, is_proper-longer, next_to}
 use Rattle.best_fit.proofs.Frames.{SameBlock-refl, keeps-refl, keeps-trans}
 use Rattle.best_fit.proofs.LayOut.{lay_out_one}
@@ -137,9 +137,9 @@ short-of : (x : Extent) (n r : ℕ) → x.len - 16 ≡ r → r < n → holds x n
 short-of x n r e f = lt-leb (n + 16) x.len (omega (arith, e, f))
 
 -- it was lengthened
-pub wide-longer : (old new : Cut) (h n : ℕ) (result : Bool) (r : ℕ) → IsHeap current old.bytes
+pub wide-longer : (old new : WindowState) (h n : ℕ) (result : Bool) (r : ℕ) → IsHeap current old.bytes
     → option_map (λ (x : Extent). x.len - 16) (extent_at (live_of old.bytes) h) ≡ Some r → r < n
-    → IsExtended current old new h n result → result ≡ true → IsWidened current old new h n
+    → TryExtends current old new h n result → result ≡ true → WidensBlock current old new h n
 wide-longer old new h n result r heap f less e is =
     let l : LiveSet = live_of old.bytes in
     let x : Extent = e.extent in
@@ -161,16 +161,16 @@ wide-longer old new h n result r heap f less e is =
       begins = refl;
       longer = omega (arith, more);
       regrown = regrow-short l x n (Some a.after) short a.longer ∙ ap (λ (z : Extent). Some z) (sym g.same);
-      change = subst (λ (z : Extent). IsResized current old new x z) (sym g.same) a.resized;
+      change = subst (λ (z : Extent). ResizesBlock current old new x z) (sym g.same) a.resized;
       undone = undo l h x n heap.proper b g.short g.fits q;
       back = back-live l h x s b;
       same = λ is. let less = ap (λ (z : Extent). z.len) is in absurd (omega (arith, more));
     }
 
 -- it was not
-pub not-wide : (old new : Cut) (h n : ℕ) (result : Bool) (r : ℕ) → option_map (λ (x : Extent). x.len - 16)
+pub not-wide : (old new : WindowState) (h n : ℕ) (result : Bool) (r : ℕ) → option_map (λ (x : Extent). x.len - 16)
     (extent_at (live_of old.bytes) h) ≡ Some r → r < n
-    → IsExtended current old new h n result → result ≡ false → IsNotWidened old new h n
+    → TryExtends current old new h n result → result ≡ false → CannotWiden old new h n
 not-wide old new h n result r f less e is =
     let l : LiveSet = live_of old.bytes in
     let no = not_lengthened old new h n result e.extent e.found e is in
@@ -178,8 +178,9 @@ not-wide old new h n result r f less e is =
     record { before = e.extent; found = e.found; regrown = regrow-short l e.extent n None short no.0; same = no.1 }
 
 -- it had the room
-wide-held : (c : Cut) (h n : ℕ) (o : Option Extent) (r : ℕ) → IsHeap current c.bytes → extent_at (live_of c.bytes) h
-    ≡ o → option_map (λ (x : Extent). x.len - 16) o ≡ Some r → n ≤ r → IsWidened current c c h n
+wide-held : (c : WindowState) (h n : ℕ) (o : Option Extent) (r : ℕ) → IsHeap current c.bytes
+    → extent_at (live_of c.bytes) h
+    ≡ o → option_map (λ (x : Extent). x.len - 16) o ≡ Some r → n ≤ r → WidensBlock current c c h n
 wide-held c h n None r heap e f g = absurd (cc)
 wide-held c h n (Some x) r heap e f g =
     let l : LiveSet = live_of c.bytes in
@@ -200,7 +201,7 @@ wide-held c h n (Some x) r heap e f g =
       longer = omega arith;
       regrown = regrow-held l x n (le-leb (n + 16) x.len (omega (arith, is, g, long)));
       change = record {
-        live = subst (LaysOut current c.bytes) (sym same) heap;
+        live = subst (EncodesLiveSet current c.bytes) (sym same) heap;
         keeps = keeps-refl c (others (handle x) l.extents);
         still = SameBlock-refl (bytes_of c.bytes) (record x { len = min x.len x.len });
       };
@@ -210,8 +211,8 @@ wide-held c h n (Some x) r heap e f g =
       same = λ is. refl;
     }
 
-pub wide-same : (c : Cut) (h n r : ℕ) → IsHeap current c.bytes → option_map (λ (x : Extent). x.len - 16)
-    (extent_at (live_of c.bytes) h) ≡ Some r → n ≤ r → IsWidened current c c h n
+pub wide-same : (c : WindowState) (h n r : ℕ) → IsHeap current c.bytes → option_map (λ (x : Extent). x.len - 16)
+    (extent_at (live_of c.bytes) h) ≡ Some r → n ≤ r → WidensBlock current c c h n
 wide-same c h n r heap f g = wide-held c h n (extent_at (live_of c.bytes) h) r heap refl f g
 
 -- ---- what was taken or lengthened is given back
@@ -227,9 +228,9 @@ own-still m0 m1 m2 x y e f p q = record {
   colour = subst (λ at. word_at m2 (at + 8) % 16 ≡ word_at m1 (at + 8) % 16) e q.colour ∙ p.colour;
 }
 
-pub widened-back : (first mid new : Cut) (h n k : ℕ) → IsHeap current first.bytes
-    → (w : IsWidened current first mid h n) → k ≡ w.before.len - 16 → IsShortened current mid new h k
-    → IsRestored current first new
+pub widened-back : (first mid new : WindowState) (h n k : ℕ) → IsHeap current first.bytes
+    → (w : WidensBlock current first mid h n) → k ≡ w.before.len - 16 → ShrinksInPlace current mid new h k
+    → KeepsLiveSet current first new
 widened-back first mid new h n k heap w k_is s =
     let l : LiveSet = live_of first.bytes in
     let x : Extent = w.before in
@@ -243,15 +244,16 @@ widened-back first mid new h n k heap w k_is s =
     let same : s.extent ≡ y = same_Some _ _ (sym s.found ∙ there) in
     let cut : shorter (live_of mid.bytes) y k ≡ x = ap (λ (s : LiveSet). shorter s y k) m_is
     ∙ ap (shorter (resized l y) y) k_is ∙ w.undone in
-    let r : IsResized current mid new y x = subst (IsResized current mid new y) cut
-    (subst (λ (z : Extent). IsResized current mid new z (shorter (live_of mid.bytes) z k)) same s.shortened) in
-    let laid : LaysOut current new.bytes l = subst (LaysOut current new.bytes)
+    let r : ResizesBlock current mid new y x = subst (ResizesBlock current mid new y) cut
+    (subst (λ (z : Extent). ResizesBlock current mid new z (shorter (live_of mid.bytes) z k)) same s.shortened) in
+    let laid : EncodesLiveSet current new.bytes l = subst (EncodesLiveSet current new.bytes)
     (ap (λ (s : LiveSet). resized s x) m_is ∙ w.back) r.live in
-    let second : Keeps mid new zs = subst (Keeps mid new) (ap (λ (s : LiveSet). others (handle y) s.extents) m_is
+    let second : KeepsBlocks mid new zs =
+    subst (KeepsBlocks mid new) (ap (λ (s : LiveSet). others (handle y) s.extents) m_is
     ∙ others-insert y zs fresh.differs) r.keeps in
-    let first_kept : Keeps first mid zs = subst (λ i. Keeps first mid (others i l.extents))
+    let first_kept : KeepsBlocks first mid zs = subst (λ i. KeepsBlocks first mid (others i l.extents))
     (sym w.begins) w.change.keeps in
-    let k2 : Keeps first new zs = keeps-trans first mid new zs first_kept second in
+    let k2 : KeepsBlocks first new zs = keeps-trans first mid new zs first_kept second in
     let begins : handle y ≡ handle x = w.begins in
     let own : SameBlock (bytes_of first.bytes) (bytes_of new.bytes) x = own-still (bytes_of first.bytes)
     (bytes_of mid.bytes) (bytes_of new.bytes) x y (omega (arith, begins)) w.longer w.change.still r.still in
@@ -268,8 +270,8 @@ widened-back first mid new h n k heap w k_is s =
       };
     }
 
-pub taken-back : (first mid new : Cut) (n g : ℕ) (role : Role) → (a : IsAllocated current first mid n role g)
-    → IsReleased current mid new g → IsRestored current first new
+pub taken-back : (first mid new : WindowState) (n g : ℕ) (role : Role) → (a : AllocatesOk current first mid n role g)
+    → Deallocates current mid new g → KeepsLiveSet current first new
 taken-back first mid new n g role a r =
     let l : LiveSet = live_of first.bytes in
     let y : Extent = a.extent in
@@ -278,8 +280,8 @@ taken-back first mid new n g role a r =
     let left : others g (live_of mid.bytes).extents ≡ l.extents = ap (λ (s : LiveSet). others g s.extents) m_is
     ∙ ap (λ i. others i (insert y l.extents)) a.at ∙ others-insert y l.extents fresh.differs in
     record {
-      laid = subst (LaysOut current new.bytes) (ap (λ (s : LiveSet). released s g) m_is
+      laid = subst (EncodesLiveSet current new.bytes) (ap (λ (s : LiveSet). released s g) m_is
           ∙ ap (λ (xs : List Extent). let s : LiveSet = record l { extents = xs } in s)
           (ap (λ i. others i (insert y l.extents)) a.at ∙ others-insert y l.extents fresh.differs)) r.live;
-      keeps = keeps-trans first mid new l.extents a.keeps (subst (Keeps mid new) left r.keeps);
+      keeps = keeps-trans first mid new l.extents a.keeps (subst (KeepsBlocks mid new) left r.keeps);
     }

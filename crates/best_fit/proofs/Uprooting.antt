@@ -1,7 +1,8 @@
 -- A tile that is free is taken out of the tree, and any other is not in it.
 use Rattle.best_fit.proofs.Common.{◌≡◌, refl, sym, ap, subst, ◌∙◌, ℕ, ◌+◌, ◌≤◌, true, List, [], ◌∷◌, ◌++◌, length}
-use Rattle.best_fit.proofs.Common.{arith, Option, Some, None, cond-true, cond-false, same_Some, Cut, Tile, is_free}
-use Rattle.best_fit.proofs.Common.{is_in, none_some, Gap, payloads, gaps_of, is_good-Good, HasTree, Regrown}
+use Rattle.best_fit.proofs.Common.{arith, Option, Some, None, cond-true, cond-false, same_Some, WindowState, Tile}
+use Rattle.best_fit.proofs.Common.{is_free}
+use Rattle.best_fit.proofs.Common.{is_in, none_some, Gap, payloads, gaps_of, is_good-IsGoodHeap, HasGapTree, Regrown}
 use Rattle.best_fit.proofs.Common.{gap_offset, of_option, offset_of}
 use Rattle.best_fit.proofs.FreeTrees.{in_here}
 use Rattle.best_fit.proofs.GapFacts.{node_at}
@@ -40,9 +41,9 @@ option_few (Some t) =
 
 -- ---- one that is there
 
-module _ (c : Cut) (xs gs ys : List Gap) (at : ℕ) (o : One gs at) (h : HasTree c (xs ++ (gs ++ ys))) where
-  pub one_tree : HasTree c (xs ++ (o.gap ∷ ys))
-  one_tree = subst (λ (ks : List Gap). HasTree c (xs ++ (ks ++ ys))) o.list h
+module _ (c : WindowState) (xs gs ys : List Gap) (at : ℕ) (o : One gs at) (h : HasGapTree c (xs ++ (gs ++ ys))) where
+  pub one_tree : HasGapTree c (xs ++ (o.gap ∷ ys))
+  one_tree = subst (λ (ks : List Gap). HasGapTree c (xs ++ (ks ++ ys))) o.list h
 
   pub one_listed : is_in (at + 16) (payloads (xs ++ (gs ++ ys))) ≡ true
   one_listed =
@@ -52,14 +53,15 @@ module _ (c : Cut) (xs gs ys : List Gap) (at : ℕ) (o : One gs at) (h : HasTree
   pub one_small : at + 16 ≤ 1073741824
   one_small =
       let d = node_at c (at + 16)
-      (record { good = is_good-Good c h.good; listed = h.some.listed (at + 16) one_listed }) in
+      (record { good = is_good-IsGoodHeap c h.good; listed = h.some.listed (at + 16) one_listed }) in
       let long = d.long in let ends = d.ends in let size = d.size in omega arith
 
-pub none_tree : (c : Cut) (xs gs ys : List Gap) → gs ≡ [] → HasTree c (xs ++ (gs ++ ys)) → HasTree c (xs ++ ys)
-none_tree c xs gs ys e h = subst (λ (ks : List Gap). HasTree c (xs ++ (ks ++ ys))) e h
+pub none_tree : (c : WindowState) (xs gs ys : List Gap) → gs ≡ [] → HasGapTree c (xs ++ (gs ++ ys))
+    → HasGapTree c (xs ++ ys)
+none_tree c xs gs ys e h = subst (λ (ks : List Gap). HasGapTree c (xs ++ (ks ++ ys))) e h
 
 -- what does not change is regrown
-pub regrown-refl : (c : Cut) → Regrown c c
+pub regrown-refl : (c : WindowState) → Regrown c c
 regrown-refl c = record {
   place = record { before = refl; after = refl };
   size = refl;

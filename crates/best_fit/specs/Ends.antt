@@ -1,10 +1,10 @@
 -- A heap whose window ends elsewhere in its region.
 use Rattle.std.specs.Prelude.{◌≡◌, ℕ, ◌+◌, ◌-◌, List, [], ◌∷◌, ◌++◌, length, drop}
 use Rattle.std.specs.List.{AllByRecursion}
-use Rattle.raw_region.specs.Memory.{Cut, Same, bytes_of, whole}
+use Rattle.raw_region.specs.Memory.{WindowState, SameBytes, bytes_of, whole}
 use Rattle.block_tags.specs.declared.tile.Role.TheVariants.{Object}
 use Rattle.best_fit.specs.Extents.{Extent, LiveSet, end_of}
-use Rattle.best_fit.specs.Heap.{LaysOut, SameBlock, live_of}
+use Rattle.best_fit.specs.Heap.{EncodesLiveSet, SameBlock, live_of}
 
 -- where the last of the extents ends, or an offset where there is none
 abbrev pub last_end : ℕ → List Extent → ℕ
@@ -21,22 +21,22 @@ of_size live size = record live { size = size }
 
 -- the window begins where it began and has so many bytes; the region is as long as before, and what lies behind both
 -- ends stays
-pub record EndsAt (old new : Cut) (size : ℕ) : Type 0 where
+pub record EndsAt (old new : WindowState) (size : ℕ) : Type 0 where
   pub before : new.before ≡ old.before
   pub bytes : length new.bytes ≡ size
   pub capacity : length (whole new) ≡ length (whole old)
   pub after : drop (length old.bytes - size) new.after ≡ drop (size - length old.bytes) old.after
 
 -- the window ends elsewhere; each header word but 24, and these blocks stay
-pub record KeepsTo (old new : Cut) (size : ℕ) (xs : List Extent) : Type 0 where
+pub record KeepsTo (old new : WindowState) (size : ℕ) (xs : List Extent) : Type 0 where
   pub place : EndsAt old new size
-  pub front : Same (bytes_of old.bytes) (bytes_of new.bytes) 0 24
-  pub behind : Same (bytes_of old.bytes) (bytes_of new.bytes) 32 128
+  pub front : SameBytes (bytes_of old.bytes) (bytes_of new.bytes) 0 24
+  pub behind : SameBytes (bytes_of old.bytes) (bytes_of new.bytes) 32 128
   pub blocks : AllByRecursion (SameBlock (bytes_of old.bytes) (bytes_of new.bytes)) xs
 
 -- the window has so many bytes, and the same blocks are in use
-pub record HasEndMoved (format : ℕ) (old new : Cut) (size : ℕ) : Type 0 where
-  pub live : LaysOut format new.bytes (of_size (live_of old.bytes) size)
+pub record MovesEnd (format : ℕ) (old new : WindowState) (size : ℕ) : Type 0 where
+  pub live : EncodesLiveSet format new.bytes (of_size (live_of old.bytes) size)
   pub keeps : KeepsTo old new size (live_of old.bytes).extents
 
 -- the block of so many bytes behind a segment of a size
@@ -44,6 +44,9 @@ abbrev pub block_behind : ℕ → ℕ → Extent
 block_behind size extra = record { offset = size - 16; len = extra; role = Object }
 
 -- the window has so many bytes more, which are a block in use behind all others
-pub record HasBlockBehind (format : ℕ) (old new : Cut) (extra : ℕ) : Type 0 where
-  pub live : LaysOut format new.bytes (record { size = length old.bytes + extra; extents = (live_of old.bytes).extents ++ block_behind (length old.bytes) extra ∷ [] })
+pub record AppendsBlock (format : ℕ) (old new : WindowState) (extra : ℕ) : Type 0 where
+  pub live : EncodesLiveSet format new.bytes (record {
+    size = length old.bytes + extra;
+    extents = (live_of old.bytes).extents ++ block_behind (length old.bytes) extra ∷ [];
+  })
   pub keeps : KeepsTo old new (length old.bytes + extra) (live_of old.bytes).extents

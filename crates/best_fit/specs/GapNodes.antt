@@ -1,8 +1,9 @@
 -- The gaps of a window as the nodes of a tree: each is named by its payload, where its two links stand, and its colour
 -- is in its tag.
-use Rattle.std.specs.Prelude.{ℕ, ◌+◌, Bool, false, ◌&&◌, ◌||◌, not, Option, Some, None, List, length, map, filter_map, find, ◌==◌, nat_le, nat_lt, if◌then◌else◌}
+use Rattle.std.specs.Prelude.{ℕ, ◌+◌, Bool, false, ◌&&◌, ◌||◌, not, Option, Some, None, List, length, map, filter_map}
+use Rattle.std.specs.Prelude.{find, ◌==◌, nat_le, nat_lt, if◌then◌else◌}
 use Rattle.std.specs.List.{list_all, list_any}
-use Rattle.raw_region.specs.Memory.{Memory, Cut, bytes_of}
+use Rattle.raw_region.specs.Memory.{Memory, WindowState, bytes_of}
 use Rattle.block_tags.specs.declared.tile.Tile.{Tile}
 use Rattle.raw_region.specs.Format.{current}
 use Rattle.block_tags.specs.Format.{is_legal_size}
@@ -11,10 +12,10 @@ use Rattle.link_tree.specs.Tree.{Cell}
 use Rattle.link_tree.specs.Nodes.{is_in, leads}
 use Rattle.best_fit.specs.Extents.{Gap}
 use Rattle.best_fit.specs.FreeTree.{cells_of, payloads}
-use Rattle.best_fit.specs.declared.heap.nodes.Sought.{Sought}
+use Rattle.best_fit.specs.declared.heap.nodes.GapProbe.{GapProbe}
 
 -- the tiles that the tags of a window say
-abbrev pub tiles_in : Cut → List Tile
+abbrev pub tiles_in : WindowState → List Tile
 tiles_in c = tiles_of (bytes_of c.bytes) (length c.bytes)
 
 -- a free tile is a gap
@@ -28,7 +29,7 @@ as_gap t = elim t.use_of [ None ↦ Some (gap_of t) | Some role ↦ None ]
 abbrev pub gaps_of : List Tile → List Gap
 gaps_of ts = filter_map as_gap ts
 
-abbrev pub gaps_in : Cut → List Gap
+abbrev pub gaps_in : WindowState → List Gap
 gaps_in c = gaps_of (tiles_in c)
 
 -- the length of the gap that has this payload, or 0
@@ -40,33 +41,33 @@ abbrev pub comes_before : List Gap → ℕ → ℕ → Bool
 comes_before gs a b = nat_lt (len_in gs a) (len_in gs b) || ((len_in gs a == len_in gs b) && nat_lt a b)
 
 -- the gap is shorter than what is looked for, or as long and stands before it
-abbrev pub stands_before : List Gap → Sought → ℕ → Bool
+abbrev pub stands_before : List Gap → GapProbe → ℕ → Bool
 stands_before gs sought n =
     nat_lt (len_in gs n) sought.len || ((len_in gs n == sought.len) && nat_lt n sought.from)
 
 -- what the first gap of at least some length is looked for by
-abbrev pub from_first : ℕ → Sought
+abbrev pub from_first : ℕ → GapProbe
 from_first wanted = record { len = wanted; from = 0 }
 
 -- both links of a node lead to nodes, or nowhere
 abbrev pub links_among : Memory → List ℕ → ℕ → Bool
 links_among m ns n = leads (λ k. is_in k ns) (cells_of m n).left && leads (λ k. is_in k ns) (cells_of m n).right
 
-abbrev pub has_links : Cut → Bool
+abbrev pub has_links : WindowState → Bool
 has_links c = list_all (links_among (bytes_of c.bytes) (payloads (gaps_in c))) (payloads (gaps_in c))
 
 -- good tags, and the links of all gaps lead to gaps
-abbrev pub is_good : Cut → Bool
+abbrev pub is_good : WindowState → Bool
 is_good c = is_legal_size (length c.bytes) && has_tags current (bytes_of c.bytes) (length c.bytes) && has_links c
 
 -- where tags and links are good, the gaps are the nodes
-unfoldable pub is_gap_node : Cut → ℕ → Bool
+unfoldable pub is_gap_node : WindowState → ℕ → Bool
 is_gap_node c n = is_good c && is_in n (payloads (gaps_in c))
 
 abbrev pub no_cell : Cell
 no_cell = record { left = None; right = None; red = false }
 
-unfoldable pub gap_cells : Cut → ℕ → Cell
+unfoldable pub gap_cells : WindowState → ℕ → Cell
 unfolding is_gap_node
 gap_cells c n = if is_good c && is_in n (payloads (gaps_in c)) then cells_of (bytes_of c.bytes) n else no_cell
 
@@ -88,16 +89,17 @@ lies_behind ts k = list_any (λ (t : Tile). nat_le (own_from t) k && nat_lt k (t
 abbrev pub is_kept : List Tile → ℕ → Bool
 is_kept ts k = nat_lt k 128 || lies_behind ts k
 
--- what lies round the window, its tiles but for the colours of the free ones, the header, the payloads of blocks and the
+-- what lies round the window, its tiles but for the colours of the free ones, the header, the payloads of blocks and
+-- the
 -- free bytes of gaps
-pub record Kept : Type 0 where
+pub record GapTreeFrame : Type 0 where
   pub before : List ℕ
   pub after : List ℕ
   pub size : ℕ
   pub tiles : List Tile
   pub byte : ℕ → ℕ
 
-unfoldable pub kept_of : Cut → Kept
+unfoldable pub kept_of : WindowState → GapTreeFrame
 kept_of c =
     record {
       before = c.before;

@@ -1,13 +1,14 @@
 -- Trees of gaps while a heap changes: the tree at word 24 has some of the gaps, and nothing else changes.
-use Rattle.std.specs.Prelude.{◌≡◌, ℕ, ◌+◌, ◌≤◌, ◌<◌, ◌⊎◌, Bool, true, Option, Some, None, IfSome, if◌then◌else◌, List, [], ◌∷◌, ◌++◌, length, map, IsTrue, nat_le}
+use Rattle.std.specs.Prelude.{◌≡◌, ℕ, ◌+◌, ◌≤◌, ◌<◌, ◌⊎◌, Bool, true, Option, Some, None, IfSome, if◌then◌else◌, List}
+use Rattle.std.specs.Prelude.{[], ◌∷◌, ◌++◌, length, map, IsTrue, nat_le}
 use Rattle.std.specs.List.{AllByRecursion}
-use Rattle.raw_region.specs.Memory.{Cut, SamePlace, bytes_of}
+use Rattle.raw_region.specs.Memory.{WindowState, SameSurroundings, bytes_of}
 use Rattle.block_tags.specs.declared.tile.Tile.{Tile}
 use Rattle.block_tags.specs.Tiles.{is_free, is_merged}
-use Rattle.block_tags.specs.Windows.{SaysTiles}
+use Rattle.block_tags.specs.Windows.{EncodesTiles}
 use Rattle.offset_link.specs.Link.{link_at}
 use Rattle.link_tree.specs.Nodes.{is_in}
-use Rattle.link_tree.specs.Ways.{exit_of}
+use Rattle.link_tree.specs.Ways.{remove_point_of}
 use Rattle.best_fit.specs.Extents.{Gap}
 use Rattle.best_fit.specs.FreeTree.{IsTreeOf, payloads, sorted_gaps}
 use Rattle.best_fit.specs.GapNodes.{comes_before, gaps_in, gaps_of, is_good, is_kept, len_in, plain, tiles_in}
@@ -20,51 +21,53 @@ abbrev pub is_long : ℕ → Gap → Bool
 is_long wanted g = nat_le wanted g.len
 
 -- the lengths that are looked up are those of the gaps
-abbrev pub Fits : List Gap → List Gap → Type 0
-Fits gs hs = AllByRecursion (λ (h : Gap). len_in gs (h.offset + 16) ≡ h.len) hs
+abbrev pub HaveGapLengths : List Gap → List Gap → Type 0
+HaveGapLengths gs hs = AllByRecursion (λ (h : Gap). len_in gs (h.offset + 16) ≡ h.len) hs
 
 -- gaps in order of offset, from a place on
-abbrev pub Rises : ℕ → List Gap → Type 0
-Rises at [] = Unit {0}
-Rises at (h ∷ hs) = (at ≤ h.offset) × Rises (h.offset + 1) hs
+abbrev pub AreAscending : ℕ → List Gap → Type 0
+AreAscending at [] = Unit {0}
+AreAscending at (h ∷ hs) = (at ≤ h.offset) × AreAscending (h.offset + 1) hs
 
 -- some of the gaps, in order of offset
 pub record AreSome (gs hs : List Gap) : Type 0 where
-  pub fits : Fits gs hs
-  pub rises : Rises 0 hs
+  pub fits : HaveGapLengths gs hs
+  pub rises : AreAscending 0 hs
   pub listed : (n : ℕ) → is_in n (payloads hs) ≡ true → is_in n (payloads gs) ≡ true
   pub few : length hs ≤ length gs
 
 -- good tags and links, and a tree of some of the gaps
-pub record HasTree (c : Cut) (hs : List Gap) : Type 0 where
+pub record HasGapTree (c : WindowState) (hs : List Gap) : Type 0 where
   pub good : IsTrue (is_good c)
   pub some : AreSome (gaps_in c) hs
   pub tree : IsTreeOf (bytes_of c.bytes) 24 (payloads (sorted_gaps hs))
 
 -- where the link to the tree leads
-abbrev pub root_of_gaps : Cut → Option ℕ
+abbrev pub root_of_gaps : WindowState → Option ℕ
 root_of_gaps c = link_at (bytes_of c.bytes) 24
 
 -- where the removal of a node of the tree may begin: at the root, or at its exit
-pub record MayBegin (c : Cut) (node : ℕ) (exit : Option ℕ) : Type 0 where
-  pub begins : (hs : List Gap) (h : HasTree c hs) → IfSome exit (λ n. exit_of (comes_before (gaps_in c)) node h.tree.tree ≡ Some n)
+pub record MayBegin (c : WindowState) (node : ℕ) (exit : Option ℕ) : Type 0 where
+  pub begins : (hs : List Gap) (h : HasGapTree c hs)
+      → IfSome exit (λ n. remove_point_of (comes_before (gaps_in c)) node h.tree.tree ≡ Some n)
 
 -- good tags, and a tree of all gaps but one, whose links may be anything
-pub record LacksOne (c : Cut) (xs : List Gap) (g : Gap) (ys : List Gap) : Type 0 where
-  pub said : SaysTiles c (tiles_in c)
+pub record LacksOne (c : WindowState) (xs : List Gap) (g : Gap) (ys : List Gap) : Type 0 where
+  pub said : EncodesTiles c (tiles_in c)
   pub merged : IsTrue (is_merged (tiles_in c))
   pub gaps : gaps_in c ≡ xs ++ (g ∷ ys)
   pub tree : IsTreeOf (bytes_of c.bytes) 24 (payloads (sorted_gaps (xs ++ ys)))
 
 -- nothing changes but word 24, and the links and the colours of gaps
-pub record Regrown (old new : Cut) : Type 0 where
-  pub place : SamePlace old new
+pub record Regrown (old new : WindowState) : Type 0 where
+  pub place : SameSurroundings old new
   pub size : length new.bytes ≡ length old.bytes
   pub tiles : map plain (tiles_in new) ≡ map plain (tiles_in old)
-  pub bytes : (k : ℕ) → is_kept (tiles_in old) k ≡ true → (k < 24) ⊎ (32 ≤ k) → bytes_of new.bytes k ≡ bytes_of old.bytes k
+  pub bytes : (k : ℕ) → is_kept (tiles_in old) k ≡ true → (k < 24) ⊎ (32 ≤ k)
+      → bytes_of new.bytes k ≡ bytes_of old.bytes k
 
 -- a gap that is not in the tree, in which all others are
-pub record OutOfTree (c : Cut) (at len : ℕ) : Type 0 where
+pub record IsUnlinkedGap (c : WindowState) (at len : ℕ) : Type 0 where
   pub front : List Tile
   pub tile : Tile
   pub back : List Tile
@@ -72,7 +75,7 @@ pub record OutOfTree (c : Cut) (at len : ℕ) : Type 0 where
   pub free : tile.use_of ≡ None
   pub offset : tile.offset ≡ at
   pub len_is : tile.len ≡ len
-  pub tree : HasTree c (gaps_of front ++ gaps_of back)
+  pub tree : HasGapTree c (gaps_of front ++ gaps_of back)
 
 -- a tile, or none
 abbrev pub of_option : Option Tile → List Tile

@@ -14,4 +14,4 @@ pub mod Requests
 pub mod Exchange
 pub mod Ends
 pub mod Rebuilding
-pub mod WayPoints
+pub mod BlockHints

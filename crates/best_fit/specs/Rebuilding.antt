@@ -1,17 +1,17 @@
 -- A tree of the gaps that is written anew.
 use Rattle.std.specs.Prelude.{◌≡◌, ℕ, ◌+◌, ◌<◌, ◌≤◌, ◌⊎◌, List, ◌∷◌, ◌++◌, length}
 use Rattle.std.specs.List.{AllByRecursion}
-use Rattle.raw_region.specs.Memory.{Cut, Same, bytes_of}
+use Rattle.raw_region.specs.Memory.{WindowState, SameBytes, bytes_of}
 use Rattle.best_fit.specs.{Extents.Gap, Extents.gaps, FreeTree.gap_front}
 use Rattle.best_fit.specs.GapNodes.{gaps_in}
-use Rattle.best_fit.specs.GapTrees.{HasTree}
-use Rattle.best_fit.specs.Heap.{Keeps, LaysOut, live_of}
+use Rattle.best_fit.specs.GapTrees.{HasGapTree}
+use Rattle.best_fit.specs.Heap.{KeepsBlocks, EncodesLiveSet, live_of}
 
 -- the tree has the gaps before this one, and not those from it on
-pub record IsNextGap (c : Cut) (xs : List Gap) (g : Gap) : Type 0 where
+pub record IsNextGap (c : WindowState) (xs : List Gap) (g : Gap) : Type 0 where
   pub behind : List Gap
   pub gaps : gaps_in c ≡ xs ++ (g ∷ behind)
-  pub tree : HasTree c xs
+  pub tree : HasGapTree c xs
 
 -- the byte lies in no gap
 abbrev pub IsBesideGap : ℕ → Gap → Type 0
@@ -19,8 +19,11 @@ IsBesideGap k g = (k < g.offset) ⊎ (g.offset + g.len ≤ k)
 
 -- The same blocks are in use, with the same bytes and colours, and there is a tree of the gaps. Nothing changes but
 -- word 24, and of gaps but their tags and links.
-pub record IsRebuilt (format : ℕ) (old new : Cut) : Type 0 where
-  pub live : LaysOut format new.bytes (live_of old.bytes)
-  pub keeps : Keeps old new (live_of old.bytes).extents
-  pub rest : (k : ℕ) → k < length old.bytes → (k < 24) ⊎ (32 ≤ k) → AllByRecursion (IsBesideGap k) (gaps (live_of old.bytes)) → bytes_of new.bytes k ≡ bytes_of old.bytes k
-  pub free : AllByRecursion (λ (g : Gap). Same (bytes_of old.bytes) (bytes_of new.bytes) (g.offset + gap_front format) (g.offset + g.len)) (gaps (live_of old.bytes))
+pub record RebuildsFreeTree (format : ℕ) (old new : WindowState) : Type 0 where
+  pub live : EncodesLiveSet format new.bytes (live_of old.bytes)
+  pub keeps : KeepsBlocks old new (live_of old.bytes).extents
+  pub rest : (k : ℕ) → k < length old.bytes → (k < 24) ⊎ (32 ≤ k)
+      → AllByRecursion (IsBesideGap k) (gaps (live_of old.bytes)) → bytes_of new.bytes k ≡ bytes_of old.bytes k
+  pub free : AllByRecursion (λ (g : Gap).
+      SameBytes (bytes_of old.bytes) (bytes_of new.bytes) (g.offset + gap_front format) (g.offset + g.len))
+      (gaps (live_of old.bytes))

@@ -7,7 +7,8 @@ use Rattle.best_fit.specs.Fit.{added, place}
 -- the extents that requests take, each placed beside those before it; none where one of them has no fit
 abbrev pub place_all : LiveSet → List (ℕ × Role) → Option (List Extent)
 place_all live [] = Some []
-place_all live ((n, role) ∷ needs) = elim (place live n role) [ None ↦ None | Some x ↦ option_map (λ xs. x ∷ xs) (place_all (added live x) needs) ]
+place_all live ((n, role) ∷ needs) =
+    elim (place live n role) [ None ↦ None | Some x ↦ option_map (λ xs. x ∷ xs) (place_all (added live x) needs) ]
 
 -- the live set with all of these
 abbrev pub all_added : LiveSet → List Extent → LiveSet

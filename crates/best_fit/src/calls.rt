@@ -1,14 +1,15 @@
 //! The calls of a heap that take blocks, give them back and change their sizes. What they do, they do through
-//! `Touches`, which counts it.
+//! `TouchCounter`, which counts it.
 ghost use Rattle.std.specs.Prelude.{◌≡◌, ◌≢◌, true, is_ok, ◌<◌, ◌+◌, ◌≤◌, IsTrue};
 ghost use Rattle.raw_region.specs.Format.{current};
-ghost use Rattle.best_fit.specs.Heap.{Allocates, IsExtended, IsReleased, IsShortened, heap_touches, is_live_in, live_of};
+ghost use Rattle.best_fit.specs.Heap.{Allocates, TryExtends, Deallocates, ShrinksInPlace, heap_touches, is_live_in};
+ghost use Rattle.best_fit.specs.Heap.{live_of};
 
 use crate::heap::Heap;
-use crate::heap::touching::Touches;
+use crate::heap::touch_counter::TouchCounter;
 use crate::refusal::NoSpace;
-use crate::{passing, releasing, resizing, taking};
-use block_tags::{Role, TAG};
+use crate::{allocation, deallocation, in_place_resize, passing};
+use block_tags::{Role, TAG_LEN};
 use raw_region::Steps;
 
 impl Heap {
@@ -20,15 +21,15 @@ impl Heap {
     /// `NoSpace` where no gap is long enough, as for each `n` above 1073741824. Nothing changes.
     pub fn allocate(&mut self, n: u64, role: Role, steps: &mut Steps) -> Result<u64, NoSpace>
         ensures answer { Allocates current self.old self.new n role result }
-        ensures counted { steps.old ≤ steps.new }
-        ensures went { is_ok result ≡ true → steps.old < steps.new }
+        ensures steps_lower { steps.old ≤ steps.new }
+        ensures progress { is_ok result ≡ true → steps.old < steps.new }
         ensures steps { steps.new ≤ steps.old + heap_touches (live_of self.old.bytes) }
     {
-        let mut touches = Touches::new(&mut self.gaps);
-        let result = taking::allocate(&mut touches, n, role);
+        let mut touches = TouchCounter::new(&mut self.gaps);
+        let result = allocation::allocate(&mut touches, n, role);
         steps.add(touches.count());
         if let Ok(handle) = &result {
-            self.points.note(*handle);
+            self.points.insert(*handle);
         }
         result
     }
@@ -36,13 +37,13 @@ impl Heap {
     /// Gives back the block of a handle: it becomes one gap with those before and behind it.
     pub fn deallocate(&mut self, handle: u64, steps: &mut Steps)
         requires { IsTrue (is_live_in (live_of self.old.bytes) handle) }
-        ensures released { IsReleased current self.old self.new handle }
-        ensures counted { steps.old < steps.new }
+        ensures released { Deallocates current self.old self.new handle }
+        ensures steps_lower { steps.old < steps.new }
         ensures steps { steps.new ≤ steps.old + heap_touches (live_of self.old.bytes) }
     {
-        let mut touches = Touches::new(&mut self.gaps);
-        passing::pass_on(&mut touches, &mut self.points, handle);
-        releasing::release(&mut touches, handle - TAG);
+        let mut touches = TouchCounter::new(&mut self.gaps);
+        passing::retarget_hint(&mut touches, &mut self.points, handle);
+        deallocation::release(&mut touches, handle - TAG_LEN);
         steps.add(touches.count());
     }
 
@@ -51,13 +52,13 @@ impl Heap {
     /// left. Else nothing changes.
     pub fn try_extend(&mut self, handle: u64, n: u64, steps: &mut Steps) -> bool
         requires { IsTrue (is_live_in (live_of self.old.bytes) handle) }
-        ensures extended { IsExtended current self.old self.new handle n result }
-        ensures counted { steps.old ≤ steps.new }
-        ensures went { result ≡ true → steps.old < steps.new }
+        ensures changes { TryExtends current self.old self.new handle n result }
+        ensures steps_lower { steps.old ≤ steps.new }
+        ensures progress { result ≡ true → steps.old < steps.new }
         ensures steps { steps.new ≤ steps.old + heap_touches (live_of self.old.bytes) }
     {
-        let mut touches = Touches::new(&mut self.gaps);
-        let longer = resizing::extend(&mut touches, handle - TAG, n);
+        let mut touches = TouchCounter::new(&mut self.gaps);
+        let longer = in_place_resize::extend(&mut touches, handle - TAG_LEN, n);
         steps.add(touches.count());
         longer
     }
@@ -66,13 +67,13 @@ impl Heap {
     /// or at least 32 bytes are cut off. Else nothing changes.
     pub fn shrink_in_place(&mut self, handle: u64, n: u64, steps: &mut Steps)
         requires { IsTrue (is_live_in (live_of self.old.bytes) handle) }
-        ensures shortened { IsShortened current self.old self.new handle n }
-        ensures counted { steps.old ≤ steps.new }
-        ensures went { self.new ≢ self.old → steps.old < steps.new }
+        ensures changes { ShrinksInPlace current self.old self.new handle n }
+        ensures steps_lower { steps.old ≤ steps.new }
+        ensures progress { self.new ≢ self.old → steps.old < steps.new }
         ensures steps { steps.new ≤ steps.old + heap_touches (live_of self.old.bytes) }
     {
-        let mut touches = Touches::new(&mut self.gaps);
-        resizing::shorten(&mut touches, handle - TAG, n);
+        let mut touches = TouchCounter::new(&mut self.gaps);
+        in_place_resize::shorten(&mut touches, handle - TAG_LEN, n);
         steps.add(touches.count());
     }
 }

@@ -1,28 +1,30 @@
 //! A heap: a window that blocks and gaps fill.
-ghost use Rattle.std.specs.Prelude.{◌≡◌, ◌≢◌, ◌-◌, ◌%◌, ◌<◌, ◌+◌, ◌≤◌, IsTrue, List, Option, Some, ℕ, length, option_map, slice_get};
+ghost use Rattle.std.specs.Prelude.{◌≡◌, ◌≢◌, ◌-◌, ◌%◌, ◌<◌, ◌+◌, ◌≤◌, IsTrue, List, Option, Some, ℕ, length};
+ghost use Rattle.std.specs.Prelude.{option_map, slice_get};
 ghost use Rattle.std.specs.Borrow.{sem};
-ghost use Rattle.raw_region.specs.Memory.{Has, bytes_of, read, whole, word_at};
+ghost use Rattle.raw_region.specs.Memory.{HasBytesAt, bytes_of, read, whole, word_at};
 ghost use Rattle.raw_region.specs.Format.{current};
 ghost use Rattle.block_tags.specs.Format.{is_legal_size};
 ghost use Rattle.best_fit.specs.Extents.{Extent, free_bytes as free_bytes_of, spans};
 ghost use Rattle.block_tags.specs.Tiles.{tiles_of};
 ghost use Rattle.best_fit.specs.FreeTree.{span};
-ghost use Rattle.best_fit.specs.Heap.{IsChanged, IsFresh, IsHeap, IsTileOf, IsZeroed, extent_at, has_room, is_live_in, live_of, payload_at, with_payload};
+ghost use Rattle.best_fit.specs.Heap.{ChangesBytes, FormatsHeap, IsHeap, IsTileOf, ZeroesFree, extent_at, has_room};
+ghost use Rattle.best_fit.specs.Heap.{is_live_in, live_of, payload_at, with_payload};
 ghost use Rattle.best_fit.specs.Pairs.{CallsOnTwo, TakesTwo};
-ghost use Rattle.best_fit.specs.WayPoints.{LeadToBlocks};
+ghost use Rattle.best_fit.specs.BlockHints.{LeadToBlocks};
 
+mod free_tree_build;
 mod links;
 pub mod nodes;
-mod planting;
 mod summing;
-pub mod touching;
+pub mod touch_counter;
 
+use crate::block_hints::BlockHints;
 use crate::lending::on_two;
-use crate::way_points::WayPoints;
-use crate::{walking, zeroing};
-use block_tags::{FIRST, Role, TAG, Tile};
-use nodes::{FREE_TREE, Gaps, plant_first};
-use raw_region::{Span, Window};
+use crate::{tile_walk, zeroing};
+use block_tags::{HEADER_LEN, Role, TAG_LEN, Tile};
+use nodes::{FREE_TREE_ROOT, GapTree, plant_first};
+use raw_region::{ByteRange, Window};
 use std::marker::Model;
 
 /// A window that blocks and gaps fill from byte 128 to its end tag of 16 bytes. The header before them is the caller's,
@@ -32,20 +34,20 @@ use std::marker::Model;
 /// An offset in a block counts from its handle. The live set, as contracts have it, are the blocks in use by offset.
 #[derive(Drop)]
 pub struct Heap {
-    pub(crate) gaps: Gaps,
+    pub(crate) gaps: GapTree,
     /// Where to begin to look for a handle. Neither the bytes nor what is answered depend on it.
-    pub(crate) points: WayPoints,
+    pub(crate) points: BlockHints,
 }
 
 impl Model for Heap {
-    ghost use Rattle.raw_region.specs.Memory.{Cut};
-    ghost use Rattle.best_fit.specs.WayPoints.{IsHeld};
+    ghost use Rattle.raw_region.specs.Memory.{WindowState};
+    ghost use Rattle.best_fit.specs.BlockHints.{IsHintedHeap};
 
-    ghost Value = { Cut };
+    ghost Value = { WindowState };
 
     ghost view = { λ h. h.gaps.window };
 
-    ghost invariant = { λ h. IsHeld h.gaps.window.bytes h.points };
+    ghost invariant = { λ h. IsHintedHeap h.gaps.window.bytes h.points };
 }
 
 impl Heap {
@@ -55,14 +57,14 @@ impl Heap {
     /// the tags, the links of the one gap and the word at 24, and no other byte.
     pub fn fresh(window: Window) -> Heap
         requires { IsTrue (is_legal_size (length window.bytes)) }
-        ensures { IsFresh current window result }
+        ensures { FormatsHeap current window result }
     {
         let mut window = window;
-        let points = WayPoints::none();
+        let points = BlockHints::none();
         block_tags::lay(&mut window);
         plant_first(&mut window);
         Heap {
-            gaps: Gaps { window },
+            gaps: GapTree { window },
             points,
         }
     }
@@ -73,17 +75,17 @@ impl Heap {
         requires { IsHeap current window.bytes }
         ensures { result ≡ window }
     {
-        let points = walking::way_points(&window);
+        let points = tile_walk::way_points(&window);
         Heap::adopt_noted(window, points)
     }
 
     /// As `adopt`, with way-points that are known to lead to blocks in use. No tile is read.
-    pub fn adopt_noted(window: Window, points: WayPoints) -> Heap
+    pub fn adopt_noted(window: Window, points: BlockHints) -> Heap
         requires heap { IsHeap current window.bytes }
         requires points { LeadToBlocks points window.bytes }
         ensures { result ≡ window }
     {
-        let gaps = Gaps { window };
+        let gaps = GapTree { window };
         Heap { gaps, points }
     }
 
@@ -93,7 +95,7 @@ impl Heap {
         ensures heap { IsHeap current result.bytes }
     {
         let Heap {
-            gaps: Gaps { window },
+            gaps: GapTree { window },
             ..
         } = self;
         window
@@ -122,9 +124,9 @@ impl Heap {
 
     /// The header's word at `at`: a multiple of 8 below 128, and not 24.
     pub fn header_word(&self, at: u64) -> u64
-        requires whole { at % 8 ≡ 0 }
-        requires below { at < FIRST }
-        requires other { at ≢ FREE_TREE }
+        requires aligned { at % 8 ≡ 0 }
+        requires subtree { at < FIRST }
+        requires peer { at ≢ FREE_TREE }
         ensures { result ≡ word_at (bytes_of self.now.bytes) at }
     {
         self.gaps.window.read_u64(at)
@@ -132,10 +134,10 @@ impl Heap {
 
     /// Writes the header's word at `at`: a multiple of 8 below 128, and not 24.
     pub fn set_header_word(&mut self, at: u64, value: u64)
-        requires whole { at % 8 ≡ 0 }
-        requires below { at < FIRST }
-        requires other { at ≢ FREE_TREE }
-        ensures change { IsChanged current self.old self.new at 8 }
+        requires aligned { at % 8 ≡ 0 }
+        requires subtree { at < FIRST }
+        requires peer { at ≢ FREE_TREE }
+        ensures changes { ChangesBytes current self.old self.new at 8 }
         ensures word { word_at (bytes_of self.new.bytes) at ≡ value }
     {
         self.gaps.window.write_u64(at, value);
@@ -145,7 +147,7 @@ impl Heap {
     pub fn is_live(&self, handle: u64) -> bool
         ensures { result ≡ is_live_in (live_of self.now.bytes) handle }
     {
-        walking::is_live(&self.gaps.window, &self.points, handle)
+        tile_walk::is_live(&self.gaps.window, &self.points, handle)
     }
 
     /// What the block of a handle is used for.
@@ -153,7 +155,7 @@ impl Heap {
         requires { IsTrue (is_live_in (live_of self.now.bytes) handle) }
         ensures { option_map (λ (x : Extent). x.role) (extent_at (live_of self.now.bytes) handle) ≡ Some result }
     {
-        block_tags::tile_at(&self.gaps.window, handle - TAG)
+        block_tags::tile_at(&self.gaps.window, handle - TAG_LEN)
             .use_of
             .unwrap()
     }
@@ -163,7 +165,7 @@ impl Heap {
         requires { IsTrue (is_live_in (live_of self.now.bytes) handle) }
         ensures { option_map (λ (x : Extent). x.len - 16) (extent_at (live_of self.now.bytes) handle) ≡ Some result }
     {
-        block_tags::tile_at(&self.gaps.window, handle - TAG).len - TAG
+        block_tags::tile_at(&self.gaps.window, handle - TAG_LEN).len - TAG_LEN
     }
 
     /// The word at `at` in the block of a handle.
@@ -185,7 +187,7 @@ impl Heap {
     /// Writes the word at `at` in the block of a handle.
     pub fn set_word(&mut self, handle: u64, at: u64, value: u64)
         requires { IsTrue (has_room (live_of self.old.bytes) handle (at + 8)) }
-        ensures change { IsChanged current self.old self.new (handle + at) 8 }
+        ensures changes { ChangesBytes current self.old self.new (handle + at) 8 }
         ensures word { word_at (bytes_of self.new.bytes) (handle + at) ≡ value }
     {
         self.gaps.window.write_u64(handle + at, value);
@@ -194,8 +196,8 @@ impl Heap {
     /// Writes bytes at `at` in the block of a handle.
     pub fn write(&mut self, handle: u64, at: u64, bytes: &[u8])
         requires { IsTrue (has_room (live_of self.old.bytes) handle (at + length bytes.now)) }
-        ensures change { IsChanged current self.old self.new (handle + at) (length bytes.now) }
-        ensures content { Has (bytes_of self.new.bytes) (handle + at) bytes.now }
+        ensures changes { ChangesBytes current self.old self.new (handle + at) (length bytes.now) }
+        ensures content { HasBytesAt (bytes_of self.new.bytes) (handle + at) bytes.now }
     {
         self.gaps.window.write(handle + at, bytes);
     }
@@ -205,8 +207,9 @@ impl Heap {
     pub fn copy(&mut self, from: u64, from_at: u64, to: u64, to_at: u64, n: u64)
         requires source { IsTrue (has_room (live_of self.old.bytes) from (from_at + n)) }
         requires target { IsTrue (has_room (live_of self.old.bytes) to (to_at + n)) }
-        ensures change { IsChanged current self.old self.new (to + to_at) n }
-        ensures content { read (bytes_of self.new.bytes) (to + to_at) n ≡ read (bytes_of self.old.bytes) (from + from_at) n }
+        ensures changes { ChangesBytes current self.old self.new (to + to_at) n }
+        ensures content { read (bytes_of self.new.bytes) (to + to_at) n
+            ≡ read (bytes_of self.old.bytes) (from + from_at) n }
     {
         self.gaps.window.move_within(from + from_at, to + to_at, n);
     }
@@ -216,8 +219,8 @@ impl Heap {
         requires { IsTrue (is_live_in (live_of self.now.bytes) handle) }
         ensures { result.now ≡ payload_at self.now.bytes (live_of self.now.bytes) handle }
     {
-        let len = block_tags::tile_at(&self.gaps.window, handle - TAG).len;
-        self.gaps.window.bytes(handle, len - TAG)
+        let len = block_tags::tile_at(&self.gaps.window, handle - TAG_LEN).len;
+        self.gaps.window.bytes(handle, len - TAG_LEN)
     }
 
     /// The same, to be written.
@@ -226,31 +229,32 @@ impl Heap {
         ensures* writes_back { sem 𝓛 (LendsBlock self.entry handle result) }
         ensures bytes { result.now ≡ payload_at self.old.bytes (live_of self.old.bytes) handle }
     {
-        let len = block_tags::tile_at(&self.gaps.window, handle - TAG).len;
-        self.gaps.window.bytes_mut(handle, len - TAG)
+        let len = block_tags::tile_at(&self.gaps.window, handle - TAG_LEN).len;
+        self.gaps.window.bytes_mut(handle, len - TAG_LEN)
     }
 
     /// Calls `change` with the payloads of two blocks, the first to be read and the second to be written.
     pub fn two<F: FnOnce(&[u8], &mut [u8])>(&mut self, first: u64, second: u64, change: F)
         requires first { IsTrue (is_live_in (live_of self.old.bytes) first) }
         requires second { IsTrue (is_live_in (live_of self.old.bytes) second) }
-        requires apart { first ≢ second }
+        requires disjoint { first ≢ second }
         requires callable { TakesTwo F.FnOnce change (payload_at self.old.bytes (live_of self.old.bytes) first)
             (payload_at self.old.bytes (live_of self.old.bytes) second) }
         ensures { (ws : List ℕ) × CallsOnTwo F.FnOnce change (payload_at self.old.bytes (live_of self.old.bytes) first)
-            (payload_at self.old.bytes (live_of self.old.bytes) second) ws × (self.new ≡ with_payload self.old second ws) }
+            (payload_at self.old.bytes (live_of self.old.bytes) second) ws
+            × (self.new ≡ with_payload self.old second ws) }
     {
-        let len = block_tags::tile_at(&self.gaps.window, first - TAG).len;
-        let other = block_tags::tile_at(&self.gaps.window, second - TAG).len;
+        let len = block_tags::tile_at(&self.gaps.window, first - TAG_LEN).len;
+        let other = block_tags::tile_at(&self.gaps.window, second - TAG_LEN).len;
         let size = self.gaps.window.size();
         let bytes = self.gaps.window.bytes_mut(0, size);
-        let a = Span {
+        let a = ByteRange {
             from: first,
-            len: len - TAG,
+            len: len - TAG_LEN,
         };
-        let b = Span {
+        let b = ByteRange {
             from: second,
-            len: other - TAG,
+            len: other - TAG_LEN,
         };
         on_two(bytes, a, b, change);
     }
@@ -279,14 +283,14 @@ impl Heap {
         ensures tile { result ≡ slice_get (tiles_of (bytes_of self.now.bytes) (length self.now.bytes)) index }
         ensures span { option_map span result ≡ slice_get (spans (live_of self.now.bytes)) index }
     {
-        walking::tile(&self.gaps.window, index)
+        tile_walk::tile(&self.gaps.window, index)
     }
 
     /// The number of blocks in use.
     pub fn live_count(&self) -> u64
         ensures { result ≡ length (live_of self.now.bytes).extents }
     {
-        walking::live_count(&self.gaps.window)
+        tile_walk::live_count(&self.gaps.window)
     }
 
     /// The bytes of all gaps, their tags included.
@@ -298,7 +302,7 @@ impl Heap {
 
     /// Makes the free bytes of each gap zero: those behind its tag and its two links. No other byte changes.
     pub fn zero_free(&mut self)
-        ensures { IsZeroed current self.old self.new }
+        ensures { ZeroesFree current self.old self.new }
     {
         zeroing::zero_gaps(&mut self.gaps.window);
     }

@@ -2,49 +2,51 @@
 ghost use Rattle.std.specs.Prelude.{◌≡◌, ◌≢◌, ℕ, ◌+◌, ◌^◌, ◌<◌, ◌≤◌, IfSome, IsTrue};
 ghost use Rattle.raw_region.specs.Format.{current};
 ghost use Rattle.best_fit.specs.Heap.{IsHeap, is_live_in, live_of};
-ghost use Rattle.best_fit.specs.WayPoints.{IsNoted, LeadToBlocks};
+ghost use Rattle.best_fit.specs.BlockHints.{IsHinted, LeadToBlocks};
 
-use crate::heap::touching::Touches;
-use crate::way_points::WayPoints;
-use block_tags::TAG;
+use crate::block_hints::BlockHints;
+use crate::heap::touch_counter::TouchCounter;
+use block_tags::TAG_LEN;
 
 /// Lets no way-point lead to the block of a handle: one that did leads to the block behind it, if there is one.
-pub fn pass_on(touches: &mut Touches, points: &mut WayPoints, handle: u64)
+pub fn retarget_hint(touches: &mut TouchCounter, points: &mut BlockHints, handle: u64)
     requires heap { IsHeap current touches.old.gaps.now.window.bytes }
     requires points { LeadToBlocks points.old touches.old.gaps.now.window.bytes }
     requires live { IsTrue (is_live_in (live_of touches.old.gaps.now.window.bytes) handle) }
-    requires room { touches.old.count + 2 < 2 ^ 64 }
-    ensures points { (h : ℕ) → IsNoted points.new h → (h ≢ handle) × IsTrue (is_live_in (live_of touches.old.gaps.now.window.bytes) h) }
+    requires no_overflow { touches.old.count + 2 < 2 ^ 64 }
+    ensures points { (h : ℕ) → IsHinted points.new h
+        → (h ≢ handle) × IsTrue (is_live_in (live_of touches.old.gaps.now.window.bytes) h) }
     ensures gaps { touches.new.gaps.now ≡ touches.old.gaps.now }
-    ensures touched { touches.new.count ≤ touches.old.count + 2 }
-    ensures counted { touches.old.count ≤ touches.new.count }
-    ensures reference { touches.new.gaps.ghost_name ≡ touches.old.gaps.ghost_name }
+    ensures steps_exact { touches.new.count ≤ touches.old.count + 2 }
+    ensures steps_lower { touches.old.count ≤ touches.new.count }
+    ensures same_borrow { touches.new.gaps.ghost_name ≡ touches.old.gaps.ghost_name }
 {
-    if points.forget(handle)
+    if points.remove(handle)
         && let Some(behind) = block_behind(touches, handle)
     {
-        points.note(behind);
+        points.insert(behind);
     }
 }
 
 /// The handle of the next block in use behind the one of a handle, if there is one.
-fn block_behind(touches: &mut Touches, handle: u64) -> Option<u64>
+fn block_behind(touches: &mut TouchCounter, handle: u64) -> Option<u64>
     requires heap { IsHeap current touches.old.gaps.now.window.bytes }
     requires live { IsTrue (is_live_in (live_of touches.old.gaps.now.window.bytes) handle) }
-    requires room { touches.old.count + 2 < 2 ^ 64 }
-    ensures block { IfSome result (λ h. (h ≢ handle) × IsTrue (is_live_in (live_of touches.old.gaps.now.window.bytes) h)) }
+    requires no_overflow { touches.old.count + 2 < 2 ^ 64 }
+    ensures block { IfSome result (λ h. (h ≢ handle)
+        × IsTrue (is_live_in (live_of touches.old.gaps.now.window.bytes) h)) }
     ensures gaps { touches.new.gaps.now ≡ touches.old.gaps.now }
-    ensures touched { touches.new.count ≤ touches.old.count + 2 }
-    ensures counted { touches.old.count ≤ touches.new.count }
-    ensures reference { touches.new.gaps.ghost_name ≡ touches.old.gaps.ghost_name }
+    ensures steps_exact { touches.new.count ≤ touches.old.count + 2 }
+    ensures steps_lower { touches.old.count ≤ touches.new.count }
+    ensures same_borrow { touches.new.gaps.ghost_name ≡ touches.old.gaps.ghost_name }
 {
-    let behind = touches.next(handle - TAG)?;
+    let behind = touches.next(handle - TAG_LEN)?;
     if behind.use_of.is_some() {
-        return Some(behind.offset + TAG);
+        return Some(behind.offset + TAG_LEN);
     }
     let behind = touches.next(behind.offset)?;
     if behind.use_of.is_some() {
-        return Some(behind.offset + TAG);
+        return Some(behind.offset + TAG_LEN);
     }
     None
 }

@@ -1,12 +1,15 @@
 -- The tags say one list of tiles: the one that is read off.
-use Rattle.std.proofs.Common.{◌≡◌, refl, sym, ap, ◌∙◌, ℕ, zero, suc, ◌+◌, ◌-◌, ◌*◌, ◌/◌, ◌%◌, ◌<◌, ◌≤◌, Some, None, Bool, true, false, List, [], ◌∷◌, arith, nat_le, cond, ◌&&◌, ◌||◌, not, IsTrue, ◌==◌, lit<}
+use Rattle.std.proofs.Common.{◌≡◌, refl, sym, ap, ◌∙◌, ℕ, zero, suc, ◌+◌, ◌-◌, ◌*◌, ◌/◌, ◌%◌, ◌<◌, ◌≤◌, Some, None}
+use Rattle.std.proofs.Common.{Bool, true, false, List, [], ◌∷◌, arith, nat_le, cond, ◌&&◌, ◌||◌, not, IsTrue, ◌==◌}
+use Rattle.std.proofs.Common.{lit<}
 use Rattle.std.specs.Prelude.{Option}
 use Rattle.std.proofs.lemmas.Bool.{and_parts, and_from, eq-eqb, eqb-true, leb-true, lt-ltb, le-ltb}
 use Rattle.raw_region.specs.Memory.{Memory, word_at}
 use Rattle.block_tags.specs.declared.tile.Role.{Role}
 use Rattle.block_tags.specs.declared.tile.Role.TheVariants.{Object, Index, Storage, Node}
 use Rattle.block_tags.specs.declared.tile.Tile.{Tile}
-use Rattle.block_tags.specs.Tiles.{Tiles, AreTags, are_tags, has_tags, is_merged, is_tile, may_be_red, SayOneList, tag_word, use_bits, red_bit, tile_at, tiles_from, tiles_of, role_of_bits}
+use Rattle.block_tags.specs.Tiles.{AreTilesOf, AreTags, are_tags, has_tags, is_merged, is_tile, may_be_red, SayOneList}
+use Rattle.block_tags.specs.Tiles.{tag_word, use_bits, red_bit, tile_at, tiles_from, tiles_of, role_of_bits}
 
 -- the use that a second word says
 abbrev use_in : ℕ → Option Role
@@ -67,7 +70,8 @@ is_tile-IsWhole format t h =
     record { long = leb-true 32 t.len both.0; whole = eqb-true (t.len % 16) 0 both.1 }
 
 -- the tile that a tile's second word says is that tile
-pub tile_at-tag_word : (m : Memory) (at : ℕ) (t : Tile) → t.offset ≡ at → t.len % 16 ≡ 0 → word_at m (at + 8) ≡ tag_word t → tile_at m at ≡ t
+pub tile_at-tag_word : (m : Memory) (at : ℕ) (t : Tile) → t.offset ≡ at → t.len % 16 ≡ 0
+    → word_at m (at + 8) ≡ tag_word t → tile_at m at ≡ t
 tile_at-tag_word m at t o e w = λ i. record {
   offset = sym o i;
   len = (ap (λ x. x / 16 * 16) w ∙ same_len t.len t.use_of t.red e) i;
@@ -76,44 +80,57 @@ tile_at-tag_word m at t o e w = λ i. record {
 }
 
 -- tags end where they begin or later
-pub AreTags-reaches : (format : ℕ) (m : Memory) (at before : ℕ) (ts : List Tile) (end : ℕ) → AreTags format m at before ts end → at ≤ end
+pub AreTags-reaches : (format : ℕ) (m : Memory) (at before : ℕ) (ts : List Tile) (end : ℕ)
+    → AreTags format m at before ts end → at ≤ end
 AreTags-reaches format m at before [] end h = let e = h.0 in omega arith
-AreTags-reaches format m at before (t ∷ ts) end h = let on = AreTags-reaches format m (at + t.len) t.len ts end h.4 in omega arith
+AreTags-reaches format m at before (t ∷ ts) end h = let on = AreTags-reaches format m (at + t.len) t.len ts end h.4
+    in omega arith
 
 -- what is read off from an offset on, by whether the end is reached
 abbrev next : ℕ → Memory → ℕ → ℕ → Bool → List Tile
-next more m at end b = elim b [ false ↦ [] | true ↦ let t : Tile = tile_at m at in t ∷ tiles_from more m (at + t.len) end ]
+next more m at end b = elim b [
+  | false ↦ []
+  | true ↦ let t : Tile = tile_at m at
+      in t ∷ tiles_from more m (at + t.len) end
+]
 
 -- tiles that the tags say are read off, if there may be so many
-pub tiles_from-AreTags : (format : ℕ) (m : Memory) (more at before : ℕ) (ts : List Tile) (end : ℕ) → AreTags format m at before ts end → end < at + 32 * more + 32 → tiles_from more m at end ≡ ts
+pub tiles_from-AreTags : (format : ℕ) (m : Memory) (more at before : ℕ) (ts : List Tile) (end : ℕ)
+    → AreTags format m at before ts end → end < at + 32 * more + 32 → tiles_from more m at end ≡ ts
 tiles_from-AreTags format m zero at before [] end h few = refl
-tiles_from-AreTags format m (suc more) at before [] end h few = ap (next more m at end) (le-ltb at end (omega (arith, h.0)))
+tiles_from-AreTags format m (suc more) at before [] end h few =
+    ap (next more m at end) (le-ltb at end (omega (arith, h.0)))
 tiles_from-AreTags format m zero at before (t ∷ ts) end h few =
-    let on = AreTags-reaches format m (at + t.len) t.len ts end h.4 in let tile = is_tile-IsWhole format t h.1 in let long = tile.long in absurd (omega arith)
+    let on = AreTags-reaches format m (at + t.len) t.len ts end h.4 in let tile = is_tile-IsWhole format t h.1
+    in let long = tile.long in absurd (omega arith)
 tiles_from-AreTags format m (suc more) at before (t ∷ ts) end h few =
     let on = AreTags-reaches format m (at + t.len) t.len ts end h.4 in
     let tile = is_tile-IsWhole format t h.1 in let long = tile.long in
     let same = tile_at-tag_word m at t h.0 tile.whole h.3 in
     let rest = tiles_from-AreTags format m more (at + t.len) t.len ts end h.4 (omega arith) in
-    ap (next more m at end) (lt-ltb at end (omega arith)) ∙ ap (λ (u : Tile). u ∷ tiles_from more m (at + u.len) end) same ∙ ap (λ us. t ∷ us) rest
+    ap (next more m at end) (lt-ltb at end (omega arith))
+    ∙ ap (λ (u : Tile). u ∷ tiles_from more m (at + u.len) end) same ∙ ap (λ us. t ∷ us) rest
 
 -- the tiles that the tags of a segment say are those that are read off
-pub tiles_of-Tiles : (format : ℕ) (m : Memory) (size : ℕ) (ts : List Tile) → Tiles format m size ts → tiles_of m size ≡ ts
-tiles_of-Tiles format m size ts h =
+pub tiles_of-AreTilesOf : (format : ℕ) (m : Memory) (size : ℕ) (ts : List Tile) → AreTilesOf format m size ts
+    → tiles_of m size ≡ ts
+tiles_of-AreTilesOf format m size ts h =
     let on = AreTags-reaches format m 128 0 ts (size - 16) h in
     tiles_from-AreTags format m (size / 32) 128 0 ts (size - 16) h (omega arith)
 
 -- the tags of a segment say one list of tiles
 pub say_one_list : SayOneList
-say_one_list format size m ts small h = tiles_of-Tiles format m size ts h
+say_one_list format size m ts small h = tiles_of-AreTilesOf format m size ts h
 
 -- ---- the test and the relation
 
 -- the test holds where the tags say the tiles
-pub AreTags-are_tags : (format : ℕ) (m : Memory) (at before : ℕ) (ts : List Tile) (end : ℕ) → AreTags format m at before ts end → IsTrue (are_tags format m at before ts end)
+pub AreTags-are_tags : (format : ℕ) (m : Memory) (at before : ℕ) (ts : List Tile) (end : ℕ)
+    → AreTags format m at before ts end → IsTrue (are_tags format m at before ts end)
 AreTags-are_tags format m at before [] end h =
     and_from ((at == end) && (word_at m at == before)) (word_at m (at + 8) == 1)
-    (and_from (at == end) (word_at m at == before) (eq-eqb at end h.0) (eq-eqb (word_at m at) before h.1)) (eq-eqb (word_at m (at + 8)) 1 h.2)
+    (and_from (at == end) (word_at m at == before) (eq-eqb at end h.0) (eq-eqb (word_at m at) before h.1))
+    (eq-eqb (word_at m (at + 8)) 1 h.2)
 AreTags-are_tags format m at before (t ∷ ts) end h =
     let here = t.offset == at in
     let tile = is_tile format t in
@@ -126,7 +143,8 @@ AreTags-are_tags format m at before (t ∷ ts) end h =
     (AreTags-are_tags format m (at + t.len) t.len ts end h.4)
 
 -- and the tags say the tiles where the test holds
-pub are_tags-AreTags : (format : ℕ) (m : Memory) (at before : ℕ) (ts : List Tile) (end : ℕ) → IsTrue (are_tags format m at before ts end) → AreTags format m at before ts end
+pub are_tags-AreTags : (format : ℕ) (m : Memory) (at before : ℕ) (ts : List Tile) (end : ℕ)
+    → IsTrue (are_tags format m at before ts end) → AreTags format m at before ts end
 are_tags-AreTags format m at before [] end h =
     let two = and_parts ((at == end) && (word_at m at == before)) (word_at m (at + 8) == 1) h in
     let one = and_parts (at == end) (word_at m at == before) two.0 in
@@ -148,15 +166,22 @@ are_tags-AreTags format m at before (t ∷ ts) end h =
     )
 
 -- good tags say the tiles that are read off
-pub has_tags-Tiles : (format : ℕ) (m : Memory) (size : ℕ) → IsTrue (has_tags format m size) → Tiles format m size (tiles_of m size)
-has_tags-Tiles format m size h =
-    are_tags-AreTags format m 128 0 (tiles_of m size) (size - 16) (and_parts (are_tags format m 128 0 (tiles_of m size) (size - 16)) (is_merged (tiles_of m size)) h).0
+pub has_tags-AreTilesOf : (format : ℕ) (m : Memory) (size : ℕ) → IsTrue (has_tags format m size)
+    → AreTilesOf format m size (tiles_of m size)
+has_tags-AreTilesOf format m size h =
+    are_tags-AreTags format m 128 0 (tiles_of m size) (size - 16)
+    (and_parts (are_tags format m 128 0 (tiles_of m size) (size - 16)) (is_merged (tiles_of m size)) h).0
 
 -- no two free tiles that good tags say are neighbours
-pub has_tags-is_merged : (format : ℕ) (m : Memory) (size : ℕ) → IsTrue (has_tags format m size) → IsTrue (is_merged (tiles_of m size))
-has_tags-is_merged format m size h = (and_parts (are_tags format m 128 0 (tiles_of m size) (size - 16)) (is_merged (tiles_of m size)) h).1
+pub has_tags-is_merged : (format : ℕ) (m : Memory) (size : ℕ) → IsTrue (has_tags format m size)
+    → IsTrue (is_merged (tiles_of m size))
+has_tags-is_merged format m size h =
+    (and_parts (are_tags format m 128 0 (tiles_of m size) (size - 16)) (is_merged (tiles_of m size)) h).1
 
 -- tags are good that say tiles of which no two free ones are neighbours
-pub Tiles-has_tags : (format : ℕ) (m : Memory) (size : ℕ) (ts : List Tile) → Tiles format m size ts → IsTrue (is_merged ts) → IsTrue (has_tags format m size)
-Tiles-has_tags format m size ts h merged =
-    rw (tiles_of-Tiles format m size ts h) (and_from (are_tags format m 128 0 ts (size - 16)) (is_merged ts) (AreTags-are_tags format m 128 0 ts (size - 16) h) merged)
+pub AreTilesOf-has_tags : (format : ℕ) (m : Memory) (size : ℕ) (ts : List Tile) → AreTilesOf format m size ts
+    → IsTrue (is_merged ts) → IsTrue (has_tags format m size)
+AreTilesOf-has_tags format m size ts h merged =
+    rw (tiles_of-AreTilesOf format m size ts h)
+    (and_from (are_tags format m 128 0 ts (size - 16)) (is_merged ts)
+    (AreTags-are_tags format m 128 0 ts (size - 16) h) merged)

@@ -1,5 +1,6 @@
 -- What is tested of one tile by a call that reads all tags of a window.
-use Rattle.std.specs.Prelude.{◌≡◌, ◌<◌, ℕ, zero, suc, ◌+◌, ◌-◌, ◌/◌, Bool, true, false, ◌&&◌, not, IsTrue, ◌==◌, nat_le, nat_lt, if◌then◌else◌}
+use Rattle.std.specs.Prelude.{◌≡◌, ◌<◌, ℕ, zero, suc, ◌+◌, ◌-◌, ◌/◌, Bool, true, false, ◌&&◌, not, IsTrue, ◌==◌, nat_le}
+use Rattle.std.specs.Prelude.{nat_lt, if◌then◌else◌}
 use Rattle.raw_region.specs.Memory.{Memory, word_at}
 use Rattle.block_tags.specs.declared.tile.Tile.{Tile}
 use Rattle.block_tags.specs.Tiles.{is_tile, is_free, tag_word, tile_at}
@@ -13,7 +14,8 @@ is_tagged format t word = is_tile format t && (word == tag_word t)
 unfoldable pub is_good_tile : ℕ → Memory → ℕ → ℕ → Bool → ℕ → Bool
 is_good_tile format m at before behind_free end =
     let t : Tile = tile_at m at in
-    (word_at m at == before) && nat_le t.len (end - at) && is_tagged format t (word_at m (at + 8)) && not (behind_free && is_free t)
+    (word_at m at == before) && nat_le t.len (end - at) && is_tagged format t (word_at m (at + 8))
+    && not (behind_free && is_free t)
 
 -- how many good tiles stand one behind another from an offset on, of at most so many
 abbrev pub good_tiles_from : ℕ → ℕ → Memory → ℕ → ℕ → Bool → ℕ → ℕ
@@ -37,12 +39,14 @@ is_end m at before = (word_at m at == before) && (word_at m (at + 8) == 1)
 -- going from 128 by lengths, good tags lead to this offset, behind a tile of this length, which is free or not
 pub data Leads (format : ℕ) (m : Memory) (end : ℕ) : ℕ → ℕ → Bool → Type 0 where
   begins : Leads format m end 128 0 false
-  follows : {at before : ℕ} {free : Bool} → Leads format m end at before free → at < end → IsTrue (is_good_tile format m at before free end)
+  follows : {at before : ℕ} {free : Bool} → Leads format m end at before free → at < end
+      → IsTrue (is_good_tile format m at before free end)
       → Leads format m end (at + (tile_at m at).len) (tile_at m at).len (is_free (tile_at m at))
 
 -- the tag that stands there, a tile's or the end tag, is good
 abbrev pub is_good_there : ℕ → Memory → ℕ → ℕ → ℕ → Bool → Bool
-is_good_there format m end at before free = if nat_lt at end then is_good_tile format m at before free end else is_end m at before
+is_good_there format m end at before free =
+    if nat_lt at end then is_good_tile format m at before free end else is_end m at before
 
 -- good tags lead to this offset, and the tag there is wrong
 pub record StopsAt (format : ℕ) (m : Memory) (size at : ℕ) : Type 0 where

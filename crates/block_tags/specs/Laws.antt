@@ -1,41 +1,48 @@
 -- What holds of the tiles that tags say, as the crates above need it. A public function's contract names each law.
 use Rattle.std.specs.Prelude.{◌≡◌, ◌↔◌, ℕ, ◌+◌, ◌-◌, ◌<◌, ◌≤◌, Some, List, [], ◌∷◌, ◌++◌, length, IsTrue}
 use Rattle.std.specs.List.{AllByRecursion}
-use Rattle.raw_region.specs.Memory.{Memory, Cut, Same, SameBut, bytes_of}
+use Rattle.raw_region.specs.Memory.{Memory, WindowState, SameBytes, SameBytesExcept, bytes_of}
 use Rattle.raw_region.specs.Format.{current}
 use Rattle.block_tags.specs.declared.tile.Tile.{Tile}
 use Rattle.block_tags.specs.Format.{is_legal_size}
 use Rattle.block_tags.specs.Tiles.{has_tags, is_merged, tile_at, tiles_of}
-use Rattle.block_tags.specs.Lists.{Fill, tile_in, first_in, next_in, previous_in, last_in, changed_at, without_last, IsBesideTags}
-use Rattle.block_tags.specs.Windows.{SaysTiles, FrontSaysTiles}
+use Rattle.block_tags.specs.Lists.{AreContiguous, tile_in, first_in, next_in, previous_in, last_in, changed_at}
+use Rattle.block_tags.specs.Lists.{without_last, IsBesideTags}
+use Rattle.block_tags.specs.Windows.{EncodesTiles, FrontSaysTiles}
 
 -- the tiles that are read off are those that the tags say, and so is each of them
 abbrev pub TilesAreReadOff : Type 0
-TilesAreReadOff = (c : Cut) (ts : List Tile) → SaysTiles c ts → tiles_of (bytes_of c.bytes) (length c.bytes) ≡ ts
+TilesAreReadOff = (c : WindowState) (ts : List Tile) → EncodesTiles c ts
+    → tiles_of (bytes_of c.bytes) (length c.bytes) ≡ ts
 
 abbrev pub TileIsReadOff : Type 0
-TileIsReadOff = (c : Cut) (ts : List Tile) (at : ℕ) (t : Tile) → SaysTiles c ts → tile_in ts at ≡ Some t → tile_at (bytes_of c.bytes) at ≡ t
+TileIsReadOff = (c : WindowState) (ts : List Tile) (at : ℕ) (t : Tile) → EncodesTiles c ts → tile_in ts at ≡ Some t
+    → tile_at (bytes_of c.bytes) at ≡ t
 
 -- good tags say tiles, of which no two free ones are neighbours, and only those do
 abbrev pub GoodTagsSayTiles : Type 0
-GoodTagsSayTiles = (c : Cut) → IsTrue (is_legal_size (length c.bytes))
-    → (IsTrue (has_tags current (bytes_of c.bytes) (length c.bytes)) ↔ ((ts : List Tile) × SaysTiles c ts × IsTrue (is_merged ts)))
+GoodTagsSayTiles = (c : WindowState) → IsTrue (is_legal_size (length c.bytes))
+    → (IsTrue (has_tags current (bytes_of c.bytes) (length c.bytes))
+    ↔ ((ts : List Tile) × EncodesTiles c ts × IsTrue (is_merged ts)))
 
 -- the tiles fill the window from its header to its end tag, so their offsets rise
 abbrev pub TilesFillTheWindow : Type 0
-TilesFillTheWindow = (c : Cut) (ts : List Tile) → SaysTiles c ts → Fill current 128 ts (length c.bytes - 16)
+TilesFillTheWindow = (c : WindowState) (ts : List Tile) → EncodesTiles c ts
+    → AreContiguous current 128 ts (length c.bytes - 16)
 
 -- no tag stands in the header, and none in a tile's payload
 abbrev pub HeaderIsBesideTags : Type 0
-HeaderIsBesideTags = (c : Cut) (ts : List Tile) → SaysTiles c ts → (k : ℕ) → k < 128 → IsBesideTags ts k × (k < length c.bytes - 16)
+HeaderIsBesideTags = (c : WindowState) (ts : List Tile) → EncodesTiles c ts → (k : ℕ) → k < 128
+    → IsBesideTags ts k × (k < length c.bytes - 16)
 
 abbrev pub PayloadIsBesideTags : Type 0
-PayloadIsBesideTags = (c : Cut) (ts : List Tile) (at : ℕ) (t : Tile) → SaysTiles c ts → tile_in ts at ≡ Some t
+PayloadIsBesideTags = (c : WindowState) (ts : List Tile) (at : ℕ) (t : Tile) → EncodesTiles c ts
+    → tile_in ts at ≡ Some t
     → (k : ℕ) → at + 16 ≤ k → k < at + t.len → IsBesideTags ts k × (k < length c.bytes - 16)
 
 -- where the tile at an offset stands in a list: what is before it, what is behind, and what becomes of the list where
 -- it changes
-pub record StandsAt (ts : List Tile) (at : ℕ) (t : Tile) : Type 0 where
+pub record SplitsListAt (ts : List Tile) (at : ℕ) (t : Tile) : Type 0 where
   pub front : List Tile
   pub back : List Tile
   pub is : ts ≡ front ++ t ∷ back
@@ -45,35 +52,39 @@ pub record StandsAt (ts : List Tile) (at : ℕ) (t : Tile) : Type 0 where
   pub changed : (change : Tile → List Tile → List Tile) → changed_at at change ts ≡ front ++ change t back
 
 abbrev pub TileStandsInList : Type 0
-TileStandsInList = (ts : List Tile) (at : ℕ) (t : Tile) → tile_in ts at ≡ Some t → StandsAt ts at t
+TileStandsInList = (ts : List Tile) (at : ℕ) (t : Tile) → tile_in ts at ≡ Some t → SplitsListAt ts at t
 
 -- one tile begins at an offset
 abbrev pub OneTileAtAnOffset : Type 0
-OneTileAtAnOffset = (c : Cut) (front : List Tile) (t : Tile) (back : List Tile) → SaysTiles c (front ++ t ∷ back) → tile_in (front ++ t ∷ back) t.offset ≡ Some t
+OneTileAtAnOffset = (c : WindowState) (front : List Tile) (t : Tile) (back : List Tile)
+    → EncodesTiles c (front ++ t ∷ back) → tile_in (front ++ t ∷ back) t.offset ≡ Some t
 
 abbrev pub LastTileEndsList : Type 0
 LastTileEndsList = (ts : List Tile) (t : Tile) → last_in ts ≡ Some t → ts ≡ without_last ts ++ t ∷ []
 
 -- the tags of these tiles stay, and so does the end tag
 pub record SameTags (m m' : Memory) (ts : List Tile) (end : ℕ) : Type 0 where
-  pub tags : AllByRecursion (λ (t : Tile). Same m m' t.offset (t.offset + 16)) ts
-  pub last : Same m m' end (end + 16)
+  pub tags : AllByRecursion (λ (t : Tile). SameBytes m m' t.offset (t.offset + 16)) ts
+  pub last : SameBytes m m' end (end + 16)
 
 -- tags that stay say what they said
 abbrev pub TagsThatStaySayTheSame : Type 0
-TagsThatStaySayTheSame = (c d : Cut) (ts : List Tile) → SaysTiles c ts → length d.bytes ≡ length c.bytes
-    → SameTags (bytes_of c.bytes) (bytes_of d.bytes) ts (length c.bytes - 16) → SaysTiles d ts
+TagsThatStaySayTheSame = (c d : WindowState) (ts : List Tile) → EncodesTiles c ts → length d.bytes ≡ length c.bytes
+    → SameTags (bytes_of c.bytes) (bytes_of d.bytes) ts (length c.bytes - 16) → EncodesTiles d ts
 
 -- so bytes of a payload may change, and bytes of the header
 abbrev pub PayloadMayChange : Type 0
-PayloadMayChange = (c d : Cut) (ts : List Tile) (at : ℕ) (t : Tile) → SaysTiles c ts → tile_in ts at ≡ Some t → length d.bytes ≡ length c.bytes
-    → (from n : ℕ) → at + 16 ≤ from → from + n ≤ at + t.len → SameBut (bytes_of c.bytes) (bytes_of d.bytes) from n → SaysTiles d ts
+PayloadMayChange = (c d : WindowState) (ts : List Tile) (at : ℕ) (t : Tile) → EncodesTiles c ts
+    → tile_in ts at ≡ Some t → length d.bytes ≡ length c.bytes
+    → (from n : ℕ) → at + 16 ≤ from → from + n ≤ at + t.len
+    → SameBytesExcept (bytes_of c.bytes) (bytes_of d.bytes) from n → EncodesTiles d ts
 
 abbrev pub HeaderMayChange : Type 0
-HeaderMayChange = (c d : Cut) (ts : List Tile) → SaysTiles c ts → length d.bytes ≡ length c.bytes
-    → (from n : ℕ) → from + n ≤ 128 → SameBut (bytes_of c.bytes) (bytes_of d.bytes) from n → SaysTiles d ts
+HeaderMayChange = (c d : WindowState) (ts : List Tile) → EncodesTiles c ts → length d.bytes ≡ length c.bytes
+    → (from n : ℕ) → from + n ≤ 128 → SameBytesExcept (bytes_of c.bytes) (bytes_of d.bytes) from n → EncodesTiles d ts
 
 -- the first bytes of a window say what they say as a window of their own
 abbrev pub FrontIsAWindow : Type 0
-FrontIsAWindow = (c d : Cut) (ts : List Tile) → length c.bytes ≤ length d.bytes → Same (bytes_of c.bytes) (bytes_of d.bytes) 0 (length c.bytes)
-    → (SaysTiles c ts ↔ FrontSaysTiles d (length c.bytes) ts)
+FrontIsAWindow = (c d : WindowState) (ts : List Tile) → length c.bytes ≤ length d.bytes
+    → SameBytes (bytes_of c.bytes) (bytes_of d.bytes) 0 (length c.bytes)
+    → (EncodesTiles c ts ↔ FrontSaysTiles d (length c.bytes) ts)

@@ -1,13 +1,15 @@
 -- Lists of tiles: the tile at an offset and its neighbours, and what a list becomes where one of its tiles changes.
-use Rattle.std.specs.Prelude.{◌≡◌, IsTrue, ℕ, ◌+◌, ◌-◌, ◌<◌, ◌≤◌, ◌⊎◌, Bool, false, Option, Some, None, List, [], ◌∷◌, ◌++◌, ◌==◌, if◌then◌else◌}
+use Rattle.std.specs.Prelude.{◌≡◌, IsTrue, ℕ, ◌+◌, ◌-◌, ◌<◌, ◌≤◌, ◌⊎◌, Bool, false, Option, Some, None, List, [], ◌∷◌}
+use Rattle.std.specs.Prelude.{◌++◌, ◌==◌, if◌then◌else◌}
 use Rattle.block_tags.specs.declared.tile.Role.{Role}
 use Rattle.block_tags.specs.declared.tile.Tile.{Tile}
 use Rattle.block_tags.specs.Tiles.{is_tile}
 
 -- tiles of one format that fill the bytes from an offset up to another, one behind the other
-abbrev pub Fill : ℕ → ℕ → List Tile → ℕ → Type 0
-Fill format from [] to = from ≡ to
-Fill format from (t ∷ ts) to = (t.offset ≡ from) × IsTrue (is_tile format t) × Fill format (from + t.len) ts to
+abbrev pub AreContiguous : ℕ → ℕ → List Tile → ℕ → Type 0
+AreContiguous format from [] to = from ≡ to
+AreContiguous format from (t ∷ ts) to = (t.offset ≡ from) × IsTrue (is_tile format t)
+    × AreContiguous format (from + t.len) ts to
 
 -- ---- tiles of a list
 

@@ -1,5 +1,6 @@
 -- Tiles: the parts that fill a segment from 128 to its end tag, and the tags that say so.
-use Rattle.std.specs.Prelude.{◌≡◌, ℕ, zero, suc, ◌+◌, ◌-◌, ◌*◌, ◌%◌, Bool, true, false, ◌&&◌, ◌||◌, not, Option, Some, None, List, [], ◌∷◌, IsTrue, ◌==◌, nat_le, nat_lt, ◌/◌, ◌<◌, ◌^◌, if◌then◌else◌, is_none}
+use Rattle.std.specs.Prelude.{◌≡◌, ℕ, zero, suc, ◌+◌, ◌-◌, ◌*◌, ◌%◌, Bool, true, false, ◌&&◌, ◌||◌, not, Option, Some}
+use Rattle.std.specs.Prelude.{None, List, [], ◌∷◌, IsTrue, ◌==◌, nat_le, nat_lt, ◌/◌, ◌<◌, ◌^◌, if◌then◌else◌, is_none}
 use Rattle.raw_region.specs.Memory.{Memory, word_at}
 use Rattle.block_tags.specs.declared.tile.Role.{Role}
 use Rattle.block_tags.specs.declared.tile.Tile.{Tile}
@@ -45,8 +46,8 @@ AreTags format m at before (t ∷ ts) end =
     × AreTags format m (at + t.len) t.len ts end
 
 -- the tags of a segment of this size say these tiles
-abbrev pub Tiles : ℕ → Memory → ℕ → List Tile → Type 0
-Tiles format m size ts = AreTags format m 128 0 ts (size - 16)
+abbrev pub AreTilesOf : ℕ → Memory → ℕ → List Tile → Type 0
+AreTilesOf format m size ts = AreTags format m 128 0 ts (size - 16)
 
 -- no two free tiles are neighbours
 abbrev pub is_free : Tile → Bool
@@ -98,4 +99,5 @@ has_tags format m size = are_tags format m 128 0 (tiles_of m size) (size - 16) &
 
 -- the law: the tags say one list of tiles
 abbrev pub SayOneList : Type 0
-SayOneList = (format size : ℕ) (m : Memory) (ts : List Tile) → size < 2 ^ 63 → Tiles format m size ts → tiles_of m size ≡ ts
+SayOneList = (format size : ℕ) (m : Memory) (ts : List Tile) → size < 2 ^ 63 → AreTilesOf format m size ts
+    → tiles_of m size ≡ ts

@@ -1,46 +1,47 @@
 -- What contracts say of a window: its tags say a list of tiles. The records named by what a call needs are conditions.
 use Rattle.std.specs.Prelude.{◌≡◌, ℕ, ◌+◌, ◌-◌, ◌%◌, ◌<◌, ◌≤◌, Bool, ◌||◌, not, Option, Some, List, length, IsTrue}
-use Rattle.raw_region.specs.Memory.{Cut, SamePlace, SameBut, bytes_of, word_at}
+use Rattle.raw_region.specs.Memory.{WindowState, SameSurroundings, SameBytesExcept, bytes_of, word_at}
 use Rattle.raw_region.specs.Format.{current}
 use Rattle.block_tags.specs.declared.tile.Role.{Role}
 use Rattle.block_tags.specs.declared.tile.Tile.{Tile}
 use Rattle.block_tags.specs.Format.{is_legal_size}
-use Rattle.block_tags.specs.Tiles.{Tiles, is_free, may_be_red}
+use Rattle.block_tags.specs.Tiles.{AreTilesOf, is_free, may_be_red}
 use Rattle.block_tags.specs.Lists.{tile_in, next_in, last_in, IsBesideTags}
 
 -- the window has a legal size, and its tags say these tiles
-pub record SaysTiles (c : Cut) (ts : List Tile) : Type 0 where
+pub record EncodesTiles (c : WindowState) (ts : List Tile) : Type 0 where
   pub size : IsTrue (is_legal_size (length c.bytes))
-  pub tags : Tiles current (bytes_of c.bytes) (length c.bytes) ts
+  pub tags : AreTilesOf current (bytes_of c.bytes) (length c.bytes) ts
 
 -- the first bytes of the window, so many, are those of a segment whose tags say these tiles
-pub record FrontSaysTiles (c : Cut) (n : ℕ) (ts : List Tile) : Type 0 where
+pub record FrontSaysTiles (c : WindowState) (n : ℕ) (ts : List Tile) : Type 0 where
   pub size : IsTrue (is_legal_size n)
   pub within : n ≤ length c.bytes
-  pub tags : Tiles current (bytes_of c.bytes) n ts
+  pub tags : AreTilesOf current (bytes_of c.bytes) n ts
 
 -- nothing changes but the tags of the old tiles and of the new ones, and the end tag
-pub record SameBesideTags (old new : Cut) (ts us : List Tile) : Type 0 where
-  pub place : SamePlace old new
+pub record SameExceptTags (old new : WindowState) (ts us : List Tile) : Type 0 where
+  pub place : SameSurroundings old new
   pub size : length new.bytes ≡ length old.bytes
-  pub bytes : (k : ℕ) → IsBesideTags ts k → IsBesideTags us k → k < length old.bytes - 16 → bytes_of new.bytes k ≡ bytes_of old.bytes k
+  pub bytes : (k : ℕ) → IsBesideTags ts k → IsBesideTags us k → k < length old.bytes - 16
+      → bytes_of new.bytes k ≡ bytes_of old.bytes k
 
 -- the tags say some tiles
-pub record IsTiled (c : Cut) : Type 0 where
+pub record IsTiledWindow (c : WindowState) : Type 0 where
   pub tiles : List Tile
-  pub said : SaysTiles c tiles
+  pub said : EncodesTiles c tiles
 
 -- a tile begins at this offset
-pub record HasTileAt (c : Cut) (at : ℕ) : Type 0 where
+pub record HasTileAt (c : WindowState) (at : ℕ) : Type 0 where
   pub tiles : List Tile
-  pub said : SaysTiles c tiles
+  pub said : EncodesTiles c tiles
   pub tile : Tile
   pub stands : tile_in tiles at ≡ Some tile
 
 -- the tile there has so many bytes, and at least 32 more
-pub record CanSplit (c : Cut) (at len : ℕ) : Type 0 where
+pub record CanSplit (c : WindowState) (at len : ℕ) : Type 0 where
   pub tiles : List Tile
-  pub said : SaysTiles c tiles
+  pub said : EncodesTiles c tiles
   pub tile : Tile
   pub stands : tile_in tiles at ≡ Some tile
   pub long : 32 ≤ len
@@ -48,9 +49,9 @@ pub record CanSplit (c : Cut) (at len : ℕ) : Type 0 where
   pub room : len + 32 ≤ tile.len
 
 -- the tile behind the one at this offset is free
-pub record HasFreeNext (c : Cut) (at : ℕ) : Type 0 where
+pub record HasFreeNext (c : WindowState) (at : ℕ) : Type 0 where
   pub tiles : List Tile
-  pub said : SaysTiles c tiles
+  pub said : EncodesTiles c tiles
   pub tile : Tile
   pub stands : tile_in tiles at ≡ Some tile
   pub next : Tile
@@ -58,39 +59,39 @@ pub record HasFreeNext (c : Cut) (at : ℕ) : Type 0 where
   pub free : IsTrue (is_free next)
 
 -- the tile there may keep its colour where it is used for this
-pub record MayBeUsed (c : Cut) (at : ℕ) (use_of : Option Role) : Type 0 where
+pub record MayBeUsed (c : WindowState) (at : ℕ) (use_of : Option Role) : Type 0 where
   pub tiles : List Tile
-  pub said : SaysTiles c tiles
+  pub said : EncodesTiles c tiles
   pub tile : Tile
   pub stands : tile_in tiles at ≡ Some tile
   pub colour : IsTrue (not tile.red || may_be_red current use_of)
 
 -- the tile there may have this colour
-pub record MayHaveColour (c : Cut) (at : ℕ) (red : Bool) : Type 0 where
+pub record MayHaveColour (c : WindowState) (at : ℕ) (red : Bool) : Type 0 where
   pub tiles : List Tile
-  pub said : SaysTiles c tiles
+  pub said : EncodesTiles c tiles
   pub tile : Tile
   pub stands : tile_in tiles at ≡ Some tile
   pub colour : IsTrue (not red || may_be_red current tile.use_of)
 
 -- the tags fill the first n bytes, and there is room for one more tile behind them
-pub record CanAppend (c : Cut) (n : ℕ) : Type 0 where
+pub record CanAppend (c : WindowState) (n : ℕ) : Type 0 where
   pub tiles : List Tile
   pub said : FrontSaysTiles c n tiles
   pub size : IsTrue (is_legal_size (length c.bytes))
   pub room : n + 32 ≤ length c.bytes
 
 -- there is a last tile, and it is free
-pub record HasFreeLast (c : Cut) : Type 0 where
+pub record HasFreeLast (c : WindowState) : Type 0 where
   pub tiles : List Tile
-  pub said : SaysTiles c tiles
+  pub said : EncodesTiles c tiles
   pub last : Tile
   pub ends : last_in tiles ≡ Some last
   pub free : IsTrue (is_free last)
 
 -- the word x is written at an offset, and nothing else changes
-pub record IsPut (old new : Cut) (at x : ℕ) : Type 0 where
-  pub place : SamePlace old new
+pub record WritesWord (old new : WindowState) (at x : ℕ) : Type 0 where
+  pub place : SameSurroundings old new
   pub size : length new.bytes ≡ length old.bytes
   pub word : word_at (bytes_of new.bytes) at ≡ x
-  pub rest : SameBut (bytes_of old.bytes) (bytes_of new.bytes) at 8
+  pub rest : SameBytesExcept (bytes_of old.bytes) (bytes_of new.bytes) at 8

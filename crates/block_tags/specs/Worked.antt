@@ -5,7 +5,8 @@ use Rattle.block_tags.specs.declared.tile.Tile.{Tile}
 use Rattle.raw_region.specs.Format.{current}
 use Rattle.block_tags.specs.Format.{is_legal_size}
 use Rattle.block_tags.specs.Tiles.{tag_word, tile_of_word, is_tile, is_merged}
-use Rattle.block_tags.specs.Lists.{Fill, tile_in, first_in, next_in, previous_in, last_in, free_tile, split_at, joined_at, with_use_at, with_red_at, with_free, without_last, laid}
+use Rattle.block_tags.specs.Lists.{AreContiguous, tile_in, first_in, next_in, previous_in, last_in, free_tile, split_at}
+use Rattle.block_tags.specs.Lists.{joined_at, with_use_at, with_red_at, with_free, without_last, laid}
 
 abbrev pub index : Tile
 index = record { offset = 128; len = 48; use_of = Some Index; red = false }
@@ -21,13 +22,14 @@ abbrev pub node : Bool → Tile
 node red = record { offset = 128; len = 64; use_of = Some Node; red = red }
 
 pub record WorkedTiles : Type 0 where
-  pub legal : map is_legal_size (128 ∷ 144 ∷ 160 ∷ 176 ∷ 180 ∷ 1024 ∷ 1073741840 ∷ []) ≡ false ∷ true ∷ false ∷ true ∷ false ∷ true ∷ false ∷ []
+  pub legal : map is_legal_size (128 ∷ 144 ∷ 160 ∷ 176 ∷ 180 ∷ 1024 ∷ 1073741840 ∷ [])
+      ≡ false ∷ true ∷ false ∷ true ∷ false ∷ true ∷ false ∷ []
   pub words : map tag_word (node true ∷ tiles) ≡ 79 ∷ 53 ∷ 49 ∷ 784 ∷ []
   pub read : tile_of_word 128 53 ≡ index
   pub read_red : tile_of_word 128 79 ≡ node true
   pub black_alone : is_tile current (record object { red = true }) ≡ false
   pub too_short : is_tile current (free_tile 128 16) ≡ false
-  pub fill : Fill current 128 tiles 1008
+  pub fill : AreContiguous current 128 tiles 1008
   pub merged : IsTrue (is_merged tiles)
   pub not_merged : is_merged (split_at 224 64 tiles) ≡ false
   pub there : tile_in tiles 176 ≡ Some object

@@ -6,7 +6,7 @@ ghost use Rattle.block_tags.specs.Checks.{StopsAt, good_tiles_of, is_good_tile, 
 ghost use Rattle.block_tags.specs.Format.{is_legal_size};
 ghost use Rattle.block_tags.specs.Tiles.{has_tags, tiles_of};
 
-use crate::sizes::{FIRST, TAG};
+use crate::sizes::{HEADER_LEN, TAG_LEN};
 use crate::tile::{BadTag, Tile};
 use crate::words::{END_MARK, may_be_red, tag_word, tile_there};
 use raw_region::Window;
@@ -16,7 +16,7 @@ const FORMAT: u64 = 2;
 
 /// Whether all tags of a window are right, how many of them were read, and where that ended.
 #[derive(Clone, Copy, Debug, PartialEq, Eq)]
-pub struct Checked {
+pub struct CheckedTags {
     /// Whether the tags say tiles that fill the window.
     pub are_good: bool,
     /// How many tags were read: those of the good tiles, and one more, the end tag or the first wrong one.
@@ -45,23 +45,24 @@ pub fn check(window: &Window) -> Result<(), BadTag>
 
 /// Reads all tags of such a window up to the first that is wrong in the format, and counts them: there is at most one
 /// for each 32 bytes behind the header. Where all are right, these are one for each tile and the end tag.
-pub fn check_counted(format: u64, window: &Window) -> Checked
+pub fn check_counted(format: u64, window: &Window) -> CheckedTags
     requires { IsTrue (is_legal_size (length window.now.bytes)) }
     ensures good { result.are_good ≡ has_tags format (bytes_of window.now.bytes) (length window.now.bytes) }
-    ensures stops { result.are_good ≡ false → StopsAt format (bytes_of window.now.bytes) (length window.now.bytes) result.at }
+    ensures stop { result.are_good ≡ false
+        → StopsAt format (bytes_of window.now.bytes) (length window.now.bytes) result.at }
     ensures read { result.tags ≡ good_tiles_of format (bytes_of window.now.bytes) (length window.now.bytes) + 1 }
     ensures tiles { IsTrue result.are_good
         → result.tags ≡ length (tiles_of (bytes_of window.now.bytes) (length window.now.bytes)) + 1 }
-    ensures few { 32 * result.tags + 112 ≤ length window.now.bytes }
+    ensures max_count { 32 * result.tags + 112 ≤ length window.now.bytes }
 {
-    let end = window.size() - TAG;
+    let end = window.size() - TAG_LEN;
     let mut tags = 1;
-    let mut at = FIRST;
+    let mut at = HEADER_LEN;
     let mut before = 0;
     let mut behind_free = false;
     'tags: while at < end {
         if !is_good(format, window, at, before, behind_free, end) {
-            return Checked {
+            return CheckedTags {
                 are_good: false,
                 tags,
                 at,
@@ -74,14 +75,15 @@ pub fn check_counted(format: u64, window: &Window) -> Checked
         behind_free = tile.use_of.is_none();
     }
     let are_good = ends_well(window, end, before);
-    Checked { are_good, tags, at }
+    CheckedTags { are_good, tags, at }
 }
 
 /// Whether the end tag stands at `end`, behind a tile of `before` bytes.
 fn ends_well(window: &Window, end: u64, before: u64) -> bool
-    requires small { end < 2 ^ 63 }
-    requires inside { end + TAG ≤ length window.now.bytes }
-    ensures { result ≡ ((word_at (bytes_of window.now.bytes) end == before) && (word_at (bytes_of window.now.bytes) (end + 8) == 1)) }
+    requires max_size { end < 2 ^ 63 }
+    requires in_bounds { end + TAG ≤ length window.now.bytes }
+    ensures { result ≡ ((word_at (bytes_of window.now.bytes) end == before)
+        && (word_at (bytes_of window.now.bytes) (end + 8) == 1)) }
 {
     window.read_u64(end) == before && window.read_u64(end + 8) == END_MARK
 }
@@ -89,8 +91,8 @@ fn ends_well(window: &Window, end: u64, before: u64) -> bool
 /// Whether a tag that is good in the format stands at `at`, of a tile that ends by `end`, behind one of `before` bytes.
 #[tactic(auto, unfolding(crate::specs::Checks::is_good_tile))]
 fn is_good(format: u64, window: &Window, at: u64, before: u64, behind_free: bool, end: u64) -> bool
-    requires inside { at < end }
-    requires small { end < 2 ^ 63 }
+    requires in_bounds { at < end }
+    requires max_size { end < 2 ^ 63 }
     requires end { end + TAG ≤ length window.now.bytes }
     ensures { result ≡ is_good_tile format (bytes_of window.now.bytes) at before behind_free end }
 {

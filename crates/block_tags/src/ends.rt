@@ -3,23 +3,23 @@ ghost use Rattle.std.specs.Prelude.{◌-◌, List, [], IsTrue, length};
 ghost use Rattle.block_tags.specs.declared.tile.Tile.{Tile};
 ghost use Rattle.block_tags.specs.Format.{is_legal_size};
 ghost use Rattle.block_tags.specs.Lists.{laid, with_free, without_last};
-ghost use Rattle.block_tags.specs.Windows.{CanAppend, FrontSaysTiles, HasFreeLast, SameBesideTags, SaysTiles};
+ghost use Rattle.block_tags.specs.Windows.{CanAppend, FrontSaysTiles, HasFreeLast, SameExceptTags, EncodesTiles};
 
-use crate::sizes::{FIRST, TAG};
+use crate::sizes::{HEADER_LEN, TAG_LEN};
 use crate::words::{END_MARK, put_word};
 use raw_region::Window;
 
 /// Writes the tags of one free tile that fills the window behind the header, or of none where there is no room for one.
 pub fn lay(window: &mut Window)
     requires { IsTrue (is_legal_size (length window.old.bytes)) }
-    ensures tags { SaysTiles window.new (laid (length window.old.bytes)) }
-    ensures rest { SameBesideTags window.old window.new [] (laid (length window.old.bytes)) }
+    ensures tags { EncodesTiles window.new (laid (length window.old.bytes)) }
+    ensures frame { SameExceptTags window.old window.new [] (laid (length window.old.bytes)) }
 {
-    let end = window.size() - TAG;
-    let room = end - FIRST;
+    let end = window.size() - TAG_LEN;
+    let room = end - HEADER_LEN;
     // Where there is no room, the end tag takes the place of the tile's tag.
-    put_word(window, FIRST, 0);
-    put_word(window, FIRST + 8, room);
+    put_word(window, HEADER_LEN, 0);
+    put_word(window, HEADER_LEN + 8, room);
     put_word(window, end, room);
     put_word(window, end + 8, END_MARK);
 }
@@ -29,12 +29,12 @@ pub fn lay(window: &mut Window)
 pub fn append_free(window: &mut Window, old_size: u64)
     requires { CanAppend window.old old_size }
     ensures tags { (ts : List Tile) → FrontSaysTiles window.old old_size ts
-        → SaysTiles window.new (with_free ts (old_size - TAG) (length window.old.bytes - TAG)) }
-    ensures rest { (ts : List Tile) → FrontSaysTiles window.old old_size ts
-        → SameBesideTags window.old window.new ts (with_free ts (old_size - TAG) (length window.old.bytes - TAG)) }
+        → EncodesTiles window.new (with_free ts (old_size - TAG) (length window.old.bytes - TAG)) }
+    ensures frame { (ts : List Tile) → FrontSaysTiles window.old old_size ts
+        → SameExceptTags window.old window.new ts (with_free ts (old_size - TAG) (length window.old.bytes - TAG)) }
 {
     let size = window.size();
-    let end = size - TAG;
+    let end = size - TAG_LEN;
     let len = size - old_size;
     put_word(window, old_size - 8, len);
     put_word(window, end, len);
@@ -45,13 +45,13 @@ pub fn append_free(window: &mut Window, old_size: u64)
 /// and an end tag.
 pub fn drop_last(window: &mut Window) -> u64
     requires { HasFreeLast window.old }
-    ensures tags { (ts : List Tile) → SaysTiles window.old ts
+    ensures tags { (ts : List Tile) → EncodesTiles window.old ts
         → FrontSaysTiles window.new result (without_last ts) }
-    ensures rest { (ts : List Tile) → SaysTiles window.old ts
-        → SameBesideTags window.old window.new ts (without_last ts) }
+    ensures frame { (ts : List Tile) → EncodesTiles window.old ts
+        → SameExceptTags window.old window.new ts (without_last ts) }
 {
-    let end = window.size() - TAG;
+    let end = window.size() - TAG_LEN;
     let last = end - window.read_u64(end);
     put_word(window, last + 8, END_MARK);
-    last + TAG
+    last + TAG_LEN
 }

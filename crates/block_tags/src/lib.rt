@@ -15,8 +15,8 @@ mod tile;
 mod words;
 
 pub use changing::{merge_next, set_red, set_use, split};
-pub use checking::{Checked, check, check_counted};
+pub use checking::{CheckedTags, check, check_counted};
 pub use ends::{append_free, drop_last, lay};
 pub use reading::{first, last, next, previous, red, tile_at};
-pub use sizes::{FIRST, MAX_SEGMENT_LEN, TAG, is_legal_size};
+pub use sizes::{HEADER_LEN, MAX_SEGMENT_LEN, TAG_LEN, is_legal_size};
 pub use tile::{BadTag, Role, Tile};

@@ -2,9 +2,9 @@
 ghost use Rattle.std.specs.Prelude.{◌≡◌, Some, List};
 ghost use Rattle.block_tags.specs.declared.tile.Tile.{Tile};
 ghost use Rattle.block_tags.specs.Lists.{first_in, last_in, next_in, previous_in, tile_in};
-ghost use Rattle.block_tags.specs.Windows.{HasTileAt, IsTiled, SaysTiles};
+ghost use Rattle.block_tags.specs.Windows.{HasTileAt, IsTiledWindow, EncodesTiles};
 
-use crate::sizes::{FIRST, TAG};
+use crate::sizes::{HEADER_LEN, TAG_LEN};
 use crate::tile::Tile;
 use crate::words::tile_there;
 use raw_region::Window;
@@ -12,18 +12,18 @@ use raw_region::Window;
 /// The tile that begins at the offset `at`.
 pub fn tile_at(window: &Window, at: u64) -> Tile
     requires { HasTileAt window.now at }
-    ensures { (ts : List Tile) → SaysTiles window.now ts → tile_in ts at ≡ Some result }
+    ensures { (ts : List Tile) → EncodesTiles window.now ts → tile_in ts at ≡ Some result }
 {
     tile_there(window, at)
 }
 
 /// The tile behind the header, or nothing where there is none.
 pub fn first(window: &Window) -> Option<Tile>
-    requires { IsTiled window.now }
-    ensures { (ts : List Tile) → SaysTiles window.now ts → result ≡ first_in ts }
+    requires { IsTiledWindow window.now }
+    ensures { (ts : List Tile) → EncodesTiles window.now ts → result ≡ first_in ts }
 {
-    if FIRST < window.size() - TAG {
-        Some(tile_there(window, FIRST))
+    if HEADER_LEN < window.size() - TAG_LEN {
+        Some(tile_there(window, HEADER_LEN))
     } else {
         None
     }
@@ -31,10 +31,10 @@ pub fn first(window: &Window) -> Option<Tile>
 
 /// The tile before the end tag, or nothing where there is none.
 pub fn last(window: &Window) -> Option<Tile>
-    requires { IsTiled window.now }
-    ensures { (ts : List Tile) → SaysTiles window.now ts → result ≡ last_in ts }
+    requires { IsTiledWindow window.now }
+    ensures { (ts : List Tile) → EncodesTiles window.now ts → result ≡ last_in ts }
 {
-    let end = window.size() - TAG;
+    let end = window.size() - TAG_LEN;
     let before = window.read_u64(end);
     if before == 0 {
         None
@@ -46,10 +46,10 @@ pub fn last(window: &Window) -> Option<Tile>
 /// The tile behind the one at `at`, or nothing where that is the last.
 pub fn next(window: &Window, at: u64) -> Option<Tile>
     requires { HasTileAt window.now at }
-    ensures { (ts : List Tile) → SaysTiles window.now ts → result ≡ next_in ts at }
+    ensures { (ts : List Tile) → EncodesTiles window.now ts → result ≡ next_in ts at }
 {
     let behind = at + tile_at(window, at).len;
-    if behind < window.size() - TAG {
+    if behind < window.size() - TAG_LEN {
         Some(tile_there(window, behind))
     } else {
         None
@@ -59,7 +59,7 @@ pub fn next(window: &Window, at: u64) -> Option<Tile>
 /// The tile before the one at `at`, or nothing where that is the first.
 pub fn previous(window: &Window, at: u64) -> Option<Tile>
     requires { HasTileAt window.now at }
-    ensures { (ts : List Tile) → SaysTiles window.now ts → result ≡ previous_in ts at }
+    ensures { (ts : List Tile) → EncodesTiles window.now ts → result ≡ previous_in ts at }
 {
     let before = window.read_u64(at);
     if before == 0 {
@@ -72,7 +72,7 @@ pub fn previous(window: &Window, at: u64) -> Option<Tile>
 /// Whether the tile at `at` is red.
 pub fn red(window: &Window, at: u64) -> bool
     requires { HasTileAt window.now at }
-    ensures { (ts : List Tile) (tile : Tile) → SaysTiles window.now ts → tile_in ts at ≡ Some tile
+    ensures { (ts : List Tile) (tile : Tile) → EncodesTiles window.now ts → tile_in ts at ≡ Some tile
         → result ≡ tile.red }
 {
     tile_at(window, at).red

@@ -3,10 +3,10 @@ ghost use Rattle.std.specs.Prelude.{◌≡◌};
 ghost use Rattle.block_tags.specs.Format.{is_legal_size as is_legal};
 
 /// The number of bytes that a tag takes in front of a tile's payload, and the end tag at the end of a segment.
-pub const TAG: u64 = 16;
+pub const TAG_LEN: u64 = 16;
 
 /// The number of bytes of the header: where the first tile begins, or the end tag where there is none.
-pub const FIRST: u64 = 128;
+pub const HEADER_LEN: u64 = 128;
 
 /// The length of the largest segment, in bytes. No window is longer, and no request for a block of more is met.
 pub const MAX_SEGMENT_LEN: u64 = 1073741824;

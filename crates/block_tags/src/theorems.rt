@@ -1,6 +1,9 @@
 //! What holds of the tiles that tags say. Each law is the contract of a function that does nothing.
 
-ghost use Rattle.block_tags.specs.Laws.{FrontIsAWindow, GoodTagsSayTiles, HeaderIsBesideTags, HeaderMayChange, LastTileEndsList, OneTileAtAnOffset, PayloadIsBesideTags, PayloadMayChange, TagsThatStaySayTheSame, TileIsReadOff, TileStandsInList, TilesAreReadOff, TilesFillTheWindow};
+ghost use Rattle.block_tags.specs.Laws.{FrontIsAWindow, GoodTagsSayTiles, HeaderIsBesideTags, HeaderMayChange};
+ghost use Rattle.block_tags.specs.Laws.{LastTileEndsList, OneTileAtAnOffset, PayloadIsBesideTags, PayloadMayChange};
+ghost use Rattle.block_tags.specs.Laws.{TagsThatStaySayTheSame, TileIsReadOff, TileStandsInList, TilesAreReadOff};
+ghost use Rattle.block_tags.specs.Laws.{TilesFillTheWindow};
 ghost use Rattle.block_tags.specs.Tiles.{SayOneList};
 ghost use Rattle.block_tags.specs.Worked.{WorkedTiles};
 

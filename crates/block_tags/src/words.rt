@@ -1,10 +1,12 @@
 //! The two words of a tag: the length of the tile before, and the tile's own length with its use and colour.
 ghost use Rattle.std.specs.Prelude.{◌≡◌, ◌+◌, ◌≤◌, ◌<◌, ◌^◌, length};
 ghost use Rattle.raw_region.specs.Memory.{bytes_of};
-ghost use Rattle.block_tags.specs.Tiles.{may_be_red as may_be_red_in, role_bits as bits_of_role, role_of_bits as role_of, tag_word as word_of, tile_at as tile_said, tile_of_word as tile_of};
-ghost use Rattle.block_tags.specs.Windows.{IsPut};
+ghost use Rattle.block_tags.specs.Tiles.{may_be_red as may_be_red_in, role_bits as bits_of_role};
+ghost use Rattle.block_tags.specs.Tiles.{role_of_bits as role_of, tag_word as word_of, tile_at as tile_said};
+ghost use Rattle.block_tags.specs.Tiles.{tile_of_word as tile_of};
+ghost use Rattle.block_tags.specs.Windows.{WritesWord};
 
-use crate::sizes::TAG;
+use crate::sizes::TAG_LEN;
 use crate::tile::{Role, Tile};
 use raw_region::Window;
 
@@ -76,8 +78,8 @@ pub fn may_be_red(format: u64, use_of: Option<Role>) -> bool
 
 /// The tile that the 16 bytes at `at` say.
 pub fn tile_there(window: &Window, at: u64) -> Tile
-    requires small { at < 2 ^ 63 }
-    requires inside { at + TAG ≤ length window.now.bytes }
+    requires max_size { at < 2 ^ 63 }
+    requires in_bounds { at + TAG ≤ length window.now.bytes }
     ensures { result ≡ tile_said (bytes_of window.now.bytes) at }
 {
     tile_of_word(at, window.read_u64(at + 8))
@@ -86,7 +88,7 @@ pub fn tile_there(window: &Window, at: u64) -> Tile
 /// Writes the word at `at`, one of the two of a tag.
 pub fn put_word(window: &mut Window, at: u64, word: u64)
     requires { at + 8 ≤ length window.old.bytes }
-    ensures { IsPut window.old window.new at word }
+    ensures { WritesWord window.old window.new at word }
 {
     window.write_u64(at, word);
 }

@@ -9,7 +9,7 @@ use std::alloc::Allocator;
 use std::marker::Model;
 
 /// A box that is taken apart: it owns what its pointer leads to, as the box did.
-pub struct LooseBox<T, A: Allocator> {
+pub struct RawBox<T, A: Allocator> {
     /// Where the value lies.
     pub at: *mut T,
     /// What gives its memory back.
@@ -18,24 +18,24 @@ pub struct LooseBox<T, A: Allocator> {
     pub ghost value: { T },
 }
 
-impl<T, A: Allocator> Model for LooseBox<T, A> {
+impl<T, A: Allocator> Model for RawBox<T, A> {
     ghost also_owns = { λ l. box_owns (A.dealloc_token l.alloc) T.row l.at l.value };
 }
 
-impl<T: Drop, A: Allocator> LooseBox<T, A> {
+impl<T: Drop, A: Allocator> RawBox<T, A> {
     /// Takes a box apart. It costs nothing.
-    pub fn from_box(whole: Box<T, A>) -> LooseBox<T, A>
+    pub fn from_box(whole: Box<T, A>) -> RawBox<T, A>
         ensures { result.value ≡ whole.value }
     {
         let (at, alloc) = Box::into_raw_with_allocator(whole);
-        LooseBox { at, alloc }
+        RawBox { at, alloc }
     }
 
     /// Makes the box again. It costs nothing.
     pub fn into_box(self) -> Box<T, A>
         ensures { result.value ≡ self.value }
     {
-        let LooseBox { at, alloc } = self;
+        let RawBox { at, alloc } = self;
         unsafe { Box::from_raw(alloc, at) }
     }
 }

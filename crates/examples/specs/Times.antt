@@ -32,5 +32,6 @@ time_transitive x y z h k = grind arith
 one_time : (g h m n : ℕ) → are_bytes g m ≡ true → are_bytes h n ≡ true → minutes g m ≡ minutes h n → (g ≡ h) × (m ≡ n)
 one_time g h m n a b e = grind arith
 
-pub time_total : (g h m n : ℕ) → are_bytes g m ≡ true → are_bytes h n ≡ true → nat_lt (minutes g m) (minutes h n) ≡ false → nat_lt (minutes h n) (minutes g m) ≡ false → (g ≡ h) × (m ≡ n)
+pub time_total : (g h m n : ℕ) → are_bytes g m ≡ true → are_bytes h n ≡ true
+    → nat_lt (minutes g m) (minutes h n) ≡ false → nat_lt (minutes h n) (minutes g m) ≡ false → (g ≡ h) × (m ≡ n)
 time_total g h m n a b e f = one_time g h m n a b (grind arith)

@@ -45,7 +45,7 @@ fn tell_of_all(rt: &HostRuntime, segment: &Segment) -> Result<()> {
 
 /// Tells of one object by its handle.
 fn tell_of_one(rt: &HostRuntime, segment: &Segment, handle: u64) -> Result<()> {
-    let (known, len) = (segment.belongs(handle), segment.length_of(handle)?);
+    let (known, len) = (segment.is_object_handle(handle), segment.length_of(handle)?);
     println!(rt; "a list: #{handle} is an object: {known}, of {len} elements")?;
     Ok(())
 }

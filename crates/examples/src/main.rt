@@ -1,4 +1,5 @@
-//! Thirteen short programs over the library, on files in the folder that they run in. Each prints what it found. Where a
+//! Thirteen short programs over the library, on files in the folder that they run in. Each prints what it found. Where
+//! a
 //! word is given, the inventory alone runs, on the file that it names.
 #![tactic(auto)]
 
@@ -11,10 +12,10 @@ mod moving;
 mod numbers;
 mod prices;
 mod shop;
-mod strangers;
 mod texts;
 mod time;
 mod timetable;
+mod untrusted_file;
 mod views;
 
 use anyhow::Result;
@@ -46,7 +47,7 @@ fn run_six(rt: &HostRuntime, disk: &mut impl Disk) -> Result<()> {
     texts::keep_a_list(rt, disk)?;
     numbers::keep_primes(rt, disk)?;
     growing::grow_when_full(rt, disk)?;
-    strangers::open_a_stranger(rt, disk)
+    untrusted_file::open_a_stranger(rt, disk)
 }
 
 /// Runs all thirteen, the last of them twice.

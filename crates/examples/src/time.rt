@@ -58,11 +58,14 @@ impl Plain for Time {
 
     ghost reads = { λ t h. refl };
 
-    ghost differs = { λ s t h k e. let same = laws.time_differs s.hour t.hour s.minute t.minute e in λ j. record { hour = same.0 j; minute = same.1 j } };
+    ghost differs = { λ s t h k e. let same = laws.time_differs s.hour t.hour s.minute t.minute e
+        in λ j. record { hour = same.0 j; minute = same.1 j } };
 
     ghost irreflexive = { λ t. laws.time_irreflexive (minutes t.hour t.minute) };
 
-    ghost transitive = { λ s t u. laws.time_transitive (minutes s.hour s.minute) (minutes t.hour t.minute) (minutes u.hour u.minute) };
+    ghost transitive = { λ s t u. laws.time_transitive (minutes s.hour s.minute) (minutes t.hour t.minute)
+        (minutes u.hour u.minute) };
 
-    ghost total = { λ s t h k e f. let same = laws.time_total s.hour t.hour s.minute t.minute h k e f in λ j. record { hour = same.0 j; minute = same.1 j } };
+    ghost total = { λ s t h k e f. let same = laws.time_total s.hour t.hour s.minute t.minute h k e f
+        in λ j. record { hour = same.0 j; minute = same.1 j } };
 }

@@ -1,8 +1,9 @@
 -- A segment that is refused more bytes by its region alone may have them in another.
-use Rattle.std.proofs.Common.{◌≡◌, refl, sym, subst, ap, ◌∙◌, ℕ, ◌+◌, ◌<◌, Bool, true, false, Option, Some, None, Err, arith, nat_lt}
+use Rattle.std.proofs.Common.{◌≡◌, refl, sym, subst, ap, ◌∙◌, ℕ, ◌+◌, ◌<◌, Bool, true, false, Option, Some, None, Err}
+use Rattle.std.proofs.Common.{arith, nat_lt}
 use Rattle.segment_manager.specs.declared.modes.Mode.{Mode}
 use Rattle.segment_manager.specs.Directory.{Directory}
-use Rattle.segment_manager.specs.State.{IsSegment, State, StandsFor}
+use Rattle.segment_manager.specs.State.{IsSegment, SegmentState, DenotesCurrent}
 use Rattle.segment_manager.specs.Step.{is_read_only}
 use Rattle.grow_shrink.specs.declared.refusals.GrowError.{GrowError}
 use Rattle.grow_shrink.specs.declared.refusals.GrowError.TheVariants.{ReadOnly, BadGrow, TooLarge, RegionTooSmall}
@@ -34,9 +35,9 @@ may_grow : (mode : Mode) (size extra : ℕ) → AreNot (is_read_only mode) (is_b
     → growth_reason mode size extra ≡ None
 may_grow mode size extra h = by_none mode size extra (size + extra) h.reading h.bad h.large (not_less (size + extra))
 
-module _ (s : State) (extra : ℕ) (why : GrowError) (is : why ≡ RegionTooSmall)
+module _ (s : SegmentState) (extra : ℕ) (why : GrowError) (is : why ≡ RegionTooSmall)
     (refused : IsRefusedBy s (Err why) (λ d. growth_refusal s.mode d.size extra (room_of s.cut))) where
-  are_short : (d : Directory) → StandsFor s.cut.bytes d
+  are_short : (d : Directory) → DenotesCurrent s.cut.bytes d
       → AreNot (is_read_only s.mode) (is_bad extra) (nat_lt 1073741824 (d.size + extra))
       × (nat_lt (room_of s.cut) (d.size + extra) ≡ true)
   are_short d h = region_alone (is_read_only s.mode) (is_bad extra) (nat_lt 1073741824 (d.size + extra))

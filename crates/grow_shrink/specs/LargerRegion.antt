@@ -1,10 +1,11 @@
 -- A segment that grows, in a larger region where its own has no room.
-use Rattle.std.specs.Prelude.{◌≡◌, ◌≤◌, ◌<◌, ◌⊎◌, ℕ, ◌+◌, ◌*◌, ◌/◌, ◌%◌, false, Option, Some, None, Result, MatchResult, length, max, min}
+use Rattle.std.specs.Prelude.{◌≡◌, ◌≤◌, ◌<◌, ◌⊎◌, ℕ, ◌+◌, ◌*◌, ◌/◌, ◌%◌, false, Option, Some, None, Result, MatchResult}
+use Rattle.std.specs.Prelude.{length, max, min}
 use Rattle.raw_region.specs.Refusals.{refusal_of}
 use Rattle.segment_manager.specs.declared.modes.Mode.{Mode}
 use Rattle.segment_manager.specs.Directory.{Directory}
 use Rattle.segment_manager.specs.blocks.Resized.{Resizes, grown}
-use Rattle.segment_manager.specs.State.{State, StandsFor}
+use Rattle.segment_manager.specs.State.{SegmentState, DenotesCurrent}
 use Rattle.segment_manager.specs.Step.{is_read_only}
 use Rattle.grow_shrink.specs.declared.larger_region.GrowOrMoveError.{GrowOrMoveError}
 use Rattle.grow_shrink.specs.declared.larger_region.GrowOrMoveError.TheVariants.{Growth, OutOfMemory}
@@ -20,15 +21,15 @@ abbrev pub growth_reason : Mode → ℕ → ℕ → Option GrowError
 growth_reason mode size extra = growth_refusal mode size extra (size + extra)
 
 -- no such reason stands against so many bytes more
-pub record MayGrow (s : State) (extra : ℕ) : Type 0 where
-  pub may : (d : Directory) → StandsFor s.cut.bytes d → growth_reason s.mode d.size extra ≡ None
+pub record MayGrow (s : SegmentState) (extra : ℕ) : Type 0 where
+  pub may : (d : Directory) → DenotesCurrent s.cut.bytes d → growth_reason s.mode d.size extra ≡ None
 
 -- the region ends before the segment with so many bytes more would
-abbrev pub IsTooLongFor : State → ℕ → Type 0
+abbrev pub IsTooLongFor : SegmentState → ℕ → Type 0
 IsTooLongFor s extra = room_of s.cut < length s.cut.bytes + extra
 
 -- it may grow, and its region is too short for that
-pub record IsShortOfRoom (s : State) (extra : ℕ) : Type 0 where
+pub record IsShortOfRoom (s : SegmentState) (extra : ℕ) : Type 0 where
   pub writing : is_read_only s.mode ≡ false
   pub long : 32 ≤ extra
   pub whole : extra % 16 ≡ 0
@@ -37,28 +38,29 @@ pub record IsShortOfRoom (s : State) (extra : ℕ) : Type 0 where
   pub short : IsTooLongFor s extra
 
 -- it is open as it was, and each directory has so many bytes more; it leaves its place only where that is too short
-pub record GrowsOrMovesOk (old new : State) (extra : ℕ) : Type 0 where
+pub record GrowsOrMovesOk (old new : SegmentState) (extra : ℕ) : Type 0 where
   pub may : MayGrow old extra
   pub mode : new.mode ≡ old.mode
-  pub denotes : (d : Directory) → StandsFor old.cut.bytes d → StandsFor new.cut.bytes (grown d extra)
+  pub denotes : (d : Directory) → DenotesCurrent old.cut.bytes d → DenotesCurrent new.cut.bytes (grown d extra)
   pub place : Resizes old new (λ d. grown d extra) ⊎ IsTooLongFor old extra
 
 -- a reason stands against it, which is the one that is told
-pub record HasGrowthReason (s : State) (extra : ℕ) (reason : GrowError) : Type 0 where
-  pub applies : (d : Directory) → StandsFor s.cut.bytes d → growth_reason s.mode d.size extra ≡ Some reason
+pub record HasGrowthReason (s : SegmentState) (extra : ℕ) (reason : GrowError) : Type 0 where
+  pub applies : (d : Directory) → DenotesCurrent s.cut.bytes d → growth_reason s.mode d.size extra ≡ Some reason
 
 -- nothing changes, for the first reason that stands against it, or because memory for a larger region was refused
-abbrev pub GrowsOrMovesErr : State → State → ℕ → GrowOrMoveError → Type 0
+abbrev pub GrowsOrMovesErr : SegmentState → SegmentState → ℕ → GrowOrMoveError → Type 0
 GrowsOrMovesErr old new extra (Growth reason) = (new ≡ old) × HasGrowthReason old extra reason
 GrowsOrMovesErr old new extra (OutOfMemory refusal) =
     (new ≡ old) × IsShortOfRoom old extra × (refusal ≡ refusal_of (region_len (length old.cut.bytes + extra)))
 
 -- `grow_or_move`
-abbrev pub GrowsOrMoves : State → State → ℕ → Result (Unit {0}) GrowOrMoveError → Type 0
-GrowsOrMoves old new extra result = MatchResult result (λ u. GrowsOrMovesOk old new extra) (λ why. GrowsOrMovesErr old new extra why)
+abbrev pub GrowsOrMoves : SegmentState → SegmentState → ℕ → Result (Unit {0}) GrowOrMoveError → Type 0
+GrowsOrMoves old new extra result =
+    MatchResult result (λ u. GrowsOrMovesOk old new extra) (λ why. GrowsOrMovesErr old new extra why)
 
 -- the bytes and the mode of a segment at the front of a region with room for so many bytes
-pub record CopiesWithRoom (old new : State) (bytes : ℕ) : Type 0 where
+pub record CopiesWithRoom (old new : SegmentState) (bytes : ℕ) : Type 0 where
   pub bytes_same : new.cut.bytes ≡ old.cut.bytes
   pub mode : new.mode ≡ old.mode
   pub room : bytes ≤ room_of new.cut

@@ -1,10 +1,10 @@
 -- A directory in a larger or smaller segment.
 use Rattle.std.specs.Prelude.{◌≡◌, ℕ, ◌+◌, ◌-◌, ◌%◌, ◌≤◌, not, ◌||◌, Option, Some, None, Result, Ok, Err, ◌==◌, nat_lt}
 use Rattle.std.specs.Prelude.{if◌then◌else◌, length}
-use Rattle.raw_region.specs.Memory.{Cut, whole}
+use Rattle.raw_region.specs.Memory.{WindowState, whole}
 use Rattle.segment_manager.specs.declared.modes.Mode.{Mode}
 use Rattle.segment_manager.specs.Directory.{Directory, IsDirectory}
-use Rattle.segment_manager.specs.State.{State, StandsFor}
+use Rattle.segment_manager.specs.State.{SegmentState, DenotesCurrent}
 use Rattle.segment_manager.specs.Step.{is_read_only}
 use Rattle.grow_shrink.specs.declared.refusals.GrowError.{GrowError}
 use Rattle.grow_shrink.specs.declared.refusals.GrowError.TheVariants.{ReadOnly, BadGrow, TooLarge, RegionTooSmall}
@@ -12,7 +12,7 @@ use Rattle.grow_shrink.specs.declared.refusals.GrowError.TheVariants.{ReadOnly, 
 pub use Rattle.segment_manager.specs.blocks.Resized.{grown, shrunk}
 
 -- how many bytes the region has from the segment's base on
-abbrev pub room_of : Cut → ℕ
+abbrev pub room_of : WindowState → ℕ
 room_of c = length (whole c) - length c.before
 
 -- the first reason not to grow a segment of a size by extra bytes, where its region has so many bytes from its base on
@@ -34,12 +34,14 @@ refusal_of (Ok u) = None
 refusal_of (Err why) = Some why
 
 -- the call is refused exactly where this says so of the directory, and for this reason
-pub record IsRefusedBy (old : State) (result : Result (Unit {0}) GrowError) (why : Directory → Option GrowError) : Type 0 where
-  pub refused : (d : Directory) → StandsFor old.cut.bytes d → refusal_of result ≡ why d
+pub record IsRefusedBy (old : SegmentState) (result : Result (Unit {0}) GrowError) (why : Directory
+    → Option GrowError) : Type 0 where
+  pub refused : (d : Directory) → DenotesCurrent old.cut.bytes d → refusal_of result ≡ why d
 
 -- the law: where a segment may be so much larger, its directory is one there
 abbrev pub GrownIsDirectory : Type 0
-GrownIsDirectory = (format : ℕ) (d : Directory) (extra : ℕ) → IsDirectory format d → 32 ≤ extra → extra % 16 ≡ 0 → d.size + extra ≤ 1073741824 → IsDirectory format (grown d extra)
+GrownIsDirectory = (format : ℕ) (d : Directory) (extra : ℕ) → IsDirectory format d → 32 ≤ extra → extra % 16 ≡ 0
+    → d.size + extra ≤ 1073741824 → IsDirectory format (grown d extra)
 
 -- the law: what is left behind the last extent can be given up
 abbrev pub ShrunkIsDirectory : Type 0

@@ -1,17 +1,18 @@
 //! A segment that grows, in a larger region if its own has no room; copies of segments, and the regions that images are
 //! read into.
 ghost use Rattle.std.specs.Prelude.{◌≡◌, ◌≤◌, ◌+◌, length, min, IfErr, IfOk, MatchResult};
-ghost use Rattle.raw_region.specs.Memory.{SamePlace, cut_at, zeros};
+ghost use Rattle.raw_region.specs.Memory.{SameSurroundings, cut_at, zeros};
 ghost use Rattle.raw_region.specs.{Refusals.refusal_of, Regions.IsCapacity};
 ghost use Rattle.segment_manager.specs.State.{IsSegment};
-ghost use Rattle.grow_shrink.specs.LargerRegion.{CopiesWithRoom, GrowsOrMoves, GrowsOrMovesOk, IsShortOfRoom, region_len};
+ghost use Rattle.grow_shrink.specs.LargerRegion.{CopiesWithRoom, GrowsOrMoves, GrowsOrMovesOk, IsShortOfRoom};
+ghost use Rattle.grow_shrink.specs.LargerRegion.{region_len};
 
 use crate::refusals::GrowError;
 use crate::resizing::grow;
 use block_tags::MAX_SEGMENT_LEN;
 use raw_region::{OutOfMemory, RawRegion, Window};
 use segment_manager::Segment;
-use segment_manager::conditioned::{adopt, extend_end};
+use segment_manager::unchecked::{adopt, extend_end};
 use std::alloc::Global;
 use thiserror::Error;
 
@@ -52,7 +53,8 @@ pub fn region_for(alloc: Global, bytes: u64) -> Result<RawRegion, OutOfMemory>
     RawRegion::new(alloc, capacity_for(bytes))
 }
 
-/// Lengthens a segment by `extra` bytes, which are free: a multiple of 16, at least 32. It moves into a larger region if
+/// Lengthens a segment by `extra` bytes, which are free: a multiple of 16, at least 32. It moves into a larger region
+/// if
 /// its own has no room. Every object keeps its handle and its value.
 ///
 /// # Errors
@@ -76,7 +78,7 @@ pub fn grow_or_move(alloc: Global, segment: &mut Segment, extra: u64) -> Result<
 pub fn size_of(segment: &Segment) -> u64
     ensures size { result ≡ length segment.now.cut.bytes }
     ensures most { result ≤ 1073741824 }
-    ensures denotes { IsSegment segment.now.cut.bytes }
+    ensures denotation { IsSegment segment.now.cut.bytes }
 {
     segment.as_bytes().len() as u64
 }
@@ -89,7 +91,7 @@ fn grow_elsewhere(
     extra: u64,
 ) -> Result<(), GrowOrMoveError>
     requires size { size ≡ length segment.old.cut.bytes }
-    requires short { IsShortOfRoom segment.old extra }
+    requires max_len { IsShortOfRoom segment.old extra }
     ensures { GrowsOrMoves segment.old segment.new extra result }
 {
     match grown_copy(alloc, segment, size, extra) {
@@ -109,8 +111,8 @@ fn grown_copy(
     extra: u64,
 ) -> Result<Segment, OutOfMemory>
     requires size { size ≡ length segment.now.cut.bytes }
-    requires short { IsShortOfRoom segment.now extra }
-    ensures moved { IfOk result (λ copy. GrowsOrMovesOk segment.now copy extra) }
+    requires max_len { IsShortOfRoom segment.now extra }
+    ensures changes { IfOk result (λ copy. GrowsOrMovesOk segment.now copy extra) }
     ensures refused { IfErr result (λ refusal. refusal ≡ refusal_of (region_len (size + extra))) }
 {
     match copy_with_room(alloc, segment, size + extra) {
@@ -125,9 +127,9 @@ fn grown_copy(
 
 /// Copies a segment to the front of a region of its own with room for `bytes` bytes.
 fn copy_with_room(alloc: Global, segment: &Segment, bytes: u64) -> Result<Segment, OutOfMemory>
-    requires long { length segment.now.cut.bytes ≤ bytes }
-    requires few { bytes ≤ 1073741824 }
-    ensures copied { IfOk result (λ copy. CopiesWithRoom segment.now copy bytes) }
+    requires min_len { length segment.now.cut.bytes ≤ bytes }
+    requires max_count { bytes ≤ 1073741824 }
+    ensures copy { IfOk result (λ copy. CopiesWithRoom segment.now copy bytes) }
     ensures refused { IfErr result (λ refusal. refusal ≡ refusal_of (region_len bytes)) }
 {
     let region = region_for(alloc, bytes)?;
@@ -143,7 +145,7 @@ pub fn copy_into(segment: &Segment, region: RawRegion) -> Segment
     requires { length segment.now.cut.bytes ≤ length region }
     ensures bytes { result.cut.bytes ≡ segment.now.cut.bytes }
     ensures mode { result.mode ≡ segment.now.mode }
-    ensures place { SamePlace (cut_at region 0 (length segment.now.cut.bytes)) result.cut }
+    ensures place { SameSurroundings (cut_at region 0 (length segment.now.cut.bytes)) result.cut }
 {
     let image = segment.as_bytes();
     let mut window = Window::new(region, 0, image.len() as u64);

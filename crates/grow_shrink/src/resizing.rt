@@ -6,7 +6,7 @@ ghost use Rattle.grow_shrink.specs.Resized.{IsRefusedBy, growth_refusal, room_of
 
 use crate::refusals::GrowError;
 use block_tags::MAX_SEGMENT_LEN;
-use segment_manager::conditioned::{cut_end, extend_end};
+use segment_manager::unchecked::{cut_end, extend_end};
 use segment_manager::{Mode, Segment};
 
 /// The least number of bytes that a segment grows by.
@@ -21,8 +21,9 @@ const LEAST: u64 = 32;
 /// 32 or no multiple of 16, `TooLarge` where the size would be above 1073741824, and `RegionTooSmall` where the region
 /// ends before it. Nothing changes.
 pub fn grow(segment: &mut Segment, extra: u64) -> Result<(), GrowError>
-    ensures refused { IsRefusedBy segment.old result (λ d. growth_refusal segment.old.mode d.size extra (room_of segment.old.cut)) }
-    ensures grown { OnOk result (Resizes segment.old segment.new (λ d. grown d extra)) }
+    ensures refused { IsRefusedBy segment.old result (λ d.
+        growth_refusal segment.old.mode d.size extra (room_of segment.old.cut)) }
+    ensures growth { OnOk result (Resizes segment.old segment.new (λ d. grown d extra)) }
     ensures unchanged { OnErr result (segment.new ≡ segment.old) }
 {
     if is_read_only(segment) {
@@ -49,7 +50,7 @@ pub fn grow(segment: &mut Segment, extra: u64) -> Result<(), GrowError>
 /// `ReadOnly` where the segment is open for reading. Nothing changes.
 pub fn shrink_to_fit(segment: &mut Segment) -> Result<(), GrowError>
     ensures refused { IsRefusedBy segment.old result (λ d. shrink_refusal segment.old.mode) }
-    ensures shrunk { OnOk result (Resizes segment.old segment.new (λ d. shrunk d)) }
+    ensures shrinking { OnOk result (Resizes segment.old segment.new (λ d. shrunk d)) }
     ensures unchanged { OnErr result (segment.new ≡ segment.old) }
 {
     if is_read_only(segment) {

@@ -3,8 +3,8 @@ ghost use Rattle.grow_shrink.specs.Resized.{GrownIsDirectory, ShrunkIsDirectory,
 
 /// A directory is one in a larger segment, and in the one that ends behind its last block.
 pub fn resized_are_directories()
-    ensures grown { GrownIsDirectory }
-    ensures shrunk { ShrunkIsDirectory }
+    ensures growth { GrownIsDirectory }
+    ensures shrinking { ShrunkIsDirectory }
 {}
 
 /// No smaller segment serves the same blocks in place.

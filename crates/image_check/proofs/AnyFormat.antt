@@ -4,7 +4,7 @@ use Rattle.std.specs.Prelude.{IsTrue, Some, None}
 use Rattle.std.proofs.lemmas.Bool.{and_from, cases_lt}
 use Rattle.std.proofs.lemmas.List.{append_assoc, length-append}
 use Rattle.std.proofs.lemmas.List.Folds.{list_all-append}
-use Rattle.raw_region.specs.Device.{Given}
+use Rattle.raw_region.specs.Device.{ReadDelta}
 use Rattle.raw_region.specs.Memory.{zeros, are_bytes}
 use Rattle.image_check.specs.declared.classes.ImageClass.{ImageClass}
 use Rattle.image_check.specs.declared.errors.OpenError.{OpenError}
@@ -12,7 +12,7 @@ use Rattle.image_check.specs.declared.errors.OpenError.TheVariants.{Image, Regio
 use Rattle.image_check.specs.Classes.{DecidesClass, class_of}
 use Rattle.image_check.specs.Deciding.{AllDecidedAny, decided}
 use Rattle.image_check.specs.Formats.{DecidesAny, class_of_any, format_of}
-use Rattle.image_check.specs.Opening.{IsWhyNot}
+use Rattle.image_check.specs.Opening.{IsOpenCause}
 use Rattle.image_check.specs.OpeningAny.{IsWhyNotAny}
 use Rattle.image_check.proofs.Deciding.{decided-none, decided-some, zeros-are_bytes, zeros-length}
 use Rattle.image_check.proofs.ReadFormats.{format_of-front}
@@ -29,7 +29,8 @@ any-class b c l d = λ rest h. sym (ap (λ (f : ℕ). class_of f (b ++ rest)) (f
 -- what is decided stays so with more bytes
 more-any : (b more : List ℕ) (c : ImageClass) → IsTrue (are_bytes more) → DecidesAny b c → DecidesAny (b ++ more) c
 more-any b more c h d = λ rest k.
-    ap class_of_any (append_assoc b more rest) ∙ d (more ++ rest) (list_all-append _ more rest ∙ and_from (are_bytes more) (are_bytes rest) h k)
+    ap class_of_any (append_assoc b more rest)
+    ∙ d (more ++ rest) (list_all-append _ more rest ∙ and_from (are_bytes more) (are_bytes rest) h k)
 
 -- ---- few bytes decide nothing
 
@@ -53,11 +54,13 @@ few-any b c s d = few-cases b c (cases_lt (length b) 12) s d
 
 -- ---- the law
 
-some-cases : (b : List ℕ) (c : ImageClass) → (length b < 144) ⊎ (144 ≤ length b) → decided (format_of b) b ≡ Some c → DecidesAny b c
+some-cases : (b : List ℕ) (c : ImageClass) → (length b < 144) ⊎ (144 ≤ length b) → decided (format_of b) b ≡ Some c
+    → DecidesAny b c
 some-cases b c (inl s) e = absurd (let none = short-undecided (format_of b) b s in cc)
 some-cases b c (inr l) e = class-any b c (omega arith) (decided-some (format_of b) b c e)
 
-none-cases : (b : List ℕ) (c : ImageClass) → (length b < 144) ⊎ (144 ≤ length b) → decided (format_of b) b ≡ None → DecidesAny b c → ⊥
+none-cases : (b : List ℕ) (c : ImageClass) → (length b < 144) ⊎ (144 ≤ length b) → decided (format_of b) b ≡ None
+    → DecidesAny b c → ⊥
 none-cases b c (inl s) e d = few-any b c s d
 none-cases b c (inr l) e d = decided-none (format_of b) b e c (any-class b c (omega arith) d)
 
@@ -70,11 +73,13 @@ all_decided_any front = record {
 -- ---- why none is opened
 
 -- a class that what was read decides
-decides-cases : (b : List ℕ) (c : ImageClass) → (length b < 144) ⊎ (144 ≤ length b) → DecidesClass (format_of b) b c → DecidesAny b c
+decides-cases : (b : List ℕ) (c : ImageClass) → (length b < 144) ⊎ (144 ≤ length b) → DecidesClass (format_of b) b c
+    → DecidesAny b c
 decides-cases b c (inl s) d = absurd (decided-none (format_of b) b (short-undecided (format_of b) b s) c d)
 decides-cases b c (inr l) d = class-any b c (omega arith) d
 
-undecided-cases : (b : List ℕ) (c : ImageClass) → (length b < 144) ⊎ (144 ≤ length b) → (DecidesClass (format_of b) b c → ⊥) → DecidesAny b c → ⊥
+undecided-cases : (b : List ℕ) (c : ImageClass) → (length b < 144) ⊎ (144 ≤ length b)
+    → (DecidesClass (format_of b) b c → ⊥) → DecidesAny b c → ⊥
 undecided-cases b c (inl s) n d = few-any b c s d
 undecided-cases b c (inr l) n d = n (any-class b c (omega arith) d)
 
@@ -83,7 +88,8 @@ refused-cases b c (inl a) = inl a
 refused-cases b c (inr d) = inr (decides-cases b c (cases_lt (length b) 144) d)
 
 -- and the other way round
-any-cases : (b : List ℕ) (c : ImageClass) → (length b < 144) ⊎ (144 ≤ length b) → DecidesAny b c → DecidesClass (format_of b) b c
+any-cases : (b : List ℕ) (c : ImageClass) → (length b < 144) ⊎ (144 ≤ length b) → DecidesAny b c
+    → DecidesClass (format_of b) b c
 any-cases b c (inl s) d = absurd (few-any b c s d)
 any-cases b c (inr l) d = any-class b c (omega arith) d
 
@@ -91,7 +97,8 @@ decided-cases : {A : Type 0} (b : List ℕ) (c : ImageClass) → A ⊎ DecidesAn
 decided-cases b c (inl a) = inl a
 decided-cases b c (inr d) = inr (any-cases b c (cases_lt (length b) 144) d)
 
-pub why-by_format : (image : Given) (base capacity : ℕ) (cause : OpenError) → IsWhyNotAny image base capacity cause → IsWhyNot (format_of image.bytes) image base capacity cause
+pub why-by_format : (image : ReadDelta) (base capacity : ℕ) (cause : OpenError)
+    → IsWhyNotAny image base capacity cause → IsOpenCause (format_of image.bytes) image base capacity cause
 why-by_format image base capacity (Image c) w = record { sound = w.sound; right = decided-cases image.bytes c w.right }
 why-by_format image base capacity RegionTooSmall w = w
 why-by_format image base capacity (OutOfMemory refusal) w = w
@@ -101,7 +108,8 @@ why-by_format image base capacity ReadFault w = record {
 }
 
 -- by the format that was read
-pub why-any : (image : Given) (base capacity : ℕ) (cause : OpenError) → IsWhyNot (format_of image.bytes) image base capacity cause → IsWhyNotAny image base capacity cause
+pub why-any : (image : ReadDelta) (base capacity : ℕ) (cause : OpenError)
+    → IsOpenCause (format_of image.bytes) image base capacity cause → IsWhyNotAny image base capacity cause
 why-any image base capacity (Image c) w = record { sound = w.sound; right = refused-cases image.bytes c w.right }
 why-any image base capacity RegionTooSmall w = w
 why-any image base capacity (OutOfMemory refusal) w = w

@@ -1,5 +1,6 @@
 -- Bytes and the numbers in them: how large a word is, which bytes spell it, and which words are made of zeros.
-use Rattle.std.proofs.Common.{◌≡◌, refl, sym, ap, ◌∙◌, ℕ, zero, suc, ◌+◌, ◌*◌, ◌^◌, ◌<◌, ◌≤◌, ◌==◌, List, [], ◌∷◌, ◌++◌, arith, subst}
+use Rattle.std.proofs.Common.{◌≡◌, refl, sym, ap, ◌∙◌, ℕ, zero, suc, ◌+◌, ◌*◌, ◌^◌, ◌<◌, ◌≤◌, ◌==◌, List, [], ◌∷◌, ◌++◌}
+use Rattle.std.proofs.Common.{arith, subst}
 use Rattle.std.specs.Prelude.{IsTrue, nat_lt, slice_index, length}
 use Rattle.std.specs.List.{AllByRecursion}
 use Rattle.std.proofs.lemmas.Bool.{and_parts, and_from, eqb-true, eq-eqb, ltb-true, lt-ltb, cases_lt}
@@ -49,12 +50,15 @@ read-small m at (suc n) s = (s.at at, read-small m (at + 1) n s)
 
 -- they are a number below 256 ^ n
 pub number_at-small : (m : Memory) (at n : ℕ) → AreSmall m → number_at m at n < 256 ^ n
-number_at-small m at n s = subst (λ (k : ℕ). little_number k (read m at n) < 256 ^ k) (read-length m at n) (number-small (read m at n) (read-small m at n s))
+number_at-small m at n s = subst (λ (k : ℕ). little_number k (read m at n) < 256 ^ k) (read-length m at n)
+    (number-small (read m at n) (read-small m at n s))
 
 -- and the bytes of that number are these bytes
-pub bytes_low_first-number_at : (m : Memory) (at n : ℕ) → AreSmall m → bytes_low_first 0 n (number_at m at n) ≡ read m at n
+pub bytes_low_first-number_at : (m : Memory) (at n : ℕ) → AreSmall m
+    → bytes_low_first 0 n (number_at m at n) ≡ read m at n
 bytes_low_first-number_at m at n s =
-    subst (λ (k : ℕ). bytes_low_first 0 k (little_number k (read m at n)) ≡ read m at n) (read-length m at n) (bytes-back (read m at n) (read-small m at n s))
+    subst (λ (k : ℕ). bytes_low_first 0 k (little_number k (read m at n)) ≡ read m at n) (read-length m at n)
+    (bytes-back (read m at n) (read-small m at n s))
 
 -- ---- zeros
 
@@ -64,7 +68,11 @@ AreZero-none m at = record { at = λ k f g. absurd (omega arith) }
 
 -- a zero and zeros behind it
 pub AreZero-cons : (m : Memory) (at n : ℕ) → m at ≡ 0 → AreZero m (at + 1) (at + 1 + n) → AreZero m at (at + suc n)
-AreZero-cons m at n e z = record { at = λ k f g. ⊎_elim (λ l. z.at k (omega arith) (omega arith)) (λ l. let same : k ≡ at = omega arith in ap m same ∙ e) (cases_lt at k) }
+AreZero-cons m at n e z = record {
+  at = λ k f g.
+      ⊎_elim (λ l. z.at k (omega arith) (omega arith)) (λ l. let same : k ≡ at = omega arith
+      in ap m same ∙ e) (cases_lt at k);
+}
 
 -- a part of zeros
 pub AreZero-within : (m : Memory) (a b c d : ℕ) → a ≤ c → d ≤ b → AreZero m a b → AreZero m c d
@@ -83,14 +91,16 @@ AreZero-is_zero m at zero z = refl
 AreZero-is_zero m at (suc n) z =
     and_from (m at == 0) (is_zero (read m (at + 1) n))
     (eq-eqb (m at) 0 (z.at at (omega arith) (omega arith)))
-    (AreZero-is_zero m (at + 1) n (AreZero-within m at (at + suc n) (at + 1) (at + 1 + n) (omega arith) (omega arith) z))
+    (AreZero-is_zero m (at + 1) n (AreZero-within m at (at + suc n) (at + 1) (at + 1 + n) (omega arith)
+    (omega arith) z))
 
 -- zeros are the number 0
 pub AreZero-number_at : (m : Memory) (at n : ℕ) → AreZero m at (at + n) → number_at m at n ≡ 0
 AreZero-number_at m at zero z = refl
 AreZero-number_at m at (suc n) z =
     let first = z.at at (omega arith) (omega arith) in
-    let rest = AreZero-number_at m (at + 1) n (AreZero-within m at (at + suc n) (at + 1) (at + 1 + n) (omega arith) (omega arith) z) in
+    let rest = AreZero-number_at m (at + 1) n
+    (AreZero-within m at (at + suc n) (at + 1) (at + 1 + n) (omega arith) (omega arith) z) in
     let e = number_at-suc m at n in
     omega arith
 
@@ -126,14 +136,16 @@ half_word_at-AreZero m at e = number_at-AreZero m at 4 e
 -- ---- two rows of bytes
 
 -- two rows of zeros
-pub two_rows : (m : Memory) (a n c k : ℕ) → IsTrue (is_zero (read m a n ++ read m c k)) → AreZero m a (a + n) × AreZero m c (c + k)
+pub two_rows : (m : Memory) (a n c k : ℕ) → IsTrue (is_zero (read m a n ++ read m c k))
+    → AreZero m a (a + n) × AreZero m c (c + k)
 two_rows m a n c k h =
     let split = sym (list_all-append (λ x. x == 0) (read m a n) (read m c k)) ∙ h in
     let parts = and_parts (is_zero (read m a n)) (is_zero (read m c k)) split in
     (is_zero-AreZero m a n parts.0, is_zero-AreZero m c k parts.1)
 
 -- pass the test of both
-pub from_two_rows : (m : Memory) (a n c k : ℕ) → AreZero m a (a + n) → AreZero m c (c + k) → IsTrue (is_zero (read m a n ++ read m c k))
+pub from_two_rows : (m : Memory) (a n c k : ℕ) → AreZero m a (a + n) → AreZero m c (c + k)
+    → IsTrue (is_zero (read m a n ++ read m c k))
 from_two_rows m a n c k y z =
     list_all-append (λ x. x == 0) (read m a n) (read m c k)
     ∙ and_from (is_zero (read m a n)) (is_zero (read m c k)) (AreZero-is_zero m a n y) (AreZero-is_zero m c k z)

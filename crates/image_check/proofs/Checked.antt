@@ -1,15 +1,17 @@
 -- What the check of a whole image finds: its first class, or a directory.
-use Rattle.std.proofs.Common.{◌≡◌, refl, sym, ap, subst, ◌∙◌, ℕ, ◌<◌, ◌≤◌, inl, inr, Bool, true, false, not, ◌||◌, List, [], ◌∷◌, length, arith}
+use Rattle.std.proofs.Common.{◌≡◌, refl, sym, ap, subst, ◌∙◌, ℕ, ◌<◌, ◌≤◌, inl, inr, Bool, true, false, not, ◌||◌, List}
+use Rattle.std.proofs.Common.{[], ◌∷◌, length, arith}
 use Rattle.std.specs.Prelude.{IsTrue, IsOk, is_some, Option, Some, None, Result, Err}
 use Rattle.std.specs.List.{list_any}
 use Rattle.std.proofs.lemmas.Bool.{cases_Bool}
-use Rattle.raw_region.specs.Memory.{Cut, bytes_of, are_bytes}
+use Rattle.raw_region.specs.Memory.{WindowState, bytes_of, are_bytes}
 use Rattle.block_tags.specs.declared.tile.Role.{Role}
 use Rattle.block_tags.specs.declared.tile.Tile.{Tile}
 use Rattle.block_tags.specs.Format.{is_legal_size}
 use Rattle.block_tags.specs.Tiles.{has_tags, tiles_of}
 use Rattle.image_check.specs.declared.classes.ImageClass.{ImageClass}
-use Rattle.image_check.specs.declared.classes.ImageClass.TheVariants.{BadTag, BadFreeTree, BadIndex, BadObject, SharedBlock, BadContainer, OrphanBlock}
+use Rattle.image_check.specs.declared.classes.ImageClass.TheVariants.{BadTag, BadFreeTree, BadIndex, BadObject}
+use Rattle.image_check.specs.declared.classes.ImageClass.TheVariants.{SharedBlock, BadContainer, OrphanBlock}
 use Rattle.image_check.specs.EarlyTests.{has_free_tree, has_reserved, is_tiled}
 use Rattle.image_check.specs.ObjectTests.{has_indexes, has_objects}
 use Rattle.image_check.specs.Fields.{is_shared, is_orphaned, has_containers}
@@ -27,40 +29,51 @@ use Rattle.image_check.proofs.Early.{tree-BadFreeTree}
 use Rattle.image_check.proofs.Filled.{HasFront-IsRight}
 use Rattle.image_check.proofs.FormatTags.{good-has_tags}
 use Rattle.image_check.proofs.FirstClass.{first-tag, first-tree, late-class}
-use Rattle.image_check.proofs.Frame.{IsFrame-has_frame, has_frame-IsFrame, has_whole_size-HasWholeSize, HasWholeSize-has_whole_size}
+use Rattle.image_check.proofs.Frame.{IsFrame-has_frame, has_frame-IsFrame, has_whole_size-HasWholeSize}
+use Rattle.image_check.proofs.Frame.{HasWholeSize-has_whole_size}
 use Rattle.image_check.proofs.Law.{one_directory}
 
 -- ---- the frame
 
 -- what the check knows once the tags are right
-pub record IsChecked (format : ℕ) (w : Cut) : Type 0 where
+pub record IsChecked (format : ℕ) (w : WindowState) : Type 0 where
   pub front : HasFront format w
   pub reserved : has_reserved w.bytes ≡ true
   pub tags : has_tags format (bytes_of w.bytes) (length w.bytes) ≡ true
 
 -- the tags are those of the size that the first words say
-checked-tiled : (format : ℕ) (w : Cut) → IsChecked format w → is_tiled format w.bytes ≡ true
+checked-tiled : (format : ℕ) (w : WindowState) → IsChecked format w → is_tiled format w.bytes ≡ true
 checked-tiled format w h = ap (has_tags format (bytes_of w.bytes)) h.front.says ∙ h.tags
 
-pub checked-tiles : (format : ℕ) (w : Cut) → IsChecked format w → HasTiles w.bytes
-checked-tiles format w h = record { size = (HasFront-IsRight format w h.front).legal; tags = good-has_tags format (bytes_of w.bytes) (length w.bytes) h.tags }
+pub checked-tiles : (format : ℕ) (w : WindowState) → IsChecked format w → HasTiles w.bytes
+checked-tiles format w h = record {
+  size = (HasFront-IsRight format w h.front).legal;
+  tags = good-has_tags format (bytes_of w.bytes) (length w.bytes) h.tags;
+}
 
 -- the tags are wrong
-pub checked-tags : (format : ℕ) (w : Cut) (at : ℕ) → HasFront format w → has_reserved w.bytes ≡ true → has_tags format (bytes_of w.bytes) (length w.bytes) ≡ false
-    → StopsAt format (bytes_of w.bytes) (length w.bytes) at → IsVerdict format w.bytes (record { class = BadTag; place = at })
+pub checked-tags : (format : ℕ) (w : WindowState) (at : ℕ) → HasFront format w → has_reserved w.bytes ≡ true
+    → has_tags format (bytes_of w.bytes) (length w.bytes) ≡ false
+    → StopsAt format (bytes_of w.bytes) (length w.bytes) at
+    → IsVerdict format w.bytes (record { class = BadTag; place = at })
 checked-tags format w at h r e s = (
   first-tag format w h r (ap (has_tags format (bytes_of w.bytes)) h.says ∙ e),
   subst (λ n. StopsAt format (bytes_of w.bytes) n at) (sym h.says) s,
 )
 
 -- the free tree is not right
-pub checked-tree : (format : ℕ) (w : Cut) → IsChecked format w → has_free_tree format (bytes_of w.bytes) (tiles_in w.bytes) ≡ false → IsVerdict format w.bytes (record { class = BadFreeTree; place = 24 })
+pub checked-tree : (format : ℕ) (w : WindowState) → IsChecked format w
+    → has_free_tree format (bytes_of w.bytes) (tiles_in w.bytes) ≡ false
+    → IsVerdict format w.bytes (record { class = BadFreeTree; place = 24 })
 checked-tree format w h e =
-    let holds = tree-BadFreeTree format w.bytes (checked-tiled format w h) (ap (λ n. has_free_tree format (bytes_of w.bytes) (tiles_of (bytes_of w.bytes) n)) h.front.says ∙ e) in
+    let holds = tree-BadFreeTree format w.bytes (checked-tiled format w h)
+    (ap (λ n. has_free_tree format (bytes_of w.bytes) (tiles_of (bytes_of w.bytes) n)) h.front.says ∙ e) in
     (first-tree format w h.front h.reserved (checked-tiled format w h) holds, refl)
 
 -- or it is
-pub checked-frame : (format : ℕ) (w : Cut) → IsChecked format w → has_free_tree format (bytes_of w.bytes) (tiles_of (bytes_of w.bytes) (length w.bytes)) ≡ true → IsTrue (has_frame format w.bytes)
+pub checked-frame : (format : ℕ) (w : WindowState) → IsChecked format w
+    → has_free_tree format (bytes_of w.bytes) (tiles_of (bytes_of w.bytes) (length w.bytes)) ≡ true
+    → IsTrue (has_frame format w.bytes)
 checked-frame format w h e =
     let r = HasFront-IsRight format w h.front in
     IsFrame-has_frame format w.bytes (record {
@@ -77,7 +90,10 @@ pub frame-tiles : (format : ℕ) (b : List ℕ) → IsTrue (has_frame format b) 
 frame-tiles format b h =
     let f = has_frame-IsFrame format b h in
     let s = has_whole_size-HasWholeSize b f.size in
-    record { size = ap is_legal_size (sym s.same) ∙ s.legal; tags = good-has_tags format (bytes_of b) (length b) (ap (has_tags format (bytes_of b)) (sym s.same) ∙ f.tiled) }
+    record {
+      size = ap is_legal_size (sym s.same) ∙ s.legal;
+      tags = good-has_tags format (bytes_of b) (length b) (ap (has_tags format (bytes_of b)) (sym s.same) ∙ f.tiled);
+    }
 
 -- ---- the blocks
 
@@ -135,14 +151,16 @@ module _ (format : ℕ) (b : List ℕ) where
 -- ---- the memory
 
 -- tiles of which none is in use are no blocks
-one-more : (offset len : ℕ) (u : Option Role) (red : Bool) (ts : List Tile) (x : Bool) → (is_some u || x) ≡ false → (x ≡ false → entries_of ts ≡ [])
+one-more : (offset len : ℕ) (u : Option Role) (red : Bool) (ts : List Tile) (x : Bool) → (is_some u || x) ≡ false
+    → (x ≡ false → entries_of ts ≡ [])
     → entries_of (record { offset = offset; len = len; use_of = u; red = red } ∷ ts) ≡ []
 one-more offset len None red ts x e h = h e
 one-more offset len (Some r) red ts x e h = absurd (cc)
 
 no-entries : (ts : List Tile) → list_any (λ (t : Tile). is_some t.use_of) ts ≡ false → entries_of ts ≡ []
 no-entries [] e = refl
-no-entries (t ∷ ts) e = one-more t.offset t.len t.use_of t.red ts (list_any (λ (u : Tile). is_some u.use_of) ts) e (no-entries ts)
+no-entries (t ∷ ts) e = one-more t.offset t.len t.use_of t.red ts (list_any (λ (u : Tile). is_some u.use_of) ts) e
+    (no-entries ts)
 
 no_answer : {A E : Type 0} (r : Result A E) (e : E) → IsOk r → r ≡ Err e → ⊥
 no_answer r e h n = absurd (cc)
@@ -169,5 +187,7 @@ module _ (format : ℕ) (b : List ℕ) (h : IsTrue (has_frame format b)) where
       subst (λ n. Is (tiles_of (bytes_of b) n)) (sym s.same) i
 
 -- or no class holds of it, so it denotes a directory
-pub blocks-image : (format : ℕ) (b : List ℕ) → format ≤ 2 → IsTrue (are_bytes b) → class_of format b ≡ None → IsImage format b
-blocks-image format b few small e = let law : HasOneDirectory format b = one_directory format b (omega arith) small in law.some e
+pub blocks-image : (format : ℕ) (b : List ℕ) → format ≤ 2 → IsTrue (are_bytes b) → class_of format b ≡ None
+    → IsImage format b
+blocks-image format b few small e = let law : HasOneDirectory format b = one_directory format b (omega arith) small
+    in law.some e

@@ -23,7 +23,8 @@ pub record IsLateClean (format : ℕ) (m : Memory) (ts : List Tile) : Type 0 whe
   pub containers : IsTrue (has_containers format m ts)
   pub owned : is_orphaned format m ts ≡ false
 
-not-found-if : (p : ImageClass → Bool) (c : ImageClass) (o : Option ImageClass) (q : Bool) → p c ≡ q → cond q (Some c) o ≡ None → (p c ≡ false) × (o ≡ None)
+not-found-if : (p : ImageClass → Bool) (c : ImageClass) (o : Option ImageClass) (q : Bool) → p c ≡ q
+    → cond q (Some c) o ≡ None → (p c ≡ false) × (o ≡ None)
 not-found-if p c o true e h = absurd (cc)
 not-found-if p c o false e h = (e, h)
 
@@ -32,20 +33,32 @@ not-found p [] e = tt
 not-found p (c ∷ cs) e = let w = not-found-if p c (find p cs) (p c) refl e in (w.0, not-found p cs w.1)
 
 -- what each test says where no class holds
-pub classes-clean : (format : ℕ) (b : List ℕ) → AreSmall (bytes_of b) → class_of format b ≡ None → IsFramed format b × IsLateClean format (bytes_of b) (tiles_in b)
+pub classes-clean : (format : ℕ) (b : List ℕ) → AreSmall (bytes_of b) → class_of format b ≡ None
+    → IsFramed format b × IsLateClean format (bytes_of b) (tiles_in b)
 classes-clean format b s h =
     let m : Memory = bytes_of b in
     let a = not-found (class_holds format b) classes h in
-    let early : IsEarlyClean format b = record { truncated = a.0; magic = a.1.0; version = a.1.1.0; size = a.1.1.1.0; reserved = a.1.1.1.1.0; tags = a.1.1.1.1.1.0; free_tree = a.1.1.1.1.1.1.0 } in
+    let early : IsEarlyClean format b =
+    record {
+      truncated = a.0;
+      magic = a.1.0;
+      version = a.1.1.0;
+      size = a.1.1.1.0;
+      reserved = a.1.1.1.1.0;
+      tags = a.1.1.1.1.1.0;
+      free_tree = a.1.1.1.1.1.1.0;
+    } in
     let fr = clean-framed format b s early in
     let us : List Tile = tiles_of m (size_word b) in
     let there : us ≡ tiles_in b = ap (tiles_of m) fr.size in
     let tiled : IsTrue (is_tiled format b) = not-false (is_tiled format b) early.tags in
     let late = a.1.1.1.1.1.1.1 in
     let index = not-false (has_indexes m us) (second-fails (is_tiled format b) (not (has_indexes m us)) tiled late.0) in
-    let object = not-false (has_objects format m us) (second-fails (is_tiled format b) (not (has_objects format m us)) tiled late.1.0) in
+    let object = not-false (has_objects format m us)
+    (second-fails (is_tiled format b) (not (has_objects format m us)) tiled late.1.0) in
     let share = second-fails (is_tiled format b) (is_shared format m us) tiled late.1.1.0 in
-    let container = not-false (has_containers format m us) (second-fails (is_tiled format b) (not (has_containers format m us)) tiled late.1.1.1.0) in
+    let container = not-false (has_containers format m us)
+    (second-fails (is_tiled format b) (not (has_containers format m us)) tiled late.1.1.1.0) in
     let orphan = second-fails (is_tiled format b) (is_orphaned format m us) tiled late.1.1.1.1.0 in (
       fr,
       record {

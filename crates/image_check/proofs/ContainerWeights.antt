@@ -1,5 +1,6 @@
 -- What is counted for the blocks of containers, all together.
-use Rattle.std.proofs.Common.{◌≡◌, refl, sym, ap, ◌∙◌, ℕ, ◌+◌, ◌-◌, ◌*◌, ◌/◌, ◌<◌, ◌≤◌, Bool, true, false, nat_lt, ◌==◌, List, [], ◌∷◌, length, arith}
+use Rattle.std.proofs.Common.{◌≡◌, refl, sym, ap, ◌∙◌, ℕ, ◌+◌, ◌-◌, ◌*◌, ◌/◌, ◌<◌, ◌≤◌, Bool, true, false, nat_lt, ◌==◌}
+use Rattle.std.proofs.Common.{List, [], ◌∷◌, length, arith}
 use Rattle.std.specs.Prelude.{Option, Some, None, if◌then◌else◌}
 use Rattle.std.proofs.Math.Nat.{add-mul, mul-le-mul_right}
 use Rattle.std.specs.List.{cons_option}
@@ -13,21 +14,26 @@ use Rattle.image_check.specs.declared.owners.Owner.{Owner}
 use Rattle.image_check.specs.FreeLaws.{small_size}
 use Rattle.image_check.specs.Passes.{tiles_in, HasTiles}
 use Rattle.image_check.specs.Owners.{Blocks, entries_of, entry_of, frames, new_block}
-use Rattle.image_check.specs.Containers.{container_block_rates, block_weight, is_rooted_below, rooted_weight, container_walk_rates, weigh_blocks, weight_below}
+use Rattle.image_check.specs.Containers.{container_block_rates, block_weight, is_rooted_below, rooted_weight}
+use Rattle.image_check.specs.Containers.{container_walk_rates, weigh_blocks, weight_below}
 use Rattle.image_check.specs.MapNodes.{is_rooted}
 use Rattle.image_check.specs.Visits.{container_rates, rate_of, weigh}
 use Rattle.image_check.proofs.TilePlaces.{image-row}
 
 -- ---- the blocks to which links lead from one tile
 
-one-step : (r a at b w : ℕ) → a ≤ at → at < b → (if nat_lt r a then w else 0) + (if r == at then w else 0) ≤ (if nat_lt r b then w else 0)
+one-step : (r a at b w : ℕ) → a ≤ at → at < b
+    → (if nat_lt r a then w else 0) + (if r == at then w else 0) ≤ (if nat_lt r b then w else 0)
 one-step r a at b w l h = grind (arith, nat_tests)
 
-owner-step : (o : Option Owner) (a at b w : ℕ) → a ≤ at → at < b → (if is_rooted_below a o then w else 0) + (if is_rooted at o then w else 0) ≤ (if is_rooted_below b o then w else 0)
+owner-step : (o : Option Owner) (a at b w : ℕ) → a ≤ at → at < b
+    → (if is_rooted_below a o then w else 0) + (if is_rooted at o then w else 0)
+    ≤ (if is_rooted_below b o then w else 0)
 owner-step None a at b w l h = omega arith
 owner-step (Some o) a at b w l h = one-step o.root a at b w l h
 
-pub below-step : (a at b : ℕ) (es : Blocks) → a ≤ at → at < b → weight_below a es + rooted_weight at es ≤ weight_below b es
+pub below-step : (a at b : ℕ) (es : Blocks) → a ≤ at → at < b
+    → weight_below a es + rooted_weight at es ≤ weight_below b es
 below-step a at b [] l h = omega arith
 below-step a at b (e ∷ es) l h =
     let here = owner-step e.1.owner a at b (block_weight e.1) l h in
@@ -37,7 +43,8 @@ below-step a at b (e ∷ es) l h =
 one-more : (r a b w : ℕ) → a ≤ b → (if nat_lt r a then w else 0) ≤ (if nat_lt r b then w else 0)
 one-more r a b w l = grind (arith, nat_tests)
 
-owner-more : (o : Option Owner) (a b w : ℕ) → a ≤ b → (if is_rooted_below a o then w else 0) ≤ (if is_rooted_below b o then w else 0)
+owner-more : (o : Option Owner) (a b w : ℕ) → a ≤ b
+    → (if is_rooted_below a o then w else 0) ≤ (if is_rooted_below b o then w else 0)
 owner-more None a b w l = omega arith
 owner-more (Some o) a b w l = one-more o.root a b w l
 
@@ -91,7 +98,9 @@ unfolding maybe-weight
 cons-weigh None es = omega arith
 cons-weigh (Some e) es = refl
 
-entry-weighs : (offset len : ℕ) (u : Option Role) → maybe-weight (elim u [ None ↦ None | Some role ↦ Some (offset + 16, new_block role len) ]) ≤ rate_of container_block_rates u * (len / 16)
+entry-weighs : (offset len : ℕ) (u : Option Role)
+    → maybe-weight (elim u [ None ↦ None | Some role ↦ Some (offset + 16, new_block role len) ])
+    ≤ rate_of container_block_rates u * (len / 16)
 unfolding maybe-weight
 entry-weighs offset len None = omega arith
 entry-weighs offset len (Some role) = omega arith
@@ -104,9 +113,11 @@ entries-weigh (t ∷ ts) =
     let both = cons-weigh (entry_of t) (entries_of ts) in
     omega arith
 
-pub blocks-weigh : (ts : List Tile) (es : Blocks) → frames es ≡ frames (entries_of ts) → weigh_blocks es ≤ weigh container_block_rates ts
+pub blocks-weigh : (ts : List Tile) (es : Blocks) → frames es ≡ frames (entries_of ts)
+    → weigh_blocks es ≤ weigh container_block_rates ts
 blocks-weigh ts es e =
-    let same : weigh_blocks es ≡ weigh_blocks (entries_of ts) = by-frames es ∙ (ap weigh-frames e ∙ sym (by-frames (entries_of ts))) in
+    let same : weigh_blocks es ≡ weigh_blocks (entries_of ts) =
+    by-frames es ∙ (ap weigh-frames e ∙ sym (by-frames (entries_of ts))) in
     let all = entries-weigh ts in
     omega arith
 
@@ -119,7 +130,8 @@ rate-most (Some Index) = omega arith
 rate-most (Some Storage) = omega arith
 rate-most (Some Node) = omega arith
 
-rate-sum : (u : Option Role) → rate_of container_walk_rates u + rate_of container_block_rates u ≤ rate_of container_rates u
+rate-sum : (u : Option Role) → rate_of container_walk_rates u + rate_of container_block_rates u
+    ≤ rate_of container_rates u
 rate-sum None = omega arith
 rate-sum (Some Object) = omega arith
 rate-sum (Some Index) = omega arith
@@ -142,7 +154,8 @@ row-weigh from (t ∷ ts) to row =
     let here = times-most (rate_of container_block_rates t.use_of) 16 (t.len / 16) (rate-most t.use_of) in
     omega arith
 
-pub few-blocks : (b : List ℕ) (es : Blocks) → HasTiles b → frames es ≡ frames (entries_of (tiles_in b)) → weigh_blocks es ≤ 1073741824
+pub few-blocks : (b : List ℕ) (es : Blocks) → HasTiles b → frames es ≡ frames (entries_of (tiles_in b))
+    → weigh_blocks es ≤ 1073741824
 few-blocks b es h e =
     let all = blocks-weigh (tiles_in b) es e in
     let fit = row-weigh 128 (tiles_in b) (length b - 16) (image-row b h) in
@@ -150,9 +163,11 @@ few-blocks b es h e =
     let least = (legal_size (length b) h.size).low in
     omega arith
 
-pub both-weigh : (ts : List Tile) → weigh container_walk_rates ts + weigh container_block_rates ts ≤ weigh container_rates ts
+pub both-weigh : (ts : List Tile)
+    → weigh container_walk_rates ts + weigh container_block_rates ts ≤ weigh container_rates ts
 both-weigh [] = omega arith
 both-weigh (t ∷ ts) =
     let rest = both-weigh ts in
-    let here = times-sum (rate_of container_walk_rates t.use_of) (rate_of container_block_rates t.use_of) (rate_of container_rates t.use_of) (t.len / 16) (rate-sum t.use_of) in
+    let here = times-sum (rate_of container_walk_rates t.use_of) (rate_of container_block_rates t.use_of)
+    (rate_of container_rates t.use_of) (t.len / 16) (rate-sum t.use_of) in
     omega arith

@@ -11,7 +11,8 @@ abbrev pub costs : (Tile → ℕ) → List Tile → ℕ
 costs cost [] = 0
 costs cost (t ∷ ts) = cost t + costs cost ts
 
-pub costs-weigh : (rates : Rates) (cost : Tile → ℕ) (at : ℕ) (ts : List Tile) (end : ℕ) → Row at ts end → ((t : Tile) → 32 ≤ t.len → cost t ≤ rate_of rates t.use_of * (t.len / 16)) → costs cost ts ≤ weigh rates ts
+pub costs-weigh : (rates : Rates) (cost : Tile → ℕ) (at : ℕ) (ts : List Tile) (end : ℕ) → Row at ts end
+    → ((t : Tile) → 32 ≤ t.len → cost t ≤ rate_of rates t.use_of * (t.len / 16)) → costs cost ts ≤ weigh rates ts
 costs-weigh rates cost at [] end a h = omega arith
 costs-weigh rates cost at (t ∷ ts) end a h =
     let one = h t a.1 in
@@ -21,4 +22,5 @@ costs-weigh rates cost at (t ∷ ts) end a h =
 -- the same for each
 pub costs-each : (n : ℕ) (ts : List Tile) → costs (λ t. n) ts ≡ n * length ts
 costs-each n [] = omega arith
-costs-each n (t ∷ ts) = let l = costs-each n ts in let s = mul-next n (length ts) in let u = add-one (length ts) in let v = ap (λ x. n * x) u in omega arith
+costs-each n (t ∷ ts) = let l = costs-each n ts in let s = mul-next n (length ts) in let u = add-one (length ts)
+    in let v = ap (λ x. n * x) u in omega arith

@@ -1,7 +1,8 @@
 -- What is counted of tiles, with one more behind them.
-use Rattle.std.proofs.Common.{◌≡◌, refl, sym, ap, ◌∙◌, ℕ, ◌+◌, ◌<◌, ◌^◌, false, List, [], ◌∷◌, ◌++◌, length, arith, IsTrue}
+use Rattle.std.proofs.Common.{◌≡◌, refl, sym, ap, ◌∙◌, ℕ, ◌+◌, ◌<◌, ◌^◌, false, List, [], ◌∷◌, ◌++◌, length, arith}
+use Rattle.std.proofs.Common.{IsTrue}
 use Rattle.std.specs.Prelude.{Option, Some, None, is_none, is_some}
-use Rattle.raw_region.specs.Memory.{Cut}
+use Rattle.raw_region.specs.Memory.{WindowState}
 use Rattle.block_tags.specs.declared.tile.Role.{Role}
 use Rattle.block_tags.specs.declared.tile.Tile.{Tile}
 use Rattle.block_tags.specs.Format.{is_legal_size}
@@ -52,7 +53,7 @@ module _ (ts : List Tile) (old new : Counts) (here : Tile) (k : AreCounted ts ol
       }
 
 -- so the counts stay small
-pub counted-few : (c : Cut) (Kept : List Tile → Type 0) (here : Tile) (counts : Counts)
+pub counted-few : (c : WindowState) (Kept : List Tile → Type 0) (here : Tile) (counts : Counts)
     → IsTrue (is_legal_size (length c.bytes)) → (a : WalksAt c Kept here)
     → AreCounted a.front counts → (counts.free < 2 ^ 63) × (counts.used < 2 ^ 63)
 counted-few c Kept here counts legal a k =

@@ -1,7 +1,11 @@
 -- Bytes read so far, and what may follow them: which class they decide.
-use Rattle.std.proofs.Common.{◌≡◌, refl, sym, ap, subst, ◌∙◌, ℕ, zero, suc, ◌+◌, ◌-◌, ◌%◌, ◌<◌, ◌≤◌, Bool, true, false, ◌&&◌, ◌==◌, List, [], ◌∷◌, ◌++◌, length, arith, length-append, append-nil}
+use Rattle.std.proofs.Common.{◌≡◌, refl, sym, ap, subst, ◌∙◌, ℕ, zero, suc, ◌+◌, ◌-◌, ◌%◌, ◌<◌, ◌≤◌, Bool, true, false}
+use Rattle.std.proofs.Common.{◌&&◌, ◌==◌, List, [], ◌∷◌, ◌++◌, length, arith, length-append, append-nil}
 use Rattle.std.specs.Prelude.{IsTrue, nat_lt, nat_le, Some, None, find}
-use Rattle.std.proofs.lemmas.Bool.{and_cases, and_parts, and_from, and_left, and_right, or_from, or_left, or_right, cond-true, cond-false, cases_Bool, cases_lt, not_from_true, not_from_false, le-ltb, lt-ltb, lt-leb, le-leb, leb-true, leb-false, ltb-true, ltb-false, eqb-true, or_cases, both_ways}
+use Rattle.std.proofs.lemmas.Bool.{and_cases, and_parts, and_from, and_left, and_right, or_from, or_left, or_right}
+use Rattle.std.proofs.lemmas.Bool.{cond-true, cond-false, cases_Bool, cases_lt, not_from_true, not_from_false, le-ltb}
+use Rattle.std.proofs.lemmas.Bool.{lt-ltb, lt-leb, le-leb, leb-true, leb-false, ltb-true, ltb-false, eqb-true, or_cases}
+use Rattle.std.proofs.lemmas.Bool.{both_ways}
 use Rattle.std.proofs.lemmas.List.{get_or_append_left, length-replicate}
 use mathlib.Core.Logic.{◌⊎◌, inl, inr}
 use Rattle.raw_region.specs.Memory.{bytes_of, read, word_at, half_word_at, zeros, are_bytes}
@@ -9,7 +13,9 @@ use Rattle.byteorder.specs.Endian.{little_number}
 use Rattle.block_tags.specs.Format.{is_legal_size}
 use Rattle.segment_manager.specs.Denotes.{magic_number}
 use Rattle.image_check.specs.declared.classes.ImageClass.{ImageClass}
-use Rattle.image_check.specs.declared.classes.ImageClass.TheVariants.{Truncated, BadMagic, UnsupportedVersion, BadSize, BadReserved, BadTag, BadFreeTree, BadIndex, BadObject, SharedBlock, BadContainer, OrphanBlock}
+use Rattle.image_check.specs.declared.classes.ImageClass.TheVariants.{Truncated, BadMagic, UnsupportedVersion, BadSize}
+use Rattle.image_check.specs.declared.classes.ImageClass.TheVariants.{BadReserved, BadTag, BadFreeTree, BadIndex}
+use Rattle.image_check.specs.declared.classes.ImageClass.TheVariants.{BadObject, SharedBlock, BadContainer, OrphanBlock}
 use Rattle.image_check.specs.EarlyTests.{size_word, has_magic, has_version, has_front, has_size}
 use Rattle.image_check.specs.Classes.{holds, classes, class_of, DecidesClass}
 use Rattle.image_check.specs.Deciding.{decided, decided_by, AllDecided}
@@ -21,11 +27,13 @@ pub find-here : (p : ImageClass → Bool) (c : ImageClass) (cs : List ImageClass
 find-here p c cs e = cond-true (p c) (Some c) (find p cs) e
 
 -- and passed over where it does not
-pub find-past : (p : ImageClass → Bool) (c : ImageClass) (cs : List ImageClass) → p c ≡ false → find p (c ∷ cs) ≡ find p cs
+pub find-past : (p : ImageClass → Bool) (c : ImageClass) (cs : List ImageClass) → p c ≡ false
+    → find p (c ∷ cs) ≡ find p cs
 find-past p c cs e = cond-false (p c) (Some c) (find p cs) e
 
 -- what is found by the first test or behind it
-found_if : (p : ImageClass → Bool) (b : Bool) (d c : ImageClass) (cs : List ImageClass) → p d ≡ b → find p (d ∷ cs) ≡ Some c → (find p cs ≡ Some c → p c ≡ true) → p c ≡ true
+found_if : (p : ImageClass → Bool) (b : Bool) (d c : ImageClass) (cs : List ImageClass) → p d ≡ b
+    → find p (d ∷ cs) ≡ Some c → (find p cs ≡ Some c → p c ≡ true) → p c ≡ true
 found_if p true d c cs e f k = let same : d ≡ c = cc (find-here p d cs e) in subst (λ x. p x ≡ true) same e
 found_if p false d c cs e f k = k (sym (find-past p d cs e) ∙ f)
 
@@ -44,24 +52,30 @@ first_class p a = find-here p Truncated (BadMagic ∷ UnsupportedVersion ∷ Bad
 
 -- the second is where the first does not hold
 second_class : (p : ImageClass → Bool) → p Truncated ≡ false → p BadMagic ≡ true → find p classes ≡ Some BadMagic
-second_class p a b = find-past p Truncated (BadMagic ∷ UnsupportedVersion ∷ BadSize ∷ later) a ∙ find-here p BadMagic (UnsupportedVersion ∷ BadSize ∷ later) b
+second_class p a b = find-past p Truncated (BadMagic ∷ UnsupportedVersion ∷ BadSize ∷ later) a
+    ∙ find-here p BadMagic (UnsupportedVersion ∷ BadSize ∷ later) b
 
 -- the third where neither of the two before does
-third_class : (p : ImageClass → Bool) → p Truncated ≡ false → p BadMagic ≡ false → p UnsupportedVersion ≡ true → find p classes ≡ Some UnsupportedVersion
+third_class : (p : ImageClass → Bool) → p Truncated ≡ false → p BadMagic ≡ false → p UnsupportedVersion ≡ true
+    → find p classes ≡ Some UnsupportedVersion
 third_class p a b c =
-    find-past p Truncated (BadMagic ∷ UnsupportedVersion ∷ BadSize ∷ later) a ∙ find-past p BadMagic (UnsupportedVersion ∷ BadSize ∷ later) b
+    find-past p Truncated (BadMagic ∷ UnsupportedVersion ∷ BadSize ∷ later) a
+    ∙ find-past p BadMagic (UnsupportedVersion ∷ BadSize ∷ later) b
     ∙ find-here p UnsupportedVersion (BadSize ∷ later) c
 
 -- the fourth where none of the three before does
-fourth_class : (p : ImageClass → Bool) → p Truncated ≡ false → p BadMagic ≡ false → p UnsupportedVersion ≡ false → p BadSize ≡ true → find p classes ≡ Some BadSize
+fourth_class : (p : ImageClass → Bool) → p Truncated ≡ false → p BadMagic ≡ false → p UnsupportedVersion ≡ false
+    → p BadSize ≡ true → find p classes ≡ Some BadSize
 fourth_class p a b c d =
-    find-past p Truncated (BadMagic ∷ UnsupportedVersion ∷ BadSize ∷ later) a ∙ find-past p BadMagic (UnsupportedVersion ∷ BadSize ∷ later) b
+    find-past p Truncated (BadMagic ∷ UnsupportedVersion ∷ BadSize ∷ later) a
+    ∙ find-past p BadMagic (UnsupportedVersion ∷ BadSize ∷ later) b
     ∙ find-past p UnsupportedVersion (BadSize ∷ later) c ∙ find-here p BadSize later d
 
 -- ---- bytes that follow change no word before them
 
 -- the bytes of the front
-read-front : (b rest : List ℕ) (at n : ℕ) → at + n ≤ length b → read (bytes_of (b ++ rest)) at n ≡ read (bytes_of b) at n
+read-front : (b rest : List ℕ) (at n : ℕ) → at + n ≤ length b
+    → read (bytes_of (b ++ rest)) at n ≡ read (bytes_of b) at n
 read-front b rest at zero l = refl
 read-front b rest at (suc n) l =
     let first = get_or_append_left b rest 0 at (omega arith) in
@@ -69,12 +83,14 @@ read-front b rest at (suc n) l =
     λ i. first i ∷ more i
 
 -- a word of the front
-word_at-front : (b rest : List ℕ) (at : ℕ) → at + 8 ≤ length b → word_at (bytes_of (b ++ rest)) at ≡ word_at (bytes_of b) at
+word_at-front : (b rest : List ℕ) (at : ℕ) → at + 8 ≤ length b
+    → word_at (bytes_of (b ++ rest)) at ≡ word_at (bytes_of b) at
 unfolding word_at
 word_at-front b rest at l = ap (little_number 8) (read-front b rest at 8 l)
 
 -- a half word of the front
-pub half_word_at-front : (b rest : List ℕ) (at : ℕ) → at + 4 ≤ length b → half_word_at (bytes_of (b ++ rest)) at ≡ half_word_at (bytes_of b) at
+pub half_word_at-front : (b rest : List ℕ) (at : ℕ) → at + 4 ≤ length b
+    → half_word_at (bytes_of (b ++ rest)) at ≡ half_word_at (bytes_of b) at
 unfolding half_word_at
 half_word_at-front b rest at l = ap (little_number 4) (read-front b rest at 4 l)
 
@@ -83,7 +99,8 @@ pub has_magic-front : (b rest : List ℕ) → 24 ≤ length b → has_magic (b +
 has_magic-front b rest l = ap (λ w. w == magic_number) (word_at-front b rest 0 (omega arith))
 
 -- the version stays
-pub has_version-front : (format : ℕ) (b rest : List ℕ) → 24 ≤ length b → has_version format (b ++ rest) ≡ has_version format b
+pub has_version-front : (format : ℕ) (b rest : List ℕ) → 24 ≤ length b
+    → has_version format (b ++ rest) ≡ has_version format b
 has_version-front format b rest l = ap (λ w. w == format) (half_word_at-front b rest 8 (omega arith))
 
 -- the size stays
@@ -93,23 +110,28 @@ size_word-front b rest l = word_at-front b rest 16 (omega arith)
 -- ---- where an image is not too short
 
 -- with 144 bytes and a front that is wrong
-not_truncated-front : (format : ℕ) (b : List ℕ) → 144 ≤ length b → has_front format b ≡ false → holds format b Truncated ≡ false
+not_truncated-front : (format : ℕ) (b : List ℕ) → 144 ≤ length b → has_front format b ≡ false
+    → holds format b Truncated ≡ false
 not_truncated-front format b l e =
-    or_from (nat_lt (length b) 144) (has_front format b && nat_lt (length b) (size_word b)) (le-ltb (length b) 144 l) (and_left (has_front format b) (nat_lt (length b) (size_word b)) e)
+    or_from (nat_lt (length b) 144) (has_front format b && nat_lt (length b) (size_word b))
+    (le-ltb (length b) 144 l) (and_left (has_front format b) (nat_lt (length b) (size_word b)) e)
 
 -- with as many bytes as the size says
-not_truncated-size : (format : ℕ) (b : List ℕ) → 144 ≤ length b → size_word b ≤ length b → holds format b Truncated ≡ false
+not_truncated-size : (format : ℕ) (b : List ℕ) → 144 ≤ length b → size_word b ≤ length b
+    → holds format b Truncated ≡ false
 not_truncated-size format b l m =
     or_from (nat_lt (length b) 144) (has_front format b && nat_lt (length b) (size_word b)) (le-ltb (length b) 144 l)
     (and_right (has_front format b) (nat_lt (length b) (size_word b)) (le-ltb (length b) (size_word b) m))
 
 -- a wrong magic is a wrong front
 front-magic : (format : ℕ) (b : List ℕ) → has_magic b ≡ false → has_front format b ≡ false
-front-magic format b e = and_left (has_magic b && has_version format b) (is_legal_size (size_word b)) (and_left (has_magic b) (has_version format b) e)
+front-magic format b e = and_left (has_magic b && has_version format b) (is_legal_size (size_word b))
+    (and_left (has_magic b) (has_version format b) e)
 
 -- a wrong version is a wrong front
 front-version : (format : ℕ) (b : List ℕ) → has_version format b ≡ false → has_front format b ≡ false
-front-version format b e = and_left (has_magic b && has_version format b) (is_legal_size (size_word b)) (and_right (has_magic b) (has_version format b) e)
+front-version format b e = and_left (has_magic b && has_version format b) (is_legal_size (size_word b))
+    (and_right (has_magic b) (has_version format b) e)
 
 -- a size that no segment has is a wrong front
 front-size : (format : ℕ) (b : List ℕ) → is_legal_size (size_word b) ≡ false → has_front format b ≡ false
@@ -125,19 +147,25 @@ longer b rest n l = let e = length-append b rest in omega arith
 magic-decides : (format : ℕ) (b : List ℕ) → 144 ≤ length b → has_magic b ≡ false → DecidesClass format b BadMagic
 magic-decides format b l e rest h =
     let f : has_magic (b ++ rest) ≡ false = has_magic-front b rest (omega arith) ∙ e in
-    second_class (holds format (b ++ rest)) (not_truncated-front format (b ++ rest) (longer b rest 144 l) (front-magic format (b ++ rest) f)) (not_from_false (has_magic (b ++ rest)) f)
+    second_class (holds format (b ++ rest))
+    (not_truncated-front format (b ++ rest) (longer b rest 144 l) (front-magic format (b ++ rest) f))
+    (not_from_false (has_magic (b ++ rest)) f)
 
 -- a wrong version behind a right magic decides class 3
-version-decides : (format : ℕ) (b : List ℕ) → 144 ≤ length b → has_magic b ≡ true → has_version format b ≡ false → DecidesClass format b UnsupportedVersion
+version-decides : (format : ℕ) (b : List ℕ) → 144 ≤ length b → has_magic b ≡ true → has_version format b ≡ false
+    → DecidesClass format b UnsupportedVersion
 version-decides format b l e f rest h =
     let m : has_magic (b ++ rest) ≡ true = has_magic-front b rest (omega arith) ∙ e in
     let v : has_version format (b ++ rest) ≡ false = has_version-front format b rest (omega arith) ∙ f in
-    third_class (holds format (b ++ rest)) (not_truncated-front format (b ++ rest) (longer b rest 144 l) (front-version format (b ++ rest) v))
+    third_class (holds format (b ++ rest))
+    (not_truncated-front format (b ++ rest) (longer b rest 144 l) (front-version format (b ++ rest) v))
     (not_from_true (has_magic (b ++ rest)) m) (not_from_false (has_version format (b ++ rest)) v)
 
 -- a size class behind a right magic and version
-size-class : (format : ℕ) (b : List ℕ) → has_magic b ≡ true → has_version format b ≡ true → holds format b Truncated ≡ false → has_size b ≡ false → class_of format b ≡ Some BadSize
-size-class format b m v t s = fourth_class (holds format b) t (not_from_true (has_magic b) m) (not_from_true (has_version format b) v) (not_from_false (has_size b) s)
+size-class : (format : ℕ) (b : List ℕ) → has_magic b ≡ true → has_version format b ≡ true
+    → holds format b Truncated ≡ false → has_size b ≡ false → class_of format b ≡ Some BadSize
+size-class format b m v t s = fourth_class (holds format b) t (not_from_true (has_magic b) m)
+    (not_from_true (has_version format b) v) (not_from_false (has_size b) s)
 
 -- a size that no segment has, or fewer bytes than were read, decides class 4
 size-decides : (format : ℕ) (b : List ℕ) → 144 ≤ length b → has_magic b ≡ true → has_version format b ≡ true
@@ -145,8 +173,11 @@ size-decides : (format : ℕ) (b : List ℕ) → 144 ≤ length b → has_magic 
 size-decides format b l e f (inl g) rest h =
     let m = has_magic-front b rest (omega arith) ∙ e in
     let v = has_version-front format b rest (omega arith) ∙ f in
-    let s : is_legal_size (size_word (b ++ rest)) ≡ false = ap is_legal_size (size_word-front b rest (omega arith)) ∙ g in
-    size-class format (b ++ rest) m v (not_truncated-front format (b ++ rest) (longer b rest 144 l) (front-size format (b ++ rest) s)) (and_left (is_legal_size (size_word (b ++ rest))) (nat_le (length (b ++ rest)) (size_word (b ++ rest))) s)
+    let s : is_legal_size (size_word (b ++ rest)) ≡ false =
+    ap is_legal_size (size_word-front b rest (omega arith)) ∙ g in
+    size-class format (b ++ rest) m v
+    (not_truncated-front format (b ++ rest) (longer b rest 144 l) (front-size format (b ++ rest) s))
+    (and_left (is_legal_size (size_word (b ++ rest))) (nat_le (length (b ++ rest)) (size_word (b ++ rest))) s)
 size-decides format b l e f (inr g) rest h =
     let m = has_magic-front b rest (omega arith) ∙ e in
     let v = has_version-front format b rest (omega arith) ∙ f in
@@ -155,7 +186,8 @@ size-decides format b l e f (inr g) rest h =
     let more = length-append b rest in
     let s : size_word (b ++ rest) < length (b ++ rest) = omega arith in
     size-class format (b ++ rest) m v (not_truncated-size format (b ++ rest) (longer b rest 144 l) (omega arith))
-    (and_right (is_legal_size (size_word (b ++ rest))) (nat_le (length (b ++ rest)) (size_word (b ++ rest))) (lt-leb (length (b ++ rest)) (size_word (b ++ rest)) s))
+    (and_right (is_legal_size (size_word (b ++ rest))) (nat_le (length (b ++ rest)) (size_word (b ++ rest)))
+    (lt-leb (length (b ++ rest)) (size_word (b ++ rest)) s))
 
 -- ---- where nothing is decided
 
@@ -171,7 +203,8 @@ zeros-are_bytes zero = refl
 zeros-are_bytes (suc n) = zeros-are_bytes n
 
 -- a legal size is at most 2 ^ 30
-largest : (n : ℕ) → ((n == 144) ≡ true) ⊎ (((n % 16 == 0) && nat_le 176 n && nat_le n 1073741824) ≡ true) → n ≤ 1073741824
+largest : (n : ℕ) → ((n == 144) ≡ true) ⊎ (((n % 16 == 0) && nat_le 176 n && nat_le n 1073741824) ≡ true)
+    → n ≤ 1073741824
 largest n (inl e) = let same = eqb-true n 144 e in omega arith
 largest n (inr e) = leb-true n 1073741824 (and_parts ((n % 16 == 0) && nat_le 176 n) (nat_le n 1073741824) e).1
 
@@ -180,8 +213,10 @@ is_legal_size-most : (n : ℕ) → IsTrue (is_legal_size n) → n ≤ 1073741824
 is_legal_size-most n h = largest n (or_cases (n == 144) ((n % 16 == 0) && nat_le 176 n && nat_le n 1073741824) h)
 
 -- an image of 2 ^ 30 bytes is not too short
-long_cases : (format : ℕ) (b : List ℕ) → 1073741824 ≤ length b → (is_legal_size (size_word b) ≡ true) ⊎ (is_legal_size (size_word b) ≡ false) → holds format b Truncated ≡ false
-long_cases format b l (inl e) = let most = is_legal_size-most (size_word b) e in not_truncated-size format b (omega arith) (omega arith)
+long_cases : (format : ℕ) (b : List ℕ) → 1073741824 ≤ length b → (is_legal_size (size_word b) ≡ true)
+    ⊎ (is_legal_size (size_word b) ≡ false) → holds format b Truncated ≡ false
+long_cases format b l (inl e) = let most = is_legal_size-most (size_word b) e
+    in not_truncated-size format b (omega arith) (omega arith)
 long_cases format b l (inr e) = not_truncated-front format b (omega arith) (front-size format b e)
 
 -- with nothing behind it, the front has the class
@@ -189,18 +224,22 @@ alone : (format : ℕ) (b : List ℕ) (c : ImageClass) → DecidesClass format b
 alone format b c d = subst (λ x. class_of format x ≡ Some c) (append-nil b) (d [] refl)
 
 -- a front that is too short alone, and not with some bytes behind it, decides nothing
-not_both : (format : ℕ) (b rest : List ℕ) (c : ImageClass) → holds format b Truncated ≡ true → IsTrue (are_bytes rest) → holds format (b ++ rest) Truncated ≡ false → DecidesClass format b c → ⊥
+not_both : (format : ℕ) (b rest : List ℕ) (c : ImageClass) → holds format b Truncated ≡ true
+    → IsTrue (are_bytes rest) → holds format (b ++ rest) Truncated ≡ false → DecidesClass format b c → ⊥
 not_both format b rest c t h n d =
     let first : Some c ≡ Some Truncated = sym (alone format b c d) ∙ first_class (holds format b) t in
-    let found : holds format (b ++ rest) Truncated ≡ true = find-holds (holds format (b ++ rest)) Truncated classes (d rest h ∙ first) in
+    let found : holds format (b ++ rest) Truncated ≡ true =
+    find-holds (holds format (b ++ rest)) Truncated classes (d rest h ∙ first) in
     both_ways (holds format (b ++ rest) Truncated) n found
 
 -- fewer than 144 bytes decide nothing: zeros may follow
-short_undecided : (format : ℕ) (b : List ℕ) (n : ℕ) (c : ImageClass) → 1073741824 ≤ n → length b < 144 → DecidesClass format b c → ⊥
+short_undecided : (format : ℕ) (b : List ℕ) (n : ℕ) (c : ImageClass) → 1073741824 ≤ n → length b < 144
+    → DecidesClass format b c → ⊥
 short_undecided format b n c m l d =
     let more = length-append b (zeros n) in
     let many = zeros-length n in
-    not_both format b (zeros n) c (or_left (nat_lt (length b) 144) (has_front format b && nat_lt (length b) (size_word b)) (lt-ltb (length b) 144 l)) (zeros-are_bytes n)
+    not_both format b (zeros n) c (or_left (nat_lt (length b) 144) (has_front format b
+    && nat_lt (length b) (size_word b)) (lt-ltb (length b) 144 l)) (zeros-are_bytes n)
     (long_cases format (b ++ zeros n) (omega arith) (cases_Bool (is_legal_size (size_word (b ++ zeros n))))) d
 
 -- the front's tests that do not decide
@@ -211,56 +250,72 @@ record IsOpen (format : ℕ) (b : List ℕ) : Type 0 where
   legal : is_legal_size (size_word b) ≡ true
 
 -- nor do fewer bytes than the size says: zeros may fill it up
-cut_undecided : (format : ℕ) (b : List ℕ) (c : ImageClass) → IsOpen format b → length b < size_word b → DecidesClass format b c → ⊥
+cut_undecided : (format : ℕ) (b : List ℕ) (c : ImageClass) → IsOpen format b → length b < size_word b
+    → DecidesClass format b c → ⊥
 cut_undecided format b c o l d =
     let n : ℕ = size_word b - length b in
     let long = o.long in
     let more = length-append b (zeros n) in
     let many = zeros-length n in
     let same = size_word-front b (zeros n) (omega arith) in
-    let front : has_front format b ≡ true = and_from (has_magic b && has_version format b) (is_legal_size (size_word b)) (and_from (has_magic b) (has_version format b) o.magic o.version) o.legal in
+    let front : has_front format b ≡ true =
+    and_from (has_magic b && has_version format b) (is_legal_size (size_word b))
+    (and_from (has_magic b) (has_version format b) o.magic o.version) o.legal in
     not_both format b (zeros n) c
-    (or_right (nat_lt (length b) 144) (has_front format b && nat_lt (length b) (size_word b)) (and_from (has_front format b) (nat_lt (length b) (size_word b)) front (lt-ltb (length b) (size_word b) l)))
+    (or_right (nat_lt (length b) 144) (has_front format b && nat_lt (length b) (size_word b))
+    (and_from (has_front format b) (nat_lt (length b) (size_word b)) front (lt-ltb (length b) (size_word b) l)))
     (zeros-are_bytes n)
     (not_truncated-size format (b ++ zeros n) (omega arith) (omega arith)) d
 
 -- nor do as many bytes as the size says: one more may follow
-whole_undecided : (format : ℕ) (b : List ℕ) (c : ImageClass) → IsOpen format b → length b ≡ size_word b → DecidesClass format b c → ⊥
+whole_undecided : (format : ℕ) (b : List ℕ) (c : ImageClass) → IsOpen format b → length b ≡ size_word b
+    → DecidesClass format b c → ⊥
 whole_undecided format b c o l d =
     let rest : List ℕ = 0 ∷ [] in
     let long = o.long in
     let more : length (b ++ rest) ≡ length b + 1 = length-append b rest in
     let same = size_word-front b rest (omega arith) in
     let big : class_of format (b ++ rest) ≡ Some BadSize =
-    size-class format (b ++ rest) (has_magic-front b rest (omega arith) ∙ o.magic) (has_version-front format b rest (omega arith) ∙ o.version)
+    size-class format (b ++ rest) (has_magic-front b rest (omega arith)
+    ∙ o.magic) (has_version-front format b rest (omega arith) ∙ o.version)
     (not_truncated-size format (b ++ rest) (omega arith) (omega arith))
-    (and_right (is_legal_size (size_word (b ++ rest))) (nat_le (length (b ++ rest)) (size_word (b ++ rest))) (lt-leb (length (b ++ rest)) (size_word (b ++ rest)) (omega arith))) in
+    (and_right (is_legal_size (size_word (b ++ rest))) (nat_le (length (b ++ rest)) (size_word (b ++ rest)))
+    (lt-leb (length (b ++ rest)) (size_word (b ++ rest)) (omega arith))) in
     let first : class_of format b ≡ Some BadSize = alone format b c d ∙ sym (d rest refl) ∙ big in
     let found : holds format b BadSize ≡ true = find-holds (holds format b) BadSize classes first in
-    both_ways (holds format b BadSize) (not_from_true (has_size b) (and_from (is_legal_size (size_word b)) (nat_le (length b) (size_word b)) o.legal (le-leb (length b) (size_word b) (omega arith)))) found
+    both_ways (holds format b BadSize)
+    (not_from_true (has_size b) (and_from (is_legal_size (size_word b)) (nat_le (length b) (size_word b)) o.legal
+    (le-leb (length b) (size_word b) (omega arith)))) found
 
 -- both together
-open_cases : (format : ℕ) (b : List ℕ) (c : ImageClass) → IsOpen format b → length b ≤ size_word b → (length b < size_word b) ⊎ (size_word b ≤ length b) → DecidesClass format b c → ⊥
+open_cases : (format : ℕ) (b : List ℕ) (c : ImageClass) → IsOpen format b → length b ≤ size_word b
+    → (length b < size_word b) ⊎ (size_word b ≤ length b) → DecidesClass format b c → ⊥
 open_cases format b c o m (inl l) d = cut_undecided format b c o l d
 open_cases format b c o m (inr l) d = whole_undecided format b c o (omega arith) d
 
 -- ---- the test
 
 -- what is decided, by the four tests
-some_cases : (format : ℕ) (b : List ℕ) (c : ImageClass) (p q r s : Bool) → nat_lt (length b) 144 ≡ p → has_magic b ≡ q → has_version format b ≡ r → has_size b ≡ s
+some_cases : (format : ℕ) (b : List ℕ) (c : ImageClass) (p q r s : Bool) → nat_lt (length b) 144 ≡ p
+    → has_magic b ≡ q → has_version format b ≡ r → has_size b ≡ s
     → decided_by p q r s ≡ Some c → DecidesClass format b c
 some_cases format b c true q r s e f g h k = absurd (cc)
 some_cases format b c false false r s e f g h k =
-    let same : BadMagic ≡ c = cc in subst (DecidesClass format b) same (magic-decides format b (ltb-false (length b) 144 e) f)
+    let same : BadMagic ≡ c = cc in subst (DecidesClass format b) same
+    (magic-decides format b (ltb-false (length b) 144 e) f)
 some_cases format b c false true false s e f g h k =
-    let same : UnsupportedVersion ≡ c = cc in subst (DecidesClass format b) same (version-decides format b (ltb-false (length b) 144 e) f g)
+    let same : UnsupportedVersion ≡ c = cc
+    in subst (DecidesClass format b) same (version-decides format b (ltb-false (length b) 144 e) f g)
 some_cases format b c false true true true e f g h k = absurd (cc)
 some_cases format b c false true true false e f g h k =
     let same : BadSize ≡ c = cc in
-    subst (DecidesClass format b) same (size-decides format b (ltb-false (length b) 144 e) f g (and_cases (is_legal_size (size_word b)) (nat_le (length b) (size_word b)) h))
+    subst (DecidesClass format b) same
+    (size-decides format b (ltb-false (length b) 144 e) f g
+    (and_cases (is_legal_size (size_word b)) (nat_le (length b) (size_word b)) h))
 
 -- what is not, by the four tests
-none_cases : (format : ℕ) (b : List ℕ) (n : ℕ) (c : ImageClass) (p q r s : Bool) → 1073741824 ≤ n → nat_lt (length b) 144 ≡ p → has_magic b ≡ q → has_version format b ≡ r → has_size b ≡ s
+none_cases : (format : ℕ) (b : List ℕ) (n : ℕ) (c : ImageClass) (p q r s : Bool) → 1073741824 ≤ n
+    → nat_lt (length b) 144 ≡ p → has_magic b ≡ q → has_version format b ≡ r → has_size b ≡ s
     → decided_by p q r s ≡ None → DecidesClass format b c → ⊥
 none_cases format b n c true q r s m e f g h k d = short_undecided format b n c m (ltb-true (length b) 144 e) d
 none_cases format b n c false false r s m e f g h k d = absurd (cc)
@@ -272,14 +327,20 @@ none_cases format b n c false true true true m e f g h k d =
     open_cases format b c o (leb-true (length b) (size_word b) parts.1) (cases_lt (length b) (size_word b)) d
 
 -- what the test finds is decided
-pub decided-some : (format : ℕ) (front : List ℕ) (c : ImageClass) → decided format front ≡ Some c → DecidesClass format front c
+pub decided-some : (format : ℕ) (front : List ℕ) (c : ImageClass) → decided format front ≡ Some c
+    → DecidesClass format front c
 unfolding decided
-decided-some format front c e = some_cases format front c (nat_lt (length front) 144) (has_magic front) (has_version format front) (has_size front) refl refl refl refl e
+decided-some format front c e =
+    some_cases format front c (nat_lt (length front) 144) (has_magic front) (has_version format front)
+    (has_size front) refl refl refl refl e
 
 -- where it finds nothing, no class is decided
-pub decided-none : (format : ℕ) (front : List ℕ) → decided format front ≡ None → (c : ImageClass) → DecidesClass format front c → ⊥
+pub decided-none : (format : ℕ) (front : List ℕ) → decided format front ≡ None → (c : ImageClass)
+    → DecidesClass format front c → ⊥
 unfolding decided
-decided-none format front e c d = none_cases format front 1073741824 c (nat_lt (length front) 144) (has_magic front) (has_version format front) (has_size front) (omega arith) refl refl refl refl e d
+decided-none format front e c d =
+    none_cases format front 1073741824 c (nat_lt (length front) 144) (has_magic front) (has_version format front)
+    (has_size front) (omega arith) refl refl refl refl e d
 
 -- the law
 pub all_decided : AllDecided

@@ -1,7 +1,7 @@
 -- How many ends a reader answered in a call that asks no more behind its end.
 use Rattle.std.proofs.Common.{◌≡◌, ℕ, ◌+◌, ◌≤◌, Bool, true, false, arith}
 use Rattle.std.specs.Prelude.{if◌then◌else◌}
-use Rattle.raw_region.specs.Device.{EndsAtMostOnce, Gave}
+use Rattle.raw_region.specs.Device.{EndsAtMostOnce, ReaderHistory}
 use Rattle.image_check.specs.Opening.{AsksToTheEnd}
 
 few : (old n : ℕ) (b : Bool) → n ≡ old + (if b then 1 else 0) → n ≤ old + 1
@@ -9,5 +9,5 @@ few old n true e = omega arith
 few old n false e = omega arith
 
 -- at most one
-pub ends_at_most_once : (old new : Gave) → AsksToTheEnd old new → EndsAtMostOnce old new
+pub ends_at_most_once : (old new : ReaderHistory) → AsksToTheEnd old new → EndsAtMostOnce old new
 ends_at_most_once old new e = few old.ends new.ends new.ended e

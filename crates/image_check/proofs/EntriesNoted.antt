@@ -14,9 +14,11 @@ use Rattle.image_check.specs.declared.owners.Owner.{Owner}
 use Rattle.image_check.specs.EarlyTests.{is_among}
 use Rattle.image_check.specs.ObjectTests.{tile_of, good_for, are_distinct}
 use Rattle.image_check.specs.Owners.{Blocks, entry_in}
-use Rattle.image_check.specs.Entered.{AreAdded, IsEntered, are_enterable, are_new, can_enter, index_of, is_new_in, root_in}
+use Rattle.image_check.specs.Entered.{AreAdded, EntersLink, are_enterable, are_new, can_enter, index_of, is_new_in}
+use Rattle.image_check.specs.Entered.{root_in}
 use Rattle.image_check.proofs.IndexEntries.{Distinct, distinct-append, distinct-passes}
-use Rattle.image_check.proofs.Members.{Mem, list_all_from, list_all_mem, is_among-Mem, Mem-is_among, mem_left, mem_right, mem_parts}
+use Rattle.image_check.proofs.Members.{Mem, list_all_from, list_all_mem, is_among-Mem, Mem-is_among, mem_left}
+use Rattle.image_check.proofs.Members.{mem_right, mem_parts}
 use Rattle.image_check.proofs.Standing.{same_role-refl}
 use Rattle.image_check.proofs.EntryNoted.{added-more, not-before, new-before, good}
 
@@ -30,11 +32,14 @@ not-among false h e = false≢true e
 pub passes-distinct : (xs : List ℕ) → IsTrue (are_distinct xs) → Distinct xs
 passes-distinct [] h = tt
 passes-distinct (x ∷ xs) h =
-    let p = and_parts (not (is_among xs x)) (are_distinct xs) h in
-    (λ y k e. not-among (is_among xs x) p.0 (Mem-is_among xs x (subst (λ z. Mem z xs) (sym e) k)), passes-distinct xs p.1)
+    let p = and_parts (not (is_among xs x)) (are_distinct xs) h in (
+      λ y k e. not-among (is_among xs x) p.0 (Mem-is_among xs x (subst (λ z. Mem z xs) (sym e) k)),
+      passes-distinct xs p.1,
+    )
 
 -- two lists in one without a number twice have none in common
-pub distinct-parts : (xs ys : List ℕ) → Distinct (xs ++ ys) → Distinct xs × Distinct ys × ((x : ℕ) → Mem x xs → Mem x ys → ⊥)
+pub distinct-parts : (xs ys : List ℕ) → Distinct (xs ++ ys)
+    → Distinct xs × Distinct ys × ((x : ℕ) → Mem x xs → Mem x ys → ⊥)
 distinct-parts [] ys d = (tt, d, λ x k l. k)
 distinct-parts (x ∷ xs) ys d =
     let r = distinct-parts xs ys d.1 in (
@@ -55,12 +60,16 @@ pub record AreNew (es : Blocks) (xs : List ℕ) : Type 0 where
   pub free : (x : ℕ) → Mem x xs → index_of es x ≡ None
 
 pub new-from : (es : Blocks) (xs : List ℕ) → AreNew es xs → are_new es xs ≡ true
-new-from es xs a = and_from (are_distinct xs) (list_all (λ n. is_none (index_of es n)) xs) (distinct-passes xs a.distinct) (list_all_from (λ n. is_none (index_of es n)) xs (λ x k. ap is_none (a.free x k)))
+new-from es xs a = and_from (are_distinct xs) (list_all (λ n. is_none (index_of es n)) xs)
+    (distinct-passes xs a.distinct) (list_all_from (λ n. is_none (index_of es n)) xs (λ x k. ap is_none (a.free x k)))
 
 pub new-parts : (es : Blocks) (xs : List ℕ) → are_new es xs ≡ true → AreNew es xs
 new-parts es xs h =
     let p = and_parts (are_distinct xs) (list_all (λ n. is_none (index_of es n)) xs) h in
-    record { distinct = passes-distinct xs p.0; free = λ x k. none-is (index_of es x) (list_all_mem (λ n. is_none (index_of es n)) xs x p.1 k) }
+    record {
+      distinct = passes-distinct xs p.0;
+      free = λ x k. none-is (index_of es x) (list_all_mem (λ n. is_none (index_of es n)) xs x p.1 k);
+    }
 
 abbrev is_good : List Tile → Option ℕ → Bool
 is_good ts link = is_some (good_for ts Object link)
@@ -71,14 +80,17 @@ targets_of links = flat_map option_to_list links
 -- ---- one entry more
 
 -- the objects before and behind one link
-pub targets-split : (front back : List (Option ℕ)) (link : Option ℕ) (n : ℕ) → link ≡ Some n → targets_of (front ++ link ∷ back) ≡ targets_of front ++ n ∷ targets_of back
-targets-split front back link n e = ap (λ l. targets_of (front ++ l ∷ back)) e ∙ flat_map-append option_to_list front (Some n ∷ back)
+pub targets-split : (front back : List (Option ℕ)) (link : Option ℕ) (n : ℕ) → link ≡ Some n
+    → targets_of (front ++ link ∷ back) ≡ targets_of front ++ n ∷ targets_of back
+targets-split front back link n e =
+    ap (λ l. targets_of (front ++ l ∷ back)) e ∙ flat_map-append option_to_list front (Some n ∷ back)
 
-module _ (ts : List Tile) (old es : Blocks) (root place : ℕ) (front : List (Option ℕ)) (link : Option ℕ) (a : AreAdded ts old es root (targets_of front)) (r : are_enterable ts old front ≡ true) where
+module _ (ts : List Tile) (old es : Blocks) (root place : ℕ) (front : List (Option ℕ)) (link : Option ℕ)
+    (a : AreAdded ts old es root (targets_of front)) (r : are_enterable ts old front ≡ true) where
   parts : (list_all (is_good ts) front ≡ true) × (are_new old (targets_of front) ≡ true)
   parts = and_parts (list_all (is_good ts) front) (are_new old (targets_of front)) r
 
-  module _ (new : Blocks) (e : IsEntered es new link place root) where
+  module _ (new : Blocks) (e : EntersLink es new link place root) where
     xs : List ℕ
     xs = targets_of front
 
@@ -89,7 +101,9 @@ module _ (ts : List Tile) (old es : Blocks) (root place : ℕ) (front : List (Op
           distinct =
               distinct-append (targets_of front) (e.target ∷ []) w.distinct ((λ y k f. k), tt)
               (λ x y k l f. elim l [
-                | inl g ↦ both_ways (is_among (targets_of front) e.target) (not-before ts old es new root place (targets_of front) link a e) (Mem-is_among (targets_of front) e.target (subst (λ z. Mem z (targets_of front)) (f ∙ g) k))
+                | inl g ↦ both_ways (is_among (targets_of front) e.target)
+                    (not-before ts old es new root place (targets_of front) link a e)
+                    (Mem-is_among (targets_of front) e.target (subst (λ z. Mem z (targets_of front)) (f ∙ g) k))
                 | inr g ↦ g
               ]);
           free = λ x k. elim (mem_parts x (targets_of front) (e.target ∷ []) k) [
@@ -99,11 +113,14 @@ module _ (ts : List Tile) (old es : Blocks) (root place : ℕ) (front : List (Op
           ];
         }
 
-    pub one-entered : (are_enterable ts old (front ++ link ∷ []) ≡ true) × AreAdded ts old new root (targets_of (front ++ link ∷ []))
+    pub one-entered : (are_enterable ts old (front ++ link ∷ []) ≡ true)
+        × AreAdded ts old new root (targets_of (front ++ link ∷ []))
     one-entered =
         let same = targets-split front [] link e.target e.leads in (
           and_from (list_all (is_good ts) (front ++ link ∷ [])) (are_new old (targets_of (front ++ link ∷ [])))
-              (list_all-append (is_good ts) front (link ∷ []) ∙ and_from (list_all (is_good ts) front) (list_all (is_good ts) (link ∷ [])) parts.0 (and_from (is_good ts link) true (good ts old es new root place (targets_of front) link a e) refl))
+              (list_all-append (is_good ts) front (link ∷ [])
+              ∙ and_from (list_all (is_good ts) front) (list_all (is_good ts) (link ∷ [])) parts.0
+              (and_from (is_good ts link) true (good ts old es new root place (targets_of front) link a e) refl))
               (ap (are_new old) same ∙ new-from old (targets_of front ++ e.target ∷ []) new-more),
           subst (AreAdded ts old new root) (sym same) (added-more ts old es new root place (targets_of front) link a e),
         )
@@ -117,28 +134,38 @@ free-block b o e = no-owner b.owner (sym (ap root_in (cond-true (same_role b.rol
     no-owner None h = refl
     no-owner (Some o) h = absurd (cc)
 
-module _ (ts : List Tile) (old es : Blocks) (root : ℕ) (front : List (Option ℕ)) (a : AreAdded ts old es root (targets_of front)) where
+module _ (ts : List Tile) (old es : Blocks) (root : ℕ) (front : List (Option ℕ))
+    (a : AreAdded ts old es root (targets_of front)) where
   -- an object that is none of those before and has no entry can be entered
-  pub can : (n : ℕ) → is_some (tile_of ts Object n) ≡ true → is_among (targets_of front) n ≡ false → index_of old n ≡ None → can_enter es (Some n) ≡ true
+  pub can : (n : ℕ) → is_some (tile_of ts Object n) ≡ true → is_among (targets_of front) n ≡ false
+      → index_of old n ≡ None → can_enter es (Some n) ≡ true
   can n g d f = can-if (tile_of ts Object n) refl g
     where
       can-if : (o : Option Tile) → tile_of ts Object n ≡ o → is_some o ≡ true → can_enter es (Some n) ≡ true
       can-if None e h = absurd (false≢true h)
       can-if (Some t) e h =
           let b = a.blocks.blocks n Object t e in
-          let object : same_role b.block.role Object ≡ true = ap (λ r. same_role r Object) b.role_is ∙ same_role-refl Object in
-          let none : index_of es n ≡ None = a.entered n ∙ cond-false (is_among (targets_of front) n) (Some root) (index_of old n) d ∙ f in
-          ap is_new_in b.is ∙ and_from (same_role b.block.role Object) (is_none b.block.owner) object (free-block b.block object (sym (ap (λ o. root_in (entry_in o)) b.is) ∙ none))
+          let object : same_role b.block.role Object ≡ true =
+          ap (λ r. same_role r Object) b.role_is ∙ same_role-refl Object in
+          let none : index_of es n ≡ None =
+          a.entered n ∙ cond-false (is_among (targets_of front) n) (Some root) (index_of old n) d ∙ f in
+          ap is_new_in b.is ∙ and_from (same_role b.block.role Object) (is_none b.block.owner) object
+          (free-block b.block object (sym (ap (λ o. root_in (entry_in o)) b.is) ∙ none))
 
-  can-behind : (link : Option ℕ) (back : List (Option ℕ)) → are_enterable ts old (front ++ link ∷ back) ≡ true → can_enter es link ≡ true
+  can-behind : (link : Option ℕ) (back : List (Option ℕ)) → are_enterable ts old (front ++ link ∷ back) ≡ true
+      → can_enter es link ≡ true
   can-behind link back h =
-      let p = and_parts (list_all (is_good ts) (front ++ link ∷ back)) (are_new old (targets_of (front ++ link ∷ back))) h in
-      let g = and_parts (list_all (is_good ts) front) (list_all (is_good ts) (link ∷ back)) (sym (list_all-append (is_good ts) front (link ∷ back)) ∙ p.0) in
+      let p = and_parts (list_all (is_good ts) (front ++ link ∷ back))
+      (are_new old (targets_of (front ++ link ∷ back))) h in
+      let g = and_parts (list_all (is_good ts) front) (list_all (is_good ts) (link ∷ back))
+      (sym (list_all-append (is_good ts) front (link ∷ back)) ∙ p.0) in
       let g2 = and_parts (is_good ts link) (list_all (is_good ts) back) g.1 in
-      let w = new-parts old (targets_of front ++ targets_of (link ∷ back)) (sym (ap (are_new old) (flat_map-append option_to_list front (link ∷ back))) ∙ p.1) in
+      let w = new-parts old (targets_of front ++ targets_of (link ∷ back))
+      (sym (ap (are_new old) (flat_map-append option_to_list front (link ∷ back))) ∙ p.1) in
       behind link g2.0 w
     where
-      behind : (link : Option ℕ) → is_good ts link ≡ true → AreNew old (targets_of front ++ targets_of (link ∷ back)) → can_enter es link ≡ true
+      behind : (link : Option ℕ) → is_good ts link ≡ true
+          → AreNew old (targets_of front ++ targets_of (link ∷ back)) → can_enter es link ≡ true
       behind None g w = absurd (false≢true g)
       behind (Some n) g w =
           let d = distinct-parts (targets_of front) (n ∷ targets_of back) w.distinct in
@@ -149,7 +176,8 @@ module _ (ts : List Tile) (old es : Blocks) (root : ℕ) (front : List (Option �
           ])
           (w.free n (mem_right n (targets_of front) (n ∷ targets_of back) (inl refl)))
 
-  pub wrong-entry : (link : Option ℕ) (back : List (Option ℕ)) → can_enter es link ≡ false → are_enterable ts old (front ++ link ∷ back) ≡ false
+  pub wrong-entry : (link : Option ℕ) (back : List (Option ℕ)) → can_enter es link ≡ false
+      → are_enterable ts old (front ++ link ∷ back) ≡ false
   wrong-entry link back f = elim (cases_Bool (are_enterable ts old (front ++ link ∷ back))) [
     | inl h ↦ absurd (both_ways (can_enter es link) f (can-behind link back h))
     | inr h ↦ h

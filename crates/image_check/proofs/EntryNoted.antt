@@ -1,5 +1,6 @@
 -- Noting one entry more at the object that it leads to.
-use Rattle.std.proofs.Common.{◌≡◌, ◌≢◌, refl, sym, ap, subst, ◌∙◌, ℕ, Bool, true, false, ◌||◌, ◌==◌, List, [], ◌∷◌, ◌++◌, cond}
+use Rattle.std.proofs.Common.{◌≡◌, ◌≢◌, refl, sym, ap, subst, ◌∙◌, ℕ, Bool, true, false, ◌||◌, ◌==◌, List, [], ◌∷◌}
+use Rattle.std.proofs.Common.{◌++◌, cond}
 use Rattle.std.specs.Prelude.{Option, Some, None, nat_eq, is_some, is_none}
 use Rattle.std.specs.Map.{set_value}
 use Rattle.std.proofs.lemmas.Bool.{and_parts, cases_Bool, cond-false, cond-true, ne_eqb, cases_eq, false≢true}
@@ -13,15 +14,17 @@ use Rattle.image_check.specs.declared.owners.Block.{Block}
 use Rattle.image_check.specs.declared.owners.Owner.{Owner}
 use Rattle.image_check.specs.EarlyTests.{is_among}
 use Rattle.image_check.specs.ObjectTests.{tile_of, good_for}
-use Rattle.image_check.specs.Owners.{Blocks, block_at, entry_in, owner_at, owner_in, IsTileAt, IsBlockAt, frames, frame_of}
-use Rattle.image_check.specs.Entered.{AreAdded, IsEntered, index_of, is_new_block, root_in, with_entry}
+use Rattle.image_check.specs.Owners.{Blocks, block_at, entry_in, owner_at, owner_in, IsTileAt, IsBlockAt, frames}
+use Rattle.image_check.specs.Owners.{frame_of}
+use Rattle.image_check.specs.Entered.{AreAdded, EntersLink, index_of, is_new_block, root_in, with_entry}
 use Rattle.image_check.proofs.Members.{Mem-is_among, mem_right}
 use Rattle.image_check.proofs.Marking.{put-other, put-same}
 use Rattle.image_check.proofs.Standing.{same_role-is}
 
 -- ---- one block in the place of another
 
-frame-if : (n k : ℕ) (c b w : Block) (es fs : Blocks) (x : Bool) → w.role ≡ b.role → w.len ≡ b.len → (block_at es n ≡ Some b → frames fs ≡ frames es) → cond x (Some c) (block_at es n) ≡ Some b
+frame-if : (n k : ℕ) (c b w : Block) (es fs : Blocks) (x : Bool) → w.role ≡ b.role → w.len ≡ b.len
+    → (block_at es n ≡ Some b → frames fs ≡ frames es) → cond x (Some c) (block_at es n) ≡ Some b
     → frames (cond x ((k, w) ∷ es) ((k, c) ∷ fs)) ≡ frames ((k, c) ∷ es)
 frame-if n k c b w es fs true r l ih h =
     let same : c ≡ b = cc in
@@ -30,9 +33,11 @@ frame-if n k c b w es fs true r l ih h =
     λ i. (k, r2 i, l2 i) ∷ frames es
 frame-if n k c b w es fs false r l ih h = ap (λ ys. frame_of (k, c) ∷ ys) (ih h)
 
-frame-put : (n : ℕ) (b w : Block) (es : Blocks) → w.role ≡ b.role → w.len ≡ b.len → block_at es n ≡ Some b → frames (set_value (nat_eq n) es w) ≡ frames es
+frame-put : (n : ℕ) (b w : Block) (es : Blocks) → w.role ≡ b.role → w.len ≡ b.len → block_at es n ≡ Some b
+    → frames (set_value (nat_eq n) es w) ≡ frames es
 frame-put n b w [] r l h = refl
-frame-put n b w (e ∷ es) r l h = frame-if n e.0 e.1 b w es (set_value (nat_eq n) es w) (nat_eq n e.0) r l (λ i. frame-put n b w es r l i) h
+frame-put n b w (e ∷ es) r l h =
+    frame-if n e.0 e.1 b w es (set_value (nat_eq n) es w) (nat_eq n e.0) r l (λ i. frame-put n b w es r l i) h
 
 -- ---- an object without an entry
 
@@ -51,7 +56,8 @@ entry-of-object b h = cond-true (same_role b.role Object) b.owner None h
 
 -- ---- one entry more
 
-module _ (ts : List Tile) (old es new : Blocks) (root place : ℕ) (xs : List ℕ) (link : Option ℕ) (a : AreAdded ts old es root xs) (e : IsEntered es new link place root) where
+module _ (ts : List Tile) (old es new : Blocks) (root place : ℕ) (xs : List ℕ) (link : Option ℕ)
+    (a : AreAdded ts old es root xs) (e : EntersLink es new link place root) where
   abbrev n : ℕ
   n = e.target
 
@@ -70,7 +76,8 @@ module _ (ts : List Tile) (old es new : Blocks) (root place : ℕ) (xs : List �
   owner-stays : (q : ℕ) → owner_at new q ≡ owner_at es q
   owner-stays q = elim (cases_eq q n) [
     | inl f ↦
-        ap (owner_at new) f ∙ ap owner_in here ∙ owner-of-object w object ∙ sym (owner-of-object e.block object) ∙ sym (ap owner_in e.is) ∙ sym (ap (owner_at es) f)
+        ap (owner_at new) f ∙ ap owner_in here ∙ owner-of-object w object ∙ sym (owner-of-object e.block object)
+        ∙ sym (ap owner_in e.is) ∙ sym (ap (owner_at es) f)
     | inr d ↦ ap owner_in (there q d)
   ]
 
@@ -82,7 +89,8 @@ module _ (ts : List Tile) (old es new : Blocks) (root place : ℕ) (xs : List �
 
   -- it had no entry
   index-before : index_of es n ≡ None
-  index-before = ap (λ o. root_in (entry_in o)) e.is ∙ ap root_in (entry-of-object e.block object ∙ (new-object e.block e.new_block).1)
+  index-before = ap (λ o. root_in (entry_in o)) e.is
+      ∙ ap root_in (entry-of-object e.block object ∙ (new-object e.block e.new_block).1)
 
   same-block : (q : ℕ) (c : Block) → q ≡ n → block_at new q ≡ Some c → c ≡ w
   same-block q c f g = let h : block_at new q ≡ Some w = ap (block_at new) f ∙ here in cc
@@ -103,8 +111,14 @@ module _ (ts : List Tile) (old es new : Blocks) (root place : ℕ) (xs : List �
         let k : block_at es q ≡ Some e.block = ap (block_at es) f ∙ e.is in
         let h = v.is in
         let same : e.block ≡ v.block = cc in
-        record { block = w; is = ap (block_at new) f ∙ here; role_is = ap (λ (x : Block). x.role) same ∙ v.role_is; len = ap (λ (x : Block). x.len) same ∙ v.len }
-    | inr d ↦ let v = a.blocks.blocks q r t g in record { block = v.block; is = there q d ∙ v.is; role_is = v.role_is; len = v.len }
+        record {
+          block = w;
+          is = ap (block_at new) f ∙ here;
+          role_is = ap (λ (x : Block). x.role) same ∙ v.role_is;
+          len = ap (λ (x : Block). x.len) same ∙ v.len;
+        }
+    | inr d ↦ let v = a.blocks.blocks q r t g
+        in record { block = v.block; is = there q d ∙ v.is; role_is = v.role_is; len = v.len }
   ]
 
   among-more : (q : ℕ) → is_among (xs ++ n ∷ []) q ≡ (is_among xs q || (q == n || false))
@@ -115,7 +129,9 @@ module _ (ts : List Tile) (old es new : Blocks) (root place : ℕ) (xs : List �
     | inl f ↦
         let yes : is_among (xs ++ n ∷ []) q ≡ true = Mem-is_among (xs ++ n ∷ []) q (mem_right q xs (n ∷ []) (inl f)) in
         ap (index_of new) f ∙ index-here ∙ sym (cond-true (is_among (xs ++ n ∷ []) q) (Some root) (index_of old q) yes)
-    | inr d ↦ index-there q d ∙ a.entered q ∙ ap (λ b. cond b (Some root) (index_of old q)) (sym (among-more q ∙ only-one (is_among xs q) (q == n) (ne_eqb q n d)))
+    | inr d ↦ index-there q d ∙ a.entered q
+        ∙ ap (λ b. cond b (Some root) (index_of old q))
+        (sym (among-more q ∙ only-one (is_among xs q) (q == n) (ne_eqb q n d)))
   ]
     where
       only-one : (x y : Bool) → y ≡ false → (x || (y || false)) ≡ x
@@ -134,14 +150,17 @@ module _ (ts : List Tile) (old es new : Blocks) (root place : ℕ) (xs : List �
   -- it is none of those before
   pub not-before : is_among xs n ≡ false
   not-before = elim (cases_Bool (is_among xs n)) [
-    | inl h ↦ (let k : Some root ≡ None = sym (cond-true (is_among xs n) (Some root) (index_of old n) h) ∙ sym (a.entered n) ∙ index-before in absurd (cc))
+    | inl h ↦ (let k : Some root ≡ None = sym (cond-true (is_among xs n) (Some root) (index_of old n) h)
+        ∙ sym (a.entered n) ∙ index-before in absurd (cc))
     | inr h ↦ h
   ]
 
   pub new-before : index_of old n ≡ None
-  new-before = sym (cond-false (is_among xs n) (Some root) (index_of old n) not-before) ∙ sym (a.entered n) ∙ index-before
+  new-before = sym (cond-false (is_among xs n) (Some root) (index_of old n) not-before) ∙ sym (a.entered n)
+      ∙ index-before
 
   pub good : is_some (good_for ts Object link) ≡ true
   good =
       let t = a.blocks.tiles n e.block e.is in
-      ap (λ l. is_some (good_for ts Object l)) e.leads ∙ ap (λ r. is_some (tile_of ts r n)) (sym (same_role-is e.block.role Object object)) ∙ ap is_some t.is
+      ap (λ l. is_some (good_for ts Object l)) e.leads
+      ∙ ap (λ r. is_some (tile_of ts r n)) (sym (same_role-is e.block.role Object object)) ∙ ap is_some t.is

@@ -1,5 +1,6 @@
 -- The first entry of an index that is wrong.
-use Rattle.std.proofs.Common.{◌≡◌, refl, sym, ap, subst, ◌∙◌, ℕ, ◌+◌, Bool, true, false, not, ◌&&◌, ◌||◌, List, ◌++◌, cond}
+use Rattle.std.proofs.Common.{◌≡◌, refl, sym, ap, subst, ◌∙◌, ℕ, ◌+◌, Bool, true, false, not, ◌&&◌, ◌||◌, List, ◌++◌}
+use Rattle.std.proofs.Common.{cond}
 use Rattle.std.specs.Prelude.{Option, Some, None, ◌==◌, is_none, is_some, MatchResult, Result, Ok, Err}
 use Rattle.std.specs.List.{list_all}
 use Rattle.std.proofs.lemmas.Bool.{and_from, and_parts, false_from_ne_true, not-true, or_parts, true≢false}
@@ -10,14 +11,14 @@ use Rattle.offset_link.specs.Link.{link_at}
 use Rattle.block_tags.specs.declared.tile.Role.TheVariants.{Object}
 use Rattle.block_tags.specs.declared.tile.Tile.{Tile}
 use Rattle.image_check.specs.EarlyTests.{is_among}
-use Rattle.image_check.specs.Entered.{AreAdded, HaveEntries, IsEntered, are_enterable, are_new, can_enter, index_of}
+use Rattle.image_check.specs.Entered.{AreAdded, HaveEntries, EntersLink, are_enterable, are_new, can_enter, index_of}
 use Rattle.image_check.specs.Entered.{is_enterable, links_in}
 use Rattle.image_check.specs.IndexPlaces.{IsFirstWrong, IsWrongAt, earlier_targets, first_targets, is_head, is_new}
 use Rattle.image_check.specs.ObjectTests.{entries, good_for, has_index, are_distinct, targets, tile_of}
 use Rattle.image_check.specs.ObjectPasses.{are_ranked}
 use Rattle.image_check.specs.ObjectPlaces.{IsMisplaced, IsOutOfOrder}
 use Rattle.image_check.specs.Owners.{Blocks}
-use Rattle.image_check.specs.Passes.{Finds}
+use Rattle.image_check.specs.Passes.{ChecksClass}
 use Rattle.image_check.proofs.EntriesNoted.{can, targets_of}
 use Rattle.image_check.proofs.EntryNoted.{good, new-before, not-before}
 use Rattle.image_check.proofs.IndexEntries.{entries_in}
@@ -30,7 +31,8 @@ none-noted (Some n) e = absurd (true≢false e)
 
 module _ (ts : List Tile) (old es : Blocks) (root : ℕ) (front : List (Option ℕ))
     (a : AreAdded ts old es root (targets_of front)) (earlier : List ℕ) (have : HaveEntries old earlier) where
-  among-both : (n : ℕ) → is_among (earlier ++ targets_of front) n ≡ (is_among earlier n || is_among (targets_of front) n)
+  among-both : (n : ℕ) → is_among (earlier ++ targets_of front) n
+      ≡ (is_among earlier n || is_among (targets_of front) n)
   among-both n = list_any-append (λ y. n == y) earlier (targets_of front)
 
   -- one that cannot be noted leads to no object of its own
@@ -43,7 +45,7 @@ module _ (ts : List Tile) (old es : Blocks) (root : ℕ) (front : List (Option �
       true≢false (sym (can ts old es root front a n p.0 q.1 (none-noted (index_of old n) (have n ∙ q.0))) ∙ f))
 
   -- one that is noted does
-  pub entered-new : (new : Blocks) (place : ℕ) (link : Option ℕ) → IsEntered es new link place root
+  pub entered-new : (new : Blocks) (place : ℕ) (link : Option ℕ) → EntersLink es new link place root
       → is_new ts (earlier ++ targets_of front) link ≡ true
   entered-new new place link e =
       let n = e.target in
@@ -58,13 +60,15 @@ module _ (ts : List Tile) (old es : Blocks) (root : ℕ) (front : List (Option �
 -- ---- an index
 
 -- where its entries lead
-some-targets : (m : Memory) (at block : ℕ) → link_at m at ≡ Some block → targets m at ≡ first_targets m block (word_at m (at + 8))
+some-targets : (m : Memory) (at block : ℕ) → link_at m at ≡ Some block
+    → targets m at ≡ first_targets m block (word_at m (at + 8))
 some-targets m at block link = ap (λ o. targets_of (entries_in m (word_at m (at + 8)) o)) link
 
 -- they are in order, or one is the first that is not
-pub order-found : (m : Memory) (class at block n : ℕ) (k : Result (Unit {0}) ℕ) → link_at m at ≡ Some block → n ≡ word_at m (at + 8)
-    → Finds (are_ranked class m (first_targets m block n)) (IsOutOfOrder class m block n) k
-    → Finds (are_ranked class m (targets m at)) (IsMisplaced class m at) k
+pub order-found : (m : Memory) (class at block n : ℕ) (k : Result (Unit {0}) ℕ) → link_at m at ≡ Some block
+    → n ≡ word_at m (at + 8)
+    → ChecksClass (are_ranked class m (first_targets m block n)) (IsOutOfOrder class m block n) k
+    → ChecksClass (are_ranked class m (targets m at)) (IsMisplaced class m at) k
 order-found m class at block n (Ok done) link e h =
     ap (are_ranked class m) (some-targets m at block link ∙ ap (first_targets m block) (sym e)) ∙ h
 order-found m class at block n (Err place) link e h = (

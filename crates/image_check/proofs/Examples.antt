@@ -3,7 +3,7 @@ use Rattle.std.proofs.Common.{◌≡◌, refl, ℕ, negsuc, true, false, List, [
 use Rattle.std.specs.Prelude.{flat_map, Some, None}
 use Rattle.raw_region.specs.Memory.{word_bytes, word_at, half_word_at, zeros}
 use Rattle.raw_region.specs.Format.{current}
-use Rattle.best_fit.specs.Table.{no_table}
+use Rattle.best_fit.specs.Table.{no_backing}
 use Rattle.block_tags.specs.declared.tile.Role.TheVariants.{Object as ObjectRole, Storage}
 use Rattle.block_tags.specs.declared.tile.Tile.{Tile}
 use Rattle.seg_types.specs.declared.kinds.ScalarKind.TheVariants.{I64}
@@ -20,7 +20,8 @@ words = flat_map word_bytes
 
 -- nothing in 176 bytes: one free tile
 abbrev fresh : List ℕ
-fresh = words (4993446653039301453 ∷ 2 ∷ 176 ∷ 120 ∷ 1 ∷ 0 ∷ 0 ∷ 1 ∷ 0 ∷ 0 ∷ []) ++ zeros 48 ++ words (0 ∷ 32 ∷ 1 ∷ 1 ∷ 32 ∷ 1 ∷ [])
+fresh = words (4993446653039301453 ∷ 2 ∷ 176 ∷ 120 ∷ 1 ∷ 0 ∷ 0 ∷ 1 ∷ 0 ∷ 0 ∷ []) ++ zeros 48
+    ++ words (0 ∷ 32 ∷ 1 ∷ 1 ∷ 32 ∷ 1 ∷ [])
 
 -- it has no class
 fresh_accepted : class_of current fresh ≡ None
@@ -29,7 +30,8 @@ fresh_accepted = refl
 
 -- the number -2 in 48 bytes, and a free tile behind it
 abbrev one : List ℕ
-one = words (4993446653039301453 ∷ 2 ∷ 224 ∷ 168 ∷ 1 ∷ 0 ∷ 0 ∷ 1 ∷ 0 ∷ 0 ∷ []) ++ zeros 48 ++ words (0 ∷ 49 ∷ 4294967300 ∷ 0 ∷ 18446744073709551614 ∷ 77 ∷ 48 ∷ 32 ∷ 1 ∷ 1 ∷ 32 ∷ 1 ∷ [])
+one = words (4993446653039301453 ∷ 2 ∷ 224 ∷ 168 ∷ 1 ∷ 0 ∷ 0 ∷ 1 ∷ 0 ∷ 0 ∷ []) ++ zeros 48
+    ++ words (0 ∷ 49 ∷ 4294967300 ∷ 0 ∷ 18446744073709551614 ∷ 77 ∷ 48 ∷ 32 ∷ 1 ∷ 1 ∷ 32 ∷ 1 ∷ [])
 
 -- it has no class
 one_accepted : class_of current one ≡ None
@@ -37,13 +39,25 @@ unfolding word_at word_bytes half_word_at zeros current
 one_accepted = refl
 
 -- and says an anonymous object with -2
-one_says : read_off current one ≡ record { size = 224; objects = record { class = Anonymous; name = []; value = Numbers I64 (negsuc 1 ∷ []); extent = record { offset = 128; len = 48; role = ObjectRole } } ∷ []; named = no_table; unique = no_table }
+one_says : read_off current one
+    ≡ record {
+      size = 224;
+      objects = record {
+        class = Anonymous;
+        name = [];
+        value = Numbers I64 (negsuc 1 ∷ []);
+        extent = record { offset = 128; len = 48; role = ObjectRole };
+      } ∷ [];
+      named = no_backing;
+      unique = no_backing;
+    }
 unfolding read_off word_at word_bytes half_word_at zeros current
 one_says = refl
 
 -- an empty text in 64 bytes, and a free tile behind it
 abbrev text : List ℕ
-text = words (4993446653039301453 ∷ 2 ∷ 240 ∷ 184 ∷ 1 ∷ 0 ∷ 0 ∷ 1 ∷ 0 ∷ 0 ∷ []) ++ zeros 48 ++ words (0 ∷ 65 ∷ 4295032832 ∷ 0 ∷ 1 ∷ 0 ∷ 0 ∷ 77 ∷ 64 ∷ 32 ∷ 1 ∷ 1 ∷ 32 ∷ 1 ∷ [])
+text = words (4993446653039301453 ∷ 2 ∷ 240 ∷ 184 ∷ 1 ∷ 0 ∷ 0 ∷ 1 ∷ 0 ∷ 0 ∷ []) ++ zeros 48
+    ++ words (0 ∷ 65 ∷ 4295032832 ∷ 0 ∷ 1 ∷ 0 ∷ 0 ∷ 77 ∷ 64 ∷ 32 ∷ 1 ∷ 1 ∷ 32 ∷ 1 ∷ [])
 
 -- it has no class
 text_accepted : class_of current text ≡ None
@@ -51,13 +65,25 @@ unfolding word_at word_bytes half_word_at zeros current
 text_accepted = refl
 
 -- and says that text
-text_says : read_off current text ≡ record { size = 240; objects = record { class = Anonymous; name = []; value = Bytes [] no_table; extent = record { offset = 128; len = 64; role = ObjectRole } } ∷ []; named = no_table; unique = no_table }
+text_says : read_off current text
+    ≡ record {
+      size = 240;
+      objects = record {
+        class = Anonymous;
+        name = [];
+        value = Bytes [] no_backing;
+        extent = record { offset = 128; len = 64; role = ObjectRole };
+      } ∷ [];
+      named = no_backing;
+      unique = no_backing;
+    }
 unfolding read_off word_at word_bytes half_word_at zeros current
 text_says = refl
 
 -- an empty vector of texts in such a tile
 abbrev texts : List ℕ
-texts = words (4993446653039301453 ∷ 2 ∷ 240 ∷ 184 ∷ 1 ∷ 0 ∷ 0 ∷ 1 ∷ 0 ∷ 0 ∷ []) ++ zeros 48 ++ words (0 ∷ 65 ∷ 4295229440 ∷ 0 ∷ 1 ∷ 0 ∷ 0 ∷ 77 ∷ 64 ∷ 32 ∷ 1 ∷ 1 ∷ 32 ∷ 1 ∷ [])
+texts = words (4993446653039301453 ∷ 2 ∷ 240 ∷ 184 ∷ 1 ∷ 0 ∷ 0 ∷ 1 ∷ 0 ∷ 0 ∷ []) ++ zeros 48
+    ++ words (0 ∷ 65 ∷ 4295229440 ∷ 0 ∷ 1 ∷ 0 ∷ 0 ∷ 77 ∷ 64 ∷ 32 ∷ 1 ∷ 1 ∷ 32 ∷ 1 ∷ [])
 
 -- it has no class
 texts_accepted : class_of current texts ≡ None
@@ -65,13 +91,25 @@ unfolding word_at word_bytes half_word_at zeros current
 texts_accepted = refl
 
 -- and says that vector
-texts_says : read_off current texts ≡ record { size = 240; objects = record { class = Anonymous; name = []; value = Texts [] no_table; extent = record { offset = 128; len = 64; role = ObjectRole } } ∷ []; named = no_table; unique = no_table }
+texts_says : read_off current texts
+    ≡ record {
+      size = 240;
+      objects = record {
+        class = Anonymous;
+        name = [];
+        value = Texts [] no_backing;
+        extent = record { offset = 128; len = 64; role = ObjectRole };
+      } ∷ [];
+      named = no_backing;
+      unique = no_backing;
+    }
 unfolding read_off word_at word_bytes half_word_at zeros current
 texts_says = refl
 
 -- an empty map from numbers to numbers, in such a tile
 abbrev map : List ℕ
-map = words (4993446653039301453 ∷ 2 ∷ 240 ∷ 184 ∷ 1 ∷ 0 ∷ 0 ∷ 1 ∷ 0 ∷ 0 ∷ []) ++ zeros 48 ++ words (0 ∷ 65 ∷ 4295164932 ∷ 0 ∷ 1 ∷ 0 ∷ 0 ∷ 77 ∷ 64 ∷ 32 ∷ 1 ∷ 1 ∷ 32 ∷ 1 ∷ [])
+map = words (4993446653039301453 ∷ 2 ∷ 240 ∷ 184 ∷ 1 ∷ 0 ∷ 0 ∷ 1 ∷ 0 ∷ 0 ∷ []) ++ zeros 48
+    ++ words (0 ∷ 65 ∷ 4295164932 ∷ 0 ∷ 1 ∷ 0 ∷ 0 ∷ 77 ∷ 64 ∷ 32 ∷ 1 ∷ 1 ∷ 32 ∷ 1 ∷ [])
 
 -- it has no class
 map_accepted : class_of current map ≡ None
@@ -79,13 +117,25 @@ unfolding word_at word_bytes half_word_at zeros current
 map_accepted = refl
 
 -- and says that map
-map_says : read_off current map ≡ record { size = 240; objects = record { class = Anonymous; name = []; value = Pairs I64 I64 []; extent = record { offset = 128; len = 64; role = ObjectRole } } ∷ []; named = no_table; unique = no_table }
+map_says : read_off current map
+    ≡ record {
+      size = 240;
+      objects = record {
+        class = Anonymous;
+        name = [];
+        value = Pairs I64 I64 [];
+        extent = record { offset = 128; len = 64; role = ObjectRole };
+      } ∷ [];
+      named = no_backing;
+      unique = no_backing;
+    }
 unfolding read_off word_at word_bytes half_word_at zeros current
 map_says = refl
 
 -- a number behind its right kind, with a count of 0
 abbrev wrong : List ℕ
-wrong = words (4993446653039301453 ∷ 2 ∷ 224 ∷ 168 ∷ 1 ∷ 0 ∷ 0 ∷ 1 ∷ 0 ∷ 0 ∷ []) ++ zeros 48 ++ words (0 ∷ 49 ∷ 4 ∷ 0 ∷ 18446744073709551614 ∷ 77 ∷ 48 ∷ 32 ∷ 1 ∷ 1 ∷ 32 ∷ 1 ∷ [])
+wrong = words (4993446653039301453 ∷ 2 ∷ 224 ∷ 168 ∷ 1 ∷ 0 ∷ 0 ∷ 1 ∷ 0 ∷ 0 ∷ []) ++ zeros 48
+    ++ words (0 ∷ 49 ∷ 4 ∷ 0 ∷ 18446744073709551614 ∷ 77 ∷ 48 ∷ 32 ∷ 1 ∷ 1 ∷ 32 ∷ 1 ∷ [])
 
 -- it is no object
 wrong_class : class_of current wrong ≡ Some BadObject

@@ -1,14 +1,16 @@
 -- A tree over the places of a window where a payload may begin has few nodes.
-use Rattle.std.proofs.Common.{◌≡◌, refl, sym, ap, subst, ℕ, zero, suc, ◌+◌, ◌-◌, ◌*◌, ◌/◌, ◌^◌, ◌<◌, ◌≤◌, ◌⊎◌, inl, inr, true, List, [], ◌∷◌, ◌==◌, length, arith, IsTrue}
+use Rattle.std.proofs.Common.{◌≡◌, refl, sym, ap, subst, ℕ, zero, suc, ◌+◌, ◌-◌, ◌*◌, ◌/◌, ◌^◌, ◌<◌, ◌≤◌, ◌⊎◌, inl, inr}
+use Rattle.std.proofs.Common.{true, List, [], ◌∷◌, ◌==◌, length, arith, IsTrue}
 use Rattle.std.specs.Prelude.{Option}
 use Rattle.std.proofs.lemmas.Bool.{cases_lt, eq-eqb, false≢true, or_left, or_right}
-use Rattle.raw_region.specs.Memory.{Cut, bytes_of}
+use Rattle.raw_region.specs.Memory.{WindowState, bytes_of}
 use Rattle.link_tree.specs.Nodes.{is_in, leads}
-use Rattle.link_tree.specs.Tree.{Cell, Holds, IsSearchTree, Tree, fork, leaf, nodes_of, root_of}
+use Rattle.link_tree.specs.Tree.{Cell, AreCellsOf, IsSearchTree, Tree, fork, leaf, nodes_of, root_of}
 use Rattle.link_tree.proofs.Laws.{in_parts, tree_limit}
 use Rattle.block_tags.specs.Format.{is_legal_size}
 use Rattle.image_check.specs.FreeNodes.{is_place, place_cells, stands_before}
-use Rattle.image_check.specs.FreeLaws.{before_irreflexive, before_transitive, is_place-Place, places_left, places_right, small_size}
+use Rattle.image_check.specs.FreeLaws.{before_irreflexive, before_transitive, is_place-PayloadBounds, places_left}
+use Rattle.image_check.specs.FreeLaws.{places_right, small_size}
 
 -- so many places from the first on
 places : ℕ → List ℕ
@@ -32,12 +34,12 @@ in_places (suc k) i l = by_test (cases_lt i k) (in_places k i)
         (eq-eqb (144 + 16 * i) (144 + 16 * k) (omega arith))
 
 -- those of a window
-abbrev all_places : Cut → List ℕ
+abbrev all_places : WindowState → List ℕ
 all_places c = places (length c.bytes / 16 - 10)
 
-listed : (c : Cut) (n : ℕ) → is_place c n ≡ true → is_in n (all_places c) ≡ true
+listed : (c : WindowState) (n : ℕ) → is_place c n ≡ true → is_in n (all_places c) ≡ true
 listed c n h =
-    let p = is_place-Place c n h in
+    let p = is_place-PayloadBounds c n h in
     let whole = p.whole in
     let low = p.low in
     let high = p.high in
@@ -46,7 +48,8 @@ listed c n h =
     subst (λ k. is_in k (all_places c) ≡ true) e (in_places (length c.bytes / 16 - 10) (n / 16 - 9) (omega arith))
 
 -- the nodes of a tree are places
-nodes-places : (c : Cut) (t : Tree) → Holds (place_cells c) t → leads (is_place c) (root_of t) ≡ true → (m : ℕ)
+nodes-places : (c : WindowState) (t : Tree) → AreCellsOf (place_cells c) t → leads (is_place c) (root_of t) ≡ true
+    → (m : ℕ)
     → is_in m (nodes_of t) ≡ true → is_place c m ≡ true
 nodes-places c leaf h r m i = absurd (false≢true i)
 nodes-places c (fork red left n right) h r m i =
@@ -61,7 +64,7 @@ nodes-places c (fork red left n right) h r m i =
       ]
     ]
 
-pub nodes-few : (c : Cut) (root : Option ℕ) (t : Tree) → IsTrue (is_legal_size (length c.bytes))
+pub nodes-few : (c : WindowState) (root : Option ℕ) (t : Tree) → IsTrue (is_legal_size (length c.bytes))
     → leads (is_place c) root ≡ true
     → IsSearchTree (stands_before (bytes_of c.bytes)) (place_cells c) root t → length (nodes_of t) < 2 ^ 26 - 1
 nodes-few c root t legal good s =

@@ -11,12 +11,14 @@ use Rattle.block_tags.specs.declared.tile.Tile.{Tile}
 use Rattle.image_check.specs.declared.owners.Block.{Block}
 use Rattle.image_check.specs.declared.owners.Owner.{Owner}
 use Rattle.image_check.specs.ObjectTests.{tile_of}
-use Rattle.image_check.specs.Meaning.{LeadsTo, Counts}
-use Rattle.image_check.specs.Owners.{Blocks, block_at, owner_in, owner_at, IsTileAt, debt, IsWaiting, IsChain, Stands, MayCount, IsFollowed, IsRooted, IsMarking, IsMarkingOf, IsMarked, next_in, next_at, root_in, Keeps}
+use Rattle.image_check.specs.Meaning.{LeadsTo, IsCountedLink}
+use Rattle.image_check.specs.Owners.{Blocks, block_at, owner_in, owner_at, IsTileAt, unspent_budget, IsWaiting, IsChain}
+use Rattle.image_check.specs.Owners.{IsMember, MayCount, IsFollowed, IsRooted, IsMarking, IsMarkingOf, MarksLink}
+use Rattle.image_check.specs.Owners.{next_in, next_at, root_in, KeepsMarks}
 use Rattle.block_tags.specs.declared.tile.Role.TheVariants.{Object, Index, Storage}
 use Rattle.best_fit.specs.Table.{same_role}
 use Rattle.image_check.specs.Owners.{owner}
-use Rattle.image_check.specs.Owners.{due, debts}
+use Rattle.image_check.specs.Owners.{visit_budget, debts}
 use Rattle.image_check.specs.Passes.{HasTiles, tiles_in}
 use Rattle.best_fit.proofs.Laws.{Row}
 use Rattle.raw_region.specs.Memory.{bytes_of}
@@ -27,34 +29,37 @@ use Rattle.image_check.proofs.Inside.{legal-small}
 use Rattle.image_check.proofs.Marking.{owner-is}
 
 -- a field that counts leads where it is said to
-pub counts-link : (format : ℕ) (m : Memory) (ts : List Tile) (at n : ℕ) → Counts format m ts at n → link_at m at ≡ Some n
-counts-link format m ts at n (Counts.named c l) = l.0
-counts-link format m ts at n (Counts.unique c l) = l.0
-counts-link format m ts at n (Counts.storage v h c l) = l.0
-counts-link format m ts at n (Counts.element array i v c g a b l) = l.0
-counts-link format m ts at n (Counts.root v l) = l.0
-counts-link format m ts at n (Counts.left c k l) = l.0
-counts-link format m ts at n (Counts.right c k l) = l.0
+pub counts-link : (format : ℕ) (m : Memory) (ts : List Tile) (at n : ℕ) → IsCountedLink format m ts at n
+    → link_at m at ≡ Some n
+counts-link format m ts at n (IsCountedLink.named c l) = l.0
+counts-link format m ts at n (IsCountedLink.unique c l) = l.0
+counts-link format m ts at n (IsCountedLink.storage v h c l) = l.0
+counts-link format m ts at n (IsCountedLink.element array i v c g a b l) = l.0
+counts-link format m ts at n (IsCountedLink.root v l) = l.0
+counts-link format m ts at n (IsCountedLink.left c k l) = l.0
+counts-link format m ts at n (IsCountedLink.right c k l) = l.0
 
 -- what is due is not much
-use-due : (o : Option Role) (len : ℕ) → 32 ≤ len → elim o [ None ↦ 0 | Some role ↦ due role len ] ≤ 3 * (len / 16)
-use-due None len h = omega arith
-use-due (Some Object) len h = omega arith
-use-due (Some Index) len h = omega arith
-use-due (Some Storage) len h = omega arith
-use-due (Some Node) len h = omega arith
+use-visit_budget : (o : Option Role) (len : ℕ) → 32 ≤ len
+    → elim o [ None ↦ 0 | Some role ↦ visit_budget role len ] ≤ 3 * (len / 16)
+use-visit_budget None len h = omega arith
+use-visit_budget (Some Object) len h = omega arith
+use-visit_budget (Some Index) len h = omega arith
+use-visit_budget (Some Storage) len h = omega arith
+use-visit_budget (Some Node) len h = omega arith
 
 row-debts : (at : ℕ) (ts : List Tile) (end : ℕ) → Row at ts end → debts ts + at ≤ end
 row-debts at [] end a = omega arith
 row-debts at (t ∷ ts) end a =
     let l = row-debts (at + t.len) ts end a.3 in
-    let d = use-due t.use_of t.len a.1 in
+    let d = use-visit_budget t.use_of t.len a.1 in
     let long = a.1 in
     omega arith
 
 pub debts-small : (b : List ℕ) → HasTiles b → debts (tiles_in b) ≤ 1073741824
 debts-small b h =
-    let l = row-debts 128 (tiles_in b) (length b - 16) (has_tags-AreWholeTiles current (bytes_of b) (length b) h.tags).row in
+    let l = row-debts 128 (tiles_in b) (length b - 16)
+    (has_tags-AreWholeTiles current (bytes_of b) (length b) h.tags).row in
     let s = legal-small (length b) h.size in
     omega arith
 
@@ -66,9 +71,10 @@ pub record IsFirst (es : Blocks) (chain : List ℕ) (n : ℕ) : Type 0 where
   pub rest : List ℕ
   pub linked : IsChain es next rest
   pub long : suc (length rest) ≡ length chain
-  pub parts : (x : ℕ) → Stands x chain → (x ≡ n) ⊎ Stands x rest
+  pub parts : (x : ℕ) → IsMember x chain → (x ≡ n) ⊎ IsMember x rest
 
-pub first-of : (es : Blocks) (head : Option ℕ) (chain : List ℕ) (n : ℕ) → IsChain es head chain → head ≡ Some n → IsFirst es chain n
+pub first-of : (es : Blocks) (head : Option ℕ) (chain : List ℕ) (n : ℕ) → IsChain es head chain → head ≡ Some n
+    → IsFirst es chain n
 first-of es head [] n h e = absurd (cc)
 first-of es head (x ∷ xs) n h e =
     let f = h.1 in
@@ -83,11 +89,12 @@ first-of es head (x ∷ xs) n h e =
     }
 
 -- none waits
-pub none-waits : (es : Blocks) (chain : List ℕ) (x : ℕ) → IsChain es None chain → Stands x chain → ⊥
+pub none-waits : (es : Blocks) (chain : List ℕ) (x : ℕ) → IsChain es None chain → IsMember x chain → ⊥
 none-waits es [] x h s = s
 none-waits es (y ∷ ys) x h s = let f = h.1 in absurd (cc)
 
-module _ (format : ℕ) (m : Memory) (ts : List Tile) (es : Blocks) (pending : Option ℕ) (waiting : ℕ) (k : IsMarking format m ts None es pending waiting) (n : ℕ) (e : pending ≡ Some n) where
+module _ (format : ℕ) (m : Memory) (ts : List Tile) (es : Blocks) (pending : Option ℕ) (waiting : ℕ)
+    (k : IsMarking format m ts None es pending waiting) (n : ℕ) (e : pending ≡ Some n) where
   pub the-first : IsFirst es k.chain n
   the-first = first-of es pending k.chain n k.linked e
 
@@ -108,13 +115,17 @@ module _ (format : ℕ) (m : Memory) (ts : List Tile) (es : Blocks) (pending : O
 
   owner-there : (o : Option Owner) → the-block.owner ≡ o → IsSome o → (w : Owner) × (owner_at es n ≡ Some w)
   owner-there None f s = absurd (false≢true s)
-  owner-there (Some w) f s = (w, ap owner_in the-first.waits.is ∙ owner-is the-block (ap (λ r. same_role r Object) the-first.waits.node) ∙ f)
+  owner-there (Some w) f s = (
+    w,
+    ap owner_in the-first.waits.is
+        ∙ owner-is the-block (ap (λ r. same_role r Object) the-first.waits.node) ∙ f,
+  )
 
   -- the link that leads to it
   pub leader : (w : Owner) × (owner_at es n ≡ Some w)
   leader = owner-there the-block.owner refl the-first.waits.owned
 
-  counted : Counts format m ts leader.0.at n
+  counted : IsCountedLink format m ts leader.0.at n
   counted = k.counts n leader.0 leader.1
 
   led : LeadsTo m ts Node leader.0.at n
@@ -122,22 +133,45 @@ module _ (format : ℕ) (m : Memory) (ts : List Tile) (es : Blocks) (pending : O
 
   -- its links count
   pub left-counts : MayCount format m ts Node n
-  left-counts = λ target l. Counts.left counted led l
+  left-counts = λ target l. IsCountedLink.left counted led l
 
   pub right-counts : MayCount format m ts Node (n + 8)
-  right-counts = λ target l. Counts.right counted led l
+  right-counts = λ target l. IsCountedLink.right counted led l
 
   pub root-is : root_in (block_at es n) n ≡ leader.0.root
   root-is = ap (λ (o : Option Owner). elim o [ None ↦ n | Some w ↦ w.root ]) leader.1
 
   -- and begin where the link to it does
   pub left-rooted : (root : ℕ) → root ≡ leader.0.root → IsRooted ts es (owner n root)
-  left-rooted root e = inr (record { node = n; tile = node-tile.tile; is = node-there; led = leader.0; noted = leader.1; link = inl refl }, e)
+  left-rooted root e = inr (
+    record {
+      node = n;
+      tile = node-tile.tile;
+      is = node-there;
+      led = leader.0;
+      noted = leader.1;
+      link = inl refl;
+    },
+    e,
+  )
 
-  pub right-rooted : (root : ℕ) → root ≡ leader.0.root → (fs : Blocks) → Keeps es fs → IsRooted ts fs (owner (n + 8) root)
-  right-rooted root e fs keeps = inr (record { node = n; tile = node-tile.tile; is = node-there; led = leader.0; noted = keeps n leader.0 leader.1; link = inr refl }, e)
+  pub right-rooted : (root : ℕ) → root ≡ leader.0.root → (fs : Blocks) → KeepsMarks es fs
+      → IsRooted ts fs (owner (n + 8) root)
+  right-rooted root e fs keeps =
+      inr (
+        record {
+          node = n;
+          tile = node-tile.tile;
+          is = node-there;
+          led = leader.0;
+          noted = keeps n leader.0 leader.1;
+          link = inr refl;
+        },
+        e,
+      )
 
-  turn-of : (x root : ℕ) → Stands x k.chain ⊎ ((None ≡ Some x) ⊎ IsFollowed m ts es x root) → Stands x the-first.rest ⊎ ((Some n ≡ Some x) ⊎ IsFollowed m ts es x root)
+  turn-of : (x root : ℕ) → IsMember x k.chain ⊎ ((None ≡ Some x) ⊎ IsFollowed m ts es x root)
+      → IsMember x the-first.rest ⊎ ((Some n ≡ Some x) ⊎ IsFollowed m ts es x root)
   turn-of x root (inl s) = elim (the-first.parts x s) [ inl f ↦ inr (inl (ap Some (sym f))) | inr f ↦ inl f ]
   turn-of x root (inr (inl f)) = absurd (cc)
   turn-of x root (inr (inr f)) = inr (inr f)
@@ -161,20 +195,25 @@ module _ (format : ℕ) (m : Memory) (ts : List Tile) (es : Blocks) (pending : O
         followed = λ x o t g f. turn-of x o.root (k.followed x o t g f);
       }
 
-  module _ (root : ℕ) (rooted : root ≡ leader.0.root) (es1 : Blocks) (p1 : Option ℕ) (w1 : ℕ) (a : IsMarked format m ts (Some n) Node (owner n root) es (waiting - 1) es1 p1 w1)
-      (es2 : Blocks) (p2 : Option ℕ) (w2 : ℕ) (b : IsMarked format m ts (Some n) Node (owner (n + 8) root) es1 w1 es2 p2 w2) where
+  module _ (root : ℕ) (rooted : root ≡ leader.0.root) (es1 : Blocks) (p1 : Option ℕ) (w1 : ℕ)
+      (a : MarksLink format m ts (Some n) Node (owner n root) es (waiting - 1) es1 p1 w1)
+      (es2 : Blocks) (p2 : Option ℕ) (w2 : ℕ)
+      (b : MarksLink format m ts (Some n) Node (owner (n + 8) root) es1 w1 es2 p2 w2) where
     same-leader : (o : Owner) → owner_at es2 n ≡ Some o → root ≡ o.root
     same-leader o f =
         let g = b.keeps n leader.0 (a.keeps n leader.0 leader.1) in
         let same : leader.0 ≡ o = cc in
         rooted ∙ ap (λ (x : Owner). x.root) same
 
-    ends-turn : (x : ℕ) (o : Owner) → owner_at es2 x ≡ Some o → Stands x b.marking.chain ⊎ ((Some n ≡ Some x) ⊎ IsFollowed m ts es2 x o.root) → Stands x b.marking.chain ⊎ ((None ≡ Some x) ⊎ IsFollowed m ts es2 x o.root)
+    ends-turn : (x : ℕ) (o : Owner) → owner_at es2 x ≡ Some o
+        → IsMember x b.marking.chain ⊎ ((Some n ≡ Some x) ⊎ IsFollowed m ts es2 x o.root)
+        → IsMember x b.marking.chain ⊎ ((None ≡ Some x) ⊎ IsFollowed m ts es2 x o.root)
     ends-turn x o g (inl s) = inl s
     ends-turn x o g (inr (inl f)) =
         let same : n ≡ x = cc in
         let done : IsFollowed m ts es2 n root = (λ t l. b.keeps t _ (a.noted t l), b.noted) in
-        inr (inr (subst (λ r. IsFollowed m ts es2 x r) (same-leader o (ap (owner_at es2) same ∙ g)) (subst (λ y. IsFollowed m ts es2 y root) same done)))
+        inr (inr (subst (λ r. IsFollowed m ts es2 x r) (same-leader o (ap (owner_at es2) same ∙ g))
+        (subst (λ y. IsFollowed m ts es2 y root) same done)))
     ends-turn x o g (inr (inr f)) = inr (inr f)
 
     pub turned : IsMarking format m ts None es2 p2 w2
@@ -191,30 +230,34 @@ module _ (format : ℕ) (m : Memory) (ts : List Tile) (es : Blocks) (pending : O
       followed = λ x o t g f. ends-turn x o f (b.marking.followed x o t g f);
     }
 
-    pub turn-keeps : Keeps es es2
+    pub turn-keeps : KeepsMarks es es2
     turn-keeps x place f = b.keeps x place (a.keeps x place f)
 
-    pub turn-less : 6 * w2 + debt es2 + 6 ≤ 6 * waiting + debt es
+    pub turn-less : 6 * w2 + unspent_budget es2 + 6 ≤ 6 * waiting + unspent_budget es
     turn-less = let x = a.less in let y = b.less in let s = some-waits in omega arith
 
 -- ---- answers of calls
 
-pub of-err : {A E : Type 0} (P : A → Type 0) (Q : E → Type 0) (r : Result A E) (x : E) → r ≡ Err x → MatchResult r P Q → Q x
+pub of-err : {A E : Type 0} (P : A → Type 0) (Q : E → Type 0) (r : Result A E) (x : E) → r ≡ Err x
+    → MatchResult r P Q → Q x
 of-err P Q (Ok y) x e h = absurd (cc)
 of-err P Q (Err y) x e h = let same : y ≡ x = cc in subst Q same h
 
-pub of-ok : {A E : Type 0} (P : A → Type 0) (Q : E → Type 0) (r : Result A E) (x : A) → r ≡ Ok x → MatchResult r P Q → P x
+pub of-ok : {A E : Type 0} (P : A → Type 0) (Q : E → Type 0) (r : Result A E) (x : A) → r ≡ Ok x → MatchResult r P Q
+    → P x
 of-ok P Q (Ok y) x e h = let same : y ≡ x = cc in subst P same h
 of-ok P Q (Err y) x e h = absurd (cc)
 
-pub map-ok : {A E : Type 0} (P P2 : A → Type 0) (Q : E → Type 0) (r : Result A E) → ((x : A) → P x → P2 x) → MatchResult r P Q → MatchResult r P2 Q
+pub map-ok : {A E : Type 0} (P P2 : A → Type 0) (Q : E → Type 0) (r : Result A E) → ((x : A) → P x → P2 x)
+    → MatchResult r P Q → MatchResult r P2 Q
 map-ok P P2 Q (Ok y) f h = f y h
 map-ok P P2 Q (Err y) f h = h
 
 -- ---- all turns
 
-pub record IsGoing (format : ℕ) (b : List ℕ) (old : Blocks) (waited seen : ℕ) (es : Blocks) (pending : Option ℕ) (waiting visits : ℕ) : Type 0 where
+pub record IsGoing (format : ℕ) (b : List ℕ) (old : Blocks) (waited seen : ℕ) (es : Blocks) (pending : Option ℕ)
+    (waiting visits : ℕ) : Type 0 where
   pub marking : IsMarkingOf format b None es pending waiting
-  pub keeps : Keeps old es
+  pub keeps : KeepsMarks old es
   pub more : seen ≤ visits
-  pub most : visits + (6 * waiting + debt es) ≤ seen + (6 * waited + debt old)
+  pub most : visits + (6 * waiting + unspent_budget es) ≤ seen + (6 * waited + unspent_budget old)

@@ -1,5 +1,6 @@
 -- Good tags in each format: those of format 0 are those of the others where no free tile is red.
-use Rattle.std.proofs.Common.{◌≡◌, refl, sym, ap, ◌∙◌, ℕ, zero, suc, ◌+◌, ◌-◌, ◌%◌, ◌<◌, Bool, true, false, not, ◌&&◌, ◌||◌, List, [], ◌∷◌, arith}
+use Rattle.std.proofs.Common.{◌≡◌, refl, sym, ap, ◌∙◌, ℕ, zero, suc, ◌+◌, ◌-◌, ◌%◌, ◌<◌, Bool, true, false, not, ◌&&◌}
+use Rattle.std.proofs.Common.{◌||◌, List, [], ◌∷◌, arith}
 use Rattle.std.specs.Prelude.{Option, Some, None, is_none, ◌==◌, nat_le}
 use Rattle.std.specs.List.{list_all}
 use Rattle.std.proofs.lemmas.Bool.{and_parts}
@@ -17,7 +18,8 @@ use Rattle.image_check.specs.EarlyTests.{has_free_tree}
 abbrev is_plain : Tile → Bool
 is_plain t = not (is_none t.use_of && t.red)
 
-red-tile : (f : ℕ) (u : Option Role) (r : Bool) → (not r || may_be_red 0 u) ≡ ((not r || may_be_red (suc f) u) && not (is_none u && r))
+red-tile : (f : ℕ) (u : Option Role) (r : Bool)
+    → (not r || may_be_red 0 u) ≡ ((not r || may_be_red (suc f) u) && not (is_none u && r))
 red-tile f None true = refl
 red-tile f None false = refl
 red-tile f (Some Object) true = refl
@@ -60,20 +62,25 @@ shuffle true true false false v a p = refl
 shuffle true true false true false a p = refl
 shuffle true true false true true false p = refl
 
-plain-tags : (f : ℕ) (m : Memory) (at before : ℕ) (ts : List Tile) (end : ℕ) → are_tags 0 m at before ts end ≡ (are_tags (suc f) m at before ts end && list_all is_plain ts)
+plain-tags : (f : ℕ) (m : Memory) (at before : ℕ) (ts : List Tile) (end : ℕ)
+    → are_tags 0 m at before ts end ≡ (are_tags (suc f) m at before ts end && list_all is_plain ts)
 plain-tags f m at before [] end = sym (and-true (are_tags (suc f) m at before [] end))
   where
     and-true : (p : Bool) → (p && true) ≡ p
     and-true true = refl
     and-true false = refl
 plain-tags f m at before (t ∷ ts) end =
-    (λ k. (t.offset == at) && plain-tile f t k && (word_at m at == before) && (word_at m (at + 8) == tag_word t) && plain-tags f m (at + t.len) t.len ts end k)
-    ∙ shuffle (t.offset == at) (is_tile (suc f) t) (is_plain t) (word_at m at == before) (word_at m (at + 8) == tag_word t) (are_tags (suc f) m (at + t.len) t.len ts end) (list_all is_plain ts)
+    (λ k. (t.offset == at) && plain-tile f t k && (word_at m at == before) && (word_at m (at + 8) == tag_word t)
+    && plain-tags f m (at + t.len) t.len ts end k)
+    ∙ shuffle (t.offset == at) (is_tile (suc f) t) (is_plain t) (word_at m at == before)
+    (word_at m (at + 8) == tag_word t) (are_tags (suc f) m (at + t.len) t.len ts end) (list_all is_plain ts)
 
-later-tags : (f g : ℕ) (m : Memory) (at before : ℕ) (ts : List Tile) (end : ℕ) → are_tags (suc f) m at before ts end ≡ are_tags (suc g) m at before ts end
+later-tags : (f g : ℕ) (m : Memory) (at before : ℕ) (ts : List Tile) (end : ℕ)
+    → are_tags (suc f) m at before ts end ≡ are_tags (suc g) m at before ts end
 later-tags f g m at before [] end = refl
 later-tags f g m at before (t ∷ ts) end =
-    λ k. (t.offset == at) && later-tile f g t k && (word_at m at == before) && (word_at m (at + 8) == tag_word t) && later-tags f g m (at + t.len) t.len ts end k
+    λ k. (t.offset == at) && later-tile f g t k && (word_at m at == before) && (word_at m (at + 8) == tag_word t)
+    && later-tags f g m (at + t.len) t.len ts end k
 
 -- ---- of a segment
 
@@ -84,25 +91,32 @@ shuffle-merged true true false = refl
 shuffle-merged true false true = refl
 shuffle-merged true false false = refl
 
-plain-has_tags : (f : ℕ) (m : Memory) (size : ℕ) → has_tags 0 m size ≡ (has_tags (suc f) m size && list_all is_plain (tiles_of m size))
+plain-has_tags : (f : ℕ) (m : Memory) (size : ℕ)
+    → has_tags 0 m size ≡ (has_tags (suc f) m size && list_all is_plain (tiles_of m size))
 plain-has_tags f m size =
     ap (λ x. x && is_merged (tiles_of m size)) (plain-tags f m 128 0 (tiles_of m size) (size - 16))
-    ∙ shuffle-merged (are_tags (suc f) m 128 0 (tiles_of m size) (size - 16)) (list_all is_plain (tiles_of m size)) (is_merged (tiles_of m size))
+    ∙ shuffle-merged (are_tags (suc f) m 128 0 (tiles_of m size) (size - 16)) (list_all is_plain (tiles_of m size))
+    (is_merged (tiles_of m size))
 
 -- from format 1 on there is no difference
-pub later-has_tags : (format : ℕ) (m : Memory) (size : ℕ) → 0 < format → has_tags format m size ≡ has_tags current m size
+pub later-has_tags : (format : ℕ) (m : Memory) (size : ℕ) → 0 < format
+    → has_tags format m size ≡ has_tags current m size
 unfolding current
 later-has_tags zero m size l = absurd (omega arith)
-later-has_tags (suc f) m size l = ap (λ x. x && is_merged (tiles_of m size)) (later-tags f 1 m 128 0 (tiles_of m size) (size - 16))
+later-has_tags (suc f) m size l =
+    ap (λ x. x && is_merged (tiles_of m size)) (later-tags f 1 m 128 0 (tiles_of m size) (size - 16))
 
 -- good tags of each format are good by the current one
-pub good-has_tags : (format : ℕ) (m : Memory) (size : ℕ) → has_tags format m size ≡ true → has_tags current m size ≡ true
+pub good-has_tags : (format : ℕ) (m : Memory) (size : ℕ) → has_tags format m size ≡ true
+    → has_tags current m size ≡ true
 unfolding current
-good-has_tags zero m size e = (and_parts (has_tags 2 m size) (list_all is_plain (tiles_of m size)) (sym (plain-has_tags 1 m size) ∙ e)).0
+good-has_tags zero m size e = (and_parts (has_tags 2 m size) (list_all is_plain (tiles_of m size))
+    (sym (plain-has_tags 1 m size) ∙ e)).0
 good-has_tags (suc f) m size e = sym (later-has_tags (suc f) m size (omega arith)) ∙ e
 
 -- from format 1 on a free tree is what it is by the current one
-pub later-free_tree : (format : ℕ) (m : Memory) (ts : List Tile) → 0 < format → has_free_tree format m ts ≡ has_free_tree current m ts
+pub later-free_tree : (format : ℕ) (m : Memory) (ts : List Tile) → 0 < format
+    → has_free_tree format m ts ≡ has_free_tree current m ts
 unfolding current
 later-free_tree zero m ts l = absurd (omega arith)
 later-free_tree (suc f) m ts l = refl

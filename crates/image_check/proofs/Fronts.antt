@@ -1,5 +1,6 @@
 -- The first 24 bytes of an image: what they say of its size, and what the code reads of them.
-use Rattle.std.proofs.Common.{◌≡◌, refl, sym, ap, ◌∙◌, ℕ, ◌+◌, ◌≤◌, Bool, true, false, ◌&&◌, ◌==◌, List, ◌++◌, length, take, drop, arith, Ok, Err, Some}
+use Rattle.std.proofs.Common.{◌≡◌, refl, sym, ap, ◌∙◌, ℕ, ◌+◌, ◌≤◌, Bool, true, false, ◌&&◌, ◌==◌, List, ◌++◌, length}
+use Rattle.std.proofs.Common.{take, drop, arith, Ok, Err, Some}
 use Rattle.std.specs.Prelude.{IsTrue, nat_le, Result, if◌then◌else◌}
 use Rattle.std.proofs.lemmas.Bool.{and_parts, and_from, and_left, eq-eqb, ne_eqb, le-ltb}
 use Rattle.std.proofs.lemmas.List.{length-append, length-take, take-append-drop}
@@ -19,13 +20,16 @@ use Rattle.image_check.proofs.Deciding.{has_magic-front, has_version-front, size
 -- ---- what the code reads
 
 -- a half word is the number in four bytes
-pub half_word-part : (b : List ℕ) (at : ℕ) → at + 4 ≤ length b → little_number 4 (part b at 4) ≡ half_word_at (bytes_of b) at
+pub half_word-part : (b : List ℕ) (at : ℕ) → at + 4 ≤ length b
+    → little_number 4 (part b at 4) ≡ half_word_at (bytes_of b) at
 unfolding half_word_at
 half_word-part b at h = ap (little_number 4) (sym (read-part b at 4 h))
 
 -- the size by the three tests
 abbrev front_by : Bool → Bool → Bool → ℕ → Result ℕ ImageClass
-front_by magic version legal size = if magic then (if version then (if legal then Ok size else Err BadSize) else Err UnsupportedVersion) else Err BadMagic
+front_by magic version legal size =
+    if magic then (if version then (if legal then Ok size else Err BadSize) else Err UnsupportedVersion) else Err
+    BadMagic
 
 -- the numbers that the code reads of the front
 pub record IsReadOf (b : List ℕ) (magic version size : ℕ) : Type 0 where
@@ -39,16 +43,19 @@ magic-true : (b : List ℕ) (m v n : ℕ) → IsReadOf b m v n → m ≡ magic_n
 magic-true b m v n r e = eq-eqb (word_at (bytes_of b) 0) magic_number (sym r.magic_is ∙ e)
 
 -- another version
-pub front-version : (format : ℕ) (b : List ℕ) (m v : ℕ) → 24 ≤ length b → m ≡ word_at (bytes_of b) 0 → v ≡ half_word_at (bytes_of b) 8 → m ≡ magic_number → (v ≡ format → ⊥)
+pub front-version : (format : ℕ) (b : List ℕ) (m v : ℕ) → 24 ≤ length b → m ≡ word_at (bytes_of b) 0
+    → v ≡ half_word_at (bytes_of b) 8 → m ≡ magic_number → (v ≡ format → ⊥)
     → Err UnsupportedVersion ≡ front_of format b
 front-version format b m v long p q e d =
-    let r : IsReadOf b m v (word_at (bytes_of b) 16) = record { long = long; magic_is = p; version_is = q; size_is = refl } in
+    let r : IsReadOf b m v (word_at (bytes_of b) 16) =
+    record { long = long; magic_is = p; version_is = q; size_is = refl } in
     let f : has_version format b ≡ false = ne_eqb (half_word_at (bytes_of b) 8) format (λ h. d (q ∙ h)) in
     let g = magic-true b m v (word_at (bytes_of b) 16) r e in
     sym (λ i. front_by (g i) (f i) (is_legal_size (size_word b)) (size_word b))
 
 -- a size that no segment has
-pub front-size : (format : ℕ) (b : List ℕ) (m v n : ℕ) → IsReadOf b m v n → m ≡ magic_number → v ≡ format → is_legal_size n ≡ false → Err BadSize ≡ front_of format b
+pub front-size : (format : ℕ) (b : List ℕ) (m v n : ℕ) → IsReadOf b m v n → m ≡ magic_number → v ≡ format
+    → is_legal_size n ≡ false → Err BadSize ≡ front_of format b
 front-size format b m v n r e d l =
     let f : has_version format b ≡ true = eq-eqb (half_word_at (bytes_of b) 8) format (sym r.version_is ∙ d) in
     let g = magic-true b m v n r e in
@@ -56,7 +63,8 @@ front-size format b m v n r e d l =
     sym (λ i. front_by (g i) (f i) (h i) (size_word b))
 
 -- all right
-pub front-right : (format : ℕ) (b : List ℕ) (m v n : ℕ) → IsReadOf b m v n → m ≡ magic_number → v ≡ format → is_legal_size n ≡ true → Ok n ≡ front_of format b
+pub front-right : (format : ℕ) (b : List ℕ) (m v n : ℕ) → IsReadOf b m v n → m ≡ magic_number → v ≡ format
+    → is_legal_size n ≡ true → Ok n ≡ front_of format b
 front-right format b m v n r e d l =
     let size = sym r.size_is in
     let f : has_version format b ≡ true = eq-eqb (half_word_at (bytes_of b) 8) format (sym r.version_is ∙ d) in
@@ -85,17 +93,21 @@ pub front-wrong : (format : ℕ) (b : List ℕ) (c : ImageClass) → front_of fo
 front-wrong format b c e = wrong_by (has_magic b) (has_version format b) (is_legal_size (size_word b)) (size_word b) c e
 
 -- what is wrong with it is the class that it decides
-decided_wrong : (m v l s : Bool) (n : ℕ) (c : ImageClass) → (l ≡ false → s ≡ false) → front_by m v l n ≡ Err c → decided_by false m v s ≡ Some c
+decided_wrong : (m v l s : Bool) (n : ℕ) (c : ImageClass) → (l ≡ false → s ≡ false) → front_by m v l n ≡ Err c
+    → decided_by false m v s ≡ Some c
 decided_wrong true true true s n c f e = absurd (cc)
-decided_wrong true true false s n c f e = let same : BadSize ≡ c = cc in ap (decided_by false true true) (f refl) ∙ ap Some same
+decided_wrong true true false s n c f e = let same : BadSize ≡ c = cc
+    in ap (decided_by false true true) (f refl) ∙ ap Some same
 decided_wrong true false l s n c f e = let same : UnsupportedVersion ≡ c = cc in ap Some same
 decided_wrong false v l s n c f e = let same : BadMagic ≡ c = cc in ap Some same
 
-pub front-decided : (format : ℕ) (b : List ℕ) (c : ImageClass) → 144 ≤ length b → front_of format b ≡ Err c → decided format b ≡ Some c
+pub front-decided : (format : ℕ) (b : List ℕ) (c : ImageClass) → 144 ≤ length b → front_of format b ≡ Err c
+    → decided format b ≡ Some c
 unfolding decided
 front-decided format b c l e =
     ap (λ s. decided_by s (has_magic b) (has_version format b) (has_size b)) (le-ltb (length b) 144 l)
-    ∙ decided_wrong (has_magic b) (has_version format b) (is_legal_size (size_word b)) (has_size b) (size_word b) c (and_left (is_legal_size (size_word b)) (nat_le (length b) (size_word b))) e
+    ∙ decided_wrong (has_magic b) (has_version format b) (is_legal_size (size_word b)) (has_size b) (size_word b) c
+    (and_left (is_legal_size (size_word b)) (nat_le (length b) (size_word b))) e
 
 -- ---- a right front
 
@@ -107,7 +119,8 @@ pub record IsRight (format : ℕ) (b : List ℕ) (size : ℕ) : Type 0 where
   pub legal : is_legal_size size ≡ true
   pub says : size_word b ≡ size
 
-pub has_front-IsRight : (format : ℕ) (b : List ℕ) (size : ℕ) → 24 ≤ length b → IsTrue (has_front format b) → size_word b ≡ size → IsRight format b size
+pub has_front-IsRight : (format : ℕ) (b : List ℕ) (size : ℕ) → 24 ≤ length b → IsTrue (has_front format b)
+    → size_word b ≡ size → IsRight format b size
 has_front-IsRight format b size l h e =
     let two = and_parts (has_magic b && has_version format b) (is_legal_size (size_word b)) h in
     let one = and_parts (has_magic b) (has_version format b) two.0 in
@@ -115,7 +128,8 @@ has_front-IsRight format b size l h e =
 
 pub IsRight-has_front : (format : ℕ) (b : List ℕ) (size : ℕ) → IsRight format b size → IsTrue (has_front format b)
 IsRight-has_front format b size r =
-    and_from (has_magic b && has_version format b) (is_legal_size (size_word b)) (and_from (has_magic b) (has_version format b) r.magic r.version) (ap is_legal_size r.says ∙ r.legal)
+    and_from (has_magic b && has_version format b) (is_legal_size (size_word b))
+    (and_from (has_magic b) (has_version format b) r.magic r.version) (ap is_legal_size r.says ∙ r.legal)
 
 pub IsRight-append : (format : ℕ) (b rest : List ℕ) (size : ℕ) → IsRight format b size → IsRight format (b ++ rest) size
 IsRight-append format b rest size r =
@@ -147,7 +161,8 @@ IsRight-take format b size r =
 -- ---- the bytes that are kept for later
 
 -- two rows of bytes are zeros where the second is, behind a first that is
-pub second_row : (b : List ℕ) (a n c k : ℕ) (p q : Bool) → a + n ≤ length b → c + k ≤ length b → p ≡ true → p ≡ is_zero (part b a n) → q ≡ is_zero (part b c k)
+pub second_row : (b : List ℕ) (a n c k : ℕ) (p q : Bool) → a + n ≤ length b → c + k ≤ length b → p ≡ true
+    → p ≡ is_zero (part b a n) → q ≡ is_zero (part b c k)
     → q ≡ is_zero (read (bytes_of b) a n ++ read (bytes_of b) c k)
 second_row b a n c k p q l m e f g =
     let first : is_zero (read (bytes_of b) a n) ≡ true = ap is_zero (read-part b a n l) ∙ sym f ∙ e in

@@ -1,22 +1,22 @@
 -- A region that comes back when its window was written alone.
 use Rattle.std.proofs.Common.{◌≡◌, sym, ap, ◌∙◌, ℕ, ◌+◌, ◌≤◌, List, ◌++◌, length, take, drop, arith}
 use Rattle.std.proofs.lemmas.List.{append_assoc, drop_at, length-append, length-drop, length-take-le, take_at}
-use Rattle.raw_region.specs.Device.{Given}
-use Rattle.raw_region.specs.Memory.{Cut, SamePlace, cut_at, whole}
+use Rattle.raw_region.specs.Device.{ReadDelta}
+use Rattle.raw_region.specs.Memory.{WindowState, SameSurroundings, cut_at, whole}
 use Rattle.image_check.specs.EarlyTests.{size_word}
-use Rattle.image_check.specs.Opening.{HasPlace, IsHandedBack}
+use Rattle.image_check.specs.Opening.{HasRoomForImage, IsHandedBack}
 
 -- where a window stays and its bytes do, the region does
-pub whole-kept : (old new : Cut) → SamePlace old new → new.bytes ≡ old.bytes → whole new ≡ whole old
+pub whole-kept : (old new : WindowState) → SameSurroundings old new → new.bytes ≡ old.bytes → whole new ≡ whole old
 whole-kept old new place bytes = let before = place.before in let after = place.after in cc
 
 -- a window of the region whose bytes alone may be others
-pub record IsWritten (region : List ℕ) (base size : ℕ) (w : Cut) : Type 0 where
+pub record IsWritten (region : List ℕ) (base size : ℕ) (w : WindowState) : Type 0 where
   pub room : base + size ≤ length region
-  pub place : SamePlace (cut_at region base size) w
+  pub place : SameSurroundings (cut_at region base size) w
   pub long : length w.bytes ≡ size
 
-module _ (region : List ℕ) (base size : ℕ) (w : Cut) (h : IsWritten region base size w) where
+module _ (region : List ℕ) (base size : ℕ) (w : WindowState) (h : IsWritten region base size w) where
   base-long : length w.before ≡ base
   base-long = let room = h.room in ap length h.place.before ∙ length-take-le base region (omega arith)
 
@@ -32,12 +32,14 @@ module _ (region : List ℕ) (base size : ℕ) (w : Cut) (h : IsWritten region b
 
   written-before : take base (whole w) ≡ take base region
   written-before =
-      ap (take base) (append_assoc w.before w.bytes w.after) ∙ take_at w.before (w.bytes ++ w.after) base base-long ∙ h.place.before
+      ap (take base) (append_assoc w.before w.bytes w.after) ∙ take_at w.before (w.bytes ++ w.after) base base-long
+      ∙ h.place.before
 
   written-behind : drop (base + size) (whole w) ≡ drop (base + size) region
   written-behind = drop_at (w.before ++ w.bytes) w.after (base + size) front-long ∙ h.place.after
 
-  pub written-back : (format : ℕ) (image : Given) (back : List ℕ) → HasPlace format image base (length region)
+  pub written-back : (format : ℕ) (image : ReadDelta) (back : List ℕ)
+      → HasRoomForImage format image base (length region)
       → size_word image.bytes ≡ size → back ≡ whole w → IsHandedBack format image region base back
   written-back format image back p e f = record {
     capacity = ap length f ∙ written-capacity;

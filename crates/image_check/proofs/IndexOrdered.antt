@@ -23,15 +23,20 @@ good-some : (ts : List Tile) (link : Option ℕ) → is_some (good_for ts Object
 good-some ts None h = h
 good-some ts (Some n) h = refl
 
-module _ (m : Memory) (ts : List Tile) (at block : ℕ) (h : has_index m ts at ≡ true) (e : link_at m at ≡ Some block) where
+module _ (m : Memory) (ts : List Tile) (at block : ℕ) (h : has_index m ts at ≡ true) (e : link_at m at
+    ≡ Some block) where
   abbrev count : ℕ
   count = word_at m (at + 8)
 
   abbrev link : ℕ → Option ℕ
   link i = link_at m (block + 8 * i)
 
-  tests : ((nat_le (word_at m (at + 8)) (index_capacity m at) && is_table_link ts Index (link_at m at) 8 (index_capacity m at)) ≡ true) × (list_all (λ link. is_some (good_for ts Object link)) (entries m at) ≡ true)
-  tests = unguarded (nat_le (word_at m (at + 8)) (index_capacity m at) && is_table_link ts Index (link_at m at) 8 (index_capacity m at)) (list_all (λ link. is_some (good_for ts Object link)) (entries m at)) h
+  tests : ((nat_le (word_at m (at + 8)) (index_capacity m at)
+      && is_table_link ts Index (link_at m at) 8 (index_capacity m at)) ≡ true)
+      × (list_all (λ link. is_some (good_for ts Object link)) (entries m at) ≡ true)
+  tests = unguarded (nat_le (word_at m (at + 8)) (index_capacity m at)
+      && is_table_link ts Index (link_at m at) 8 (index_capacity m at))
+      (list_all (λ link. is_some (good_for ts Object link)) (entries m at)) h
 
   -- its block has room for its entries
   pub index-room : IsIndexRoom ts block (word_at m (at + 8))
@@ -45,14 +50,19 @@ module _ (m : Memory) (ts : List Tile) (at block : ℕ) (h : has_index m ts at �
   entry-some i l =
       let good : Option ℕ → Bool = λ link. is_some (good_for ts Object link) in
       let s = split link 0 i count i (omega arith) l in
-      let all : list_all good (links_in m block i ++ link i ∷ s.back) ≡ true = ap (list_all good) (sym s.all ∙ sym entries-there) ∙ tests.1 in
-      let p = and_parts (list_all good (links_in m block i)) (list_all good (link i ∷ s.back)) (sym (list_all-append good (links_in m block i) (link i ∷ s.back)) ∙ all) in
+      let all : list_all good (links_in m block i ++ link i ∷ s.back) ≡ true =
+      ap (list_all good) (sym s.all ∙ sym entries-there) ∙ tests.1 in
+      let p = and_parts (list_all good (links_in m block i)) (list_all good (link i ∷ s.back))
+      (sym (list_all-append good (links_in m block i) (link i ∷ s.back)) ∙ all) in
       good-some ts (link i) (and_parts (good (link i)) (list_all good s.back) p.1).0
 
   -- and each leads to one of its targets
-  pub entry-among : (i n : ℕ) → i < word_at m (at + 8) → link_at m (block + 8 * i) ≡ Some n → is_among (targets m at) n ≡ true
+  pub entry-among : (i n : ℕ) → i < word_at m (at + 8) → link_at m (block + 8 * i) ≡ Some n
+      → is_among (targets m at) n ≡ true
   entry-among i n l f =
       let s = split link 0 i count i (omega arith) l in
       let front = targets_of (links_in m block i) in
-      let all : targets m at ≡ front ++ n ∷ targets_of s.back = ap targets_of (entries-there ∙ s.all) ∙ targets-split (links_in m block i) s.back (link i) n f in
-      ap (λ xs. is_among xs n) all ∙ Mem-is_among (front ++ n ∷ targets_of s.back) n (mem_right n front (n ∷ targets_of s.back) (inl refl))
+      let all : targets m at ≡ front ++ n ∷ targets_of s.back =
+      ap targets_of (entries-there ∙ s.all) ∙ targets-split (links_in m block i) s.back (link i) n f in
+      ap (λ xs. is_among xs n) all ∙ Mem-is_among (front ++ n ∷ targets_of s.back) n
+      (mem_right n front (n ∷ targets_of s.back) (inl refl))

@@ -34,7 +34,13 @@ in_row at (u ∷ ts) end t a (inl e) =
     let long = a.1 in
     let even = a.2 in
     let l = row-end (at + u.len) ts end a.3 in
-    record { low = omega arith; high = omega arith; long = omega arith; even = ap (λ x. x % 16) n ∙ even; whole = λ w. omega arith }
+    record {
+      low = omega arith;
+      high = omega arith;
+      long = omega arith;
+      even = ap (λ x. x % 16) n ∙ even;
+      whole = λ w. omega arith;
+    }
 in_row at (u ∷ ts) end t a (inr h) =
     let k = in_row (at + u.len) ts end t a.3 h in
     let low = k.low in
@@ -53,7 +59,8 @@ pub record Found (ts : List Tile) (role : Role) (n size : ℕ) (t : Tile) : Type
   pub there : t.offset + 16 ≡ n
   pub lies : InRow 128 (size - 16) t
 
-pub found : (format : ℕ) (m : Memory) (size : ℕ) (role : Role) (n : ℕ) (t : Tile) → IsTrue (has_tags format m size) → tile_of (tiles_of m size) role n ≡ Some t → Found (tiles_of m size) role n size t
+pub found : (format : ℕ) (m : Memory) (size : ℕ) (role : Role) (n : ℕ) (t : Tile) → IsTrue (has_tags format m size)
+    → tile_of (tiles_of m size) role n ≡ Some t → Found (tiles_of m size) role n size t
 found format m size role n t h e =
     let k = find_mem (λ (u : Tile). is_use role u && (u.offset + 16 == n)) t (tiles_of m size) e in
     let parts = and_parts (is_use role t) (t.offset + 16 == n) k.is in
@@ -64,7 +71,8 @@ found format m size role n t h e =
       lies = in_row 128 (tiles_of m size) (size - 16) t (has_tags-AreWholeTiles format m size h).row k.mem;
     }
 
-pub payload-inside : (format : ℕ) (m : Memory) (size : ℕ) (role : Role) (n : ℕ) (t : Tile) → IsTrue (has_tags format m size) → tile_of (tiles_of m size) role n ≡ Some t → IsInside n size
+pub payload-inside : (format : ℕ) (m : Memory) (size : ℕ) (role : Role) (n : ℕ) (t : Tile)
+    → IsTrue (has_tags format m size) → tile_of (tiles_of m size) role n ≡ Some t → IsInside n size
 payload-inside format m size role n t h e =
     let f = found format m size role n t h e in
     let at = f.there in

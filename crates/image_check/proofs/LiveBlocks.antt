@@ -1,5 +1,6 @@
 -- A block that the map has is one of the live set that the bytes say.
-use Rattle.std.proofs.Common.{◌≡◌, refl, sym, ap, subst, ◌∙◌, ℕ, ◌+◌, Bool, true, false, ◌&&◌, ◌||◌, ◌==◌, List, [], ◌∷◌, length, cond}
+use Rattle.std.proofs.Common.{◌≡◌, refl, sym, ap, subst, ◌∙◌, ℕ, ◌+◌, Bool, true, false, ◌&&◌, ◌||◌, ◌==◌, List, []}
+use Rattle.std.proofs.Common.{◌∷◌, length, cond}
 use Rattle.std.specs.Prelude.{Option, Some, None, IsTrue, filter_map}
 use Rattle.std.specs.List.{cons_option, list_any}
 use Rattle.std.proofs.lemmas.Bool.{and_parts, eqb-true, eq-eqb, or_left, or_right}
@@ -22,7 +23,8 @@ here-live : (offset len h : ℕ) (role : Role) (red : Bool) (xs : List Extent) (
     → offset + 16 ≡ h
     → IsTrue (has_handle h (cons_option (as_extent (record { offset = offset; len = len; use_of = u; red = red })) xs))
 here-live offset len h role red xs None e f = absurd (cc)
-here-live offset len h role red xs (Some r) e f = or_left (offset + 16 == h) (has_handle h xs) (eq-eqb (offset + 16) h f)
+here-live offset len h role red xs (Some r) e f =
+    or_left (offset + 16 == h) (has_handle h xs) (eq-eqb (offset + 16) h f)
 
 behind-live : (h : ℕ) (o : Option Extent) (xs : List Extent) → IsTrue (has_handle h xs)
     → IsTrue (has_handle h (cons_option o xs))

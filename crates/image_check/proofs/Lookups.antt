@@ -17,7 +17,8 @@ pub differ : (r s : Role) → same_role r s ≡ false → r ≡ s → ⊥
 differ r s e f = false≢true (sym e ∙ ap (same_role r) (sym f) ∙ same_role-refl r)
 
 module _ (ts : List Tile) (es : Blocks) (a : AreBlocks ts es) (n : ℕ) (role : Role) where
-  no-tile-if : (o : Option Tile) → tile_of ts role n ≡ o → ((b : Block) → block_at es n ≡ Some b → b.role ≡ role → ⊥) → None ≡ len_of o
+  no-tile-if : (o : Option Tile) → tile_of ts role n ≡ o
+      → ((b : Block) → block_at es n ≡ Some b → b.role ≡ role → ⊥) → None ≡ len_of o
   no-tile-if None e d = refl
   no-tile-if (Some t) e d = let w = a.blocks n role t e in absurd (d w.block w.is w.role_is)
 

@@ -1,5 +1,6 @@
 -- Noting that a link leads to a block: one owner more, and nothing else.
-use Rattle.std.proofs.Common.{◌≡◌, ◌≢◌, refl, sym, ap, subst, ◌∙◌, ℕ, ◌+◌, ◌*◌, ◌/◌, ◌≤◌, Bool, true, false, List, [], ◌∷◌, length, arith, cond}
+use Rattle.std.proofs.Common.{◌≡◌, ◌≢◌, refl, sym, ap, subst, ◌∙◌, ℕ, ◌+◌, ◌*◌, ◌/◌, ◌≤◌, Bool, true, false, List, []}
+use Rattle.std.proofs.Common.{◌∷◌, length, arith, cond}
 use Rattle.std.specs.Prelude.{Option, Some, None, nat_eq, IsSome, is_some, ◌⊎◌}
 use Rattle.std.specs.Map.{set_value}
 use Rattle.std.proofs.lemmas.Bool.{eqb-true, ne_eqb, cond-true, cond-false, cases_eq, false≢true}
@@ -13,54 +14,66 @@ use Rattle.best_fit.specs.Table.{same_role}
 use Rattle.image_check.specs.declared.owners.Block.{Block}
 use Rattle.image_check.specs.declared.owners.Owner.{Owner}
 use Rattle.image_check.specs.ObjectTests.{tile_of}
-use Rattle.image_check.specs.Meaning.{LeadsTo, Counts}
+use Rattle.image_check.specs.Meaning.{LeadsTo, IsCountedLink}
 use Rattle.image_check.specs.OwnerPlaces.{IsSharedAt}
-use Rattle.image_check.specs.Owners.{Blocks, block_at, owner_in, owner_at, IsTileAt, IsBlockAt, due, due_of, debt, frame_of, frames, IsWaiting, IsChain, Stands, MayCount, IsNoted, IsFollowed, IsRooted, IsMarking, IsMarked}
+use Rattle.image_check.specs.Owners.{Blocks, block_at, owner_in, owner_at, IsTileAt, IsBlockAt, visit_budget, due_of}
+use Rattle.image_check.specs.Owners.{unspent_budget, frame_of, frames, IsWaiting, IsChain, IsMember, MayCount}
+use Rattle.image_check.specs.Owners.{IsMarkedLink, IsFollowed, IsRooted, IsMarking, MarksLink}
 
 -- ---- one block in the place of another
 
-put-if : (n k : ℕ) (c w : Block) (es fs : Blocks) (b : Bool) → nat_eq n k ≡ b → (IsSome (block_at es n) → block_at fs n ≡ Some w)
+put-if : (n k : ℕ) (c w : Block) (es fs : Blocks) (b : Bool) → nat_eq n k ≡ b
+    → (IsSome (block_at es n) → block_at fs n ≡ Some w)
     → IsSome (cond b (Some c) (block_at es n)) → block_at (cond b ((k, w) ∷ es) ((k, c) ∷ fs)) n ≡ Some w
 put-if n k c w es fs true e ih h = cond-true (nat_eq n k) (Some w) (block_at es n) e
 put-if n k c w es fs false e ih h = cond-false (nat_eq n k) (Some c) (block_at fs n) e ∙ ih h
 
-pub put-same : (n : ℕ) (w : Block) (es : Blocks) → IsSome (block_at es n) → block_at (set_value (nat_eq n) es w) n ≡ Some w
+pub put-same : (n : ℕ) (w : Block) (es : Blocks) → IsSome (block_at es n)
+    → block_at (set_value (nat_eq n) es w) n ≡ Some w
 put-same n w [] h = absurd (false≢true h)
 put-same n w (e ∷ es) h = put-if n e.0 e.1 w es (set_value (nat_eq n) es w) (nat_eq n e.0) refl (put-same n w es) h
 
-other-if : (n k q : ℕ) (c w : Block) (es fs : Blocks) (b : Bool) → q ≢ n → nat_eq n k ≡ b → block_at fs q ≡ block_at es q
+other-if : (n k q : ℕ) (c w : Block) (es fs : Blocks) (b : Bool) → q ≢ n → nat_eq n k ≡ b
+    → block_at fs q ≡ block_at es q
     → block_at (cond b ((k, w) ∷ es) ((k, c) ∷ fs)) q ≡ block_at ((k, c) ∷ es) q
 other-if n k q c w es fs true d e ih =
     let apart : nat_eq q k ≡ false = ne_eqb q k (λ f. d (f ∙ sym (eqb-true n k e))) in
-    cond-false (nat_eq q k) (Some w) (block_at es q) apart ∙ sym (cond-false (nat_eq q k) (Some c) (block_at es q) apart)
+    cond-false (nat_eq q k) (Some w) (block_at es q) apart
+    ∙ sym (cond-false (nat_eq q k) (Some c) (block_at es q) apart)
 other-if n k q c w es fs false d e ih = ap (cond (nat_eq q k) (Some c)) ih
 
 pub put-other : (n q : ℕ) (w : Block) (es : Blocks) → q ≢ n → block_at (set_value (nat_eq n) es w) q ≡ block_at es q
 put-other n q w [] d = refl
-put-other n q w (e ∷ es) d = other-if n e.0 q e.1 w es (set_value (nat_eq n) es w) (nat_eq n e.0) d refl (put-other n q w es d)
+put-other n q w (e ∷ es) d = other-if n e.0 q e.1 w es (set_value (nat_eq n) es w) (nat_eq n e.0) d refl
+    (put-other n q w es d)
 
-due-free : (b : Block) → b.owner ≡ None → due_of b ≡ due b.role b.len
-due-free b e = ap (λ (o : Option Owner). elim o [ None ↦ due b.role b.len | Some x ↦ 0 ]) e
+visit_budget-free : (b : Block) → b.owner ≡ None → due_of b ≡ visit_budget b.role b.len
+visit_budget-free b e = ap (λ (o : Option Owner). elim o [ None ↦ visit_budget b.role b.len | Some x ↦ 0 ]) e
 
-due-owned : (b : Block) (o : Owner) → b.owner ≡ Some o → due_of b ≡ 0
-due-owned b o e = ap (λ (o : Option Owner). elim o [ None ↦ due b.role b.len | Some x ↦ 0 ]) e
+visit_budget-owned : (b : Block) (o : Owner) → b.owner ≡ Some o → due_of b ≡ 0
+visit_budget-owned b o e = ap (λ (o : Option Owner). elim o [ None ↦ visit_budget b.role b.len | Some x ↦ 0 ]) e
 
-debt-if : (n k : ℕ) (c b w : Block) (es fs : Blocks) (x : Bool) (o : Owner) → b.owner ≡ None → w.owner ≡ Some o
-    → (block_at es n ≡ Some b → debt fs + due b.role b.len ≡ debt es) → cond x (Some c) (block_at es n) ≡ Some b
-    → debt (cond x ((k, w) ∷ es) ((k, c) ∷ fs)) + due b.role b.len ≡ debt ((k, c) ∷ es)
-debt-if n k c b w es fs true o free own ih h =
+unspent_budget-if : (n k : ℕ) (c b w : Block) (es fs : Blocks) (x : Bool) (o : Owner) → b.owner ≡ None
+    → w.owner ≡ Some o
+    → (block_at es n ≡ Some b → unspent_budget fs + visit_budget b.role b.len ≡ unspent_budget es)
+    → cond x (Some c) (block_at es n) ≡ Some b
+    → unspent_budget (cond x ((k, w) ∷ es) ((k, c) ∷ fs)) + visit_budget b.role b.len ≡ unspent_budget ((k, c) ∷ es)
+unspent_budget-if n k c b w es fs true o free own ih h =
     let same : c ≡ b = cc in
-    let x : due_of c ≡ due b.role b.len = ap due_of same ∙ due-free b free in
-    let y = due-owned w o own in
+    let x : due_of c ≡ visit_budget b.role b.len = ap due_of same ∙ visit_budget-free b free in
+    let y = visit_budget-owned w o own in
     omega arith
-debt-if n k c b w es fs false o free own ih h = let i = ih h in omega arith
+unspent_budget-if n k c b w es fs false o free own ih h = let i = ih h in omega arith
 
-pub debt-put : (n : ℕ) (b w : Block) (es : Blocks) (o : Owner) → block_at es n ≡ Some b → b.owner ≡ None → w.owner ≡ Some o → debt (set_value (nat_eq n) es w) + due b.role b.len ≡ debt es
-debt-put n b w [] o h free own = absurd (cc)
-debt-put n b w (e ∷ es) o h free own =
-    debt-if n e.0 e.1 b w es (set_value (nat_eq n) es w) (nat_eq n e.0) o free own (λ i. debt-put n b w es o i free own) h
+pub unspent_budget-put : (n : ℕ) (b w : Block) (es : Blocks) (o : Owner) → block_at es n ≡ Some b → b.owner ≡ None
+    → w.owner ≡ Some o → unspent_budget (set_value (nat_eq n) es w) + visit_budget b.role b.len ≡ unspent_budget es
+unspent_budget-put n b w [] o h free own = absurd (cc)
+unspent_budget-put n b w (e ∷ es) o h free own =
+    unspent_budget-if n e.0 e.1 b w es (set_value (nat_eq n) es w) (nat_eq n e.0) o free own (λ i.
+    unspent_budget-put n b w es o i free own) h
 
-frames-if : (n k : ℕ) (c b w : Block) (es fs : Blocks) (x : Bool) → w.role ≡ b.role → w.len ≡ b.len → (block_at es n ≡ Some b → frames fs ≡ frames es) → cond x (Some c) (block_at es n) ≡ Some b
+frames-if : (n k : ℕ) (c b w : Block) (es fs : Blocks) (x : Bool) → w.role ≡ b.role → w.len ≡ b.len
+    → (block_at es n ≡ Some b → frames fs ≡ frames es) → cond x (Some c) (block_at es n) ≡ Some b
     → frames (cond x ((k, w) ∷ es) ((k, c) ∷ fs)) ≡ frames ((k, c) ∷ es)
 frames-if n k c b w es fs true r l ih h =
     let same : c ≡ b = cc in
@@ -68,9 +81,11 @@ frames-if n k c b w es fs true r l ih h =
 frames-if n k c b w es fs false r l ih h = ap (λ fs. frame_of (k, c) ∷ fs) (ih h)
 
 -- a block of the same role and length leaves the frame
-pub frames-put : (n : ℕ) (b w : Block) (es : Blocks) → block_at es n ≡ Some b → w.role ≡ b.role → w.len ≡ b.len → frames (set_value (nat_eq n) es w) ≡ frames es
+pub frames-put : (n : ℕ) (b w : Block) (es : Blocks) → block_at es n ≡ Some b → w.role ≡ b.role → w.len ≡ b.len
+    → frames (set_value (nat_eq n) es w) ≡ frames es
 frames-put n b w [] h r l = absurd (cc)
-frames-put n b w (e ∷ es) h r l = frames-if n e.0 e.1 b w es (set_value (nat_eq n) es w) (nat_eq n e.0) r l (λ i. frames-put n b w es i r l) h
+frames-put n b w (e ∷ es) h r l =
+    frames-if n e.0 e.1 b w es (set_value (nat_eq n) es w) (nat_eq n e.0) r l (λ i. frames-put n b w es i r l) h
 
 -- the owner of a block that is no object
 pub owner-is : (b : Block) → same_role b.role Object ≡ false → owner_in (Some b) ≡ b.owner
@@ -78,13 +93,15 @@ owner-is b e = cond-false (same_role b.role Object) None b.owner e
 
 -- ---- nothing is noted
 
-module _ (format : ℕ) (m : Memory) (ts : List Tile) (now : Option ℕ) (es : Blocks) (pending : Option ℕ) (waiting : ℕ) (role : Role) (link : Owner)
+module _ (format : ℕ) (m : Memory) (ts : List Tile) (now : Option ℕ) (es : Blocks) (pending : Option ℕ)
+    (waiting : ℕ) (role : Role) (link : Owner)
     (plain : same_role role Object ≡ false) (k : IsMarking format m ts now es pending waiting) where
   abbrev Answer : Blocks → Option ℕ → ℕ → Type 0
-  Answer fs head count = IsMarked format m ts now role link es waiting fs head count
+  Answer fs head count = MarksLink format m ts now role link es waiting fs head count
 
-  stays : IsNoted m ts es role link.at link.root
-      → (role ≡ Storage → (target : ℕ) (t : Tile) → link_at m link.at ≡ Some target → tile_of ts Storage target ≡ Some t → owner_at es target ≡ None → ⊥) → Answer es pending waiting
+  stays : IsMarkedLink m ts es role link.at link.root
+      → (role ≡ Storage → (target : ℕ) (t : Tile) → link_at m link.at ≡ Some target
+      → tile_of ts Storage target ≡ Some t → owner_at es target ≡ None → ⊥) → Answer es pending waiting
   stays noted known = record {
     marking = k;
     noted = noted;
@@ -101,7 +118,8 @@ module _ (format : ℕ) (m : Memory) (ts : List Tile) (now : Option ℕ) (es : B
     same-target : (n : ℕ) → link_at m link.at ≡ Some n → n ≡ target
     same-target n l = cc
 
-    block-there : (r : Role) (n : ℕ) (t : Tile) → link_at m link.at ≡ Some n → tile_of ts r n ≡ Some t → IsBlockAt es target r t
+    block-there : (r : Role) (n : ℕ) (t : Tile) → link_at m link.at ≡ Some n → tile_of ts r n ≡ Some t
+        → IsBlockAt es target r t
     block-there r n t l f = subst (λ x. IsBlockAt es x r t) (same-target n l) (k.blocks.blocks n r t f)
 
     nothing-there : ((r : Role) (t : Tile) → role ≡ r → IsBlockAt es target r t → ⊥) → Answer es pending waiting
@@ -131,13 +149,15 @@ module _ (format : ℕ) (m : Memory) (ts : List Tile) (now : Option ℕ) (es : B
         pub own-link : (o : Owner) → b.owner ≡ Some o → o ≡ link → Answer es pending waiting
         own-link o own same = stays
             (λ n l. ap (owner_at es) (same-target n l.0) ∙ was-owned ∙ own ∙ ap Some same)
-            (λ s n t l f e. let g : owner_at es target ≡ None = ap (owner_at es) (sym (same-target n l)) ∙ e in let h = was-owned in absurd (cc))
+            (λ s n t l f e. let g : owner_at es target ≡ None = ap (owner_at es) (sym (same-target n l)) ∙ e
+            in let h = was-owned in absurd (cc))
 
         -- ---- it leads to the block
 
         module _ (may : MayCount format m ts role link.at) where
           leads : LeadsTo m ts role link.at target
-          leads = let w = k.blocks.tiles target b is in (sym points, (w.tile, ap (λ x. tile_of ts x target) (sym r) ∙ w.is))
+          leads = let w = k.blocks.tiles target b is
+              in (sym points, (w.tile, ap (λ x. tile_of ts x target) (sym r) ∙ w.is))
 
           pub shared : (o : Owner) → b.owner ≡ Some o → o.at ≢ link.at → IsSharedAt format m ts link.at
           shared o e d = record {
@@ -201,16 +221,23 @@ module _ (format : ℕ) (m : Memory) (ts : List Tile) (now : Option ℕ) (es : B
                   let g : block_at es n ≡ Some b = ap (block_at es) f ∙ is in
                   let h = w.is in
                   let same : b ≡ w.block = cc in
-                  record { block = owned; is = ap (block_at after) f ∙ here; role_is = ap (λ (x : Block). x.role) same ∙ w.role_is; len = ap (λ (x : Block). x.len) same ∙ w.len }
-              | inr d ↦ let w = k.blocks.blocks n r2 t e in record { block = w.block; is = there n d ∙ w.is; role_is = w.role_is; len = w.len }
+                  record {
+                    block = owned;
+                    is = ap (block_at after) f ∙ here;
+                    role_is = ap (λ (x : Block). x.role) same ∙ w.role_is;
+                    len = ap (λ (x : Block). x.len) same ∙ w.len;
+                  }
+              | inr d ↦ let w = k.blocks.blocks n r2 t e
+                  in record { block = w.block; is = there n d ∙ w.is; role_is = w.role_is; len = w.len }
             ]
 
-            counts-after : (n : ℕ) (o : Owner) → owner_at after n ≡ Some o → Counts format m ts o.at n
+            counts-after : (n : ℕ) (o : Owner) → owner_at after n ≡ Some o → IsCountedLink format m ts o.at n
             counts-after n o e = elim (cases_eq n target) [
               | inl f ↦
                   let g : owner_at after n ≡ Some link = ap (owner_at after) f ∙ owner-here in
                   let same : o ≡ link = cc in
-                  subst (λ (x : Owner). Counts format m ts x.at n) (sym same) (subst (Counts format m ts link.at) (sym f) (may target leads))
+                  subst (λ (x : Owner). IsCountedLink format m ts x.at n) (sym same)
+                  (subst (IsCountedLink format m ts link.at) (sym f) (may target leads))
               | inr d ↦ k.counts n o (sym (owner-there n d) ∙ e)
             ]
 
@@ -218,7 +245,17 @@ module _ (format : ℕ) (m : Memory) (ts : List Tile) (now : Option ℕ) (es : B
             still-rooted o (inl h) = inl h
             still-rooted o (inr h) =
                 let w = h.0 in
-                inr (record { node = w.node; tile = w.tile; is = w.is; led = w.led; noted = keeps-owner w.node w.led w.noted; link = w.link }, h.1)
+                inr (
+                  record {
+                    node = w.node;
+                    tile = w.tile;
+                    is = w.is;
+                    led = w.led;
+                    noted = keeps-owner w.node w.led w.noted;
+                    link = w.link;
+                  },
+                  h.1,
+                )
 
             rooted-after : (n : ℕ) (o : Owner) → owner_at after n ≡ Some o → IsRooted ts after o
             rooted-after n o e = elim (only-link n o e) [
@@ -239,27 +276,42 @@ module _ (format : ℕ) (m : Memory) (ts : List Tile) (now : Option ℕ) (es : B
             chain-after head [] h = h
             chain-after head (n ∷ ns) h =
                 let w = h.2 in
-                let apart = waits-elsewhere n h.0 h.2 in
-                (h.0, h.1, record { block = w.block; is = there n apart ∙ w.is; node = w.node; owned = w.owned; next_is = w.next_is }, chain-after h.0 ns h.3)
+                let apart = waits-elsewhere n h.0 h.2 in (
+                  h.0,
+                  h.1,
+                  record {
+                    block = w.block;
+                    is = there n apart ∙ w.is;
+                    node = w.node;
+                    owned = w.owned;
+                    next_is = w.next_is;
+                  },
+                  chain-after h.0 ns h.3,
+                )
 
-            noted-after : (r2 : Role) (at root : ℕ) → IsNoted m ts es r2 at root → IsNoted m ts after r2 at root
+            noted-after : (r2 : Role) (at root : ℕ) → IsMarkedLink m ts es r2 at root
+                → IsMarkedLink m ts after r2 at root
             noted-after r2 at root h = λ n l. keeps-owner n _ (h n l)
 
-            paid-after : role ≡ Storage → (n : ℕ) (t : Tile) → link_at m link.at ≡ Some n → tile_of ts Storage n ≡ Some t → 3 * (t.len / 16) ≡ due b.role b.len
+            paid-after : role ≡ Storage → (n : ℕ) (t : Tile) → link_at m link.at ≡ Some n
+                → tile_of ts Storage n ≡ Some t → 3 * (t.len / 16) ≡ visit_budget b.role b.len
             paid-after s n t l f =
                 let w = block-there Storage n t l f in
                 let g = w.is in
                 let same : w.block ≡ b = cc in
                 let long : b.len ≡ t.len = ap (λ (x : Block). x.len) (sym same) ∙ w.len in
                 let kind : b.role ≡ Storage = r ∙ s in
-                sym ((λ i. due (kind i) (long i)))
+                sym ((λ i. visit_budget (kind i) (long i)))
 
-            module _ (chain : List ℕ) (longer : (n : ℕ) → Stands n k.chain → Stands n chain) (new : role ≡ Node → Stands target chain) where
-              followed-after : (n : ℕ) (o : Owner) (t : Tile) → tile_of ts Node n ≡ Some t → owner_at after n ≡ Some o → Stands n chain ⊎ ((now ≡ Some n) ⊎ IsFollowed m ts after n o.root)
+            module _ (chain : List ℕ) (longer : (n : ℕ) → IsMember n k.chain → IsMember n chain) (new : role ≡ Node
+                → IsMember target chain) where
+              followed-after : (n : ℕ) (o : Owner) (t : Tile) → tile_of ts Node n ≡ Some t
+                  → owner_at after n ≡ Some o → IsMember n chain ⊎ ((now ≡ Some n) ⊎ IsFollowed m ts after n o.root)
               followed-after n o t f e = elim (cases_eq n target) [
                 | inl g ↦
-                    let isnode : role ≡ Node = sym r ∙ role-of Node t (subst (λ x. IsBlockAt es x Node t) g (k.blocks.blocks n Node t f)) in
-                    inl (subst (λ x. Stands x chain) (sym g) (new isnode))
+                    let isnode : role ≡ Node = sym r
+                    ∙ role-of Node t (subst (λ x. IsBlockAt es x Node t) g (k.blocks.blocks n Node t f)) in
+                    inl (subst (λ x. IsMember x chain) (sym g) (new isnode))
                 | inr d ↦ elim (k.followed n o t f (sym (owner-there n d) ∙ e)) [
                   | inl s ↦ inl (longer n s)
                   | inr (inl s) ↦ inr (inl s)
@@ -267,9 +319,11 @@ module _ (format : ℕ) (m : Memory) (ts : List Tile) (now : Option ℕ) (es : B
                 ]
               ]
 
-              pub owned-now : (head : Option ℕ) (count : ℕ) → IsChain after head chain → length chain ≡ count → 6 * count ≤ 6 * waiting + due b.role b.len → (role ≡ Storage → count ≡ waiting) → Answer after head count
+              pub owned-now : (head : Option ℕ) (count : ℕ) → IsChain after head chain → length chain ≡ count
+                  → 6 * count ≤ 6 * waiting + visit_budget b.role b.len → (role ≡ Storage → count ≡ waiting)
+                  → Answer after head count
               owned-now head count linked long most still =
-                  let fewer = debt-put target b owned es link is free refl in
+                  let fewer = unspent_budget-put target b owned es link is free refl in
                   let room = k.room in
                   record {
                     marking = record {
@@ -294,12 +348,19 @@ module _ (format : ℕ) (m : Memory) (ts : List Tile) (now : Option ℕ) (es : B
             -- a node is to be followed
             pub node-owned : role ≡ Node → Answer after (Some target) (waiting + 1)
             node-owned isnode =
-                let w : IsWaiting after target pending = record { block = owned; is = here; node = r ∙ isnode; owned = refl; next_is = refl } in
+                let w : IsWaiting after target pending =
+                record { block = owned; is = here; node = r ∙ isnode; owned = refl; next_is = refl } in
                 let long = k.count in
-                let cost : due b.role b.len ≡ 6 = ap (λ x. due x b.len) (r ∙ isnode) in
-                owned-now (target ∷ k.chain) (λ n s. inr s) (λ e. inl refl) (Some target) (waiting + 1) (pending, refl, w, chain-after pending k.chain k.linked) (omega arith) (omega arith)
+                let cost : visit_budget b.role b.len ≡ 6 = ap (λ x. visit_budget x b.len) (r ∙ isnode) in
+                owned-now (target ∷ k.chain) (λ n s. inr s) (λ e. inl refl) (Some target) (waiting + 1) (
+                  pending,
+                  refl,
+                  w,
+                  chain-after pending k.chain k.linked,
+                ) (omega arith) (omega arith)
                 (λ s. let f : Node ≡ Storage = sym isnode ∙ s in absurd (cc))
 
             -- no other block is
             pub other-owned : role ≢ Node → Answer after pending waiting
-            other-owned d = owned-now k.chain (λ n s. s) (λ e. absurd (d e)) pending waiting (chain-after pending k.chain k.linked) k.count (omega arith) (λ s. refl)
+            other-owned d = owned-now k.chain (λ n s. s) (λ e.
+                absurd (d e)) pending waiting (chain-after pending k.chain k.linked) k.count (omega arith) (λ s. refl)

@@ -11,22 +11,26 @@ use Rattle.block_tags.specs.declared.tile.Role.TheVariants.{Index, Storage, Node
 use Rattle.block_tags.specs.declared.tile.Tile.{Tile}
 use Rattle.image_check.specs.declared.owners.Owner.{Owner}
 use Rattle.image_check.specs.ObjectTests.{index_capacity}
-use Rattle.image_check.specs.Meaning.{Counts}
-use Rattle.image_check.specs.Owners.{Blocks, IsIndexPlace, IsMarked, IsMarkingOf, IsNoted, IsRooted, IsSharedIn, IsStart, MayCount, owner}
+use Rattle.image_check.specs.Meaning.{IsCountedLink}
+use Rattle.image_check.specs.Owners.{Blocks, IsIndexPlace, MarksLink, IsMarkingOf, IsMarkedLink, IsRooted, IsSharedIn}
+use Rattle.image_check.specs.Owners.{IsStart, MayCount, owner}
 use Rattle.image_check.specs.Passes.{HasTiles, tiles_in}
-use Rattle.image_check.specs.Sharing.{AreElementsNoted, IsElementPlace, IsGrown, IsIndexNoted, IsStorageNoted}
-use Rattle.image_check.specs.Visits.{Adds}
+use Rattle.image_check.specs.Sharing.{AreElementsNoted, IsElementPlace, MarksLinks, IsIndexNoted, IsStorageNoted}
+use Rattle.image_check.specs.Visits.{AddsVisits}
 use Rattle.image_check.proofs.Following.{debts-small}
 use Rattle.image_check.proofs.Inside.{payload-inside}
 
 -- what noting a link at a place does, where no other link leads to it
 abbrev pub Marks : ℕ → List ℕ → Role → Option ℕ → Blocks → ℕ → Blocks → Option ℕ → ℕ → Result (Unit {0}) ℕ → ℕ → Type 0
 Marks format b role target old waited es pending waiting r at =
-    target ≡ link_at (bytes_of b) at → MayCount format (bytes_of b) (tiles_in b) role at → IsRooted (tiles_in b) old (owner at at)
-    → MatchResult r (λ done. IsMarked format (bytes_of b) (tiles_in b) None role (owner at at) old waited es pending waiting) (IsSharedIn format b)
+    target ≡ link_at (bytes_of b) at → MayCount format (bytes_of b) (tiles_in b) role at
+    → IsRooted (tiles_in b) old (owner at at)
+    → MatchResult r (λ done. MarksLink format (bytes_of b) (tiles_in b) None role (owner at at) old waited es
+    pending waiting) (IsSharedIn format b)
 
 -- few nodes wait
-pub few-wait : (format : ℕ) (b : List ℕ) (now : Option ℕ) (es : Blocks) (pending : Option ℕ) (waiting : ℕ) → HasTiles b → IsMarkingOf format b now es pending waiting → waiting + 1 < 2 ^ 64
+pub few-wait : (format : ℕ) (b : List ℕ) (now : Option ℕ) (es : Blocks) (pending : Option ℕ) (waiting : ℕ)
+    → HasTiles b → IsMarkingOf format b now es pending waiting → waiting + 1 < 2 ^ 64
 few-wait format b now es pending waiting h k =
     let room = k.room in
     let small = debts-small b h in
@@ -43,19 +47,27 @@ index-start b at h p n t e =
     below (inl e) = omega arith
     below (inr e) = omega arith
 
-pub index-may : (format : ℕ) (m : Memory) (ts : List Tile) (at : ℕ) → IsIndexPlace at → 0 < index_capacity m at → MayCount format m ts Index at
+pub index-may : (format : ℕ) (m : Memory) (ts : List Tile) (at : ℕ) → IsIndexPlace at → 0 < index_capacity m at
+    → MayCount format m ts Index at
 index-may format m ts at (inl e) =
-    subst (λ (x : ℕ). 0 < index_capacity m x → MayCount format m ts Index x) (sym e) (λ p target l. Counts.named p l)
+    subst (λ (x : ℕ). 0 < index_capacity m x
+    → MayCount format m ts Index x) (sym e) (λ p target l. IsCountedLink.named p l)
 index-may format m ts at (inr e) =
-    subst (λ (x : ℕ). 0 < index_capacity m x → MayCount format m ts Index x) (sym e) (λ p target l. Counts.unique p l)
+    subst (λ (x : ℕ). 0 < index_capacity m x
+    → MayCount format m ts Index x) (sym e) (λ p target l. IsCountedLink.unique p l)
 
 -- ---- what grows
 
-pub grown-none : (format : ℕ) (b : List ℕ) (At : ℕ → Type 0) (es : Blocks) (pending : Option ℕ) (waiting : ℕ) → IsMarkingOf format b None es pending waiting → IsGrown format b At es waiting es pending waiting
-grown-none format b At es pending waiting k = record { marking = k; keeps = λ n o e. e; only = λ n o e. inl e; less = omega arith }
+pub grown-none : (format : ℕ) (b : List ℕ) (At : ℕ → Type 0) (es : Blocks) (pending : Option ℕ) (waiting : ℕ)
+    → IsMarkingOf format b None es pending waiting → MarksLinks format b At es waiting es pending waiting
+grown-none format b At es pending waiting k =
+    record { marking = k; keeps = λ n o e. e; only = λ n o e. inl e; less = omega arith }
 
-pub grown-on : (format : ℕ) (b : List ℕ) (At Be In : ℕ → Type 0) (old : Blocks) (waited : ℕ) (es : Blocks) (pending : Option ℕ) (waiting : ℕ) (fs : Blocks) (p2 : Option ℕ) (w2 : ℕ)
-    → ((p : ℕ) → At p → In p) → ((p : ℕ) → Be p → In p) → IsGrown format b At old waited es pending waiting → IsGrown format b Be es waiting fs p2 w2 → IsGrown format b In old waited fs p2 w2
+pub grown-on : (format : ℕ) (b : List ℕ) (At Be In : ℕ
+    → Type 0) (old : Blocks) (waited : ℕ) (es : Blocks) (pending : Option ℕ) (waiting : ℕ) (fs : Blocks)
+    (p2 : Option ℕ) (w2 : ℕ)
+    → ((p : ℕ) → At p → In p) → ((p : ℕ) → Be p → In p) → MarksLinks format b At old waited es pending waiting
+    → MarksLinks format b Be es waiting fs p2 w2 → MarksLinks format b In old waited fs p2 w2
 grown-on format b At Be In old waited es pending waiting fs p2 w2 f g x y =
     let l = x.less in
     let k = y.less in
@@ -69,8 +81,10 @@ grown-on format b At Be In old waited es pending waiting fs p2 w2 f g x y =
       less = omega arith;
     }
 
-pub grown-in : (format : ℕ) (b : List ℕ) (At In : ℕ → Type 0) (old : Blocks) (waited : ℕ) (es : Blocks) (pending : Option ℕ) (waiting : ℕ)
-    → ((p : ℕ) → At p → In p) → IsGrown format b At old waited es pending waiting → IsGrown format b In old waited es pending waiting
+pub grown-in : (format : ℕ) (b : List ℕ) (At In : ℕ
+    → Type 0) (old : Blocks) (waited : ℕ) (es : Blocks) (pending : Option ℕ) (waiting : ℕ)
+    → ((p : ℕ) → At p → In p) → MarksLinks format b At old waited es pending waiting
+    → MarksLinks format b In old waited es pending waiting
 grown-in format b At In old waited es pending waiting f x = record {
   marking = x.marking;
   keeps = x.keeps;
@@ -79,7 +93,9 @@ grown-in format b At In old waited es pending waiting f x = record {
 }
 
 module _ (format : ℕ) (b : List ℕ) (old : Blocks) (waited : ℕ) (es : Blocks) (pending : Option ℕ) (waiting : ℕ) where
-  pub marked-grown : (role : Role) (at : ℕ) → IsMarked format (bytes_of b) (tiles_in b) None role (owner at at) old waited es pending waiting → IsGrown format b (λ p. p ≡ at) old waited es pending waiting
+  pub marked-grown : (role : Role) (at : ℕ)
+      → MarksLink format (bytes_of b) (tiles_in b) None role (owner at at) old waited es pending waiting
+      → MarksLinks format b (λ p. p ≡ at) old waited es pending waiting
   marked-grown role at d = record {
     marking = d.marking;
     keeps = d.keeps;
@@ -87,33 +103,42 @@ module _ (format : ℕ) (b : List ℕ) (old : Blocks) (waited : ℕ) (es : Block
     less = d.less;
   }
 
-  pub marked-index : (at : ℕ) → IsMarked format (bytes_of b) (tiles_in b) None Index (owner at at) old waited es pending waiting → IsIndexNoted format b at old waited es pending waiting
+  pub marked-index : (at : ℕ) → MarksLink format (bytes_of b) (tiles_in b) None Index (owner at at) old waited es
+      pending waiting → IsIndexNoted format b at old waited es pending waiting
   marked-index at d = record { grown = marked-grown Index at d; noted = λ p. d.noted }
 
-  pub marked-storage : (at : ℕ) → IsMarked format (bytes_of b) (tiles_in b) None Storage (owner at at) old waited es pending waiting → IsStorageNoted format b at old waited es pending waiting
+  pub marked-storage : (at : ℕ) → MarksLink format (bytes_of b) (tiles_in b) None Storage (owner at at) old waited
+      es pending waiting → IsStorageNoted format b at old waited es pending waiting
   marked-storage at d = record { grown = marked-grown Storage at d; noted = λ p. d.noted; paid = λ p. d.paid refl }
 
 -- ---- elements
 
 -- the elements before the i-th are noted
-pub record NotedElements (format : ℕ) (b : List ℕ) (array : ℕ) (old : Blocks) (waited seen i count : ℕ) (es : Blocks) (pending : Option ℕ) (waiting visits : ℕ) : Type 0 where
+pub record NotedElements (format : ℕ) (b : List ℕ) (array : ℕ) (old : Blocks) (waited seen i count : ℕ)
+    (es : Blocks) (pending : Option ℕ) (waiting visits : ℕ) : Type 0 where
   pub done : AreElementsNoted format b array i old waited es pending waiting
   pub below : i ≤ count
   pub more : seen ≤ visits
   pub most : visits ≤ seen + 3 * i
 
-pub elements-start : (format : ℕ) (b : List ℕ) (array count seen : ℕ) (es : Blocks) (pending : Option ℕ) (waiting : ℕ) → IsMarkingOf format b None es pending waiting
+pub elements-start : (format : ℕ) (b : List ℕ) (array count seen : ℕ) (es : Blocks) (pending : Option ℕ)
+    (waiting : ℕ) → IsMarkingOf format b None es pending waiting
     → NotedElements format b array es waiting seen 0 count es pending waiting seen
 elements-start format b array count seen es pending waiting k = record {
-  done = record { grown = grown-none format b (IsElementPlace array 0) es pending waiting k; noted = λ i l. absurd (omega arith) };
+  done = record {
+    grown = grown-none format b (IsElementPlace array 0) es pending waiting k;
+    noted = λ i l. absurd (omega arith);
+  };
   below = omega arith;
   more = omega arith;
   most = omega arith;
 }
 
-pub elements-on : (format : ℕ) (b : List ℕ) (array : ℕ) (old : Blocks) (waited seen i count : ℕ) (es : Blocks) (pending : Option ℕ) (waiting visits : ℕ) (fs : Blocks) (p2 : Option ℕ) (w2 v2 : ℕ)
+pub elements-on : (format : ℕ) (b : List ℕ) (array : ℕ) (old : Blocks) (waited seen i count : ℕ) (es : Blocks)
+    (pending : Option ℕ) (waiting visits : ℕ) (fs : Blocks) (p2 : Option ℕ) (w2 v2 : ℕ)
     → NotedElements format b array old waited seen i count es pending waiting visits → i < count
-    → IsMarked format (bytes_of b) (tiles_in b) None Storage (owner (array + 16 * i) (array + 16 * i)) es waiting fs p2 w2 → Adds 3 visits v2
+    → MarksLink format (bytes_of b) (tiles_in b) None Storage (owner (array + 16 * i) (array + 16 * i)) es waiting
+    fs p2 w2 → AddsVisits 3 visits v2
     → NotedElements format b array old waited seen (i + 1) count fs p2 w2 v2
 elements-on format b array old waited seen i count es pending waiting visits fs p2 w2 v2 k below d v =
     let x = k.more in
@@ -122,10 +147,13 @@ elements-on format b array old waited seen i count es pending waiting visits fs 
     let hi = v.1 in
     record {
       done = record {
-        grown = grown-on format b (IsElementPlace array i) (λ p. p ≡ array + 16 * i) (IsElementPlace array (i + 1)) old waited es pending waiting fs p2 w2
-            (λ p h. let l = h.1 in (h.0, omega arith, h.2)) (λ p h. (i, omega arith, h)) k.done.grown (marked-grown format b es waiting fs p2 w2 Storage (array + 16 * i) d);
+        grown = grown-on format b (IsElementPlace array i) (λ p.
+            p ≡ array + 16 * i) (IsElementPlace array (i + 1)) old waited es pending waiting fs p2 w2
+            (λ p h. let l = h.1 in (h.0, omega arith, h.2)) (λ p h.
+            (i, omega arith, h)) k.done.grown (marked-grown format b es waiting fs p2 w2 Storage (array + 16 * i) d);
         noted = λ j l. elim (cases_eq j i) [
-          | inl e ↦ subst (λ x. IsNoted (bytes_of b) (tiles_in b) fs Storage (array + 16 * x) (array + 16 * x)) (sym e) d.noted
+          | inl e ↦ subst (λ x. IsMarkedLink (bytes_of b) (tiles_in b) fs Storage (array + 16 * x) (array + 16 * x))
+              (sym e) d.noted
           | inr f ↦ (λ n h. d.keeps n _ (k.done.noted j (omega (arith, l, f)) n h))
         ];
       };

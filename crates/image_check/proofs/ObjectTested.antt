@@ -7,7 +7,8 @@ use Rattle.seg_types.specs.declared.kinds.Kind.{Kind}
 use Rattle.seg_types.specs.declared.kinds.Kind.TheVariants.{Scalar, String, Vector, Map, Strings}
 use Rattle.seg_types.specs.Kinds.{size_of}
 use Rattle.seg_index.specs.Keys.{count_at}
-use Rattle.image_check.specs.ObjectTests.{are_spellings, has_name, has_padding, is_indexed, is_value_in, kind_at, value_offset}
+use Rattle.image_check.specs.ObjectTests.{are_spellings, has_name, has_padding, is_indexed, is_value_in, kind_at}
+use Rattle.image_check.specs.ObjectTests.{value_offset}
 use Rattle.image_check.specs.ObjectPasses.{has_value, is_object_at, is_spelled, is_value_room}
 
 -- ---- a value
@@ -21,8 +22,10 @@ and-true true = refl
 and-true false = refl
 
 -- a value is right where its count and its place are, and it is spelled
-pub value-parts : (m : Memory) (k : Kind) (count at end : ℕ) → is_value_in m k count at end ≡ (is_value_room k count at end && is_spelled m k count at)
-value-parts m (Scalar k) count at end = if-and (nat_le 1 count && nat_le count 1048576 && nat_le (at + size_of k * count) end) (are_spellings m k at count)
+pub value-parts : (m : Memory) (k : Kind) (count at end : ℕ)
+    → is_value_in m k count at end ≡ (is_value_room k count at end && is_spelled m k count at)
+value-parts m (Scalar k) count at end =
+    if-and (nat_le 1 count && nat_le count 1048576 && nat_le (at + size_of k * count) end) (are_spellings m k at count)
 value-parts m String count at end = sym (and-true ((count == 1) && nat_le (at + 24) end))
 value-parts m (Vector k) count at end = sym (and-true ((count == 1) && nat_le (at + 24) end))
 value-parts m (Map k v) count at end = sym (and-true ((count == 1) && nat_le (at + 24) end))
@@ -39,7 +42,8 @@ container-room count start end h =
 
 pub room-said : (k : Kind) (count start end : ℕ) → is_value_room k count start end ≡ true → HasRoom start end
 room-said (Scalar k) count start end h =
-    let room = leb-true (start + size_of k * count) end (and_parts (nat_le 1 count && nat_le count 1048576) (nat_le (start + size_of k * count) end) h).1 in
+    let room = leb-true (start + size_of k * count) end
+    (and_parts (nat_le 1 count && nat_le count 1048576) (nat_le (start + size_of k * count) end) h).1 in
     record { behind = omega arith }
 room-said String count start end h = container-room count start end h
 room-said (Vector k) count start end h = container-room count start end h
@@ -47,17 +51,20 @@ room-said (Map k v) count start end h = container-room count start end h
 room-said Strings count start end h = container-room count start end h
 
 -- and has it before a later end
-room-later : (count start end later : ℕ) → ((count == 1) && nat_le (start + 24) end) ≡ true → end ≤ later → ((count == 1) && nat_le (start + 24) later) ≡ true
+room-later : (count start end later : ℕ) → ((count == 1) && nat_le (start + 24) end) ≡ true → end ≤ later
+    → ((count == 1) && nat_le (start + 24) later) ≡ true
 room-later count start end later h l =
     let p = and_parts (count == 1) (nat_le (start + 24) end) h in
     let room = leb-true (start + 24) end p.1 in
     and_from (count == 1) (nat_le (start + 24) later) p.0 (le-leb (start + 24) later (omega arith))
 
-pub room-wider : (k : Kind) (count start end later : ℕ) → is_value_room k count start end ≡ true → end ≤ later → is_value_room k count start later ≡ true
+pub room-wider : (k : Kind) (count start end later : ℕ) → is_value_room k count start end ≡ true → end ≤ later
+    → is_value_room k count start later ≡ true
 room-wider (Scalar k) count start end later h l =
     let p = and_parts (nat_le 1 count && nat_le count 1048576) (nat_le (start + size_of k * count) end) h in
     let room = leb-true (start + size_of k * count) end p.1 in
-    and_from (nat_le 1 count && nat_le count 1048576) (nat_le (start + size_of k * count) later) p.0 (le-leb (start + size_of k * count) later (omega arith))
+    and_from (nat_le 1 count && nat_le count 1048576) (nat_le (start + size_of k * count) later) p.0
+    (le-leb (start + size_of k * count) later (omega arith))
 room-wider String count start end later h l = room-later count start end later h l
 room-wider (Vector k) count start end later h l = room-later count start end later h l
 room-wider (Map k v) count start end later h l = room-later count start end later h l
@@ -74,11 +81,16 @@ four-value true v p i e = ap (λ x. x && p && i) (sym e)
 four-value false v p i e = refl
 
 module _ (format : ℕ) (m : Memory) (at end : ℕ) where
-  module _ (k : Kind) (is : Some k ≡ kind_at format m at) (count start : ℕ) (c : count ≡ count_at m at) (s : start ≡ value_offset m at) where
+  module _ (k : Kind) (is : Some k ≡ kind_at format m at) (count start : ℕ) (c : count ≡ count_at m at) (s : start
+      ≡ value_offset m at) where
     value-is : has_value format m at end ≡ (is_value_room k count start end && is_spelled m k count start)
     value-is =
-        ap (λ (o : Option Kind). elim o [ None ↦ false | Some k ↦ is_value_in m k (count_at m at) (value_offset m at) end ]) (sym is)
+        ap (λ (o : Option Kind). elim o [
+          | None ↦ false
+          | Some k ↦ is_value_in m k (count_at m at) (value_offset m at) end
+        ]) (sym is)
         ∙ (λ j. is_value_in m k (sym c j) (sym s j) end) ∙ value-parts m k count start end
 
     pub no-room : is_value_room k count start end ≡ false → false ≡ is_object_at format m at end
-    no-room e = four-value (has_name format m at) (has_value format m at end) (has_padding m at) (is_indexed m at) (value-is ∙ ap (λ b. b && is_spelled m k count start) e)
+    no-room e = four-value (has_name format m at) (has_value format m at end) (has_padding m at) (is_indexed m at)
+        (value-is ∙ ap (λ b. b && is_spelled m k count start) e)

@@ -10,7 +10,8 @@ use Rattle.seg_types.specs.declared.kinds.Kind.{Kind}
 use Rattle.seg_types.specs.declared.kinds.Class.{Class}
 use Rattle.seg_types.specs.declared.kinds.Class.TheVariants.{Anonymous, Named, Unique}
 use Rattle.seg_types.specs.Kinds.{code_of, class_code, kind_of_code, is_kind_of}
-use Rattle.segment_manager.specs.Directory.{Object, kind_of, count_of, padded, is_good_value, has_good_name, is_object, object_len}
+use Rattle.segment_manager.specs.Directory.{Object, kind_of, count_of, padded, is_good_value, has_good_name, is_object}
+use Rattle.segment_manager.specs.Directory.{object_len}
 use Rattle.segment_manager.specs.Denotes.{IsObjectAt}
 use Rattle.segment_manager.proofs.Laws.{code-read, entry-name_len, good_name-short, object-entry}
 use Rattle.image_check.specs.ObjectTests.{kind_at, value_offset}
@@ -38,8 +39,10 @@ pub record IsGoodObject (format : ℕ) (o : Object) : Type 0 where
 -- the test of an object says so
 pub is_object-parts : (format : ℕ) (o : Object) → IsTrue (is_object format o) → IsGoodObject format o
 is_object-parts format o h =
-    let three = and_parts (has_good_name format o && is_kind_of format (kind_of o.value) && is_good_value o.value) (serves o.extent ObjectRole (object_len o.name o.value)) h in
-    let two = and_parts (has_good_name format o && is_kind_of format (kind_of o.value)) (is_good_value o.value) three.0 in
+    let three = and_parts (has_good_name format o && is_kind_of format (kind_of o.value)
+    && is_good_value o.value) (serves o.extent ObjectRole (object_len o.name o.value)) h in
+    let two = and_parts (has_good_name format o && is_kind_of format (kind_of o.value)) (is_good_value o.value)
+    three.0 in
     let one = and_parts (has_good_name format o) (is_kind_of format (kind_of o.value)) two.0 in
     record { name = one.0; kind = one.1; value = two.1; serves = three.1 }
 
@@ -55,13 +58,16 @@ pub record AreWords (format : ℕ) (m : Memory) (o : Object) : Type 0 where
   pub name : name_at m (handle o.extent) ≡ o.name
   pub value_place : value_offset m (handle o.extent) ≡ handle o.extent + 16 + padded (length o.name)
 
-kind-said : (format : ℕ) (m : Memory) (at : ℕ) (k : Kind) → code_at m at ≡ code_of k → IsTrue (is_kind_of format k) → kind_at format m at ≡ Some k
+kind-said : (format : ℕ) (m : Memory) (at : ℕ) (k : Kind) → code_at m at ≡ code_of k → IsTrue (is_kind_of format k)
+    → kind_at format m at ≡ Some k
 kind-said format m at k e h =
-    ap (λ (o : Option Kind). elim o [ None ↦ None | Some k ↦ if is_kind_of format k then Some k else None ]) (ap kind_of_code e ∙ code-read k)
+    ap (λ (o : Option Kind). elim o [ None ↦ None | Some k ↦ if is_kind_of format k then Some k else None ])
+    (ap kind_of_code e ∙ code-read k)
     ∙ ap (λ b. if b then Some k else None) h
 
 -- an object that stands there has them
-pub object-words : (format : ℕ) (m : Memory) (o : Object) → AreSmall m → IsGoodObject format o → IsObjectAt m o → AreWords format m o
+pub object-words : (format : ℕ) (m : Memory) (o : Object) → AreSmall m → IsGoodObject format o → IsObjectAt m o
+    → AreWords format m o
 object-words format m o s g a =
     let at : ℕ = handle o.extent in
     let short = good_name-short format o g.name in

@@ -21,4 +21,5 @@ rises_from-Rising n (o ∷ os) h =
 pub Rising-rises_from : (n : ℕ) (os : List Object) → Rising n (map extent_of os) → IsTrue (rises_from n os)
 Rising-rises_from n [] h = refl
 Rising-rises_from n (o ∷ os) h =
-    and_from (nat_le n o.extent.offset) (rises_from (o.extent.offset + 1) os) (le-leb n o.extent.offset h.0) (Rising-rises_from (o.extent.offset + 1) os h.1)
+    and_from (nat_le n o.extent.offset) (rises_from (o.extent.offset + 1) os) (le-leb n o.extent.offset h.0)
+    (Rising-rises_from (o.extent.offset + 1) os h.1)

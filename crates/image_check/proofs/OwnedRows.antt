@@ -1,5 +1,6 @@
 -- What the rows of the map say of their owners is what the tiles say of theirs.
-use Rattle.std.proofs.Common.{◌≡◌, refl, ap, ◌∙◌, ℕ, ◌+◌, ◌-◌, ◌*◌, ◌/◌, ◌≤◌, Bool, true, false, not, ◌||◌, List, [], ◌∷◌, length, arith, cond}
+use Rattle.std.proofs.Common.{◌≡◌, refl, ap, ◌∙◌, ℕ, ◌+◌, ◌-◌, ◌*◌, ◌/◌, ◌≤◌, Bool, true, false, not, ◌||◌, List, []}
+use Rattle.std.proofs.Common.{◌∷◌, length, arith, cond}
 use Rattle.std.specs.Prelude.{Option, Some, None, filter_map, is_some}
 use Rattle.std.specs.List.{cons_option}
 use Rattle.raw_region.specs.Memory.{bytes_of}
@@ -69,13 +70,15 @@ rows-weigh b es h f =
 
 -- there is a row for each tile in use
 used-count : (o : Option Role) (offset len : ℕ) (es : Blocks) (rs : List Role) → length es ≡ length rs
-    → length (cons_option (elim o [ None ↦ None | Some role ↦ Some (offset + 16, new_block role len) ]) es) ≡ length (cons_option o rs)
+    → length (cons_option (elim o [ None ↦ None | Some role ↦ Some (offset + 16, new_block role len) ]) es)
+    ≡ length (cons_option o rs)
 used-count None offset len es rs e = e
 used-count (Some role) offset len es rs e = omega arith
 
 pub entries-count : (ts : List Tile) → length (entries_of ts) ≡ length (filter_map (λ (t : Tile). t.use_of) ts)
 entries-count [] = refl
-entries-count (t ∷ ts) = used-count t.use_of t.offset t.len (entries_of ts) (filter_map (λ (u : Tile). u.use_of) ts) (entries-count ts)
+entries-count (t ∷ ts) = used-count t.use_of t.offset t.len (entries_of ts) (filter_map (λ (u : Tile). u.use_of) ts)
+    (entries-count ts)
 
 pub rows-count : (b : List ℕ) (es : Blocks) → frames es ≡ frames (entries_of (tiles_in b)) → length es ≡ blocks_in b
 rows-count b es f = few-rows b es f ∙ entries-count (tiles_in b)

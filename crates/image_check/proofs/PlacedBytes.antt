@@ -1,23 +1,25 @@
 -- An image that lies in memory: why no segment is opened of it.
-use Rattle.std.proofs.Common.{◌≡◌, refl, sym, ap, subst, ◌∙◌, ℕ, ◌+◌, ◌<◌, ◌≤◌, Bool, true, false, ◌&&◌, List, [], ◌++◌, length, take, drop, arith, Some, Ok, Err}
+use Rattle.std.proofs.Common.{◌≡◌, refl, sym, ap, subst, ◌∙◌, ℕ, ◌+◌, ◌<◌, ◌≤◌, Bool, true, false, ◌&&◌, List, [], ◌++◌}
+use Rattle.std.proofs.Common.{length, take, drop, arith, Some, Ok, Err}
 use Rattle.std.specs.Prelude.{IsTrue, if◌then◌else◌}
 use Rattle.std.proofs.lemmas.Bool.{both_ways, cond-true, eqb-true}
 use Rattle.std.proofs.lemmas.List.{append-nil}
 use Rattle.raw_region.specs.Format.{current}
-use Rattle.raw_region.specs.Memory.{Cut, SamePlace, whole}
+use Rattle.raw_region.specs.Memory.{WindowState, SameSurroundings, whole}
 use Rattle.block_tags.specs.Format.{is_legal_size}
 use Rattle.segment_manager.specs.declared.modes.Mode.{Mode}
 use Rattle.segment_manager.specs.declared.modes.Mode.TheVariants.{ReadOnly}
-use Rattle.segment_manager.specs.State.{State}
+use Rattle.segment_manager.specs.State.{SegmentState}
 use Rattle.image_check.specs.declared.classes.ImageClass.{ImageClass}
 use Rattle.image_check.specs.declared.classes.ImageClass.TheVariants.{Truncated, BadMagic, UnsupportedVersion, BadSize}
 use Rattle.image_check.specs.declared.errors.OpenError.{OpenError}
 use Rattle.image_check.specs.declared.errors.OpenError.TheVariants.{Image}
 use Rattle.image_check.specs.declared.errors.OpenRefused.{OpenRefused}
-use Rattle.image_check.specs.declared.versions.Versions.{Versions}
-use Rattle.image_check.specs.declared.versions.Versions.TheVariants.{Current, All}
+use Rattle.image_check.specs.declared.versions.AcceptedVersions.{AcceptedVersions}
+use Rattle.image_check.specs.declared.versions.AcceptedVersions.TheVariants.{Current, All}
 use Rattle.image_check.specs.declared.errors.ExamineError.{ExamineError}
-use Rattle.image_check.specs.declared.errors.ExamineError.TheVariants.{Image as Judged, RegionTooSmall, OutOfMemory, ReadFault}
+use Rattle.image_check.specs.declared.errors.ExamineError.TheVariants.{Image as Judged, RegionTooSmall, OutOfMemory}
+use Rattle.image_check.specs.declared.errors.ExamineError.TheVariants.{ReadFault}
 use Rattle.image_check.specs.declared.errors.ExamineRefused.{ExamineRefused}
 use Rattle.image_check.specs.EarlyTests.{has_front, has_magic, has_version, size_word}
 use Rattle.image_check.specs.Classes.{class_of, holds}
@@ -27,7 +29,7 @@ use Rattle.image_check.specs.Examining.{ExaminesBytes}
 use Rattle.image_check.specs.Formats.{format_in, version_word}
 use Rattle.image_check.specs.HeaderPlaces.{IsFrontPlace}
 use Rattle.image_check.specs.Opening.{IsHandedBack, IsImage, IsTooSmallFor, has_early_class}
-use Rattle.image_check.specs.OpeningAny.{IsRenewed}
+use Rattle.image_check.specs.OpeningAny.{UpgradesFormat}
 use Rattle.image_check.specs.OpeningBytes.{IsMisfit, IsNotOpenedOf, IsNotPlaced, IsWhyNotOf, OpensBytes, as_given}
 use Rattle.image_check.specs.Passes.{IsRefusalFor, has_block}
 use Rattle.image_check.specs.Reading.{HasFront, IsImageRead, front_of}
@@ -44,15 +46,18 @@ use Rattle.image_check.proofs.ToldPlaces.{front-shown}
 -- ---- why it is not put there
 
 -- what a decided class is of bytes behind which nothing follows
-whole-class : (format : ℕ) (b : List ℕ) (c : ImageClass) → class_of format (b ++ []) ≡ Some c → class_of format b ≡ Some c
+whole-class : (format : ℕ) (b : List ℕ) (c : ImageClass) → class_of format (b ++ []) ≡ Some c
+    → class_of format b ≡ Some c
 whole-class format b c e = subst (λ (x : List ℕ). class_of format x ≡ Some c) (append-nil b) e
 
 -- first words that say no size are too small for none
-wrong-room : (format : ℕ) (b : List ℕ) (base capacity : ℕ) (c : ImageClass) → front_of format b ≡ Err c → IsTooSmallFor format (as_given b) base capacity → ⊥
+wrong-room : (format : ℕ) (b : List ℕ) (base capacity : ℕ) (c : ImageClass) → front_of format b ≡ Err c
+    → IsTooSmallFor format (as_given b) base capacity → ⊥
 wrong-room format b base capacity c e t = both_ways (has_front format b) (front-wrong format b c e) t.front
 
 -- wrong first words
-pub misfit-front : (format : ℕ) (b : List ℕ) (base capacity : ℕ) (c : ImageClass) → front_of format b ≡ Err c → 144 ≤ length b → IsMisfit format b base capacity (Image c)
+pub misfit-front : (format : ℕ) (b : List ℕ) (base capacity : ℕ) (c : ImageClass) → front_of format b ≡ Err c
+    → 144 ≤ length b → IsMisfit format b base capacity (Image c)
 misfit-front format b base capacity c e l = record {
   why = whole-class format b c (decided-some format b c (front-decided format b c l e) [] refl);
   too_small = λ t. absurd (wrong-room format b base capacity c e t);
@@ -60,34 +65,40 @@ misfit-front format b base capacity c e l = record {
 }
 
 -- first words that say a size
-right-by : (m v l : Bool) (n size : ℕ) → (if m then (if v then (if l then Ok n else Err BadSize) else Err UnsupportedVersion) else Err BadMagic) ≡ Ok size
+right-by : (m v l : Bool) (n size : ℕ)
+    → (if m then (if v then (if l then Ok n else Err BadSize) else Err UnsupportedVersion) else Err BadMagic) ≡ Ok size
     → ((m && v && l) ≡ true) × (n ≡ size)
 right-by true true true n size e = (refl, cc)
 right-by true true false n size e = absurd (cc)
 right-by true false l n size e = absurd (cc)
 right-by false v l n size e = absurd (cc)
 
-pub says-right : (format : ℕ) (b : List ℕ) (size : ℕ) → 24 ≤ length b → front_of format b ≡ Ok size → IsRight format b size
+pub says-right : (format : ℕ) (b : List ℕ) (size : ℕ) → 24 ≤ length b → front_of format b ≡ Ok size
+    → IsRight format b size
 says-right format b size l e =
     let p = right-by (has_magic b) (has_version format b) (is_legal_size (size_word b)) (size_word b) size e in
     has_front-IsRight format b size l p.0 p.1
 
 -- room for it
-right-room : (format : ℕ) (b : List ℕ) (base capacity size : ℕ) → IsRight format b size → base + size ≤ capacity → IsTooSmallFor format (as_given b) base capacity → ⊥
+right-room : (format : ℕ) (b : List ℕ) (base capacity size : ℕ) → IsRight format b size → base + size ≤ capacity
+    → IsTooSmallFor format (as_given b) base capacity → ⊥
 right-room format b base capacity size r room t = let says = r.says in let small = t.small in omega arith
 
 -- and fewer bytes
-pub misfit-cut : (format : ℕ) (b : List ℕ) (base capacity size : ℕ) → IsRight format b size → base + size ≤ capacity → length b < size → IsMisfit format b base capacity (Image Truncated)
+pub misfit-cut : (format : ℕ) (b : List ℕ) (base capacity size : ℕ) → IsRight format b size → base + size ≤ capacity
+    → length b < size → IsMisfit format b base capacity (Image Truncated)
 misfit-cut format b base capacity size r room l =
     let says = r.says in
     record {
-      why = first_class (holds format b) (cut-Truncated format b r.magic r.version (ap is_legal_size says ∙ r.legal) (omega arith));
+      why = first_class (holds format b) (cut-Truncated format b r.magic r.version (ap is_legal_size says
+          ∙ r.legal) (omega arith));
       too_small = λ t. absurd (right-room format b base capacity size r room t);
       early = refl;
     }
 
 -- or more
-pub misfit-more : (format : ℕ) (b : List ℕ) (base capacity size : ℕ) → IsRight format b size → base + size ≤ capacity → size < length b → IsMisfit format b base capacity (Image BadSize)
+pub misfit-more : (format : ℕ) (b : List ℕ) (base capacity size : ℕ) → IsRight format b size
+    → base + size ≤ capacity → size < length b → IsMisfit format b base capacity (Image BadSize)
 misfit-more format b base capacity size r room l = record {
   why = whole-class format b BadSize (decided-some format b BadSize (more-decided format b size r l) [] refl);
   too_small = λ t. absurd (right-room format b base capacity size r room t);
@@ -95,15 +106,18 @@ misfit-more format b base capacity size r room l = record {
 }
 
 -- the place that shows it
-pub front-place : (format : ℕ) (b : List ℕ) (c : ImageClass) (at : ℕ) → 24 ≤ length b → IsFrontPlace b c at → Shows format b c at
-front-place format b c at l p = subst (λ (x : List ℕ). Shows format x c at) (append-nil b) (front-shown format b [] l c at p)
+pub front-place : (format : ℕ) (b : List ℕ) (c : ImageClass) (at : ℕ) → 24 ≤ length b → IsFrontPlace b c at
+    → Shows format b c at
+front-place format b c at l p =
+    subst (λ (x : List ℕ). Shows format x c at) (append-nil b) (front-shown format b [] l c at p)
 
 pub more-place : (format : ℕ) (b : List ℕ) (size : ℕ) → IsRight format b size → Shows format b BadSize size
 more-place format b size r =
     sym r.says ∙ sym (cond-true (is_legal_size (size_word b)) (size_word b) 16 (ap is_legal_size r.says ∙ r.legal))
 
 -- the region comes back as it was
-pub back-as-was : (format : ℕ) (b region : List ℕ) (base : ℕ) (back : List ℕ) → back ≡ region → IsHandedBack format (as_given b) region base back
+pub back-as-was : (format : ℕ) (b region : List ℕ) (base : ℕ) (back : List ℕ) → back ≡ region
+    → IsHandedBack format (as_given b) region base back
 back-as-was format b region base back e = record {
   capacity = ap length e;
   before = ap (take base) e;
@@ -111,22 +125,29 @@ back-as-was format b region base back e = record {
   untouched = λ none. e;
 }
 
-pub not-placed : (format : ℕ) (b region : List ℕ) (base : ℕ) (mode : Mode) (refused : OpenRefused) → IsNotPlaced format b region base refused → OpensBytes format b region base mode (Err refused)
+pub not-placed : (format : ℕ) (b region : List ℕ) (base : ℕ) (mode : Mode) (refused : OpenRefused)
+    → IsNotPlaced format b region base refused → OpensBytes format b region base mode (Err refused)
 not-placed format b region base mode refused n = record {
-  answers = record { why = n.misfit.why; handed_back = back-as-was format b region base refused.region n.back; unwritten = λ other. n.back };
+  answers = record {
+    why = n.misfit.why;
+    handed_back = back-as-was format b region base refused.region n.back;
+    unwritten = λ other. n.back;
+  };
   too_small = n.misfit.too_small;
 }
 
 -- ---- the format that it says
 
-format_in-few : (versions : Versions) (b : List ℕ) → format_in versions b ≤ 2
+format_in-few : (versions : AcceptedVersions) (b : List ℕ) → format_in versions b ≤ 2
 unfolding current
 format_in-few Current b = omega arith
 format_in-few All b = format_of-few b
 
-module _ (versions : Versions) (b region : List ℕ) (base : ℕ) (w : Cut) (h : IsImageRead (format_in versions b) (as_given b) region base w) (v : ℕ) (said : v ≡ version_word w.bytes) where
+module _ (versions : AcceptedVersions) (b region : List ℕ) (base : ℕ) (w : WindowState)
+    (h : IsImageRead (format_in versions b) (as_given b) region base w) (v : ℕ) (said : v ≡ version_word w.bytes) where
   pub said-format : v ≡ format_in versions b
-  said-format = said ∙ eqb-true (version_word w.bytes) (format_in versions b) (HasFront-IsRight (format_in versions b) w h.front).version
+  said-format = said ∙ eqb-true (version_word w.bytes) (format_in versions b)
+      (HasFront-IsRight (format_in versions b) w h.front).version
 
   pub said-few : v ≤ 2
   said-few = let same = said-format in let few = format_in-few versions b in omega arith
@@ -137,8 +158,10 @@ module _ (versions : Versions) (b region : List ℕ) (base : ℕ) (w : Cut) (h :
 -- ---- why no segment is opened
 
 -- the check refused it
-module _ (format : ℕ) (b region : List ℕ) (base : ℕ) (w : Cut) (h : IsImageRead format (as_given b) region base w) where
-  why-not-of : (why : ExamineError) → IsWhyRefused format w.bytes why → IsWhyNotOf format b base (length region) (error_for why)
+module _ (format : ℕ) (b region : List ℕ) (base : ℕ) (w : WindowState)
+    (h : IsImageRead format (as_given b) region base w) where
+  why-not-of : (why : ExamineError) → IsWhyRefused format w.bytes why
+      → IsWhyNotOf format b base (length region) (error_for why)
   why-not-of RegionTooSmall x = absurd x
   why-not-of ReadFault x = absurd x
   why-not-of (Judged v) x = subst (λ (y : List ℕ). class_of format y ≡ Some v.class) h.bytes x.0
@@ -154,13 +177,15 @@ module _ (format : ℕ) (b region : List ℕ) (base : ℕ) (w : Cut) (h : IsImag
   as-long : length b ≡ size_word b
   as-long = sym (ap length h.bytes) ∙ sym h.front.says ∙ ap size_word h.bytes
 
-  pub opened-bytes : (mode : Mode) (s : State) → format ≡ current → IsImage format w.bytes → SamePlace w s.cut
-      → IsRenewed format w.bytes s.cut.bytes → s.mode ≡ mode → OpensBytes format b region base mode (Ok s)
+  pub opened-bytes : (mode : Mode) (s : SegmentState) → format ≡ current → IsImage format w.bytes
+      → SameSurroundings w s.cut
+      → UpgradesFormat format w.bytes s.cut.bytes → s.mode ≡ mode → OpensBytes format b region base mode (Ok s)
   opened-bytes mode s now d place r f =
       let o = opened format (as_given b) region base w h mode s now d place r f in
       record { answers = o.answers; too_small = o.too_small }
 
-  pub refused-bytes : (mode : Mode) (why : ExamineError) (cause : OpenError) (back : List ℕ) → IsWhyRefused format w.bytes why → cause ≡ error_for why → back ≡ whole w
+  pub refused-bytes : (mode : Mode) (why : ExamineError) (cause : OpenError) (back : List ℕ)
+      → IsWhyRefused format w.bytes why → cause ≡ error_for why → back ≡ whole w
       → OpensBytes format b region base mode (Err (record { region = back; cause = cause }))
   refused-bytes mode why cause back x e f = record {
     answers = record {
@@ -176,13 +201,21 @@ module _ (format : ℕ) (b region : List ℕ) (base : ℕ) (w : Cut) (h : IsImag
       → ExaminesBytes format b region base (Err (record { region = back; cause = why }))
   not-examined-bytes why back x f =
       let opens = refused-bytes ReadOnly why (error_for why) back x refl f in
-      record { answers = opens.answers; too_small = opens.too_small; shown = shown-why format (as_given b) region base w h why x }
+      record {
+        answers = opens.answers;
+        too_small = opens.too_small;
+        shown = shown-why format (as_given b) region base w h why x;
+      }
 
-  pub examined-bytes : (back : List ℕ) → IsImage format w.bytes → back ≡ whole w → ExaminesBytes format b region base (Ok back)
+  pub examined-bytes : (back : List ℕ) → IsImage format w.bytes → back ≡ whole w
+      → ExaminesBytes format b region base (Ok back)
   examined-bytes back d f =
-      let v = verified format (as_given b) region base w h back d f in record { answers = v.answers; too_small = v.too_small; shown = tt }
+      let v = verified format (as_given b) region base w h back d f
+      in record { answers = v.answers; too_small = v.too_small; shown = tt }
 
-pub unplaced-bytes : (format : ℕ) (b region : List ℕ) (base : ℕ) (refused : ExamineRefused) → IsNotPlaced format b region base (opened_as refused)
+pub unplaced-bytes : (format : ℕ) (b region : List ℕ) (base : ℕ) (refused : ExamineRefused)
+    → IsNotPlaced format b region base (opened_as refused)
     → IsShown format b refused.cause → ExaminesBytes format b region base (Err refused)
 unplaced-bytes format b region base refused n s =
-    let opens = not-placed format b region base ReadOnly (opened_as refused) n in record { answers = opens.answers; too_small = opens.too_small; shown = s }
+    let opens = not-placed format b region base ReadOnly (opened_as refused) n
+    in record { answers = opens.answers; too_small = opens.too_small; shown = s }

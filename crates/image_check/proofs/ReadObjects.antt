@@ -1,6 +1,7 @@
 -- The objects and indexes that are read off clean bytes pass their tests, their fields are those that count, and no
 -- block is named twice.
-use Rattle.std.proofs.Common.{◌≡◌, refl, sym, ap, subst, ◌∙◌, ℕ, ◌-◌, Bool, true, false, ◌&&◌, ◌==◌, List, [], ◌∷◌, ◌++◌, length, map}
+use Rattle.std.proofs.Common.{◌≡◌, refl, sym, ap, subst, ◌∙◌, ℕ, ◌-◌, Bool, true, false, ◌&&◌, ◌==◌, List, [], ◌∷◌}
+use Rattle.std.proofs.Common.{◌++◌, length, map}
 use Rattle.std.specs.Prelude.{IsTrue, Option, Some, None, nat_lt, flat_map, filter, option_map, is_some, if◌then◌else◌}
 use Rattle.std.specs.List.{list_all}
 use Rattle.std.specs.Cmp.Lexicographic.{slice_cmp}
@@ -13,20 +14,23 @@ use Rattle.block_tags.specs.declared.tile.Role.TheVariants.{Object as ObjectRole
 use Rattle.block_tags.specs.declared.tile.Tile.{Tile}
 use Rattle.best_fit.specs.Extents.{Extent, handle}
 use Rattle.best_fit.specs.Heap.{as_extent}
-use Rattle.best_fit.specs.Table.{Table}
+use Rattle.best_fit.specs.Table.{BackingArray}
 use Rattle.best_fit.proofs.Laws.{Row, extents_of as used}
 use Rattle.seg_types.specs.declared.kinds.Kind.{Kind}
 use Rattle.seg_types.specs.declared.kinds.Class.{Class}
 use Rattle.seg_types.specs.declared.kinds.Class.TheVariants.{Named, Unique}
 use Rattle.seg_types.specs.Kinds.{class_code}
-use Rattle.segment_manager.specs.Directory.{Object, kind_of, extents_of, table_extents, is_class, rises_from, by_name, by_kind}
+use Rattle.segment_manager.specs.Directory.{Object, kind_of, extents_of, table_extents, is_class, rises_from, by_name}
+use Rattle.segment_manager.specs.Directory.{by_kind}
 use Rattle.segment_manager.proofs.Laws.{Rising, by_kind-strict, by_name-strict}
 use Rattle.image_check.specs.EarlyTests.{is_among}
-use Rattle.image_check.specs.ObjectTests.{is_use, tile_of, payload, targets, has_index, are_distinct, object_tiles, value_offset, kind_at, is_object_tile, rise_by}
+use Rattle.image_check.specs.ObjectTests.{is_use, tile_of, payload, targets, has_index, are_distinct, object_tiles}
+use Rattle.image_check.specs.ObjectTests.{value_offset, kind_at, is_object_tile, rise_by}
 use Rattle.image_check.specs.Fields.{counted_fields, needs_owner, values}
 use Rattle.image_check.proofs.Bytes.{AreSmall}
 use Rattle.image_check.proofs.Order.{extent_of, Rising-rises_from}
-use Rattle.image_check.proofs.Members.{Mem, mem_all, list_all_mem, is_among-Mem, mem_parts, mem_map, mem_of_map, mem_filter, mem_filter_map, mem_of_filter_map}
+use Rattle.image_check.proofs.Members.{Mem, mem_all, list_all_mem, is_among-Mem, mem_parts, mem_map, mem_of_map}
+use Rattle.image_check.proofs.Members.{mem_filter, mem_filter_map, mem_of_filter_map}
 use Rattle.image_check.proofs.Standing.{rising-filter}
 use Rattle.image_check.proofs.ReadOff.{table_at, object_from, object_block}
 use Rattle.image_check.proofs.Reached.{good_for-IsGood}
@@ -38,7 +42,7 @@ use Rattle.image_check.proofs.Claims.{index-same, storage-same, element-same}
 use Rattle.image_check.proofs.TreeClaims.{some-tile}
 use Rattle.image_check.proofs.Counted.{place_of, IsAmong, IsClaimed, claimed-counted}
 use Rattle.image_check.proofs.FieldPlaces.{ArePlaced}
-use Rattle.image_check.proofs.Apart.{extents-once}
+use Rattle.image_check.proofs.DisjointBlocks.{extents-once}
 use Rattle.image_check.proofs.Said.{IsSaid, tile-said}
 use Rattle.image_check.proofs.Indexed.{IsIndexSaid, index-said, IsListed, listed}
 use Rattle.seg_index.specs.Keys.{code_at, class_at, name_at}
@@ -47,16 +51,20 @@ use Rattle.image_check.proofs.Clean.{IsLateClean}
 
 -- ---- tiles of objects
 
-from-extents : (format : ℕ) (m : Memory) (ts : List Tile) (xs : List Extent) → map extent_of (map (object_from format m ts) xs) ≡ xs
+from-extents : (format : ℕ) (m : Memory) (ts : List Tile) (xs : List Extent)
+    → map extent_of (map (object_from format m ts) xs) ≡ xs
 from-extents format m ts [] = refl
 from-extents format m ts (x ∷ xs) = ap (λ ys. x ∷ ys) (from-extents format m ts xs)
 
 -- an extent whose tile needs no link is an object's
-pub object-tile : (offset len : ℕ) (use_of : Option Role) (red : Bool) (x : Extent) → as_extent (record { offset = offset; len = len; use_of = use_of; red = red }) ≡ Some x
+pub object-tile : (offset len : ℕ) (use_of : Option Role) (red : Bool) (x : Extent)
+    → as_extent (record { offset = offset; len = len; use_of = use_of; red = red }) ≡ Some x
     → needs_owner (record { offset = offset; len = len; use_of = use_of; red = red }) ≡ false
-    → IsTrue (is_use ObjectRole (record { offset = offset; len = len; use_of = use_of; red = red })) × (object_block (record { offset = offset; len = len; use_of = use_of; red = red }) ≡ x)
+    → IsTrue (is_use ObjectRole (record { offset = offset; len = len; use_of = use_of; red = red }))
+    × (object_block (record { offset = offset; len = len; use_of = use_of; red = red }) ≡ x)
 object-tile offset len None red x e n = absurd (cc)
-object-tile offset len (Some ObjectRole) red x e n = (refl, some-extent (record { offset = offset; len = len; role = ObjectRole }) x e)
+object-tile offset len (Some ObjectRole) red x e n =
+    (refl, some-extent (record { offset = offset; len = len; role = ObjectRole }) x e)
   where
     some-extent : (x y : Extent) → Some x ≡ Some y → x ≡ y
     some-extent x y e = cc
@@ -67,7 +75,8 @@ object-tile offset len (Some Node) red x e n = absurd (true≢false n)
 some-same : {A : Type 0} (x y : A) → Some x ≡ Some y → x ≡ y
 some-same x y e = cc
 
-module _ (format : ℕ) (b : List ℕ) (s : AreSmall (bytes_of b)) (fr : IsFramed format b) (c : IsLateClean format (bytes_of b) (tiles_in b)) where
+module _ (format : ℕ) (b : List ℕ) (s : AreSmall (bytes_of b)) (fr : IsFramed format b)
+    (c : IsLateClean format (bytes_of b) (tiles_in b)) where
   abbrev m : Memory
   m = bytes_of b
 
@@ -80,10 +89,10 @@ module _ (format : ℕ) (b : List ℕ) (s : AreSmall (bytes_of b)) (fr : IsFrame
   abbrev os : List Object
   os = map (object_from format m ts) (map object_block (object_tiles ts))
 
-  abbrev named : Table
+  abbrev named : BackingArray
   named = table_at m ts Index 32
 
-  abbrev unique : Table
+  abbrev unique : BackingArray
   unique = table_at m ts Index 56
 
   abbrev less_name : ℕ → ℕ → Bool
@@ -127,24 +136,29 @@ module _ (format : ℕ) (b : List ℕ) (s : AreSmall (bytes_of b)) (fr : IsFrame
       record { tile = j.one; mem = j.mem; is = i.is ∙ ap (object_from format m ts) j.is }
 
   pub of-object : (t : Tile) → Mem t (object_tiles ts) → Mem (object_from format m ts (object_block t)) os
-  of-object t k = mem_map (object_from format m ts) (object_block t) (map object_block (object_tiles ts)) (mem_map object_block t (object_tiles ts) k)
+  of-object t k = mem_map (object_from format m ts) (object_block t) (map object_block (object_tiles ts))
+      (mem_map object_block t (object_tiles ts) k)
 
   said-tile : (t : Tile) → Mem t (object_tiles ts) → IsSaid format m ts (object_from format m ts (object_block t))
-  said-tile t k = tile-said format m ts s t k (list_all_mem (is_object_tile format m) (object_tiles ts) t tests.each k) c.containers
+  said-tile t k = tile-said format m ts s t k
+      (list_all_mem (is_object_tile format m) (object_tiles ts) t tests.each k) c.containers
 
   pub said : (o : Object) → Mem o os → IsSaid format m ts o
   said o k = let w = of-tile o k in subst (IsSaid format m ts) (sym w.is) (said-tile w.tile w.mem)
 
   pub by_offset : IsTrue (rises_from 0 os)
   by_offset =
-      let blocks : map extent_of os ≡ filter is_object_extent (used ts) = from-extents format m ts (map object_block (object_tiles ts)) ∙ object_blocks ts in
-      Rising-rises_from 0 os (subst (Rising 0) (sym blocks) (rising-filter is_object_extent 0 (used ts) (framed-rising format b fr)))
+      let blocks : map extent_of os ≡ filter is_object_extent (used ts) =
+      from-extents format m ts (map object_block (object_tiles ts)) ∙ object_blocks ts in
+      Rising-rises_from 0 os (subst (Rising 0) (sym blocks)
+      (rising-filter is_object_extent 0 (used ts) (framed-rising format b fr)))
 
   -- ---- the indexes
 
   index_parts : IsTrue (has_index m ts 32) × IsTrue (has_index m ts 56)
   index_parts =
-      let two = and_parts (has_index m ts 32 && has_index m ts 56) (are_distinct (targets m 32 ++ targets m 56)) c.indexes in
+      let two = and_parts (has_index m ts 32 && has_index m ts 56) (are_distinct (targets m 32 ++ targets m 56))
+      c.indexes in
       and_parts (has_index m ts 32) (has_index m ts 56) two.0
 
   pub first_index : IsIndexSaid m ts 32
@@ -160,7 +174,8 @@ module _ (format : ℕ) (b : List ℕ) (s : AreSmall (bytes_of b)) (fr : IsFrame
       let k = mem_filter (is_use ObjectRole) w.0 ts g.mem g.use_of in
       (object_from format m ts (object_block w.0), of-object w.0 k, some-same (payload w.0) x (sym g.leads))
 
-  class-of : (q : Class) (n : ℕ) (o : Object) → class_code q ≡ n → class_at m (handle o.extent) ≡ class_code o.class → IsTrue (class_at m (handle o.extent) == n) → IsTrue (is_class q o)
+  class-of : (q : Class) (n : ℕ) (o : Object) → class_code q ≡ n → class_at m (handle o.extent) ≡ class_code o.class
+      → IsTrue (class_at m (handle o.extent) == n) → IsTrue (is_class q o)
   class-of q n o e f h =
       let g = eqb-true (class_at m (handle o.extent)) n h in
       eq-eqb (class_code q) (class_code o.class) (e ∙ sym g ∙ f)
@@ -183,14 +198,16 @@ module _ (format : ℕ) (b : List ℕ) (s : AreSmall (bytes_of b)) (fr : IsFrame
       is_among-Mem (targets m 56) (handle o.extent)
       (sym (cond-true (class_at m (handle o.extent) == 2) (is_among (targets m 56) (handle o.extent)) true test)
       ∙ sym (cond-false (class_at m (handle o.extent) == 1) (is_among (targets m 32) (handle o.extent))
-      (if class_at m (handle o.extent) == 2 then is_among (targets m 56) (handle o.extent) else true) other) ∙ w.indexed)
+      (if class_at m (handle o.extent) == 2 then is_among (targets m 56) (handle o.extent) else true) other)
+      ∙ w.indexed)
 
   pub named_list : IsListed Named by_name os (targets m 32)
   named_list =
       listed Named by_name by_name-strict os (targets m 32) less_name by_offset
       (λ o p k l. λ i. is_lt (slice_cmp nat_cmp ((said o k).name_is i) ((said p l).name_is i)))
       (λ x h. find-object x (first_index.good x h))
-      (λ o k h. class-of Named 1 o refl (said o k).class_is (list_all_mem (λ at. class_at m at == 1) (targets m 32) (handle o.extent) tests.named_class h))
+      (λ o k h. class-of Named 1 o refl (said o k).class_is
+      (list_all_mem (λ at. class_at m at == 1) (targets m 32) (handle o.extent) tests.named_class h))
       among-named tests.names
 
   pub unique_list : IsListed Unique by_kind os (targets m 56)
@@ -198,48 +215,72 @@ module _ (format : ℕ) (b : List ℕ) (s : AreSmall (bytes_of b)) (fr : IsFrame
       listed Unique by_kind by_kind-strict os (targets m 56) less_kind by_offset
       (λ o p k l. λ i. nat_lt ((said o k).code i) ((said p l).code i))
       (λ x h. find-object x (second_index.good x h))
-      (λ o k h. class-of Unique 2 o refl (said o k).class_is (list_all_mem (λ at. class_at m at == 2) (targets m 56) (handle o.extent) tests.unique_class h))
+      (λ o k h. class-of Unique 2 o refl (said o k).class_is
+      (list_all_mem (λ at. class_at m at == 2) (targets m 56) (handle o.extent) tests.unique_class h))
       among-unique tests.codes
 
   -- ---- the fields that count
 
-  value-among : (t : Tile) → Mem t (object_tiles ts) → (p : Kind × ℕ) → option_map (λ k. (k, value_offset m (payload t))) (kind_at format m (payload t)) ≡ Some p → IsAmong os p
+  value-among : (t : Tile) → Mem t (object_tiles ts) → (p : Kind × ℕ)
+      → option_map (λ k. (k, value_offset m (payload t))) (kind_at format m (payload t)) ≡ Some p → IsAmong os p
   value-among t k p e =
       let o : Object = object_from format m ts (object_block t) in
       let w = said-tile t k in
       let kind = w.kind in
       let place = w.place in
-      let is : Some p ≡ Some (kind_of o.value, place_of o) = sym e ∙ (λ i. option_map (λ k. (k, sym place i)) (kind i)) in
+      let is : Some p ≡ Some (kind_of o.value, place_of o) =
+      sym e ∙ (λ i. option_map (λ k. (k, sym place i)) (kind i)) in
       record { object = o; mem = of-object t k; is = some-same p (kind_of o.value, place_of o) is }
 
-  value-has : (t : Tile) → Mem t (object_tiles ts) → Mem (kind_of (object_from format m ts (object_block t)).value, place_of (object_from format m ts (object_block t))) (values format m ts)
+  value-has : (t : Tile) → Mem t (object_tiles ts)
+      → Mem (
+        kind_of (object_from format m ts (object_block t)).value,
+        place_of (object_from format m ts (object_block t)),
+      ) (values format m ts)
   value-has t k =
       let o : Object = object_from format m ts (object_block t) in
       let w = said-tile t k in
       let kind = w.kind in
       let place = w.place in
-      mem_filter_map (λ (u : Tile). option_map (λ k. (k, value_offset m (payload u))) (kind_at format m (payload u))) t (kind_of o.value, place_of o) (object_tiles ts) k
+      mem_filter_map (λ (u : Tile). option_map (λ k.
+      (k, value_offset m (payload u))) (kind_at format m (payload u))) t (
+        kind_of o.value,
+        place_of o,
+      ) (object_tiles ts) k
       (λ i. option_map (λ k. (k, sym place i)) (kind i))
 
   pub claimed : IsClaimed format m ts os named unique
   claimed = record {
     of = λ p k.
-        (let w = mem_of_filter_map (λ (u : Tile). option_map (λ k. (k, value_offset m (payload u))) (kind_at format m (payload u))) p (object_tiles ts) k in
+        (let w = mem_of_filter_map (λ (u : Tile).
+        option_map (λ k. (k, value_offset m (payload u))) (kind_at format m (payload u))) p (object_tiles ts) k in
         value-among w.one w.mem p w.is);
-    has = λ o k. (let w = of-tile o k in subst (λ (q : Object). Mem (kind_of q.value, place_of q) (values format m ts)) (sym w.is) (value-has w.tile w.mem));
-    storage = λ o k. (let w = said o k in storage-same ts (length b - 16) tiles m o.value (place_of o) w.placed.good w.stands.value w.placed.extents);
-    elements = λ o k. (let w = said o k in element-same ts (length b - 16) tiles m o.value (place_of o) w.placed.good w.stands.value w.placed.extents);
+    has = λ o k. (let w = of-tile o k
+        in subst (λ (q : Object). Mem (kind_of q.value, place_of q) (values format m ts)) (sym w.is)
+        (value-has w.tile w.mem));
+    storage = λ o k. (let w = said o k
+        in storage-same ts (length b - 16) tiles m o.value (place_of o) w.placed.good w.stands.value w.placed.extents);
+    elements = λ o k. (let w = said o k
+        in element-same ts (length b - 16) tiles m o.value (place_of o) w.placed.good w.stands.value w.placed.extents);
     tree = λ o k. (said o k).placed.tree;
-    named_field = index-same ts (length b - 16) tiles m Index 8 32 named first_index.linked.table first_index.linked.mem first_index.linked.leads refl;
-    unique_field = index-same ts (length b - 16) tiles m Index 8 56 unique second_index.linked.table second_index.linked.mem second_index.linked.leads refl;
+    named_field = index-same ts (length b - 16) tiles m Index 8 32 named first_index.linked.table
+        first_index.linked.mem first_index.linked.leads refl;
+    unique_field = index-same ts (length b - 16) tiles m Index 8 56 unique second_index.linked.table
+        second_index.linked.mem second_index.linked.leads refl;
   }
 
   -- ---- no block is named twice
 
   pub table-member : (x : Extent) → Mem x (table_extents named ++ table_extents unique) → Mem x (used ts) × IsOther x
   table-member x k = elim (mem_parts x (table_extents named) (table_extents unique) k) [
-    | inl h ↦ (mem_all (λ y. Mem y (used ts)) (table_extents named) x first_index.linked.mem h, mem_all IsOther (table_extents named) x (table-other Index 8 named refl first_index.linked.table) h)
-    | inr h ↦ (mem_all (λ y. Mem y (used ts)) (table_extents unique) x second_index.linked.mem h, mem_all IsOther (table_extents unique) x (table-other Index 8 unique refl second_index.linked.table) h)
+    | inl h ↦ (
+      mem_all (λ y. Mem y (used ts)) (table_extents named) x first_index.linked.mem h,
+      mem_all IsOther (table_extents named) x (table-other Index 8 named refl first_index.linked.table) h,
+    )
+    | inr h ↦ (
+      mem_all (λ y. Mem y (used ts)) (table_extents unique) x second_index.linked.mem h,
+      mem_all IsOther (table_extents unique) x (table-other Index 8 unique refl second_index.linked.table) h,
+    )
   ]
 
   placed : ArePlaced m ts os named unique
@@ -249,7 +290,9 @@ module _ (format : ℕ) (b : List ℕ) (s : AreSmall (bytes_of b)) (fr : IsFrame
     tables = table-member;
     unshared = record {
       one = λ f g h k e.
-          shared-not (counted_fields format m ts) f g c.unshared (claimed-counted format m ts os named unique claimed f h) (claimed-counted format m ts os named unique claimed g k) e;
+          shared-not (counted_fields format m ts) f g c.unshared
+          (claimed-counted format m ts os named unique claimed f h)
+          (claimed-counted format m ts os named unique claimed g k) e;
     };
   }
 

@@ -1,16 +1,17 @@
 -- An image that was read and is refused, and why; or that is found good, and no segment is made of it.
 use Rattle.std.proofs.Common.{◌≡◌, refl, sym, ap, subst, ◌∙◌, inl, ℕ, ◌+◌, ◌≤◌, List, length, arith, Some, Ok, Err}
-use Rattle.raw_region.specs.Device.{Given}
+use Rattle.raw_region.specs.Device.{ReadDelta}
 use Rattle.raw_region.specs.Format.{current}
-use Rattle.raw_region.specs.Memory.{Cut, SamePlace, whole}
+use Rattle.raw_region.specs.Memory.{WindowState, SameSurroundings, whole}
 use Rattle.segment_manager.specs.declared.modes.Mode.{Mode}
 use Rattle.segment_manager.specs.declared.modes.Mode.TheVariants.{ReadOnly}
-use Rattle.segment_manager.specs.State.{State}
+use Rattle.segment_manager.specs.State.{SegmentState}
 use Rattle.image_check.specs.declared.errors.OpenError.{OpenError}
 use Rattle.image_check.specs.declared.errors.OpenRefused.{OpenRefused}
 use Rattle.image_check.specs.EarlyTests.{has_front, size_word}
 use Rattle.image_check.specs.Classes.{class_of}
-use Rattle.image_check.specs.Opening.{IsHandedBack, IsTooSmallFor, IsImage, IsWhyNot, Opens, Verifies, has_early_class}
+use Rattle.image_check.specs.Opening.{IsHandedBack, IsTooSmallFor, IsImage, IsOpenCause, Opens, Verifies}
+use Rattle.image_check.specs.Opening.{has_early_class}
 use Rattle.image_check.specs.Checking.{IsWhyRefused}
 use Rattle.image_check.specs.declared.errors.ExamineError.{ExamineError}
 use Rattle.image_check.specs.declared.errors.ExamineError.TheVariants.{Image, RegionTooSmall, OutOfMemory, ReadFault}
@@ -18,14 +19,15 @@ use Rattle.image_check.specs.declared.errors.ExamineRefused.{ExamineRefused}
 use Rattle.image_check.specs.Causes.{IsShown, error_for, opened_as}
 use Rattle.image_check.specs.Examining.{Examines}
 use Rattle.image_check.specs.Verdicts.{Shows}
-use Rattle.image_check.specs.OpeningAny.{IsRenewed}
+use Rattle.image_check.specs.OpeningAny.{UpgradesFormat}
 use Rattle.image_check.specs.Reading.{IsImageRead, IsNotRead}
 use Rattle.image_check.specs.Passes.{IsRefusalFor, has_block}
 use Rattle.image_check.proofs.Filled.{HasFront-IsRight, HasFront-least}
 use Rattle.image_check.proofs.HandedBack.{written-back}
 use Rattle.std.specs.Prelude.{IsTrue, false}
 
-module _ (format : ℕ) (image : Given) (region : List ℕ) (base : ℕ) (w : Cut) (h : IsImageRead format image region base w) where
+module _ (format : ℕ) (image : ReadDelta) (region : List ℕ) (base : ℕ) (w : WindowState)
+    (h : IsImageRead format image region base w) where
   -- there was room for it
   pub no-room : IsTooSmallFor format image base (length region) → ⊥
   no-room t =
@@ -35,10 +37,14 @@ module _ (format : ℕ) (image : Given) (region : List ℕ) (base : ℕ) (w : Cu
       let says : size_word image.bytes ≡ length w.bytes = sym (ap size_word h.bytes) ∙ h.front.says in
       omega arith
 
-  why-not : (why : ExamineError) → IsWhyRefused format w.bytes why → IsWhyNot format image base (length region) (error_for why)
+  why-not : (why : ExamineError) → IsWhyRefused format w.bytes why
+      → IsOpenCause format image base (length region) (error_for why)
   why-not RegionTooSmall x = absurd x
   why-not ReadFault x = absurd x
-  why-not (Image v) x = record { sound = h.read.failed; right = inl (h.read.ended, subst (λ (b : List ℕ). class_of format b ≡ Some v.class) h.bytes x.0) }
+  why-not (Image v) x = record {
+    sound = h.read.failed;
+    right = inl (h.read.ended, subst (λ (b : List ℕ). class_of format b ≡ Some v.class) h.bytes x.0);
+  }
   why-not (OutOfMemory refusal) x = (
     record {
       read = h.read;
@@ -55,7 +61,8 @@ module _ (format : ℕ) (image : Given) (region : List ℕ) (base : ℕ) (w : Cu
       let least = HasFront-least format w h.front in
       let same = ap length h.bytes in
       let says : size_word image.bytes ≡ length image.bytes = sym (ap size_word h.bytes) ∙ h.front.says ∙ same in
-      written-back region base (length image.bytes) w (record { room = h.room; place = h.place; long = same }) format image back
+      written-back region base (length image.bytes) w (record { room = h.room; place = h.place; long = same })
+      format image back
       (record {
         read = omega arith;
         front = subst (λ (x : List ℕ). IsTrue (has_front format x)) h.bytes h.front.right;
@@ -64,19 +71,20 @@ module _ (format : ℕ) (image : Given) (region : List ℕ) (base : ℕ) (w : Cu
       says f
 
   -- the answer of an opening
-  pub refused : (mode : Mode) (why : ExamineError) (cause : OpenError) (back : List ℕ) → IsWhyRefused format w.bytes why → cause ≡ error_for why → back ≡ whole w
+  pub refused : (mode : Mode) (why : ExamineError) (cause : OpenError) (back : List ℕ)
+      → IsWhyRefused format w.bytes why → cause ≡ error_for why → back ≡ whole w
       → Opens format image region base mode (Err (record { region = back; cause = cause }))
   refused mode why cause back x e f = record {
     answers = record {
-      why = subst (IsWhyNot format image base (length region)) (sym e) (why-not why x);
+      why = subst (IsOpenCause format image base (length region)) (sym e) (why-not why x);
       handed_back = back-from back f;
     };
     too_small = λ t. absurd (no-room t);
   }
 
   -- a segment of its bytes
-  pub opened : (mode : Mode) (s : State) → format ≡ current → IsImage format w.bytes → SamePlace w s.cut
-      → IsRenewed format w.bytes s.cut.bytes → s.mode ≡ mode → Opens format image region base mode (Ok s)
+  pub opened : (mode : Mode) (s : SegmentState) → format ≡ current → IsImage format w.bytes → SameSurroundings w s.cut
+      → UpgradesFormat format w.bytes s.cut.bytes → s.mode ≡ mode → Opens format image region base mode (Ok s)
   opened mode s now d place r f = record {
     answers = record {
       read = h.read;
@@ -125,11 +133,14 @@ module _ (format : ℕ) (image : Given) (region : List ℕ) (base : ℕ) (w : Cu
   examined back d f = record { verifies = verified back d f; shown = tt }
 
 -- one that was not read
-pub unread-opens : (format : ℕ) (image : Given) (region : List ℕ) (base : ℕ) (mode : Mode) (refused : OpenRefused) → IsNotRead format image region base refused
+pub unread-opens : (format : ℕ) (image : ReadDelta) (region : List ℕ) (base : ℕ) (mode : Mode)
+    (refused : OpenRefused) → IsNotRead format image region base refused
     → Opens format image region base mode (Err refused)
-unread-opens format image region base mode refused n = record { answers = record { why = n.stops.why; handed_back = n.handed_back }; too_small = n.stops.too_small }
+unread-opens format image region base mode refused n =
+    record { answers = record { why = n.stops.why; handed_back = n.handed_back }; too_small = n.stops.too_small }
 
-pub unread : (format : ℕ) (image : Given) (region : List ℕ) (base : ℕ) (refused : ExamineRefused) → IsNotRead format image region base (opened_as refused)
+pub unread : (format : ℕ) (image : ReadDelta) (region : List ℕ) (base : ℕ) (refused : ExamineRefused)
+    → IsNotRead format image region base (opened_as refused)
     → IsShown format image.bytes refused.cause → Examines format image region base (Err refused)
 unread format image region base refused n s = record {
   verifies = record {

@@ -1,13 +1,14 @@
 -- A walk over the rows of the map of blocks, that keeps something of the tiles passed: a row is the next tile in use.
-use Rattle.std.proofs.Common.{◌≡◌, refl, sym, ap, subst, ◌∙◌, ℕ, zero, suc, ◌+◌, ◌≤◌, false, List, [], ◌∷◌, ◌++◌, length, arith}
+use Rattle.std.proofs.Common.{◌≡◌, refl, sym, ap, subst, ◌∙◌, ℕ, zero, suc, ◌+◌, ◌≤◌, false, List, [], ◌∷◌, ◌++◌}
+use Rattle.std.proofs.Common.{length, arith}
 use Rattle.std.specs.Prelude.{Option, Some, None, is_some, slice_get}
 use Rattle.std.specs.List.{cons_option}
 use Rattle.std.proofs.lemmas.List.{append-nil, length-map}
-use Rattle.raw_region.specs.Memory.{Cut}
+use Rattle.raw_region.specs.Memory.{WindowState}
 use Rattle.block_tags.specs.declared.tile.Role.{Role}
 use Rattle.block_tags.specs.declared.tile.Role.TheVariants.{Object}
 use Rattle.block_tags.specs.declared.tile.Tile.{Tile}
-use Rattle.block_tags.specs.Windows.{IsTiled, SaysTiles}
+use Rattle.block_tags.specs.Windows.{IsTiledWindow, EncodesTiles}
 use Rattle.block_tags.proofs.Laws.{tiles_are_read_off}
 use Rattle.best_fit.specs.Table.{same_role}
 use Rattle.best_fit.proofs.Laws.{passed_on}
@@ -19,19 +20,19 @@ use Rattle.image_check.proofs.Gathered.{count-free, count-push, count-used}
 use Rattle.image_check.proofs.WalkedTiles.{WalksAt}
 
 -- so many tiles in use are passed, and what is kept of all tiles before the next
-pub record RowWalks (c : Cut) (Kept : List Tile → Type 0) (number : ℕ) : Type 0 where
+pub record RowWalks (c : WindowState) (Kept : List Tile → Type 0) (number : ℕ) : Type 0 where
   pub front : List Tile
   pub rest : List Tile
-  pub said : SaysTiles c (front ++ rest)
+  pub said : EncodesTiles c (front ++ rest)
   pub count : length (entries_of front) ≡ number
   pub kept : Kept front
 
 -- it is kept over a free tile
-abbrev pub PassesGaps : Cut → (List Tile → Type 0) → Type 0
+abbrev pub PassesGaps : WindowState → (List Tile → Type 0) → Type 0
 PassesGaps c Kept = (g : Tile) → g.use_of ≡ None → (a : WalksAt c Kept g) → Kept (a.front ++ g ∷ [])
 
 -- the tile of a row
-pub record RowAt (c : Cut) (Kept : List Tile → Type 0) (number : ℕ) (frame : ℕ × Role × ℕ) : Type 0 where
+pub record RowAt (c : WindowState) (Kept : List Tile → Type 0) (number : ℕ) (frame : ℕ × Role × ℕ) : Type 0 where
   pub here : Tile
   pub at : WalksAt c Kept here
   pub count : length (entries_of at.front) ≡ number
@@ -39,7 +40,7 @@ pub record RowAt (c : Cut) (Kept : List Tile → Type 0) (number : ℕ) (frame :
   pub use_of : here.use_of ≡ Some frame.1
   pub len : here.len ≡ frame.2
 
-pub rows-start : (c : Cut) (Kept : List Tile → Type 0) → IsTiled c → Kept [] → RowWalks c Kept 0
+pub rows-start : (c : WindowState) (Kept : List Tile → Type 0) → IsTiledWindow c → Kept [] → RowWalks c Kept 0
 rows-start c Kept tiled kept = record { front = []; rest = tiled.tiles; said = tiled.said; count = refl; kept = kept }
 
 -- a tile that is as long as another, of the same use and at the same place, is that tile but for its colour
@@ -108,9 +109,9 @@ pub few-rows : (b : List ℕ) (es : Blocks) → frames es ≡ frames (entries_of
 few-rows b es f = sym (length-map es frame_of) ∙ ap (λ (xs : List (ℕ × Role × ℕ)). length xs) f
     ∙ length-map (entries_of (tiles_in b)) frame_of
 
-module _ (c : Cut) (Kept : List Tile → Type 0) (gaps : PassesGaps c Kept) where
+module _ (c : WindowState) (Kept : List Tile → Type 0) (gaps : PassesGaps c Kept) where
   -- the next tile in use is that of the row
-  next-row : (number : ℕ) (frame : ℕ × Role × ℕ) (front rest : List Tile) → SaysTiles c (front ++ rest)
+  next-row : (number : ℕ) (frame : ℕ × Role × ℕ) (front rest : List Tile) → EncodesTiles c (front ++ rest)
       → length (entries_of front) ≡ number → Kept front
       → slice_get (frames (entries_of rest)) 0 ≡ Some frame → RowAt c Kept number frame
   next-row number frame front [] said count kept e = absurd (cc)
@@ -140,7 +141,7 @@ module _ (c : Cut) (Kept : List Tile → Type 0) (gaps : PassesGaps c Kept) wher
           }
 
   -- behind the last row all tiles are free
-  pass-all : (front rest : List Tile) → SaysTiles c (front ++ rest) → Kept front → length (entries_of rest) ≡ 0
+  pass-all : (front rest : List Tile) → EncodesTiles c (front ++ rest) → Kept front → length (entries_of rest) ≡ 0
       → Kept (tiles_in c.bytes)
   pass-all front [] said kept none = subst Kept (sym (tiles_are_read_off c (front ++ []) said ∙ append-nil front)) kept
   pass-all front (t ∷ rest) said kept none = by t.use_of refl
@@ -175,7 +176,7 @@ module _ (c : Cut) (Kept : List Tile → Type 0) (gaps : PassesGaps c Kept) wher
         pass-all w.front w.rest w.said w.kept (omega arith)
 
 -- the walk goes on, with what is kept of these very tiles
-pub rows-on : (c : Cut) (Kept Kept' : List Tile → Type 0) (number : ℕ) (frame : ℕ × Role × ℕ)
+pub rows-on : (c : WindowState) (Kept Kept' : List Tile → Type 0) (number : ℕ) (frame : ℕ × Role × ℕ)
     → (r : RowAt c Kept number frame) → Kept' (r.at.front ++ r.here ∷ []) → RowWalks c Kept' (number + 1)
 rows-on c Kept Kept' number frame r kept = record {
   front = r.at.front ++ r.here ∷ [];

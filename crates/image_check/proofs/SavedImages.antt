@@ -2,12 +2,16 @@
 use Rattle.std.proofs.Common.{ℕ, ◌<◌, List, slice_index, arith}
 use Rattle.raw_region.specs.Format.{current}
 use Rattle.segment_manager.specs.Directory.{Directory}
-use Rattle.segment_manager.specs.State.{StandsFor}
+use Rattle.segment_manager.specs.State.{DenotesCurrent}
 use Rattle.image_check.specs.Saving.{IsSaved}
 use Rattle.raw_region.proofs.Bytes.{fits-are_bytes}
 use Rattle.image_check.proofs.Facts.{one_directory}
 
 -- bytes that denote a directory are an image that is accepted
-pub accepted_image : (b : List ℕ) → ((k : ℕ) → slice_index b k < 256) → (d : Directory) → StandsFor b d → IsSaved b d
+pub accepted_image : (b : List ℕ) → ((k : ℕ) → slice_index b k < 256) → (d : Directory) → DenotesCurrent b d
+    → IsSaved b d
 unfolding current
-accepted_image b fits d s = record { denotes = s; accepted = (one_directory current b (omega arith) (fits-are_bytes b fits)).none d s.denotes }
+accepted_image b fits d s = record {
+  denotes = s;
+  accepted = (one_directory current b (omega arith) (fits-are_bytes b fits)).none d s.denotes;
+}

@@ -4,8 +4,8 @@ use Rattle.std.specs.Prelude.{IsTrue}
 use Rattle.raw_region.specs.Memory.{Memory}
 use Rattle.block_tags.specs.declared.tile.Tile.{Tile}
 use Rattle.block_tags.specs.Tiles.{tiles_of, has_tags}
-use Rattle.block_tags.proofs.Laws.{AreTags-Fill, has_tags-Tiles, has_tags-is_merged}
-use Rattle.best_fit.proofs.Laws.{Apart, Fill-Row, Row, is_merged-Apart}
+use Rattle.block_tags.proofs.Laws.{AreTags-AreContiguous, has_tags-AreTilesOf, has_tags-is_merged}
+use Rattle.best_fit.proofs.Laws.{Apart, AreContiguous-Row, Row, is_merged-Apart}
 
 -- the tiles of a segment of this size
 pub record AreWholeTiles (ts : List Tile) (size : ℕ) : Type 0 where
@@ -13,8 +13,10 @@ pub record AreWholeTiles (ts : List Tile) (size : ℕ) : Type 0 where
   pub apart : Apart false ts
 
 -- good tags say such tiles, in each format
-pub has_tags-AreWholeTiles : (format : ℕ) (m : Memory) (size : ℕ) → IsTrue (has_tags format m size) → AreWholeTiles (tiles_of m size) size
+pub has_tags-AreWholeTiles : (format : ℕ) (m : Memory) (size : ℕ) → IsTrue (has_tags format m size)
+    → AreWholeTiles (tiles_of m size) size
 has_tags-AreWholeTiles format m size h = record {
-  row = Fill-Row format 128 (tiles_of m size) (size - 16) (AreTags-Fill format m 128 0 (tiles_of m size) (size - 16) (has_tags-Tiles format m size h));
+  row = AreContiguous-Row format 128 (tiles_of m size) (size - 16)
+      (AreTags-AreContiguous format m 128 0 (tiles_of m size) (size - 16) (has_tags-AreTilesOf format m size h));
   apart = is_merged-Apart (tiles_of m size) (has_tags-is_merged format m size h);
 }

@@ -1,7 +1,7 @@
 -- Where the tiles of an image lie.
 use Rattle.std.proofs.Common.{◌≡◌, sym, subst, ℕ, ◌+◌, ◌-◌, ◌%◌, ◌≤◌, inl, inr, true, List, [], ◌∷◌, length, arith}
 use Rattle.std.specs.Prelude.{Some}
-use Rattle.raw_region.specs.Memory.{Cut, bytes_of}
+use Rattle.raw_region.specs.Memory.{WindowState, bytes_of}
 use Rattle.raw_region.specs.Format.{current}
 use Rattle.link_tree.proofs.Laws.{some_same}
 use Rattle.block_tags.specs.declared.tile.Role.{Role}
@@ -27,12 +27,19 @@ row-to : (from : ℕ) (ts : List Tile) (to : ℕ) → Row from ts to → from �
 row-to from [] to row = omega arith
 row-to from (t ∷ ts) to row = let rest = row-to (from + t.len) ts to row.3 in omega arith
 
-row-between : (from : ℕ) (ts : List Tile) (to : ℕ) (t : Tile) → Row from ts to → from % 16 ≡ 0 → Mem t ts → LiesBetween from to t
+row-between : (from : ℕ) (ts : List Tile) (to : ℕ) (t : Tile) → Row from ts to → from % 16 ≡ 0 → Mem t ts
+    → LiesBetween from to t
 row-between from [] to t row w h = absurd h
 row-between from (u ∷ ts) to t row w (inl e) =
     let at = row.0 in
     let end = row-to (from + u.len) ts to row.3 in
-    subst (LiesBetween from to) (sym e) (record { low = omega arith; whole = omega arith; long = row.1; even = row.2; high = omega arith })
+    subst (LiesBetween from to) (sym e) (record {
+      low = omega arith;
+      whole = omega arith;
+      long = row.1;
+      even = row.2;
+      high = omega arith;
+    })
 row-between from (u ∷ ts) to t row w (inr h) =
     let even = row.2 in
     let rest = row-between (from + u.len) ts to t row.3 (omega arith) h in
@@ -52,13 +59,14 @@ pub record Named (b : List ℕ) (n : ℕ) (t : Tile) : Type 0 where
   pub mem : Mem t (tiles_in b)
   pub at : t.offset + 16 ≡ n
 
-pub named : (b : List ℕ) (role : Role) (n : ℕ) (t : Tile) → HasTiles b → tile_of (tiles_in b) role n ≡ Some t → Named b n t
+pub named : (b : List ℕ) (role : Role) (n : ℕ) (t : Tile) → HasTiles b → tile_of (tiles_in b) role n ≡ Some t
+    → Named b n t
 named b role n t h e =
     let g = good_for-IsGood (tiles_in b) role (Some n) t e in
     record { lies = tile-lies b t h g.mem; mem = g.mem; at = some_same (t.offset + 16) n (sym g.leads) }
 
 -- whose payload is a place
-pub named-place : (c : Cut) (n : ℕ) (t : Tile) → HasTiles c.bytes → Named c.bytes n t → is_place c n ≡ true
+pub named-place : (c : WindowState) (n : ℕ) (t : Tile) → HasTiles c.bytes → Named c.bytes n t → is_place c n ≡ true
 named-place c n t h k =
     let at = k.at in
     let low = k.lies.low in

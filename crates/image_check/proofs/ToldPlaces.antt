@@ -4,26 +4,29 @@ use Rattle.std.proofs.Common.{arith, inl, inr}
 use Rattle.std.specs.Prelude.{IfErr, Ok, Err, Result, codes, slice_index}
 use Rattle.std.proofs.lemmas.Bool.{cond-false, cond-true}
 use Rattle.std.proofs.lemmas.List.{get_or_append_left, length-append, length-take-le}
-use Rattle.raw_region.specs.Memory.{Cut}
+use Rattle.raw_region.specs.Memory.{WindowState}
 use Rattle.raw_region.proofs.Laws.{added, both_added}
 use Rattle.block_tags.specs.Format.{is_legal_size}
 use Rattle.image_check.specs.declared.classes.ImageClass.{ImageClass}
-use Rattle.image_check.specs.declared.classes.ImageClass.TheVariants.{Truncated, BadMagic, UnsupportedVersion, BadSize, BadReserved, BadTag, BadFreeTree, BadIndex, BadObject, SharedBlock, BadContainer, OrphanBlock}
+use Rattle.image_check.specs.declared.classes.ImageClass.TheVariants.{Truncated, BadMagic, UnsupportedVersion, BadSize}
+use Rattle.image_check.specs.declared.classes.ImageClass.TheVariants.{BadReserved, BadTag, BadFreeTree, BadIndex}
+use Rattle.image_check.specs.declared.classes.ImageClass.TheVariants.{BadObject, SharedBlock, BadContainer, OrphanBlock}
 use Rattle.image_check.specs.declared.errors.ExamineError.{ExamineError}
 use Rattle.image_check.specs.declared.errors.ExamineError.TheVariants.{Image, RegionTooSmall, OutOfMemory, ReadFault}
 use Rattle.image_check.specs.declared.errors.OpenError.{OpenError}
 use Rattle.image_check.specs.declared.verdict.Verdict.{Verdict}
-use Rattle.image_check.specs.Causes.{IsBehind, IsEnd, IsShown, error_for, error_in}
+use Rattle.image_check.specs.Causes.{IsNodeLink, IsEnd, IsShown, error_for, error_in}
 use Rattle.image_check.specs.EarlyTests.{size_word}
 use Rattle.image_check.specs.HeaderPlaces.{IsFirstOther, IsFrontPlace}
-use Rattle.image_check.specs.Reading.{GoesOn, HasFront}
+use Rattle.image_check.specs.Reading.{ReadsPastEnd, HasFront}
 use Rattle.image_check.specs.Verdicts.{Shows}
 use Rattle.image_check.proofs.Deciding.{size_word-front}
 use Rattle.image_check.proofs.Filled.{HasFront-IsRight}
 use Rattle.image_check.proofs.Fronts.{IsRight-append, IsRight-take}
 
 -- the end of what came
-pub end-shown : (format : ℕ) (b : List ℕ) (n : ℕ) (cause : ExamineError) → n ≡ length b → IsEnd n cause → IsShown format b cause
+pub end-shown : (format : ℕ) (b : List ℕ) (n : ℕ) (cause : ExamineError) → n ≡ length b → IsEnd n cause
+    → IsShown format b cause
 end-shown format b n (Image v) e h = subst (λ c. Shows format b c v.place) (sym h.0) (h.1 ∙ e)
 end-shown format b n RegionTooSmall e h = tt
 end-shown format b n (OutOfMemory refusal) e h = tt
@@ -31,7 +34,7 @@ end-shown format b n ReadFault e h = tt
 
 -- the size that was said
 behind-shown : (format : ℕ) (b : List ℕ) (n : ℕ) (v : Verdict) → n ≡ size_word b → is_legal_size (size_word b) ≡ true
-    → IsBehind n (Image v) → Shows format b v.class v.place
+    → IsNodeLink n (Image v) → Shows format b v.class v.place
 behind-shown format b n v e legal h = subst (λ c. Shows format b c v.place) (sym h.0)
     (h.1 ∙ e ∙ sym (cond-true (is_legal_size (size_word b)) (size_word b) 16 legal))
 
@@ -68,21 +71,26 @@ module _ (format : ℕ) (front more : List ℕ) (long : 24 ≤ length front) whe
 
 -- ---- behind the whole image
 
-module _ (w : Cut) (old mid new ws : List ℕ) (n : ℕ) (is : n ≡ length w.bytes) (rest : mid ≡ old ++ ws) where
+module _ (w : WindowState) (old mid new ws : List ℕ) (n : ℕ) (is : n ≡ length w.bytes) (rest : mid ≡ old ++ ws) where
   one-behind : (format : ℕ) → HasFront format w → (start : List ℕ) → old ≡ start ++ take 24 w.bytes → (byte : ℕ)
-      → new ≡ mid ++ byte ∷ [] → (v : Verdict) → IsBehind n (Image v) → Shows format (drop (length start) new) v.class v.place
+      → new ≡ mid ++ byte ∷ [] → (v : Verdict) → IsNodeLink n (Image v)
+      → Shows format (drop (length start) new) v.class v.place
   one-behind format h start e byte g v s =
       let one : List ℕ = byte ∷ [] in
       let all : List ℕ = (take 24 w.bytes ++ ws) ++ one in
       let said : drop (length start) new ≡ all =
-      added start new all (both_added start mid new (take 24 w.bytes ++ ws) one (both_added start old mid (take 24 w.bytes) ws e rest) g) in
-      let right = IsRight-append format (take 24 w.bytes ++ ws) one (length w.bytes) (IsRight-append format (take 24 w.bytes) ws (length w.bytes)
+      added start new all (both_added start mid new (take 24 w.bytes ++ ws) one
+      (both_added start old mid (take 24 w.bytes) ws e rest) g) in
+      let right = IsRight-append format (take 24 w.bytes ++ ws) one (length w.bytes)
+      (IsRight-append format (take 24 w.bytes) ws (length w.bytes)
       (IsRight-take format w.bytes (length w.bytes) (HasFront-IsRight format w h))) in
       subst (λ b. Shows format b v.class v.place) (sym said)
       (behind-shown format all n v (is ∙ sym right.says) (ap is_legal_size right.says ∙ right.legal) s)
 
-  pub whole-shown : (r : Result (Unit {0}) ExamineError) → IfErr r (λ cause. GoesOn mid new (error_for cause)) → IfErr r (IsBehind n)
-      → IfErr r (λ cause. (format : ℕ) → HasFront format w → (start : List ℕ) → old ≡ start ++ take 24 w.bytes → IsShown format (drop (length start) new) cause)
+  pub whole-shown : (r : Result (Unit {0}) ExamineError) → IfErr r (λ cause. ReadsPastEnd mid new (error_for cause))
+      → IfErr r (IsNodeLink n)
+      → IfErr r (λ cause. (format : ℕ) → HasFront format w → (start : List ℕ) → old ≡ start ++ take 24 w.bytes
+      → IsShown format (drop (length start) new) cause)
   whole-shown (Ok done) g s = tt
   whole-shown (Err (Image v)) (inl g) s = absurd (cc)
   whole-shown (Err (Image v)) (inr g) s = λ format h start e. one-behind format h start e g.1.0 g.1.1 v s
@@ -98,10 +106,12 @@ took-length old new xs n l e =
     omega arith
 
 -- what is so of a cause without its place
-pub err-in : {A : Type 0} (Q : OpenError → Type 0) (r : Result A ExamineError) → IfErr r (λ cause. Q (error_for cause)) → IfErr (error_in r) Q
+pub err-in : {A : Type 0} (Q : OpenError → Type 0) (r : Result A ExamineError)
+    → IfErr r (λ cause. Q (error_for cause)) → IfErr (error_in r) Q
 err-in Q (Ok x) h = tt
 err-in Q (Err cause) h = h
 
-pub err-out : {A : Type 0} (Q : OpenError → Type 0) (r : Result A ExamineError) → IfErr (error_in r) Q → IfErr r (λ cause. Q (error_for cause))
+pub err-out : {A : Type 0} (Q : OpenError → Type 0) (r : Result A ExamineError) → IfErr (error_in r) Q
+    → IfErr r (λ cause. Q (error_for cause))
 err-out Q (Ok x) h = tt
 err-out Q (Err cause) h = h

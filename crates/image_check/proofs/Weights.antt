@@ -8,9 +8,11 @@ weigh-append r [] ys = omega arith
 weigh-append r (x ∷ xs) ys = let i = weigh-append r xs ys in omega arith
 
 -- with one tile more
-pub weigh-more : (r : Rates) (front : List Tile) (here : Tile) → weigh r (front ++ here ∷ []) ≡ weigh r front + rate_of r here.use_of * (here.len / 16)
+pub weigh-more : (r : Rates) (front : List Tile) (here : Tile)
+    → weigh r (front ++ here ∷ []) ≡ weigh r front + rate_of r here.use_of * (here.len / 16)
 weigh-more r front here = let i = weigh-append r front (here ∷ []) in omega arith
 
 -- those that were passed and this one are no more than all
-pub weigh-front : (r : Rates) (front : List Tile) (here : Tile) (back : List Tile) → weigh r front + rate_of r here.use_of * (here.len / 16) ≤ weigh r (front ++ here ∷ back)
+pub weigh-front : (r : Rates) (front : List Tile) (here : Tile) (back : List Tile)
+    → weigh r front + rate_of r here.use_of * (here.len / 16) ≤ weigh r (front ++ here ∷ back)
 weigh-front r front here back = let i = weigh-append r front (here ∷ back) in omega arith

@@ -7,7 +7,8 @@ use Rattle.image_check.proofs.Bytes.{AreSmall, number_at, number_at-suc, number_
 -- ---- a word is two half words
 
 -- the number in some bytes, and above it that in the bytes behind
-number_at-split : (m : Memory) (at n k j : ℕ) → j ≡ n + k → number_at m at j ≡ number_at m at n + 256 ^ n * number_at m (at + n) k
+number_at-split : (m : Memory) (at n k j : ℕ) → j ≡ n + k
+    → number_at m at j ≡ number_at m at n + 256 ^ n * number_at m (at + n) k
 number_at-split m at zero k j e =
     let same : j ≡ k = omega arith in
     let here : at ≡ at + 0 = omega arith in
@@ -20,7 +21,8 @@ number_at-split m at (suc n) k j e =
     let front = number_at-suc m at n in
     let here : at + 1 + n ≡ at + suc n = omega arith in
     let moved = ap (λ x. 256 ^ n * number_at m x k) here in
-    let power : 256 ^ suc n * number_at m (at + suc n) k ≡ 256 * (256 ^ n * number_at m (at + suc n) k) = rw (pow-succ' 256 n) (omega arith) in
+    let power : 256 ^ suc n * number_at m (at + suc n) k ≡ 256 * (256 ^ n * number_at m (at + suc n) k) =
+    rw (pow-succ' 256 n) (omega arith) in
     omega arith
 
 -- the lower half word and the upper one

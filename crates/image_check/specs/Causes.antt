@@ -6,7 +6,8 @@ use Rattle.image_check.specs.declared.errors.ExamineError.{ExamineError}
 use Rattle.image_check.specs.declared.errors.ExamineError.TheVariants.{Image, RegionTooSmall, OutOfMemory, ReadFault}
 use Rattle.image_check.specs.declared.errors.ExamineRefused.{ExamineRefused}
 use Rattle.image_check.specs.declared.errors.OpenError.{OpenError}
-use Rattle.image_check.specs.declared.errors.OpenError.TheVariants.{Image as OfClass, RegionTooSmall as TooSmall, OutOfMemory as NoMemory, ReadFault as Fault}
+use Rattle.image_check.specs.declared.errors.OpenError.TheVariants.{Image as OfClass, RegionTooSmall as TooSmall}
+use Rattle.image_check.specs.declared.errors.OpenError.TheVariants.{OutOfMemory as NoMemory, ReadFault as Fault}
 use Rattle.image_check.specs.declared.errors.OpenRefused.{OpenRefused}
 use Rattle.image_check.specs.declared.verdict.Verdict.{Verdict}
 use Rattle.image_check.specs.Verdicts.{Shows}
@@ -51,8 +52,8 @@ IsEnd n (OutOfMemory refusal) = ⊤
 IsEnd n ReadFault = ⊤
 
 -- of bytes that go on behind a size it is that size
-abbrev pub IsBehind : ℕ → ExamineError → Type 0
-IsBehind n (Image v) = (v.class ≡ BadSize) × (v.place ≡ n)
-IsBehind n RegionTooSmall = ⊤
-IsBehind n (OutOfMemory refusal) = ⊤
-IsBehind n ReadFault = ⊤
+abbrev pub IsNodeLink : ℕ → ExamineError → Type 0
+IsNodeLink n (Image v) = (v.class ≡ BadSize) × (v.place ≡ n)
+IsNodeLink n RegionTooSmall = ⊤
+IsNodeLink n (OutOfMemory refusal) = ⊤
+IsNodeLink n ReadFault = ⊤

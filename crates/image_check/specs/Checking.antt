@@ -3,11 +3,12 @@ use Rattle.std.specs.Prelude.{◌≡◌, ℕ, Bool, false, Option, Some, None, L
 use Rattle.raw_region.specs.Memory.{Memory}
 use Rattle.block_tags.specs.declared.tile.Tile.{Tile}
 use Rattle.image_check.specs.declared.classes.ImageClass.{ImageClass}
-use Rattle.image_check.specs.declared.classes.ImageClass.TheVariants.{BadIndex, BadObject, SharedBlock, BadContainer, OrphanBlock}
+use Rattle.image_check.specs.declared.classes.ImageClass.TheVariants.{BadIndex, BadObject, SharedBlock, BadContainer}
+use Rattle.image_check.specs.declared.classes.ImageClass.TheVariants.{OrphanBlock}
 use Rattle.image_check.specs.ObjectTests.{has_indexes, has_objects}
 use Rattle.image_check.specs.Fields.{is_shared, is_orphaned, has_containers}
-use Rattle.best_fit.specs.WayPoints.{LeadToBlocks}
-use Rattle.best_fit.specs.declared.way_points.WayPoints.{WayPoints}
+use Rattle.best_fit.specs.BlockHints.{LeadToBlocks}
+use Rattle.best_fit.specs.declared.block_hints.BlockHints.{BlockHints}
 use Rattle.image_check.specs.Owners.{Blocks, entries_of, frames}
 use Rattle.image_check.specs.Passes.{CountsTiles, HasTiles, IsRefusalFor, Spends, tiles_in, has_block}
 use Rattle.image_check.specs.declared.errors.ExamineError.{ExamineError}
@@ -19,12 +20,15 @@ use Rattle.image_check.specs.Visits.{all_rates}
 -- the first class from the eighth on, by the five tests
 abbrev pub late_by : Bool → Bool → Bool → Bool → Bool → Option ImageClass
 late_by indexes objects shared containers orphaned =
-    if indexes then (if objects then (if shared then Some SharedBlock else (if containers then (if orphaned then Some OrphanBlock else None) else Some BadContainer))
+    if indexes then (if objects then
+    (if shared then Some SharedBlock else
+    (if containers then (if orphaned then Some OrphanBlock else None) else Some BadContainer))
     else Some BadObject) else Some BadIndex
 
 -- of the blocks that the tiles say
 unfoldable pub late_class : ℕ → Memory → List Tile → Option ImageClass
-late_class format m ts = late_by (has_indexes m ts) (has_objects format m ts) (is_shared format m ts) (has_containers format m ts) (is_orphaned format m ts)
+late_class format m ts = late_by (has_indexes m ts) (has_objects format m ts) (is_shared format m ts)
+    (has_containers format m ts) (is_orphaned format m ts)
 
 -- why an image that stands in its window is refused
 abbrev pub IsWhyRefused : ℕ → List ℕ → ExamineError → Type 0
@@ -35,12 +39,12 @@ IsWhyRefused format b RegionTooSmall = ⊥
 IsWhyRefused format b ReadFault = ⊥
 
 -- it denotes a directory, and the way-points lead to its blocks
-pub record IsImageNoted (format : ℕ) (b : List ℕ) (points : WayPoints) : Type 0 where
+pub record IsImageNoted (format : ℕ) (b : List ℕ) (points : BlockHints) : Type 0 where
   pub image : IsImage format b
   pub lead : LeadToBlocks points b
 
 -- all passes over an image went well: the map has its blocks, and they spent no more than they may
-pub record ArePassed (b : List ℕ) (es : Blocks) (old new : ℕ) : Type 0 where
+pub record PassesImage (b : List ℕ) (es : Blocks) (old new : ℕ) : Type 0 where
   pub tiles : HasTiles b
   pub frame : frames es ≡ frames (entries_of (tiles_in b))
   pub spent : Spends all_rates 115 b old new

@@ -4,8 +4,11 @@ use Rattle.raw_region.specs.Memory.{Memory, are_bytes, bytes_of}
 use Rattle.block_tags.specs.Tiles.{tiles_of}
 use Rattle.block_tags.specs.declared.tile.Tile.{Tile}
 use Rattle.image_check.specs.declared.classes.ImageClass.{ImageClass}
-use Rattle.image_check.specs.declared.classes.ImageClass.TheVariants.{Truncated, BadMagic, UnsupportedVersion, BadSize, BadReserved, BadTag, BadFreeTree, BadIndex, BadObject, SharedBlock, BadContainer, OrphanBlock}
-use Rattle.image_check.specs.EarlyTests.{size_word, has_magic, has_version, is_truncated, has_size, has_reserved, is_tiled, has_free_tree}
+use Rattle.image_check.specs.declared.classes.ImageClass.TheVariants.{Truncated, BadMagic, UnsupportedVersion, BadSize}
+use Rattle.image_check.specs.declared.classes.ImageClass.TheVariants.{BadReserved, BadTag, BadFreeTree, BadIndex}
+use Rattle.image_check.specs.declared.classes.ImageClass.TheVariants.{BadObject, SharedBlock, BadContainer, OrphanBlock}
+use Rattle.image_check.specs.EarlyTests.{size_word, has_magic, has_version, is_truncated, has_size, has_reserved}
+use Rattle.image_check.specs.EarlyTests.{is_tiled, has_free_tree}
 use Rattle.image_check.specs.ObjectTests.{has_indexes, has_objects}
 use Rattle.image_check.specs.Fields.{is_shared, is_orphaned, has_containers}
 

@@ -1,5 +1,6 @@
 -- What a look at the containers of an image takes, and what it needs to know of the owners of blocks.
-use Rattle.std.specs.Prelude.{◌≡◌, ℕ, ◌+◌, ◌*◌, ◌/◌, ◌%◌, ◌<◌, ◌≤◌, Bool, true, false, nat_lt, Option, Some, None, List, [], ◌∷◌, IsTrue, if◌then◌else◌}
+use Rattle.std.specs.Prelude.{◌≡◌, ℕ, ◌+◌, ◌*◌, ◌/◌, ◌%◌, ◌<◌, ◌≤◌, Bool, true, false, nat_lt, Option, Some, None, List}
+use Rattle.std.specs.Prelude.{[], ◌∷◌, IsTrue, if◌then◌else◌}
 use Rattle.raw_region.specs.Memory.{Memory, word_at}
 use Rattle.block_tags.specs.declared.tile.Role.TheVariants.{Object, Storage, Node}
 use Rattle.block_tags.specs.declared.tile.Tile.{Tile}
@@ -11,7 +12,7 @@ use Rattle.image_check.specs.declared.owners.Owner.{Owner}
 use Rattle.image_check.specs.ObjectTests.{is_object_tile, is_use, kind_at, payload, tile_of, value_offset}
 use Rattle.image_check.specs.Fields.{has_storage, is_container}
 use Rattle.image_check.specs.MapNodes.{is_rooted}
-use Rattle.image_check.specs.Owners.{Blocks, AreBlocks, IsNoted, IsFollowed, owner_at}
+use Rattle.image_check.specs.Owners.{Blocks, AreBlocks, IsMarkedLink, IsFollowed, owner_at}
 use Rattle.image_check.specs.Visits.{Rates, rate_of}
 
 -- what is counted for the blocks of containers, by the place from which links lead there
@@ -48,12 +49,13 @@ weight_below at (e ∷ es) = (if is_rooted_below at e.1.owner then block_weight 
 -- the links of each node that is owned are noted
 pub record AreFollowed (m : Memory) (ts : List Tile) (es : Blocks) : Type 0 where
   pub blocks : AreBlocks ts es
-  pub followed : (n : ℕ) (o : Owner) (t : Tile) → tile_of ts Node n ≡ Some t → owner_at es n ≡ Some o → IsFollowed m ts es n o.root
+  pub followed : (n : ℕ) (o : Owner) (t : Tile) → tile_of ts Node n ≡ Some t → owner_at es n ≡ Some o
+      → IsFollowed m ts es n o.root
 
 -- the link of the container at this place is noted, from itself on
 pub record IsLinkNoted (m : Memory) (ts : List Tile) (es : Blocks) (kind : Kind) (at : ℕ) : Type 0 where
-  pub storage : IsTrue (has_storage kind) → 0 < word_at m (at + 16) → IsNoted m ts es Storage at at
-  pub root : (k v : ScalarKind) → kind ≡ Map k v → IsNoted m ts es Node at at
+  pub storage : IsTrue (has_storage kind) → 0 < word_at m (at + 16) → IsMarkedLink m ts es Storage at at
+  pub root : (k v : ScalarKind) → kind ≡ Map k v → IsMarkedLink m ts es Node at at
 
 -- ---- the walk over the tiles
 
@@ -65,7 +67,10 @@ is_scalar kind = false
 abbrev pub has_container : ℕ → Memory → List Tile → Tile → Bool
 has_container format m ts t =
     if is_use Object t
-    then elim (kind_at format m (payload t)) [ None ↦ true | Some kind ↦ is_container m ts (kind, value_offset m (payload t)) ]
+    then elim (kind_at format m (payload t)) [
+      | None ↦ true
+      | Some kind ↦ is_container m ts (kind, value_offset m (payload t))
+    ]
     else true
 
 -- a tile of a row in a window of so many bytes
@@ -76,10 +81,13 @@ pub record LiesInWindow (size : ℕ) (t : Tile) : Type 0 where
   pub high : t.offset + t.len + 16 ≤ size
 
 -- an object's tile is good, and the link of its value is noted
-pub record IsReady (format : ℕ) (m : Memory) (ts : List Tile) (es : Blocks) (t : Tile) : Type 0 where
+pub record IsCheckedTile (format : ℕ) (m : Memory) (ts : List Tile) (es : Blocks) (t : Tile) : Type 0 where
   pub object : is_use Object t ≡ true → is_object_tile format m t ≡ true
-  pub noted : (kind : Kind) → is_use Object t ≡ true → kind_at format m (payload t) ≡ Some kind → IsLinkNoted m ts es kind (value_offset m (payload t))
+  pub noted : (kind : Kind) → is_use Object t ≡ true → kind_at format m (payload t) ≡ Some kind
+      → IsLinkNoted m ts es kind (value_offset m (payload t))
 
 -- a look at a tile is paid by the tile and by the blocks to which links lead from it
 abbrev pub PaysFor : Blocks → Tile → ℕ → ℕ → Type 0
-PaysFor es t old new = (old ≤ new) × (new + weight_below t.offset es ≤ old + rate_of container_walk_rates t.use_of * (t.len / 16) + weight_below (t.offset + t.len) es)
+PaysFor es t old new = (old ≤ new)
+    × (new + weight_below t.offset es ≤ old + rate_of container_walk_rates t.use_of * (t.len / 16)
+    + weight_below (t.offset + t.len) es)

@@ -10,12 +10,14 @@ use Rattle.image_check.specs.Formats.{DecidesAny, format_of}
 abbrev pub decided_by : Bool → Bool → Bool → Bool → Option ImageClass
 decided_by short magic version size =
     if short then None
-    else if magic then (if version then (if size then None else Some BadSize) else Some UnsupportedVersion) else Some BadMagic
+    else if magic then (if version then (if size then None else Some BadSize) else Some UnsupportedVersion) else
+    Some BadMagic
 
 -- No class is decided before 144 bytes, since there may be no more. After that, the magic and the version decide, and a
 -- size that no segment has or that is less than what was read.
 unfoldable pub decided : ℕ → List ℕ → Option ImageClass
-decided format front = decided_by (nat_lt (length front) 144) (has_magic front) (has_version format front) (has_size front)
+decided format front = decided_by (nat_lt (length front) 144) (has_magic front) (has_version format front)
+    (has_size front)
 
 -- the law: the test finds the class that is decided, and none where none is
 pub record IsDecided (format : ℕ) (front : List ℕ) : Type 0 where

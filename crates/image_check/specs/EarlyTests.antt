@@ -1,5 +1,6 @@
 -- The tests that come before the objects: of the front, of the tags and of the free tree.
-use Rattle.std.specs.Prelude.{ℕ, zero, suc, Bool, false, ◌&&◌, ◌||◌, Some, None, List, ◌++◌, length, map, filter, ◌==◌, nat_lt, nat_le, nat_eq}
+use Rattle.std.specs.Prelude.{ℕ, zero, suc, Bool, false, ◌&&◌, ◌||◌, Some, None, List, ◌++◌, length, map, filter, ◌==◌}
+use Rattle.std.specs.Prelude.{nat_lt, nat_le, nat_eq}
 use Rattle.std.specs.List.{list_all, list_any}
 use Rattle.std.specs.Cmp.Lexicographic.{pointwise}
 use Rattle.raw_region.specs.Memory.{Memory, bytes_of, read, word_at, half_word_at}
@@ -58,7 +59,8 @@ is_among xs x = list_any (λ y. x == y) xs
 -- none
 abbrev pub has_free_tree : ℕ → Memory → List Tile → Bool
 has_free_tree zero m ts = word_at m 24 == 1
-has_free_tree (suc format) m ts = elim (tree_from (length ts) (is_among (free_payloads ts)) (cells_of m) (link_at m 24)) [
-  | None ↦ false
-  | Some t ↦ is_red_black t && pointwise nat_eq (nodes_of t) (free_payloads ts)
-]
+has_free_tree (suc format) m ts =
+    elim (tree_from (length ts) (is_among (free_payloads ts)) (cells_of m) (link_at m 24)) [
+      | None ↦ false
+      | Some t ↦ is_red_black t && pointwise nat_eq (nodes_of t) (free_payloads ts)
+    ]

@@ -1,5 +1,6 @@
 -- The objects that have an entry in an index, as the map of owners says them while the indexes are gone through.
-use Rattle.std.specs.Prelude.{◌≡◌, ℕ, ◌+◌, ◌*◌, Bool, true, false, ◌&&◌, Option, Some, None, List, map, flat_map, option_to_list, is_some, is_none, nat_eq, if◌then◌else◌}
+use Rattle.std.specs.Prelude.{◌≡◌, ℕ, ◌+◌, ◌*◌, Bool, true, false, ◌&&◌, Option, Some, None, List, map, flat_map}
+use Rattle.std.specs.Prelude.{option_to_list, is_some, is_none, nat_eq, if◌then◌else◌}
 use Rattle.std.specs.List.{list_all, range_with_len}
 use Rattle.std.specs.Map.{set_value}
 use Rattle.raw_region.specs.Memory.{Memory}
@@ -56,7 +57,7 @@ abbrev pub with_entry : Block → ℕ → ℕ → Block
 with_entry b place root = record { role = b.role; len = b.len; owner = Some (owner place root); next = b.next }
 
 -- the entry at a place of the index at a root is noted where its link leads
-pub record IsEntered (old new : Blocks) (link : Option ℕ) (place root : ℕ) : Type 0 where
+pub record EntersLink (old new : Blocks) (link : Option ℕ) (place root : ℕ) : Type 0 where
   pub target : ℕ
   pub leads : link ≡ Some target
   pub block : Block
@@ -72,7 +73,8 @@ are_new es xs = are_distinct xs && list_all (λ n. is_none (index_of es n)) xs
 
 -- the links lead to objects that have no entry, each to another
 abbrev pub are_enterable : List Tile → Blocks → List (Option ℕ) → Bool
-are_enterable ts es links = list_all (λ link. is_some (good_for ts Object link)) links && are_new es (flat_map option_to_list links)
+are_enterable ts es links = list_all (λ link. is_some (good_for ts Object link)) links
+    && are_new es (flat_map option_to_list links)
 
 -- the links in the first n places of a block
 abbrev pub links_in : Memory → ℕ → ℕ → List (Option ℕ)

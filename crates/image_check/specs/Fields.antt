@@ -1,5 +1,7 @@
 -- The fields that lead to blocks, and the tests of what they lead to: shared blocks, containers and orphans.
-use Rattle.std.specs.Prelude.{ℕ, zero, suc, ◌+◌, ◌-◌, ◌*◌, ◌/◌, min, ℤ, Bool, true, false, not, ◌&&◌, ◌||◌, Option, Some, None, List, [], ◌∷◌, ◌++◌, length, map, filter_map, flat_map, is_some, option_map, ◌==◌, nat_lt, nat_le, if◌then◌else◌, int_lt}
+use Rattle.std.specs.Prelude.{ℕ, zero, suc, ◌+◌, ◌-◌, ◌*◌, ◌/◌, min, ℤ, Bool, true, false, not, ◌&&◌, ◌||◌, Option}
+use Rattle.std.specs.Prelude.{Some, None, List, [], ◌∷◌, ◌++◌, length, map, filter_map, flat_map, is_some, option_map}
+use Rattle.std.specs.Prelude.{◌==◌, nat_lt, nat_le, if◌then◌else◌, int_lt}
 use Rattle.std.specs.List.{list_all, list_any, range_with_len}
 use Rattle.byteorder.specs.Endian.{little_number}
 use Rattle.raw_region.specs.Memory.{Memory, read, word_at}
@@ -15,7 +17,8 @@ use Rattle.seg_types.specs.declared.kinds.ScalarKind.TheVariants.{U8}
 use Rattle.seg_types.specs.declared.kinds.Kind.TheVariants.{Scalar, String, Vector, Map, Strings}
 use Rattle.seg_types.specs.Kinds.{size_of, value_of}
 use Rattle.image_check.specs.EarlyTests.{is_among}
-use Rattle.image_check.specs.ObjectTests.{is_use, tile_of, good_for, leads_to, is_table_link, payload, index_capacity, object_tiles, value_offset, kind_at, are_spellings, rise_by}
+use Rattle.image_check.specs.ObjectTests.{is_use, tile_of, good_for, leads_to, is_table_link, payload, index_capacity}
+use Rattle.image_check.specs.ObjectTests.{object_tiles, value_offset, kind_at, are_spellings, rise_by}
 
 -- ---- the fields that lead to blocks
 
@@ -25,7 +28,10 @@ pub record Field : Type 0 where
   pub target : ℕ
 
 abbrev pub field_at : Memory → List Tile → Role → ℕ → List Field
-field_at m ts role at = elim (good_for ts role (link_at m at)) [ None ↦ [] | Some t ↦ record { at = at; target = payload t } ∷ [] ]
+field_at m ts role at = elim (good_for ts role (link_at m at)) [
+  | None ↦ []
+  | Some t ↦ record { at = at; target = payload t } ∷ []
+]
 
 -- the link of an index whose capacity is above 0
 abbrev pub index_field : Memory → List Tile → ℕ → List Field
@@ -33,7 +39,8 @@ index_field m ts at = if index_capacity m at == 0 then [] else field_at m ts Ind
 
 -- kinds and offsets of the objects' values
 abbrev pub values : ℕ → Memory → List Tile → List (Kind × ℕ)
-values format m ts = filter_map (λ t. option_map (λ k. (k, value_offset m (payload t))) (kind_at format m (payload t))) (object_tiles ts)
+values format m ts = filter_map (λ t.
+    option_map (λ k. (k, value_offset m (payload t))) (kind_at format m (payload t))) (object_tiles ts)
 
 abbrev pub has_storage : Kind → Bool
 has_storage (Scalar k) = false
@@ -54,7 +61,8 @@ element_offsets at n = map (λ i. at + 16 * i) (range_with_len 0 n)
 abbrev pub element_fields : Memory → List Tile → Kind × ℕ → List Field
 element_fields m ts (Strings, at) = elim (storage_array m ts at) [
   | None ↦ []
-  | Some t ↦ flat_map (field_at m ts Storage) (element_offsets (payload t) (min (word_at m (at + 8)) ((t.len - 16) / 16)))
+  | Some t ↦ flat_map (field_at m ts Storage)
+      (element_offsets (payload t) (min (word_at m (at + 8)) ((t.len - 16) / 16)))
 ]
   where
     storage_array : Memory → List Tile → ℕ → Option Tile
@@ -76,13 +84,15 @@ node_fields (suc more) m ts met (at ∷ links) = elim (good_for ts Node (link_at
   | Some t ↦
       let n = payload t in
       record { at = at; target = n }
-      ∷ (if is_among met n then node_fields more m ts met links else node_fields more m ts (n ∷ met) (n ∷ (n + 8) ∷ links))
+      ∷ (if is_among met n then node_fields more m ts met links else node_fields more m ts (n ∷ met)
+      (n ∷ (n + 8) ∷ links))
 ]
 
 -- The fields that count. There is at most one root link for each object, and each node has two links.
 abbrev pub counted_fields : ℕ → Memory → List Tile → List Field
 counted_fields format m ts =
-    index_field m ts 32 ++ index_field m ts 56 ++ flat_map (storage_field m ts) (values format m ts) ++ flat_map (element_fields m ts) (values format m ts)
+    index_field m ts 32 ++ index_field m ts 56 ++ flat_map (storage_field m ts) (values format m ts)
+    ++ flat_map (element_fields m ts) (values format m ts)
     ++ node_fields (2 * length ts) m ts [] (flat_map root_link (values format m ts))
 
 -- two different fields have one target
@@ -116,12 +126,14 @@ is_orphaned format m ts = leave_some ts (counted_fields format m ts)
 
 abbrev pub is_storage_at : Memory → List Tile → ScalarKind → ℕ → Bool
 is_storage_at m ts k at =
-    if nat_le (word_at m (at + 8)) (word_at m (at + 16)) && is_table_link ts Storage (link_at m at) (size_of k) (word_at m (at + 16))
+    if nat_le (word_at m (at + 8)) (word_at m (at + 16))
+    && is_table_link ts Storage (link_at m at) (size_of k) (word_at m (at + 16))
     then elim (link_at m at) [ None ↦ true | Some block ↦ are_spellings m k block (word_at m (at + 8)) ] else false
 
 -- a node with room for its key and value, both of them spelled
 abbrev pub is_node_of : Memory → List Tile → ScalarKind → ScalarKind → ℕ → Bool
-is_node_of m ts k v n = leads_to ts Node (Some n) (16 + size_of k + size_of v) && are_spellings m k (n + 16) 1 && are_spellings m v (n + 16 + size_of k) 1
+is_node_of m ts k v n = leads_to ts Node (Some n) (16 + size_of k + size_of v) && are_spellings m k (n + 16) 1
+    && are_spellings m v (n + 16 + size_of k) 1
 
 abbrev pub key_at : Memory → ScalarKind → ℕ → ℤ
 key_at m k n = value_of k (little_number (size_of k) (read m (n + 16) (size_of k)))
@@ -144,8 +156,12 @@ is_element_at m ts at = is_table_link ts Storage (link_at m at) 1 (word_at m (at
 
 abbrev pub is_array_at : Memory → List Tile → ℕ → Bool
 is_array_at m ts at =
-    if nat_le (word_at m (at + 8)) (word_at m (at + 16)) && is_table_link ts Storage (link_at m at) 16 (word_at m (at + 16))
-    then elim (link_at m at) [ None ↦ true | Some block ↦ list_all (is_element_at m ts) (element_offsets block (word_at m (at + 8))) ] else false
+    if nat_le (word_at m (at + 8)) (word_at m (at + 16))
+    && is_table_link ts Storage (link_at m at) 16 (word_at m (at + 16))
+    then elim (link_at m at) [
+      | None ↦ true
+      | Some block ↦ list_all (is_element_at m ts) (element_offsets block (word_at m (at + 8)))
+    ] else false
 
 abbrev pub is_container : Memory → List Tile → Kind × ℕ → Bool
 is_container m ts (Scalar k, at) = true

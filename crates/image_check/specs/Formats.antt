@@ -3,8 +3,8 @@ use Rattle.std.specs.Prelude.{◌≡◌, ℕ, Bool, List, ◌++◌, ◌==◌, na
 use Rattle.raw_region.specs.Memory.{bytes_of, half_word_at, are_bytes}
 use Rattle.raw_region.specs.Format.{current}
 use Rattle.image_check.specs.declared.classes.ImageClass.{ImageClass}
-use Rattle.image_check.specs.declared.versions.Versions.{Versions}
-use Rattle.image_check.specs.declared.versions.Versions.TheVariants.{Current, All}
+use Rattle.image_check.specs.declared.versions.AcceptedVersions.{AcceptedVersions}
+use Rattle.image_check.specs.declared.versions.AcceptedVersions.TheVariants.{Current, All}
 use Rattle.image_check.specs.Classes.{class_of}
 
 -- the version that the bytes say
@@ -25,11 +25,11 @@ DecidesAny front c = (rest : List ℕ) → IsTrue (are_bytes rest) → class_of_
 
 -- ---- where one version is read, or all three
 
-abbrev pub is_taken : Versions → ℕ → Bool
+abbrev pub is_taken : AcceptedVersions → ℕ → Bool
 is_taken Current n = n == current
 is_taken All n = nat_le n 2
 
 -- the format by which the bytes are read
-abbrev pub format_in : Versions → List ℕ → ℕ
+abbrev pub format_in : AcceptedVersions → List ℕ → ℕ
 format_in Current b = current
 format_in All b = format_of b

@@ -15,4 +15,5 @@ has_tree format b = has_free_tree format (bytes_of b) (tiles_of (bytes_of b) (si
 
 -- all that the classes before the eighth speak of is right, by a format
 unfoldable pub has_frame : ℕ → List ℕ → Bool
-has_frame format b = has_magic b && has_version format b && has_whole_size b && has_reserved b && is_tiled format b && has_tree format b
+has_frame format b = has_magic b && has_version format b && has_whole_size b && has_reserved b && is_tiled format b
+    && has_tree format b

@@ -1,8 +1,10 @@
 -- The laws of these places as nodes.
-use Rattle.std.proofs.Common.{◌≡◌, refl, sym, ap, subst, ℕ, zero, suc, ◌+◌, ◌*◌, ◌/◌, ◌%◌, ◌^◌, ◌<◌, ◌≤◌, ◌⊎◌, inl, inr, true, false, ◌&&◌, List, [], ◌∷◌, length, arith, nat_le, ◌==◌, IsTrue}
+use Rattle.std.proofs.Common.{◌≡◌, refl, sym, ap, subst, ℕ, zero, suc, ◌+◌, ◌*◌, ◌/◌, ◌%◌, ◌^◌, ◌<◌, ◌≤◌, ◌⊎◌, inl, inr}
+use Rattle.std.proofs.Common.{true, false, ◌&&◌, List, [], ◌∷◌, length, arith, nat_le, ◌==◌, IsTrue}
 use Rattle.std.specs.Prelude.{Option, Some, None, if◌then◌else◌}
-use Rattle.std.proofs.lemmas.Bool.{both_ways, cases_Bool, cases_lt, and_parts, and_from, or_left, or_right, leb-true, eqb-true, eq-eqb, cond-true, cond-false}
-use Rattle.raw_region.specs.Memory.{Memory, Cut, bytes_of}
+use Rattle.std.proofs.lemmas.Bool.{both_ways, cases_Bool, cases_lt, and_parts, and_from, or_left, or_right, leb-true}
+use Rattle.std.proofs.lemmas.Bool.{eqb-true, eq-eqb, cond-true, cond-false}
+use Rattle.raw_region.specs.Memory.{Memory, WindowState, bytes_of}
 use Rattle.offset_link.specs.Link.{is_handle_place, link_at}
 use Rattle.link_tree.specs.Nodes.{is_in, leads}
 use Rattle.block_tags.specs.Format.{is_legal_size}
@@ -25,66 +27,85 @@ unfolding multiples
 in_multiples zero i l = absurd (omega arith)
 in_multiples (suc k) i l = by_test (cases_lt i k) (in_multiples k i)
   where
-    by_test : (i < k) ⊎ (k ≤ i) → (i < k → is_in (16 * i) (multiples k) ≡ true) → is_in (16 * i) (multiples (suc k)) ≡ true
+    by_test : (i < k) ⊎ (k ≤ i) → (i < k → is_in (16 * i) (multiples k) ≡ true)
+        → is_in (16 * i) (multiples (suc k)) ≡ true
     by_test (inl h) rest = or_right (16 * i == 16 * k) (is_in (16 * i) (multiples k)) (rest h)
-    by_test (inr h) rest = or_left (16 * i == 16 * k) (is_in (16 * i) (multiples k)) (eq-eqb (16 * i) (16 * k) (omega arith))
+    by_test (inr h) rest = or_left (16 * i == 16 * k) (is_in (16 * i) (multiples k))
+        (eq-eqb (16 * i) (16 * k) (omega arith))
 
 pub small_size : (n : ℕ) → IsTrue (is_legal_size n) → n ≤ 1073741824
 small_size n h = grind arith
 
-pub record Place (c : Cut) (n : ℕ) : Type 0 where
+pub record PayloadBounds (c : WindowState) (n : ℕ) : Type 0 where
   pub size : IsTrue (is_legal_size (length c.bytes))
   pub whole : n % 16 ≡ 0
   pub low : 144 ≤ n
   pub high : n + 32 ≤ length c.bytes
 
-pub is_place-Place : (c : Cut) (n : ℕ) → is_place c n ≡ true → Place c n
+pub is_place-PayloadBounds : (c : WindowState) (n : ℕ) → is_place c n ≡ true → PayloadBounds c n
 unfolding is_place
-is_place-Place c n h =
+is_place-PayloadBounds c n h =
     let two = and_parts (is_legal_size (length c.bytes)) (is_handle_place (length c.bytes) n) h in
     let three = and_parts ((n % 16 == 0) && nat_le 144 n) (nat_le (n + 32) (length c.bytes)) two.1 in
     let four = and_parts (n % 16 == 0) (nat_le 144 n) three.0 in
-    record { size = two.0; whole = eqb-true (n % 16) 0 four.0; low = leb-true 144 n four.1; high = leb-true (n + 32) (length c.bytes) three.1 }
+    record {
+      size = two.0;
+      whole = eqb-true (n % 16) 0 four.0;
+      low = leb-true 144 n four.1;
+      high = leb-true (n + 32) (length c.bytes) three.1;
+    }
 
-pub is_place-from : (c : Cut) (n : ℕ) → IsTrue (is_legal_size (length c.bytes)) → is_handle_place (length c.bytes) n ≡ true → is_place c n ≡ true
+pub is_place-from : (c : WindowState) (n : ℕ) → IsTrue (is_legal_size (length c.bytes))
+    → is_handle_place (length c.bytes) n ≡ true → is_place c n ≡ true
 unfolding is_place
 is_place-from c n size h = and_from (is_legal_size (length c.bytes)) (is_handle_place (length c.bytes) n) size h
 
-pub place_listed : (c : Cut) (n : ℕ) → Place c n → is_in n (multiples (length c.bytes / 16)) ≡ true
+pub place_listed : (c : WindowState) (n : ℕ) → PayloadBounds c n → is_in n (multiples (length c.bytes / 16)) ≡ true
 place_listed c n p =
     let whole = p.whole in
     let high = p.high in
     let e : 16 * (n / 16) ≡ n = omega arith in
-    subst (λ k. is_in k (multiples (length c.bytes / 16)) ≡ true) e (in_multiples (length c.bytes / 16) (n / 16) (omega arith))
+    subst (λ k. is_in k (multiples (length c.bytes / 16))
+    ≡ true) e (in_multiples (length c.bytes / 16) (n / 16) (omega arith))
 
-pub places_finite : (c : Cut) → (ns : List ℕ) × (length ns ≤ 2 ^ 40) × ((n : ℕ) → is_place c n ≡ true → is_in n ns ≡ true)
+pub places_finite : (c : WindowState) → (ns : List ℕ) × (length ns ≤ 2 ^ 40)
+    × ((n : ℕ) → is_place c n ≡ true → is_in n ns ≡ true)
 places_finite c = by_test (cases_Bool (is_legal_size (length c.bytes)))
   where
-    by_test : (is_legal_size (length c.bytes) ≡ true) ⊎ (is_legal_size (length c.bytes) ≡ false) → (ns : List ℕ) × (length ns ≤ 2 ^ 40) × ((n : ℕ) → is_place c n ≡ true → is_in n ns ≡ true)
+    by_test : (is_legal_size (length c.bytes) ≡ true) ⊎ (is_legal_size (length c.bytes) ≡ false)
+        → (ns : List ℕ) × (length ns ≤ 2 ^ 40) × ((n : ℕ) → is_place c n ≡ true → is_in n ns ≡ true)
     by_test (inl e) =
         let small = small_size (length c.bytes) e in
         let len = length-multiples (length c.bytes / 16) in
-        (multiples (length c.bytes / 16), omega arith, λ n h. place_listed c n (is_place-Place c n h))
-    by_test (inr e) = ([], omega arith, λ n h. absurd (both_ways (is_legal_size (length c.bytes)) e (is_place-Place c n h).size))
+        (multiples (length c.bytes / 16), omega arith, λ n h. place_listed c n (is_place-PayloadBounds c n h))
+    by_test (inr e) = (
+      [],
+      omega arith,
+      λ n h. absurd (both_ways (is_legal_size (length c.bytes)) e (is_place-PayloadBounds c n h).size),
+    )
 
 -- ---- links lead to places
 
-pub placed_leads : (c : Cut) (link : Option ℕ) → IsTrue (is_legal_size (length c.bytes)) → leads (is_place c) (placed (length c.bytes) link) ≡ true
+pub placed_leads : (c : WindowState) (link : Option ℕ) → IsTrue (is_legal_size (length c.bytes))
+    → leads (is_place c) (placed (length c.bytes) link) ≡ true
 unfolding placed
 placed_leads c None size = refl
 placed_leads c (Some n) size = by_test (cases_Bool (is_handle_place (length c.bytes) n))
   where
-    by_test : (is_handle_place (length c.bytes) n ≡ true) ⊎ (is_handle_place (length c.bytes) n ≡ false) → leads (is_place c) (if is_handle_place (length c.bytes) n then Some n else None) ≡ true
-    by_test (inl e) = subst (λ o. leads (is_place c) o ≡ true) (sym (cond-true (is_handle_place (length c.bytes) n) (Some n) None e)) (is_place-from c n size e)
-    by_test (inr e) = subst (λ o. leads (is_place c) o ≡ true) (sym (cond-false (is_handle_place (length c.bytes) n) (Some n) None e)) refl
+    by_test : (is_handle_place (length c.bytes) n ≡ true) ⊎ (is_handle_place (length c.bytes) n ≡ false)
+        → leads (is_place c) (if is_handle_place (length c.bytes) n then Some n else None) ≡ true
+    by_test (inl e) = subst (λ o. leads (is_place c) o
+        ≡ true) (sym (cond-true (is_handle_place (length c.bytes) n) (Some n) None e)) (is_place-from c n size e)
+    by_test (inr e) = subst (λ o. leads (is_place c) o
+        ≡ true) (sym (cond-false (is_handle_place (length c.bytes) n) (Some n) None e)) refl
 
-pub places_left : (c : Cut) (n : ℕ) → is_place c n ≡ true → leads (is_place c) (place_cells c n).left ≡ true
+pub places_left : (c : WindowState) (n : ℕ) → is_place c n ≡ true → leads (is_place c) (place_cells c n).left ≡ true
 unfolding place_cells
-places_left c n h = placed_leads c (link_at (bytes_of c.bytes) n) (is_place-Place c n h).size
+places_left c n h = placed_leads c (link_at (bytes_of c.bytes) n) (is_place-PayloadBounds c n h).size
 
-pub places_right : (c : Cut) (n : ℕ) → is_place c n ≡ true → leads (is_place c) (place_cells c n).right ≡ true
+pub places_right : (c : WindowState) (n : ℕ) → is_place c n ≡ true → leads (is_place c) (place_cells c n).right ≡ true
 unfolding place_cells
-places_right c n h = placed_leads c (link_at (bytes_of c.bytes) (n + 8)) (is_place-Place c n h).size
+places_right c n h = placed_leads c (link_at (bytes_of c.bytes) (n + 8)) (is_place-PayloadBounds c n h).size
 
 -- ---- the order
 
@@ -95,8 +116,10 @@ comes_same k a (inr x) = let l = x.1 in omega arith
 pub before_irreflexive : (m : Memory) (n : ℕ) → stands_before m n n ≡ false
 before_irreflexive m n = comes-false (len_at m n) n (len_at m n) n (comes_same (len_at m n) n)
 
-pub before_transitive : (m : Memory) (a b c : ℕ) → stands_before m a b ≡ true → stands_before m b c ≡ true → stands_before m a c ≡ true
+pub before_transitive : (m : Memory) (a b c : ℕ) → stands_before m a b ≡ true → stands_before m b c ≡ true
+    → stands_before m a c ≡ true
 before_transitive m a b c x y = comes-trans (len_at m a) a (len_at m b) b (len_at m c) c x y
 
-pub before_agrees : (m : Memory) (len node a b : ℕ) → stands_before m a b ≡ true → is_before m len node b ≡ true → is_before m len node a ≡ true
+pub before_agrees : (m : Memory) (len node a b : ℕ) → stands_before m a b ≡ true → is_before m len node b ≡ true
+    → is_before m len node a ≡ true
 before_agrees m len node a b x y = comes-trans (len_at m a) a (len_at m b) b len node x y

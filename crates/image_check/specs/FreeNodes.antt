@@ -1,6 +1,7 @@
 -- The places of a window where a payload may begin, as the nodes of a tree whose links nobody vouches for.
-use Rattle.std.specs.Prelude.{ℕ, ◌+◌, ◌-◌, ◌*◌, ◌/◌, Bool, true, ◌&&◌, not, Option, Some, None, List, length, if◌then◌else◌}
-use Rattle.raw_region.specs.Memory.{Memory, Cut, bytes_of, word_at}
+use Rattle.std.specs.Prelude.{ℕ, ◌+◌, ◌-◌, ◌*◌, ◌/◌, Bool, true, ◌&&◌, not, Option, Some, None, List, length}
+use Rattle.std.specs.Prelude.{if◌then◌else◌}
+use Rattle.raw_region.specs.Memory.{Memory, WindowState, bytes_of, word_at}
 use Rattle.offset_link.specs.Link.{is_handle_place, link_at}
 use Rattle.offset_link.specs.Relinked.{is_bad}
 use Rattle.link_tree.specs.Tree.{Cell}
@@ -12,7 +13,7 @@ use Rattle.best_fit.specs.FreeTree.{is_red}
 use Rattle.best_fit.specs.GapLaws.{comes}
 
 -- a place where a payload may begin
-unfoldable pub is_place : Cut → ℕ → Bool
+unfoldable pub is_place : WindowState → ℕ → Bool
 is_place c n = is_legal_size (length c.bytes) && is_handle_place (length c.bytes) n
 
 -- where a link leads: nowhere, where that is no such place
@@ -20,7 +21,7 @@ unfoldable pub placed : ℕ → Option ℕ → Option ℕ
 placed size None = None
 placed size (Some n) = if is_handle_place size n then Some n else None
 
-unfoldable pub place_cells : Cut → ℕ → Cell
+unfoldable pub place_cells : WindowState → ℕ → Cell
 unfolding placed
 place_cells c n =
     record {
@@ -42,9 +43,10 @@ abbrev pub is_before : Memory → ℕ → ℕ → ℕ → Bool
 is_before m len node n = comes (len_at m n) n len node
 
 -- both links of a node are null or lead to such places
-abbrev pub has_good_links : Cut → ℕ → Bool
-has_good_links c n = not (is_bad (length c.bytes) (link_at (bytes_of c.bytes) n)) && not (is_bad (length c.bytes) (link_at (bytes_of c.bytes) (n + 8)))
+abbrev pub has_good_links : WindowState → ℕ → Bool
+has_good_links c n = not (is_bad (length c.bytes) (link_at (bytes_of c.bytes) n))
+    && not (is_bad (length c.bytes) (link_at (bytes_of c.bytes) (n + 8)))
 
 -- a tile that is free is one of these nodes, and its links are good
-abbrev pub is_planted : Cut → List ℕ → Tile → Bool
+abbrev pub is_planted : WindowState → List ℕ → Tile → Bool
 is_planted c ns t = if is_free t then is_in (t.offset + 16) ns && has_good_links c (t.offset + 16) else true

@@ -3,7 +3,9 @@ use Rattle.std.specs.Prelude.{◌≡◌, ◌≢◌, ◌<◌, ◌≤◌, ◌⊎�
 use Rattle.raw_region.specs.Memory.{AreZero, Memory, bytes_of}
 use Rattle.block_tags.specs.Format.{is_legal_size}
 use Rattle.image_check.specs.declared.classes.ImageClass.{ImageClass}
-use Rattle.image_check.specs.declared.classes.ImageClass.TheVariants.{Truncated, BadMagic, UnsupportedVersion, BadSize, BadReserved, BadTag, BadFreeTree, BadIndex, BadObject, SharedBlock, BadContainer, OrphanBlock}
+use Rattle.image_check.specs.declared.classes.ImageClass.TheVariants.{Truncated, BadMagic, UnsupportedVersion, BadSize}
+use Rattle.image_check.specs.declared.classes.ImageClass.TheVariants.{BadReserved, BadTag, BadFreeTree, BadIndex}
+use Rattle.image_check.specs.declared.classes.ImageClass.TheVariants.{BadObject, SharedBlock, BadContainer, OrphanBlock}
 use Rattle.image_check.specs.EarlyTests.{size_word}
 
 -- the first byte that is not the one of the list at its place
@@ -21,7 +23,8 @@ pub record IsFirstFilled (m : Memory) (from to at : ℕ) : Type 0 where
 
 -- the first reserved byte that is not 0
 abbrev pub IsFirstReserved : List ℕ → ℕ → Type 0
-IsFirstReserved b at = IsFirstFilled (bytes_of b) 12 16 at ⊎ (AreZero (bytes_of b) 12 16 × IsFirstFilled (bytes_of b) 80 128 at)
+IsFirstReserved b at = IsFirstFilled (bytes_of b) 12 16 at
+    ⊎ (AreZero (bytes_of b) 12 16 × IsFirstFilled (bytes_of b) 80 128 at)
 
 -- the size that is none of a segment, or else the first byte behind a segment of that size
 abbrev pub shown_size : List ℕ → ℕ

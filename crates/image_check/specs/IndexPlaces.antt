@@ -11,7 +11,8 @@ use Rattle.image_check.specs.ObjectTests.{are_distinct, has_index, index_capacit
 
 -- the words of the index at an offset are right: it has no more entries than places, and a block with room for these
 abbrev pub is_head : Memory → List Tile → ℕ → Bool
-is_head m ts at = nat_le (word_at m (at + 8)) (index_capacity m at) && is_table_link ts Index (link_at m at) 8 (index_capacity m at)
+is_head m ts at = nat_le (word_at m (at + 8)) (index_capacity m at)
+    && is_table_link ts Index (link_at m at) 8 (index_capacity m at)
 
 -- it has more entries than places, which its second word shows, or else its link leads to no block with room for these
 abbrev pub IsWrongHead : Memory → List Tile → ℕ → ℕ → Type 0

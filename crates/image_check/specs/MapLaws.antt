@@ -1,8 +1,9 @@
 -- The laws of these pairs as nodes.
-use Rattle.std.proofs.Common.{◌≡◌, refl, ap, ◌∙◌, ℕ, ◌+◌, ◌^◌, ◌≤◌, inl, inr, Bool, true, false, ◌&&◌, List, length, arith, IsTrue}
+use Rattle.std.proofs.Common.{◌≡◌, refl, ap, ◌∙◌, ℕ, ◌+◌, ◌^◌, ◌≤◌, inl, inr, Bool, true, false, ◌&&◌, List, length}
+use Rattle.std.proofs.Common.{arith, IsTrue}
 use Rattle.std.specs.Prelude.{Option, Some, None, ℤ, pos, negsuc, int_lt}
 use Rattle.std.proofs.lemmas.Bool.{cases_Bool, and_parts, cond-true, cond-false}
-use Rattle.raw_region.specs.Memory.{Memory, Cut, bytes_of, read}
+use Rattle.raw_region.specs.Memory.{Memory, WindowState, bytes_of, read}
 use Rattle.offset_link.specs.Link.{link_at}
 use Rattle.link_tree.specs.Nodes.{is_in, leads}
 use Rattle.seg_types.specs.declared.kinds.ScalarKind.{ScalarKind}
@@ -14,15 +15,16 @@ use Rattle.image_check.specs.Owners.{Blocks, block_at}
 use Rattle.image_check.specs.MapNodes.{is_pair, is_node_block, kept_link, key_before, pair_cells, pair_len}
 
 -- what makes a pair
-pub record Pair (c : Cut) (es : Blocks) (root : ℕ) (k v : ScalarKind) (n : ℕ) : Type 0 where
+pub record IsPairNode (c : WindowState) (es : Blocks) (root : ℕ) (k v : ScalarKind) (n : ℕ) : Type 0 where
   pub place : is_place c n ≡ true
   pub block : is_node_block root (pair_len k v) (block_at es n) ≡ true
   pub key : is_spelling k (read (bytes_of c.bytes) (n + 16) (size_of k)) ≡ true
   pub value : is_spelling v (read (bytes_of c.bytes) (n + 16 + size_of k) (size_of v)) ≡ true
 
-pub is_pair-Pair : (c : Cut) (es : Blocks) (root : ℕ) (k v : ScalarKind) (n : ℕ) → is_pair c es root k v n ≡ true → Pair c es root k v n
+pub is_pair-IsPairNode : (c : WindowState) (es : Blocks) (root : ℕ) (k v : ScalarKind) (n : ℕ)
+    → is_pair c es root k v n ≡ true → IsPairNode c es root k v n
 unfolding is_pair
-is_pair-Pair c es root k v n h =
+is_pair-IsPairNode c es root k v n h =
     let place = is_place c n in
     let block = is_node_block root (pair_len k v) (block_at es n) in
     let key = is_spelling k (read (bytes_of c.bytes) (n + 16) (size_of k)) in
@@ -32,8 +34,10 @@ is_pair-Pair c es root k v n h =
     let one = and_parts place block two.0 in
     record { place = one.0; block = one.1; key = two.1; value = three.1 }
 
-pub pairs_finite : (c : Cut) (es : Blocks) (root : ℕ) (k v : ScalarKind) → (ns : List ℕ) × (length ns ≤ 2 ^ 40) × ((n : ℕ) → is_pair c es root k v n ≡ true → is_in n ns ≡ true)
-pairs_finite c es root k v = let f = places_finite c in (f.0, f.1, λ n h. f.2 n (is_pair-Pair c es root k v n h).place)
+pub pairs_finite : (c : WindowState) (es : Blocks) (root : ℕ) (k v : ScalarKind)
+    → (ns : List ℕ) × (length ns ≤ 2 ^ 40) × ((n : ℕ) → is_pair c es root k v n ≡ true → is_in n ns ≡ true)
+pairs_finite c es root k v = let f = places_finite c
+    in (f.0, f.1, λ n h. f.2 n (is_pair-IsPairNode c es root k v n h).place)
 
 -- ---- links lead to pairs
 
@@ -44,11 +48,13 @@ kept_leads good n (Some target) h = elim (cases_Bool (good target)) [
   | inr e ↦ ap good (cond-false (good target) target n e) ∙ h
 ]
 
-pub pairs_left : (c : Cut) (es : Blocks) (root : ℕ) (k v : ScalarKind) (n : ℕ) → is_pair c es root k v n ≡ true → leads (is_pair c es root k v) (pair_cells c es root k v n).left ≡ true
+pub pairs_left : (c : WindowState) (es : Blocks) (root : ℕ) (k v : ScalarKind) (n : ℕ)
+    → is_pair c es root k v n ≡ true → leads (is_pair c es root k v) (pair_cells c es root k v n).left ≡ true
 unfolding pair_cells
 pairs_left c es root k v n h = kept_leads (is_pair c es root k v) n (link_at (bytes_of c.bytes) n) h
 
-pub pairs_right : (c : Cut) (es : Blocks) (root : ℕ) (k v : ScalarKind) (n : ℕ) → is_pair c es root k v n ≡ true → leads (is_pair c es root k v) (pair_cells c es root k v n).right ≡ true
+pub pairs_right : (c : WindowState) (es : Blocks) (root : ℕ) (k v : ScalarKind) (n : ℕ)
+    → is_pair c es root k v n ≡ true → leads (is_pair c es root k v) (pair_cells c es root k v n).right ≡ true
 unfolding pair_cells
 pairs_right c es root k v n h = kept_leads (is_pair c es root k v) n (link_at (bytes_of c.bytes) (n + 8)) h
 
@@ -68,9 +74,13 @@ int_lt-not (pos a) h = grind arith
 int_lt-not (negsuc a) h = grind arith
 
 pub keys_irreflexive : (m : Memory) (k : ScalarKind) (n : ℕ) → key_before m k n n ≡ false
-keys_irreflexive m k n = elim (cases_Bool (key_before m k n n)) [ inl e ↦ absurd (int_lt-not (key_at m k n) e) | inr e ↦ e ]
+keys_irreflexive m k n = elim (cases_Bool (key_before m k n n)) [
+  | inl e ↦ absurd (int_lt-not (key_at m k n) e)
+  | inr e ↦ e
+]
 
-pub keys_transitive : (m : Memory) (k : ScalarKind) (a b c : ℕ) → key_before m k a b ≡ true → key_before m k b c ≡ true → key_before m k a c ≡ true
+pub keys_transitive : (m : Memory) (k : ScalarKind) (a b c : ℕ) → key_before m k a b ≡ true
+    → key_before m k b c ≡ true → key_before m k a c ≡ true
 keys_transitive m k a b c x y = int_lt-trans (key_at m k a) (key_at m k b) (key_at m k c) x y
 
 pub nothing_before : (a b : ℕ) → false ≡ true → false ≡ true

@@ -1,6 +1,6 @@
 -- The pairs of one map of an image, as the nodes of a tree whose links nobody vouches for.
 use Rattle.std.specs.Prelude.{ℕ, ◌+◌, Bool, false, ◌&&◌, ◌==◌, nat_le, int_lt, Option, Some, None, if◌then◌else◌}
-use Rattle.raw_region.specs.Memory.{Memory, Cut, bytes_of, read}
+use Rattle.raw_region.specs.Memory.{Memory, WindowState, bytes_of, read}
 use Rattle.offset_link.specs.Link.{link_at}
 use Rattle.link_tree.specs.Tree.{Cell}
 use Rattle.block_tags.specs.declared.tile.Role.TheVariants.{Node}
@@ -29,10 +29,11 @@ is_node_block root len None = false
 is_node_block root len (Some b) = same_role Node b.role && nat_le len b.len && is_rooted root b.owner
 
 -- a pair of the map whose root link stands at this place, with key and value spelled
-unfoldable pub is_pair : Cut → Blocks → ℕ → ScalarKind → ScalarKind → ℕ → Bool
+unfoldable pub is_pair : WindowState → Blocks → ℕ → ScalarKind → ScalarKind → ℕ → Bool
 is_pair c es root k v n =
     is_place c n && is_node_block root (pair_len k v) (block_at es n)
-    && is_spelling k (read (bytes_of c.bytes) (n + 16) (size_of k)) && is_spelling v (read (bytes_of c.bytes) (n + 16 + size_of k) (size_of v))
+    && is_spelling k (read (bytes_of c.bytes) (n + 16) (size_of k))
+    && is_spelling v (read (bytes_of c.bytes) (n + 16 + size_of k) (size_of v))
 
 -- where a link of a node leads: to the node itself, where it leads to no good one, since no ordered tree has a node
 -- below itself
@@ -40,7 +41,7 @@ abbrev pub kept_link : (ℕ → Bool) → ℕ → Option ℕ → Option ℕ
 kept_link good n None = None
 kept_link good n (Some target) = Some (if good target then target else n)
 
-unfoldable pub pair_cells : Cut → Blocks → ℕ → ScalarKind → ScalarKind → ℕ → Cell
+unfoldable pub pair_cells : WindowState → Blocks → ℕ → ScalarKind → ScalarKind → ℕ → Cell
 pair_cells c es root k v n =
     record {
       left = kept_link (is_pair c es root k v) n (link_at (bytes_of c.bytes) n);

@@ -1,5 +1,6 @@
 -- What the pass over the objects tests, part by part, and how often it looks.
-use Rattle.std.specs.Prelude.{◌≡◌, ℕ, ◌+◌, ◌*◌, ◌<◌, ◌≤◌, Bool, true, false, ◌&&◌, Option, Some, None, List, ◌==◌, nat_le, if◌then◌else◌}
+use Rattle.std.specs.Prelude.{◌≡◌, ℕ, ◌+◌, ◌*◌, ◌<◌, ◌≤◌, Bool, true, false, ◌&&◌, Option, Some, None, List, ◌==◌}
+use Rattle.std.specs.Prelude.{nat_le, if◌then◌else◌}
 use Rattle.std.specs.List.{list_all}
 use Rattle.raw_region.specs.Memory.{Memory}
 use Rattle.block_tags.specs.declared.tile.Role.TheVariants.{Object}
@@ -10,18 +11,23 @@ use Rattle.seg_types.specs.Kinds.{size_of}
 use Rattle.seg_index.specs.Keys.{class_at, code_before, count_at, name_before, name_len_at}
 use Rattle.offset_link.specs.Link.{link_at}
 use Rattle.image_check.specs.EarlyTests.{is_among}
-use Rattle.image_check.specs.ObjectTests.{are_spellings, has_name, has_padding, is_indexed, is_object_tile, is_use, is_value_in, kind_at, rise_by, targets, value_offset}
+use Rattle.image_check.specs.ObjectTests.{are_spellings, has_name, has_padding, is_indexed, is_object_tile, is_use}
+use Rattle.image_check.specs.ObjectTests.{is_value_in, kind_at, rise_by, targets, value_offset}
 use Rattle.image_check.specs.Visits.{Rates}
 
 -- ---- one object
 
 -- the value of an object is right, in a payload that ends there
 abbrev pub has_value : ℕ → Memory → ℕ → ℕ → Bool
-has_value format m at end = elim (kind_at format m at) [ None ↦ false | Some k ↦ is_value_in m k (count_at m at) (value_offset m at) end ]
+has_value format m at end = elim (kind_at format m at) [
+  | None ↦ false
+  | Some k ↦ is_value_in m k (count_at m at) (value_offset m at) end
+]
 
 -- the object at an offset is right, in a payload that ends there
 abbrev pub is_object_at : ℕ → Memory → ℕ → ℕ → Bool
-is_object_at format m at end = if has_name format m at then has_value format m at end && has_padding m at && is_indexed m at else false
+is_object_at format m at end =
+    if has_name format m at then has_value format m at end && has_padding m at && is_indexed m at else false
 
 -- the count of a value is right, and it lies before the end
 abbrev pub is_value_room : Kind → ℕ → ℕ → ℕ → Bool
@@ -57,7 +63,8 @@ HaveHeads m at size = (n : ℕ) → is_among (targets m at) n ≡ true → n + 1
 
 -- the same, of the links in the first places of a block
 abbrev pub LeadToHeads : Memory → ℕ → ℕ → ℕ → Type 0
-LeadToHeads m block count size = (i n : ℕ) → i < count → link_at m (block + 8 * i) ≡ Some n → n + 16 + name_len_at m n ≤ size
+LeadToHeads m block count size = (i n : ℕ) → i < count → link_at m (block + 8 * i) ≡ Some n
+    → n + 16 + name_len_at m n ≤ size
 
 -- ---- visits
 

@@ -1,5 +1,7 @@
 -- Links to tiles, and the tests of the indexes and of the objects.
-use Rattle.std.specs.Prelude.{ℕ, ◌+◌, ◌-◌, ◌*◌, Bool, true, false, not, ◌&&◌, Option, Some, None, List, [], ◌∷◌, ◌++◌, map, filter, find, flat_map, is_some, is_none, option_to_list, ◌==◌, nat_le, if◌then◌else◌}
+use Rattle.std.specs.Prelude.{ℕ, ◌+◌, ◌-◌, ◌*◌, Bool, true, false, not, ◌&&◌, Option, Some, None, List, [], ◌∷◌, ◌++◌}
+use Rattle.std.specs.Prelude.{map, filter, find, flat_map, is_some, is_none, option_to_list, ◌==◌, nat_le}
+use Rattle.std.specs.Prelude.{if◌then◌else◌}
 use Rattle.std.specs.List.{list_all, range_with_len}
 use Rattle.raw_region.specs.Memory.{Memory, read, word_at}
 use Rattle.offset_link.specs.Link.{link_at}
@@ -36,7 +38,8 @@ leads_to ts role link n = elim (good_for ts role link) [ None ↦ false | Some t
 
 -- a link of a block that has so many places: null where there are none
 abbrev pub is_table_link : List Tile → Role → Option ℕ → ℕ → ℕ → Bool
-is_table_link ts role link each capacity = if capacity == 0 then is_none link else leads_to ts role link (each * capacity)
+is_table_link ts role link each capacity =
+    if capacity == 0 then is_none link else leads_to ts role link (each * capacity)
 
 abbrev pub payload : Tile → ℕ
 payload t = t.offset + 16
@@ -48,14 +51,18 @@ index_capacity m at = word_at m (at + 16)
 
 -- the links in the first count places of the index whose words stand at an offset
 abbrev pub entries : Memory → ℕ → List (Option ℕ)
-entries m at = elim (link_at m at) [ None ↦ [] | Some block ↦ map (λ i. link_at m (block + 8 * i)) (range_with_len 0 (word_at m (at + 8))) ]
+entries m at = elim (link_at m at) [
+  | None ↦ []
+  | Some block ↦ map (λ i. link_at m (block + 8 * i)) (range_with_len 0 (word_at m (at + 8)))
+]
 
 abbrev pub targets : Memory → ℕ → List ℕ
 targets m at = flat_map option_to_list (entries m at)
 
 abbrev pub has_index : Memory → List Tile → ℕ → Bool
 has_index m ts at =
-    if nat_le (word_at m (at + 8)) (index_capacity m at) && is_table_link ts Index (link_at m at) 8 (index_capacity m at)
+    if nat_le (word_at m (at + 8)) (index_capacity m at)
+    && is_table_link ts Index (link_at m at) 8 (index_capacity m at)
     then list_all (λ link. is_some (good_for ts Object link)) (entries m at) else false
 
 abbrev pub are_distinct : List ℕ → Bool
@@ -74,7 +81,10 @@ abbrev pub value_offset : Memory → ℕ → ℕ
 value_offset m at = at + 16 + padded (name_len_at m at)
 
 abbrev pub kind_at : ℕ → Memory → ℕ → Option Kind
-kind_at format m at = elim (kind_of_code (code_at m at)) [ None ↦ None | Some k ↦ if is_kind_of format k then Some k else None ]
+kind_at format m at = elim (kind_of_code (code_at m at)) [
+  | None ↦ None
+  | Some k ↦ if is_kind_of format k then Some k else None
+]
 
 -- the n elements of a kind from an offset on are spellings
 abbrev pub are_spellings : Memory → ScalarKind → ℕ → ℕ → Bool
@@ -83,7 +93,8 @@ are_spellings m k at n = list_all (λ i. is_spelling k (read m (at + size_of k *
 -- the count is right, and the value lies in the payload, which ends there; the scalars are spellings
 abbrev pub is_value_in : Memory → Kind → ℕ → ℕ → ℕ → Bool
 is_value_in m (Scalar k) count at end =
-    if nat_le 1 count && nat_le count 1048576 && nat_le (at + size_of k * count) end then are_spellings m k at count else false
+    if nat_le 1 count && nat_le count 1048576
+    && nat_le (at + size_of k * count) end then are_spellings m k at count else false
 is_value_in m k count at end = (count == 1) && nat_le (at + 24) end
 
 abbrev pub has_name : ℕ → Memory → ℕ → Bool
@@ -108,7 +119,10 @@ abbrev pub is_object_tile : ℕ → Memory → Tile → Bool
 is_object_tile format m t =
     let at = payload t in
     if has_name format m at then
-    elim (kind_at format m at) [ None ↦ false | Some k ↦ is_value_in m k (count_at m at) (value_offset m at) (t.offset + t.len) ]
+    elim (kind_at format m at) [
+      | None ↦ false
+      | Some k ↦ is_value_in m k (count_at m at) (value_offset m at) (t.offset + t.len)
+    ]
     && has_padding m at && is_indexed m at
     else false
 

@@ -1,14 +1,15 @@
 -- What opening an image may answer, from what its reader gave, where images of one format are read.
-use Rattle.std.specs.Prelude.{◌≡◌, ◌⊎◌, ◌<◌, ◌≤◌, ⊤, ℕ, ◌+◌, ◌*◌, ◌/◌, true, false, ◌&&◌, List, [], length, take, drop, IsTrue, nat_lt, Bool, Some, Result, Ok, Err, MatchResult, if◌then◌else◌}
+use Rattle.std.specs.Prelude.{◌≡◌, ◌⊎◌, ◌<◌, ◌≤◌, ⊤, ℕ, ◌+◌, ◌*◌, ◌/◌, true, false, ◌&&◌, List, [], length, take, drop}
+use Rattle.std.specs.Prelude.{IsTrue, nat_lt, Bool, Some, Result, Ok, Err, MatchResult, if◌then◌else◌}
 use Rattle.std.specs.List.{list_any}
-use Rattle.raw_region.specs.Memory.{SamePlace, cut_at, whole}
+use Rattle.raw_region.specs.Memory.{SameSurroundings, cut_at, whole}
 use Rattle.block_tags.specs.Format.{is_legal_size}
-use Rattle.raw_region.specs.Device.{Gave, Given}
+use Rattle.raw_region.specs.Device.{ReaderHistory, ReadDelta}
 use Rattle.segment_manager.specs.declared.modes.Mode.{Mode}
 use Rattle.segment_manager.specs.declared.modes.Mode.TheVariants.{ReadOnly}
 use Rattle.segment_manager.specs.Directory.{Directory}
 use Rattle.segment_manager.specs.Denotes.{Denotes}
-use Rattle.segment_manager.specs.State.{State}
+use Rattle.segment_manager.specs.State.{SegmentState}
 use Rattle.image_check.specs.declared.errors.OpenError.{OpenError}
 use Rattle.image_check.specs.declared.errors.OpenError.TheVariants.{Image, RegionTooSmall, OutOfMemory, ReadFault}
 use Rattle.image_check.specs.declared.errors.OpenRefused.{OpenRefused}
@@ -30,41 +31,41 @@ has_early_class format b = list_any (λ c. nat_lt (number_of c) 8 && holds forma
 -- ---- of what the reader gave
 
 -- it was not asked
-pub record IsUntouched (image : Given) : Type 0 where
+pub record IsUntouched (image : ReadDelta) : Type 0 where
   pub bytes : image.bytes ≡ []
   pub failed : image.failed ≡ false
 
 -- the last read answered the end, and none failed
-pub record IsReadToEnd (image : Given) : Type 0 where
+pub record IsReadToEnd (image : ReadDelta) : Type 0 where
   pub ended : image.ended ≡ true
   pub failed : image.failed ≡ false
 
 -- no read failed, and the image was read to its end and the class is the first that holds of it, or what was read
 -- decides the class
-pub record IsRefusedAs (format : ℕ) (image : Given) (c : ImageClass) : Type 0 where
+pub record IsRefusedAs (format : ℕ) (image : ReadDelta) (c : ImageClass) : Type 0 where
   pub sound : image.failed ≡ false
   pub right : ((image.ended ≡ true) × (class_of format image.bytes ≡ Some c)) ⊎ DecidesClass format image.bytes c
 
 -- the first 24 bytes are magic, version, any half word and a legal size word, and the region is too small for that size
-pub record IsTooSmallFor (format : ℕ) (image : Given) (base capacity : ℕ) : Type 0 where
+pub record IsTooSmallFor (format : ℕ) (image : ReadDelta) (base capacity : ℕ) : Type 0 where
   pub read : 24 ≤ length image.bytes
   pub front : IsTrue (has_front format image.bytes)
   pub small : capacity < base + size_word image.bytes
 
 -- the same, and there is room for that size
-pub record HasPlace (format : ℕ) (image : Given) (base capacity : ℕ) : Type 0 where
+pub record HasRoomForImage (format : ℕ) (image : ReadDelta) (base capacity : ℕ) : Type 0 where
   pub read : 24 ≤ length image.bytes
   pub front : IsTrue (has_front format image.bytes)
   pub room : base + size_word image.bytes ≤ capacity
 
 -- the reader failed before what it gave decided a class
-pub record IsUndecided (format : ℕ) (image : Given) : Type 0 where
+pub record IsUndecided (format : ℕ) (image : ReadDelta) : Type 0 where
   pub failed : image.failed ≡ true
   pub open_class : (c : ImageClass) → DecidesClass format image.bytes c → ⊥
 
 -- There was no memory for the check of the blocks: the image was read to its end, none of the classes before the eighth
 -- holds, and a tile is in use.
-pub record IsOutOfMemory (format : ℕ) (image : Given) : Type 0 where
+pub record IsOutOfMemory (format : ℕ) (image : ReadDelta) : Type 0 where
   pub read : IsReadToEnd image
   pub early : has_early_class format image.bytes ≡ false
   pub used : IsTrue (has_block image.bytes)
@@ -72,31 +73,34 @@ pub record IsOutOfMemory (format : ℕ) (image : Given) : Type 0 where
 -- ---- the call
 
 -- the image was read to its end and is the segment's, in its place in the region, and it denotes a directory
-pub record IsOpened (format : ℕ) (image : Given) (region : List ℕ) (base : ℕ) (how : Mode) (s : State) : Type 0 where
+pub record OpensOk (format : ℕ) (image : ReadDelta) (region : List ℕ) (base : ℕ) (how : Mode) (s : SegmentState) :
+    Type 0 where
   pub read : IsReadToEnd image
   pub mode : s.mode ≡ how
   pub bytes : s.cut.bytes ≡ image.bytes
-  pub place : SamePlace (cut_at region base (length image.bytes)) s.cut
+  pub place : SameSurroundings (cut_at region base (length image.bytes)) s.cut
   pub denotes : IsImage format image.bytes
 
 -- why no segment is opened
-abbrev pub IsWhyNot : ℕ → Given → ℕ → ℕ → OpenError → Type 0
-IsWhyNot format image base capacity (Image c) = IsRefusedAs format image c
-IsWhyNot format image base capacity RegionTooSmall = IsTooSmallFor format image base capacity
-IsWhyNot format image base capacity (OutOfMemory refusal) = IsOutOfMemory format image × IsRefusalFor image.bytes refusal
-IsWhyNot format image base capacity ReadFault = IsUndecided format image
+abbrev pub IsOpenCause : ℕ → ReadDelta → ℕ → ℕ → OpenError → Type 0
+IsOpenCause format image base capacity (Image c) = IsRefusedAs format image c
+IsOpenCause format image base capacity RegionTooSmall = IsTooSmallFor format image base capacity
+IsOpenCause format image base capacity (OutOfMemory refusal) =
+    IsOutOfMemory format image × IsRefusalFor image.bytes refusal
+IsOpenCause format image base capacity ReadFault = IsUndecided format image
 
 -- The region comes back. The bytes before the base and those behind base and size are as they were, and where the image
 -- has no place in the region, so are all.
-pub record IsHandedBack (format : ℕ) (image : Given) (region : List ℕ) (base : ℕ) (back : List ℕ) : Type 0 where
+pub record IsHandedBack (format : ℕ) (image : ReadDelta) (region : List ℕ) (base : ℕ) (back : List ℕ) : Type 0 where
   pub capacity : length back ≡ length region
   pub before : take base back ≡ take base region
   pub behind : drop (base + size_word image.bytes) back ≡ drop (base + size_word image.bytes) region
-  pub untouched : (HasPlace format image base (length region) → ⊥) → back ≡ region
+  pub untouched : (HasRoomForImage format image base (length region) → ⊥) → back ≡ region
 
 -- no segment is opened; the region comes back
-pub record IsNotOpened (format : ℕ) (image : Given) (region : List ℕ) (base : ℕ) (refused : OpenRefused) : Type 0 where
-  pub why : IsWhyNot format image base (length region) refused.cause
+pub record IsNotOpened (format : ℕ) (image : ReadDelta) (region : List ℕ) (base : ℕ) (refused : OpenRefused) : Type
+    0 where
+  pub why : IsOpenCause format image base (length region) refused.cause
   pub handed_back : IsHandedBack format image region base refused.region
 
 -- why, as an answer of its own
@@ -109,23 +113,25 @@ is_too_small_answer (Ok s) = ⊥
 is_too_small_answer (Err cause) = cause ≡ RegionTooSmall
 
 -- a call that finds no room reads the first 24 bytes, and no more
-abbrev pub ReadsFrontAlone : {S : Type 0} → Gave → Gave → Result S OpenError → Type 0
+abbrev pub ReadsFrontAlone : {S : Type 0} → ReaderHistory → ReaderHistory → Result S OpenError → Type 0
 ReadsFrontAlone old new (Ok s) = ⊤
 ReadsFrontAlone old new (Err cause) = cause ≡ RegionTooSmall → length new.bytes ≡ length old.bytes + 24
 
-pub record Opens (format : ℕ) (image : Given) (region : List ℕ) (base : ℕ) (mode : Mode) (result : Result State OpenRefused) : Type 0 where
-  pub answers : MatchResult result (IsOpened format image region base mode) (IsNotOpened format image region base)
+pub record Opens (format : ℕ) (image : ReadDelta) (region : List ℕ) (base : ℕ) (mode : Mode)
+    (result : Result SegmentState OpenRefused) : Type 0 where
+  pub answers : MatchResult result (OpensOk format image region base mode) (IsNotOpened format image region base)
   -- this one is answered wherever it applies
   pub too_small : IsTooSmallFor format image base (length region) → is_too_small_answer (cause_of result)
 
 -- the region that comes back is that of a segment which is opened for reading: it has the image in its place
-pub record IsVerified (format : ℕ) (image : Given) (region : List ℕ) (base : ℕ) (back : List ℕ) : Type 0 where
-  pub segment : State
-  pub opened : IsOpened format image region base ReadOnly segment
+pub record IsVerified (format : ℕ) (image : ReadDelta) (region : List ℕ) (base : ℕ) (back : List ℕ) : Type 0 where
+  pub segment : SegmentState
+  pub opened : OpensOk format image region base ReadOnly segment
   pub handed_back : back ≡ whole segment.cut
 
 -- the same answers where no segment is made
-pub record Verifies (format : ℕ) (image : Given) (region : List ℕ) (base : ℕ) (result : Result (List ℕ) OpenRefused) : Type 0 where
+pub record Verifies (format : ℕ) (image : ReadDelta) (region : List ℕ) (base : ℕ)
+    (result : Result (List ℕ) OpenRefused) : Type 0 where
   pub answers : MatchResult result (IsVerified format image region base) (IsNotOpened format image region base)
   -- this one is answered wherever it applies
   pub too_small : IsTooSmallFor format image base (length region) → is_too_small_answer (cause_of result)
@@ -136,7 +142,7 @@ failed_reads (Ok x) = 0
 failed_reads (Err cause) = elim cause [ Image c ↦ 0 | RegionTooSmall ↦ 0 | OutOfMemory refusal ↦ 0 | ReadFault ↦ 1 ]
 
 -- a call asks a reader no more behind its end: where the last read answered it that one alone did, and else none
-abbrev pub AsksToTheEnd : Gave → Gave → Type 0
+abbrev pub AsksToTheEnd : ReaderHistory → ReaderHistory → Type 0
 AsksToTheEnd old new = new.ends ≡ old.ends + (if new.ended then 1 else 0)
 
 -- ---- visits

@@ -1,19 +1,19 @@
 -- What opening an image that lies in memory may answer, where images of one format are read.
 use Rattle.std.specs.Prelude.{◌≡◌, ℕ, ◌+◌, ◌≤◌, true, false, List, length, IsTrue, Some, Result, MatchResult}
-use Rattle.raw_region.specs.Device.{Given}
+use Rattle.raw_region.specs.Device.{ReadDelta}
 use Rattle.segment_manager.specs.declared.modes.Mode.{Mode}
-use Rattle.segment_manager.specs.State.{State}
+use Rattle.segment_manager.specs.State.{SegmentState}
 use Rattle.image_check.specs.declared.errors.OpenError.{OpenError}
 use Rattle.image_check.specs.declared.errors.OpenError.TheVariants.{Image, RegionTooSmall, OutOfMemory, ReadFault}
 use Rattle.image_check.specs.declared.errors.OpenRefused.{OpenRefused}
 use Rattle.image_check.specs.EarlyTests.{has_front, size_word}
 use Rattle.image_check.specs.Classes.{class_of}
-use Rattle.image_check.specs.Opening.{IsHandedBack, IsOpened, IsOutOfMemory, IsTooSmallFor, cause_of}
+use Rattle.image_check.specs.Opening.{IsHandedBack, OpensOk, IsOutOfMemory, IsTooSmallFor, cause_of}
 use Rattle.image_check.specs.Passes.{IsRefusalFor}
 use Rattle.image_check.specs.Opening.{is_late, is_too_small_answer}
 
 -- bytes that lie in memory are as those of a reader that gave them, was read to its end and did not fail
-abbrev pub as_given : List ℕ → Given
+abbrev pub as_given : List ℕ → ReadDelta
 as_given b = record { bytes = b; ended = true; failed = false }
 
 -- why no segment is opened: the class is the first that holds of the bytes, and there is no reader that could fail
@@ -29,8 +29,9 @@ pub record IsNotOpenedOf (format : ℕ) (b region : List ℕ) (base : ℕ) (refu
   pub handed_back : IsHandedBack format (as_given b) region base refused.region
   pub unwritten : (length b ≡ size_word b → ⊥) → refused.region ≡ region
 
-pub record OpensBytes (format : ℕ) (b region : List ℕ) (base : ℕ) (mode : Mode) (result : Result State OpenRefused) : Type 0 where
-  pub answers : MatchResult result (IsOpened format (as_given b) region base mode) (IsNotOpenedOf format b region base)
+pub record OpensBytes (format : ℕ) (b region : List ℕ) (base : ℕ) (mode : Mode)
+    (result : Result SegmentState OpenRefused) : Type 0 where
+  pub answers : MatchResult result (OpensOk format (as_given b) region base mode) (IsNotOpenedOf format b region base)
   -- this one is answered wherever it applies
   pub too_small : IsTooSmallFor format (as_given b) base (length region) → is_too_small_answer (cause_of result)
 

@@ -1,5 +1,7 @@
 -- The owners of blocks: what the map of them says, and what is known while links are gone through.
-use Rattle.std.specs.Prelude.{◌≡◌, ◌≢◌, ℕ, filter_map, map, ◌+◌, ◌*◌, ◌/◌, ◌%◌, ◌≤◌, ◌<◌, ◌⊎◌, ◌||◌, not, Bool, is_some, IsTrue, Contains, Option, Some, None, List, [], ◌∷◌, length, nat_eq, IsSome, if◌then◌else◌}
+use Rattle.std.specs.Prelude.{◌≡◌, ◌≢◌, ℕ, filter_map, map, ◌+◌, ◌*◌, ◌/◌, ◌%◌, ◌≤◌, ◌<◌, ◌⊎◌, ◌||◌, not, Bool, is_some}
+use Rattle.std.specs.Prelude.{IsTrue, Contains, Option, Some, None, List, [], ◌∷◌, length, nat_eq, IsSome}
+use Rattle.std.specs.Prelude.{if◌then◌else◌}
 use Rattle.std.specs.Map.{lookup}
 use Rattle.raw_region.specs.Memory.{Memory, bytes_of, word_at}
 use Rattle.offset_link.specs.Link.{link_at}
@@ -15,7 +17,7 @@ use Rattle.seg_types.specs.declared.kinds.Kind.TheVariants.{Map, Strings}
 use Rattle.image_check.specs.ObjectTests.{tile_of, good_for, payload, index_capacity}
 use Rattle.image_check.specs.Fields.{values, has_storage, needs_owner}
 use Rattle.image_check.specs.Passes.{tiles_in}
-use Rattle.image_check.specs.Meaning.{LeadsTo, Counts}
+use Rattle.image_check.specs.Meaning.{LeadsTo, IsCountedLink}
 use Rattle.image_check.specs.OwnerPlaces.{IsSharedAt}
 
 -- the entries of the map
@@ -66,22 +68,22 @@ pub record AreBlocks (ts : List Tile) (es : Blocks) : Type 0 where
 
 -- The visits that the links behind a block may take once a link is met to lead to it: six for a node, and three for
 -- each 16 bytes of storage.
-abbrev pub due : Role → ℕ → ℕ
-due Object len = 0
-due Index len = 0
-due Storage len = 3 * (len / 16)
-due Node len = 6
+abbrev pub visit_budget : Role → ℕ → ℕ
+visit_budget Object len = 0
+visit_budget Index len = 0
+visit_budget Storage len = 3 * (len / 16)
+visit_budget Node len = 6
 
 abbrev pub due_of : Block → ℕ
-due_of b = elim b.owner [ None ↦ due b.role b.len | Some o ↦ 0 ]
+due_of b = elim b.owner [ None ↦ visit_budget b.role b.len | Some o ↦ 0 ]
 
 -- of all blocks that no link was met to lead to
-abbrev pub debt : Blocks → ℕ
-debt [] = 0
-debt (e ∷ es) = due_of e.1 + debt es
+abbrev pub unspent_budget : Blocks → ℕ
+unspent_budget [] = 0
+unspent_budget (e ∷ es) = due_of e.1 + unspent_budget es
 
 abbrev pub tile_due : Tile → ℕ
-tile_due t = elim t.use_of [ None ↦ 0 | Some role ↦ due role t.len ]
+tile_due t = elim t.use_of [ None ↦ 0 | Some role ↦ visit_budget role t.len ]
 
 -- of all tiles
 abbrev pub debts : List Tile → ℕ
@@ -120,23 +122,24 @@ abbrev pub IsChain : Blocks → Option ℕ → List ℕ → Type 0
 IsChain es head [] = head ≡ None
 IsChain es head (n ∷ ns) = (next : Option ℕ) × (head ≡ Some n) × IsWaiting es n next × IsChain es next ns
 
-abbrev pub Stands : ℕ → List ℕ → Type 0
-Stands n [] = ⊥
-Stands n (x ∷ xs) = (n ≡ x) ⊎ Stands n xs
+abbrev pub IsMember : ℕ → List ℕ → Type 0
+IsMember n [] = ⊥
+IsMember n (x ∷ xs) = (n ≡ x) ⊎ IsMember n xs
 
 -- ---- links that are gone through
 
 -- a link of this role at this place would count
 abbrev pub MayCount : ℕ → Memory → List Tile → Role → ℕ → Type 0
-MayCount format m ts role at = (target : ℕ) → LeadsTo m ts role at target → Counts format m ts at target
+MayCount format m ts role at = (target : ℕ) → LeadsTo m ts role at target → IsCountedLink format m ts at target
 
 -- where a link stands to which the links from a start lead
 abbrev pub owner : ℕ → ℕ → Owner
 owner at root = record { at = at; root = root }
 
 -- the link at a place is noted, where it leads to a block of the role
-abbrev pub IsNoted : Memory → List Tile → Blocks → Role → ℕ → ℕ → Type 0
-IsNoted m ts es role at root = (target : ℕ) → LeadsTo m ts role at target → owner_at es target ≡ Some (owner at root)
+abbrev pub IsMarkedLink : Memory → List Tile → Blocks → Role → ℕ → ℕ → Type 0
+IsMarkedLink m ts es role at root = (target : ℕ) → LeadsTo m ts role at target
+    → owner_at es target ≡ Some (owner at root)
 
 -- no link was met but those of entries of indexes
 pub record IsUnmarked (ts : List Tile) (es : Blocks) : Type 0 where
@@ -145,14 +148,14 @@ pub record IsUnmarked (ts : List Tile) (es : Blocks) : Type 0 where
 
 -- both links of a node are noted, as led to from where the node is
 abbrev pub IsFollowed : Memory → List Tile → Blocks → ℕ → ℕ → Type 0
-IsFollowed m ts es n root = IsNoted m ts es Node n root × IsNoted m ts es Node (n + 8) root
+IsFollowed m ts es n root = IsMarkedLink m ts es Node n root × IsMarkedLink m ts es Node (n + 8) root
 
 -- a place that is no link of a node
 abbrev pub IsStart : List Tile → ℕ → Type 0
 IsStart ts at = (n : ℕ) (t : Tile) → tile_of ts Node n ≡ Some t → (at ≢ n) × (at ≢ n + 8)
 
 -- a link of a node to which a link was noted to lead
-pub record IsBehind (ts : List Tile) (es : Blocks) (at : ℕ) : Type 0 where
+pub record IsNodeLink (ts : List Tile) (es : Blocks) (at : ℕ) : Type 0 where
   pub node : ℕ
   pub tile : Tile
   pub is : tile_of ts Node node ≡ Some tile
@@ -162,7 +165,7 @@ pub record IsBehind (ts : List Tile) (es : Blocks) (at : ℕ) : Type 0 where
 
 -- where the links begin that lead to a link: there, or where those begin that lead to its node
 abbrev pub IsRooted : List Tile → Blocks → Owner → Type 0
-IsRooted ts es o = (IsStart ts o.at × (o.root ≡ o.at)) ⊎ ((w : IsBehind ts es o.at) × (o.root ≡ w.led.root))
+IsRooted ts es o = (IsStart ts o.at × (o.root ≡ o.at)) ⊎ ((w : IsNodeLink ts es o.at) × (o.root ≡ w.led.root))
 
 -- nodes begin at multiples of 16
 abbrev pub AreAligned : List Tile → Type 0
@@ -170,32 +173,36 @@ AreAligned ts = (n : ℕ) (t : Tile) → tile_of ts Node n ≡ Some t → n % 16
 
 -- What is noted counts. The links of each node that is owned are noted, but of those that wait and of the one whose
 -- turn it is.
-pub record IsMarking (format : ℕ) (m : Memory) (ts : List Tile) (now : Option ℕ) (es : Blocks) (pending : Option ℕ) (waiting : ℕ) : Type 0 where
+pub record IsMarking (format : ℕ) (m : Memory) (ts : List Tile) (now : Option ℕ) (es : Blocks) (pending : Option ℕ)
+    (waiting : ℕ) : Type 0 where
   pub blocks : AreBlocks ts es
   pub frame : frames es ≡ frames (entries_of ts)
   pub aligned : AreAligned ts
-  pub counts : (n : ℕ) (o : Owner) → owner_at es n ≡ Some o → Counts format m ts o.at n
+  pub counts : (n : ℕ) (o : Owner) → owner_at es n ≡ Some o → IsCountedLink format m ts o.at n
   pub rooted : (n : ℕ) (o : Owner) → owner_at es n ≡ Some o → IsRooted ts es o
   pub chain : List ℕ
   pub linked : IsChain es pending chain
   pub count : length chain ≡ waiting
-  pub room : 6 * waiting + debt es ≤ debts ts
-  pub followed : (n : ℕ) (o : Owner) (t : Tile) → tile_of ts Node n ≡ Some t → owner_at es n ≡ Some o → Stands n chain ⊎ ((now ≡ Some n) ⊎ IsFollowed m ts es n o.root)
+  pub room : 6 * waiting + unspent_budget es ≤ debts ts
+  pub followed : (n : ℕ) (o : Owner) (t : Tile) → tile_of ts Node n ≡ Some t → owner_at es n ≡ Some o
+      → IsMember n chain ⊎ ((now ≡ Some n) ⊎ IsFollowed m ts es n o.root)
 
 -- all that was noted stays noted
-abbrev pub Keeps : Blocks → Blocks → Type 0
-Keeps old es = (n : ℕ) (o : Owner) → owner_at old n ≡ Some o → owner_at es n ≡ Some o
+abbrev pub KeepsMarks : Blocks → Blocks → Type 0
+KeepsMarks old es = (n : ℕ) (o : Owner) → owner_at old n ≡ Some o → owner_at es n ≡ Some o
 
 -- one link more is noted, and what was noted stays
-pub record IsMarked (format : ℕ) (m : Memory) (ts : List Tile) (now : Option ℕ) (role : Role) (link : Owner) (old : Blocks) (waited : ℕ) (es : Blocks) (pending : Option ℕ) (waiting : ℕ) : Type 0 where
+pub record MarksLink (format : ℕ) (m : Memory) (ts : List Tile) (now : Option ℕ) (role : Role) (link : Owner)
+    (old : Blocks) (waited : ℕ) (es : Blocks) (pending : Option ℕ) (waiting : ℕ) : Type 0 where
   pub marking : IsMarking format m ts now es pending waiting
-  pub noted : IsNoted m ts es role link.at link.root
-  pub keeps : Keeps old es
+  pub noted : IsMarkedLink m ts es role link.at link.root
+  pub keeps : KeepsMarks old es
   pub only : (n : ℕ) (o : Owner) → owner_at es n ≡ Some o → (owner_at old n ≡ Some o) ⊎ (o ≡ link)
-  pub less : 6 * waiting + debt es ≤ 6 * waited + debt old
+  pub less : 6 * waiting + unspent_budget es ≤ 6 * waited + unspent_budget old
   -- what is due for storage that was met first is taken off
-  pub paid : role ≡ Storage → (target : ℕ) (t : Tile) → link_at m link.at ≡ Some target → tile_of ts Storage target ≡ Some t → owner_at old target ≡ None
-      → 6 * waiting + debt es + 3 * (t.len / 16) ≤ 6 * waited + debt old
+  pub paid : role ≡ Storage → (target : ℕ) (t : Tile) → link_at m link.at ≡ Some target
+      → tile_of ts Storage target ≡ Some t → owner_at old target ≡ None
+      → 6 * waiting + debt es + 3 * (t.len / 16) ≤ 6 * waited + unspent_budget old
 
 -- ---- of an image
 
@@ -218,28 +225,32 @@ abbrev pub root_in : Option Block → ℕ → ℕ
 root_in block n = elim (owner_in block) [ None ↦ n | Some o ↦ o.root ]
 
 -- one node's links were noted
-pub record IsTurn (format : ℕ) (b : List ℕ) (old : Blocks) (waited : ℕ) (es : Blocks) (pending : Option ℕ) (waiting : ℕ) : Type 0 where
+pub record IsTurn (format : ℕ) (b : List ℕ) (old : Blocks) (waited : ℕ) (es : Blocks) (pending : Option ℕ)
+    (waiting : ℕ) : Type 0 where
   pub marking : IsMarkingOf format b None es pending waiting
-  pub keeps : Keeps old es
-  pub less : 6 * waiting + debt es + 6 ≤ 6 * waited + debt old
+  pub keeps : KeepsMarks old es
+  pub less : 6 * waiting + unspent_budget es + 6 ≤ 6 * waited + unspent_budget old
 
 -- no node waits any more
 pub record IsAllFollowed (format : ℕ) (b : List ℕ) (old es : Blocks) (pending : Option ℕ) (waiting : ℕ) : Type 0 where
   pub marking : IsMarkingOf format b None es pending waiting
   pub none : pending ≡ None
-  pub keeps : Keeps old es
+  pub keeps : KeepsMarks old es
 
 -- ---- all fields that count
 
 -- The links of the indexes, of storage, of elements and of roots are noted, and those of the nodes that were met.
 pub record IsWholeMarking (format : ℕ) (m : Memory) (ts : List Tile) (es : Blocks) (waiting : ℕ) : Type 0 where
   pub marking : IsMarking format m ts None es None waiting
-  pub named : 0 < index_capacity m 32 → IsNoted m ts es Index 32 32
-  pub unique : 0 < index_capacity m 56 → IsNoted m ts es Index 56 56
-  pub storage : (k : Kind) (at : ℕ) → Contains (values format m ts) (k, at) → IsTrue (has_storage k) → 0 < word_at m (at + 16) → IsNoted m ts es Storage at at
-  pub element : (array : Tile) (i at : ℕ) → Contains (values format m ts) (Strings, at) → 0 < word_at m (at + 16) → good_for ts Storage (link_at m at) ≡ Some array
-      → i < word_at m (at + 8) → 16 * i + 32 ≤ array.len → IsNoted m ts es Storage (payload array + 16 * i) (payload array + 16 * i)
-  pub root : (k v : ScalarKind) (at : ℕ) → Contains (values format m ts) (Map k v, at) → IsNoted m ts es Node at at
+  pub named : 0 < index_capacity m 32 → IsMarkedLink m ts es Index 32 32
+  pub unique : 0 < index_capacity m 56 → IsMarkedLink m ts es Index 56 56
+  pub storage : (k : Kind) (at : ℕ) → Contains (values format m ts) (k, at) → IsTrue (has_storage k)
+      → 0 < word_at m (at + 16) → IsMarkedLink m ts es Storage at at
+  pub element : (array : Tile) (i at : ℕ) → Contains (values format m ts) (Strings, at) → 0 < word_at m (at + 16)
+      → good_for ts Storage (link_at m at) ≡ Some array
+      → i < word_at m (at + 8) → 16 * i + 32 ≤ array.len
+      → IsMarkedLink m ts es Storage (payload array + 16 * i) (payload array + 16 * i)
+  pub root : (k v : ScalarKind) (at : ℕ) → Contains (values format m ts) (Map k v, at) → IsMarkedLink m ts es Node at at
 
 abbrev pub IsWholeMarkingOf : ℕ → List ℕ → Blocks → ℕ → Type 0
 IsWholeMarkingOf format b es waiting = IsWholeMarking format (bytes_of b) (tiles_in b) es waiting

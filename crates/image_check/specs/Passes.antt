@@ -1,5 +1,6 @@
 -- What a pass over an image answers.
-use Rattle.std.specs.Prelude.{◌≡◌, ℕ, ◌+◌, ◌≤◌, Bool, true, false, List, filter_map, length, is_some, IsTrue, Result, MatchResult}
+use Rattle.std.specs.Prelude.{◌≡◌, ℕ, ◌+◌, ◌≤◌, Bool, true, false, List, filter_map, length, is_some, IsTrue, Result}
+use Rattle.std.specs.Prelude.{MatchResult}
 use Rattle.std.specs.List.{list_any}
 use Rattle.raw_region.specs.Memory.{bytes_of}
 use Rattle.raw_region.specs.Format.{current}
@@ -8,7 +9,7 @@ use Rattle.block_tags.specs.Tiles.{tiles_of, has_tags}
 use Rattle.block_tags.specs.declared.tile.Tile.{Tile}
 use Rattle.image_check.specs.declared.errors.MemoryFault.{MemoryFault}
 use Rattle.image_check.specs.declared.errors.MemoryFault.TheVariants.{Bytes, BlockMap}
-use Rattle.image_check.specs.declared.room.NoMemory.{NoMemory}
+use Rattle.image_check.specs.declared.room.NoBlockMemory.{NoBlockMemory}
 use Rattle.image_check.specs.Visits.{Rates, weigh}
 
 abbrev pub tiles_in : List ℕ → List Tile
@@ -28,8 +29,8 @@ pub record HasTiles (b : List ℕ) : Type 0 where
   pub tags : IsTrue (has_tags current (bytes_of b) (length b))
 
 -- a pass that answers a place that shows it exactly where its test fails
-abbrev pub Finds : {A : Type 0} → Bool → (ℕ → Type 0) → Result A ℕ → Type 0
-Finds fine Shows result = MatchResult result (λ done. fine ≡ true) (λ at. (fine ≡ false) × Shows at)
+abbrev pub ChecksClass : {A : Type 0} → Bool → (ℕ → Type 0) → Result A ℕ → Type 0
+ChecksClass fine Shows result = MatchResult result (λ done. fine ≡ true) (λ at. (fine ≡ false) × Shows at)
 
 -- a pass raises the count by no more than so many, and so many for each 16 bytes of a tile
 abbrev pub Spends : Rates → ℕ → List ℕ → ℕ → ℕ → Type 0
@@ -44,7 +45,7 @@ abbrev pub CountsBlocks : List ℕ → ℕ → ℕ → Type 0
 CountsBlocks b old new = old + length (tiles_in b) + blocks_in b ≤ new
 
 -- memory was refused for the blocks of an image, and not for something else
-abbrev pub IsRefusalFor : List ℕ → NoMemory → Type 0
+abbrev pub IsRefusalFor : List ℕ → NoBlockMemory → Type 0
 IsRefusalFor b refusal = refusal.blocks ≡ blocks_in b
 
 -- the same of one of several requests

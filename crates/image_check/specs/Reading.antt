@@ -1,27 +1,28 @@
 -- What the parts of an opening read, and why they stop.
 use Rattle.std.specs.Prelude.{◌≡◌, ◌⊎◌, ◌≤◌, ℕ, ◌+◌, Bool, true, false, List, [], ◌∷◌, ◌++◌, length}
 use Rattle.std.specs.Prelude.{IsTrue, if◌then◌else◌, Result, Ok, Err}
-use Rattle.raw_region.specs.Memory.{Cut, SamePlace, cut_at, whole}
-use Rattle.raw_region.specs.Device.{Given}
+use Rattle.raw_region.specs.Memory.{WindowState, SameSurroundings, cut_at, whole}
+use Rattle.raw_region.specs.Device.{ReadDelta}
 use Rattle.block_tags.specs.Format.{is_legal_size}
 use Rattle.image_check.specs.declared.errors.OpenError.{OpenError}
 use Rattle.image_check.specs.declared.errors.OpenError.TheVariants.{Image, RegionTooSmall, ReadFault}
 use Rattle.image_check.specs.declared.errors.OpenRefused.{OpenRefused}
 use Rattle.image_check.specs.declared.classes.ImageClass.{ImageClass}
 use Rattle.image_check.specs.declared.classes.ImageClass.TheVariants.{Truncated, BadMagic, UnsupportedVersion, BadSize}
-use Rattle.image_check.specs.declared.versions.Versions.{Versions}
+use Rattle.image_check.specs.declared.versions.AcceptedVersions.{AcceptedVersions}
 use Rattle.image_check.specs.declared.errors.ExamineError.{ExamineError}
 use Rattle.image_check.specs.Causes.{IsShown}
 use Rattle.image_check.specs.Formats.{format_in}
 use Rattle.image_check.specs.EarlyTests.{has_magic, has_version, has_front, size_word}
-use Rattle.image_check.specs.Opening.{IsHandedBack, IsReadToEnd, IsWhyNot, IsTooSmallFor, is_late}
+use Rattle.image_check.specs.Opening.{IsHandedBack, IsReadToEnd, IsOpenCause, IsTooSmallFor, is_late}
 
 -- ---- the first words
 
 -- the size that the first 24 bytes say, or what is wrong with them
 abbrev pub front_of : ℕ → List ℕ → Result ℕ ImageClass
 front_of format b =
-    if has_magic b then (if has_version format b then (if is_legal_size (size_word b) then Ok (size_word b) else Err BadSize) else Err UnsupportedVersion)
+    if has_magic b then (if has_version format b then
+    (if is_legal_size (size_word b) then Ok (size_word b) else Err BadSize) else Err UnsupportedVersion)
     else Err BadMagic
 
 -- ---- reading
@@ -31,12 +32,13 @@ abbrev pub IsShort : Bool → OpenError → Type 0
 IsShort ended cause = (cause ≡ ReadFault) ⊎ ((cause ≡ Image Truncated) × (ended ≡ true))
 
 -- Why a reader that was asked for one byte behind the image did not end: it failed, or it gave one.
-abbrev pub GoesOn : List ℕ → List ℕ → OpenError → Type 0
-GoesOn old new cause = ((cause ≡ ReadFault) × (new ≡ old)) ⊎ ((cause ≡ Image BadSize) × ((byte : ℕ) × (new ≡ old ++ byte ∷ [])))
+abbrev pub ReadsPastEnd : List ℕ → List ℕ → OpenError → Type 0
+ReadsPastEnd old new cause = ((cause ≡ ReadFault) × (new ≡ old))
+    ⊎ ((cause ≡ Image BadSize) × ((byte : ℕ) × (new ≡ old ++ byte ∷ [])))
 
 -- why no image is in the region, when these bytes were read
-pub record Stops (format : ℕ) (image : Given) (base capacity : ℕ) (cause : OpenError) : Type 0 where
-  pub why : IsWhyNot format image base capacity cause
+pub record Stops (format : ℕ) (image : ReadDelta) (base capacity : ℕ) (cause : OpenError) : Type 0 where
+  pub why : IsOpenCause format image base capacity cause
   pub too_small : IsTooSmallFor format image base capacity → cause ≡ RegionTooSmall
   pub early : is_late cause ≡ false
 
@@ -49,34 +51,35 @@ pub record IsFrontRead (format : ℕ) (old new front : List ℕ) (base capacity 
   pub room : base + size ≤ capacity
 
 -- a window begins with the first 24 bytes of an image, which say its size
-pub record HasFront (format : ℕ) (w : Cut) : Type 0 where
+pub record HasFront (format : ℕ) (w : WindowState) : Type 0 where
   pub right : IsTrue (has_front format w.bytes)
   pub says : size_word w.bytes ≡ length w.bytes
 
 -- a whole image stands in its place in the region
-pub record IsImageRead (format : ℕ) (image : Given) (region : List ℕ) (base : ℕ) (w : Cut) : Type 0 where
+pub record IsImageRead (format : ℕ) (image : ReadDelta) (region : List ℕ) (base : ℕ) (w : WindowState) : Type 0 where
   pub read : IsReadToEnd image
   pub bytes : w.bytes ≡ image.bytes
-  pub place : SamePlace (cut_at region base (length image.bytes)) w
+  pub place : SameSurroundings (cut_at region base (length image.bytes)) w
   pub room : base + length image.bytes ≤ length region
   pub capacity : length (whole w) ≡ length region
   pub front : HasFront format w
 
 -- no image is in the region, which comes back
-pub record IsNotRead (format : ℕ) (image : Given) (region : List ℕ) (base : ℕ) (refused : OpenRefused) : Type 0 where
+pub record IsNotRead (format : ℕ) (image : ReadDelta) (region : List ℕ) (base : ℕ) (refused : OpenRefused) : Type
+    0 where
   pub stops : Stops format image base (length region) refused.cause
   pub handed_back : IsHandedBack format image region base refused.region
 
 -- ---- by the format that the first words say, where it is one of those that are read
 
-abbrev pub StopsBy : Versions → Given → ℕ → ℕ → OpenError → Type 0
+abbrev pub StopsBy : AcceptedVersions → ReadDelta → ℕ → ℕ → OpenError → Type 0
 StopsBy versions image = Stops (format_in versions image.bytes) image
 
-abbrev pub IsReadBy : Versions → Given → List ℕ → ℕ → Cut → Type 0
+abbrev pub IsReadBy : AcceptedVersions → ReadDelta → List ℕ → ℕ → WindowState → Type 0
 IsReadBy versions image = IsImageRead (format_in versions image.bytes) image
 
-abbrev pub IsNotReadBy : Versions → Given → List ℕ → ℕ → OpenRefused → Type 0
+abbrev pub IsNotReadBy : AcceptedVersions → ReadDelta → List ℕ → ℕ → OpenRefused → Type 0
 IsNotReadBy versions image = IsNotRead (format_in versions image.bytes) image
 
-abbrev pub IsShownBy : Versions → Given → ExamineError → Type 0
+abbrev pub IsShownBy : AcceptedVersions → ReadDelta → ExamineError → Type 0
 IsShownBy versions image = IsShown (format_in versions image.bytes) image.bytes

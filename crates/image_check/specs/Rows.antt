@@ -9,14 +9,15 @@ pub record IsRow (es : Blocks) (target number : ℕ) : Type 0 where
   pub is : slice_get es number ≡ Some (target, block)
 
 -- payloads rise with the numbers
-abbrev pub Rises : Blocks → Type 0
-Rises es = (i j : ℕ) (x y : ℕ × Block) → i < j → slice_get es i ≡ Some x → slice_get es j ≡ Some y → x.0 < y.0
+abbrev pub HasSortedPayloads : Blocks → Type 0
+HasSortedPayloads es = (i j : ℕ) (x y : ℕ × Block) → i < j → slice_get es i ≡ Some x → slice_get es j ≡ Some y
+    → x.0 < y.0
 
 -- all payloads are below a place
 abbrev pub AreBelow : Blocks → ℕ → Type 0
 AreBelow es n = (i : ℕ) (x : ℕ × Block) → slice_get es i ≡ Some x → x.0 < n
 
 -- payloads of four bytes, which rise with the numbers
-pub record AreInOrder (es : Blocks) : Type 0 where
-  pub rises : Rises es
+pub record AreSortedBlocks (es : Blocks) : Type 0 where
+  pub rises : HasSortedPayloads es
   pub small : AreBelow es (2 ^ 32)

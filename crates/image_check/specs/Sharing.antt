@@ -1,5 +1,6 @@
 -- What noting the fields that count comes to, value by value.
-use Rattle.std.specs.Prelude.{◌≡◌, ◌≢◌, ℕ, ◌+◌, ◌*◌, ◌/◌, ◌%◌, ◌≤◌, ◌<◌, ◌⊎◌, Bool, true, false, IsTrue, Contains, Option, Some, None, List, length, Result, MatchResult, ◌==◌, if◌then◌else◌}
+use Rattle.std.specs.Prelude.{◌≡◌, ◌≢◌, ℕ, ◌+◌, ◌*◌, ◌/◌, ◌%◌, ◌≤◌, ◌<◌, ◌⊎◌, Bool, true, false, IsTrue, Contains}
+use Rattle.std.specs.Prelude.{Option, Some, None, List, length, Result, MatchResult, ◌==◌, if◌then◌else◌}
 use Rattle.raw_region.specs.Memory.{Memory, bytes_of, word_at}
 use Rattle.offset_link.specs.Link.{link_at}
 use Rattle.block_tags.specs.declared.tile.Role.TheVariants.{Object, Index, Storage, Node}
@@ -10,41 +11,47 @@ use Rattle.seg_types.specs.declared.kinds.Kind.TheVariants.{Scalar, Map, Strings
 use Rattle.image_check.specs.declared.owners.Owner.{Owner}
 use Rattle.image_check.specs.ObjectTests.{good_for, index_capacity, is_use, kind_at, payload, tile_of, value_offset}
 use Rattle.image_check.specs.Fields.{has_storage, values}
-use Rattle.image_check.specs.Owners.{Blocks, IsMarkingOf, IsNoted, IsStart, Keeps, MayCount, debt, owner_at}
+use Rattle.image_check.specs.Owners.{Blocks, IsMarkingOf, IsMarkedLink, IsStart, KeepsMarks, MayCount, unspent_budget}
+use Rattle.image_check.specs.Owners.{owner_at}
 use Rattle.image_check.specs.Passes.{tiles_in}
 use Rattle.image_check.specs.Visits.{Rates}
 
 -- links at such places were noted, and what was noted before stays
-pub record IsGrown (format : ℕ) (b : List ℕ) (At : ℕ → Type 0) (old : Blocks) (waited : ℕ) (es : Blocks) (pending : Option ℕ) (waiting : ℕ) : Type 0 where
+pub record MarksLinks (format : ℕ) (b : List ℕ) (At : ℕ
+    → Type 0) (old : Blocks) (waited : ℕ) (es : Blocks) (pending : Option ℕ) (waiting : ℕ) : Type 0 where
   pub marking : IsMarkingOf format b None es pending waiting
-  pub keeps : Keeps old es
+  pub keeps : KeepsMarks old es
   pub only : (n : ℕ) (o : Owner) → owner_at es n ≡ Some o → (owner_at old n ≡ Some o) ⊎ At o.at
-  pub less : 6 * waiting + debt es ≤ 6 * waited + debt old
+  pub less : 6 * waiting + unspent_budget es ≤ 6 * waited + unspent_budget old
 
 -- so many visits at most besides those that were due for the blocks that were met
 abbrev pub Pays : {A E : Type 0} → ℕ → Result A E → ℕ → ℕ → ℕ → ℕ → Type 0
-Pays n result old owed new owes = (old ≤ new) × MatchResult result (λ done. new + owes ≤ old + (owed + n)) (λ class. new ≤ old + (owed + n))
+Pays n result old owed new owes =
+    (old ≤ new) × MatchResult result (λ done. new + owes ≤ old + (owed + n)) (λ class. new ≤ old + (owed + n))
 
 -- ---- one link
 
 -- the link of an index that has places is noted
-pub record IsIndexNoted (format : ℕ) (b : List ℕ) (at : ℕ) (old : Blocks) (waited : ℕ) (es : Blocks) (pending : Option ℕ) (waiting : ℕ) : Type 0 where
-  pub grown : IsGrown format b (λ p. p ≡ at) old waited es pending waiting
-  pub noted : 0 < index_capacity (bytes_of b) at → IsNoted (bytes_of b) (tiles_in b) es Index at at
+pub record IsIndexNoted (format : ℕ) (b : List ℕ) (at : ℕ) (old : Blocks) (waited : ℕ) (es : Blocks)
+    (pending : Option ℕ) (waiting : ℕ) : Type 0 where
+  pub grown : MarksLinks format b (λ p. p ≡ at) old waited es pending waiting
+  pub noted : 0 < index_capacity (bytes_of b) at → IsMarkedLink (bytes_of b) (tiles_in b) es Index at at
 
 -- the links of both indexes are noted, and these alone
 pub record AreIndexesNoted (format : ℕ) (b : List ℕ) (es : Blocks) (pending : Option ℕ) (waiting : ℕ) : Type 0 where
   pub marking : IsMarkingOf format b None es pending waiting
-  pub named : 0 < index_capacity (bytes_of b) 32 → IsNoted (bytes_of b) (tiles_in b) es Index 32 32
-  pub unique : 0 < index_capacity (bytes_of b) 56 → IsNoted (bytes_of b) (tiles_in b) es Index 56 56
+  pub named : 0 < index_capacity (bytes_of b) 32 → IsMarkedLink (bytes_of b) (tiles_in b) es Index 32 32
+  pub unique : 0 < index_capacity (bytes_of b) 56 → IsMarkedLink (bytes_of b) (tiles_in b) es Index 56 56
   pub front : (n : ℕ) (o : Owner) → owner_at es n ≡ Some o → o.at < 128
 
 -- the storage link of a value that has places is noted
-pub record IsStorageNoted (format : ℕ) (b : List ℕ) (at : ℕ) (old : Blocks) (waited : ℕ) (es : Blocks) (pending : Option ℕ) (waiting : ℕ) : Type 0 where
-  pub grown : IsGrown format b (λ p. p ≡ at) old waited es pending waiting
-  pub noted : 0 < word_at (bytes_of b) (at + 16) → IsNoted (bytes_of b) (tiles_in b) es Storage at at
-  pub paid : 0 < word_at (bytes_of b) (at + 16) → (target : ℕ) (t : Tile) → link_at (bytes_of b) at ≡ Some target → tile_of (tiles_in b) Storage target ≡ Some t → owner_at old target ≡ None
-      → 6 * waiting + debt es + 3 * (t.len / 16) ≤ 6 * waited + debt old
+pub record IsStorageNoted (format : ℕ) (b : List ℕ) (at : ℕ) (old : Blocks) (waited : ℕ) (es : Blocks)
+    (pending : Option ℕ) (waiting : ℕ) : Type 0 where
+  pub grown : MarksLinks format b (λ p. p ≡ at) old waited es pending waiting
+  pub noted : 0 < word_at (bytes_of b) (at + 16) → IsMarkedLink (bytes_of b) (tiles_in b) es Storage at at
+  pub paid : 0 < word_at (bytes_of b) (at + 16) → (target : ℕ) (t : Tile) → link_at (bytes_of b) at ≡ Some target
+      → tile_of (tiles_in b) Storage target ≡ Some t → owner_at old target ≡ None
+      → 6 * waiting + debt es + 3 * (t.len / 16) ≤ 6 * waited + unspent_budget old
 
 -- ---- elements
 
@@ -53,9 +60,10 @@ abbrev pub IsElementPlace : ℕ → ℕ → ℕ → Type 0
 IsElementPlace array n p = (i : ℕ) × (i < n) × (p ≡ array + 16 * i)
 
 -- the links of the first n elements of an array are noted
-pub record AreElementsNoted (format : ℕ) (b : List ℕ) (array n : ℕ) (old : Blocks) (waited : ℕ) (es : Blocks) (pending : Option ℕ) (waiting : ℕ) : Type 0 where
-  pub grown : IsGrown format b (IsElementPlace array n) old waited es pending waiting
-  pub noted : (i : ℕ) → i < n → IsNoted (bytes_of b) (tiles_in b) es Storage (array + 16 * i) (array + 16 * i)
+pub record AreElementsNoted (format : ℕ) (b : List ℕ) (array n : ℕ) (old : Blocks) (waited : ℕ) (es : Blocks)
+    (pending : Option ℕ) (waiting : ℕ) : Type 0 where
+  pub grown : MarksLinks format b (IsElementPlace array n) old waited es pending waiting
+  pub noted : (i : ℕ) → i < n → IsMarkedLink (bytes_of b) (tiles_in b) es Storage (array + 16 * i) (array + 16 * i)
 
 -- a link there would count, and is none of a node
 abbrev pub IsStorageStart : ℕ → List ℕ → ℕ → Type 0
@@ -71,16 +79,22 @@ pub record IsInStorage (ts : List Tile) (p : ℕ) : Type 0 where
 
 -- something of each element of the array that a value leads to
 abbrev pub AllElements : Memory → List Tile → ℕ → (ℕ → Type 0) → Type 0
-AllElements m ts at Is = (array : Tile) (i : ℕ) → 0 < word_at m (at + 16) → good_for ts Storage (link_at m at) ≡ Some array → i < word_at m (at + 8) → 16 * i + 32 ≤ array.len → Is (payload array + 16 * i)
+AllElements m ts at Is = (array : Tile) (i : ℕ) → 0 < word_at m (at + 16)
+    → good_for ts Storage (link_at m at) ≡ Some array → i < word_at m (at + 8) → 16 * i + 32 ≤ array.len
+    → Is (payload array + 16 * i)
 
 -- the links of the elements of a vector of texts are noted
-pub record AreTextsNoted (format : ℕ) (b : List ℕ) (at : ℕ) (old : Blocks) (waited : ℕ) (es : Blocks) (pending : Option ℕ) (waiting : ℕ) : Type 0 where
-  pub grown : IsGrown format b (IsInStorage (tiles_in b)) old waited es pending waiting
-  pub noted : AllElements (bytes_of b) (tiles_in b) at (λ p. IsNoted (bytes_of b) (tiles_in b) es Storage p p)
+pub record AreTextsNoted (format : ℕ) (b : List ℕ) (at : ℕ) (old : Blocks) (waited : ℕ) (es : Blocks)
+    (pending : Option ℕ) (waiting : ℕ) : Type 0 where
+  pub grown : MarksLinks format b (IsInStorage (tiles_in b)) old waited es pending waiting
+  pub noted : AllElements (bytes_of b) (tiles_in b) at (λ p. IsMarkedLink (bytes_of b) (tiles_in b) es Storage p p)
 
 -- how many visits the elements of an array take
 abbrev pub array_cost : Memory → List Tile → ℕ → ℕ
-array_cost m ts at = if word_at m (at + 16) == 0 then 0 else elim (good_for ts Storage (link_at m at)) [ None ↦ 0 | Some t ↦ 3 * (t.len / 16) ]
+array_cost m ts at = if word_at m (at + 16) == 0 then 0 else elim (good_for ts Storage (link_at m at)) [
+  | None ↦ 0
+  | Some t ↦ 3 * (t.len / 16)
+]
 
 -- ---- values
 
@@ -90,9 +104,9 @@ has_link k = true
 
 -- the links behind a value are noted, but those of nodes
 pub record IsValueNoted (m : Memory) (ts : List Tile) (kind : Kind) (at : ℕ) (es : Blocks) : Type 0 where
-  pub storage : IsTrue (has_storage kind) → 0 < word_at m (at + 16) → IsNoted m ts es Storage at at
-  pub element : kind ≡ Strings → AllElements m ts at (λ p. IsNoted m ts es Storage p p)
-  pub root : (k v : ScalarKind) → kind ≡ Map k v → IsNoted m ts es Node at at
+  pub storage : IsTrue (has_storage kind) → 0 < word_at m (at + 16) → IsMarkedLink m ts es Storage at at
+  pub element : kind ≡ Strings → AllElements m ts at (λ p. IsMarkedLink m ts es Storage p p)
+  pub root : (k v : ScalarKind) → kind ≡ Map k v → IsMarkedLink m ts es Node at at
 
 -- a value of which no link was noted
 pub record IsValueReady (format : ℕ) (b : List ℕ) (kind : Kind) (at : ℕ) (es : Blocks) : Type 0 where
@@ -103,15 +117,18 @@ pub record IsValueReady (format : ℕ) (b : List ℕ) (kind : Kind) (at : ℕ) (
   pub fresh : IsTrue (has_link kind) → (n : ℕ) (o : Owner) → owner_at es n ≡ Some o → o.at ≢ at
   pub elements : kind ≡ Strings → AllElements (bytes_of b) (tiles_in b) at (IsStorageStart format b)
 
-pub record IsValueGrown (format : ℕ) (b : List ℕ) (kind : Kind) (at : ℕ) (old : Blocks) (waited : ℕ) (es : Blocks) (pending : Option ℕ) (waiting : ℕ) : Type 0 where
-  pub grown : IsGrown format b (λ p. (IsTrue (has_link kind) × (p ≡ at)) ⊎ IsInStorage (tiles_in b) p) old waited es pending waiting
+pub record IsValueGrown (format : ℕ) (b : List ℕ) (kind : Kind) (at : ℕ) (old : Blocks) (waited : ℕ) (es : Blocks)
+    (pending : Option ℕ) (waiting : ℕ) : Type 0 where
+  pub grown : MarksLinks format b (λ p. (IsTrue (has_link kind) × (p ≡ at))
+      ⊎ IsInStorage (tiles_in b) p) old waited es pending waiting
   pub noted : IsValueNoted (bytes_of b) (tiles_in b) kind at es
 
 -- ---- objects
 
 -- what is said of the value of the object in a tile, where it is one
 abbrev pub OfObject : ℕ → Memory → Tile → (Kind → ℕ → Type 0) → Type 0
-OfObject format m t Is = (kind : Kind) → IsTrue (is_use Object t) → kind_at format m (payload t) ≡ Some kind → Is kind (value_offset m (payload t))
+OfObject format m t Is = (kind : Kind) → IsTrue (is_use Object t) → kind_at format m (payload t) ≡ Some kind
+    → Is kind (value_offset m (payload t))
 
 -- the place of the link of the object in a tile
 pub record IsLinkOf (format : ℕ) (m : Memory) (t : Tile) (p : ℕ) : Type 0 where
@@ -124,15 +141,17 @@ pub record IsLinkOf (format : ℕ) (m : Memory) (t : Tile) (p : ℕ) : Type 0 wh
 abbrev pub IsPlaceOf : ℕ → Memory → List Tile → Tile → ℕ → Type 0
 IsPlaceOf format m ts t p = IsLinkOf format m t p ⊎ IsInStorage ts p
 
-pub record IsTileGrown (format : ℕ) (b : List ℕ) (t : Tile) (old : Blocks) (waited : ℕ) (es : Blocks) (pending : Option ℕ) (waiting : ℕ) : Type 0 where
-  pub grown : IsGrown format b (IsPlaceOf format (bytes_of b) (tiles_in b) t) old waited es pending waiting
+pub record IsTileGrown (format : ℕ) (b : List ℕ) (t : Tile) (old : Blocks) (waited : ℕ) (es : Blocks)
+    (pending : Option ℕ) (waiting : ℕ) : Type 0 where
+  pub grown : MarksLinks format b (IsPlaceOf format (bytes_of b) (tiles_in b) t) old waited es pending waiting
   pub noted : OfObject format (bytes_of b) t (λ kind at. IsValueNoted (bytes_of b) (tiles_in b) kind at es)
 
 -- the links behind all values are noted, but those of nodes
 pub record AreValuesNoted (format : ℕ) (b : List ℕ) (old es : Blocks) (pending : Option ℕ) (waiting : ℕ) : Type 0 where
   pub marking : IsMarkingOf format b None es pending waiting
-  pub keeps : Keeps old es
-  pub noted : (kind : Kind) (at : ℕ) → Contains (values format (bytes_of b) (tiles_in b)) (kind, at) → IsValueNoted (bytes_of b) (tiles_in b) kind at es
+  pub keeps : KeepsMarks old es
+  pub noted : (kind : Kind) (at : ℕ) → Contains (values format (bytes_of b) (tiles_in b)) (kind, at)
+      → IsValueNoted (bytes_of b) (tiles_in b) kind at es
 
 -- the visits of an object besides those of its elements
 abbrev pub object_cost : Tile → ℕ

@@ -4,7 +4,9 @@ use Rattle.raw_region.specs.Memory.{bytes_of}
 use Rattle.block_tags.specs.Tiles.{tiles_of}
 use Rattle.block_tags.specs.declared.tile.Tile.{Tile}
 use Rattle.image_check.specs.declared.classes.ImageClass.{ImageClass}
-use Rattle.image_check.specs.declared.classes.ImageClass.TheVariants.{Truncated, BadMagic, UnsupportedVersion, BadSize, BadReserved, BadTag, BadFreeTree, BadIndex, BadObject, SharedBlock, BadContainer, OrphanBlock}
+use Rattle.image_check.specs.declared.classes.ImageClass.TheVariants.{Truncated, BadMagic, UnsupportedVersion, BadSize}
+use Rattle.image_check.specs.declared.classes.ImageClass.TheVariants.{BadReserved, BadTag, BadFreeTree, BadIndex}
+use Rattle.image_check.specs.declared.classes.ImageClass.TheVariants.{BadObject, SharedBlock, BadContainer, OrphanBlock}
 use Rattle.image_check.specs.declared.verdict.Verdict.{Verdict}
 use Rattle.image_check.specs.Classes.{class_of}
 use Rattle.image_check.specs.Containers.{has_container}
@@ -37,12 +39,13 @@ Shows format b BadIndex at = IsWrongIndex (bytes_of b) (said_tiles b) at
 Shows format b BadObject at = IsWrongObject format (bytes_of b) (said_tiles b) at
 Shows format b SharedBlock at = IsSharedAt format (bytes_of b) (said_tiles b) at
 Shows format b BadContainer at = IsFirstWrongTile (has_container format (bytes_of b) (said_tiles b)) (said_tiles b) at
-Shows format b OrphanBlock at = IsFirstTile (is_left (counted_fields format (bytes_of b) (said_tiles b))) (said_tiles b) at
+Shows format b OrphanBlock at =
+    IsFirstTile (is_left (counted_fields format (bytes_of b) (said_tiles b))) (said_tiles b) at
 
 -- the class of the bytes, and a place that shows it
 abbrev pub IsVerdict : ℕ → List ℕ → Verdict → Type 0
 IsVerdict format b v = (class_of format b ≡ Some v.class) × Shows format b v.class v.place
 
 -- a pass answers the verdict where a class holds
-abbrev pub Judges : {A : Type 0} → ℕ → List ℕ → Result A Verdict → Type 0
-Judges format b result = MatchResult result (λ done. class_of format b ≡ None) (IsVerdict format b)
+abbrev pub AnswersVerdict : {A : Type 0} → ℕ → List ℕ → Result A Verdict → Type 0
+AnswersVerdict format b result = MatchResult result (λ done. class_of format b ≡ None) (IsVerdict format b)

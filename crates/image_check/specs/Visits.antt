@@ -5,8 +5,8 @@ use Rattle.block_tags.specs.declared.tile.Role.TheVariants.{Object, Index, Stora
 use Rattle.block_tags.specs.declared.tile.Tile.{Tile}
 
 -- so many visits more at most
-abbrev pub Adds : ℕ → ℕ → ℕ → Type 0
-Adds n old new = (old ≤ new) × (new ≤ old + n)
+abbrev pub AddsVisits : ℕ → ℕ → ℕ → Type 0
+AddsVisits n old new = (old ≤ new) × (new ≤ old + n)
 
 -- so often for each 16 bytes of a gap, and of a block in use by its role
 pub record Rates : Type 0 where
@@ -30,7 +30,13 @@ weigh r (t ∷ ts) = rate_of r t.use_of * (t.len / 16) + weigh r ts
 
 -- two passes together
 abbrev pub both : Rates → Rates → Rates
-both r s = record { free = r.free + s.free; object = r.object + s.object; index = r.index + s.index; storage = r.storage + s.storage; node = r.node + s.node }
+both r s = record {
+  free = r.free + s.free;
+  object = r.object + s.object;
+  index = r.index + s.index;
+  storage = r.storage + s.storage;
+  node = r.node + s.node;
+}
 
 -- what each pass may take: the tags, the free tree with a search for each gap, and the passes over the blocks
 abbrev pub tag_rates : Rates

@@ -7,16 +7,16 @@ ghost use Rattle.block_tags.specs.declared.tile.Role.TheVariants.{Storage};
 ghost use Rattle.block_tags.specs.Format.{is_legal_size};
 ghost use Rattle.image_check.specs.ObjectTests.{is_table_link};
 ghost use Rattle.image_check.specs.Fields.{element_offsets, is_array_at, is_element_at, is_storage_at};
-ghost use Rattle.image_check.specs.Owners.{AreBlocks, IsNoted};
+ghost use Rattle.image_check.specs.Owners.{AreBlocks, IsMarkedLink};
 ghost use Rattle.image_check.specs.Containers.{rooted_weight};
 ghost use Rattle.image_check.specs.Passes.{HasTiles, tiles_in};
-ghost use Rattle.image_check.specs.Visits.{Adds};
+ghost use Rattle.image_check.specs.Visits.{AddsVisits};
 
-use crate::checking::Visits;
-use crate::image_window::{Blocks, ImageWindow, Value};
+use crate::checking::VisitCounter;
+use crate::image_window::{BlockTable, ImageWindow, Value};
 use crate::owners::good_len;
 use crate::spellings::are_spellings;
-use block_tags::{Role, TAG};
+use block_tags::{Role, TAG_LEN};
 use seg_types::ScalarKind;
 
 /// The bytes of an element of an array of texts: a link and a length.
@@ -24,15 +24,16 @@ const ELEMENT: u64 = 16;
 
 /// Whether the link is that of a block for this role with `capacity` places of `each` bytes: null where there are none.
 pub(crate) fn is_table(
-    blocks: &Blocks,
-    visits: &mut Visits,
+    blocks: &BlockTable,
+    visits: &mut VisitCounter,
     role: Role,
     link: Option<u64>,
     each: u64,
     capacity: u64,
 ) -> bool
-    ensures value { (ts : List Tile) → AreBlocks ts blocks.now.entries → result ≡ is_table_link ts role link each capacity }
-    ensures visits { Adds 1 visits.old visits.new }
+    ensures value { (ts : List Tile) → AreBlocks ts blocks.now.entries
+        → result ≡ is_table_link ts role link each capacity }
+    ensures visits { AddsVisits 1 visits.old visits.new }
 {
     if capacity == 0 {
         return link.is_none();
@@ -48,7 +49,7 @@ fn has_room(len: u64, each: u64, capacity: u64) -> bool
     ensures { IsTrue result ↔ (each * capacity + 16 ≤ len) }
 {
     match each.checked_mul(capacity) {
-        Some(bytes) => bytes <= len && len - bytes >= TAG,
+        Some(bytes) => bytes <= len && len - bytes >= TAG_LEN,
         None => false,
     }
 }
@@ -56,18 +57,20 @@ fn has_room(len: u64, each: u64, capacity: u64) -> bool
 /// Whether the three words of the value are those of a string or a vector of this kind.
 pub(crate) fn is_storage(
     window: &ImageWindow,
-    blocks: &Blocks,
-    visits: &mut Visits,
+    blocks: &BlockTable,
+    visits: &mut VisitCounter,
     kind: ScalarKind,
     value: Value,
 ) -> bool
     requires tiles { HasTiles window.now.bytes }
     requires blocks { AreBlocks (tiles_in window.now.bytes) blocks.now.entries }
-    requires noted { 0 < word_at (bytes_of window.now.bytes) (value.at + 16) → IsNoted (bytes_of window.now.bytes) (tiles_in window.now.bytes) blocks.now.entries Storage value.at value.at }
+    requires mark { 0 < word_at (bytes_of window.now.bytes) (value.at + 16)
+        → IsMarkedLink (bytes_of window.now.bytes) (tiles_in window.now.bytes) blocks.now.entries Storage value.at
+        value.at }
     requires aligned { value.at % 8 ≡ 0 }
-    requires inside { value.at + 24 ≤ length window.now.bytes }
+    requires in_bounds { value.at + 24 ≤ length window.now.bytes }
     ensures value { result ≡ is_storage_at (bytes_of window.now.bytes) (tiles_in window.now.bytes) kind value.at }
-    ensures visits { Adds (1 + rooted_weight value.at blocks.now.entries) visits.old visits.new }
+    ensures visits { AddsVisits (1 + rooted_weight value.at blocks.now.entries) visits.old visits.new }
 {
     let len = value.len(window);
     let capacity = value.capacity(window);
@@ -85,25 +88,33 @@ pub(crate) fn is_storage(
 }
 
 /// Whether the element at `at` leads to a storage block with room for its text.
-fn is_element(window: &ImageWindow, blocks: &Blocks, visits: &mut Visits, at: u64) -> bool
+fn is_element(window: &ImageWindow, blocks: &BlockTable, visits: &mut VisitCounter, at: u64) -> bool
     requires size { IsTrue (is_legal_size (length window.now.bytes)) }
     requires aligned { at % 8 ≡ 0 }
-    requires inside { at + 16 ≤ length window.now.bytes }
-    ensures value { (ts : List Tile) → AreBlocks ts blocks.now.entries → result ≡ is_element_at (bytes_of window.now.bytes) ts at }
-    ensures visits { Adds 2 visits.old visits.new }
+    requires in_bounds { at + 16 ≤ length window.now.bytes }
+    ensures value { (ts : List Tile) → AreBlocks ts blocks.now.entries
+        → result ≡ is_element_at (bytes_of window.now.bytes) ts at }
+    ensures visits { AddsVisits 2 visits.old visits.new }
 {
     let (link, len) = window.text(at, visits);
     is_table(blocks, visits, Role::Storage, link, 1, len)
 }
 
 /// Whether the first `n` elements of the array at `at` lead to their texts.
-fn are_elements(window: &ImageWindow, blocks: &Blocks, visits: &mut Visits, at: u64, n: u64) -> bool
+fn are_elements(
+    window: &ImageWindow,
+    blocks: &BlockTable,
+    visits: &mut VisitCounter,
+    at: u64,
+    n: u64,
+) -> bool
     requires size { IsTrue (is_legal_size (length window.now.bytes)) }
     requires blocks { (ts : List Tile) × AreBlocks ts blocks.now.entries }
     requires aligned { at % 8 ≡ 0 }
-    requires inside { at + 16 * n ≤ length window.now.bytes }
-    ensures value { (ts : List Tile) → AreBlocks ts blocks.now.entries → result ≡ list_all (is_element_at (bytes_of window.now.bytes) ts) (element_offsets at n) }
-    ensures visits { Adds (2 * n) visits.old visits.new }
+    requires in_bounds { at + 16 * n ≤ length window.now.bytes }
+    ensures value { (ts : List Tile) → AreBlocks ts blocks.now.entries
+        → result ≡ list_all (is_element_at (bytes_of window.now.bytes) ts) (element_offsets at n) }
+    ensures visits { AddsVisits (2 * n) visits.old visits.new }
 {
     'elements: for i in 0..n {
         if !is_element(window, blocks, visits, at + ELEMENT * i) {
@@ -116,17 +127,19 @@ fn are_elements(window: &ImageWindow, blocks: &Blocks, visits: &mut Visits, at: 
 /// Whether the three words of the value are those of an array of texts.
 pub(crate) fn is_array(
     window: &ImageWindow,
-    blocks: &Blocks,
-    visits: &mut Visits,
+    blocks: &BlockTable,
+    visits: &mut VisitCounter,
     value: Value,
 ) -> bool
     requires tiles { HasTiles window.now.bytes }
     requires blocks { AreBlocks (tiles_in window.now.bytes) blocks.now.entries }
-    requires noted { 0 < word_at (bytes_of window.now.bytes) (value.at + 16) → IsNoted (bytes_of window.now.bytes) (tiles_in window.now.bytes) blocks.now.entries Storage value.at value.at }
+    requires mark { 0 < word_at (bytes_of window.now.bytes) (value.at + 16)
+        → IsMarkedLink (bytes_of window.now.bytes) (tiles_in window.now.bytes) blocks.now.entries Storage value.at
+        value.at }
     requires aligned { value.at % 8 ≡ 0 }
-    requires inside { value.at + 24 ≤ length window.now.bytes }
+    requires in_bounds { value.at + 24 ≤ length window.now.bytes }
     ensures value { result ≡ is_array_at (bytes_of window.now.bytes) (tiles_in window.now.bytes) value.at }
-    ensures visits { Adds (1 + rooted_weight value.at blocks.now.entries) visits.old visits.new }
+    ensures visits { AddsVisits (1 + rooted_weight value.at blocks.now.entries) visits.old visits.new }
 {
     let len = value.len(window);
     let capacity = value.capacity(window);

@@ -2,7 +2,7 @@
 ghost use Rattle.std.specs.Prelude.{◌≡◌, ◌≤◌, IfErr, IfOk, IsTrue, None, Some, MatchResult, OnErr, OnOk};
 ghost use Rattle.std.specs.Prelude.{false, length, true};
 ghost use Rattle.image_check.specs.Causes.{error_for};
-ghost use Rattle.image_check.specs.Checking.{ArePassed, IsImageNoted, IsWhyRefused};
+ghost use Rattle.image_check.specs.Checking.{PassesImage, IsImageNoted, IsWhyRefused};
 ghost use Rattle.raw_region.specs.Memory.{are_bytes};
 ghost use Rattle.image_check.specs.Counting.{AreCounted};
 ghost use Rattle.image_check.specs.EarlyTests.{has_reserved as is_reserved};
@@ -10,42 +10,43 @@ ghost use Rattle.image_check.specs.Frame.{has_frame};
 ghost use Rattle.image_check.specs.HeaderPlaces.{IsFirstReserved};
 ghost use Rattle.image_check.specs.Opening.{IsImage, IsRaisedFor, is_late};
 ghost use Rattle.image_check.specs.Owners.{entries_of, frames};
-ghost use Rattle.image_check.specs.Passes.{CountsBlocks, CountsTiles, Finds, Spends, tiles_in};
+ghost use Rattle.image_check.specs.Passes.{CountsBlocks, CountsTiles, ChecksClass, Spends, tiles_in};
 ghost use Rattle.image_check.specs.Reading.{HasFront};
-ghost use Rattle.image_check.specs.Verdicts.{IsVerdict, Judges};
+ghost use Rattle.image_check.specs.Verdicts.{IsVerdict, AnswersVerdict};
 ghost use Rattle.image_check.specs.Visits.{block_rates, frame_rates};
 ghost use Rattle.image_check.specs.declared.errors.OpenError.TheVariants.{Image};
 
-mod visits;
+mod visit_counter;
 
+use crate::block_collection::collect_blocks;
 use crate::classes::ImageClass;
 use crate::containers::check_containers;
 use crate::counting::Counts;
 use crate::errors::ExamineError;
 use crate::free_tree::check_gaps;
-use crate::gathering::gather;
 use crate::image_window::ImageWindow;
 use crate::indexes::check_indexes;
 use crate::noting::note_blocks;
 use crate::object_walk::check_objects;
 use crate::orphans::check_orphans;
 use crate::owners::Owners;
-use crate::sharing::check_sharing;
+use crate::shared_blocks::check_sharing;
 use crate::verdict::{Offset, Verdict};
-use best_fit::{FREE_TREE, WayPoints};
-use block_tags::FIRST;
+use best_fit::{BlockHints, FREE_TREE_ROOT};
+use block_tags::HEADER_LEN;
 use raw_region::Steps;
 use segment_manager::layout::{FORMAT_AT, RESERVED_AT};
 use std::alloc::Global;
 use std::mem;
-pub(crate) use visits::Visits;
+pub(crate) use visit_counter::VisitCounter;
 
 /// Whether a window whose first words are right by a format, from 0 to 2, is the image of a directory by it. A visit is
 /// a step: where it is, or a class from `BadIndex` on holds, there is at least one for each tile.
 ///
 /// # Errors
 ///
-/// The first class that holds. `OutOfMemory` only where none of the classes before `BadIndex` holds and a tile is in use.
+/// The first class that holds. `OutOfMemory` only where none of the classes before `BadIndex` holds and a tile is in
+/// use.
 pub fn check(
     format: u64,
     alloc: Global,
@@ -54,13 +55,14 @@ pub fn check(
 ) -> Result<(), ExamineError>
     requires format { format ≤ 2 }
     requires front { HasFront format window.now }
-    ensures answers { MatchResult result (λ done. IsImage format window.now.bytes) (IsWhyRefused format window.now.bytes) }
+    ensures outcome { MatchResult result (λ done.
+        IsImage format window.now.bytes) (IsWhyRefused format window.now.bytes) }
     ensures steps { IsRaisedFor (length window.now.bytes) steps.old steps.new }
     ensures tiles { OnOk result (CountsTiles window.now.bytes steps.old steps.new) }
-    ensures late { IfErr result (λ cause. is_late (error_for cause) ≡ true
+    ensures visits_on_error { IfErr result (λ cause. is_late (error_for cause) ≡ true
         → CountsTiles window.now.bytes steps.old steps.new) }
 {
-    let mut visits = Visits::new(mem::replace(steps, Steps::new()));
+    let mut visits = VisitCounter::new(mem::replace(steps, Steps::new()));
     let checked = check_counted(format, alloc, window, &mut visits);
     *steps = visits.into_steps();
     checked
@@ -76,17 +78,17 @@ pub fn check_noting(
     alloc: Global,
     window: &ImageWindow,
     steps: &mut Steps,
-) -> Result<WayPoints, ExamineError>
+) -> Result<BlockHints, ExamineError>
     requires format { format ≤ 2 }
     requires front { HasFront format window.now }
-    ensures answers { MatchResult result (IsImageNoted format window.now.bytes) (IsWhyRefused format window.now.bytes) }
+    ensures outcome { MatchResult result (IsImageNoted format window.now.bytes) (IsWhyRefused format window.now.bytes) }
     ensures steps { IsRaisedFor (length window.now.bytes) steps.old steps.new }
     ensures tiles { OnOk result (CountsTiles window.now.bytes steps.old steps.new) }
     ensures blocks { OnOk result (CountsBlocks window.now.bytes steps.old steps.new) }
-    ensures late { IfErr result (λ cause. is_late (error_for cause) ≡ true
+    ensures visits_on_error { IfErr result (λ cause. is_late (error_for cause) ≡ true
         → CountsTiles window.now.bytes steps.old steps.new) }
 {
-    let mut visits = Visits::new(mem::replace(steps, Steps::new()));
+    let mut visits = VisitCounter::new(mem::replace(steps, Steps::new()));
     let noted = note_counted(format, alloc, window, &mut visits);
     *steps = visits.into_steps();
     noted
@@ -101,14 +103,15 @@ fn check_counted(
     format: u64,
     alloc: Global,
     window: &ImageWindow,
-    visits: &mut Visits,
+    visits: &mut VisitCounter,
 ) -> Result<(), ExamineError>
     requires format { format ≤ 2 }
     requires front { HasFront format window.now }
-    ensures answers { MatchResult result (λ done. IsImage format window.now.bytes) (IsWhyRefused format window.now.bytes) }
+    ensures outcome { MatchResult result (λ done.
+        IsImage format window.now.bytes) (IsWhyRefused format window.now.bytes) }
     ensures visits { IsRaisedFor (length window.now.bytes) visits.old visits.new }
     ensures tiles { OnOk result (CountsTiles window.now.bytes visits.old visits.new) }
-    ensures late { IfErr result (λ cause. is_late (error_for cause) ≡ true
+    ensures visits_on_error { IfErr result (λ cause. is_late (error_for cause) ≡ true
         → CountsTiles window.now.bytes visits.old visits.new) }
 {
     match pass_all(format, alloc, window, visits) {
@@ -126,15 +129,15 @@ fn note_counted(
     format: u64,
     alloc: Global,
     window: &ImageWindow,
-    visits: &mut Visits,
-) -> Result<WayPoints, ExamineError>
+    visits: &mut VisitCounter,
+) -> Result<BlockHints, ExamineError>
     requires format { format ≤ 2 }
     requires front { HasFront format window.now }
-    ensures answers { MatchResult result (IsImageNoted format window.now.bytes) (IsWhyRefused format window.now.bytes) }
+    ensures outcome { MatchResult result (IsImageNoted format window.now.bytes) (IsWhyRefused format window.now.bytes) }
     ensures visits { IsRaisedFor (length window.now.bytes) visits.old visits.new }
     ensures tiles { OnOk result (CountsTiles window.now.bytes visits.old visits.new) }
     ensures blocks { OnOk result (CountsBlocks window.now.bytes visits.old visits.new) }
-    ensures late { IfErr result (λ cause. is_late (error_for cause) ≡ true
+    ensures visits_on_error { IfErr result (λ cause. is_late (error_for cause) ≡ true
         → CountsTiles window.now.bytes visits.old visits.new) }
 {
     match pass_all(format, alloc, window, visits) {
@@ -152,21 +155,22 @@ fn pass_all(
     format: u64,
     alloc: Global,
     window: &ImageWindow,
-    visits: &mut Visits,
+    visits: &mut VisitCounter,
 ) -> Result<Owners, ExamineError>
     requires format { format ≤ 2 }
     requires front { HasFront format window.now }
-    ensures answers { MatchResult result (λ owners. IsImage format window.now.bytes) (IsWhyRefused format window.now.bytes) }
-    ensures passed { IfOk result (λ owners. ArePassed window.now.bytes owners.blocks.entries visits.old visits.new) }
+    ensures outcome { MatchResult result (λ owners.
+        IsImage format window.now.bytes) (IsWhyRefused format window.now.bytes) }
+    ensures pass { IfOk result (λ owners. PassesImage window.now.bytes owners.blocks.entries visits.old visits.new) }
     ensures visits { IsRaisedFor (length window.now.bytes) visits.old visits.new }
-    ensures late { IfErr result (λ cause. is_late (error_for cause) ≡ true
+    ensures visits_on_error { IfErr result (λ cause. is_late (error_for cause) ≡ true
         → CountsTiles window.now.bytes visits.old visits.new) }
 {
     let counts = match check_frame(format, window, visits) {
         Ok(counts) => counts,
         Err(verdict) => return Err(ExamineError::Image(verdict)),
     };
-    let mut owners = match gather(alloc, window, counts, visits) {
+    let mut owners = match collect_blocks(alloc, window, counts, visits) {
         Ok(owners) => owners,
         Err(refusal) => return Err(ExamineError::OutOfMemory(refusal)),
     };
@@ -182,14 +186,19 @@ fn pass_all(
 /// # Errors
 ///
 /// The first of `BadReserved`, `BadTag` and `BadFreeTree` that holds, and the place that shows it.
-fn check_frame(format: u64, window: &ImageWindow, visits: &mut Visits) -> Result<Counts, Verdict>
+fn check_frame(
+    format: u64,
+    window: &ImageWindow,
+    visits: &mut VisitCounter,
+) -> Result<Counts, Verdict>
     requires { HasFront format window.now }
-    ensures finds { MatchResult result (λ counts. IsTrue (has_frame format window.now.bytes)) (IsVerdict format window.now.bytes) }
-    ensures counted { IfOk result (AreCounted (tiles_in window.now.bytes)) }
+    ensures verdict { MatchResult result (λ counts.
+        IsTrue (has_frame format window.now.bytes)) (IsVerdict format window.now.bytes) }
+    ensures steps_lower { IfOk result (AreCounted (tiles_in window.now.bytes)) }
     ensures bytes { OnOk result (IsTrue (are_bytes window.now.bytes)) }
     ensures visits { OnOk result (Spends frame_rates 51 window.now.bytes visits.old visits.new) }
-    ensures most { OnErr result (IsRaisedFor (length window.now.bytes) visits.old visits.new) }
-    ensures early { IfErr result (λ verdict. is_late (Image verdict.class) ≡ false) }
+    ensures visits_on_error { OnErr result (IsRaisedFor (length window.now.bytes) visits.old visits.new) }
+    ensures early_stop { IfErr result (λ verdict. is_late (Image verdict.class) ≡ false) }
 {
     window.hold_bytes();
     if let Err(place) = check_reserved(window) {
@@ -206,7 +215,7 @@ fn check_frame(format: u64, window: &ImageWindow, visits: &mut Visits) -> Result
     let Some(counts) = check_gaps(format, window, visits) else {
         return Err(Verdict {
             class: ImageClass::BadFreeTree,
-            place: FREE_TREE,
+            place: FREE_TREE_ROOT,
         });
     };
     Ok(counts)
@@ -222,13 +231,13 @@ fn check_blocks(
     format: u64,
     window: &ImageWindow,
     owners: &mut Owners,
-    visits: &mut Visits,
+    visits: &mut VisitCounter,
 ) -> Result<(), Verdict>
     requires frame { IsTrue (has_frame format window.now.bytes) }
     requires blocks { owners.old.blocks.entries ≡ entries_of (tiles_in window.now.bytes) }
     requires pending { owners.old.pending ≡ None }
     requires waiting { owners.old.waiting ≡ 0 }
-    ensures finds { Judges format window.now.bytes result }
+    ensures verdict { AnswersVerdict format window.now.bytes result }
     ensures frame { OnOk result (frames owners.new.blocks.entries ≡ frames (entries_of (tiles_in window.now.bytes))) }
     ensures visits { Spends block_rates 62 window.now.bytes visits.old visits.new }
 {
@@ -263,12 +272,12 @@ fn check_blocks(
 /// The place of the first that is not.
 fn check_reserved(window: &ImageWindow) -> Result<(), Offset>
     requires { 128 ≤ length window.now.bytes }
-    ensures { Finds (is_reserved window.now.bytes) (IsFirstReserved window.now.bytes) result }
+    ensures { ChecksClass (is_reserved window.now.bytes) (IsFirstReserved window.now.bytes) result }
 {
     if let Some(place) = window.first_filled(FORMAT_AT + 4, FORMAT_AT + 8) {
         return Err(place);
     }
-    if let Some(place) = window.first_filled(RESERVED_AT, FIRST) {
+    if let Some(place) = window.first_filled(RESERVED_AT, HEADER_LEN) {
         return Err(place);
     }
     Ok(())

@@ -5,39 +5,42 @@ ghost use Rattle.raw_region.specs.Memory.{bytes_of};
 ghost use Rattle.image_check.specs.ObjectTests.{has_objects};
 ghost use Rattle.image_check.specs.Fields.{has_containers, is_container};
 ghost use Rattle.image_check.specs.Owners.{IsWholeMarkingOf, entries_of, frames};
-ghost use Rattle.image_check.specs.Containers.{AreFollowed, IsLinkNoted, IsReady, LiesInWindow, PaysFor, has_container, is_scalar, rooted_weight, container_walk_rates, weigh_blocks, weight_below};
+ghost use Rattle.image_check.specs.Containers.{AreFollowed, IsLinkNoted, IsCheckedTile, LiesInWindow, PaysFor};
+ghost use Rattle.image_check.specs.Containers.{has_container, is_scalar, rooted_weight, container_walk_rates};
+ghost use Rattle.image_check.specs.Containers.{weigh_blocks, weight_below};
 ghost use Rattle.image_check.specs.ObjectPlaces.{IsFirstWrongTile};
-ghost use Rattle.image_check.specs.Passes.{Finds, HasTiles, Spends, tiles_in};
-ghost use Rattle.image_check.specs.Visits.{Adds, container_rates, weigh};
+ghost use Rattle.image_check.specs.Passes.{ChecksClass, HasTiles, Spends, tiles_in};
+ghost use Rattle.image_check.specs.Visits.{AddsVisits, container_rates, weigh};
 ghost use Rattle.block_tags.specs.declared.tile.Tile.{Tile};
 
 use crate::arrays::{is_array, is_storage};
-use crate::checking::Visits;
+use crate::checking::VisitCounter;
 use crate::heads::kind_of;
-use crate::image_window::{Blocks, ImageWindow, Object, Value};
+use crate::image_window::{BlockTable, ImageWindow, Object, Value};
 use crate::maps::is_map;
 use crate::owners::{Owners, is_object, tile_of};
 use crate::verdict::Offset;
-use block_tags::{TAG, Tile};
+use block_tags::{TAG_LEN, Tile};
 use seg_types::{Kind, ScalarKind};
 
 /// Whether the value of this kind is no container, or one whose words, link and elements are right.
 fn is_right(
     window: &ImageWindow,
-    blocks: &Blocks,
-    visits: &mut Visits,
+    blocks: &BlockTable,
+    visits: &mut VisitCounter,
     kind: Kind,
     value: Value,
 ) -> bool
     requires tiles { HasTiles window.now.bytes }
-    requires followed { AreFollowed (bytes_of window.now.bytes) (tiles_in window.now.bytes) blocks.now.entries }
-    requires noted { IsLinkNoted (bytes_of window.now.bytes) (tiles_in window.now.bytes) blocks.now.entries kind value.at }
+    requires observed { AreFollowed (bytes_of window.now.bytes) (tiles_in window.now.bytes) blocks.now.entries }
+    requires mark { IsLinkNoted (bytes_of window.now.bytes) (tiles_in window.now.bytes) blocks.now.entries kind
+        value.at }
     requires aligned { value.at % 8 ≡ 0 }
-    requires inside { is_scalar kind ≡ false → value.at + 24 ≤ length window.now.bytes }
-    requires few { rooted_weight value.at blocks.now.entries ≤ 2 ^ 40 }
+    requires in_bounds { is_scalar kind ≡ false → value.at + 24 ≤ length window.now.bytes }
+    requires max_count { rooted_weight value.at blocks.now.entries ≤ 2 ^ 40 }
     ensures value { result ≡ is_container (bytes_of window.now.bytes) (tiles_in window.now.bytes) (kind, value.at) }
     ensures scalar { is_scalar kind ≡ true → visits.new ≡ visits.old }
-    ensures visits { Adds (27 + rooted_weight value.at blocks.now.entries) visits.old visits.new }
+    ensures visits { AddsVisits (27 + rooted_weight value.at blocks.now.entries) visits.old visits.new }
 {
     match kind {
         Kind::Scalar(_) => true,
@@ -52,22 +55,23 @@ fn is_right(
 fn is_right_tile(
     format: u64,
     window: &ImageWindow,
-    blocks: &Blocks,
-    visits: &mut Visits,
+    blocks: &BlockTable,
+    visits: &mut VisitCounter,
     tile: Tile,
 ) -> bool
     requires tiles { HasTiles window.now.bytes }
-    requires followed { AreFollowed (bytes_of window.now.bytes) (tiles_in window.now.bytes) blocks.now.entries }
-    requires lies { LiesInWindow (length window.now.bytes) tile }
-    requires ready { IsReady format (bytes_of window.now.bytes) (tiles_in window.now.bytes) blocks.now.entries tile }
-    requires few { weigh_blocks blocks.now.entries ≤ 2 ^ 40 }
+    requires observed { AreFollowed (bytes_of window.now.bytes) (tiles_in window.now.bytes) blocks.now.entries }
+    requires position { LiesInWindow (length window.now.bytes) tile }
+    requires well_formed { IsCheckedTile format (bytes_of window.now.bytes) (tiles_in window.now.bytes)
+        blocks.now.entries tile }
+    requires max_count { weigh_blocks blocks.now.entries ≤ 2 ^ 40 }
     ensures value { result ≡ has_container format (bytes_of window.now.bytes) (tiles_in window.now.bytes) tile }
     ensures visits { (before : ℕ) → visits.old ≡ before + 1 → PaysFor blocks.now.entries tile before visits.new }
 {
     if !is_object(tile) {
         return true;
     }
-    let object = Object::visit(tile.offset + TAG, visits);
+    let object = Object::visit(tile.offset + TAG_LEN, visits);
     match kind_of(format, window, object) {
         Some(kind) => is_right(window, blocks, visits, kind, object.value(window)),
         None => true,
@@ -82,17 +86,22 @@ fn is_right_tile(
 fn are_right(
     format: u64,
     window: &ImageWindow,
-    blocks: &Blocks,
-    visits: &mut Visits,
+    blocks: &BlockTable,
+    visits: &mut VisitCounter,
 ) -> Result<(), Offset>
     requires tiles { HasTiles window.now.bytes }
     requires rows { frames blocks.now.entries ≡ frames (entries_of (tiles_in window.now.bytes)) }
-    requires followed { AreFollowed (bytes_of window.now.bytes) (tiles_in window.now.bytes) blocks.now.entries }
-    requires ready { (t : Tile) → Contains (tiles_in window.now.bytes) t → IsReady format (bytes_of window.now.bytes) (tiles_in window.now.bytes) blocks.now.entries t }
-    requires few { weigh_blocks blocks.now.entries ≤ 2 ^ 40 }
-    ensures finds { Finds (list_all (has_container format (bytes_of window.now.bytes) (tiles_in window.now.bytes)) (tiles_in window.now.bytes)) (IsFirstWrongTile (has_container format (bytes_of window.now.bytes) (tiles_in window.now.bytes)) (tiles_in window.now.bytes)) result }
-    ensures least { visits.old ≤ visits.new }
-    ensures most { visits.new ≤ visits.old + (weigh container_walk_rates (tiles_in window.now.bytes) + weigh_blocks blocks.now.entries) }
+    requires observed { AreFollowed (bytes_of window.now.bytes) (tiles_in window.now.bytes) blocks.now.entries }
+    requires well_formed { (t : Tile) → Contains (tiles_in window.now.bytes) t
+        → IsCheckedTile format (bytes_of window.now.bytes) (tiles_in window.now.bytes) blocks.now.entries t }
+    requires max_count { weigh_blocks blocks.now.entries ≤ 2 ^ 40 }
+    ensures verdict { ChecksClass (list_all
+        (has_container format (bytes_of window.now.bytes) (tiles_in window.now.bytes)) (tiles_in window.now.bytes))
+        (IsFirstWrongTile (has_container format (bytes_of window.now.bytes) (tiles_in window.now.bytes))
+        (tiles_in window.now.bytes)) result }
+    ensures min_size { visits.old ≤ visits.new }
+    ensures visits_on_error { visits.new
+        ≤ visits.old + (weigh container_walk_rates (tiles_in window.now.bytes) + weigh_blocks blocks.now.entries) }
 {
     let mut number = 0;
     'rows: while number < blocks.len() {
@@ -116,12 +125,14 @@ pub(crate) fn check_containers(
     format: u64,
     window: &ImageWindow,
     owners: &Owners,
-    visits: &mut Visits,
+    visits: &mut VisitCounter,
 ) -> Result<(), Offset>
     requires tiles { HasTiles window.now.bytes }
     requires objects { has_objects format (bytes_of window.now.bytes) (tiles_in window.now.bytes) ≡ true }
-    requires whole { IsWholeMarkingOf format window.now.bytes owners.now.blocks.entries owners.now.waiting }
-    ensures finds { Finds (has_containers format (bytes_of window.now.bytes) (tiles_in window.now.bytes)) (IsFirstWrongTile (has_container format (bytes_of window.now.bytes) (tiles_in window.now.bytes)) (tiles_in window.now.bytes)) result }
+    requires aligned { IsWholeMarkingOf format window.now.bytes owners.now.blocks.entries owners.now.waiting }
+    ensures verdict { ChecksClass (has_containers format (bytes_of window.now.bytes) (tiles_in window.now.bytes))
+        (IsFirstWrongTile (has_container format (bytes_of window.now.bytes) (tiles_in window.now.bytes))
+        (tiles_in window.now.bytes)) result }
     ensures visits { Spends container_rates 20 window.now.bytes visits.old visits.new }
 {
     are_right(format, window, &owners.blocks, visits)

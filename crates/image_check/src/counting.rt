@@ -31,7 +31,7 @@ impl Counts {
     /// One tile more, behind those that were counted.
     pub(crate) fn add(&mut self, tile: Tile)
         requires free { self.old.free < 2 ^ 63 }
-        requires used { self.old.used < 2 ^ 63 }
+        requires usage { self.old.used < 2 ^ 63 }
         ensures { (ts : List Tile) → AreCounted ts self.old → AreCounted (ts ++ tile ∷ []) self.new }
     {
         match tile.use_of {

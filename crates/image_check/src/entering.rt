@@ -1,9 +1,9 @@
 //! Entries of indexes, noted in the map of owners at the objects that they lead to.
 ghost use Rattle.std.specs.Prelude.{◌≡◌, false, MatchBool};
-ghost use Rattle.image_check.specs.Visits.{Adds};
-ghost use Rattle.image_check.specs.Entered.{IsEntered, can_enter, is_new_block};
+ghost use Rattle.image_check.specs.Visits.{AddsVisits};
+ghost use Rattle.image_check.specs.Entered.{EntersLink, can_enter, is_new_block};
 
-use crate::checking::Visits;
+use crate::checking::VisitCounter;
 use crate::owners::{Block, Owner, Owners, is_same};
 use block_tags::Role;
 
@@ -11,15 +11,17 @@ use block_tags::Role;
 /// that has no entry yet; whether it does.
 pub(crate) fn enter(
     owners: &mut Owners,
-    visits: &mut Visits,
+    visits: &mut VisitCounter,
     link: Option<u64>,
     place: u32,
     root: u32,
 ) -> bool
-    ensures entered { MatchBool result (IsEntered owners.old.blocks.entries owners.new.blocks.entries link place root) (can_enter owners.old.blocks.entries link ≡ false) }
+    ensures entry { MatchBool result
+        (EntersLink owners.old.blocks.entries owners.new.blocks.entries link place root)
+        (can_enter owners.old.blocks.entries link ≡ false) }
     ensures pending { owners.new.pending ≡ owners.old.pending }
     ensures waiting { owners.new.waiting ≡ owners.old.waiting }
-    ensures spends { Adds 2 visits.old visits.new }
+    ensures visits { AddsVisits 2 visits.old visits.new }
 {
     let Some(target) = link else {
         return false;

@@ -3,7 +3,7 @@ ghost use Rattle.std.specs.Prelude.{◌≡◌};
 ghost use Rattle.image_check.specs.Causes.{error_for, opened_as};
 
 use crate::classes::ImageClass;
-use crate::room::NoMemory;
+use crate::room::NoBlockMemory;
 use crate::verdict::Verdict;
 use raw_region::{OutOfMemory, RawRegion};
 use std::fmt;
@@ -20,20 +20,21 @@ pub enum OpenError {
     RegionTooSmall,
     /// Memory for the check of the image was refused.
     #[error("out of memory")]
-    OutOfMemory(NoMemory),
+    OutOfMemory(NoBlockMemory),
     /// The reader failed before the bytes that it gave decided a class.
     #[error("read fault")]
     ReadFault,
 }
 
-/// Which request for memory was refused, where more than one thing asks: each variant holds what only that request makes.
+/// Which request for memory was refused, where more than one thing asks: each variant holds what only that request
+/// makes.
 #[derive(Clone, Copy, Debug, PartialEq, Eq, Error)]
 #[error("out of memory")]
 pub enum MemoryFault {
     /// That for the bytes of a region or a text.
     Bytes(OutOfMemory),
     /// That for the blocks of an image that is checked.
-    BlockMap(NoMemory),
+    BlockMap(NoBlockMemory),
 }
 
 /// No segment is opened. The region comes back. Its bytes are as they were but for those of the window from the base on
@@ -87,7 +88,7 @@ pub enum ExamineError {
     /// The region ends before base plus the size that the image says.
     RegionTooSmall,
     /// Memory for the check of the image was refused.
-    OutOfMemory(NoMemory),
+    OutOfMemory(NoBlockMemory),
     /// The reader failed before the bytes that it gave decided a class.
     ReadFault,
 }

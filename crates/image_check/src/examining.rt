@@ -1,6 +1,6 @@
 //! The check of an image that tells, where it is refused, also the byte that shows why.
 ghost use Rattle.std.specs.Prelude.{◌≡◌, ◌+◌, ◌-◌, ◌%◌, ◌^◌, ◌<◌, IfErr, OnOk, length, true};
-ghost use Rattle.raw_region.specs.Device.{Reads, given_since};
+ghost use Rattle.raw_region.specs.Device.{ReadsSource, read_delta};
 ghost use Rattle.raw_region.specs.Format.{current};
 ghost use Rattle.image_check.specs.Causes.{error_for, opened_in};
 ghost use Rattle.image_check.specs.Examining.{Examines};
@@ -10,8 +10,8 @@ ghost use Rattle.image_check.specs.Passes.{CountsTiles};
 
 use crate::checking::check;
 use crate::errors::ExamineRefused;
-use crate::reading::read_image;
-use crate::versions::Versions;
+use crate::image_read::read_image;
+use crate::versions::AcceptedVersions;
 use raw_region::{RawRegion, Source, Steps};
 use segment_manager::layout::FORMAT;
 use std::alloc::Global;
@@ -34,17 +34,20 @@ pub fn examine<S: Source>(
 ) -> Result<RawRegion, ExamineRefused>
     requires aligned { base % 16 ≡ 0 }
     requires reader { (S.history reader.old).failures < 2 ^ 64 - 1 }
-    ensures examines { Examines current (given_since (S.history reader.old) (S.history reader.new)) region base result }
-    ensures history { Reads (S.history reader.old) (S.history reader.new) (failed_reads (cause_of (opened_in result))) }
+    ensures examination { Examines current (read_delta (S.history reader.old) (S.history reader.new)) region base
+        result }
+    ensures history { ReadsSource (S.history reader.old) (S.history reader.new)
+        (failed_reads (cause_of (opened_in result))) }
     ensures ends { AsksToTheEnd (S.history reader.old) (S.history reader.new) }
-    ensures alone { ReadsFrontAlone (S.history reader.old) (S.history reader.new) (cause_of (opened_in result)) }
-    ensures steps { IsRaisedFor (size_or_least (given_since (S.history reader.old) (S.history reader.new)).bytes) steps.old steps.new }
+    ensures exclusive { ReadsFrontAlone (S.history reader.old) (S.history reader.new) (cause_of (opened_in result)) }
+    ensures steps { IsRaisedFor (size_or_least (read_delta (S.history reader.old) (S.history reader.new)).bytes)
+        steps.old steps.new }
     ensures tiles { OnOk result
-        (CountsTiles (given_since (S.history reader.old) (S.history reader.new)).bytes steps.old steps.new) }
-    ensures late { IfErr result (λ refused. is_late (error_for refused.cause) ≡ true
-        → CountsTiles (given_since (S.history reader.old) (S.history reader.new)).bytes steps.old steps.new) }
+        (CountsTiles (read_delta (S.history reader.old) (S.history reader.new)).bytes steps.old steps.new) }
+    ensures visits_on_error { IfErr result (λ refused. is_late (error_for refused.cause) ≡ true
+        → CountsTiles (read_delta (S.history reader.old) (S.history reader.new)).bytes steps.old steps.new) }
 {
-    let window = read_image(Versions::Current, reader, region, base)?;
+    let window = read_image(AcceptedVersions::Current, reader, region, base)?;
     match check(FORMAT, alloc, &window, steps) {
         Ok(()) => Ok(window.into_region()),
         Err(cause) => Err(ExamineRefused {

@@ -9,8 +9,8 @@ ghost use Rattle.image_check.specs.Passes.{CountsTiles};
 use crate::checking::check;
 use crate::errors::ExamineRefused;
 use crate::header::FRONT;
-use crate::placing::place_image;
-use crate::versions::{Versions, version_in};
+use crate::image_copy::copy_image;
+use crate::versions::{AcceptedVersions, version_in};
 use raw_region::{RawRegion, Steps};
 use std::alloc::Global;
 
@@ -23,7 +23,7 @@ use std::alloc::Global;
 /// Those of [`open_bytes`](crate::open_bytes), for the same reasons, a class with the place that shows it. The region
 /// comes back as it does there, and `steps` is raised as there.
 pub fn examine_bytes(
-    versions: Versions,
+    versions: AcceptedVersions,
     alloc: Global,
     image: &[u8],
     region: RawRegion,
@@ -31,12 +31,13 @@ pub fn examine_bytes(
     steps: &mut Steps,
 ) -> Result<RawRegion, ExamineRefused>
     requires aligned { base % 16 ≡ 0 }
-    ensures examines { ExaminesBytes (format_in versions image.now) image.now region base result }
+    ensures examination { ExaminesBytes (format_in versions image.now) image.now region base result }
     ensures steps { IsRaisedFor (size_or_least image.now) steps.old steps.new }
     ensures tiles { OnOk result (CountsTiles image.now steps.old steps.new) }
-    ensures late { IfErr result (λ refused. is_late (error_for refused.cause) ≡ true → CountsTiles image.now steps.old steps.new) }
+    ensures visits_on_error { IfErr result (λ refused. is_late (error_for refused.cause) ≡ true
+        → CountsTiles image.now steps.old steps.new) }
 {
-    let window = place_image(versions, image, region, base)?;
+    let window = copy_image(versions, image, region, base)?;
     let format = version_in(window.header(0, FRONT as u64));
     match check(format, alloc, &window, steps) {
         Ok(()) => Ok(window.into_region()),

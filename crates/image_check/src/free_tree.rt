@@ -12,39 +12,45 @@ ghost use Rattle.block_tags.specs.Tiles.{has_tags, tiles_of};
 ghost use Rattle.best_fit.specs.GapNodes.{tiles_in};
 ghost use Rattle.image_check.specs.Counting.{AreCounted};
 ghost use Rattle.image_check.specs.EarlyTests.{has_free_tree as has_tree};
-ghost use Rattle.image_check.specs.FreeNodes.{has_good_links, is_before, is_planted as is_planted_in, is_place, len_at as len_there, place_cells, placed, stands_before};
+ghost use Rattle.image_check.specs.FreeNodes.{has_good_links, is_before, is_planted as is_planted_in, is_place};
+ghost use Rattle.image_check.specs.FreeNodes.{len_at as len_there, place_cells, placed, stands_before};
 ghost use Rattle.image_check.specs.Passes.{HasTiles, Spends};
 ghost use Rattle.image_check.specs.Visits.{planting_rates, planting_visits, tag_rates, tree_rates};
-ghost use Rattle.image_check.specs.FreeLaws.{before_agrees, before_irreflexive, before_transitive, places_finite, places_left, places_right};
+ghost use Rattle.image_check.specs.FreeLaws.{before_agrees, before_irreflexive, before_transitive, places_finite};
+ghost use Rattle.image_check.specs.FreeLaws.{places_left, places_right};
 
-use crate::checking::Visits;
+use crate::checking::VisitCounter;
 use crate::counting::Counts;
-use crate::image_window::{ImageWindow, Sought, check_places, find_place, has_good_links};
-use best_fit::FREE_TREE;
-use block_tags::{TAG, Tile};
+use crate::image_window::{ImageWindow, TileProbe, check_places, find_place, has_good_links};
+use best_fit::FREE_TREE_ROOT;
+use block_tags::{TAG_LEN, Tile};
 use offset_link::NULL;
 
 /// The count of the tiles, where the free ones make up the tree that they do in the format, or the link is null in
 /// format 0.
-pub(crate) fn check_gaps(format: u64, window: &ImageWindow, visits: &mut Visits) -> Option<Counts>
+pub(crate) fn check_gaps(
+    format: u64,
+    window: &ImageWindow,
+    visits: &mut VisitCounter,
+) -> Option<Counts>
     requires tiles { HasTiles window.now.bytes }
     ensures value { is_some result ≡ has_tree format (bytes_of window.now.bytes) (tiles_in window.now) }
-    ensures counted { IfSome result (AreCounted (tiles_in window.now)) }
+    ensures steps_lower { IfSome result (AreCounted (tiles_in window.now)) }
     ensures visits { Spends tree_rates 50 window.now.bytes visits.old visits.new }
 {
     if format != 0 {
         return check_free_tree(window, visits);
     }
-    if window.header_word(FREE_TREE) != NULL {
+    if window.header_word(FREE_TREE_ROOT) != NULL {
         return None;
     }
     Some(count_tiles(window, visits))
 }
 
 /// The count of the tiles. One visit for each.
-fn count_tiles(window: &ImageWindow, visits: &mut Visits) -> Counts
+fn count_tiles(window: &ImageWindow, visits: &mut VisitCounter) -> Counts
     requires tiles { HasTiles window.now.bytes }
-    ensures counted { AreCounted (tiles_in window.now) result }
+    ensures steps_lower { AreCounted (tiles_in window.now) result }
     ensures visits { Spends tag_rates 0 window.now.bytes visits.old visits.new }
 {
     let mut counts = Counts::new();
@@ -62,15 +68,16 @@ fn count_tiles(window: &ImageWindow, visits: &mut Visits) -> Counts
 ///
 /// A tree of as many nodes as there are free tiles, in which each of them is found, has no other node. Each is searched
 /// for to the depth of a red-black tree of that size.
-fn check_free_tree(window: &ImageWindow, visits: &mut Visits) -> Option<Counts>
+fn check_free_tree(window: &ImageWindow, visits: &mut VisitCounter) -> Option<Counts>
     requires size { IsTrue (is_legal_size (length window.now.bytes)) }
     requires tags { IsTrue (has_tags current (bytes_of window.now.bytes) (length window.now.bytes)) }
     ensures value { is_some result
-        ≡ has_tree current (bytes_of window.now.bytes) (tiles_of (bytes_of window.now.bytes) (length window.now.bytes)) }
-    ensures counted { IfSome result (AreCounted (tiles_in window.now)) }
+        ≡ has_tree current (bytes_of window.now.bytes)
+        (tiles_of (bytes_of window.now.bytes) (length window.now.bytes)) }
+    ensures steps_lower { IfSome result (AreCounted (tiles_in window.now)) }
     ensures visits { Spends tree_rates 50 window.now.bytes visits.old visits.new }
 {
-    let Ok(root) = window.checked_header_link(FREE_TREE) else {
+    let Ok(root) = window.checked_header_link(FREE_TREE_ROOT) else {
         return None;
     };
     let tree = check_places(window, root, visits);
@@ -87,14 +94,20 @@ fn check_free_tree(window: &ImageWindow, visits: &mut Visits) -> Option<Counts>
 }
 
 /// The count of the tiles, where each free one is a node of the tree, and its links are good.
-fn count_planted(window: &ImageWindow, root: Option<u64>, visits: &mut Visits) -> Option<Counts>
+fn count_planted(
+    window: &ImageWindow,
+    root: Option<u64>,
+    visits: &mut VisitCounter,
+) -> Option<Counts>
     requires size { IsTrue (is_legal_size (length window.now.bytes)) }
     requires tags { IsTrue (has_tags current (bytes_of window.now.bytes) (length window.now.bytes)) }
     requires root { leads (is_place window.now) root ≡ true }
-    requires tree { (t : Tree) × IsSearchTree (stands_before (bytes_of window.now.bytes)) (place_cells window.now) root t × (length (nodes_of t) < 2 ^ 26 - 1) }
-    ensures value { (t : Tree) → IsSearchTree (stands_before (bytes_of window.now.bytes)) (place_cells window.now) root t
+    requires tree { (t : Tree) × IsSearchTree (stands_before (bytes_of window.now.bytes)) (place_cells window.now)
+        root t × (length (nodes_of t) < 2 ^ 26 - 1) }
+    ensures value { (t : Tree) → IsSearchTree (stands_before (bytes_of window.now.bytes)) (place_cells window.now)
+        root t
         → is_some result ≡ list_all (is_planted_in window.now (nodes_of t)) (tiles_in window.now) }
-    ensures counted { IfSome result (AreCounted (tiles_in window.now)) }
+    ensures steps_lower { IfSome result (AreCounted (tiles_in window.now)) }
     ensures visits { Spends planting_rates 0 window.now.bytes visits.old visits.new }
 {
     let mut counts = Counts::new();
@@ -111,21 +124,28 @@ fn count_planted(window: &ImageWindow, root: Option<u64>, visits: &mut Visits) -
 }
 
 /// Whether the tile is in use, or a node of the tree with good links.
-fn is_planted(window: &ImageWindow, root: Option<u64>, tile: Tile, visits: &mut Visits) -> bool
+fn is_planted(
+    window: &ImageWindow,
+    root: Option<u64>,
+    tile: Tile,
+    visits: &mut VisitCounter,
+) -> bool
     requires place { is_place window.now (tile.offset + 16) ≡ true }
     requires len { len_there (bytes_of window.now.bytes) (tile.offset + 16) ≡ tile.len }
     requires root { leads (is_place window.now) root ≡ true }
-    requires tree { (t : Tree) × IsSearchTree (stands_before (bytes_of window.now.bytes)) (place_cells window.now) root t × (length (nodes_of t) < 2 ^ 26 - 1) }
-    ensures value { (t : Tree) → IsSearchTree (stands_before (bytes_of window.now.bytes)) (place_cells window.now) root t
+    requires tree { (t : Tree) × IsSearchTree (stands_before (bytes_of window.now.bytes)) (place_cells window.now)
+        root t × (length (nodes_of t) < 2 ^ 26 - 1) }
+    ensures value { (t : Tree) → IsSearchTree (stands_before (bytes_of window.now.bytes)) (place_cells window.now)
+        root t
         → result ≡ is_planted_in window.now (nodes_of t) tile }
-    ensures raised { visits.old ≤ visits.new }
-    ensures most { visits.new ≤ visits.old + planting_visits tile.use_of }
+    ensures visits { visits.old ≤ visits.new }
+    ensures visits_on_error { visits.new ≤ visits.old + planting_visits tile.use_of }
 {
     if tile.use_of.is_some() {
         return true;
     }
-    let node = tile.offset + TAG;
-    let sought = Sought {
+    let node = tile.offset + TAG_LEN;
+    let sought = TileProbe {
         len: tile.len,
         node,
     };
@@ -133,14 +153,21 @@ fn is_planted(window: &ImageWindow, root: Option<u64>, tile: Tile, visits: &mut 
 }
 
 /// Whether the node is one of the tree.
-fn is_reached(window: &ImageWindow, root: Option<u64>, sought: Sought, visits: &mut Visits) -> bool
+fn is_reached(
+    window: &ImageWindow,
+    root: Option<u64>,
+    sought: TileProbe,
+    visits: &mut VisitCounter,
+) -> bool
     requires len { len_there (bytes_of window.now.bytes) sought.node ≡ sought.len }
     requires root { leads (is_place window.now) root ≡ true }
-    requires tree { (t : Tree) × IsSearchTree (stands_before (bytes_of window.now.bytes)) (place_cells window.now) root t × (length (nodes_of t) < 2 ^ 26 - 1) }
-    ensures value { (t : Tree) → IsSearchTree (stands_before (bytes_of window.now.bytes)) (place_cells window.now) root t
+    requires tree { (t : Tree) × IsSearchTree (stands_before (bytes_of window.now.bytes)) (place_cells window.now)
+        root t × (length (nodes_of t) < 2 ^ 26 - 1) }
+    ensures value { (t : Tree) → IsSearchTree (stands_before (bytes_of window.now.bytes)) (place_cells window.now)
+        root t
         → result ≡ is_in sought.node (nodes_of t) }
-    ensures raised { visits.old ≤ visits.new }
-    ensures most { visits.new ≤ visits.old + 52 }
+    ensures visits { visits.old ≤ visits.new }
+    ensures visits_on_error { visits.new ≤ visits.old + 52 }
 {
     match find_place(window, root, sought, visits).node {
         Some(found) => found == sought.node,

@@ -9,8 +9,8 @@ ghost use Rattle.image_check.specs.Reading.{front_of};
 
 use crate::classes::ImageClass;
 use crate::verdict::{Offset, Verdict};
-use crate::versions::{Versions, version_in};
-use block_tags::{FIRST, TAG, is_legal_size};
+use crate::versions::{AcceptedVersions, version_in};
+use block_tags::{HEADER_LEN, TAG_LEN, is_legal_size};
 use raw_region::word_in;
 use segment_manager::layout::{FORMAT_AT, MAGIC, MAGIC_AT, SIZE_AT};
 
@@ -21,7 +21,7 @@ const SPELLED: &[u8; 8] = b"MSEGFILE";
 pub const FRONT: usize = SIZE_AT as usize + 8;
 
 /// The fewest bytes that an image has.
-pub const LEAST: usize = (FIRST + TAG) as usize;
+pub const LEAST: usize = (HEADER_LEN + TAG_LEN) as usize;
 
 /// The size in bytes of an image that begins with these bytes, of which there are at least [`FRONT`] and the first
 /// `FRONT` are looked at: 144, or a multiple of 16 from 176 to 2^30. It is what the front says, and no promise that the
@@ -35,7 +35,7 @@ pub fn size_in(front: &[u8]) -> Result<u64, ImageClass>
     requires { 24 ≤ length front.now }
     ensures { result ≡ front_of current front.now }
 {
-    match judge_front(Versions::Current, front) {
+    match judge_front(AcceptedVersions::Current, front) {
         Ok(size) => Ok(size),
         Err(verdict) => Err(verdict.class),
     }
@@ -50,7 +50,7 @@ pub fn size_in_any(front: &[u8]) -> Result<u64, ImageClass>
     requires { 24 ≤ length front.now }
     ensures { result ≡ front_of (format_of front.now) front.now }
 {
-    match judge_front(Versions::All, front) {
+    match judge_front(AcceptedVersions::All, front) {
         Ok(size) => Ok(size),
         Err(verdict) => Err(verdict.class),
     }
@@ -61,10 +61,10 @@ pub fn size_in_any(front: &[u8]) -> Result<u64, ImageClass>
 /// # Errors
 ///
 /// As [`size_in`]: the first byte that is not the magic's, the version, or the size.
-pub(crate) fn judge_front(versions: Versions, front: &[u8]) -> Result<u64, Verdict>
+pub(crate) fn judge_front(versions: AcceptedVersions, front: &[u8]) -> Result<u64, Verdict>
     requires { 24 ≤ length front.now }
-    ensures says { class_in result ≡ front_of (format_in versions front.now) front.now }
-    ensures shown { IfErr result (λ verdict. IsFrontPlace front.now verdict.class verdict.place) }
+    ensures text { class_in result ≡ front_of (format_in versions front.now) front.now }
+    ensures output { IfErr result (λ verdict. IsFrontPlace front.now verdict.class verdict.place) }
 {
     if word_in(front, MAGIC_AT as usize) != MAGIC {
         let class = ImageClass::BadMagic;
@@ -87,8 +87,8 @@ pub(crate) fn judge_front(versions: Versions, front: &[u8]) -> Result<u64, Verdi
 
 /// The place of the first byte that is not the magic's, of bytes that do not begin with it.
 fn other_place(front: &[u8]) -> Offset
-    requires long { 24 ≤ length front.now }
-    requires other { has_magic front.now ≡ false }
+    requires min_len { 24 ≤ length front.now }
+    requires peer { has_magic front.now ≡ false }
     ensures { IsFirstOther front.now (codes "MSEGFILE") result }
 {
     'bytes: for at in 0..SPELLED.len() {

@@ -4,17 +4,18 @@ ghost use Rattle.raw_region.specs.Memory.{bytes_of};
 ghost use Rattle.seg_index.specs.Keys.{name_len_at};
 ghost use Rattle.seg_types.specs.Kinds.{kind_of_code as code_kind, scalar_code};
 ghost use Rattle.image_check.specs.EarlyTests.{is_zero as are_zeros};
-ghost use Rattle.image_check.specs.ObjectTests.{has_name as is_named, has_padding as is_padded, is_indexed as is_listed, kind_at, value_offset};
+ghost use Rattle.image_check.specs.ObjectTests.{has_name as is_named, has_padding as is_padded};
+ghost use Rattle.image_check.specs.ObjectTests.{is_indexed as is_listed, kind_at, value_offset};
 ghost use Rattle.image_check.specs.ObjectPasses.{is_spelled, is_value_room};
 ghost use Rattle.image_check.specs.Entered.{AreEntered, index_of as listing_index};
-ghost use Rattle.image_check.specs.Visits.{Adds};
+ghost use Rattle.image_check.specs.Visits.{AddsVisits};
 
-use crate::checking::Visits;
-use crate::image_window::{Blocks, ImageWindow, Object};
+use crate::checking::VisitCounter;
+use crate::image_window::{BlockTable, ImageWindow, Object};
 use crate::owners::is_same;
 use crate::spellings::are_spellings;
 use block_tags::Role;
-use seg_types::{Kind, LONGEST_NAME, MAX_ARRAY_LEN, ScalarKind, is_name};
+use seg_types::{Kind, MAX_ARRAY_LEN, MAX_NAME_LEN, ScalarKind, is_name};
 use segment_manager::layout::{CONTAINER_LEN, NAMED_AT, UNIQUE_AT};
 
 /// The class of the objects with a name.
@@ -86,22 +87,22 @@ pub(crate) fn has_room(kind: Kind, count: u64, start: u64, end: u64) -> bool
 
 /// Whether the name and the class of the object are right.
 pub(crate) fn has_name(format: u64, window: &ImageWindow, object: Object) -> bool
-    requires small { length window.now.bytes < 2 ^ 63 }
-    requires inside { object.at + 16 + name_len_at (bytes_of window.now.bytes) object.at ≤ length window.now.bytes }
+    requires max_size { length window.now.bytes < 2 ^ 63 }
+    requires in_bounds { object.at + 16 + name_len_at (bytes_of window.now.bytes) object.at ≤ length window.now.bytes }
     ensures { result ≡ is_named format (bytes_of window.now.bytes) object.at }
 {
     let class = object.class(window);
     if class == NAMED {
         let name = object.name(window);
-        return name.len() <= LONGEST_NAME && is_name(format, name);
+        return name.len() <= MAX_NAME_LEN && is_name(format, name);
     }
     class <= UNIQUE && object.name_len(window) == 0
 }
 
 /// Whether the bytes between the name and the value of the object are zero.
 pub(crate) fn has_padding(window: &ImageWindow, object: Object) -> bool
-    requires small { length window.now.bytes < 2 ^ 63 }
-    requires inside { value_offset (bytes_of window.now.bytes) object.at ≤ length window.now.bytes }
+    requires max_size { length window.now.bytes < 2 ^ 63 }
+    requires in_bounds { value_offset (bytes_of window.now.bytes) object.at ≤ length window.now.bytes }
     ensures { result ≡ is_padded (bytes_of window.now.bytes) object.at }
 {
     is_zero(object.padding(window))
@@ -117,15 +118,15 @@ fn is_zero(bytes: &[u8]) -> bool
 /// Whether the value is no scalars, or each of them is spelled. One visit for each.
 pub(crate) fn has_spellings(
     window: &ImageWindow,
-    visits: &mut Visits,
+    visits: &mut VisitCounter,
     kind: Kind,
     count: u64,
     start: u64,
 ) -> bool
-    requires small { length window.now.bytes < 2 ^ 63 }
+    requires max_size { length window.now.bytes < 2 ^ 63 }
     requires room { is_value_room kind count start (length window.now.bytes) ≡ true }
-    ensures is { result ≡ is_spelled (bytes_of window.now.bytes) kind count start }
-    ensures spends { Adds count visits.old visits.new }
+    ensures test { result ≡ is_spelled (bytes_of window.now.bytes) kind count start }
+    ensures visits { AddsVisits count visits.old visits.new }
 {
     match kind {
         Kind::Scalar(scalar) => are_spellings(window, visits, scalar, start, count),
@@ -134,9 +135,9 @@ pub(crate) fn has_spellings(
 }
 
 /// Where the index has its link that has an entry of the object at `at`, whose block may be that of number `guess`.
-fn index_of(blocks: &Blocks, guess: usize, at: u64, visits: &mut Visits) -> Option<u64>
-    ensures is { result ≡ listing_index blocks.now.entries at }
-    ensures spends { Adds 1 visits.old visits.new }
+fn index_of(blocks: &BlockTable, guess: usize, at: u64, visits: &mut VisitCounter) -> Option<u64>
+    ensures test { result ≡ listing_index blocks.now.entries at }
+    ensures visits { AddsVisits 1 visits.old visits.new }
 {
     let block = blocks.block_near(guess, at, visits)?;
     if !is_same(block.role, Role::Object) {
@@ -152,16 +153,16 @@ fn index_of(blocks: &Blocks, guess: usize, at: u64, visits: &mut Visits) -> Opti
 /// one.
 pub(crate) fn is_indexed(
     window: &ImageWindow,
-    blocks: &Blocks,
+    blocks: &BlockTable,
     guess: usize,
-    visits: &mut Visits,
+    visits: &mut VisitCounter,
     object: Object,
 ) -> bool
-    requires small { object.at < 2 ^ 63 }
-    requires inside { object.at + 16 ≤ length window.now.bytes }
-    requires entered { AreEntered (bytes_of window.now.bytes) blocks.now.entries }
-    ensures is { result ≡ is_listed (bytes_of window.now.bytes) object.at }
-    ensures spends { Adds 1 visits.old visits.new }
+    requires max_size { object.at < 2 ^ 63 }
+    requires in_bounds { object.at + 16 ≤ length window.now.bytes }
+    requires entry { AreEntered (bytes_of window.now.bytes) blocks.now.entries }
+    ensures test { result ≡ is_listed (bytes_of window.now.bytes) object.at }
+    ensures visits { AddsVisits 1 visits.old visits.new }
 {
     let class = object.class(window);
     if class != NAMED && class != UNIQUE {

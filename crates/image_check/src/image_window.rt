@@ -1,6 +1,7 @@
 //! The one way to the bytes of an image that is checked, and to its blocks in use: calls that count what they reach.
 //! Bytes that nobody counts are seen by this module and those in it alone.
-ghost use Rattle.std.specs.Prelude.{◌≡◌, ◌+◌, ◌*◌, ◌%◌, ◌≤◌, ◌↔◌, IfOk, IsTrue, List, MatchOption, false, is_err, length};
+ghost use Rattle.std.specs.Prelude.{◌≡◌, ◌+◌, ◌*◌, ◌%◌, ◌≤◌, ◌↔◌, IfOk, IsTrue, List, MatchOption, false, is_err};
+ghost use Rattle.std.specs.Prelude.{length};
 ghost use Rattle.raw_region.specs.Memory.{AreZero, bytes_of, part, whole, word_at, are_bytes};
 ghost use Rattle.offset_link.specs.Link.{link_at};
 ghost use Rattle.offset_link.specs.Relinked.{is_bad};
@@ -8,7 +9,7 @@ ghost use Rattle.block_tags.specs.Checks.{StopsAt};
 ghost use Rattle.block_tags.specs.Format.{is_legal_size};
 ghost use Rattle.block_tags.specs.Lists.{first_in, next_in};
 ghost use Rattle.block_tags.specs.Tiles.{has_tags};
-ghost use Rattle.block_tags.specs.Windows.{HasTileAt, IsTiled, SaysTiles};
+ghost use Rattle.block_tags.specs.Windows.{HasTileAt, IsTiledWindow, EncodesTiles};
 ghost use Rattle.block_tags.specs.declared.tile.Tile.{Tile as ATile};
 ghost use Rattle.image_check.specs.HeaderPlaces.{IsFirstFilled};
 
@@ -18,13 +19,13 @@ mod pairs;
 mod places;
 mod renewing;
 
-use crate::checking::Visits;
-use block_tags::{Checked, Tile, check_counted, first, next};
-pub(crate) use blocks::Blocks;
+use crate::checking::VisitCounter;
+use block_tags::{CheckedTags, Tile, check_counted, first, next};
+pub(crate) use blocks::BlockTable;
 pub(crate) use objects::{Object, Value};
 use offset_link::{BadLink, checked, load};
 pub(crate) use pairs::check_pairs;
-pub(crate) use places::{Sought, check_places, find_place, has_good_links};
+pub(crate) use places::{TileProbe, check_places, find_place, has_good_links};
 use raw_region::{RawRegion, Window, hold_bytes};
 use std::marker::Model;
 
@@ -35,9 +36,9 @@ pub struct ImageWindow {
 }
 
 impl Model for ImageWindow {
-    ghost use Rattle.raw_region.specs.Memory.{Cut};
+    ghost use Rattle.raw_region.specs.Memory.{WindowState};
 
-    ghost Value = { Cut };
+    ghost Value = { WindowState };
 
     ghost view = { λ i. i.window };
 }
@@ -91,7 +92,7 @@ impl ImageWindow {
     /// Where the link at `at` leads.
     fn load(&self, at: u64) -> Option<u64>
         requires aligned { at % 8 ≡ 0 }
-        requires inside { at + 8 ≤ length self.now.bytes }
+        requires in_bounds { at + 8 ≤ length self.now.bytes }
         ensures { result ≡ link_at (bytes_of self.now.bytes) at }
     {
         load(&self.window, at)
@@ -104,9 +105,9 @@ impl ImageWindow {
     /// `BadLink` where it is no place of a payload.
     fn checked(&self, at: u64) -> Result<Option<u64>, BadLink>
         requires aligned { at % 8 ≡ 0 }
-        requires inside { at + 8 ≤ length self.now.bytes }
-        ensures ok { IfOk result (λ target. target ≡ link_at (bytes_of self.now.bytes) at) }
-        ensures err { is_err result ≡ is_bad (length self.now.bytes) (link_at (bytes_of self.now.bytes) at) }
+        requires in_bounds { at + 8 ≤ length self.now.bytes }
+        ensures on_ok { IfOk result (λ target. target ≡ link_at (bytes_of self.now.bytes) at) }
+        ensures on_error { is_err result ≡ is_bad (length self.now.bytes) (link_at (bytes_of self.now.bytes) at) }
     {
         checked(&self.window, at)
     }
@@ -114,7 +115,7 @@ impl ImageWindow {
     /// The `len` bytes of the header from `from` on.
     pub fn header(&self, from: u64, len: u64) -> &[u8]
         requires header { from + len ≤ 128 }
-        requires inside { from + len ≤ length self.now.bytes }
+        requires in_bounds { from + len ≤ length self.now.bytes }
         ensures bytes { result.now ≡ part self.now.bytes from len }
         ensures len { length result.now ≡ len }
     {
@@ -124,7 +125,7 @@ impl ImageWindow {
     /// The number in the 8 bytes of the header at `at`.
     pub fn header_word(&self, at: u64) -> u64
         requires header { at + 8 ≤ 128 }
-        requires inside { at + 8 ≤ length self.now.bytes }
+        requires in_bounds { at + 8 ≤ length self.now.bytes }
         ensures { result ≡ word_at (bytes_of self.now.bytes) at }
     {
         self.window.read_u64(at)
@@ -134,7 +135,7 @@ impl ImageWindow {
     pub fn header_link(&self, at: u64) -> Option<u64>
         requires header { at + 8 ≤ 128 }
         requires aligned { at % 8 ≡ 0 }
-        requires inside { at + 8 ≤ length self.now.bytes }
+        requires in_bounds { at + 8 ≤ length self.now.bytes }
         ensures { result ≡ link_at (bytes_of self.now.bytes) at }
     {
         load(&self.window, at)
@@ -148,9 +149,9 @@ impl ImageWindow {
     pub fn checked_header_link(&self, at: u64) -> Result<Option<u64>, BadLink>
         requires header { at + 8 ≤ 128 }
         requires aligned { at % 8 ≡ 0 }
-        requires inside { at + 8 ≤ length self.now.bytes }
-        ensures ok { IfOk result (λ target. target ≡ link_at (bytes_of self.now.bytes) at) }
-        ensures err { is_err result ≡ is_bad (length self.now.bytes) (link_at (bytes_of self.now.bytes) at) }
+        requires in_bounds { at + 8 ≤ length self.now.bytes }
+        ensures on_ok { IfOk result (λ target. target ≡ link_at (bytes_of self.now.bytes) at) }
+        ensures on_error { is_err result ≡ is_bad (length self.now.bytes) (link_at (bytes_of self.now.bytes) at) }
     {
         checked(&self.window, at)
     }
@@ -158,8 +159,9 @@ impl ImageWindow {
     /// The first byte of the header from `from` on, below `to`, that is not 0.
     pub fn first_filled(&self, from: u64, to: u64) -> Option<u64>
         requires header { to ≤ 128 }
-        requires inside { to ≤ length self.now.bytes }
-        ensures { MatchOption result (AreZero (bytes_of self.now.bytes) from to) (IsFirstFilled (bytes_of self.now.bytes) from to) }
+        requires in_bounds { to ≤ length self.now.bytes }
+        ensures { MatchOption result (AreZero (bytes_of self.now.bytes) from to)
+            (IsFirstFilled (bytes_of self.now.bytes) from to) }
     {
         first_filled(self.bytes(0, self.size()), from, to)
     }
@@ -172,9 +174,9 @@ impl ImageWindow {
     }
 
     /// The `len` bytes of an element at `from`, at most 8. One visit.
-    pub fn element(&self, from: u64, len: u64, visits: &mut Visits) -> &[u8]
-        requires short { len ≤ 8 }
-        requires inside { from + len ≤ length self.now.bytes }
+    pub fn element(&self, from: u64, len: u64, visits: &mut VisitCounter) -> &[u8]
+        requires max_len { len ≤ 8 }
+        requires in_bounds { from + len ≤ length self.now.bytes }
         ensures bytes { result.now ≡ part self.now.bytes from len }
         ensures len { length result.now ≡ len }
         ensures visits { visits.new ≡ visits.old + 1 }
@@ -184,9 +186,9 @@ impl ImageWindow {
     }
 
     /// Where the entry of an index or the element at `at` leads, which is a link or begins with one. One visit.
-    pub fn link(&self, at: u64, visits: &mut Visits) -> Option<u64>
+    pub fn link(&self, at: u64, visits: &mut VisitCounter) -> Option<u64>
         requires aligned { at % 8 ≡ 0 }
-        requires inside { at + 8 ≤ length self.now.bytes }
+        requires in_bounds { at + 8 ≤ length self.now.bytes }
         ensures link { result ≡ link_at (bytes_of self.now.bytes) at }
         ensures visits { visits.new ≡ visits.old + 1 }
     {
@@ -195,10 +197,10 @@ impl ImageWindow {
     }
 
     /// Where the element at `at` of an array of texts leads, and the length of its text. One visit.
-    pub fn text(&self, at: u64, visits: &mut Visits) -> (Option<u64>, u64)
+    pub fn text(&self, at: u64, visits: &mut VisitCounter) -> (Option<u64>, u64)
         requires size { IsTrue (is_legal_size (length self.now.bytes)) }
         requires aligned { at % 8 ≡ 0 }
-        requires inside { at + 16 ≤ length self.now.bytes }
+        requires in_bounds { at + 16 ≤ length self.now.bytes }
         ensures link { result.0 ≡ link_at (bytes_of self.now.bytes) at }
         ensures len { result.1 ≡ word_at (bytes_of self.now.bytes) (at + 8) }
         ensures visits { visits.new ≡ visits.old + 1 }
@@ -207,11 +209,11 @@ impl ImageWindow {
     }
 
     /// Where the two links of the node at `at` lead. One visit.
-    pub fn links(&self, at: u64, visits: &mut Visits) -> (Option<u64>, Option<u64>)
+    pub fn links(&self, at: u64, visits: &mut VisitCounter) -> (Option<u64>, Option<u64>)
         requires size { IsTrue (is_legal_size (length self.now.bytes)) }
         requires aligned { at % 8 ≡ 0 }
-        requires inside { at + 16 ≤ length self.now.bytes }
-        ensures left { result.0 ≡ link_at (bytes_of self.now.bytes) at }
+        requires in_bounds { at + 16 ≤ length self.now.bytes }
+        ensures remainder { result.0 ≡ link_at (bytes_of self.now.bytes) at }
         ensures right { result.1 ≡ link_at (bytes_of self.now.bytes) (at + 8) }
         ensures visits { visits.new ≡ visits.old + 1 }
     {
@@ -219,11 +221,12 @@ impl ImageWindow {
     }
 
     /// Reads all tags up to the first that is wrong in the format. One visit for each.
-    pub fn check_counted(&self, format: u64, visits: &mut Visits) -> Checked
+    pub fn check_counted(&self, format: u64, visits: &mut VisitCounter) -> CheckedTags
         requires { IsTrue (is_legal_size (length self.now.bytes)) }
         ensures good { result.are_good ≡ has_tags format (bytes_of self.now.bytes) (length self.now.bytes) }
-        ensures stops { result.are_good ≡ false → StopsAt format (bytes_of self.now.bytes) (length self.now.bytes) result.at }
-        ensures few { 32 * result.tags + 112 ≤ length self.now.bytes }
+        ensures stop { result.are_good ≡ false
+            → StopsAt format (bytes_of self.now.bytes) (length self.now.bytes) result.at }
+        ensures max_count { 32 * result.tags + 112 ≤ length self.now.bytes }
         ensures visits { visits.new ≡ visits.old + result.tags }
     {
         let tags = check_counted(format, &self.window);
@@ -233,8 +236,8 @@ impl ImageWindow {
 
     /// The tile behind the header, or nothing where there is none.
     pub fn first(&self) -> Option<Unread>
-        requires { IsTiled self.now }
-        ensures { (ts : List ATile) → SaysTiles self.now ts → result ≡ first_in ts }
+        requires { IsTiledWindow self.now }
+        ensures { (ts : List ATile) → EncodesTiles self.now ts → result ≡ first_in ts }
     {
         match first(&self.window) {
             Some(tile) => Some(Unread { tile }),
@@ -245,7 +248,7 @@ impl ImageWindow {
     /// The tile behind the one at `at`, or nothing where that is the last.
     pub fn next(&self, at: u64) -> Option<Unread>
         requires { HasTileAt self.now at }
-        ensures { (ts : List ATile) → SaysTiles self.now ts → result ≡ next_in ts at }
+        ensures { (ts : List ATile) → EncodesTiles self.now ts → result ≡ next_in ts at }
     {
         match next(&self.window, at) {
             Some(tile) => Some(Unread { tile }),
@@ -283,7 +286,7 @@ impl Model for Unread {
 
 impl Unread {
     /// What the tags say. One visit.
-    pub fn read(self, visits: &mut Visits) -> Tile
+    pub fn read(self, visits: &mut VisitCounter) -> Tile
         ensures tile { result ≡ self }
         ensures visits { visits.new ≡ visits.old + 1 }
     {

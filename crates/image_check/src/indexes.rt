@@ -1,18 +1,20 @@
 //! Whether the two indexes have blocks that are long enough, and entries that lead to objects, each to another.
-ghost use Rattle.std.specs.Prelude.{◌≡◌, ℕ, ◌+◌, ◌*◌, ◌%◌, ◌^◌, ◌<◌, ◌≤◌, true, false, None, List, length, MatchResult, OnOk};
+ghost use Rattle.std.specs.Prelude.{◌≡◌, ℕ, ◌+◌, ◌*◌, ◌%◌, ◌^◌, ◌<◌, ◌≤◌, true, false, None, List, length, MatchResult};
+ghost use Rattle.std.specs.Prelude.{OnOk};
 ghost use Rattle.raw_region.specs.Memory.{bytes_of};
 ghost use Rattle.block_tags.specs.declared.tile.Tile.{Tile};
 ghost use Rattle.image_check.specs.ObjectTests.{has_indexes, targets};
-ghost use Rattle.image_check.specs.IndexPlaces.{IsFirstWrong, IsWrongAt, IsWrongHead, IsWrongIndex, earlier_targets, first_targets, is_head};
+ghost use Rattle.image_check.specs.IndexPlaces.{IsFirstWrong, IsWrongAt, IsWrongHead, IsWrongIndex, earlier_targets};
+ghost use Rattle.image_check.specs.IndexPlaces.{first_targets, is_head};
 ghost use Rattle.image_check.specs.Owners.{AreBlocks, IsIndexPlace, IsMarking, IsUnmarked, entries_of};
-ghost use Rattle.image_check.specs.Passes.{HasTiles, Finds, Spends, tiles_in};
-ghost use Rattle.image_check.specs.Visits.{Adds, index_rates, weigh};
+ghost use Rattle.image_check.specs.Passes.{HasTiles, ChecksClass, Spends, tiles_in};
+ghost use Rattle.image_check.specs.Visits.{AddsVisits, index_rates, weigh};
 ghost use Rattle.image_check.specs.Entered.{AreAdded, AreEntered, HaveEntries, are_enterable, is_enterable, links_in};
 
 use crate::arrays::is_table;
-use crate::checking::Visits;
+use crate::checking::VisitCounter;
 use crate::entering::enter;
-use crate::image_window::{Blocks, ImageWindow};
+use crate::image_window::{BlockTable, ImageWindow};
 use crate::owners::Owners;
 use crate::verdict::Offset;
 use block_tags::Role;
@@ -28,19 +30,22 @@ use segment_manager::layout::{NAMED_AT, UNIQUE_AT};
 pub(crate) fn check_indexes(
     window: &ImageWindow,
     owners: &mut Owners,
-    visits: &mut Visits,
+    visits: &mut VisitCounter,
 ) -> Result<(), Offset>
     requires tiles { HasTiles window.now.bytes }
-    requires gathered { owners.old.blocks.entries ≡ entries_of (tiles_in window.now.bytes) }
+    requires collection { owners.old.blocks.entries ≡ entries_of (tiles_in window.now.bytes) }
     requires pending { owners.old.pending ≡ None }
     requires waiting { owners.old.waiting ≡ 0 }
-    ensures finds { Finds (has_indexes (bytes_of window.now.bytes) (tiles_in window.now.bytes)) (IsWrongIndex (bytes_of window.now.bytes) (tiles_in window.now.bytes)) result }
-    ensures entered { OnOk result (AreEntered (bytes_of window.now.bytes) owners.new.blocks.entries) }
+    ensures verdict { ChecksClass (has_indexes (bytes_of window.now.bytes) (tiles_in window.now.bytes))
+        (IsWrongIndex (bytes_of window.now.bytes) (tiles_in window.now.bytes)) result }
+    ensures entry { OnOk result (AreEntered (bytes_of window.now.bytes) owners.new.blocks.entries) }
     ensures unmarked { OnOk result (IsUnmarked (tiles_in window.now.bytes) owners.new.blocks.entries) }
-    ensures marking { OnOk result ((format : ℕ) → IsMarking format (bytes_of window.now.bytes) (tiles_in window.now.bytes) None owners.new.blocks.entries owners.new.pending owners.new.waiting) }
+    ensures marking { OnOk result ((format : ℕ)
+        → IsMarking format (bytes_of window.now.bytes) (tiles_in window.now.bytes) None owners.new.blocks.entries
+        owners.new.pending owners.new.waiting) }
     ensures pending { owners.new.pending ≡ None }
     ensures waiting { owners.new.waiting ≡ 0 }
-    ensures spends { Spends index_rates 10 window.now.bytes visits.old visits.new }
+    ensures visits { Spends index_rates 10 window.now.bytes visits.old visits.new }
 {
     if let Err(place) = enter_index(window, owners, visits, NAMED_AT) {
         return Err(place);
@@ -59,21 +64,25 @@ pub(crate) fn check_indexes(
 fn enter_index(
     window: &ImageWindow,
     owners: &mut Owners,
-    visits: &mut Visits,
+    visits: &mut VisitCounter,
     at: u64,
 ) -> Result<(), Offset>
     requires tiles { HasTiles window.now.bytes }
     requires place { IsIndexPlace at }
     requires blocks { AreBlocks (tiles_in window.now.bytes) owners.old.blocks.entries }
-    requires earlier { HaveEntries owners.old.blocks.entries (earlier_targets (bytes_of window.now.bytes) at) }
-    ensures entered { MatchResult result
-        (λ done. (is_enterable (bytes_of window.now.bytes) (tiles_in window.now.bytes) owners.old.blocks.entries at ≡ true)
-        × AreAdded (tiles_in window.now.bytes) owners.old.blocks.entries owners.new.blocks.entries at (targets (bytes_of window.now.bytes) at))
-        (λ place. (is_enterable (bytes_of window.now.bytes) (tiles_in window.now.bytes) owners.old.blocks.entries at ≡ false)
+    requires previous { HaveEntries owners.old.blocks.entries (earlier_targets (bytes_of window.now.bytes) at) }
+    ensures entry { MatchResult result
+        (λ done. (is_enterable (bytes_of window.now.bytes) (tiles_in window.now.bytes) owners.old.blocks.entries at
+        ≡ true)
+        × AreAdded (tiles_in window.now.bytes) owners.old.blocks.entries owners.new.blocks.entries at
+        (targets (bytes_of window.now.bytes) at))
+        (λ place. (is_enterable (bytes_of window.now.bytes) (tiles_in window.now.bytes) owners.old.blocks.entries at
+        ≡ false)
         × IsWrongAt (bytes_of window.now.bytes) (tiles_in window.now.bytes) at place) }
     ensures pending { owners.new.pending ≡ owners.old.pending }
     ensures waiting { owners.new.waiting ≡ owners.old.waiting }
-    ensures spends { (visits.old ≤ visits.new) × (2 * visits.new ≤ 2 * visits.old + 10 + weigh index_rates (tiles_in window.now.bytes)) }
+    ensures visits { (visits.old ≤ visits.new)
+        × (2 * visits.new ≤ 2 * visits.old + 10 + weigh index_rates (tiles_in window.now.bytes)) }
 {
     if let Err(place) = check_head(window, &owners.blocks, visits, at) {
         return Err(place);
@@ -98,15 +107,16 @@ fn enter_index(
 /// The place of its count, or else of its link, where that is not so.
 fn check_head(
     window: &ImageWindow,
-    blocks: &Blocks,
-    visits: &mut Visits,
+    blocks: &BlockTable,
+    visits: &mut VisitCounter,
     at: u64,
 ) -> Result<(), Offset>
     requires tiles { HasTiles window.now.bytes }
     requires place { IsIndexPlace at }
     requires blocks { AreBlocks (tiles_in window.now.bytes) blocks.now.entries }
-    ensures finds { Finds (is_head (bytes_of window.now.bytes) (tiles_in window.now.bytes) at) (IsWrongHead (bytes_of window.now.bytes) (tiles_in window.now.bytes) at) result }
-    ensures spends { Adds 2 visits.old visits.new }
+    ensures verdict { ChecksClass (is_head (bytes_of window.now.bytes) (tiles_in window.now.bytes) at)
+        (IsWrongHead (bytes_of window.now.bytes) (tiles_in window.now.bytes) at) result }
+    ensures visits { AddsVisits 2 visits.old visits.new }
 {
     visits.visit();
     let capacity = window.header_word(at + 16);
@@ -129,22 +139,25 @@ fn check_head(
 fn enter_all(
     window: &ImageWindow,
     owners: &mut Owners,
-    visits: &mut Visits,
+    visits: &mut VisitCounter,
     block: u64,
     count: u64,
     root: u32,
 ) -> Result<(), Offset>
-    requires small { length window.now.bytes < 2 ^ 32 }
+    requires max_size { length window.now.bytes < 2 ^ 32 }
     requires aligned { block % 8 ≡ 0 }
-    requires inside { block + 8 * count ≤ length window.now.bytes }
-    ensures entered { (ts : List Tile) → AreBlocks ts owners.old.blocks.entries → MatchResult result
+    requires in_bounds { block + 8 * count ≤ length window.now.bytes }
+    ensures entry { (ts : List Tile) → AreBlocks ts owners.old.blocks.entries → MatchResult result
         (λ done. (are_enterable ts owners.old.blocks.entries (links_in (bytes_of window.now.bytes) block count) ≡ true)
-        × AreAdded ts owners.old.blocks.entries owners.new.blocks.entries root (first_targets (bytes_of window.now.bytes) block count))
-        (λ place. (are_enterable ts owners.old.blocks.entries (links_in (bytes_of window.now.bytes) block count) ≡ false)
-        × ((earlier : List ℕ) → HaveEntries owners.old.blocks.entries earlier → IsFirstWrong (bytes_of window.now.bytes) ts earlier block count place)) }
+        × AreAdded ts owners.old.blocks.entries owners.new.blocks.entries root
+        (first_targets (bytes_of window.now.bytes) block count))
+        (λ place. (are_enterable ts owners.old.blocks.entries (links_in (bytes_of window.now.bytes) block count)
+        ≡ false)
+        × ((earlier : List ℕ) → HaveEntries owners.old.blocks.entries earlier
+        → IsFirstWrong (bytes_of window.now.bytes) ts earlier block count place)) }
     ensures pending { owners.new.pending ≡ owners.old.pending }
     ensures waiting { owners.new.waiting ≡ owners.old.waiting }
-    ensures spends { Adds (3 * count) visits.old visits.new }
+    ensures visits { AddsVisits (3 * count) visits.old visits.new }
 {
     let mut i = 0;
     'entries: while i < count {

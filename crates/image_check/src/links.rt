@@ -4,9 +4,9 @@ ghost use Rattle.raw_region.specs.Memory.{bytes_of, word_at};
 ghost use Rattle.image_check.specs.Owners.{IsIndexPlace, IsMarkingOf, IsSharedIn};
 ghost use Rattle.image_check.specs.Passes.{HasTiles};
 ghost use Rattle.image_check.specs.Sharing.{AreElementsNoted, IsIndexNoted, IsStorageNoted, IsStorageStart};
-ghost use Rattle.image_check.specs.Visits.{Adds};
+ghost use Rattle.image_check.specs.Visits.{AddsVisits};
 
-use crate::checking::Visits;
+use crate::checking::VisitCounter;
 use crate::image_window::{ImageWindow, Value};
 use crate::marks::mark;
 use crate::owners::{Owner, Owners};
@@ -22,16 +22,18 @@ pub(crate) fn mark_index(
     window: &ImageWindow,
     owners: &mut Owners,
     at: u64,
-    visits: &mut Visits,
+    visits: &mut VisitCounter,
 ) -> Result<(), Offset>
     ghost format: { ℕ }
     requires tiles { HasTiles window.now.bytes }
     requires place { IsIndexPlace at }
-    requires marking { IsMarkingOf format window.now.bytes None owners.old.blocks.entries owners.old.pending owners.old.waiting }
-    ensures noted { MatchResult result
-        (λ done. IsIndexNoted format window.now.bytes at owners.old.blocks.entries owners.old.waiting owners.new.blocks.entries owners.new.pending owners.new.waiting)
+    requires marking { IsMarkingOf format window.now.bytes None owners.old.blocks.entries owners.old.pending
+        owners.old.waiting }
+    ensures mark { MatchResult result
+        (λ done. IsIndexNoted format window.now.bytes at owners.old.blocks.entries owners.old.waiting
+        owners.new.blocks.entries owners.new.pending owners.new.waiting)
         (IsSharedIn format window.now.bytes) }
-    ensures visits { Adds 2 visits.old visits.new }
+    ensures visits { AddsVisits 2 visits.old visits.new }
 {
     if window.header_word(at + 16) == 0 {
         return Ok(());
@@ -53,18 +55,21 @@ pub(crate) fn mark_storage(
     window: &ImageWindow,
     owners: &mut Owners,
     value: Value,
-    visits: &mut Visits,
+    visits: &mut VisitCounter,
 ) -> Result<(), Offset>
     ghost format: { ℕ }
     requires tiles { HasTiles window.now.bytes }
-    requires marking { IsMarkingOf format window.now.bytes None owners.old.blocks.entries owners.old.pending owners.old.waiting }
-    requires inside { value.at + 24 ≤ length window.now.bytes }
+    requires marking { IsMarkingOf format window.now.bytes None owners.old.blocks.entries owners.old.pending
+        owners.old.waiting }
+    requires in_bounds { value.at + 24 ≤ length window.now.bytes }
     requires aligned { value.at % 8 ≡ 0 }
-    requires start { 0 < word_at (bytes_of window.now.bytes) (value.at + 16) → IsStorageStart format window.now.bytes value.at }
-    ensures noted { MatchResult result
-        (λ done. IsStorageNoted format window.now.bytes value.at owners.old.blocks.entries owners.old.waiting owners.new.blocks.entries owners.new.pending owners.new.waiting)
+    requires start { 0 < word_at (bytes_of window.now.bytes) (value.at + 16)
+        → IsStorageStart format window.now.bytes value.at }
+    ensures mark { MatchResult result
+        (λ done. IsStorageNoted format window.now.bytes value.at owners.old.blocks.entries owners.old.waiting
+        owners.new.blocks.entries owners.new.pending owners.new.waiting)
         (IsSharedIn format window.now.bytes) }
-    ensures visits { Adds 2 visits.old visits.new }
+    ensures visits { AddsVisits 2 visits.old visits.new }
 {
     if value.capacity(window) == 0 {
         return Ok(());
@@ -84,18 +89,20 @@ pub(crate) fn mark_elements(
     owners: &mut Owners,
     array: u64,
     count: u64,
-    visits: &mut Visits,
+    visits: &mut VisitCounter,
 ) -> Result<(), Offset>
     ghost format: { ℕ }
     requires tiles { HasTiles window.now.bytes }
-    requires marking { IsMarkingOf format window.now.bytes None owners.old.blocks.entries owners.old.pending owners.old.waiting }
-    requires inside { array + 16 * count ≤ length window.now.bytes }
+    requires marking { IsMarkingOf format window.now.bytes None owners.old.blocks.entries owners.old.pending
+        owners.old.waiting }
+    requires in_bounds { array + 16 * count ≤ length window.now.bytes }
     requires aligned { array % 16 ≡ 0 }
-    requires starts { (i : ℕ) → i < count → IsStorageStart format window.now.bytes (array + 16 * i) }
-    ensures noted { MatchResult result
-        (λ done. AreElementsNoted format window.now.bytes array count owners.old.blocks.entries owners.old.waiting owners.new.blocks.entries owners.new.pending owners.new.waiting)
+    requires start { (i : ℕ) → i < count → IsStorageStart format window.now.bytes (array + 16 * i) }
+    ensures mark { MatchResult result
+        (λ done. AreElementsNoted format window.now.bytes array count owners.old.blocks.entries owners.old.waiting
+        owners.new.blocks.entries owners.new.pending owners.new.waiting)
         (IsSharedIn format window.now.bytes) }
-    ensures visits { Adds (3 * count) visits.old visits.new }
+    ensures visits { AddsVisits (3 * count) visits.old visits.new }
 {
     let mut i = 0;
     'elements: while i < count {

@@ -1,16 +1,19 @@
 //! Noting the links that lead to blocks, and following those of the nodes that are met.
-ghost use Rattle.std.specs.Prelude.{◌≡◌, ◌+◌, ◌*◌, ◌<◌, ◌≤◌, ◌^◌, false, IsTrue, List, MatchResult, Option, Some, None, ℕ, length};
+ghost use Rattle.std.specs.Prelude.{◌≡◌, ◌+◌, ◌*◌, ◌<◌, ◌≤◌, ◌^◌, false, IsTrue, List, MatchResult, Option, Some, None};
+ghost use Rattle.std.specs.Prelude.{ℕ, length};
 ghost use Rattle.raw_region.specs.Memory.{Memory};
 ghost use Rattle.offset_link.specs.Link.{link_at};
 ghost use Rattle.block_tags.specs.declared.tile.Role.TheVariants.{Object as ObjectRole};
 ghost use Rattle.block_tags.specs.declared.tile.Tile.{Tile};
 ghost use Rattle.best_fit.specs.Table.{same_role};
-ghost use Rattle.image_check.specs.Owners.{IsAllFollowed, IsMarked, IsMarking, IsMarkingOf, IsRooted, IsSharedIn, IsTurn, MayCount, debt, next_in as next_there, root_in as root_there};
+ghost use Rattle.image_check.specs.Owners.{IsAllFollowed, MarksLink, IsMarking, IsMarkingOf, IsRooted, IsSharedIn};
+ghost use Rattle.image_check.specs.Owners.{IsTurn, MayCount, unspent_budget, next_in as next_there};
+ghost use Rattle.image_check.specs.Owners.{root_in as root_there};
 ghost use Rattle.image_check.specs.OwnerPlaces.{IsSharedAt};
 ghost use Rattle.image_check.specs.Passes.{HasTiles};
-ghost use Rattle.image_check.specs.Visits.{Adds};
+ghost use Rattle.image_check.specs.Visits.{AddsVisits};
 
-use crate::checking::Visits;
+use crate::checking::VisitCounter;
 use crate::image_window::ImageWindow;
 use crate::owners::{Block, Owner, Owners, is_same};
 use crate::verdict::Offset;
@@ -26,17 +29,18 @@ pub(crate) fn mark(
     role: Role,
     link: Owner,
     target: Option<u64>,
-    visits: &mut Visits,
+    visits: &mut VisitCounter,
 ) -> Result<(), Offset>
-    requires room { owners.old.waiting + 1 < 2 ^ 64 }
+    requires no_overflow { owners.old.waiting + 1 < 2 ^ 64 }
     requires role { same_role role ObjectRole ≡ false }
-    ensures marked { (format : ℕ) (m : Memory) (ts : List Tile) (now : Option ℕ)
+    ensures marks { (format : ℕ) (m : Memory) (ts : List Tile) (now : Option ℕ)
         → IsMarking format m ts now owners.old.blocks.entries owners.old.pending owners.old.waiting
         → target ≡ link_at m link.at → MayCount format m ts role link.at → IsRooted ts owners.old.blocks.entries link
         → MatchResult result
-        (λ done. IsMarked format m ts now role link owners.old.blocks.entries owners.old.waiting owners.new.blocks.entries owners.new.pending owners.new.waiting)
+        (λ done. MarksLink format m ts now role link owners.old.blocks.entries owners.old.waiting
+        owners.new.blocks.entries owners.new.pending owners.new.waiting)
         (IsSharedAt format m ts) }
-    ensures visits { Adds 2 visits.old visits.new }
+    ensures visits { AddsVisits 2 visits.old visits.new }
 {
     let Some(target) = target else {
         return Ok(());
@@ -98,16 +102,18 @@ fn follow_next(
     window: &ImageWindow,
     owners: &mut Owners,
     node: u32,
-    visits: &mut Visits,
+    visits: &mut VisitCounter,
 ) -> Result<(), Offset>
     ghost format: { ℕ }
     requires tiles { HasTiles window.now.bytes }
-    requires marking { IsMarkingOf format window.now.bytes None owners.old.blocks.entries owners.old.pending owners.old.waiting }
+    requires marking { IsMarkingOf format window.now.bytes None owners.old.blocks.entries owners.old.pending
+        owners.old.waiting }
     requires node { owners.old.pending ≡ Some node }
     ensures turn { MatchResult result
-        (λ done. IsTurn format window.now.bytes owners.old.blocks.entries owners.old.waiting owners.new.blocks.entries owners.new.pending owners.new.waiting)
+        (λ done. IsTurn format window.now.bytes owners.old.blocks.entries owners.old.waiting
+        owners.new.blocks.entries owners.new.pending owners.new.waiting)
         (IsSharedIn format window.now.bytes) }
-    ensures visits { Adds 6 visits.old visits.new }
+    ensures visits { AddsVisits 6 visits.old visits.new }
 {
     let block = owners.blocks.block_of(node as u64, visits);
     let root = root_in(block, node);
@@ -133,15 +139,18 @@ fn follow_next(
 pub(crate) fn follow(
     window: &ImageWindow,
     owners: &mut Owners,
-    visits: &mut Visits,
+    visits: &mut VisitCounter,
 ) -> Result<(), Offset>
     ghost format: { ℕ }
     requires tiles { HasTiles window.now.bytes }
-    requires marking { IsMarkingOf format window.now.bytes None owners.old.blocks.entries owners.old.pending owners.old.waiting }
-    ensures followed { MatchResult result
-        (λ done. IsAllFollowed format window.now.bytes owners.old.blocks.entries owners.new.blocks.entries owners.new.pending owners.new.waiting)
+    requires marking { IsMarkingOf format window.now.bytes None owners.old.blocks.entries owners.old.pending
+        owners.old.waiting }
+    ensures observed { MatchResult result
+        (λ done. IsAllFollowed format window.now.bytes owners.old.blocks.entries owners.new.blocks.entries
+        owners.new.pending owners.new.waiting)
         (IsSharedIn format window.now.bytes) }
-    ensures visits { Adds (6 * owners.old.waiting + debt owners.old.blocks.entries) visits.old visits.new }
+    ensures visits { AddsVisits (6 * owners.old.waiting + unspent_budget owners.old.blocks.entries) visits.old
+        visits.new }
 {
     'nodes: while let Some(node) = owners.pending {
         if let Err(place) = follow_next(window, owners, node, visits) {

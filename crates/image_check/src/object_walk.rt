@@ -7,18 +7,18 @@ ghost use Rattle.image_check.specs.ObjectPasses.{is_object_at, is_right_tile, ob
 ghost use Rattle.image_check.specs.ObjectPlaces.{IsFirstWrongTile, IsWrongObject};
 ghost use Rattle.image_check.specs.Entered.{AreEntered};
 ghost use Rattle.image_check.specs.Owners.{entries_of, frames};
-ghost use Rattle.image_check.specs.Passes.{HasTiles, Finds, Spends, tiles_in};
-ghost use Rattle.image_check.specs.Visits.{Adds, object_rates, rate_of};
+ghost use Rattle.image_check.specs.Passes.{HasTiles, ChecksClass, Spends, tiles_in};
+ghost use Rattle.image_check.specs.Visits.{AddsVisits, object_rates, rate_of};
 
-use crate::checking::Visits;
+use crate::checking::VisitCounter;
 use crate::heads::{
     NAMED, UNIQUE, has_name, has_padding, has_room, has_spellings, is_indexed, kind_of,
 };
-use crate::image_window::{Blocks, ImageWindow, Object};
+use crate::image_window::{BlockTable, ImageWindow, Object};
 use crate::owners::{Owners, tile_of};
 use crate::ranks::has_order;
 use crate::verdict::Offset;
-use block_tags::{Role, TAG, Tile};
+use block_tags::{Role, TAG_LEN, Tile};
 use segment_manager::layout::{NAMED_AT, UNIQUE_AT};
 
 /// Checks each object by itself, then the order of the entries of each index. The indexes are those of class 8, and
@@ -33,14 +33,15 @@ pub(crate) fn check_objects(
     format: u64,
     window: &ImageWindow,
     owners: &Owners,
-    visits: &mut Visits,
+    visits: &mut VisitCounter,
 ) -> Result<(), Offset>
     requires tiles { HasTiles window.now.bytes }
     requires rows { frames owners.now.blocks.entries ≡ frames (entries_of (tiles_in window.now.bytes)) }
     requires indexes { has_indexes (bytes_of window.now.bytes) (tiles_in window.now.bytes) ≡ true }
-    requires entered { AreEntered (bytes_of window.now.bytes) owners.now.blocks.entries }
-    ensures finds { Finds (has_objects format (bytes_of window.now.bytes) (tiles_in window.now.bytes)) (IsWrongObject format (bytes_of window.now.bytes) (tiles_in window.now.bytes)) result }
-    ensures spends { Spends object_rates 10 window.now.bytes visits.old visits.new }
+    requires entry { AreEntered (bytes_of window.now.bytes) owners.now.blocks.entries }
+    ensures verdict { ChecksClass (has_objects format (bytes_of window.now.bytes) (tiles_in window.now.bytes))
+        (IsWrongObject format (bytes_of window.now.bytes) (tiles_in window.now.bytes)) result }
+    ensures visits { Spends object_rates 10 window.now.bytes visits.old visits.new }
 {
     if let Err(place) = are_right(format, window, &owners.blocks, visits) {
         return Err(place);
@@ -62,14 +63,16 @@ pub(crate) fn check_objects(
 fn are_right(
     format: u64,
     window: &ImageWindow,
-    blocks: &Blocks,
-    visits: &mut Visits,
+    blocks: &BlockTable,
+    visits: &mut VisitCounter,
 ) -> Result<(), Offset>
     requires tiles { HasTiles window.now.bytes }
     requires rows { frames blocks.now.entries ≡ frames (entries_of (tiles_in window.now.bytes)) }
-    requires entered { AreEntered (bytes_of window.now.bytes) blocks.now.entries }
-    ensures finds { Finds (list_all (is_right_tile format (bytes_of window.now.bytes)) (tiles_in window.now.bytes)) (IsFirstWrongTile (is_right_tile format (bytes_of window.now.bytes)) (tiles_in window.now.bytes)) result }
-    ensures spends { Spends object_walk_rates 0 window.now.bytes visits.old visits.new }
+    requires entry { AreEntered (bytes_of window.now.bytes) blocks.now.entries }
+    ensures verdict { ChecksClass (list_all (is_right_tile format (bytes_of window.now.bytes))
+        (tiles_in window.now.bytes)) (IsFirstWrongTile (is_right_tile format (bytes_of window.now.bytes))
+        (tiles_in window.now.bytes)) result }
+    ensures visits { Spends object_walk_rates 0 window.now.bytes visits.old visits.new }
 {
     let mut number = 0;
     'rows: while number < blocks.len() {
@@ -88,22 +91,23 @@ fn are_right(
 fn is_right(
     format: u64,
     window: &ImageWindow,
-    blocks: &Blocks,
+    blocks: &BlockTable,
     guess: usize,
-    visits: &mut Visits,
+    visits: &mut VisitCounter,
     tile: Tile,
 ) -> bool
-    requires small { length window.now.bytes < 2 ^ 63 }
-    requires long { 32 ≤ tile.len }
-    requires within { tile.offset + tile.len ≤ length window.now.bytes }
-    requires entered { AreEntered (bytes_of window.now.bytes) blocks.now.entries }
-    ensures is { result ≡ is_right_tile format (bytes_of window.now.bytes) tile }
-    ensures spends { (before : ℕ) → visits.old ≡ before + 1 → Adds (rate_of object_walk_rates tile.use_of * (tile.len / 16)) before visits.new }
+    requires max_size { length window.now.bytes < 2 ^ 63 }
+    requires min_len { 32 ≤ tile.len }
+    requires in_bounds { tile.offset + tile.len ≤ length window.now.bytes }
+    requires entry { AreEntered (bytes_of window.now.bytes) blocks.now.entries }
+    ensures test { result ≡ is_right_tile format (bytes_of window.now.bytes) tile }
+    ensures visits { (before : ℕ) → visits.old ≡ before + 1
+        → AddsVisits (rate_of object_walk_rates tile.use_of * (tile.len / 16)) before visits.new }
 {
     match tile.use_of {
         Some(Role::Object) => {
             let end = tile.offset + tile.len;
-            let object = Object::visit(tile.offset + TAG, visits);
+            let object = Object::visit(tile.offset + TAG_LEN, visits);
             is_object(format, window, blocks, guess, visits, object, end)
         }
         _ => true,
@@ -115,18 +119,18 @@ fn is_right(
 fn is_object(
     format: u64,
     window: &ImageWindow,
-    blocks: &Blocks,
+    blocks: &BlockTable,
     guess: usize,
-    visits: &mut Visits,
+    visits: &mut VisitCounter,
     object: Object,
     end: u64,
 ) -> bool
-    requires small { length window.now.bytes < 2 ^ 63 }
+    requires max_size { length window.now.bytes < 2 ^ 63 }
     requires head { object.at + 16 ≤ end }
-    requires inside { end ≤ length window.now.bytes }
-    requires entered { AreEntered (bytes_of window.now.bytes) blocks.now.entries }
-    ensures is { result ≡ is_object_at format (bytes_of window.now.bytes) object.at end }
-    ensures spends { Adds (1 + (end - object.at)) visits.old visits.new }
+    requires in_bounds { end ≤ length window.now.bytes }
+    requires entry { AreEntered (bytes_of window.now.bytes) blocks.now.entries }
+    ensures test { result ≡ is_object_at format (bytes_of window.now.bytes) object.at end }
+    ensures visits { AddsVisits (1 + (end - object.at)) visits.old visits.new }
 {
     let Some(kind) = kind_of(format, window, object) else {
         return false;

@@ -1,15 +1,16 @@
 //! The opening of an image of any of the three formats.
 ghost use Rattle.std.specs.Prelude.{◌≡◌, ◌+◌, ◌-◌, ◌%◌, ◌^◌, ◌<◌, IfErr, OnOk, length, true};
-ghost use Rattle.raw_region.specs.Device.{Reads, given_since};
-ghost use Rattle.image_check.specs.Opening.{AsksToTheEnd, IsRaisedFor, ReadsFrontAlone, cause_of, failed_reads, is_late, size_or_least};
+ghost use Rattle.raw_region.specs.Device.{ReadsSource, read_delta};
+ghost use Rattle.image_check.specs.Opening.{AsksToTheEnd, IsRaisedFor, ReadsFrontAlone, cause_of, failed_reads};
+ghost use Rattle.image_check.specs.Opening.{is_late, size_or_least};
 ghost use Rattle.image_check.specs.OpeningAny.{OpensAny};
 ghost use Rattle.image_check.specs.Passes.{CountsBlocks, CountsTiles};
 
 use crate::checking::check_noting;
 use crate::errors::OpenRefused;
 use crate::header::FRONT;
-use crate::reading::read_image;
-use crate::versions::{Versions, version_in};
+use crate::image_read::read_image;
+use crate::versions::{AcceptedVersions, version_in};
 use raw_region::{RawRegion, Source, Steps};
 use segment_manager::{Mode, Segment};
 use std::alloc::Global;
@@ -34,19 +35,20 @@ pub fn open_any<S: Source>(
 ) -> Result<Segment, OpenRefused>
     requires aligned { base % 16 ≡ 0 }
     requires reader { (S.history reader.old).failures < 2 ^ 64 - 1 }
-    ensures opens { OpensAny (given_since (S.history reader.old) (S.history reader.new)) region base mode result }
-    ensures history { Reads (S.history reader.old) (S.history reader.new) (failed_reads (cause_of result)) }
+    ensures opening { OpensAny (read_delta (S.history reader.old) (S.history reader.new)) region base mode result }
+    ensures history { ReadsSource (S.history reader.old) (S.history reader.new) (failed_reads (cause_of result)) }
     ensures ends { AsksToTheEnd (S.history reader.old) (S.history reader.new) }
-    ensures alone { ReadsFrontAlone (S.history reader.old) (S.history reader.new) (cause_of result) }
-    ensures steps { IsRaisedFor (size_or_least (given_since (S.history reader.old) (S.history reader.new)).bytes) steps.old steps.new }
+    ensures exclusive { ReadsFrontAlone (S.history reader.old) (S.history reader.new) (cause_of result) }
+    ensures steps { IsRaisedFor (size_or_least (read_delta (S.history reader.old) (S.history reader.new)).bytes)
+        steps.old steps.new }
     ensures tiles { OnOk result
-        (CountsTiles (given_since (S.history reader.old) (S.history reader.new)).bytes steps.old steps.new) }
+        (CountsTiles (read_delta (S.history reader.old) (S.history reader.new)).bytes steps.old steps.new) }
     ensures blocks { OnOk result
-        (CountsBlocks (given_since (S.history reader.old) (S.history reader.new)).bytes steps.old steps.new) }
-    ensures late { IfErr result (λ refused. is_late refused.cause ≡ true
-        → CountsTiles (given_since (S.history reader.old) (S.history reader.new)).bytes steps.old steps.new) }
+        (CountsBlocks (read_delta (S.history reader.old) (S.history reader.new)).bytes steps.old steps.new) }
+    ensures visits_on_error { IfErr result (λ refused. is_late refused.cause ≡ true
+        → CountsTiles (read_delta (S.history reader.old) (S.history reader.new)).bytes steps.old steps.new) }
 {
-    let window = match read_image(Versions::All, reader, region, base) {
+    let window = match read_image(AcceptedVersions::All, reader, region, base) {
         Ok(window) => window,
         Err(refused) => return Err(refused.into_opened()),
     };

@@ -8,8 +8,8 @@ ghost use Rattle.image_check.specs.Passes.{CountsBlocks, CountsTiles};
 use crate::checking::check_noting;
 use crate::errors::OpenRefused;
 use crate::header::FRONT;
-use crate::placing::place_image;
-use crate::versions::{Versions, version_in};
+use crate::image_copy::copy_image;
+use crate::versions::{AcceptedVersions, version_in};
 use raw_region::{RawRegion, Steps};
 use segment_manager::{Mode, Segment};
 use std::alloc::Global;
@@ -31,13 +31,14 @@ pub fn open_any_bytes(
     steps: &mut Steps,
 ) -> Result<Segment, OpenRefused>
     requires aligned { base % 16 ≡ 0 }
-    ensures opens { OpensAny (as_given image.now) region base mode result }
+    ensures opening { OpensAny (as_given image.now) region base mode result }
     ensures steps { IsRaisedFor (size_or_least image.now) steps.old steps.new }
     ensures tiles { OnOk result (CountsTiles image.now steps.old steps.new) }
     ensures blocks { OnOk result (CountsBlocks image.now steps.old steps.new) }
-    ensures late { IfErr result (λ refused. is_late refused.cause ≡ true → CountsTiles image.now steps.old steps.new) }
+    ensures visits_on_error { IfErr result (λ refused. is_late refused.cause ≡ true
+        → CountsTiles image.now steps.old steps.new) }
 {
-    let window = match place_image(Versions::All, image, region, base) {
+    let window = match copy_image(AcceptedVersions::All, image, region, base) {
         Ok(window) => window,
         Err(refused) => return Err(refused.into_opened()),
     };

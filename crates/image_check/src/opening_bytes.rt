@@ -7,8 +7,8 @@ ghost use Rattle.image_check.specs.Passes.{CountsBlocks, CountsTiles};
 
 use crate::checking::check_noting;
 use crate::errors::OpenRefused;
-use crate::placing::place_image;
-use crate::versions::Versions;
+use crate::image_copy::copy_image;
+use crate::versions::AcceptedVersions;
 use raw_region::{RawRegion, Steps};
 use segment_manager::layout::FORMAT;
 use segment_manager::{Mode, Segment};
@@ -35,13 +35,14 @@ pub fn open_bytes(
     steps: &mut Steps,
 ) -> Result<Segment, OpenRefused>
     requires aligned { base % 16 ≡ 0 }
-    ensures opens { OpensBytes current image.now region base mode result }
+    ensures opening { OpensBytes current image.now region base mode result }
     ensures steps { IsRaisedFor (size_or_least image.now) steps.old steps.new }
     ensures tiles { OnOk result (CountsTiles image.now steps.old steps.new) }
     ensures blocks { OnOk result (CountsBlocks image.now steps.old steps.new) }
-    ensures late { IfErr result (λ refused. is_late refused.cause ≡ true → CountsTiles image.now steps.old steps.new) }
+    ensures visits_on_error { IfErr result (λ refused. is_late refused.cause ≡ true
+        → CountsTiles image.now steps.old steps.new) }
 {
-    let window = match place_image(Versions::Current, image, region, base) {
+    let window = match copy_image(AcceptedVersions::Current, image, region, base) {
         Ok(window) => window,
         Err(refused) => return Err(refused.into_opened()),
     };

@@ -1,16 +1,16 @@
 //! Whether a link was met to lead to each block but the objects.
 ghost use Rattle.std.specs.Prelude.{◌≡◌, ℕ, List, not, length};
 ghost use Rattle.std.specs.List.{list_all};
-ghost use Rattle.raw_region.specs.Memory.{Cut, bytes_of};
+ghost use Rattle.raw_region.specs.Memory.{WindowState, bytes_of};
 ghost use Rattle.image_check.specs.Fields.{counted_fields, is_left, is_orphaned};
 ghost use Rattle.image_check.specs.ObjectPlaces.{IsFirstTile, IsFirstWrongTile};
 ghost use Rattle.image_check.specs.Orphans.{is_owned as is_owned_block};
 ghost use Rattle.image_check.specs.Owners.{IsWholeMarkingOf, entries_of, frames, has_owner};
-ghost use Rattle.image_check.specs.Passes.{Finds, HasTiles, Spends, tiles_in};
-ghost use Rattle.image_check.specs.Visits.{Adds, orphan_rates};
+ghost use Rattle.image_check.specs.Passes.{ChecksClass, HasTiles, Spends, tiles_in};
+ghost use Rattle.image_check.specs.Visits.{AddsVisits, orphan_rates};
 
-use crate::checking::Visits;
-use crate::image_window::Blocks;
+use crate::checking::VisitCounter;
+use crate::image_window::BlockTable;
 use crate::owners::{Block, Owners, is_same};
 use crate::verdict::Offset;
 use block_tags::Role;
@@ -20,10 +20,12 @@ use block_tags::Role;
 /// # Errors
 ///
 /// The place of the payload of the first to which none leads.
-pub(crate) fn check_orphans(owners: &Owners, visits: &mut Visits) -> Result<(), Offset>
-    ensures finds { (format : ℕ) (window : Cut) → HasTiles window.bytes
+pub(crate) fn check_orphans(owners: &Owners, visits: &mut VisitCounter) -> Result<(), Offset>
+    ensures verdict { (format : ℕ) (window : WindowState) → HasTiles window.bytes
         → IsWholeMarkingOf format window.bytes owners.now.blocks.entries owners.now.waiting
-        → Finds (not (is_orphaned format (bytes_of window.bytes) (tiles_in window.bytes))) (IsFirstTile (is_left (counted_fields format (bytes_of window.bytes) (tiles_in window.bytes))) (tiles_in window.bytes)) result }
+        → ChecksClass (not (is_orphaned format (bytes_of window.bytes) (tiles_in window.bytes)))
+        (IsFirstTile (is_left (counted_fields format (bytes_of window.bytes) (tiles_in window.bytes)))
+        (tiles_in window.bytes)) result }
     ensures visits { (image : List ℕ) → HasTiles image
         → frames owners.now.blocks.entries ≡ frames (entries_of (tiles_in image))
         → Spends orphan_rates 2 image visits.old visits.new }
@@ -36,11 +38,12 @@ pub(crate) fn check_orphans(owners: &Owners, visits: &mut Visits) -> Result<(), 
 /// # Errors
 ///
 /// The place of the payload of the first that lacks one.
-fn are_owned(blocks: &Blocks, visits: &mut Visits) -> Result<(), Offset>
-    ensures finds { (window : Cut) → HasTiles window.bytes
+fn are_owned(blocks: &BlockTable, visits: &mut VisitCounter) -> Result<(), Offset>
+    ensures verdict { (window : WindowState) → HasTiles window.bytes
         → frames blocks.now.entries ≡ frames (entries_of (tiles_in window.bytes))
-        → Finds (list_all (has_owner blocks.now.entries) (tiles_in window.bytes)) (IsFirstWrongTile (has_owner blocks.now.entries) (tiles_in window.bytes)) result }
-    ensures visits { Adds (length blocks.now.entries) visits.old visits.new }
+        → ChecksClass (list_all (has_owner blocks.now.entries) (tiles_in window.bytes))
+        (IsFirstWrongTile (has_owner blocks.now.entries) (tiles_in window.bytes)) result }
+    ensures visits { AddsVisits (length blocks.now.entries) visits.old visits.new }
 {
     let mut number = 0;
     'rows: while number < blocks.len() {

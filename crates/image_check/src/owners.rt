@@ -6,11 +6,11 @@ ghost use Rattle.best_fit.specs.Table.{same_role};
 ghost use Rattle.block_tags.specs.declared.tile.Role.TheVariants.{Object};
 ghost use Rattle.image_check.specs.ObjectTests.{good_for, is_use};
 ghost use Rattle.image_check.specs.Owners.{AreBlocks};
-ghost use Rattle.image_check.specs.Visits.{Adds};
+ghost use Rattle.image_check.specs.Visits.{AddsVisits};
 
-use crate::checking::Visits;
-use crate::image_window::Blocks;
-use block_tags::{Role, TAG, Tile};
+use crate::checking::VisitCounter;
+use crate::image_window::BlockTable;
+use block_tags::{Role, TAG_LEN, Tile};
 
 /// A link that leads to a block. Places are numbers of four bytes, since no image is longer than 2^30 bytes: there is a
 /// row for each block, and they are gone through many times.
@@ -40,7 +40,7 @@ pub(crate) struct Block {
 #[derive(Drop)]
 pub(crate) struct Owners {
     /// The blocks, by offset of the payload.
-    pub(crate) blocks: Blocks,
+    pub(crate) blocks: BlockTable,
     /// The node whose turn is next.
     pub(crate) pending: Option<u32>,
     /// How many nodes wait.
@@ -69,10 +69,10 @@ pub(crate) fn tile_of(payload: u32, block: Block) -> Tile
     requires { 16 ≤ payload }
     ensures place { result.offset + 16 ≡ payload }
     ensures len { result.len ≡ block.len }
-    ensures used { result.use_of ≡ Some block.role }
+    ensures usage { result.use_of ≡ Some block.role }
 {
     Tile {
-        offset: payload as u64 - TAG,
+        offset: payload as u64 - TAG_LEN,
         len: block.len as u64,
         use_of: Some(block.role),
         red: false,
@@ -81,13 +81,14 @@ pub(crate) fn tile_of(payload: u32, block: Block) -> Tile
 
 /// How long the tile is that the link is good for, with its tag. At most one visit.
 pub(crate) fn good_len(
-    blocks: &Blocks,
+    blocks: &BlockTable,
     role: Role,
     link: Option<u64>,
-    visits: &mut Visits,
+    visits: &mut VisitCounter,
 ) -> Option<u64>
-    ensures value { (ts : List Tile) → AreBlocks ts blocks.now.entries → result ≡ option_map (λ (t : Tile). t.len) (good_for ts role link) }
-    ensures visits { Adds 1 visits.old visits.new }
+    ensures value { (ts : List Tile) → AreBlocks ts blocks.now.entries
+        → result ≡ option_map (λ (t : Tile). t.len) (good_for ts role link) }
+    ensures visits { AddsVisits 1 visits.old visits.new }
 {
     let target = link?;
     match blocks.block_of(target, visits) {

@@ -4,14 +4,15 @@ ghost use Rattle.raw_region.specs.Memory.{bytes_of};
 ghost use Rattle.offset_link.specs.Link.{link_at};
 ghost use Rattle.seg_index.specs.Keys.{name_len_at};
 ghost use Rattle.image_check.specs.ObjectTests.{has_index, targets};
-ghost use Rattle.image_check.specs.ObjectPasses.{HaveHeads, LeadToHeads, are_ranked, entry_rates, follows as comes_behind, key_before};
+ghost use Rattle.image_check.specs.ObjectPasses.{HaveHeads, LeadToHeads, are_ranked, entry_rates};
+ghost use Rattle.image_check.specs.ObjectPasses.{follows as comes_behind, key_before};
 ghost use Rattle.image_check.specs.Owners.{IsIndexPlace};
 ghost use Rattle.image_check.specs.IndexPlaces.{first_targets};
 ghost use Rattle.image_check.specs.ObjectPlaces.{IsMisplaced, IsOutOfOrder};
-ghost use Rattle.image_check.specs.Passes.{Finds, HasTiles, tiles_in};
-ghost use Rattle.image_check.specs.Visits.{Adds, weigh};
+ghost use Rattle.image_check.specs.Passes.{ChecksClass, HasTiles, tiles_in};
+ghost use Rattle.image_check.specs.Visits.{AddsVisits, weigh};
 
-use crate::checking::Visits;
+use crate::checking::VisitCounter;
 use crate::heads::NAMED;
 use crate::image_window::{ImageWindow, Object};
 use crate::verdict::Offset;
@@ -23,7 +24,7 @@ use crate::verdict::Offset;
 /// The place of the first entry that does not, or whose object has a key that does not rise.
 pub(crate) fn has_order(
     window: &ImageWindow,
-    visits: &mut Visits,
+    visits: &mut VisitCounter,
     at: u64,
     class: u64,
 ) -> Result<(), Offset>
@@ -31,8 +32,10 @@ pub(crate) fn has_order(
     requires place { IsIndexPlace at }
     requires index { has_index (bytes_of window.now.bytes) (tiles_in window.now.bytes) at ≡ true }
     requires heads { HaveHeads (bytes_of window.now.bytes) at (length window.now.bytes) }
-    ensures finds { Finds (are_ranked class (bytes_of window.now.bytes) (targets (bytes_of window.now.bytes) at)) (IsMisplaced class (bytes_of window.now.bytes) at) result }
-    ensures spends { (visits.old ≤ visits.new) × (2 * visits.new ≤ 2 * visits.old + weigh entry_rates (tiles_in window.now.bytes)) }
+    ensures verdict { ChecksClass (are_ranked class (bytes_of window.now.bytes)
+        (targets (bytes_of window.now.bytes) at)) (IsMisplaced class (bytes_of window.now.bytes) at) result }
+    ensures visits { (visits.old ≤ visits.new)
+        × (2 * visits.new ≤ 2 * visits.old + weigh entry_rates (tiles_in window.now.bytes)) }
 {
     match window.header_link(at) {
         None => Ok(()),
@@ -47,18 +50,20 @@ pub(crate) fn has_order(
 /// The place of the first that does not, or whose object has a key that does not rise.
 fn rise(
     window: &ImageWindow,
-    visits: &mut Visits,
+    visits: &mut VisitCounter,
     block: u64,
     count: u64,
     class: u64,
 ) -> Result<(), Offset>
-    requires small { length window.now.bytes < 2 ^ 63 }
+    requires max_size { length window.now.bytes < 2 ^ 63 }
     requires aligned { block % 8 ≡ 0 }
-    requires inside { block + 8 * count ≤ length window.now.bytes }
+    requires in_bounds { block + 8 * count ≤ length window.now.bytes }
     requires links { (i : ℕ) → i < count → IsSome (link_at (bytes_of window.now.bytes) (block + 8 * i)) }
     requires heads { LeadToHeads (bytes_of window.now.bytes) block count (length window.now.bytes) }
-    ensures finds { Finds (are_ranked class (bytes_of window.now.bytes) (first_targets (bytes_of window.now.bytes) block count)) (IsOutOfOrder class (bytes_of window.now.bytes) block count) result }
-    ensures spends { Adds (3 * count) visits.old visits.new }
+    ensures verdict { ChecksClass (are_ranked class (bytes_of window.now.bytes)
+        (first_targets (bytes_of window.now.bytes) block count))
+        (IsOutOfOrder class (bytes_of window.now.bytes) block count) result }
+    ensures visits { AddsVisits (3 * count) visits.old visits.new }
 {
     let mut last = None;
     let mut i = 0;
@@ -80,16 +85,17 @@ fn rise(
 /// visits.
 fn follows(
     window: &ImageWindow,
-    visits: &mut Visits,
+    visits: &mut VisitCounter,
     class: u64,
     last: Option<u64>,
     here: u64,
 ) -> bool
-    requires small { length window.now.bytes < 2 ^ 63 }
-    requires here { here + 16 + name_len_at (bytes_of window.now.bytes) here ≤ length window.now.bytes }
-    requires last { (g : ℕ) → last ≡ Some g → g + 16 + name_len_at (bytes_of window.now.bytes) g ≤ length window.now.bytes }
-    ensures is { result ≡ comes_behind class (bytes_of window.now.bytes) last here }
-    ensures spends { Adds 2 visits.old visits.new }
+    requires max_size { length window.now.bytes < 2 ^ 63 }
+    requires in_place { here + 16 + name_len_at (bytes_of window.now.bytes) here ≤ length window.now.bytes }
+    requires last { (g : ℕ) → last ≡ Some g
+        → g + 16 + name_len_at (bytes_of window.now.bytes) g ≤ length window.now.bytes }
+    ensures test { result ≡ comes_behind class (bytes_of window.now.bytes) last here }
+    ensures visits { AddsVisits 2 visits.old visits.new }
 {
     let object = Object::visit(here, visits);
     if object.class(window) != class {
@@ -103,9 +109,9 @@ fn follows(
 
 /// Whether the key of an object stands before that of another, both of the class.
 fn precedes(window: &ImageWindow, class: u64, one: Object, other: Object) -> bool
-    requires small { length window.now.bytes < 2 ^ 63 }
-    requires one { one.at + 16 + name_len_at (bytes_of window.now.bytes) one.at ≤ length window.now.bytes }
-    requires other { other.at + 16 + name_len_at (bytes_of window.now.bytes) other.at ≤ length window.now.bytes }
+    requires max_size { length window.now.bytes < 2 ^ 63 }
+    requires single { one.at + 16 + name_len_at (bytes_of window.now.bytes) one.at ≤ length window.now.bytes }
+    requires peer { other.at + 16 + name_len_at (bytes_of window.now.bytes) other.at ≤ length window.now.bytes }
     ensures { result ≡ key_before class (bytes_of window.now.bytes) one.at other.at }
 {
     if class == NAMED {

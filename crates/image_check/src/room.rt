@@ -1,14 +1,14 @@
 //! Room for the blocks in use: the one place where the check of an image asks for memory.
 ghost use Rattle.std.specs.Prelude.{◌≡◌, ◌≤◌, IfErr, IfOk, IsOk, []};
 
-use crate::image_window::Blocks;
+use crate::image_window::BlockTable;
 use indexmap::IndexMap;
 use std::alloc::Global;
 
 /// The allocator refused memory for the blocks of an image. One field is private: only `room_for` makes one, where a
 /// request was refused.
 #[derive(Clone, Copy, Debug, PartialEq, Eq)]
-pub struct NoMemory {
+pub struct NoBlockMemory {
     /// For how many blocks memory was asked.
     pub blocks: usize,
     _made: (),
@@ -20,13 +20,13 @@ pub struct NoMemory {
 /// # Errors
 ///
 /// Where the allocator refuses it.
-pub(crate) fn room_for(alloc: Global, count: usize, end: u64) -> Result<Blocks, NoMemory>
+pub(crate) fn room_for(alloc: Global, count: usize, end: u64) -> Result<BlockTable, NoBlockMemory>
     ensures empty { IfOk result (λ blocks. blocks.entries ≡ []) }
     ensures room { IfOk result (λ blocks. count ≤ blocks.room) }
     ensures memory { count ≡ 0 → IsOk result }
     ensures refused { IfErr result (λ refusal. refusal.blocks ≡ count) }
 {
-    let refusal = NoMemory {
+    let refusal = NoBlockMemory {
         blocks: count,
         _made: (),
     };
@@ -37,7 +37,7 @@ pub(crate) fn room_for(alloc: Global, count: usize, end: u64) -> Result<Blocks, 
     // There is room, so that no memory is asked for.
     let _ = lasts.resize(count, 0);
     match IndexMap::with_capacity(alloc, count) {
-        Ok(map) => Ok(Blocks::new(map, lasts, shift_for(count, end))),
+        Ok(map) => Ok(BlockTable::new(map, lasts, shift_for(count, end))),
         Err(_) => Err(refusal),
     }
 }

@@ -2,7 +2,7 @@
 ghost use Rattle.std.specs.Prelude.{◌-◌, ◌^◌, ◌<◌};
 ghost use Rattle.raw_region.specs.Device.{Writes};
 ghost use Rattle.segment_manager.specs.Directory.{Directory};
-ghost use Rattle.segment_manager.specs.State.{StandsFor};
+ghost use Rattle.segment_manager.specs.State.{DenotesCurrent};
 ghost use Rattle.image_check.specs.Saving.{IsSaved};
 
 use raw_region::{DeviceFault, Sink, write_all};
@@ -11,8 +11,8 @@ use segment_manager::Segment;
 /// Writes the bytes of an image. Where they denote a directory, a check of the image accepts it.
 fn write_image<W: Sink>(bytes: &[u8], out: &mut W) -> Result<(), DeviceFault>
     requires { (W.history out.old).failures < 2 ^ 64 - 1 }
-    ensures writes { Writes (W.history out.old) (W.history out.new) result bytes.now }
-    ensures accepted { (d : Directory) → StandsFor bytes.now d → IsSaved bytes.now d }
+    ensures output { Writes (W.history out.old) (W.history out.new) result bytes.now }
+    ensures acceptance { (d : Directory) → DenotesCurrent bytes.now d → IsSaved bytes.now d }
 {
     write_all(out, bytes)
 }
@@ -21,8 +21,8 @@ fn write_image<W: Sink>(bytes: &[u8], out: &mut W) -> Result<(), DeviceFault>
 /// directory that the segment stands for. A fault leaves a proper prefix of it written.
 pub fn save<W: Sink>(segment: &Segment, out: &mut W) -> Result<(), DeviceFault>
     requires { (W.history out.old).failures < 2 ^ 64 - 1 }
-    ensures writes { Writes (W.history out.old) (W.history out.new) result segment.now.cut.bytes }
-    ensures accepted { (d : Directory) → StandsFor segment.now.cut.bytes d → IsSaved segment.now.cut.bytes d }
+    ensures output { Writes (W.history out.old) (W.history out.new) result segment.now.cut.bytes }
+    ensures acceptance { (d : Directory) → DenotesCurrent segment.now.cut.bytes d → IsSaved segment.now.cut.bytes d }
 {
     write_image(segment.as_bytes(), out)
 }

@@ -3,24 +3,24 @@ ghost use Rattle.std.specs.Prelude.{◌≡◌, ◌+◌, ◌*◌, ◌^◌, ◌<�
 ghost use Rattle.raw_region.specs.Memory.{bytes_of};
 ghost use Rattle.seg_types.specs.Kinds.{size_of};
 ghost use Rattle.image_check.specs.ObjectTests.{are_spellings as spell_values};
-ghost use Rattle.image_check.specs.Visits.{Adds};
+ghost use Rattle.image_check.specs.Visits.{AddsVisits};
 
-use crate::checking::Visits;
+use crate::checking::VisitCounter;
 use crate::image_window::ImageWindow;
 use seg_types::ScalarKind;
 
 /// Whether the `count` elements of a kind from `start` on spell values of it. One visit for each.
 pub(crate) fn are_spellings(
     window: &ImageWindow,
-    visits: &mut Visits,
+    visits: &mut VisitCounter,
     kind: ScalarKind,
     start: u64,
     count: u64,
 ) -> bool
-    requires small { length window.now.bytes < 2 ^ 63 }
-    requires inside { start + size_of kind * count ≤ length window.now.bytes }
-    ensures is { result ≡ spell_values (bytes_of window.now.bytes) kind start count }
-    ensures spends { Adds count visits.old visits.new }
+    requires max_size { length window.now.bytes < 2 ^ 63 }
+    requires in_bounds { start + size_of kind * count ≤ length window.now.bytes }
+    ensures test { result ≡ spell_values (bytes_of window.now.bytes) kind start count }
+    ensures visits { AddsVisits count visits.old visits.new }
 {
     let size = kind.size();
     let mut i = 0;

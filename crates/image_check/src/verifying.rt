@@ -1,6 +1,6 @@
 //! The check of an image of which no segment is made.
 ghost use Rattle.std.specs.Prelude.{◌≡◌, ◌+◌, ◌-◌, ◌%◌, ◌^◌, ◌<◌, IfErr, OnOk, length, true};
-ghost use Rattle.raw_region.specs.Device.{Reads, given_since};
+ghost use Rattle.raw_region.specs.Device.{ReadsSource, read_delta};
 ghost use Rattle.raw_region.specs.Format.{current};
 ghost use Rattle.image_check.specs.Opening.{AsksToTheEnd, IsRaisedFor, Verifies, cause_of, failed_reads};
 ghost use Rattle.image_check.specs.Opening.{is_late, size_or_least};
@@ -30,14 +30,15 @@ pub fn verify<S: Source>(
 ) -> Result<RawRegion, OpenRefused>
     requires aligned { base % 16 ≡ 0 }
     requires reader { (S.history reader.old).failures < 2 ^ 64 - 1 }
-    ensures verifies { Verifies current (given_since (S.history reader.old) (S.history reader.new)) region base result }
-    ensures history { Reads (S.history reader.old) (S.history reader.new) (failed_reads (cause_of result)) }
+    ensures verdict { Verifies current (read_delta (S.history reader.old) (S.history reader.new)) region base result }
+    ensures history { ReadsSource (S.history reader.old) (S.history reader.new) (failed_reads (cause_of result)) }
     ensures ends { AsksToTheEnd (S.history reader.old) (S.history reader.new) }
-    ensures steps { IsRaisedFor (size_or_least (given_since (S.history reader.old) (S.history reader.new)).bytes) steps.old steps.new }
+    ensures steps { IsRaisedFor (size_or_least (read_delta (S.history reader.old) (S.history reader.new)).bytes)
+        steps.old steps.new }
     ensures tiles { OnOk result
-        (CountsTiles (given_since (S.history reader.old) (S.history reader.new)).bytes steps.old steps.new) }
-    ensures late { IfErr result (λ refused. is_late refused.cause ≡ true
-        → CountsTiles (given_since (S.history reader.old) (S.history reader.new)).bytes steps.old steps.new) }
+        (CountsTiles (read_delta (S.history reader.old) (S.history reader.new)).bytes steps.old steps.new) }
+    ensures visits_on_error { IfErr result (λ refused. is_late refused.cause ≡ true
+        → CountsTiles (read_delta (S.history reader.old) (S.history reader.new)).bytes steps.old steps.new) }
 {
     match examine(alloc, reader, region, base, steps) {
         Ok(region) => Ok(region),

@@ -7,21 +7,21 @@ use segment_manager::layout::{FORMAT, FORMAT_AT};
 
 /// Which versions of the format are read.
 #[derive(Clone, Copy)]
-pub enum Versions {
+pub enum AcceptedVersions {
     /// The one that is written.
     Current,
     /// It and the two before it.
     All,
 }
 
-impl Versions {
+impl AcceptedVersions {
     /// Whether a version is one of them.
     pub fn has(self, version: u64) -> bool
         ensures { result ≡ is_taken self version }
     {
         match self {
-            Versions::Current => version == FORMAT,
-            Versions::All => version <= FORMAT,
+            AcceptedVersions::Current => version == FORMAT,
+            AcceptedVersions::All => version <= FORMAT,
         }
     }
 }

@@ -1,7 +1,7 @@
 //! Each call once, over a window of 1024 bytes.
 ghost use Rattle.std.specs.Prelude.{IfOk, [], ◌∷◌};
 ghost use Rattle.block_tags.specs.Lists.{free_tile};
-ghost use Rattle.block_tags.specs.Windows.{SaysTiles};
+ghost use Rattle.block_tags.specs.Windows.{EncodesTiles};
 
 use crate::checks::{holds, same};
 use block_tags::{
@@ -14,7 +14,7 @@ use std::test::Fail;
 
 /// A window of 1024 bytes, of which one free tile fills all but the header and the end tag.
 fn laid_window(alloc: Global) -> Result<Window, OutOfMemory>
-    ensures { IfOk result (λ w. SaysTiles w (free_tile 128 880 ∷ [])) }
+    ensures { IfOk result (λ w. EncodesTiles w (free_tile 128 880 ∷ [])) }
 {
     let region = RawRegion::new(alloc, 1024)?;
     let mut window = Window::new(region, 0, 1024);

@@ -1,8 +1,9 @@
 //! The calls on trees, on a keeper of nodes.
 
-ghost use Rattle.std.specs.Prelude.{◌≡◌, ◌≢◌, ℕ, ◌+◌, ◌<◌, ◌≤◌, Bool, true, false, Option, Some, None, length, nat_lt, nat_eq, refl};
+ghost use Rattle.std.specs.Prelude.{◌≡◌, ◌≢◌, ℕ, ◌+◌, ◌<◌, ◌≤◌, Bool, true, false, Option, Some, None, length, nat_lt};
+ghost use Rattle.std.specs.Prelude.{nat_eq, refl};
 ghost use Rattle.link_tree.specs.Tree.{Tree, IsSearchTree, nodes_of};
-ghost use Rattle.link_tree.specs.Nodes.{leads, is_in, has_place};
+ghost use Rattle.link_tree.specs.Nodes.{leads, is_in, is_ordered_with};
 
 use crate::checks::{holds, same};
 use crate::node_tables::{Numbered, empty_table};
@@ -14,7 +15,7 @@ fn has<R: Abort, N: Numbered>(rt: &R, nodes: &N, root: Option<u64>, node: u64) -
     requires { leads (N.is_node nodes.now) root ≡ true }
     ensures { (t : Tree) × IsSearchTree (N.order nodes.now) (N.cells nodes.now) root t
         × (result ≡ true → is_in node (nodes_of t) ≡ true)
-        × (result ≡ false → has_place (N.order nodes.now) node (nodes_of t) ≡ true) }
+        × (result ≡ false → is_ordered_with (N.order nodes.now) node (nodes_of t) ≡ true) }
 {
     let Some(_count) = check(nodes, root).nodes else {
         panic!(rt; "the links are no tree");
@@ -66,7 +67,7 @@ fn meets_all<R: Abort, N: Numbered>(rt: &R, nodes: &N, root: Option<u64>, count:
 /// Puts 64 nodes in, walks over them, and takes them out, each in its order.
 fn fill_and_empty<R: Abort, N: Numbered>(rt: &R, nodes: &mut N, step: u64, back: u64)
     requires step { step < 64 }
-    requires back { back < 64 }
+    requires return_path { back < 64 }
 {
     let mut root = None;
     for i in 0..64u64 {

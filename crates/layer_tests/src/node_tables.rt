@@ -1,9 +1,11 @@
 //! A keeper of nodes for the tests of trees, which owns a table of them.
 
-ghost use Rattle.std.specs.Prelude.{◌≡◌, ◌≢◌, ℕ, ◌+◌, ◌<◌, ◌≤◌, Bool, true, false, Option, Some, None, length, nat_lt, nat_eq, refl};
+ghost use Rattle.std.specs.Prelude.{◌≡◌, ◌≢◌, ℕ, ◌+◌, ◌<◌, ◌≤◌, Bool, true, false, Option, Some, None, length, nat_lt};
+ghost use Rattle.std.specs.Prelude.{nat_eq, refl};
 ghost use Rattle.link_tree.specs.Nodes.{leads};
 ghost use Rattle.layer_tests.specs.Table.{link_of, table_cells};
-ghost use Rattle.layer_tests.specs.TableLaws.{table_finite, table_left, table_right, table_irreflexive, table_transitive, table_agrees};
+ghost use Rattle.layer_tests.specs.TableLaws.{table_finite, table_left, table_right, table_irreflexive};
+ghost use Rattle.layer_tests.specs.TableLaws.{table_transitive, table_agrees};
 
 use link_tree::{Nodes, NodesMut};
 

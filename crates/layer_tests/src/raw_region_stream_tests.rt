@@ -1,5 +1,5 @@
 use crate::checks::{holds, same};
-use raw_region::stream::{Reading, Writing};
+use raw_region::std_io::{StdSink, StdSource};
 use raw_region::{Sink, Source, write_all};
 use std::io::{self, ErrorKind, Read, Write};
 
@@ -55,7 +55,7 @@ impl Write for Keeping {
 fn each_read_asks_the_reader_once(rt: HostRuntime) {
     let mut reader = Counting { asked: 0 };
     let mut into = *b"........";
-    let mut source = Reading::new(&mut reader);
+    let mut source = StdSource::new(&mut reader);
     same(&rt, source.read(&mut into[..4]).ok(), Some(2));
     same(&rt, source.read(&mut into[2..]).ok(), None);
     same(&rt, source.read(&mut into[2..]).ok(), Some(2));
@@ -70,7 +70,7 @@ fn each_write_asks_the_writer_once(rt: HostRuntime) {
         asked: 0,
         kept: [0; 4],
     };
-    let mut sink = Writing::new(&mut writer);
+    let mut sink = StdSink::new(&mut writer);
     same(&rt, sink.write(b"abc").ok(), Some(2));
     same(&rt, sink.write(b"cd").ok(), None);
     same(&rt, sink.write(b"cd").ok(), Some(2));
@@ -85,7 +85,7 @@ fn what_is_not_taken_is_asked_once(rt: HostRuntime) {
         asked: 3,
         kept: [0; 4],
     };
-    let mut sink = Writing::new(&mut writer);
+    let mut sink = StdSink::new(&mut writer);
     holds(&rt, write_all(&mut sink, b"e").is_err());
     same(&rt, writer.asked, 4);
 }

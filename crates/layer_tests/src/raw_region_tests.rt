@@ -1,7 +1,7 @@
 ghost use Rattle.std.specs.Prelude.{◌≡◌, length};
 
 use crate::checks::{done, holds, same};
-use raw_region::{RawRegion, Span, Window, apart, set_word_in, two_mut, word_in};
+use raw_region::{ByteRange, RawRegion, Window, apart, set_word_in, two_mut, word_in};
 use std::process::Abort;
 
 #[test]
@@ -105,7 +105,7 @@ fn reads(rt: &impl Abort, region: &RawRegion, at: u64, bytes: &[u8]) {
 #[test]
 fn two_ranges_are_lent_together(rt: HostRuntime) {
     let mut bytes = *b"0123456789";
-    let (front, back) = (Span { from: 1, len: 3 }, Span { from: 4, len: 3 });
+    let (front, back) = (ByteRange { from: 1, len: 3 }, ByteRange { from: 4, len: 3 });
     let (a, b) = two_mut(&mut bytes, back, front);
     a.copy_from_slice(b);
     same(&rt, bytes.as_slice(), b"0123123789".as_slice());
@@ -113,14 +113,14 @@ fn two_ranges_are_lent_together(rt: HostRuntime) {
 
 #[test]
 fn ranges_are_apart_or_not(rt: HostRuntime) {
-    let (front, back) = (Span { from: 1, len: 3 }, Span { from: 4, len: 3 });
-    let whole = Span {
+    let (front, back) = (ByteRange { from: 1, len: 3 }, ByteRange { from: 4, len: 3 });
+    let whole = ByteRange {
         from: 0,
         len: u64::MAX,
     };
     holds(&rt, apart(front, back));
     holds(&rt, apart(back, front));
-    holds(&rt, !apart(front, Span { from: 3, len: 1 }));
+    holds(&rt, !apart(front, ByteRange { from: 3, len: 1 }));
     holds(&rt, !apart(whole, front));
 }
 

@@ -6,7 +6,7 @@ use seg_types::theorems::{
     scalar_is_number, unordered_are_same, values_spell_one, written_is_read,
 };
 use seg_types::{
-    BadName, Class, IndexKey, Key, Kind, LONGEST_NAME, LineError, Name, NewKey, Plain, Refusal,
+    BadName, Class, IndexKey, Key, Kind, LineError, MAX_NAME_LEN, Name, NewKey, Plain, Refusal,
     Scalar, ScalarKind, ScalarValue, is_name,
 };
 use std::alloc::Global;
@@ -160,7 +160,7 @@ fn names_of_each_format(rt: HostRuntime) {
 
 #[test]
 fn names_have_a_longest(rt: HostRuntime) {
-    same(&rt, LONGEST_NAME, 255);
+    same(&rt, MAX_NAME_LEN, 255);
     let long = [b'~'; 256];
     for (len, in_one, in_two) in [
         (63, true, true),

@@ -1,7 +1,7 @@
 //! Words, and what they spell. Whole lines are read, and answers printed, by the rows of `crates/rows/data`.
 use crate::checks::{holds, same};
 use seg_types::Key;
-use segment_lang::{Deed, Literal, Text, Word, next_word, number_of, only_word, whole_of};
+use segment_lang::{Deed, LineBuffer, Literal, Word, next_word, number_of, only_word, whole_of};
 use std::mem::size_of;
 use std::process::Abort;
 
@@ -68,7 +68,7 @@ fn words_come_one_after_another(rt: HostRuntime) {
 
 #[test]
 fn a_text_grows(rt: HostRuntime) {
-    let mut text = Text::new();
+    let mut text = LineBuffer::new();
     holds(&rt, text.is_empty());
     text.push(b'x');
     text.extend(b"yz");

@@ -79,13 +79,17 @@ impl Plain for Ticket {
 
     ghost spells = { λ t h. refl };
 
-    ghost reads = { λ t h. let same = laws.ticket_reads t.urgent t.number h in λ j. Some (record { urgent = same.0 j; number = same.1 j }) };
+    ghost reads = { λ t h. let same = laws.ticket_reads t.urgent t.number h
+        in λ j. Some (record { urgent = same.0 j; number = same.1 j }) };
 
-    ghost differs = { λ s t h k e. let same = laws.ticket_differs s.urgent t.urgent s.number t.number h k e in λ j. record { urgent = same.0 j; number = same.1 j } };
+    ghost differs = { λ s t h k e. let same = laws.ticket_differs s.urgent t.urgent s.number t.number h k e
+        in λ j. record { urgent = same.0 j; number = same.1 j } };
 
     ghost irreflexive = { λ t. laws.ticket_irreflexive (place t.urgent t.number) };
 
-    ghost transitive = { λ s t u. laws.ticket_transitive (place s.urgent s.number) (place t.urgent t.number) (place u.urgent u.number) };
+    ghost transitive = { λ s t u. laws.ticket_transitive (place s.urgent s.number) (place t.urgent t.number)
+        (place u.urgent u.number) };
 
-    ghost total = { λ s t h k e f. let same = laws.ticket_total s.urgent t.urgent s.number t.number h k e f in λ j. record { urgent = same.0 j; number = same.1 j } };
+    ghost total = { λ s t h k e f. let same = laws.ticket_total s.urgent t.urgent s.number t.number h k e f
+        in λ j. record { urgent = same.0 j; number = same.1 j } };
 }

@@ -4,14 +4,14 @@ use Rattle.std.specs.Prelude.{IfSome, if◌then◌else◌}
 use Rattle.std.specs.Option.{option_or}
 use Rattle.std.proofs.lemmas.Bool.{cases_Bool, eq-eqb, false_from_ne_true, ne_eqb, true≢false}
 use Rattle.std.proofs.lemmas.Option.{none-some}
-use Rattle.link_tree.specs.Tree.{Tree, leaf, fork, nodes_of, has_black_root, rises}
-use Rattle.link_tree.specs.Nodes.{first_not, is_in}
+use Rattle.link_tree.specs.Tree.{Tree, leaf, fork, nodes_of, has_black_root, is_sorted}
+use Rattle.link_tree.specs.Nodes.{first_not_before, is_in}
 use Rattle.link_tree.specs.Searching.{noted}
-use Rattle.link_tree.specs.Ways.{entry_of, entry_over, exit_of, exit_over, followed, passed}
-use Rattle.link_tree.specs.declared.ways.Followed.{Followed}
-use Rattle.link_tree.specs.declared.ways.Passed.{Passed}
+use Rattle.link_tree.specs.Ways.{insert_point_of, entry_over, remove_point_of, exit_over, followed, passed}
+use Rattle.link_tree.specs.declared.change_points.Followed.{Followed}
+use Rattle.link_tree.specs.declared.change_points.Passed.{Passed}
 use Rattle.link_tree.proofs.Orders.{IsStrict, Splits, all_at, all_from, in_left, in_middle, in_right, rises_split}
-use Rattle.link_tree.proofs.Finding.{first_from, first_in, first_not-left, first_not-right, or_none}
+use Rattle.link_tree.proofs.Finding.{first_from, first_in, first_not_before-left, first_not_before-right, or_none}
 
 either_none : (b : Bool) (a : Option ℕ) → option_or a (if b then None else None) ≡ a
 either_none true a = or_none a
@@ -34,25 +34,26 @@ entry_step notes false l n r next None before =
 
 entry_noted : (before : ℕ → Bool) (notes : Passed) (t : Tree)
     → option_or (noted passed before notes t).above (noted passed before notes t).entry
-    ≡ entry_with notes t (entry_of before t)
+    ≡ entry_with notes t (insert_point_of before t)
 entry_noted before notes leaf = refl
 entry_noted before notes (fork red l n r) =
     elim (cases_Bool (before n)) [
       | inl e ↦ rw e (entry_noted before (passed notes n red true) r
-          ∙ entry_step notes red l n r r (entry_of before r) true)
+          ∙ entry_step notes red l n r r (insert_point_of before r) true)
       | inr e ↦ rw e (entry_noted before (passed notes n red false) l
-          ∙ entry_step notes red l n r l (entry_of before l) false)
+          ∙ entry_step notes red l n r l (insert_point_of before l) false)
     ]
 
 pub way_in : {lt : ℕ → ℕ → Bool} {before : ℕ → Bool} → ((a b : ℕ) → lt a b ≡ true → before b ≡ true → before a ≡ true)
-    → (notes : Passed) (t : Tree) → rises lt (nodes_of t) ≡ true
+    → (notes : Passed) (t : Tree) → is_sorted lt (nodes_of t) ≡ true
     → notes ≡ noted passed before (record { node = None; above = None; entry = None }) t
-    → (notes.node ≡ first_not before (nodes_of t)) × (option_or notes.above notes.entry ≡ entry_of before t)
+    → (notes.node ≡ first_not_before before (nodes_of t))
+    × (option_or notes.above notes.entry ≡ insert_point_of before t)
 way_in {before = before} agrees notes t o e =
     let start : Passed = record { node = None; above = None; entry = None } in (
       ap (λ (m : Passed). m.node) e
           ∙ first_from agrees passed (λ (m : Passed). m.node) (λ m n red b. refl) start t o refl,
-      rw e (entry_noted before start t ∙ either_none (has_black_root t) (entry_of before t)),
+      rw e (entry_noted before start t ∙ either_none (has_black_root t) (insert_point_of before t)),
     )
 
 -- ---- where a removal begins
@@ -60,7 +61,8 @@ way_in {before = before} agrees notes t o e =
 -- of the node that is found in a tree, or else of the last one that was found above it
 abbrev exit_with : (ℕ → ℕ → Bool) → Followed → Tree → Option ℕ → Option ℕ
 exit_with lt notes t None = notes.of_node
-exit_with lt notes t (Some x) = option_or (exit_of lt x t) (if has_black_root t then notes.exit else notes.above)
+exit_with lt notes t (Some x) =
+    option_or (remove_point_of lt x t) (if has_black_root t then notes.exit else notes.above)
 
 exit_step : (notes : Followed) (red : Bool) (n : ℕ) (next : Tree) (below : Option ℕ)
     → option_or below (if has_black_root next then (if red then notes.above else notes.exit) else Some n)
@@ -71,7 +73,7 @@ exit_step notes false n next None = elim (cases_Bool (has_black_root next)) [ in
 
 module _ {lt : ℕ → ℕ → Bool} (strict : IsStrict lt) (before : ℕ → Bool) where
   exit_right : (notes : Followed) (red : Bool) (l : Tree) (n : ℕ) (r : Tree) → Splits lt (nodes_of l) n (nodes_of r)
-      → (o : Option ℕ) → first_not before (nodes_of r) ≡ o
+      → (o : Option ℕ) → first_not_before before (nodes_of r) ≡ o
       → exit_with lt (followed notes n red true) r o ≡ exit_with lt notes (fork red l n r) o
   exit_right notes red l n r sp None e = refl
   exit_right notes red l n r sp (Some x) e =
@@ -79,21 +81,21 @@ module _ {lt : ℕ → ℕ → Bool} (strict : IsStrict lt) (before : ℕ → Bo
       let d : nat_eq n x ≡ false = ne_eqb n x (λ q. true≢false (sym k ∙ rw q (strict.irreflexive x))) in
       let a : lt x n ≡ false = false_from_ne_true (lt x n)
       (λ i. true≢false (sym (strict.transitive n x n k i) ∙ strict.irreflexive n)) in
-      rw (d, a) (exit_step notes red n r (exit_of lt x r))
+      rw (d, a) (exit_step notes red n r (remove_point_of lt x r))
 
   exit_left : (notes : Followed) (red : Bool) (l : Tree) (n : ℕ) (r : Tree) → Splits lt (nodes_of l) n (nodes_of r)
-      → (o : Option ℕ) → first_not before (nodes_of l) ≡ o
+      → (o : Option ℕ) → first_not_before before (nodes_of l) ≡ o
       → exit_with lt (followed notes n red false) l o ≡ exit_with lt notes (fork red l n r) (option_or o (Some n))
   exit_left notes true l n r sp None e = let d = eq-eqb n n refl in rw d refl
   exit_left notes false l n r sp None e = let d = eq-eqb n n refl in rw d refl
   exit_left notes red l n r sp (Some x) e =
       let k : lt x n ≡ true = all_at (λ m. lt m n) (nodes_of l) x sp.below (first_in before (nodes_of l) x e) in
       let d : nat_eq n x ≡ false = ne_eqb n x (λ q. true≢false (sym k ∙ rw q (strict.irreflexive x))) in
-      rw (d, k) (exit_step notes red n l (exit_of lt x l))
+      rw (d, k) (exit_step notes red n l (remove_point_of lt x l))
 
   module _ (agrees : (a b : ℕ) → lt a b ≡ true → before b ≡ true → before a ≡ true) where
-    exit_noted : (notes : Followed) (t : Tree) → rises lt (nodes_of t) ≡ true
-        → (noted followed before notes t).of_node ≡ exit_with lt notes t (first_not before (nodes_of t))
+    exit_noted : (notes : Followed) (t : Tree) → is_sorted lt (nodes_of t) ≡ true
+        → (noted followed before notes t).of_node ≡ exit_with lt notes t (first_not_before before (nodes_of t))
     exit_noted notes leaf o = refl
     exit_noted notes (fork red l n r) o =
         let a = nodes_of l in
@@ -103,18 +105,18 @@ module _ {lt : ℕ → ℕ → Bool} (strict : IsStrict lt) (before : ℕ → Bo
           | inl e ↦
               let passed = all_from before a (λ m i. agrees m n (all_at (λ k. lt k n) a m sp.below i) e) in
               rw e (exit_noted (followed notes n red true) r sp.right
-              ∙ exit_right notes red l n r sp (first_not before b) refl
-              ∙ ap (exit_with lt notes (fork red l n r)) (sym (first_not-right before a n b passed e)))
+              ∙ exit_right notes red l n r sp (first_not_before before b) refl
+              ∙ ap (exit_with lt notes (fork red l n r)) (sym (first_not_before-right before a n b passed e)))
           | inr e ↦ rw e (exit_noted (followed notes n red false) l sp.left
-              ∙ exit_left notes red l n r sp (first_not before a) refl
-              ∙ ap (exit_with lt notes (fork red l n r)) (sym (first_not-left before a n b e)))
+              ∙ exit_left notes red l n r sp (first_not_before before a) refl
+              ∙ ap (exit_with lt notes (fork red l n r)) (sym (first_not_before-left before a n b e)))
         ]
 
     exit_found : (t : Tree) (exit found : Option ℕ)
         → exit ≡ exit_with lt (record { node = None; above = None; exit = None; of_node = None }) t found
-        → IfSome found (λ x. exit ≡ exit_of lt x t)
+        → IfSome found (λ x. exit ≡ remove_point_of lt x t)
     exit_found t exit None e = tt
-    exit_found t exit (Some x) e = e ∙ either_none (has_black_root t) (exit_of lt x t)
+    exit_found t exit (Some x) e = e ∙ either_none (has_black_root t) (remove_point_of lt x t)
 
     -- where none is found
     exit_none : (t : Tree) (exit found : Option ℕ)
@@ -123,13 +125,14 @@ module _ {lt : ℕ → ℕ → Bool} (strict : IsStrict lt) (before : ℕ → Bo
     exit_none t exit None e none = e
     exit_none t exit (Some x) e none = absurd (none-some x (sym none))
 
-    pub way_out : (notes : Followed) (t : Tree) → rises lt (nodes_of t) ≡ true
+    pub way_out : (notes : Followed) (t : Tree) → is_sorted lt (nodes_of t) ≡ true
         → notes ≡ noted followed before (record { node = None; above = None; exit = None; of_node = None }) t
-        → (notes.node ≡ first_not before (nodes_of t)) × IfSome notes.node (λ x. notes.of_node ≡ exit_of lt x t)
+        → (notes.node ≡ first_not_before before (nodes_of t))
+        × IfSome notes.node (λ x. notes.of_node ≡ remove_point_of lt x t)
         × (notes.node ≡ None → notes.of_node ≡ None)
     way_out notes t o e =
         let start : Followed = record { node = None; above = None; exit = None; of_node = None } in
-        let first : notes.node ≡ first_not before (nodes_of t) = ap (λ (m : Followed). m.node) e
+        let first : notes.node ≡ first_not_before before (nodes_of t) = ap (λ (m : Followed). m.node) e
         ∙ first_from agrees followed (λ (m : Followed). m.node) (λ m n red b. refl) start t o refl in
         let exit : notes.of_node ≡ exit_with lt start t notes.node = ap (λ (m : Followed). m.of_node) e
         ∙ exit_noted start t o ∙ ap (exit_with lt start t) (sym first) in
@@ -139,7 +142,7 @@ module _ {lt : ℕ → ℕ → Bool} (strict : IsStrict lt) (before : ℕ → Bo
 
 -- what is asked of the nodes of the tree alone says where an insertion begins
 pub entry_same : (f g : ℕ → Bool) (t : Tree) → ((m : ℕ) → is_in m (nodes_of t) ≡ true → f m ≡ g m)
-    → entry_of f t ≡ entry_of g t
+    → insert_point_of f t ≡ insert_point_of g t
 entry_same f g leaf same = refl
 entry_same f g (fork red l n r) same =
     let here = same n (in_middle (nodes_of l) n (nodes_of r)) in
@@ -149,7 +152,7 @@ entry_same f g (fork red l n r) same =
 
 -- so does it for a removal, where the order of the nodes of the tree and of that node is the same
 pub exit_same : (f g : ℕ → ℕ → Bool) (x : ℕ) (t : Tree) → ((m : ℕ) → is_in m (nodes_of t) ≡ true → f x m ≡ g x m)
-    → exit_of f x t ≡ exit_of g x t
+    → remove_point_of f x t ≡ remove_point_of g x t
 exit_same f g x leaf same = refl
 exit_same f g x (fork red l n r) same =
     let here = same n (in_middle (nodes_of l) n (nodes_of r)) in

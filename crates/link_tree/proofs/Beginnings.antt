@@ -1,15 +1,17 @@
 -- Where a change of a tree begins: above that node nothing changes.
 use Rattle.std.proofs.Common.{◌≡◌, ℕ, ◌≤◌, arith, Bool, true, false, not, Option, Some, List, ◌++◌, refl, sym, ap, ◌∙◌}
 use Rattle.std.proofs.lemmas.Bool.{true≢false, false_from_ne_true, or_from, or_parts}
-use Rattle.link_tree.specs.Tree.{Cell, Tree, root_of, nodes_of, Holds, IsTree, IsSearchTree, IsRedBlack, rises, has_black_root, height}
+use Rattle.link_tree.specs.Tree.{Cell, Tree, root_of, nodes_of, AreCellsOf, IsTree, IsSearchTree, IsRedBlack, is_sorted}
+use Rattle.link_tree.specs.Tree.{has_black_root, height}
 use Rattle.link_tree.specs.Nodes.{is_in}
 use Rattle.link_tree.specs.Sides.{joined_at}
 use Rattle.link_tree.specs.Turning.{Turned, blackened}
-use Rattle.link_tree.specs.declared.visits.Side.{Side}
-use Rattle.link_tree.specs.declared.visits.Side.TheVariants.{Left, Right}
+use Rattle.link_tree.specs.declared.cursor.Side.{Side}
+use Rattle.link_tree.specs.declared.cursor.Side.TheVariants.{Left, Right}
 use Rattle.link_tree.proofs.Orders.{IsStrict, is_in-append}
 use Rattle.link_tree.proofs.Trees.{IsChanged, holds_same}
-use Rattle.link_tree.proofs.Joints.{Makes, cell_at, joint_of, tree_joint, root_joined, apart_of, in_far, in_near, in_root, lower_near, nodes_of-painted}
+use Rattle.link_tree.proofs.Joints.{Makes, cell_at, joint_of, tree_joint, root_joined, apart_of, in_far, in_near}
+use Rattle.link_tree.proofs.Joints.{in_root, lower_near, nodes_of-painted}
 use Rattle.link_tree.proofs.Colours.{IsEven}
 
 colour_joined : (side : Side) (red : Bool) (near : Tree) (n : ℕ) (far : Tree)
@@ -30,7 +32,7 @@ pub record Begins (lt : ℕ → ℕ → Bool) (h : ℕ → Cell) (xs : List ℕ)
     (t : Tree) : Type 0 where
   pub below : Tree
   pub is_tree : IsTree h link below
-  pub ordered : rises lt (nodes_of below) ≡ true
+  pub ordered : is_sorted lt (nodes_of below) ≡ true
   pub inside : (m : ℕ) → is_in m (nodes_of below) ≡ true → is_in m (nodes_of t) ≡ true
   pub lower : height below ≤ height t
   pub carries : (h1 : ℕ → Cell) (to : Option ℕ) → Turned h h1 (xs ++ nodes_of below) to (change below)
@@ -39,7 +41,7 @@ pub record Begins (lt : ℕ → ℕ → Bool) (h : ℕ → Cell) (xs : List ℕ)
 
 module _ {lt : ℕ → ℕ → Bool} (strict : IsStrict lt) (h : ℕ → Cell) (xs : List ℕ) (change : Tree → Tree) where
   pub begins_here : (side : Side) (red : Bool) (near near' : Tree) (n : ℕ) (far : Tree)
-      → Holds h (joined_at side red near n far) → rises lt (nodes_of (joined_at side red near n far)) ≡ true
+      → AreCellsOf h (joined_at side red near n far) → is_sorted lt (nodes_of (joined_at side red near n far)) ≡ true
       → change (joined_at side red near n far) ≡ joined_at side red near' n far
       → Begins lt h xs change (Some n) (joined_at side red near n far)
   begins_here side red near near' n far w o is =
@@ -56,7 +58,7 @@ module _ {lt : ℕ → ℕ → Bool} (strict : IsStrict lt) (h : ℕ → Cell) (
       }
 
   pub begins_deeper : (side : Side) (red : Bool) (near : Tree) (n : ℕ) (far : Tree) (link : Option ℕ)
-      → Holds h (joined_at side red near n far) → rises lt (nodes_of (joined_at side red near n far)) ≡ true
+      → AreCellsOf h (joined_at side red near n far) → is_sorted lt (nodes_of (joined_at side red near n far)) ≡ true
       → ((m : ℕ) → is_in m (nodes_of (joined_at side red near n far)) ≡ true → is_in m xs ≡ false)
       → change (joined_at side red near n far) ≡ joined_at side red (change near) n far
       → Begins lt h xs change link near → Begins lt h xs change link (joined_at side red near n far)
@@ -92,7 +94,7 @@ module _ {lt : ℕ → ℕ → Bool} (strict : IsStrict lt) (h : ℕ → Cell) (
   pub begun : (lt' : ℕ → ℕ → Bool) (h1 h' : ℕ → Cell) (root link to : Option ℕ) (t : Tree) (b : ℕ) (ns : List ℕ)
       → IsSearchTree lt h root t → (g : Begins lt h xs change link t)
       → Turned h h1 (xs ++ nodes_of g.below) to (change g.below) → IsEven (change t) b → nodes_of (change t) ≡ ns
-      → rises lt ns ≡ true → h' ≡ h1 → lt' ≡ lt → IsChanged lt' h h' root (xs ++ nodes_of t) ns
+      → is_sorted lt ns ≡ true → h' ≡ h1 → lt' ≡ lt → IsChanged lt' h h' root (xs ++ nodes_of t) ns
   begun lt' h1 h' root link to t b ns s g u even nodes o eh el =
       let new = g.carries h1 to u in
       rw (eh, el) (record {
@@ -100,7 +102,7 @@ module _ {lt : ℕ → ℕ → Bool} (strict : IsStrict lt) (h : ℕ → Cell) (
           change t,
           record {
             tree = record { root = s.tree.root ∙ new.root; holds = new.holds };
-            ordered = ap (rises lt) nodes ∙ o;
+            ordered = ap (is_sorted lt) nodes ∙ o;
             red_black = record {
               root = g.colour ∙ s.red_black.root;
               no_red_pair = even.no_red_pair;
@@ -118,14 +120,18 @@ module _ {lt : ℕ → ℕ → Bool} (strict : IsStrict lt) (h : ℕ → Cell) (
 -- a change of a whole tree, whose root is made black
 pub blackened_whole : {lt : ℕ → ℕ → Bool} (lt' : ℕ → ℕ → Bool) (h h1 h2 h' : ℕ → Cell) (link : Option ℕ) (t : Tree)
     (xs ns : List ℕ) → Turned h h1 xs link t → Makes lt h1 h2 link link blackened
-    → IsRedBlack (blackened t) → nodes_of t ≡ ns → rises lt ns ≡ true
+    → IsRedBlack (blackened t) → nodes_of t ≡ ns → is_sorted lt ns ≡ true
     → ((m : ℕ) → is_in m xs ≡ false → is_in m ns ≡ false) → h' ≡ h2 → lt' ≡ lt → IsChanged lt' h h' link xs ns
 blackened_whole {lt = lt} lt' h h1 h2 h' link t xs ns u black red_black nodes o out eh el =
-    let b = black t u.tree (ap (rises lt) nodes ∙ o) in
+    let b = black t u.tree (ap (is_sorted lt) nodes ∙ o) in
     rw (eh, el) (record {
       tree = (
         blackened t,
-        record { tree = b.tree; ordered = ap (rises lt) (nodes_of-painted false t ∙ nodes) ∙ o; red_black = red_black },
+        record {
+          tree = b.tree;
+          ordered = ap (is_sorted lt) (nodes_of-painted false t ∙ nodes) ∙ o;
+          red_black = red_black;
+        },
         nodes_of-painted false t ∙ nodes,
       );
       frame = λ m i. b.frame m (ap (is_in m) nodes ∙ out m i) ∙ u.frame m i;

@@ -4,8 +4,8 @@ use Rattle.std.proofs.lemmas.Bool.{false≢true, and_parts, cases_Bool, not-fals
 use Rattle.link_tree.specs.Tree.{Tree, leaf, fork, has_black_root, has_no_red_pair, has_black_height, IsRedBlack}
 use Rattle.link_tree.specs.Sides.{opposite, tree_on, joined_at}
 use Rattle.link_tree.specs.Turning.{blackened, rebalanced, is_red_tree, balanced, balanced_outer, balanced_inner}
-use Rattle.link_tree.specs.declared.visits.Side.{Side}
-use Rattle.link_tree.specs.declared.visits.Side.TheVariants.{Left, Right}
+use Rattle.link_tree.specs.declared.cursor.Side.{Side}
+use Rattle.link_tree.specs.declared.cursor.Side.TheVariants.{Left, Right}
 
 -- no red pair, and this many black nodes on each path
 pub record IsEven (t : Tree) (b : ℕ) : Type 0 where

@@ -1,21 +1,24 @@
 -- Above the node where an insertion begins nothing changes.
-use Rattle.std.proofs.Common.{◌≡◌, ℕ, Bool, true, false, not, Option, Some, None, [], ◌∷◌, refl, sym, ap, ◌∙◌, subst, inl, inr}
+use Rattle.std.proofs.Common.{◌≡◌, ℕ, Bool, true, false, not, Option, Some, None, [], ◌∷◌, refl, sym, ap, ◌∙◌, subst}
+use Rattle.std.proofs.Common.{inl, inr}
 use Rattle.std.proofs.lemmas.Bool.{true≢false, cases_Bool}
-use Rattle.link_tree.specs.Tree.{Cell, Tree, leaf, fork, nodes_of, Holds, IsSearchTree, rises, has_black_root, has_no_red_pair}
-use Rattle.link_tree.specs.Nodes.{is_in, has_place, put}
+use Rattle.link_tree.specs.Tree.{Cell, Tree, leaf, fork, nodes_of, AreCellsOf, IsSearchTree, is_sorted, has_black_root}
+use Rattle.link_tree.specs.Tree.{has_no_red_pair}
+use Rattle.link_tree.specs.Nodes.{is_in, is_ordered_with, put}
 use Rattle.link_tree.specs.Sides.{joined_at, side_of}
 use Rattle.link_tree.specs.Turning.{Turned, rebalanced}
-use Rattle.link_tree.specs.Growing.{Grows, grown}
-use Rattle.link_tree.specs.Ways.{entry_of, entry_over}
-use Rattle.link_tree.specs.declared.visits.Side.{Side}
-use Rattle.link_tree.specs.declared.visits.Side.TheVariants.{Left, Right}
+use Rattle.link_tree.specs.Growing.{CanInsert, after_insert}
+use Rattle.link_tree.specs.Ways.{insert_point_of, entry_over}
+use Rattle.link_tree.specs.declared.cursor.Side.{Side}
+use Rattle.link_tree.specs.declared.cursor.Side.TheVariants.{Left, Right}
 use Rattle.link_tree.proofs.Orders.{IsStrict}
 use Rattle.link_tree.proofs.Turns.{outer_same}
 use Rattle.link_tree.proofs.Trees.{IsChanged, some_same, none_some}
 use Rattle.link_tree.proofs.Beginnings.{Begins, begins_deeper, begins_here, begun}
 use Rattle.link_tree.proofs.Joints.{joint_of, apart_of, in_near}
 use Rattle.link_tree.proofs.Colours.{even_tree, IsEven, IsEvenFork, even_fork, under_red, rebalanced_red}
-use Rattle.link_tree.proofs.Growth.{grown_even, grown-joined, nodes_of-grown, rises_put, placed_apart, place_part, out_of}
+use Rattle.link_tree.proofs.Growth.{grown_even, after_insert-joined, nodes_of-after_insert, rises_put, placed_apart}
+use Rattle.link_tree.proofs.Growth.{place_part, out_of}
 
 -- ---- balancing where there is no red pair
 
@@ -89,12 +92,12 @@ enters red n next (Some m) q e = deeper e
 
 -- what an insertion does that begins at a node of the tree
 pub record IsBegun (lt : ℕ → ℕ → Bool) (h : ℕ → Cell) (x : ℕ) (t : Tree) (p : ℕ) : Type 0 where
-  pub begins : Begins lt h (x ∷ []) (grown lt x) (Some p) t
-  pub even : has_no_red_pair (grown lt x t) ≡ true
+  pub begins : Begins lt h (x ∷ []) (after_insert lt x) (Some p) t
+  pub even : has_no_red_pair (after_insert lt x t) ≡ true
 
 module _ {lt : ℕ → ℕ → Bool} (strict : IsStrict lt) (h : ℕ → Cell) (x : ℕ) where
-  pub grows_begun : (t : Tree) (p : ℕ) → has_place lt x (nodes_of t) ≡ true → (g : IsBegun lt h x t p)
-      → Grows lt h (Some p) x g.begins.below
+  pub grows_begun : (t : Tree) (p : ℕ) → is_ordered_with lt x (nodes_of t) ≡ true → (g : IsBegun lt h x t p)
+      → CanInsert lt h (Some p) x g.begins.below
   grows_begun t p place g = record {
     tree = g.begins.is_tree;
     ordered = g.begins.ordered;
@@ -102,40 +105,43 @@ module _ {lt : ℕ → ℕ → Bool} (strict : IsStrict lt) (h : ℕ → Cell) (
   }
 
   begun_here : (side : Side) (red : Bool) (near : Tree) (n : ℕ) (far : Tree) (b : ℕ)
-      → Holds h (joined_at side red near n far) → rises lt (nodes_of (joined_at side red near n far)) ≡ true
+      → AreCellsOf h (joined_at side red near n far) → is_sorted lt (nodes_of (joined_at side red near n far)) ≡ true
       → IsEvenFork red near far b → side_of (lt x n) ≡ side → red ≡ false → has_black_root near ≡ true
       → IsBegun lt h x (joined_at side red near n far) n
   begun_here side red near n far b w o e s r k =
       let even = (grown_even lt x near e.below e.left_even).even k in
-      let is : grown lt x (joined_at side red near n far) ≡ joined_at side red (grown lt x near) n far =
-      grown-joined lt x side red near n far s ∙ balance_same side red (grown lt x near) n far even in
+      let is : after_insert lt x (joined_at side red near n far) ≡ joined_at side red (after_insert lt x near) n far =
+      after_insert-joined lt x side red near n far s ∙ balance_same side red (after_insert lt x near) n far even in
       record {
-        begins = begins_here strict h (x ∷ []) (grown lt x) side red near (grown lt x near) n far w o is;
-        even = ap has_no_red_pair is ∙ no_pair_joined side red (grown lt x near) n far
+        begins = begins_here strict h (x ∷ []) (after_insert lt x) side red near (after_insert lt x near) n far w o is;
+        even = ap has_no_red_pair is ∙ no_pair_joined side red (after_insert lt x near) n far
             (λ q. absurd (true≢false (sym q ∙ r))) e.right_root even e.right_even.no_red_pair;
       }
 
   begun_deeper : (side : Side) (red : Bool) (near : Tree) (n : ℕ) (far : Tree) (b q : ℕ)
-      → Holds h (joined_at side red near n far) → rises lt (nodes_of (joined_at side red near n far)) ≡ true
-      → has_place lt x (nodes_of (joined_at side red near n far)) ≡ true → IsEvenFork red near far b
+      → AreCellsOf h (joined_at side red near n far) → is_sorted lt (nodes_of (joined_at side red near n far)) ≡ true
+      → is_ordered_with lt x (nodes_of (joined_at side red near n far)) ≡ true → IsEvenFork red near far b
       → side_of (lt x n) ≡ side → IsBegun lt h x near q → IsBegun lt h x (joined_at side red near n far) q
   begun_deeper side red near n far b q w o p e s g =
       let t = joined_at side red near n far in
-      let is : grown lt x t ≡ joined_at side red (grown lt x near) n far = grown-joined lt x side red near n far s
-      ∙ balance_same side red (grown lt x near) n far g.even in
+      let is : after_insert lt x t ≡ joined_at side red (after_insert lt x near) n far =
+      after_insert-joined lt x side red near n far s
+      ∙ balance_same side red (after_insert lt x near) n far g.even in
       let others : (m : ℕ) → is_in m (nodes_of t) ≡ true → is_in m (x ∷ []) ≡ false =
       λ m i. out_of strict m x [] (placed_apart strict x (nodes_of t) m p i) refl in
       record {
-        begins = begins_deeper strict h (x ∷ []) (grown lt x) side red near n far (Some q) w o others is g.begins;
-        even = ap has_no_red_pair is ∙ no_pair_joined side red (grown lt x near) n far
+        begins = begins_deeper strict h (x ∷ []) (after_insert lt x) side red near n far (Some q) w o others is
+            g.begins;
+        even = ap has_no_red_pair is ∙ no_pair_joined side red (after_insert lt x near) n far
             (λ r. g.begins.colour ∙ e.left_root r) e.right_root g.even e.right_even.no_red_pair;
       }
 
   begun_over : (side : Side) (red : Bool) (near : Tree) (n : ℕ) (far : Tree) (b : ℕ) (q : ℕ)
-      → Holds h (joined_at side red near n far) → rises lt (nodes_of (joined_at side red near n far)) ≡ true
-      → has_place lt x (nodes_of (joined_at side red near n far)) ≡ true → IsEven (joined_at side red near n far) b
+      → AreCellsOf h (joined_at side red near n far) → is_sorted lt (nodes_of (joined_at side red near n far)) ≡ true
+      → is_ordered_with lt x (nodes_of (joined_at side red near n far)) ≡ true
+      → IsEven (joined_at side red near n far) b
       → side_of (lt x n) ≡ side → (below : Option ℕ) → entry_over red n near below ≡ Some q
-      → ((d : ℕ) → Holds h near → rises lt (nodes_of near) ≡ true → has_place lt x (nodes_of near) ≡ true
+      → ((d : ℕ) → AreCellsOf h near → is_sorted lt (nodes_of near) ≡ true → is_ordered_with lt x (nodes_of near) ≡ true
       → IsEven near d → below ≡ Some q → IsBegun lt h x near q) → IsBegun lt h x (joined_at side red near n far) q
   begun_over side red near n far b q w o p e s below is more =
       let parts = parts_of side red near n far b e in
@@ -151,31 +157,34 @@ module _ {lt : ℕ → ℕ → Bool} (strict : IsStrict lt) (h : ℕ → Cell) (
             (begun_here side red near n far b w o parts s r k)
       ]
 
-  starts : (t : Tree) (b : ℕ) (q : ℕ) → Holds h t → rises lt (nodes_of t) ≡ true
-      → has_place lt x (nodes_of t) ≡ true → IsEven t b → entry_of (λ m. not (lt x m)) t ≡ Some q → IsBegun lt h x t q
+  starts : (t : Tree) (b : ℕ) (q : ℕ) → AreCellsOf h t → is_sorted lt (nodes_of t) ≡ true
+      → is_ordered_with lt x (nodes_of t) ≡ true → IsEven t b → insert_point_of (λ m. not (lt x m)) t ≡ Some q
+      → IsBegun lt h x t q
   starts leaf b q w o p e k = absurd (none_some q k)
   starts (fork red l n r) b q w o p e k =
       elim (cases_Bool (lt x n)) [
         | inl a ↦
-            let k' : entry_over red n l (entry_of (λ m. not (lt x m)) l) ≡ Some q = rw a at k in
-            begun_over Left red l n r b q w o p e (ap side_of a) (entry_of (λ m. not (lt x m)) l) k' (λ d. starts l d q)
+            let k' : entry_over red n l (insert_point_of (λ m. not (lt x m)) l) ≡ Some q = rw a at k in
+            begun_over Left red l n r b q w o p e (ap side_of a) (insert_point_of (λ m. not (lt x m)) l) k' (λ d.
+            starts l d q)
         | inr a ↦
-            let k' : entry_over red n r (entry_of (λ m. not (lt x m)) r) ≡ Some q = rw a at k in
-            begun_over Right red r n l b q w o p e (ap side_of a) (entry_of (λ m. not (lt x m)) r) k'
+            let k' : entry_over red n r (insert_point_of (λ m. not (lt x m)) r) ≡ Some q = rw a at k in
+            begun_over Right red r n l b q w o p e (ap side_of a) (insert_point_of (λ m. not (lt x m)) r) k'
             (λ d. starts r d q)
       ]
 
   pub begun_whole : (root : Option ℕ) (t : Tree) (p : ℕ) → IsSearchTree lt h root t
-      → has_place lt x (nodes_of t) ≡ true → entry_of (λ m. not (lt x m)) t ≡ Some p → IsBegun lt h x t p
+      → is_ordered_with lt x (nodes_of t) ≡ true → insert_point_of (λ m. not (lt x m)) t ≡ Some p → IsBegun lt h x t p
   begun_whole root t p s q e = starts t s.red_black.black.0 p s.tree.holds s.ordered q (even_tree t s.red_black) e
 
   pub entered : (lt' : ℕ → ℕ → Bool) (h1 h' : ℕ → Cell) (root : Option ℕ) (top : ℕ) (t : Tree) (p : ℕ)
-      → IsSearchTree lt h root t → has_place lt x (nodes_of t) ≡ true → (g : IsBegun lt h x t p)
-      → Turned h h1 (x ∷ nodes_of g.begins.below) (Some top) (grown lt x g.begins.below) → h' ≡ h1
+      → IsSearchTree lt h root t → is_ordered_with lt x (nodes_of t) ≡ true → (g : IsBegun lt h x t p)
+      → Turned h h1 (x ∷ nodes_of g.begins.below) (Some top) (after_insert lt x g.begins.below) → h' ≡ h1
       → lt' ≡ lt → IsChanged lt' h h' root (x ∷ nodes_of t) (put lt x (nodes_of t))
   entered lt' h1 h' root top t p s q g u eh el =
       let b = s.red_black.black.0 in
       let e = grown_even lt x t b (even_tree t s.red_black) in
-      begun strict h (x ∷ []) (grown lt x) lt' h1 h' root (Some p) (Some top) t b (put lt x (nodes_of t)) s g.begins u
-      (record { no_red_pair = g.even; black = e.nearly.black }) (nodes_of-grown strict x t s.ordered)
+      begun strict h (x ∷ []) (after_insert lt x) lt' h1 h' root (Some p) (Some top) t b (put lt x (nodes_of t)) s
+      g.begins u
+      (record { no_red_pair = g.even; black = e.nearly.black }) (nodes_of-after_insert strict x t s.ordered)
       (rises_put lt strict.transitive x (nodes_of t) s.ordered q) eh el

@@ -1,37 +1,39 @@
 -- The neighbours of a probe in an ordered list, and what a search notes of them on its way down a tree.
-use Rattle.std.proofs.Common.{◌≡◌, ℕ, Bool, true, false, not, Option, Some, None, List, [], ◌∷◌, ◌++◌, nat_eq, refl, sym, ap, subst, ◌∙◌, append_assoc, inl, inr}
+use Rattle.std.proofs.Common.{◌≡◌, ℕ, Bool, true, false, not, Option, Some, None, List, [], ◌∷◌, ◌++◌, nat_eq, refl}
+use Rattle.std.proofs.Common.{sym, ap, subst, ◌∙◌, append_assoc, inl, inr}
 use mathlib.Core.List.{reverse, reverse-cons}
 use Rattle.std.specs.Prelude.{find, if◌then◌else◌}
 use Rattle.std.specs.List.{last_or, list_all}
 use Rattle.std.specs.Option.{option_or}
-use Rattle.std.proofs.lemmas.Bool.{and_parts, cases_Bool, eq-eqb, eqb-true, false_from_ne_true, not-true, not_from_false, not_from_true, or_cases, or_left, or_right, true≢false}
+use Rattle.std.proofs.lemmas.Bool.{and_parts, cases_Bool, eq-eqb, eqb-true, false_from_ne_true, not-true}
+use Rattle.std.proofs.lemmas.Bool.{not_from_false, not_from_true, or_cases, or_left, or_right, true≢false}
 use Rattle.std.proofs.lemmas.List.{reverse-append}
 use Rattle.std.proofs.lemmas.List.Folds.{find-append}
-use Rattle.link_tree.specs.Tree.{Tree, leaf, fork, nodes_of, rises}
-use Rattle.link_tree.specs.Nodes.{first_not, is_in, last_before}
+use Rattle.link_tree.specs.Tree.{Tree, leaf, fork, nodes_of, is_sorted}
+use Rattle.link_tree.specs.Nodes.{first_not_before, is_in, last_before}
 use Rattle.link_tree.specs.Searching.{noted}
 use Rattle.link_tree.proofs.Orders.{all_at, all_from, rises_split}
 use Rattle.link_tree.proofs.Trees.{none_some, some_same}
 
 -- where all stand before the probe, none is found
-find_none : (before : ℕ → Bool) (ns : List ℕ) → list_all before ns ≡ true → first_not before ns ≡ None
+find_none : (before : ℕ → Bool) (ns : List ℕ) → list_all before ns ≡ true → first_not_before before ns ≡ None
 find_none before [] a = refl
 find_none before (n ∷ ns) a =
     let p = and_parts (before n) (list_all before ns) a in
     let e = not_from_true (before n) p.0 in
     rw e (find_none before ns p.1)
 
-pub first_not-right : (before : ℕ → Bool) (xs : List ℕ) (n : ℕ) (ys : List ℕ) → list_all before xs ≡ true
-    → before n ≡ true → first_not before (xs ++ n ∷ ys) ≡ first_not before ys
-first_not-right before xs n ys a b =
+pub first_not_before-right : (before : ℕ → Bool) (xs : List ℕ) (n : ℕ) (ys : List ℕ) → list_all before xs ≡ true
+    → before n ≡ true → first_not_before before (xs ++ n ∷ ys) ≡ first_not_before before ys
+first_not_before-right before xs n ys a b =
     let e = not_from_true (before n) b in
     let f = find_none before xs a in
     let g = find-append (λ m. not (before m)) xs (n ∷ ys) in
     g ∙ rw (f, e) refl
 
-pub first_not-left : (before : ℕ → Bool) (xs : List ℕ) (n : ℕ) (ys : List ℕ) → before n ≡ false
-    → first_not before (xs ++ n ∷ ys) ≡ option_or (first_not before xs) (Some n)
-first_not-left before xs n ys b =
+pub first_not_before-left : (before : ℕ → Bool) (xs : List ℕ) (n : ℕ) (ys : List ℕ) → before n ≡ false
+    → first_not_before before (xs ++ n ∷ ys) ≡ option_or (first_not_before before xs) (Some n)
+first_not_before-left before xs n ys b =
     let e = not_from_false (before n) b in
     find-append (λ m. not (before m)) xs (n ∷ ys) ∙ rw e refl
 
@@ -44,22 +46,22 @@ or_none None = refl
 or_none (Some m) = refl
 
 -- the first node that does not stand before is one of the nodes
-pub first_in : (before : ℕ → Bool) (ns : List ℕ) (x : ℕ) → first_not before ns ≡ Some x → is_in x ns ≡ true
+pub first_in : (before : ℕ → Bool) (ns : List ℕ) (x : ℕ) → first_not_before before ns ≡ Some x → is_in x ns ≡ true
 first_in before [] x e = absurd (none_some x e)
 first_in before (n ∷ ns) x e =
     elim (cases_Bool (before n)) [
-      | inl k ↦ let f : first_not before ns ≡ Some x = rw k at e in or_right (nat_eq x n) (is_in x ns)
+      | inl k ↦ let f : first_not_before before ns ≡ Some x = rw k at e in or_right (nat_eq x n) (is_in x ns)
           (first_in before ns x f)
       | inr k ↦ let f : Some n ≡ Some x = rw k at e in or_left (nat_eq x n) (is_in x ns)
           (eq-eqb x n (sym (some_same n x f)))
     ]
 
 -- a node of an ordered list is the first that does not precede it
-pub first_itself : (lt : ℕ → ℕ → Bool) → ((n : ℕ) → lt n n ≡ false) → (ns : List ℕ) (x : ℕ) → rises lt ns ≡ true
-    → is_in x ns ≡ true → first_not (λ m. lt m x) ns ≡ Some x
+pub first_itself : (lt : ℕ → ℕ → Bool) → ((n : ℕ) → lt n n ≡ false) → (ns : List ℕ) (x : ℕ) → is_sorted lt ns ≡ true
+    → is_in x ns ≡ true → first_not_before (λ m. lt m x) ns ≡ Some x
 first_itself lt irreflexive [] x r i = absurd (true≢false (sym i))
 first_itself lt irreflexive (n ∷ ns) x r i =
-    let two = and_parts (list_all (lt n) ns) (rises lt ns) r in
+    let two = and_parts (list_all (lt n) ns) (is_sorted lt ns) r in
     elim (or_cases (nat_eq x n) (is_in x ns) i) [
       | inl e ↦ let same : x ≡ n = eqb-true x n e in
           let f = not_from_false (lt n x) (subst (λ k. lt n k ≡ false) (sym same) (irreflexive n)) in
@@ -105,8 +107,8 @@ module _ {lt : ℕ → ℕ → Bool} {before : ℕ → Bool} (agrees : (a b : �
     {K : Type 0} (pass : K → ℕ → Bool → Bool → K) (node : K → Option ℕ) where
   -- the last node passed that does not stand before the probe is the first one of the tree
   first_noted : ((notes : K) (n : ℕ) (red b : Bool) → node (pass notes n red b) ≡ (if b then node notes else Some n))
-      → (notes : K) (t : Tree) → rises lt (nodes_of t) ≡ true
-      → node (noted pass before notes t) ≡ option_or (first_not before (nodes_of t)) (node notes)
+      → (notes : K) (t : Tree) → is_sorted lt (nodes_of t) ≡ true
+      → node (noted pass before notes t) ≡ option_or (first_not_before before (nodes_of t)) (node notes)
   first_noted says notes leaf o = refl
   first_noted says notes (fork red l n r) o =
       let a = nodes_of l in
@@ -116,23 +118,23 @@ module _ {lt : ℕ → ℕ → Bool} {before : ℕ → Bool} (agrees : (a b : �
         | inl e ↦
             let passed = all_from before a (λ m i. agrees m n (all_at (λ k. lt k n) a m sp.below i) e) in
             rw e (first_noted says (pass notes n red true) r sp.right
-            ∙ ap (option_or (first_not before b)) (says notes n red true)
-            ∙ ap (λ f. option_or f (node notes)) (sym (first_not-right before a n b passed e)))
+            ∙ ap (option_or (first_not_before before b)) (says notes n red true)
+            ∙ ap (λ f. option_or f (node notes)) (sym (first_not_before-right before a n b passed e)))
         | inr e ↦ rw e (first_noted says (pass notes n red false) l sp.left
-            ∙ ap (option_or (first_not before a)) (says notes n red false)
-            ∙ sym (ap (λ f. option_or f (node notes)) (first_not-left before a n b e)
-            ∙ or_some (first_not before a) n (node notes)))
+            ∙ ap (option_or (first_not_before before a)) (says notes n red false)
+            ∙ sym (ap (λ f. option_or f (node notes)) (first_not_before-left before a n b e)
+            ∙ or_some (first_not_before before a) n (node notes)))
       ]
 
   pub first_from : ((notes : K) (n : ℕ) (red b : Bool) → node (pass notes n red b) ≡ (if b then node notes else Some n))
-      → (start : K) (t : Tree) → rises lt (nodes_of t) ≡ true → node start ≡ None
-      → node (noted pass before start t) ≡ first_not before (nodes_of t)
+      → (start : K) (t : Tree) → is_sorted lt (nodes_of t) ≡ true → node start ≡ None
+      → node (noted pass before start t) ≡ first_not_before before (nodes_of t)
   first_from says start t o e =
-      first_noted says start t o ∙ ap (option_or (first_not before (nodes_of t))) e ∙ or_none _
+      first_noted says start t o ∙ ap (option_or (first_not_before before (nodes_of t))) e ∙ or_none _
 
   -- the last node passed that stands before it is the last one of the tree
   pub last_noted : ((notes : K) (n : ℕ) (red b : Bool) → node (pass notes n red b) ≡ (if b then Some n else node notes))
-      → (notes : K) (t : Tree) → rises lt (nodes_of t) ≡ true
+      → (notes : K) (t : Tree) → is_sorted lt (nodes_of t) ≡ true
       → node (noted pass before notes t) ≡ option_or (last_before before (nodes_of t)) (node notes)
   last_noted says notes leaf o = refl
   last_noted says notes (fork red l n r) o =

@@ -1,20 +1,27 @@
 -- The insertion keeps order, colours and black heights.
-use Rattle.std.proofs.Common.{◌≡◌, ℕ, zero, suc, ◌+◌, ◌≤◌, Bool, true, false, not, ◌&&◌, ◌||◌, Option, Some, None, List, [], ◌∷◌, ◌++◌, nat_eq, refl, sym, ap, ◌∙◌, inl, inr, ◌⊎◌}
+use Rattle.std.proofs.Common.{◌≡◌, ℕ, zero, suc, ◌+◌, ◌≤◌, Bool, true, false, not, ◌&&◌, ◌||◌, Option, Some, None, List}
+use Rattle.std.proofs.Common.{[], ◌∷◌, ◌++◌, nat_eq, refl, sym, ap, ◌∙◌, inl, inr, ◌⊎◌}
 use Rattle.std.specs.List.{list_all}
-use Rattle.std.proofs.lemmas.Bool.{true≢false, false≢true, and_parts, and_from, or_cases, or_from, or_parts, eqb-false, or_left, or_right, cases_Bool, eqb-true, ne_eqb, not-true, not_from_false, false_from_ne_true}
-use Rattle.link_tree.specs.Tree.{Cell, Tree, leaf, fork, root_of, nodes_of, IsSearchTree, rises, has_black_root, has_no_red_pair, has_black_height, IsRedBlack, height}
-use Rattle.link_tree.specs.Nodes.{is_in, has_place, put, with_left, with_right, with_red}
+use Rattle.std.proofs.lemmas.Bool.{true≢false, false≢true, and_parts, and_from, or_cases, or_from, or_parts, eqb-false}
+use Rattle.std.proofs.lemmas.Bool.{or_left, or_right, cases_Bool, eqb-true, ne_eqb, not-true, not_from_false}
+use Rattle.std.proofs.lemmas.Bool.{false_from_ne_true}
+use Rattle.link_tree.specs.Tree.{Cell, Tree, leaf, fork, root_of, nodes_of, IsSearchTree, is_sorted, has_black_root}
+use Rattle.link_tree.specs.Tree.{has_no_red_pair, has_black_height, IsRedBlack, height}
+use Rattle.link_tree.specs.Nodes.{is_in, is_ordered_with, put, with_left, with_right, with_red}
 use Rattle.link_tree.specs.Sides.{opposite, tree_on, child_of, with_child, joined_at, side_of}
 use Rattle.link_tree.specs.Turning.{Turned, blackened, rebalanced, is_red_tree, balanced_outer, balanced_inner}
-use Rattle.link_tree.specs.Growing.{Grows, grown}
-use Rattle.link_tree.specs.declared.visits.Side.{Side}
-use Rattle.link_tree.specs.declared.visits.Side.TheVariants.{Left, Right}
+use Rattle.link_tree.specs.Growing.{CanInsert, after_insert}
+use Rattle.link_tree.specs.declared.cursor.Side.{Side}
+use Rattle.link_tree.specs.declared.cursor.Side.TheVariants.{Left, Right}
 use Rattle.link_tree.proofs.Orders.{IsStrict, Splits, rises_split, all_at, all_from, above_more}
 use Rattle.link_tree.proofs.Trees.{IsChanged}
 use Rattle.link_tree.proofs.Beginnings.{blackened_whole}
-use Rattle.link_tree.proofs.Joints.{fork_joined, Makes, parted, cell_at, with_red-same, with_red-other, with_child-other, with_child-near, in_near, in_far, in_root, outside_all, nodes_of-joined, nodes_of-painted, nodes_of-turn}
+use Rattle.link_tree.proofs.Joints.{fork_joined, Makes, parted, cell_at, with_red-same, with_red-other}
+use Rattle.link_tree.proofs.Joints.{with_child-other, with_child-near, in_near, in_far, in_root, outside_all}
+use Rattle.link_tree.proofs.Joints.{nodes_of-joined, nodes_of-painted, nodes_of-turn}
 use Rattle.link_tree.proofs.Turns.{graft}
-use Rattle.link_tree.proofs.Colours.{blackened_red_black, even_tree, IsEven, IsNearlyEven, red_nearly, rebalanced_even, rebalanced_red, red_of_join, nearly_even, under_red, sides_of_red, sides_of_black}
+use Rattle.link_tree.proofs.Colours.{blackened_red_black, even_tree, IsEven, IsNearlyEven, red_nearly, rebalanced_even}
+use Rattle.link_tree.proofs.Colours.{rebalanced_red, red_of_join, nearly_even, under_red, sides_of_red, sides_of_black}
 
 -- ---- lists
 
@@ -65,7 +72,7 @@ put_out lt x xs m d o =
 
 -- a node has its place in each part of a list in which it has one
 pub place_part : (lt : ℕ → ℕ → Bool) (x : ℕ) (xs ys : List ℕ) → ((m : ℕ) → is_in m xs ≡ true → is_in m ys ≡ true)
-    → has_place lt x ys ≡ true → has_place lt x xs ≡ true
+    → is_ordered_with lt x ys ≡ true → is_ordered_with lt x xs ≡ true
 place_part lt x xs ys sub p = all_from (λ m. lt x m || lt m x) xs (λ m i. all_at (λ m. lt x m || lt m x) ys m p
     (sub m i))
 
@@ -74,11 +81,12 @@ outside_x m x ns i = let p = or_parts (nat_eq m x) (is_in m ns) i in (eqb-false 
 
 -- ---- trees
 
-pub grown-joined : (lt : ℕ → ℕ → Bool) (x : ℕ) (side : Side) (red : Bool) (near : Tree) (n : ℕ) (far : Tree)
+pub after_insert-joined : (lt : ℕ → ℕ → Bool) (x : ℕ) (side : Side) (red : Bool) (near : Tree) (n : ℕ) (far : Tree)
     → side_of (lt x n) ≡ side
-    → grown lt x (joined_at side red near n far) ≡ rebalanced side (joined_at side red (grown lt x near) n far)
-grown-joined lt x Left red near n far e = rw e refl
-grown-joined lt x Right red near n far e = rw e refl
+    → after_insert lt x (joined_at side red near n far)
+    ≡ rebalanced side (joined_at side red (after_insert lt x near) n far)
+after_insert-joined lt x Left red near n far e = rw e refl
+after_insert-joined lt x Right red near n far e = rw e refl
 
 nodes_of-inner : (side : Side) (a : Tree) (m : ℕ) (b : Tree) (n : ℕ) (far : Tree)
     → nodes_of (balanced_inner side a m b n far) ≡ nodes_of (joined_at side false (joined_at side true a m b) n far)
@@ -114,48 +122,51 @@ nodes_of-rebalanced Right false (fork false l m r) n far = refl
 nodes_of-rebalanced Right false (fork true l m r) n far = nodes_of-outer Right r m l n far
 
 module _ (lt : ℕ → ℕ → Bool) (transitive : (a b c : ℕ) → lt a b ≡ true → lt b c ≡ true → lt a c ≡ true) where
-  pub rises_put : (x : ℕ) (xs : List ℕ) → rises lt xs ≡ true → has_place lt x xs ≡ true → rises lt (put lt x xs) ≡ true
+  pub rises_put : (x : ℕ) (xs : List ℕ) → is_sorted lt xs ≡ true → is_ordered_with lt x xs ≡ true
+      → is_sorted lt (put lt x xs) ≡ true
   rises_put x [] o p = refl
   rises_put x (y ∷ ys) o p =
-      let q = and_parts (list_all (lt y) ys) (rises lt ys) o in
-      let k = and_parts (lt x y || lt y x) (has_place lt x ys) p in
+      let q = and_parts (list_all (lt y) ys) (is_sorted lt ys) o in
+      let k = and_parts (lt x y || lt y x) (is_ordered_with lt x ys) p in
       elim (cases_Bool (lt x y)) [
-        | inl a ↦ rw a (and_from (lt x y && list_all (lt x) ys) (list_all (lt y) ys && rises lt ys)
+        | inl a ↦ rw a (and_from (lt x y && list_all (lt x) ys) (list_all (lt y) ys && is_sorted lt ys)
             (and_from (lt x y) (list_all (lt x) ys) a (above_more lt transitive x y ys a q.0)) o)
         | inr a ↦
             let b : lt y x ≡ true =
             elim (or_cases (lt x y) (lt y x) k.0) [ inl c ↦ absurd (true≢false (sym c ∙ a)) | inr c ↦ c ] in
-            rw a (and_from (list_all (lt y) (put lt x ys)) (rises lt (put lt x ys)) (all_from (lt y) (put lt x ys)
+            rw a (and_from (list_all (lt y) (put lt x ys)) (is_sorted lt (put lt x ys)) (all_from (lt y) (put lt x ys)
             (λ m i. elim (put_parts lt x ys m i) [ inl e ↦ rw e b | inr j ↦ all_at (lt y) ys m q.0 j ]))
             (rises_put x ys q.1 k.1))
       ]
 
 module _ {lt : ℕ → ℕ → Bool} (strict : IsStrict lt) where
-  grown-nodes_left : (x : ℕ) (red : Bool) (l : Tree) (n : ℕ) (r : Tree) → lt x n ≡ true
-      → nodes_of (grown lt x l) ≡ put lt x (nodes_of l)
-      → nodes_of (grown lt x (fork red l n r)) ≡ put lt x (nodes_of (fork red l n r))
-  grown-nodes_left x red l n r e more =
-      ap nodes_of (grown-joined lt x Left red l n r (ap side_of e)) ∙ nodes_of-rebalanced Left red (grown lt x l) n r
+  after_insert-nodes_left : (x : ℕ) (red : Bool) (l : Tree) (n : ℕ) (r : Tree) → lt x n ≡ true
+      → nodes_of (after_insert lt x l) ≡ put lt x (nodes_of l)
+      → nodes_of (after_insert lt x (fork red l n r)) ≡ put lt x (nodes_of (fork red l n r))
+  after_insert-nodes_left x red l n r e more =
+      ap nodes_of (after_insert-joined lt x Left red l n r (ap side_of e))
+      ∙ nodes_of-rebalanced Left red (after_insert lt x l) n r
       ∙ ap (λ zs. zs ++ n ∷ nodes_of r) more ∙ sym (put_in_left lt x (nodes_of l) n (nodes_of r) e)
 
-  grown-nodes_right : (x : ℕ) (red : Bool) (l : Tree) (n : ℕ) (r : Tree) → lt x n ≡ false
-      → Splits lt (nodes_of l) n (nodes_of r) → nodes_of (grown lt x r) ≡ put lt x (nodes_of r)
-      → nodes_of (grown lt x (fork red l n r)) ≡ put lt x (nodes_of (fork red l n r))
-  grown-nodes_right x red l n r e s more =
+  after_insert-nodes_right : (x : ℕ) (red : Bool) (l : Tree) (n : ℕ) (r : Tree) → lt x n ≡ false
+      → Splits lt (nodes_of l) n (nodes_of r) → nodes_of (after_insert lt x r) ≡ put lt x (nodes_of r)
+      → nodes_of (after_insert lt x (fork red l n r)) ≡ put lt x (nodes_of (fork red l n r))
+  after_insert-nodes_right x red l n r e s more =
       let behind : list_all (λ y. not (lt x y)) (nodes_of l) ≡ true = all_from (λ y. not (lt x y)) (nodes_of l)
       (λ m i. not_from_false (lt x m) (false_from_ne_true (lt x m)
       (λ k. true≢false (sym (strict.transitive x m n k (all_at (λ z. lt z n) (nodes_of l) m s.below i)) ∙ e)))) in
-      ap nodes_of (grown-joined lt x Right red r n l (ap side_of e)) ∙ nodes_of-rebalanced Right red (grown lt x r) n l
+      ap nodes_of (after_insert-joined lt x Right red r n l (ap side_of e))
+      ∙ nodes_of-rebalanced Right red (after_insert lt x r) n l
       ∙ ap (λ zs. nodes_of l ++ n ∷ zs) more ∙ sym (put_in_right lt x (nodes_of l) n (nodes_of r) e behind)
 
-  pub nodes_of-grown : (x : ℕ) (t : Tree) → rises lt (nodes_of t) ≡ true
-      → nodes_of (grown lt x t) ≡ put lt x (nodes_of t)
-  nodes_of-grown x leaf o = refl
-  nodes_of-grown x (fork red l n r) o =
+  pub nodes_of-after_insert : (x : ℕ) (t : Tree) → is_sorted lt (nodes_of t) ≡ true
+      → nodes_of (after_insert lt x t) ≡ put lt x (nodes_of t)
+  nodes_of-after_insert x leaf o = refl
+  nodes_of-after_insert x (fork red l n r) o =
       let s = rises_split lt (nodes_of l) n (nodes_of r) o in
       elim (cases_Bool (lt x n)) [
-        | inl e ↦ grown-nodes_left x red l n r e (nodes_of-grown x l s.left)
-        | inr e ↦ grown-nodes_right x red l n r e s (nodes_of-grown x r s.right)
+        | inl e ↦ after_insert-nodes_left x red l n r e (nodes_of-after_insert x l s.left)
+        | inr e ↦ after_insert-nodes_right x red l n r e s (nodes_of-after_insert x r s.right)
       ]
 
 -- ---- colours
@@ -186,7 +197,7 @@ grown_black side near near' n far b e f =
     }
 
 module _ (lt : ℕ → ℕ → Bool) (x : ℕ) where
-  pub grown_even : (t : Tree) (b : ℕ) → IsEven t b → IsGrownEven t (grown lt x t) b
+  pub grown_even : (t : Tree) (b : ℕ) → IsEven t b → IsGrownEven t (after_insert lt x t) b
   grown_even leaf b e =
       record {
         nearly = record {
@@ -201,8 +212,8 @@ module _ (lt : ℕ → ℕ → Bool) (x : ℕ) where
       let gl = grown_even l b s.near_even in
       let gr = grown_even r b s.far_even in
       elim (cases_Bool (lt x n)) [
-        | inl k ↦ rw k (grown_red Left l (grown lt x l) n r b gl s.far_even u.left_root)
-        | inr k ↦ rw k (grown_red Right r (grown lt x r) n l b gr s.near_even u.right_root)
+        | inl k ↦ rw k (grown_red Left l (after_insert lt x l) n r b gl s.far_even u.left_root)
+        | inr k ↦ rw k (grown_red Right r (after_insert lt x r) n l b gr s.near_even u.right_root)
       ]
   grown_even (fork false l n r) zero e = absurd (false≢true e.black)
   grown_even (fork false l n r) (suc b) e =
@@ -210,21 +221,21 @@ module _ (lt : ℕ → ℕ → Bool) (x : ℕ) where
       let gl = grown_even l b s.near_even in
       let gr = grown_even r b s.far_even in
       elim (cases_Bool (lt x n)) [
-        | inl k ↦ rw k (grown_black Left l (grown lt x l) n r b gl s.far_even)
-        | inr k ↦ rw k (grown_black Right r (grown lt x r) n l b gr s.near_even)
+        | inl k ↦ rw k (grown_black Left l (after_insert lt x l) n r b gl s.far_even)
+        | inr k ↦ rw k (grown_black Right r (after_insert lt x r) n l b gr s.near_even)
       ]
 
   -- with its root made black, the tree is red-black again
-  pub grown_red_black : (t : Tree) → IsRedBlack t → IsRedBlack (blackened (grown lt x t))
+  pub grown_red_black : (t : Tree) → IsRedBlack t → IsRedBlack (blackened (after_insert lt x t))
   grown_red_black t k =
       let e = grown_even t k.black.0 (even_tree t k) in
-      blackened_red_black (grown lt x t) k.black.0 e.nearly (λ q. e.even k.root)
+      blackened_red_black (after_insert lt x t) k.black.0 e.nearly (λ q. e.even k.root)
 
 -- ---- cells
 
 module _ {lt : ℕ → ℕ → Bool} (strict : IsStrict lt) where
   -- a node that has its place beside another is another
-  pub placed_apart : (x : ℕ) (ns : List ℕ) (m : ℕ) → has_place lt x ns ≡ true → is_in m ns ≡ true → m ≡ x → ⊥
+  pub placed_apart : (x : ℕ) (ns : List ℕ) (m : ℕ) → is_ordered_with lt x ns ≡ true → is_in m ns ≡ true → m ≡ x → ⊥
   placed_apart x ns m p i e =
       let k = all_at (λ n. lt x n || lt n x) ns m p i in
       elim (or_cases (lt x m) (lt m x) k) [
@@ -237,21 +248,22 @@ module _ {lt : ℕ → ℕ → Bool} (strict : IsStrict lt) where
 
   -- the tree below grew: so does the tree
   pub grow_step : (side : Side) (h h1 h2 h3 : ℕ → Cell) (x at : ℕ) (child result : ℕ) (t : Tree)
-      → side_of (lt x at) ≡ side → Grows lt h (Some at) x t
-      → ((u : Tree) → Grows lt h (child_of side (h at)) x u → Turned h h1 (x ∷ nodes_of u) (Some child) (grown lt x u))
+      → side_of (lt x at) ≡ side → CanInsert lt h (Some at) x t
+      → ((u : Tree) → CanInsert lt h (child_of side (h at)) x u
+      → Turned h h1 (x ∷ nodes_of u) (Some child) (after_insert lt x u))
       → h2 ≡ with_child side h1 at (Some child) → Makes lt h2 h3 (Some at) (Some result) (rebalanced side)
-      → Turned h h3 (x ∷ nodes_of t) (Some result) (grown lt x t)
+      → Turned h h3 (x ∷ nodes_of t) (Some result) (after_insert lt x t)
   grow_step side h h1 h2 h3 x at child result t before w below set balance =
       let o = parted strict side h at t w.tree w.ordered in
       let red = (h at).red in
       let old = joined_at side red o.near at o.far in
       let order = o.order in
       let apart = o.apart in
-      let placed : has_place lt x (nodes_of old) ≡ true = rw o.is at w.placed in
+      let placed : is_ordered_with lt x (nodes_of old) ≡ true = rw o.is at w.placed in
       let near_placed = place_part lt x (nodes_of o.near) (nodes_of old) (in_near side red o.near at o.far) placed in
-      let new = grown lt x o.near in
+      let new = after_insert lt x o.near in
       let u = below o.near (record { tree = o.near_tree; ordered = apart.near_rises; placed = near_placed }) in
-      let new_nodes = nodes_of-grown strict x o.near apart.near_rises in
+      let new_nodes = nodes_of-after_insert strict x o.near apart.near_rises in
       let at_x = placed_apart x (nodes_of old) at placed (in_root side red o.near at o.far) in
       let far_x : (m : ℕ) → is_in m (nodes_of o.far) ≡ true → m ≡ x → ⊥ = λ m i. placed_apart x (nodes_of old) m placed
       (in_far side red o.near at o.far m i) in
@@ -264,12 +276,14 @@ module _ {lt : ℕ → ℕ → Bool} (strict : IsStrict lt) where
       let grafted = graft side h h1 h2 red o.near new at o.far (Some child) (x ∷ nodes_of o.near) o.holds u at_out
       (λ m i. out_of m x (nodes_of o.near) (far_x m i) (apart.near_of_far m i))
       (ap (is_in at) new_nodes ∙ put_out lt x (nodes_of o.near) at at_x apart.not_near) apart.not_far cell rest in
-      let is_grown : grown lt x t ≡ rebalanced side (joined_at side red new at o.far) = ap (λ v. grown lt x v) o.is
-      ∙ grown-joined lt x side red o.near at o.far before in
+      let is_grown : after_insert lt x t ≡ rebalanced side (joined_at side red new at o.far) =
+      ap (λ v. after_insert lt x v) o.is
+      ∙ after_insert-joined lt x side red o.near at o.far before in
       let grown_nodes : nodes_of (joined_at side red new at o.far) ≡ put lt x (nodes_of old) =
       sym (nodes_of-rebalanced side red new at o.far)
-      ∙ ap nodes_of (sym (grown-joined lt x side red o.near at o.far before)) ∙ nodes_of-grown strict x old order in
-      let new_order : rises lt (nodes_of (joined_at side red new at o.far)) ≡ true = ap (rises lt) grown_nodes
+      ∙ ap nodes_of (sym (after_insert-joined lt x side red o.near at o.far before))
+      ∙ nodes_of-after_insert strict x old order in
+      let new_order : is_sorted lt (nodes_of (joined_at side red new at o.far)) ≡ true = ap (is_sorted lt) grown_nodes
       ∙ rises_put lt strict.transitive x (nodes_of old) order placed in
       let turned = balance (joined_at side red new at o.far) grafted new_order in
       record {
@@ -309,16 +323,16 @@ lay_step h h1 h2 h3 n e1 e2 e3 =
 -- the tree below a node, where another node is to go
 pub record GrowsBelow (lt : ℕ → ℕ → Bool) (h : ℕ → Cell) (side : Side) (at x : ℕ) (t : Tree) : Type 0 where
   pub tree : Tree
-  pub grows : Grows lt h (child_of side (h at)) x tree
+  pub grows : CanInsert lt h (child_of side (h at)) x tree
   pub lower : height tree + 1 ≤ height t
   pub apart : at ≡ x → ⊥
 
 pub grows_below : {lt : ℕ → ℕ → Bool} → IsStrict lt → (side : Side) (h : ℕ → Cell) (x at : ℕ) (t : Tree)
-    → Grows lt h (Some at) x t → GrowsBelow lt h side at x t
+    → CanInsert lt h (Some at) x t → GrowsBelow lt h side at x t
 grows_below {lt = lt} strict side h x at t w =
     let o = parted strict side h at t w.tree w.ordered in
     let old = joined_at side (h at).red o.near at o.far in
-    let placed : has_place lt x (nodes_of old) ≡ true = rw o.is at w.placed in
+    let placed : is_ordered_with lt x (nodes_of old) ≡ true = rw o.is at w.placed in
     record {
       tree = o.near;
       grows = record {
@@ -337,11 +351,11 @@ frame_beside {x = x} {ns = ns} c m d o = c.frame m (or_from (nat_eq m x) (is_in 
 
 -- the whole insertion, its root made black
 pub inserted : {lt : ℕ → ℕ → Bool} → IsStrict lt → (lt' : ℕ → ℕ → Bool) (h h1 h2 h' : ℕ → Cell) (root : Option ℕ)
-    (x top : ℕ) (t : Tree) → IsSearchTree lt h root t → has_place lt x (nodes_of t) ≡ true
-    → Turned h h1 (x ∷ nodes_of t) (Some top) (grown lt x t) → Makes lt h1 h2 (Some top) (Some top) blackened
+    (x top : ℕ) (t : Tree) → IsSearchTree lt h root t → is_ordered_with lt x (nodes_of t) ≡ true
+    → Turned h h1 (x ∷ nodes_of t) (Some top) (after_insert lt x t) → Makes lt h1 h2 (Some top) (Some top) blackened
     → h' ≡ h2 → lt' ≡ lt → IsChanged lt' h h' (Some top) (x ∷ nodes_of t) (put lt x (nodes_of t))
 inserted {lt = lt} strict lt' h h1 h2 h' root x top t k p g black eh el =
-    blackened_whole lt' h h1 h2 h' (Some top) (grown lt x t) (x ∷ nodes_of t) (put lt x (nodes_of t)) g black
-    (grown_red_black lt x t k.red_black) (nodes_of-grown strict x t k.ordered)
+    blackened_whole lt' h h1 h2 h' (Some top) (after_insert lt x t) (x ∷ nodes_of t) (put lt x (nodes_of t)) g black
+    (grown_red_black lt x t k.red_black) (nodes_of-after_insert strict x t k.ordered)
     (rises_put lt strict.transitive x (nodes_of t) k.ordered p)
     (λ m i. let out = outside_x m x (nodes_of t) i in put_out lt x (nodes_of t) m out.0 out.1) eh el

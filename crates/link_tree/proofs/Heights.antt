@@ -1,5 +1,6 @@
 -- How high a red-black tree can be.
-use Rattle.std.proofs.Common.{◌≡◌, refl, ℕ, zero, suc, ◌+◌, ◌*◌, ◌≤◌, ◌<◌, ◌^◌, ◌/◌, true, false, cond, ◌∷◌, length, arith, length-append, pow-suc}
+use Rattle.std.proofs.Common.{◌≡◌, refl, ℕ, zero, suc, ◌+◌, ◌*◌, ◌≤◌, ◌<◌, ◌^◌, ◌/◌, true, false, cond, ◌∷◌, length}
+use Rattle.std.proofs.Common.{arith, length-append, pow-suc}
 use Rattle.std.proofs.lemmas.Bool.{eqb-true}
 use Rattle.std.proofs.lemmas.Int.Digits.{length-digits_of-le, length-digits_of_step}
 use Rattle.std.proofs.Math.Pow.{pow_pos}

@@ -1,13 +1,15 @@
 -- Trees seen from one side of their root, and what a change of one cell does to them.
-use Rattle.std.proofs.Common.{◌≡◌, ℕ, ◌+◌, ◌≤◌, arith, Bool, true, false, Option, Some, List, ◌∷◌, refl, sym, ◌∙◌, append_assoc, subst}
+use Rattle.std.proofs.Common.{◌≡◌, ℕ, ◌+◌, ◌≤◌, arith, Bool, true, false, Option, Some, List, ◌∷◌, refl, sym, ◌∙◌}
+use Rattle.std.proofs.Common.{append_assoc, subst}
 use Rattle.std.proofs.lemmas.Bool.{true≢false, eq-eqb, ne_eqb}
-use Rattle.link_tree.specs.Tree.{Cell, Tree, leaf, fork, root_of, nodes_of, Holds, IsTree, rises, height}
+use Rattle.link_tree.specs.Tree.{Cell, Tree, leaf, fork, root_of, nodes_of, AreCellsOf, IsTree, is_sorted, height}
 use Rattle.link_tree.specs.Nodes.{is_in, with_left, with_right, with_red}
 use Rattle.link_tree.specs.Sides.{opposite, child_of, with_child, tree_on, joined_at}
-use Rattle.link_tree.specs.Turning.{Turned, lifted, painted}
-use Rattle.link_tree.specs.declared.visits.Side.{Side}
-use Rattle.link_tree.specs.declared.visits.Side.TheVariants.{Left, Right}
-use Rattle.link_tree.proofs.Orders.{IsStrict, rises_split, in_left, in_right, in_middle, outside_parts, not_left, not_right, not_both}
+use Rattle.link_tree.specs.Turning.{Turned, rotated, painted}
+use Rattle.link_tree.specs.declared.cursor.Side.{Side}
+use Rattle.link_tree.specs.declared.cursor.Side.TheVariants.{Left, Right}
+use Rattle.link_tree.proofs.Orders.{IsStrict, rises_split, in_left, in_right, in_middle, outside_parts, not_left}
+use Rattle.link_tree.proofs.Orders.{not_right, not_both}
 use Rattle.link_tree.proofs.Trees.{open_tree}
 
 -- a cell by its side
@@ -83,16 +85,16 @@ root_joined Right red near n far = refl
 
 pub record IsJoint (h : ℕ → Cell) (side : Side) (red : Bool) (near : Tree) (n : ℕ) (far : Tree) : Type 0 where
   pub cell : h n ≡ cell_at side red (root_of near) (root_of far)
-  pub near_holds : Holds h near
-  pub far_holds : Holds h far
+  pub near_holds : AreCellsOf h near
+  pub far_holds : AreCellsOf h far
 
 pub joint_of : (h : ℕ → Cell) (side : Side) (red : Bool) (near : Tree) (n : ℕ) (far : Tree)
-    → Holds h (joined_at side red near n far) → IsJoint h side red near n far
+    → AreCellsOf h (joined_at side red near n far) → IsJoint h side red near n far
 joint_of h Left red near n far w = record { cell = w.0; near_holds = w.1; far_holds = w.2 }
 joint_of h Right red near n far w = record { cell = w.0; near_holds = w.2; far_holds = w.1 }
 
 pub holds_joint : (h : ℕ → Cell) (side : Side) (red : Bool) (near : Tree) (n : ℕ) (far : Tree)
-    → IsJoint h side red near n far → Holds h (joined_at side red near n far)
+    → IsJoint h side red near n far → AreCellsOf h (joined_at side red near n far)
 holds_joint h Left red near n far j = (j.cell, j.near_holds, j.far_holds)
 holds_joint h Right red near n far j = (j.cell, j.far_holds, j.near_holds)
 
@@ -119,8 +121,8 @@ open_side h Right n t w =
 
 -- the nodes of the two trees and the root stand apart
 pub record IsApart (lt : ℕ → ℕ → Bool) (near : Tree) (n : ℕ) (far : Tree) : Type 0 where
-  pub near_rises : rises lt (nodes_of near) ≡ true
-  pub far_rises : rises lt (nodes_of far) ≡ true
+  pub near_rises : is_sorted lt (nodes_of near) ≡ true
+  pub far_rises : is_sorted lt (nodes_of far) ≡ true
   pub not_near : is_in n (nodes_of near) ≡ false
   pub not_far : is_in n (nodes_of far) ≡ false
   pub far_of_near : (m : ℕ) → is_in m (nodes_of near) ≡ true → is_in m (nodes_of far) ≡ false
@@ -171,7 +173,7 @@ other_than m n ns i o e = let j = rw e at i in true≢false (sym j ∙ o)
 
 module _ {lt : ℕ → ℕ → Bool} (strict : IsStrict lt) where
   pub apart_of : (side : Side) (red : Bool) (near : Tree) (n : ℕ) (far : Tree)
-      → rises lt (nodes_of (joined_at side red near n far)) ≡ true → IsApart lt near n far
+      → is_sorted lt (nodes_of (joined_at side red near n far)) ≡ true → IsApart lt near n far
   apart_of Left red near n far o =
       let xs = nodes_of near in
       let ys = nodes_of far in
@@ -204,19 +206,19 @@ module _ {lt : ℕ → ℕ → Bool} (strict : IsStrict lt) where
     pub is : t ≡ joined_at side (h n).red near n far
     pub near_tree : IsTree h (child_of side (h n)) near
     pub far_tree : IsTree h (child_of (opposite side) (h n)) far
-    pub order : rises lt (nodes_of (joined_at side (h n).red near n far)) ≡ true
-    pub holds : Holds h (joined_at side (h n).red near n far)
+    pub order : is_sorted lt (nodes_of (joined_at side (h n).red near n far)) ≡ true
+    pub holds : AreCellsOf h (joined_at side (h n).red near n far)
     pub joint : IsJoint h side (h n).red near n far
     pub apart : IsApart lt near n far
     pub lower : height near + 1 ≤ height t
 
-  pub parted : (side : Side) (h : ℕ → Cell) (n : ℕ) (t : Tree) → IsTree h (Some n) t → rises lt (nodes_of t) ≡ true
+  pub parted : (side : Side) (h : ℕ → Cell) (n : ℕ) (t : Tree) → IsTree h (Some n) t → is_sorted lt (nodes_of t) ≡ true
       → IsParted h side n t
   parted side h n t w o =
       let p = open_side h side n t w in
       let red = (h n).red in
-      let order : rises lt (nodes_of (joined_at side red p.near n p.far)) ≡ true = rw p.is at o in
-      let holds : Holds h (joined_at side red p.near n p.far) = rw p.is at w.holds in
+      let order : is_sorted lt (nodes_of (joined_at side red p.near n p.far)) ≡ true = rw p.is at o in
+      let holds : AreCellsOf h (joined_at side red p.near n p.far) = rw p.is at w.holds in
       let low = lower_near side red p.near n p.far in
       record {
         near = p.near;
@@ -234,7 +236,7 @@ module _ {lt : ℕ → ℕ → Bool} (strict : IsStrict lt) where
 -- what a call makes of each ordered tree that the link leads to
 abbrev pub Makes : (ℕ → ℕ → Bool) → (h h' : ℕ → Cell) (link link' : Option ℕ) → (Tree → Tree) → Type 0
 Makes lt h h' link link' f =
-    (t : Tree) → IsTree h link t → rises lt (nodes_of t) ≡ true → Turned h h' (nodes_of t) link' (f t)
+    (t : Tree) → IsTree h link t → is_sorted lt (nodes_of t) ≡ true → Turned h h' (nodes_of t) link' (f t)
 
 -- ---- nodes
 
@@ -260,7 +262,7 @@ pub nodes_of-turn : (side : Side) (c d c' d' : Bool) (a : Tree) (m : ℕ) (b : T
 nodes_of-turn Left c d c' d' a m b n far = sym (append_assoc (nodes_of a) (m ∷ nodes_of b) (n ∷ nodes_of far))
 nodes_of-turn Right c d c' d' a m b n far = append_assoc (nodes_of far) (n ∷ nodes_of b) (m ∷ nodes_of a)
 
-pub lifted-joined : (side : Side) (c d : Bool) (a : Tree) (m : ℕ) (b : Tree) (n : ℕ) (far : Tree)
-    → lifted side (joined_at side c (joined_at side d a m b) n far) ≡ joined_at side d a m (joined_at side c b n far)
-lifted-joined Left c d a m b n far = refl
-lifted-joined Right c d a m b n far = refl
+pub rotated-joined : (side : Side) (c d : Bool) (a : Tree) (m : ℕ) (b : Tree) (n : ℕ) (far : Tree)
+    → rotated side (joined_at side c (joined_at side d a m b) n far) ≡ joined_at side d a m (joined_at side c b n far)
+rotated-joined Left c d a m b n far = refl
+rotated-joined Right c d a m b n far = refl

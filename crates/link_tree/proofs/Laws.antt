@@ -1,6 +1,6 @@
 -- The laws of trees and of lists of nodes for other crates.
 use Rattle.std.proofs.Common.{◌≡◌, ℕ, ◌≤◌, Bool, true, false, List, length}
-use Rattle.link_tree.specs.Tree.{Tree, nodes_of, rises}
+use Rattle.link_tree.specs.Tree.{Tree, nodes_of, is_sorted}
 use Rattle.link_tree.specs.Nodes.{is_in}
 use Rattle.link_tree.proofs.Limits as limits
 -- trees that links lead to: when one stays where it is, and that its root is one of its nodes
@@ -20,7 +20,7 @@ pub use Rattle.link_tree.proofs.Approaches.{entry_same, exit_same}
 
 -- an ordered tree of nodes of a list has no more nodes than the list
 pub tree_limit : (lt : ℕ → ℕ → Bool) → ((a b c : ℕ) → lt a b ≡ true → lt b c ≡ true → lt a c ≡ true)
-    → ((n : ℕ) → lt n n ≡ false) → (ns : List ℕ) (t : Tree) → rises lt (nodes_of t) ≡ true
+    → ((n : ℕ) → lt n n ≡ false) → (ns : List ℕ) (t : Tree) → is_sorted lt (nodes_of t) ≡ true
     → ((m : ℕ) → is_in m (nodes_of t) ≡ true → is_in m ns ≡ true) → length (nodes_of t) ≤ length ns
 tree_limit lt transitive irreflexive =
     limits.tree_limit (record { transitive = transitive; irreflexive = irreflexive })

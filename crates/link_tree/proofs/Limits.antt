@@ -1,7 +1,9 @@
 -- How many nodes a tree has at most.
-use Rattle.std.proofs.Common.{◌≡◌, ℕ, ◌+◌, ◌≤◌, ◌^◌, Bool, true, false, ◌&&◌, cond, Option, Some, None, List, [], ◌∷◌, length, nat_eq, refl, sym, ap, ◌∙◌, arith, length-append, inl, inr, subst}
-use Rattle.std.proofs.lemmas.Bool.{and_parts, and_from, or_cases, eqb-true, cases_Bool, true≢false, false≢true, and_left, and_right}
-use Rattle.link_tree.specs.Tree.{Cell, Tree, leaf, fork, root_of, nodes_of, IsTree, IsSearchTree, rises, height}
+use Rattle.std.proofs.Common.{◌≡◌, ℕ, ◌+◌, ◌≤◌, ◌^◌, Bool, true, false, ◌&&◌, cond, Option, Some, None, List, [], ◌∷◌}
+use Rattle.std.proofs.Common.{length, nat_eq, refl, sym, ap, ◌∙◌, arith, length-append, inl, inr, subst}
+use Rattle.std.proofs.lemmas.Bool.{and_parts, and_from, or_cases, eqb-true, cases_Bool, true≢false, false≢true}
+use Rattle.std.proofs.lemmas.Bool.{and_left, and_right}
+use Rattle.link_tree.specs.Tree.{Cell, Tree, leaf, fork, root_of, nodes_of, IsTree, IsSearchTree, is_sorted, height}
 use Rattle.link_tree.specs.Nodes.{is_in, leads}
 use Rattle.link_tree.specs.Between.{is_above, is_below, is_between, count_between}
 use Rattle.link_tree.proofs.Orders.{IsStrict, rises_split, all_at, in_left, in_right, in_middle, in_parts}
@@ -98,7 +100,7 @@ module _ {lt : ℕ → ℕ → Bool} (strict : IsStrict lt) where
       ]
 
   -- a tree between low and high has no more nodes than the list has there
-  pub count_tree : (ns : List ℕ) (t : Tree) (low high : Option ℕ) → rises lt (nodes_of t) ≡ true
+  pub count_tree : (ns : List ℕ) (t : Tree) (low high : Option ℕ) → is_sorted lt (nodes_of t) ≡ true
       → ((m : ℕ) → is_in m (nodes_of t) ≡ true → is_between lt low m high ≡ true)
       → ((m : ℕ) → is_in m (nodes_of t) ≡ true → is_in m ns ≡ true) → length (nodes_of t) ≤ count_between lt low high ns
   count_tree ns leaf low high o b i = omega arith
@@ -122,7 +124,7 @@ module _ {lt : ℕ → ℕ → Bool} (strict : IsStrict lt) where
       )
 
   -- an ordered tree of nodes of the list has no more nodes than the list
-  pub tree_limit : (ns : List ℕ) (t : Tree) → rises lt (nodes_of t) ≡ true
+  pub tree_limit : (ns : List ℕ) (t : Tree) → is_sorted lt (nodes_of t) ≡ true
       → ((m : ℕ) → is_in m (nodes_of t) ≡ true → is_in m ns ≡ true) → length (nodes_of t) ≤ length ns
   tree_limit ns t o i = omega (arith, count_tree ns t None None o (λ m j. refl) i, count_all lt ns)
 

@@ -1,15 +1,18 @@
 -- What the steps of a removal do to trees of cells.
 use Rattle.std.proofs.Common.{◌≡◌, ℕ, Bool, true, false, not, Option, Some, refl, sym, ap, ◌∙◌, subst}
-use Rattle.link_tree.specs.Tree.{Cell, Tree, root_of, nodes_of, Holds, IsTree, rises}
+use Rattle.link_tree.specs.Tree.{Cell, Tree, root_of, nodes_of, AreCellsOf, IsTree, is_sorted}
 use Rattle.link_tree.specs.Nodes.{is_in, with_red}
 use Rattle.link_tree.specs.Sides.{opposite, child_of, with_child, joined_at}
-use Rattle.link_tree.specs.Turning.{lifted, rebalanced}
-use Rattle.link_tree.specs.Shrinking.{Rest, Leaves, reddened, mended, mended_at, settled}
-use Rattle.link_tree.specs.declared.visits.Side.{Side}
-use Rattle.link_tree.specs.declared.visits.Side.TheVariants.{Left, Right}
+use Rattle.link_tree.specs.Turning.{rotated, rebalanced}
+use Rattle.link_tree.specs.Shrinking.{RemovedSubtree, RemovesTo, reddened, mended, mended_at, settled}
+use Rattle.link_tree.specs.declared.cursor.Side.{Side}
+use Rattle.link_tree.specs.declared.cursor.Side.TheVariants.{Left, Right}
 use Rattle.link_tree.proofs.Orders.{IsStrict}
 use Rattle.link_tree.proofs.Trees.{holds_same}
-use Rattle.link_tree.proofs.Joints.{Makes, nodes_of-painted, cell_at, cell_is, red_of_cell, child_of_cell, with_child-other, with_child-near, joined_opposite, root_joined, joint_of, tree_joint, open_side, apart_of, outside_all, other_than, nodes_of-joined, nodes_of-turn, lifted-joined, opposite_twice}
+use Rattle.link_tree.proofs.Joints.{Makes, nodes_of-painted, cell_at, cell_is, red_of_cell, child_of_cell}
+use Rattle.link_tree.proofs.Joints.{with_child-other, with_child-near, joined_opposite, root_joined, joint_of}
+use Rattle.link_tree.proofs.Joints.{tree_joint, open_side, apart_of, outside_all, other_than, nodes_of-joined}
+use Rattle.link_tree.proofs.Joints.{nodes_of-turn, rotated-joined, opposite_twice}
 use Rattle.link_tree.proofs.Turns.{graft, recolour}
 
 -- a node's link on one side is set to a tree
@@ -51,11 +54,11 @@ mended-red Right red a m b n far = refl
 module _ {lt : ℕ → ℕ → Bool} (strict : IsStrict lt) where
   -- a black heavy child
   pub mend_black : (side : Side) (h h1 h2 h3 : ℕ → Cell) (top heavy root : ℕ) (t : Tree)
-      → IsTree h (Some top) t → rises lt (nodes_of t) ≡ true
+      → IsTree h (Some top) t → is_sorted lt (nodes_of t) ≡ true
       → child_of side (h top) ≡ Some heavy → (h heavy).red ≡ false
       → h1 ≡ with_red h heavy true → h2 ≡ with_red h1 top false
       → Makes lt h2 h3 (Some top) (Some root) (rebalanced side)
-      → Leaves h h3 (nodes_of t) (Some root) (not (h top).red) (mended side t)
+      → RemovesTo h h3 (nodes_of t) (Some root) (not (h top).red) (mended side t)
   mend_black side h h1 h2 h3 top heavy root t w o e1 e2 s1 s2 balance =
       let p = open_side h side top t w in
       let q = open_side h side heavy p.near (rw e1 at p.near_tree) in
@@ -63,8 +66,8 @@ module _ {lt : ℕ → ℕ → Bool} (strict : IsStrict lt) where
       let near = joined_at side false q.near heavy q.far in
       let is_near : p.near ≡ near = q.is ∙ ap (λ x. joined_at side x q.near heavy q.far) e2 in
       let is : t ≡ joined_at side red near top p.far = p.is ∙ ap (λ x. joined_at side red x top p.far) is_near in
-      let holds : Holds h (joined_at side red near top p.far) = rw is at w.holds in
-      let order : rises lt (nodes_of (joined_at side red near top p.far)) ≡ true = rw is at o in
+      let holds : AreCellsOf h (joined_at side red near top p.far) = rw is at w.holds in
+      let order : is_sorted lt (nodes_of (joined_at side red near top p.far)) ≡ true = rw is at o in
       let joint = joint_of h side red near top p.far holds in
       let apart = apart_of strict side red near top p.far order in
       let inner = apart_of strict side false q.near heavy q.far apart.near_rises in
@@ -79,7 +82,7 @@ module _ {lt : ℕ → ℕ → Bool} (strict : IsStrict lt) where
       let u2 = recolour side h1 h2 top red false near' p.far t1.holds not_near' apart.not_far s2 in
       let nodes2 = nodes_of-joined side red false near near' top p.far same_nodes in
       let nodes1 = nodes_of-joined side red red near near' top p.far same_nodes in
-      let u3 = balance (joined_at side false near' top p.far) u2.tree (ap (rises lt) nodes2 ∙ order) in
+      let u3 = balance (joined_at side false near' top p.far) u2.tree (ap (is_sorted lt) nodes2 ∙ order) in
       let is_mended : mended side t ≡ record {
         tree = rebalanced side (joined_at side false near' top p.far);
         fell = not red;
@@ -88,25 +91,26 @@ module _ {lt : ℕ → ℕ → Bool} (strict : IsStrict lt) where
       ∙ mended-black side red q.near heavy q.far top p.far in
       record {
         turned = record {
-          tree = subst (λ (x : Rest). IsTree h3 (Some root) x.tree) (sym is_mended) u3.tree;
+          tree = subst (λ (x : RemovedSubtree). IsTree h3 (Some root) x.tree) (sym is_mended) u3.tree;
           frame = λ m i.
               let i' : is_in m (nodes_of (joined_at side red near top p.far)) ≡ false =
               subst (λ x. is_in m (nodes_of x) ≡ false) is i in
               u3.frame m (ap (is_in m) nodes2 ∙ i') ∙ u2.frame m (ap (is_in m) nodes1 ∙ i')
               ∙ u1.frame m (outside_all side red near top p.far m i').near_out;
         };
-        fallen = ap (λ (x : Rest). x.fell) (sym is_mended);
+        fallen = ap (λ (x : RemovedSubtree). x.fell) (sym is_mended);
       }
 
   -- a red heavy child
   pub mend_red_at : (side : Side) (h h1 h2 h3 h4 h5 : ℕ → Cell) (top heavy root risen : ℕ) (inner : Option ℕ) (t : Tree)
-      → IsTree h (Some top) t → rises lt (nodes_of t) ≡ true → child_of side (h top) ≡ Some heavy → (h heavy).red ≡ true
-      → Makes lt h h1 (Some top) (Some risen) (lifted side)
+      → IsTree h (Some top) t → is_sorted lt (nodes_of t) ≡ true → child_of side (h top) ≡ Some heavy
+      → (h heavy).red ≡ true
+      → Makes lt h h1 (Some top) (Some risen) (rotated side)
       → h2 ≡ with_red h1 heavy false → inner ≡ child_of side (h2 top) → Makes lt h2 h3 inner inner reddened
       → Makes lt h3 h4 (Some top) (Some root) (rebalanced side) → ((red : Bool) (near : Tree) (n : ℕ) (far : Tree)
       → nodes_of (rebalanced side (joined_at side red near n far)) ≡ nodes_of (joined_at side red near n far))
       → h5 ≡ with_child (opposite side) h4 heavy (Some root)
-      → Leaves h h5 (nodes_of t) (Some heavy) false (mended side t)
+      → RemovesTo h h5 (nodes_of t) (Some heavy) false (mended side t)
   mend_red_at side h h1 h2 h3 h4 h5 top heavy root risen inner t w o e1 e2 lift s2 e3 redden balance nodes_same s5 =
       let p = open_side h side top t w in
       let q = open_side h side heavy p.near (rw e1 at p.near_tree) in
@@ -117,14 +121,15 @@ module _ {lt : ℕ → ℕ → Bool} (strict : IsStrict lt) where
       let near = joined_at side true a heavy b in
       let is : t ≡ joined_at side red near top far = p.is ∙ ap (λ x. joined_at side red x top far) (q.is
       ∙ ap (λ x. joined_at side x a heavy b) e2) in
-      let order : rises lt (nodes_of (joined_at side red near top far)) ≡ true = rw is at o in
+      let order : is_sorted lt (nodes_of (joined_at side red near top far)) ≡ true = rw is at o in
       let low = joined_at side red b top far in
-      let is_lifted : lifted side t ≡ joined_at side true a heavy low = ap (λ x. lifted side x) is
-      ∙ lifted-joined side red true a heavy b top far in
+      let is_lifted : rotated side t ≡ joined_at side true a heavy low = ap (λ x. rotated side x) is
+      ∙ rotated-joined side red true a heavy b top far in
       let first = lift t w o in
       let u1 = rw is_lifted at first in
       let nodes1 = nodes_of-turn side red true red true a heavy b top far in
-      let order1 : rises lt (nodes_of (joined_at side true a heavy low)) ≡ true = ap (rises lt) nodes1 ∙ order in
+      let order1 : is_sorted lt (nodes_of (joined_at side true a heavy low)) ≡ true =
+      ap (is_sorted lt) nodes1 ∙ order in
       let apart = apart_of strict side true a heavy low order1 in
       let apart_low = apart_of strict side red b top far apart.far_rises in
       let u2 = recolour side h1 h2 heavy true false a low u1.tree.holds apart.not_near apart.not_far s2 in
@@ -142,13 +147,13 @@ module _ {lt : ℕ → ℕ → Bool} (strict : IsStrict lt) where
       apart_low.near_of_far top_out apart_low.not_far cell3 (λ m d. refl) in
       let low' = joined_at side red b' top far in
       let nodes_low = nodes_of-joined side red red b b' top far b_nodes in
-      let u4 = balance low' t3 (ap (rises lt) nodes_low ∙ apart.far_rises) in
+      let u4 = balance low' t3 (ap (is_sorted lt) nodes_low ∙ apart.far_rises) in
       let x = rebalanced side low' in
       let nodes_x = nodes_same red b' top far ∙ nodes_low in
       let out3 : (m : ℕ) → is_in m (nodes_of low) ≡ false → h4 m ≡ h2 m =
       λ m i. u4.frame m (ap (is_in m) nodes_low ∙ i) ∙ u3.frame m (outside_all side red b top far m i).near_out in
       let heavy4 : h4 heavy ≡ cell_at side false (root_of a) (root_of low) = out3 heavy apart.not_far ∙ joint2.cell in
-      let a4 : Holds h4 a = holds_same h2 h4 a (λ m i. out3 m (apart.far_of_near m i)) joint2.near_holds in
+      let a4 : AreCellsOf h4 a = holds_same h2 h4 a (λ m i. out3 m (apart.far_of_near m i)) joint2.near_holds in
       let near_link : child_of (opposite (opposite side)) (h4 heavy) ≡ root_of a =
       ap (λ s. child_of s (h4 heavy)) (opposite_twice side) ∙ ap (child_of side) heavy4
       ∙ child_of_cell side false (root_of a) (root_of low) in
@@ -163,7 +168,7 @@ module _ {lt : ℕ → ℕ → Bool} (strict : IsStrict lt) where
       ap (λ u. mended side u) is ∙ mended-joined side red near top far ∙ mended-red side red a heavy b top far in
       record {
         turned = record {
-          tree = subst (λ (r : Rest). IsTree h5 (Some heavy) r.tree) (sym is_mended) whole;
+          tree = subst (λ (r : RemovedSubtree). IsTree h5 (Some heavy) r.tree) (sym is_mended) whole;
           frame = λ m i.
               let i0 : is_in m (nodes_of (joined_at side red near top far)) ≡ false =
               subst (λ u. is_in m (nodes_of u) ≡ false) is i in
@@ -172,14 +177,14 @@ module _ {lt : ℕ → ℕ → Bool} (strict : IsStrict lt) where
               ap (λ (f : ℕ → Cell). f m) s5 ∙ with_child-other (opposite side) h4 heavy m (Some root) out.root_out
               ∙ out3 m out.far_out ∙ u2.frame m i1 ∙ first.frame m i;
         };
-        fallen = ap (λ (r : Rest). r.fell) (sym is_mended);
+        fallen = ap (λ (r : RemovedSubtree). r.fell) (sym is_mended);
       }
 
   -- what is left is hung under its parent: no more is to be done
   pub settle_done : (side : Side) (h h1 : ℕ → Cell) (n : ℕ) (near far : Tree) (link : Option ℕ) → IsTree h link near
       → IsTree h (child_of (opposite side) (h n)) far
-      → rises lt (nodes_of (joined_at side (h n).red near n far)) ≡ true → h1 ≡ with_child side h n link
-      → Leaves h h1 (nodes_of (joined_at side (h n).red near n far)) (Some n) false
+      → is_sorted lt (nodes_of (joined_at side (h n).red near n far)) ≡ true → h1 ≡ with_child side h n link
+      → RemovesTo h h1 (nodes_of (joined_at side (h n).red near n far)) (Some n) false
       (settled side (h n).red (record { tree = near; fell = false }) n far)
   settle_done side h h1 n near far link wn wf o set =
       let apart = apart_of strict side (h n).red near n far o in
@@ -195,10 +200,10 @@ module _ {lt : ℕ → ℕ → Bool} (strict : IsStrict lt) where
   -- or the other side gives a black node away
   pub settle_mended : (side : Side) (h h1 h2 : ℕ → Cell) (n : ℕ) (near far : Tree) (link root : Option ℕ) (fell : Bool)
       → IsTree h link near → IsTree h (child_of (opposite side) (h n)) far
-      → rises lt (nodes_of (joined_at side (h n).red near n far)) ≡ true → h1 ≡ with_child side h n link
-      → ((u : Tree) → IsTree h1 (Some n) u → rises lt (nodes_of u) ≡ true
-      → Leaves h1 h2 (nodes_of u) root fell (mended (opposite side) u))
-      → Leaves h h2 (nodes_of (joined_at side (h n).red near n far)) root fell
+      → is_sorted lt (nodes_of (joined_at side (h n).red near n far)) ≡ true → h1 ≡ with_child side h n link
+      → ((u : Tree) → IsTree h1 (Some n) u → is_sorted lt (nodes_of u) ≡ true
+      → RemovesTo h1 h2 (nodes_of u) root fell (mended (opposite side) u))
+      → RemovesTo h h2 (nodes_of (joined_at side (h n).red near n far)) root fell
       (settled side (h n).red (record { tree = near; fell = true }) n far)
   settle_mended side h h1 h2 n near far link root fell wn wf o set mend =
       let red = (h n).red in
@@ -210,9 +215,9 @@ module _ {lt : ℕ → ℕ → Bool} (strict : IsStrict lt) where
       ∙ mended-joined (opposite side) red far n near in
       record {
         turned = record {
-          tree = subst (λ (r : Rest). IsTree h2 root r.tree) is u.turned.tree;
+          tree = subst (λ (r : RemovedSubtree). IsTree h2 root r.tree) is u.turned.tree;
           frame = λ m i. u.turned.frame m i ∙ ap (λ (f : ℕ → Cell). f m) set
               ∙ with_child-other side h n m link (outside_all side red near n far m i).root_out;
         };
-        fallen = u.fallen ∙ ap (λ (r : Rest). r.fell) is;
+        fallen = u.fallen ∙ ap (λ (r : RemovedSubtree). r.fell) is;
       }

@@ -1,9 +1,11 @@
 -- Ordered lists of nodes: how one splits at a node, and what stands in it.
-use Rattle.std.proofs.Common.{◌≡◌, ℕ, Bool, true, false, ◌||◌, List, [], ◌∷◌, ◌++◌, nat_eq, refl, sym, ◌∙◌, ◌⊎◌, inl, inr}
+use Rattle.std.proofs.Common.{◌≡◌, ℕ, Bool, true, false, ◌||◌, List, [], ◌∷◌, ◌++◌, nat_eq, refl, sym, ◌∙◌, ◌⊎◌, inl}
+use Rattle.std.proofs.Common.{inr}
 use Rattle.std.specs.List.{list_all}
-use Rattle.std.proofs.lemmas.Bool.{and_parts, and_from, or_cases, or_parts, or_left, or_right, eqb-true, eq-eqb, false≢true, true≢false, cases_Bool, false_from_ne_true, eqb-false}
+use Rattle.std.proofs.lemmas.Bool.{and_parts, and_from, or_cases, or_parts, or_left, or_right, eqb-true, eq-eqb}
+use Rattle.std.proofs.lemmas.Bool.{false≢true, true≢false, cases_Bool, false_from_ne_true, eqb-false}
 use Rattle.std.proofs.lemmas.List.Folds.{list_all-append}
-use Rattle.link_tree.specs.Tree.{rises}
+use Rattle.link_tree.specs.Tree.{is_sorted}
 use Rattle.link_tree.specs.Nodes.{is_in}
 
 -- a strict order of nodes: each precedes what a node precedes that it precedes, and none itself
@@ -73,23 +75,23 @@ outside_parts m xs n ys o =
 
 -- an ordered list, split at a node
 pub record Splits (lt : ℕ → ℕ → Bool) (xs : List ℕ) (n : ℕ) (ys : List ℕ) : Type 0 where
-  pub left : rises lt xs ≡ true
+  pub left : is_sorted lt xs ≡ true
   pub below : list_all (λ m. lt m n) xs ≡ true
   pub above : list_all (lt n) ys ≡ true
-  pub right : rises lt ys ≡ true
+  pub right : is_sorted lt ys ≡ true
 
-pub rises_split : (lt : ℕ → ℕ → Bool) (xs : List ℕ) (n : ℕ) (ys : List ℕ) → rises lt (xs ++ n ∷ ys) ≡ true
+pub rises_split : (lt : ℕ → ℕ → Bool) (xs : List ℕ) (n : ℕ) (ys : List ℕ) → is_sorted lt (xs ++ n ∷ ys) ≡ true
     → Splits lt xs n ys
 rises_split lt [] n ys h =
-    let p = and_parts (list_all (lt n) ys) (rises lt ys) h in
+    let p = and_parts (list_all (lt n) ys) (is_sorted lt ys) h in
     record { left = refl; below = refl; above = p.0; right = p.1 }
 rises_split lt (x ∷ xs) n ys h =
-    let p = and_parts (list_all (lt x) (xs ++ n ∷ ys)) (rises lt (xs ++ n ∷ ys)) h in
+    let p = and_parts (list_all (lt x) (xs ++ n ∷ ys)) (is_sorted lt (xs ++ n ∷ ys)) h in
     let s = rises_split lt xs n ys p.1 in
     let q = and_parts (list_all (lt x) xs) (list_all (lt x) (n ∷ ys)) (sym (list_all-append (lt x) xs (n ∷ ys))
     ∙ p.0) in
     record {
-      left = and_from (list_all (lt x) xs) (rises lt xs) q.0 s.left;
+      left = and_from (list_all (lt x) xs) (is_sorted lt xs) q.0 s.left;
       below = and_from (lt x n) (list_all (λ m. lt m n) xs) (and_parts (lt x n) (list_all (lt x) ys) q.1).0 s.below;
       above = s.above;
       right = s.right;
@@ -99,16 +101,16 @@ module _ (lt : ℕ → ℕ → Bool) (transitive : (a b c : ℕ) → lt a b ≡ 
   pub above_more : (x n : ℕ) (ys : List ℕ) → lt x n ≡ true → list_all (lt n) ys ≡ true → list_all (lt x) ys ≡ true
   above_more x n ys xn a = all_from (lt x) ys (λ m i. transitive x n m xn (all_at (lt n) ys m a i))
 
-  pub rises_join : (xs : List ℕ) (n : ℕ) (ys : List ℕ) → Splits lt xs n ys → rises lt (xs ++ n ∷ ys) ≡ true
-  rises_join [] n ys s = and_from (list_all (lt n) ys) (rises lt ys) s.above s.right
+  pub rises_join : (xs : List ℕ) (n : ℕ) (ys : List ℕ) → Splits lt xs n ys → is_sorted lt (xs ++ n ∷ ys) ≡ true
+  rises_join [] n ys s = and_from (list_all (lt n) ys) (is_sorted lt ys) s.above s.right
   rises_join (x ∷ xs) n ys s =
-      let p = and_parts (list_all (lt x) xs) (rises lt xs) s.left in
+      let p = and_parts (list_all (lt x) xs) (is_sorted lt xs) s.left in
       let q = and_parts (lt x n) (list_all (λ m. lt m n) xs) s.below in
       let more = rises_join xs n ys (record { left = p.1; below = q.1; above = s.above; right = s.right }) in
       let first : list_all (lt x) (xs ++ n ∷ ys) ≡ true =
       list_all-append (lt x) xs (n ∷ ys) ∙ and_from (list_all (lt x) xs) (list_all (lt x) (n ∷ ys)) p.0
       (and_from (lt x n) (list_all (lt x) ys) q.0 (above_more x n ys q.0 s.above)) in
-      and_from (list_all (lt x) (xs ++ n ∷ ys)) (rises lt (xs ++ n ∷ ys)) first more
+      and_from (list_all (lt x) (xs ++ n ∷ ys)) (is_sorted lt (xs ++ n ∷ ys)) first more
 
 module _ {lt : ℕ → ℕ → Bool} (strict : IsStrict lt) where
   -- the parts have no node in common

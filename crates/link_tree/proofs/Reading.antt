@@ -1,10 +1,12 @@
 -- A tree that is read off is the tree there.
-use Rattle.std.proofs.Common.{◌≡◌, ℕ, zero, suc, ◌≤◌, Bool, true, false, ◌&&◌, Option, Some, None, ◌∷◌, refl, sym, ap, ◌∙◌, arith, inl, inr}
+use Rattle.std.proofs.Common.{◌≡◌, ℕ, zero, suc, ◌≤◌, Bool, true, false, ◌&&◌, Option, Some, None, ◌∷◌, refl, sym, ap}
+use Rattle.std.proofs.Common.{◌∙◌, arith, inl, inr}
 use Rattle.std.specs.List.{list_all}
 use Rattle.std.specs.Prelude.{◌↔◌}
 use Rattle.std.proofs.lemmas.Bool.{false≢true, and_parts, and_from, cases_Bool, eqb-true}
 use Rattle.std.proofs.lemmas.List.Folds.{list_all-append}
-use Rattle.link_tree.specs.Tree.{Cell, Tree, leaf, fork, nodes_of, IsTree, height, joined, tree_from, left_blacks, is_red_black, IsRedBlack, ReadsOff, has_black_root, has_no_red_pair, has_black_height}
+use Rattle.link_tree.specs.Tree.{Cell, Tree, leaf, fork, nodes_of, IsTree, height, joined, tree_from, left_blacks}
+use Rattle.link_tree.specs.Tree.{is_red_black, IsRedBlack, ReadsOff, has_black_root, has_no_red_pair, has_black_height}
 use Rattle.link_tree.proofs.Trees.{close_tree, no_tree, open_tree}
 
 -- ---- trees that are read off

@@ -1,11 +1,11 @@
 -- The walk down a tree along the path of a search.
 use Rattle.std.proofs.Common.{◌≡◌, ℕ, suc, ◌+◌, ◌≤◌, Bool, true, false, Option, Some, None, refl, sym, ap, ◌∙◌, arith}
 use Rattle.std.proofs.lemmas.Bool.{true≢false}
-use Rattle.link_tree.specs.Tree.{Cell, Tree, nodes_of, IsTree, IsSearchTree, rises, height}
+use Rattle.link_tree.specs.Tree.{Cell, Tree, nodes_of, IsTree, IsSearchTree, is_sorted, height}
 use Rattle.link_tree.specs.Searching.{noted, path_length}
 use Rattle.link_tree.specs.Sides.{child_of, joined_at}
-use Rattle.link_tree.specs.declared.visits.Side.{Side}
-use Rattle.link_tree.specs.declared.visits.Side.TheVariants.{Left, Right}
+use Rattle.link_tree.specs.declared.cursor.Side.{Side}
+use Rattle.link_tree.specs.declared.cursor.Side.TheVariants.{Left, Right}
 use Rattle.link_tree.proofs.Orders.{IsStrict}
 use Rattle.link_tree.proofs.Trees.{root_in, some_same, no_tree}
 use Rattle.link_tree.proofs.Joints.{parted, lower_near}
@@ -20,7 +20,7 @@ pub record Seeking {K : Type 0} (pass : K → ℕ → Bool → Bool → K) (star
     (before : ℕ → Bool) (whole : Tree) (link at : Option ℕ) (notes : K) (steps : ℕ) : Type 0 where
   pub tree : Tree
   pub is_tree : IsTree h link tree
-  pub ordered : rises lt (nodes_of tree) ≡ true
+  pub ordered : is_sorted lt (nodes_of tree) ≡ true
   pub kept : noted pass before notes tree ≡ noted pass before start whole
   pub taken : steps + height tree ≤ height whole
   pub path : steps + path_length before tree ≡ path_length before whole

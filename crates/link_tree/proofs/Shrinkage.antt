@@ -1,17 +1,25 @@
 -- The removal keeps order, colours and black heights.
-use Rattle.std.proofs.Common.{◌≡◌, ℕ, suc, ◌+◌, Bool, true, false, not, cond, List, [], ◌∷◌, ◌++◌, nat_eq, refl, sym, ap, ◌∙◌, inl, inr, arith}
+use Rattle.std.proofs.Common.{◌≡◌, ℕ, suc, ◌+◌, Bool, true, false, not, cond, List, [], ◌∷◌, ◌++◌, nat_eq, refl, sym}
+use Rattle.std.proofs.Common.{ap, ◌∙◌, inl, inr, arith}
 use Rattle.std.specs.List.{list_all}
-use Rattle.std.proofs.lemmas.Bool.{true≢false, false≢true, and_parts, and_from, or_cases, or_parts, or_left, or_right, cases_Bool, eqb-true, eqb-false, eq-eqb, ne_eqb, false_from_ne_true}
-use Rattle.link_tree.specs.Tree.{Tree, leaf, fork, nodes_of, rises, has_black_root, has_no_red_pair, has_black_height, IsRedBlack}
+use Rattle.std.proofs.lemmas.Bool.{true≢false, false≢true, and_parts, and_from, or_cases, or_parts, or_left, or_right}
+use Rattle.std.proofs.lemmas.Bool.{cases_Bool, eqb-true, eqb-false, eq-eqb, ne_eqb, false_from_ne_true}
+use Rattle.link_tree.specs.Tree.{Tree, leaf, fork, nodes_of, is_sorted, has_black_root, has_no_red_pair}
+use Rattle.link_tree.specs.Tree.{has_black_height, IsRedBlack}
 use Rattle.link_tree.specs.Nodes.{is_in, without}
 use Rattle.link_tree.specs.Sides.{opposite, tree_on, joined_at}
 use Rattle.link_tree.specs.Turning.{blackened, rebalanced, is_red_tree}
-use Rattle.link_tree.specs.Shrinking.{Rest, reddened, mended_at, settled, sunk, least_of, without_least, without_root, shrunk}
-use Rattle.link_tree.specs.declared.visits.Side.{Side}
-use Rattle.link_tree.specs.declared.visits.Side.TheVariants.{Left, Right}
-use Rattle.link_tree.proofs.Orders.{IsStrict, rises_split, all_at, all_from, is_in-append, in_left, in_right, not_left, not_right}
-use Rattle.link_tree.proofs.Joints.{fork_joined, joined_opposite, nodes_of-joined, nodes_of-joined_far, nodes_of-painted, nodes_of-turn}
-use Rattle.link_tree.proofs.Colours.{blackened_red_black, even_tree, IsEven, IsNearlyEven, black_join, black_root_join, red_join, rebalanced_even, nearly_even, under_red, sides_of_red, even_fork, blackened_even, blackened_root}
+use Rattle.link_tree.specs.Shrinking.{RemovedSubtree, reddened, mended_at, settled, sunk, least_of, without_least}
+use Rattle.link_tree.specs.Shrinking.{without_root, after_remove}
+use Rattle.link_tree.specs.declared.cursor.Side.{Side}
+use Rattle.link_tree.specs.declared.cursor.Side.TheVariants.{Left, Right}
+use Rattle.link_tree.proofs.Orders.{IsStrict, rises_split, all_at, all_from, is_in-append, in_left, in_right, not_left}
+use Rattle.link_tree.proofs.Orders.{not_right}
+use Rattle.link_tree.proofs.Joints.{fork_joined, joined_opposite, nodes_of-joined, nodes_of-joined_far}
+use Rattle.link_tree.proofs.Joints.{nodes_of-painted, nodes_of-turn}
+use Rattle.link_tree.proofs.Colours.{blackened_red_black, even_tree, IsEven, IsNearlyEven, black_join, black_root_join}
+use Rattle.link_tree.proofs.Colours.{red_join, rebalanced_even, nearly_even, under_red, sides_of_red, even_fork}
+use Rattle.link_tree.proofs.Colours.{blackened_even, blackened_root}
 use Rattle.link_tree.proofs.Growth.{nodes_of-rebalanced}
 use Rattle.std.proofs.lemmas.List.{append-nil}
 
@@ -49,23 +57,24 @@ without_in x (y ∷ ys) m i =
 pub without_out : (x : ℕ) (xs : List ℕ) (m : ℕ) → is_in m xs ≡ false → is_in m (without x xs) ≡ false
 without_out x xs m o = false_from_ne_true (is_in m (without x xs)) (λ i. true≢false (sym (without_in x xs m i) ∙ o))
 
-pub rises_without : (lt : ℕ → ℕ → Bool) (x : ℕ) (xs : List ℕ) → rises lt xs ≡ true → rises lt (without x xs) ≡ true
+pub rises_without : (lt : ℕ → ℕ → Bool) (x : ℕ) (xs : List ℕ) → is_sorted lt xs ≡ true
+    → is_sorted lt (without x xs) ≡ true
 rises_without lt x [] o = refl
 rises_without lt x (y ∷ ys) o =
-    let p = and_parts (list_all (lt y) ys) (rises lt ys) o in
+    let p = and_parts (list_all (lt y) ys) (is_sorted lt ys) o in
     let more = rises_without lt x ys p.1 in
     elim (cases_Bool (nat_eq x y)) [
       | inl e ↦ rw e more
-      | inr e ↦ rw e (and_from (list_all (lt y) (without x ys)) (rises lt (without x ys))
+      | inr e ↦ rw e (and_from (list_all (lt y) (without x ys)) (is_sorted lt (without x ys))
           (all_from (lt y) (without x ys) (λ m i. all_at (lt y) ys m p.0 (without_in x ys m i))) more)
     ]
 
-pub rises_skip : (lt : ℕ → ℕ → Bool) (xs : List ℕ) (n : ℕ) (ys : List ℕ) → rises lt (xs ++ n ∷ ys) ≡ true
-    → rises lt (xs ++ ys) ≡ true
-rises_skip lt [] n ys o = (and_parts (list_all (lt n) ys) (rises lt ys) o).1
+pub rises_skip : (lt : ℕ → ℕ → Bool) (xs : List ℕ) (n : ℕ) (ys : List ℕ) → is_sorted lt (xs ++ n ∷ ys) ≡ true
+    → is_sorted lt (xs ++ ys) ≡ true
+rises_skip lt [] n ys o = (and_parts (list_all (lt n) ys) (is_sorted lt ys) o).1
 rises_skip lt (x ∷ xs) n ys o =
-    let p = and_parts (list_all (lt x) (xs ++ n ∷ ys)) (rises lt (xs ++ n ∷ ys)) o in
-    and_from (list_all (lt x) (xs ++ ys)) (rises lt (xs ++ ys))
+    let p = and_parts (list_all (lt x) (xs ++ n ∷ ys)) (is_sorted lt (xs ++ n ∷ ys)) o in
+    and_from (list_all (lt x) (xs ++ ys)) (is_sorted lt (xs ++ ys))
     (all_from (lt x) (xs ++ ys) (λ m i. all_at (lt x) (xs ++ n ∷ ys) m p.0
     (elim (or_cases (is_in m xs) (is_in m ys) (sym (is_in-append m xs ys) ∙ i)) [
       | inl a ↦ in_left m xs n ys a
@@ -97,7 +106,7 @@ nodes_of-mended side red (fork true l m r) n far =
     ∙ nodes_of-turn side red true red false a m b n far
     ∙ ap (λ t. nodes_of (joined_at side red t n far)) (sym (fork_joined side true l m r))
 
-pub nodes_of-settled : (side : Side) (red : Bool) (rest : Rest) (n : ℕ) (far : Tree)
+pub nodes_of-settled : (side : Side) (red : Bool) (rest : RemovedSubtree) (n : ℕ) (far : Tree)
     → nodes_of (settled side red rest n far).tree ≡ nodes_of (joined_at side red rest.tree n far)
 nodes_of-settled side red rest n far =
     elim (cases_Bool rest.fell) [
@@ -121,15 +130,15 @@ nodes_of-without_root red l (fork red' p k q) =
     ∙ ap (λ zs. nodes_of l ++ zs) (sym (nodes_of-least red' p k q))
 
 module _ {lt : ℕ → ℕ → Bool} (strict : IsStrict lt) where
-  pub nodes_of-shrunk : (x : ℕ) (t : Tree) → rises lt (nodes_of t) ≡ true
-      → nodes_of (shrunk lt x t).tree ≡ without x (nodes_of t)
-  nodes_of-shrunk x leaf o = refl
-  nodes_of-shrunk x (fork red l n r) o =
+  pub nodes_of-after_remove : (x : ℕ) (t : Tree) → is_sorted lt (nodes_of t) ≡ true
+      → nodes_of (after_remove lt x t).tree ≡ without x (nodes_of t)
+  nodes_of-after_remove x leaf o = refl
+  nodes_of-after_remove x (fork red l n r) o =
       let xs = nodes_of l in
       let ys = nodes_of r in
       let s = rises_split lt xs n ys o in
-      let ml = nodes_of-shrunk x l s.left in
-      let mr = nodes_of-shrunk x r s.right in
+      let ml = nodes_of-after_remove x l s.left in
+      let mr = nodes_of-after_remove x r s.right in
       let parts = without-append x xs (n ∷ ys) in
       elim (cases_Bool (nat_eq n x)) [
         | inl e ↦
@@ -149,13 +158,13 @@ module _ {lt : ℕ → ℕ → Bool} (strict : IsStrict lt) where
                   (λ i. true≢false (sym (strict.transitive x n x k (all_at (lt n) ys x s.above i))
                   ∙ strict.irreflexive x)) in
                   let wr = without_none x ys no_r in
-                  rw (e, k) (nodes_of-settled Left red (shrunk lt x l) n r ∙ ap (λ zs. zs ++ n ∷ ys) ml
+                  rw (e, k) (nodes_of-settled Left red (after_remove lt x l) n r ∙ ap (λ zs. zs ++ n ∷ ys) ml
                   ∙ sym (parts ∙ rw (other, wr) refl))
               | inr k ↦
                   let no_l : is_in x xs ≡ false =
                   false_from_ne_true (is_in x xs) (λ i. true≢false (sym (all_at (λ m. lt m n) xs x s.below i) ∙ k)) in
                   let wl = without_none x xs no_l in
-                  rw (e, k) (nodes_of-settled Right red (shrunk lt x r) n l ∙ ap (λ zs. xs ++ n ∷ zs) mr
+                  rw (e, k) (nodes_of-settled Right red (after_remove lt x r) n l ∙ ap (λ zs. xs ++ n ∷ zs) mr
                   ∙ sym (parts ∙ rw (wl, other) refl))
             ]
       ]
@@ -163,7 +172,7 @@ module _ {lt : ℕ → ℕ → Bool} (strict : IsStrict lt) where
 -- ---- colours
 
 -- what is left of a tree with a black or a red root and this many black nodes on each path
-pub record IsRestEven (black : Bool) (rest : Rest) (b : ℕ) : Type 0 where
+pub record IsRestEven (black : Bool) (rest : RemovedSubtree) (b : ℕ) : Type 0 where
   pub level : ℕ
   pub even : IsEven rest.tree level
   pub total : level + cond rest.fell 1 0 ≡ b
@@ -242,7 +251,8 @@ done_even side false near n far b e f k m = record {
   root = λ q g. black_root_join side near n far;
 }
 
-settled_even : (side : Side) (red black : Bool) (rest : Rest) (n : ℕ) (far : Tree) (b : ℕ) → IsRestEven black rest b
+settled_even : (side : Side) (red black : Bool) (rest : RemovedSubtree) (n : ℕ) (far : Tree) (b : ℕ)
+    → IsRestEven black rest b
     → IsEven far b → (red ≡ true → black ≡ true) → (red ≡ true → has_black_root far ≡ true)
     → IsRestEven (not red) (settled side red rest n far) (cond red b (suc b))
 settled_even side red black rest n far b e f k m =
@@ -282,7 +292,7 @@ without_root_even red l n (fork red' p k q) b e =
     (least_of k p) l f.below more f.left_even f.right_root f.left_root)
 
 pub shrunk_even : (lt : ℕ → ℕ → Bool) (x : ℕ) (t : Tree) (b : ℕ) → IsEven t b
-    → IsRestEven (has_black_root t) (shrunk lt x t) b
+    → IsRestEven (has_black_root t) (after_remove lt x t) b
 shrunk_even lt x leaf b e = record { level = b; even = e; total = omega arith; root = λ q f. refl }
 shrunk_even lt x (fork red l n r) b e =
     let p = even_fork red l n r b e in
@@ -292,17 +302,17 @@ shrunk_even lt x (fork red l n r) b e =
     elim (cases_Bool (nat_eq n x)) [
       | inl k ↦ rw k root
       | inr k ↦ elim (cases_Bool (lt x n)) [
-        | inl m ↦ rw (k, m) (rw p.is (settled_even Left red (has_black_root l) (shrunk lt x l) n r p.below ml
+        | inl m ↦ rw (k, m) (rw p.is (settled_even Left red (has_black_root l) (after_remove lt x l) n r p.below ml
             p.right_even p.left_root p.right_root))
-        | inr m ↦ rw (k, m) (rw p.is (settled_even Right red (has_black_root r) (shrunk lt x r) n l p.below mr
+        | inr m ↦ rw (k, m) (rw p.is (settled_even Right red (has_black_root r) (after_remove lt x r) n l p.below mr
             p.left_even p.right_root p.left_root))
       ]
     ]
 
 -- with its root made black, what is left is red-black again
 pub shrunk_red_black : (lt : ℕ → ℕ → Bool) (x : ℕ) (t : Tree) → IsRedBlack t
-    → IsRedBlack (blackened (shrunk lt x t).tree)
+    → IsRedBlack (blackened (after_remove lt x t).tree)
 shrunk_red_black lt x t k =
     let e = shrunk_even lt x t k.black.0 (even_tree t k) in
-    let u = (shrunk lt x t).tree in
+    let u = (after_remove lt x t).tree in
     blackened_red_black u e.level (nearly_even u e.level e.even) (λ q. e.even.no_red_pair)

@@ -1,12 +1,15 @@
 -- A check of the parts is a check of the tree.
-use Rattle.std.proofs.Common.{◌≡◌, ℕ, zero, suc, ◌+◌, ◌≤◌, Bool, true, false, cond, Option, Some, None, List, [], ◌∷◌, ◌++◌, length, nat_eq, refl, sym, ap, ◌∙◌, arith, inl, inr, subst}
+use Rattle.std.proofs.Common.{◌≡◌, ℕ, zero, suc, ◌+◌, ◌≤◌, Bool, true, false, cond, Option, Some, None, List, [], ◌∷◌}
+use Rattle.std.proofs.Common.{◌++◌, length, nat_eq, refl, sym, ap, ◌∙◌, arith, inl, inr, subst}
 use Rattle.std.specs.List.{list_all}
 use Rattle.std.proofs.lemmas.Bool.{false≢true, and_parts, and_from, cases_Bool, or_cases, or_left, or_right, eqb-true}
-use Rattle.link_tree.specs.Tree.{Cell, Tree, leaf, fork, nodes_of, IsSearchTree, rises, height, has_black_root, has_no_red_pair, has_black_height}
+use Rattle.link_tree.specs.Tree.{Cell, Tree, leaf, fork, nodes_of, IsSearchTree, is_sorted, height, has_black_root}
+use Rattle.link_tree.specs.Tree.{has_no_red_pair, has_black_height}
 use Rattle.link_tree.specs.Nodes.{is_in, leads}
 use Rattle.link_tree.specs.Between.{is_above, is_below, is_between, count_between}
-use Rattle.link_tree.specs.Checking.{IsClosed, IsSound}
-use Rattle.link_tree.proofs.Orders.{IsStrict, rises_split, rises_join, all_at, all_from, in_left, in_right, in_middle, in_parts}
+use Rattle.link_tree.specs.Checking.{IsLinkClosed, IsSound}
+use Rattle.link_tree.proofs.Orders.{IsStrict, rises_split, rises_join, all_at, all_from, in_left, in_right, in_middle}
+use Rattle.link_tree.proofs.Orders.{in_parts}
 use Rattle.link_tree.proofs.Colours.{even_fork, even_join}
 use Rattle.link_tree.proofs.Trees.{open_tree, close_tree, one_tree}
 use Rattle.link_tree.proofs.Limits.{tree_good, count_split, above_less, below_less, count_tree}
@@ -93,7 +96,7 @@ module _ {lt : ℕ → ℕ → Bool} (strict : IsStrict lt) (h : ℕ → Cell) w
       let r = o.right in
       let xs = nodes_of l in
       let ys = nodes_of r in
-      let order : rises lt (xs ++ n ∷ ys) ≡ true = ap (λ u. rises lt (nodes_of u)) (sym o.is) ∙ s.ordered in
+      let order : is_sorted lt (xs ++ n ∷ ys) ≡ true = ap (λ u. is_sorted lt (nodes_of u)) (sym o.is) ∙ s.ordered in
       let between : list_all (λ m. is_between lt low m high) (xs ++ n ∷ ys) ≡ true =
       ap (λ u. list_all (λ m. is_between lt low m high) (nodes_of u)) (sym o.is) ∙ s.between in
       let pairs_here : has_no_red_pair (fork red l n r) ≡ true = ap has_no_red_pair (sym o.is) ∙ s.no_red_pair in
@@ -157,7 +160,7 @@ module _ {lt : ℕ → ℕ → Bool} (strict : IsStrict lt) (h : ℕ → Cell) w
       count_split strict low high n ns (and_from (is_above lt low n) (is_below lt n high) a b) i
 
   -- a part has no more nodes than the closed list has between its bounds
-  pub part_size : (ns : List ℕ) → IsClosed h ns → (link low high : Option ℕ) (red : Bool) (t : Tree) (b : ℕ)
+  pub part_size : (ns : List ℕ) → IsLinkClosed h ns → (link low high : Option ℕ) (red : Bool) (t : Tree) (b : ℕ)
       → leads (λ m. is_in m ns) link ≡ true
       → IsSound lt h link low high red t b → length (nodes_of t) ≤ count_between lt low high ns
   part_size ns closed link low high red t b k s =
@@ -234,7 +237,7 @@ leads_only good ns all (Some n) k = only_in good ns n k (all n k)
 pub only_closed : (h : ℕ → Cell) (good : ℕ → Bool) (ns : List ℕ)
     → ((n : ℕ) → good n ≡ true → leads good (h n).left ≡ true)
     → ((n : ℕ) → good n ≡ true → leads good (h n).right ≡ true)
-    → ((n : ℕ) → good n ≡ true → is_in n ns ≡ true) → IsClosed h (only good ns)
+    → ((n : ℕ) → good n ≡ true → is_in n ns ≡ true) → IsLinkClosed h (only good ns)
 only_closed h good ns cl cr all = record {
   left = λ n i. leads_only good ns all (h n).left (cl n (only_good good ns n i));
   right = λ n i. leads_only good ns all (h n).right (cr n (only_good good ns n i));

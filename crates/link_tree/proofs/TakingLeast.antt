@@ -1,12 +1,13 @@
 -- How a removal takes the first node of a tree, and hangs a tree that shrank under its parent again.
-use Rattle.std.proofs.Common.{◌≡◌, ℕ, ◌+◌, ◌≤◌, Bool, true, false, Option, Some, None, List, [], ◌∷◌, ◌++◌, nat_eq, refl, sym, ap, ◌∙◌, subst}
+use Rattle.std.proofs.Common.{◌≡◌, ℕ, ◌+◌, ◌≤◌, Bool, true, false, Option, Some, None, List, [], ◌∷◌, ◌++◌, nat_eq}
+use Rattle.std.proofs.Common.{refl, sym, ap, ◌∙◌, subst}
 use Rattle.std.proofs.lemmas.Bool.{ne_eqb, or_from, or_parts}
-use Rattle.link_tree.specs.Tree.{Cell, Tree, leaf, fork, root_of, nodes_of, Holds, IsTree, rises, height}
+use Rattle.link_tree.specs.Tree.{Cell, Tree, leaf, fork, root_of, nodes_of, AreCellsOf, IsTree, is_sorted, height}
 use Rattle.link_tree.specs.Nodes.{is_in}
 use Rattle.link_tree.specs.Sides.{opposite, child_of, joined_at}
-use Rattle.link_tree.specs.Shrinking.{Rest, Shrinks, Leaves, settled, sunk, least_of, without_least}
-use Rattle.link_tree.specs.declared.visits.Side.{Side}
-use Rattle.link_tree.specs.declared.visits.Side.TheVariants.{Left, Right}
+use Rattle.link_tree.specs.Shrinking.{RemovedSubtree, IsOrderedTree, RemovesTo, settled, sunk, least_of, without_least}
+use Rattle.link_tree.specs.declared.cursor.Side.{Side}
+use Rattle.link_tree.specs.declared.cursor.Side.TheVariants.{Left, Right}
 use Rattle.link_tree.proofs.Orders.{IsStrict, rises_split, is_in-append, not_right}
 use Rattle.link_tree.proofs.Trees.{holds_same, none_some, no_tree, root_in}
 use Rattle.link_tree.proofs.Joints.{parted, far_of_cell, red_of_cell, joint_of, apart_of, outside_all, other_than}
@@ -24,9 +25,9 @@ outside_join Right red near n far m a d b = is_in-append m (nodes_of far) (n ∷
     (ne_eqb m n d) a)
 
 -- changes of fewer nodes are changes of more
-pub widen : (h h' : ℕ → Cell) (xs ys : List ℕ) (link : Option ℕ) (fell : Bool) (rest : Rest)
+pub widen : (h h' : ℕ → Cell) (xs ys : List ℕ) (link : Option ℕ) (fell : Bool) (rest : RemovedSubtree)
     → ((m : ℕ) → is_in m ys ≡ false → is_in m xs ≡ false)
-    → Leaves h h' xs link fell rest → Leaves h h' ys link fell rest
+    → RemovesTo h h' xs link fell rest → RemovesTo h h' ys link fell rest
 widen h h' xs ys link fell rest sub u = record {
   turned = record { tree = u.turned.tree; frame = λ m i. u.turned.frame m (sub m i) };
   fallen = u.fallen;
@@ -40,20 +41,21 @@ abbrev pub Settles : (ℕ → ℕ → Bool) → (h h' : ℕ → Cell) → Side �
     → Type 0
 Settles lt h h' side at link root fell_below fell =
     (near far : Tree) → IsTree h link near → IsTree h (child_of (opposite side) (h at)) far
-    → rises lt (nodes_of (joined_at side (h at).red near at far)) ≡ true
-    → Leaves h h' (nodes_of (joined_at side (h at).red near at far)) root fell
+    → is_sorted lt (nodes_of (joined_at side (h at).red near at far)) ≡ true
+    → RemovesTo h h' (nodes_of (joined_at side (h at).red near at far)) root fell
     (settled side (h at).red (record { tree = near; fell = fell_below }) at far)
 
 module _ {lt : ℕ → ℕ → Bool} (strict : IsStrict lt) where
   -- the tree below shrank, and was hung under its parent again
-  pub settle_below : (side : Side) (h h1 h2 : ℕ → Cell) (red : Bool) (near : Tree) (at : ℕ) (far : Tree) (rest : Rest)
+  pub settle_below : (side : Side) (h h1 h2 : ℕ
+      → Cell) (red : Bool) (near : Tree) (at : ℕ) (far : Tree) (rest : RemovedSubtree)
       (link root : Option ℕ) (fell_below fell : Bool)
-      → Holds h (joined_at side red near at far) → rises lt (nodes_of (joined_at side red near at far)) ≡ true
-      → Leaves h h1 (nodes_of near) link fell_below rest
+      → AreCellsOf h (joined_at side red near at far) → is_sorted lt (nodes_of (joined_at side red near at far)) ≡ true
+      → RemovesTo h h1 (nodes_of near) link fell_below rest
       → ((m : ℕ) → is_in m (nodes_of near) ≡ false → is_in m (nodes_of rest.tree) ≡ false)
-      → rises lt (nodes_of (joined_at side red rest.tree at far)) ≡ true
+      → is_sorted lt (nodes_of (joined_at side red rest.tree at far)) ≡ true
       → Settles lt h1 h2 side at link root fell_below fell
-      → Leaves h h2 (nodes_of (joined_at side red near at far)) root fell (settled side red rest at far)
+      → RemovesTo h h2 (nodes_of (joined_at side red near at far)) root fell (settled side red rest at far)
   settle_below side h h1 h2 red near at far rest link root fell_below fell w o u sub o' settle =
       let apart = apart_of strict side red near at far o in
       let joint = joint_of h side red near at far w in
@@ -64,10 +66,10 @@ module _ {lt : ℕ → ℕ → Bool} (strict : IsStrict lt) where
       ∙ far_of_cell side red (root_of near) (root_of far) in
       let far_holds = holds_same h h1 far (λ m i. u.turned.frame m (apart.near_of_far m i)) joint.far_holds in
       let first = settle rest.tree far u.turned.tree (record { root = far_link; holds = far_holds })
-      (subst (λ (c : Bool). rises lt (nodes_of (joined_at side c rest.tree at far)) ≡ true) (sym is_red) o') in
-      let second = subst (λ (c : Bool). Leaves h1 h2 (nodes_of (joined_at side c rest.tree at far)) root fell
+      (subst (λ (c : Bool). is_sorted lt (nodes_of (joined_at side c rest.tree at far)) ≡ true) (sym is_red) o') in
+      let second = subst (λ (c : Bool). RemovesTo h1 h2 (nodes_of (joined_at side c rest.tree at far)) root fell
       (settled side c (record { tree = rest.tree; fell = fell_below }) at far)) is_red first in
-      let s = subst (λ (f : Bool). Leaves h1 h2 (nodes_of (joined_at side red rest.tree at far)) root fell
+      let s = subst (λ (f : Bool). RemovesTo h1 h2 (nodes_of (joined_at side red rest.tree at far)) root fell
       (settled side red (record { tree = rest.tree; fell = f }) at far)) u.fallen second in
       record {
         turned = record {
@@ -82,7 +84,7 @@ module _ {lt : ℕ → ℕ → Bool} (strict : IsStrict lt) where
 
   -- ---- the first node
 
-  pub apart_head : (n : ℕ) (ns : List ℕ) → rises lt (n ∷ ns) ≡ true → is_in n ns ≡ false
+  pub apart_head : (n : ℕ) (ns : List ℕ) → is_sorted lt (n ∷ ns) ≡ true → is_in n ns ≡ false
   apart_head n ns o = not_right strict [] n ns (rises_split lt [] n ns o)
 
   -- what is left of a tree without its first node has its other nodes
@@ -95,11 +97,11 @@ module _ {lt : ℕ → ℕ → Bool} (strict : IsStrict lt) where
   rest_out m n xs ys e o = (or_parts (nat_eq m n) (is_in m ys) (ap (is_in m) (sym e) ∙ o)).1
 
   -- a node without a tree on one side leaves the other one
-  pub sink_far : (side : Side) (take : Tree → Rest) (h h' : ℕ → Cell) (at : ℕ) (root : Option ℕ) (fell : Bool)
-      (t : Tree) → Shrinks lt h (Some at) t → child_of side (h at) ≡ None
+  pub sink_far : (side : Side) (take : Tree → RemovedSubtree) (h h' : ℕ → Cell) (at : ℕ) (root : Option ℕ) (fell : Bool)
+      (t : Tree) → IsOrderedTree lt h (Some at) t → child_of side (h at) ≡ None
       → ((red : Bool) (far : Tree) → take (joined_at side red leaf at far) ≡ sunk red far)
-      → ((u : Tree) → IsTree h (child_of (opposite side) (h at)) u → rises lt (nodes_of u) ≡ true
-      → Leaves h h' (nodes_of u) root fell (sunk (h at).red u)) → Leaves h h' (nodes_of t) root fell (take t)
+      → ((u : Tree) → IsTree h (child_of (opposite side) (h at)) u → is_sorted lt (nodes_of u) ≡ true
+      → RemovesTo h h' (nodes_of u) root fell (sunk (h at).red u)) → RemovesTo h h' (nodes_of t) root fell (take t)
   sink_far side take h h' at root fell t w e takes sink =
       let p = parted strict side h at t w.tree w.ordered in
       let red = (h at).red in
@@ -115,11 +117,11 @@ module _ {lt : ℕ → ℕ → Bool} (strict : IsStrict lt) where
     pub tree : Tree
     pub far : Tree
     pub is : t ≡ joined_at side (h at).red tree at far
-    pub shrinks : Shrinks lt h (child_of side (h at)) tree
+    pub shrinks : IsOrderedTree lt h (child_of side (h at)) tree
     pub lower : height tree + 1 ≤ height t
     pub apart : is_in at (nodes_of tree) ≡ false
 
-  pub shrinks_below : (side : Side) (h : ℕ → Cell) (at : ℕ) (t : Tree) → Shrinks lt h (Some at) t
+  pub shrinks_below : (side : Side) (h : ℕ → Cell) (at : ℕ) (t : Tree) → IsOrderedTree lt h (Some at) t
       → ShrinksBelow h side at t
   shrinks_below side h at t w =
       let p = parted strict side h at t w.tree w.ordered in
@@ -137,11 +139,11 @@ module _ {lt : ℕ → ℕ → Bool} (strict : IsStrict lt) where
     pub tree : Tree
     pub far : Tree
     pub is : t ≡ joined_at side (h at).red tree at far
-    pub shrinks : Shrinks lt h (Some child) tree
+    pub shrinks : IsOrderedTree lt h (Some child) tree
     pub lower : height tree + 1 ≤ height t
     pub apart : child ≡ at → ⊥
 
-  pub child_tree : (side : Side) (h : ℕ → Cell) (at child : ℕ) (t : Tree) → Shrinks lt h (Some at) t
+  pub child_tree : (side : Side) (h : ℕ → Cell) (at child : ℕ) (t : Tree) → IsOrderedTree lt h (Some at) t
       → child_of side (h at) ≡ Some child → HasChild h side at child t
   child_tree side h at child t w e =
       let b = shrinks_below side h at t w in
@@ -163,10 +165,10 @@ module _ {lt : ℕ → ℕ → Bool} (strict : IsStrict lt) where
       → least_of at t ≡ least_of left b.tree
   least_below h at left t b = ap (least_of at) b.is ∙ least_over h left b.tree at b.shrinks.tree
 
-  rises_rest : (xs ys zs : List ℕ) (n m : ℕ) → xs ≡ m ∷ ys → rises lt (xs ++ n ∷ zs) ≡ true
-      → rises lt (ys ++ n ∷ zs) ≡ true
+  rises_rest : (xs ys zs : List ℕ) (n m : ℕ) → xs ≡ m ∷ ys → is_sorted lt (xs ++ n ∷ zs) ≡ true
+      → is_sorted lt (ys ++ n ∷ zs) ≡ true
   rises_rest xs ys zs n m e o =
-      let o' : rises lt (m ∷ (ys ++ n ∷ zs)) ≡ true = ap (λ x. rises lt (x ++ n ∷ zs)) (sym e) ∙ o in
+      let o' : is_sorted lt (m ∷ (ys ++ n ∷ zs)) ≡ true = ap (λ x. is_sorted lt (x ++ n ∷ zs)) (sym e) ∙ o in
       (rises_split lt [] m (ys ++ n ∷ zs) o').right
 
   without_least_over : (h : ℕ → Cell) (red : Bool) (left : ℕ) (l : Tree) (at : ℕ) (r : Tree) → IsTree h (Some left) l
@@ -175,9 +177,9 @@ module _ {lt : ℕ → ℕ → Bool} (strict : IsStrict lt) where
   without_least_over h red left (fork red' a m b) at r w = refl
 
   pub take_more : (h h1 h2 : ℕ → Cell) (at left : ℕ) (link root : Option ℕ) (fell_below fell : Bool) (t : Tree)
-      → IsTree h (Some at) t → rises lt (nodes_of t) ≡ true → (h at).left ≡ Some left
-      → ((u : Tree) → Shrinks lt h (Some left) u → Leaves h h1 (nodes_of u) link fell_below (without_least u))
-      → Settles lt h1 h2 Left at link root fell_below fell → Leaves h h2 (nodes_of t) root fell (without_least t)
+      → IsTree h (Some at) t → is_sorted lt (nodes_of t) ≡ true → (h at).left ≡ Some left
+      → ((u : Tree) → IsOrderedTree lt h (Some left) u → RemovesTo h h1 (nodes_of u) link fell_below (without_least u))
+      → Settles lt h1 h2 Left at link root fell_below fell → RemovesTo h h2 (nodes_of t) root fell (without_least t)
   take_more h h1 h2 at left link root fell_below fell t w o e take settle =
       let p = parted strict Left h at t w o in
       let red = (h at).red in
@@ -191,5 +193,5 @@ module _ {lt : ℕ → ℕ → Bool} (strict : IsStrict lt) where
       least p.order) settle in
       let is : without_least t ≡ settled Left red (without_least p.near) at p.far = ap without_least p.is
       ∙ without_least_over h red left p.near at p.far tree in
-      rw is (subst (λ x. Leaves h h2 (nodes_of x) root fell (settled Left red (without_least p.near) at p.far))
+      rw is (subst (λ x. RemovesTo h h2 (nodes_of x) root fell (settled Left red (without_least p.near) at p.far))
       (sym p.is) s)

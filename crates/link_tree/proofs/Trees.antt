@@ -1,6 +1,6 @@
 -- Trees that links lead to: what one says of its root, and when it stays where it is.
 use Rattle.std.proofs.Common.{◌≡◌, ℕ, Bool, true, false, List, Option, Some, None, refl, sym, ap, ◌∙◌, subst}
-use Rattle.link_tree.specs.Tree.{Cell, Tree, leaf, fork, root_of, nodes_of, Holds, IsTree, IsSearchTree}
+use Rattle.link_tree.specs.Tree.{Cell, Tree, leaf, fork, root_of, nodes_of, AreCellsOf, IsTree, IsSearchTree}
 use Rattle.link_tree.specs.Nodes.{is_in}
 use Rattle.link_tree.proofs.Orders.{in_left, in_right, in_middle}
 
@@ -48,8 +48,8 @@ root_in h n t w =
     subst (λ (u : Tree). is_in n (nodes_of u) ≡ true) (sym o.is) (in_middle (nodes_of o.left) n (nodes_of o.right))
 
 -- a tree stays where no cell of its nodes changes
-pub holds_same : (h h' : ℕ → Cell) (t : Tree) → ((m : ℕ) → is_in m (nodes_of t) ≡ true → h' m ≡ h m) → Holds h t
-    → Holds h' t
+pub holds_same : (h h' : ℕ → Cell) (t : Tree) → ((m : ℕ) → is_in m (nodes_of t) ≡ true → h' m ≡ h m) → AreCellsOf h t
+    → AreCellsOf h' t
 holds_same h h' leaf same w = tt
 holds_same h h' (fork red l n r) same w = (
   same n (in_middle (nodes_of l) n (nodes_of r)) ∙ w.0,

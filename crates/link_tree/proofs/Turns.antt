@@ -1,19 +1,24 @@
 -- Rotations and recolourings of cells do to trees what their names say.
 use Rattle.std.proofs.Common.{◌≡◌, ℕ, Bool, true, false, Option, Some, List, refl, sym, ap, ◌∙◌, subst, not}
 use Rattle.std.proofs.lemmas.Bool.{true≢false, false≢true, not-false}
-use Rattle.link_tree.specs.Tree.{has_black_root, Cell, Tree, leaf, fork, root_of, nodes_of, Holds, IsTree, rises}
+use Rattle.link_tree.specs.Tree.{has_black_root, Cell, Tree, leaf, fork, root_of, nodes_of, AreCellsOf, IsTree}
+use Rattle.link_tree.specs.Tree.{is_sorted}
 use Rattle.link_tree.specs.Nodes.{is_in, with_red}
 use Rattle.link_tree.specs.Sides.{opposite, child_of, with_child, tree_on, joined_at}
-use Rattle.link_tree.specs.Turning.{balanced_inner, balanced_outer, Turned, blackened, painted, lifted, rebalanced, is_red_tree}
-use Rattle.link_tree.specs.declared.visits.Side.{Side}
-use Rattle.link_tree.specs.declared.visits.Side.TheVariants.{Left, Right}
+use Rattle.link_tree.specs.Turning.{balanced_inner, balanced_outer, Turned, blackened, painted, rotated, rebalanced}
+use Rattle.link_tree.specs.Turning.{is_red_tree}
+use Rattle.link_tree.specs.declared.cursor.Side.{Side}
+use Rattle.link_tree.specs.declared.cursor.Side.TheVariants.{Left, Right}
 use Rattle.link_tree.proofs.Orders.{IsStrict}
 use Rattle.link_tree.proofs.Trees.{holds_same, some_same, none_some}
-use Rattle.link_tree.proofs.Joints.{Makes, cell_at, with_child-other, with_child-near, with_child-far, with_red-other, with_red-same, fork_joined, root_joined, joint_of, tree_joint, open_side, apart_of, in_near, in_far, in_root, outside_all, other_than, nodes_of-joined, nodes_of-painted, nodes_of-turn, lifted-joined}
+use Rattle.link_tree.proofs.Joints.{Makes, cell_at, with_child-other, with_child-near, with_child-far, with_red-other}
+use Rattle.link_tree.proofs.Joints.{with_red-same, fork_joined, root_joined, joint_of, tree_joint, open_side, apart_of}
+use Rattle.link_tree.proofs.Joints.{in_near, in_far, in_root, outside_all, other_than, nodes_of-joined}
+use Rattle.link_tree.proofs.Joints.{nodes_of-painted, nodes_of-turn, rotated-joined}
 
 -- the tree on one side is another now, and the root's link leads to it
 pub graft : (side : Side) (h h1 h2 : ℕ → Cell) (red : Bool) (near near' : Tree) (n : ℕ) (far : Tree) (link : Option ℕ)
-    (xs : List ℕ) → Holds h (joined_at side red near n far) → Turned h h1 xs link near'
+    (xs : List ℕ) → AreCellsOf h (joined_at side red near n far) → Turned h h1 xs link near'
     → is_in n xs ≡ false → ((m : ℕ) → is_in m (nodes_of far) ≡ true → is_in m xs ≡ false)
     → is_in n (nodes_of near') ≡ false → is_in n (nodes_of far) ≡ false
     → h2 n ≡ cell_at side red link (root_of far) → ((m : ℕ) → (m ≡ n → ⊥) → h2 m ≡ h1 m)
@@ -34,7 +39,7 @@ with_red-cell Right h n old red near far e = with_red-same h n old red far near 
 
 -- a root of another colour
 pub recolour : (side : Side) (h h2 : ℕ → Cell) (n : ℕ) (old red : Bool) (near far : Tree)
-    → Holds h (joined_at side old near n far)
+    → AreCellsOf h (joined_at side old near n far)
     → is_in n (nodes_of near) ≡ false → is_in n (nodes_of far) ≡ false → h2 ≡ with_red h n red
     → Turned h h2 (nodes_of (joined_at side old near n far)) (Some n) (joined_at side red near n far)
 recolour side h h2 n old red near far w nn nf set =
@@ -52,8 +57,8 @@ recolour side h h2 n old red near far w nn nf set =
 
 module _ {lt : ℕ → ℕ → Bool} (strict : IsStrict lt) where
   pub lift_turns : (side : Side) (h h' : ℕ → Cell) (c d : Bool) (a : Tree) (m : ℕ) (b : Tree) (n : ℕ) (far : Tree)
-      → Holds h (joined_at side c (joined_at side d a m b) n far)
-      → rises lt (nodes_of (joined_at side c (joined_at side d a m b) n far)) ≡ true
+      → AreCellsOf h (joined_at side c (joined_at side d a m b) n far)
+      → is_sorted lt (nodes_of (joined_at side c (joined_at side d a m b) n far)) ≡ true
       → h' ≡ with_child side (with_child (opposite side) h m (Some n)) n (root_of b)
       → Turned h h' (nodes_of (joined_at side c (joined_at side d a m b) n far)) (Some m)
       (joined_at side d a m (joined_at side c b n far))
@@ -99,10 +104,10 @@ module _ {lt : ℕ → ℕ → Bool} (strict : IsStrict lt) where
 
   -- what `lift` does
   pub lift_step : (side : Side) (h h' : ℕ → Cell) (top child : ℕ) (middle : Option ℕ) (t : Tree)
-      → IsTree h (Some top) t → rises lt (nodes_of t) ≡ true
+      → IsTree h (Some top) t → is_sorted lt (nodes_of t) ≡ true
       → child_of side (h top) ≡ Some child → child_of (opposite side) (h child) ≡ middle
       → h' ≡ with_child side (with_child (opposite side) h child (Some top)) top middle
-      → Turned h h' (nodes_of t) (Some child) (lifted side t)
+      → Turned h h' (nodes_of t) (Some child) (rotated side t)
   lift_step side h h' top child middle t w o e1 e2 e3 =
       let p = open_side h side top t w in
       let near_tree = rw e1 at p.near_tree in
@@ -114,11 +119,11 @@ module _ {lt : ℕ → ℕ → Bool} (strict : IsStrict lt) where
       let e4 : h' ≡ with_child side (with_child (opposite side) h child (Some top)) top (root_of q.far) = e3
       ∙ ap (λ x. with_child side (with_child (opposite side) h child (Some top)) top x) (sym e2 ∙ q.far_tree.root) in
       let turned = lift_turns side h h' (h top).red (h child).red q.near child q.far top p.far holds order e4 in
-      rw (is, lifted-joined side (h top).red (h child).red q.near child q.far top p.far) turned
+      rw (is, rotated-joined side (h top).red (h child).red q.near child q.far top p.far) turned
 
   -- what `paint` does
   pub paint_turns : (h h' : ℕ → Cell) (n : ℕ) (red : Bool) (t : Tree) → IsTree h (Some n) t
-      → rises lt (nodes_of t) ≡ true → h' ≡ with_red h n red → Turned h h' (nodes_of t) (Some n) (painted red t)
+      → is_sorted lt (nodes_of t) ≡ true → h' ≡ with_red h n red → Turned h h' (nodes_of t) (Some n) (painted red t)
   paint_turns h h' n red leaf w o e = absurd (none_some n (sym w.root))
   paint_turns h h' n red (fork old l m r) w o e =
       let same = some_same n m w.root in
@@ -195,11 +200,11 @@ red_at side (fork false l n r) e = absurd (false≢true e)
 red_at side (fork true l n r) e =
     record { p = tree_on side l r; k = n; q = tree_on (opposite side) l r; is = fork_joined side true l n r }
 
-lifted-opposite : (side : Side) (a : Tree) (m : ℕ) (p : Tree) (k : ℕ) (q : Tree)
-    → lifted (opposite side) (joined_at side true a m (joined_at side true p k q)) ≡ joined_at side true
+rotated-opposite : (side : Side) (a : Tree) (m : ℕ) (p : Tree) (k : ℕ) (q : Tree)
+    → rotated (opposite side) (joined_at side true a m (joined_at side true p k q)) ≡ joined_at side true
     (joined_at side true a m p) k q
-lifted-opposite Left a m p k q = refl
-lifted-opposite Right a m p k q = refl
+rotated-opposite Left a m p k q = refl
+rotated-opposite Right a m p k q = refl
 
 blackened-joined : (side : Side) (red : Bool) (near : Tree) (n : ℕ) (far : Tree)
     → blackened (joined_at side red near n far) ≡ joined_at side false near n far
@@ -213,7 +218,7 @@ same_root side h m n red near far w = some_same m n (w.root ∙ root_joined side
 
 module _ {lt : ℕ → ℕ → Bool} (strict : IsStrict lt) where
   pub balance_none : (side : Side) (h : ℕ → Cell) (top near : ℕ) (t : Tree) → IsTree h (Some top) t
-      → rises lt (nodes_of t) ≡ true → child_of side (h top) ≡ Some near → (h top).red ≡ false → (h near).red ≡ true
+      → is_sorted lt (nodes_of t) ≡ true → child_of side (h top) ≡ Some near → (h top).red ≡ false → (h near).red ≡ true
       → ((u : Tree) → IsTree h (child_of side (h near)) u → false ≡ is_red_tree u)
       → ((u : Tree) → IsTree h (child_of (opposite side) (h near)) u → false ≡ is_red_tree u)
       → Turned h h (nodes_of t) (Some top) (rebalanced side t)
@@ -224,22 +229,23 @@ module _ {lt : ℕ → ℕ → Bool} (strict : IsStrict lt) where
       record { tree = rw same w; frame = λ m i. refl }
 
   pub balance_outer : (side : Side) (h h1 h2 : ℕ → Cell) (top near risen : ℕ) (outer : Option ℕ) (t : Tree)
-      → IsTree h (Some top) t → rises lt (nodes_of t) ≡ true
+      → IsTree h (Some top) t → is_sorted lt (nodes_of t) ≡ true
       → child_of side (h top) ≡ Some near → (h top).red ≡ false → (h near).red ≡ true → child_of side (h near) ≡ outer
-      → ((u : Tree) → IsTree h outer u → true ≡ is_red_tree u) → Makes lt h h1 (Some top) (Some risen) (lifted side)
+      → ((u : Tree) → IsTree h outer u → true ≡ is_red_tree u) → Makes lt h h1 (Some top) (Some risen) (rotated side)
       → Makes lt h1 h2 outer outer blackened → Turned h h2 (nodes_of t) (Some risen) (rebalanced side t)
   balance_outer side h h1 h2 top near risen outer t w o e1 e2 e3 e4 red lift blacken =
       let s = black_red side h top near t w e1 e2 e3 in
       let low = joined_at side false s.b top s.far in
-      let is_lifted : lifted side t ≡ joined_at side true s.a near low = ap (λ x. lifted side x) s.is
-      ∙ lifted-joined side false true s.a near s.b top s.far in
+      let is_lifted : rotated side t ≡ joined_at side true s.a near low = ap (λ x. rotated side x) s.is
+      ∙ rotated-joined side false true s.a near s.b top s.far in
       let first = lift t w o in
       let turned = rw is_lifted at first in
       let same = same_root side h1 risen near true s.a low turned.tree in
       let nodes = nodes_of-turn side false true false true s.a near s.b top s.far in
       let is_nodes : nodes_of t ≡ nodes_of (joined_at side false (joined_at side true s.a near s.b) top s.far) =
       ap nodes_of s.is in
-      let order : rises lt (nodes_of (joined_at side true s.a near low)) ≡ true = ap (rises lt) (nodes ∙ sym is_nodes)
+      let order : is_sorted lt (nodes_of (joined_at side true s.a near low)) ≡ true =
+      ap (is_sorted lt) (nodes ∙ sym is_nodes)
       ∙ o in
       let apart = apart_of strict side true s.a near low order in
       let joint = joint_of h1 side true s.a near low turned.tree.holds in
@@ -265,10 +271,10 @@ module _ {lt : ℕ → ℕ → Bool} (strict : IsStrict lt) where
 
   balance_inner_at : (side : Side) (h h1 h2 h3 h4 : ℕ → Cell) (a : Tree) (near : ℕ) (p : Tree) (k : ℕ) (q : Tree)
       (top : ℕ) (far : Tree) (lower risen : ℕ)
-      → Holds h (joined_at side false (joined_at side true a near (joined_at side true p k q)) top far)
-      → rises lt (nodes_of (joined_at side false (joined_at side true a near (joined_at side true p k q)) top far))
-      ≡ true → Makes lt h h1 (Some near) (Some lower) (lifted (opposite side))
-      → h2 ≡ with_child side h1 top (Some lower) → Makes lt h2 h3 (Some top) (Some risen) (lifted side)
+      → AreCellsOf h (joined_at side false (joined_at side true a near (joined_at side true p k q)) top far)
+      → is_sorted lt (nodes_of (joined_at side false (joined_at side true a near (joined_at side true p k q)) top far))
+      ≡ true → Makes lt h h1 (Some near) (Some lower) (rotated (opposite side))
+      → h2 ≡ with_child side h1 top (Some lower) → Makes lt h2 h3 (Some top) (Some risen) (rotated side)
       → h4 ≡ with_red h3 near false
       → Turned h h4 (nodes_of (joined_at side false (joined_at side true a near (joined_at side true p k q)) top far))
       (Some risen) (joined_at side true (joined_at side false a near p) k (joined_at side false q top far))
@@ -279,7 +285,7 @@ module _ {lt : ℕ → ℕ → Bool} (strict : IsStrict lt) where
       let apart = apart_of strict side false old top far o in
       let old_tree : IsTree h (Some near) old =
       record { root = sym (root_joined side true a near (joined_at side true p k q)); holds = joint.near_holds } in
-      let l1 = rw (lifted-opposite side a near p k q) at (lift1 old old_tree apart.near_rises) in
+      let l1 = rw (rotated-opposite side a near p k q) at (lift1 old old_tree apart.near_rises) in
       let same1 = same_root side h1 lower k true (joined_at side true a near p) q l1.tree in
       let nodes1 : nodes_of new ≡ nodes_of old = sym (nodes_of-turn side true true true true a near p k q) in
       let set_at : (m : ℕ) → h2 m ≡ with_child side h1 top (Some lower) m = λ m. ap (λ (f : ℕ → Cell). f m) set in
@@ -290,13 +296,13 @@ module _ {lt : ℕ → ℕ → Bool} (strict : IsStrict lt) where
       let t2 = graft side h h1 h2 false old new top far (Some lower) (nodes_of old) w l1 apart.not_near
       apart.near_of_far (ap (is_in top) nodes1 ∙ apart.not_near) apart.not_far top_cell rest2 in
       let nodes2 = nodes_of-joined side false false old new top far nodes1 in
-      let o2 : rises lt (nodes_of (joined_at side false new top far)) ≡ true = ap (rises lt) nodes2 ∙ o in
+      let o2 : is_sorted lt (nodes_of (joined_at side false new top far)) ≡ true = ap (is_sorted lt) nodes2 ∙ o in
       let low = joined_at side false q top far in
       let up = joined_at side true a near p in
-      let l2 = rw (lifted-joined side false true up k q top far) at (lift2 (joined_at side false new top far) t2 o2) in
+      let l2 = rw (rotated-joined side false true up k q top far) at (lift2 (joined_at side false new top far) t2 o2) in
       let same2 = same_root side h3 risen k true up low l2.tree in
       let nodes3 = nodes_of-turn side false true false true up k q top far in
-      let o3 : rises lt (nodes_of (joined_at side true up k low)) ≡ true = ap (rises lt) nodes3 ∙ o2 in
+      let o3 : is_sorted lt (nodes_of (joined_at side true up k low)) ≡ true = ap (is_sorted lt) nodes3 ∙ o2 in
       let apart3 = apart_of strict side true up k low o3 in
       let joint3 = joint_of h3 side true up k low l2.tree.holds in
       let up_tree : IsTree h3 (Some near) up =
@@ -323,13 +329,13 @@ module _ {lt : ℕ → ℕ → Bool} (strict : IsStrict lt) where
       }
 
   pub balance_inner : (side : Side) (h h1 h2 h3 h4 : ℕ → Cell) (top near lower risen : ℕ) (inner : Option ℕ) (t : Tree)
-      → IsTree h (Some top) t → rises lt (nodes_of t) ≡ true
+      → IsTree h (Some top) t → is_sorted lt (nodes_of t) ≡ true
       → child_of side (h top) ≡ Some near → (h top).red ≡ false → (h near).red ≡ true
       → child_of (opposite side) (h near) ≡ inner
       → ((u : Tree) → IsTree h (child_of side (h near)) u → false ≡ is_red_tree u)
       → ((u : Tree) → IsTree h inner u → true ≡ is_red_tree u)
-      → Makes lt h h1 (Some near) (Some lower) (lifted (opposite side)) → h2 ≡ with_child side h1 top (Some lower)
-      → Makes lt h2 h3 (Some top) (Some risen) (lifted side) → h4 ≡ with_red h3 near false
+      → Makes lt h h1 (Some near) (Some lower) (rotated (opposite side)) → h2 ≡ with_child side h1 top (Some lower)
+      → Makes lt h2 h3 (Some top) (Some risen) (rotated side) → h4 ≡ with_red h3 near false
       → Turned h h4 (nodes_of t) (Some risen) (rebalanced side t)
   balance_inner side h h1 h2 h3 h4 top near lower risen inner t w o e1 e2 e3 e4 outer_black inner_red lift1 set lift2
       blacken =

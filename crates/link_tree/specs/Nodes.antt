@@ -1,5 +1,6 @@
 -- What a call says of the nodes that it changed, and of lists of nodes.
-use Rattle.std.specs.Prelude.{ℕ, Bool, true, false, not, ◌||◌, Option, Some, None, List, [], ◌∷◌, reverse, nat_eq, if◌then◌else◌}
+use Rattle.std.specs.Prelude.{ℕ, Bool, true, false, not, ◌||◌, Option, Some, None, List, [], ◌∷◌, reverse, nat_eq}
+use Rattle.std.specs.Prelude.{if◌then◌else◌}
 use Rattle.std.specs.List.{find, list_all}
 use Rattle.link_tree.specs.Tree.{Cell}
 
@@ -26,16 +27,16 @@ leads good None = true
 leads good (Some n) = good n
 
 -- the first node that does not stand before the probe
-abbrev pub first_not : (ℕ → Bool) → List ℕ → Option ℕ
-first_not before ns = find (λ n. not (before n)) ns
+abbrev pub first_not_before : (ℕ → Bool) → List ℕ → Option ℕ
+first_not_before before ns = find (λ n. not (before n)) ns
 
 -- the last node that stands before the probe
 abbrev pub last_before : (ℕ → Bool) → List ℕ → Option ℕ
 last_before before ns = find before (reverse ns)
 
 -- whether the node stands before or behind each node of the list
-abbrev pub has_place : (ℕ → ℕ → Bool) → ℕ → List ℕ → Bool
-has_place precedes n ns = list_all (λ m. precedes n m || precedes m n) ns
+abbrev pub is_ordered_with : (ℕ → ℕ → Bool) → ℕ → List ℕ → Bool
+is_ordered_with precedes n ns = list_all (λ m. precedes n m || precedes m n) ns
 
 -- the ordered list with the node put in before the first that it precedes
 abbrev pub put : (ℕ → ℕ → Bool) → ℕ → List ℕ → List ℕ

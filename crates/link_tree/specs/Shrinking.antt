@@ -1,23 +1,24 @@
 -- The removal of a node, as a function of trees.
 use Rattle.std.specs.Prelude.{◌≡◌, ℕ, Bool, true, false, not, ◌==◌, Option, List, if◌then◌else◌}
-use Rattle.link_tree.specs.Tree.{Cell, Tree, leaf, fork, nodes_of, IsTree, rises}
+use Rattle.link_tree.specs.Tree.{Cell, Tree, leaf, fork, nodes_of, IsTree, is_sorted}
 use Rattle.link_tree.specs.Sides.{opposite, tree_on, joined_at}
 use Rattle.link_tree.specs.Turning.{Turned, painted, rebalanced, blackened, is_red_tree}
-use Rattle.link_tree.specs.declared.visits.Side.{Side}
-use Rattle.link_tree.specs.declared.visits.Side.TheVariants.{Left, Right}
+use Rattle.link_tree.specs.declared.cursor.Side.{Side}
+use Rattle.link_tree.specs.declared.cursor.Side.TheVariants.{Left, Right}
 
 -- what is left of a tree, and whether it has fewer black nodes on each path than before
-pub record Rest : Type 0 where
+pub record RemovedSubtree : Type 0 where
   pub tree : Tree
   pub fell : Bool
 
 -- the link leads to this ordered tree
-pub record Shrinks (precedes : ℕ → ℕ → Bool) (cells : ℕ → Cell) (link : Option ℕ) (t : Tree) : Type 0 where
+pub record IsOrderedTree (precedes : ℕ → ℕ → Bool) (cells : ℕ → Cell) (link : Option ℕ) (t : Tree) : Type 0 where
   pub tree : IsTree cells link t
-  pub ordered : rises precedes (nodes_of t) ≡ true
+  pub ordered : is_sorted precedes (nodes_of t) ≡ true
 
 -- the link leads to what is left, and the cells of no other nodes changed
-pub record Leaves (cells cells' : ℕ → Cell) (ns : List ℕ) (link : Option ℕ) (has_fallen : Bool) (rest : Rest) : Type 0
+pub record RemovesTo (cells cells' : ℕ
+    → Cell) (ns : List ℕ) (link : Option ℕ) (has_fallen : Bool) (rest : RemovedSubtree) : Type 0
   where
     pub turned : Turned cells cells' ns link rest.tree
     pub fallen : has_fallen ≡ rest.fell
@@ -27,7 +28,7 @@ abbrev pub reddened : Tree → Tree
 reddened t = painted true t
 
 -- where the tree on the far side has fallen, the heavy tree near by gives a black node away, after Filliâtre
-abbrev pub mended_at : Side → Bool → Tree → ℕ → Tree → Rest
+abbrev pub mended_at : Side → Bool → Tree → ℕ → Tree → RemovedSubtree
 mended_at side red leaf n far = record { tree = joined_at side red leaf n far; fell = false }
 mended_at side red (fork false left m right) n far =
     record { tree = rebalanced side (joined_at side false (fork true left m right) n far); fell = not red }
@@ -38,19 +39,19 @@ mended_at side red (fork true left m right) n far =
       fell = false;
     }
 
-abbrev pub mended : Side → Tree → Rest
+abbrev pub mended : Side → Tree → RemovedSubtree
 mended side leaf = record { tree = leaf; fell = false }
 mended side (fork red left n right) = mended_at side red (tree_on side left right) n
     (tree_on (opposite side) left right)
 
 -- a node over what is left on this side
-abbrev pub settled : Side → Bool → Rest → ℕ → Tree → Rest
+abbrev pub settled : Side → Bool → RemovedSubtree → ℕ → Tree → RemovedSubtree
 settled side red rest n far =
     if rest.fell then mended_at (opposite side) red far n rest.tree else record
     { tree = joined_at side red rest.tree n far; fell = false }
 
 -- a tree in the place of its parent, which had no other
-abbrev pub sunk : Bool → Tree → Rest
+abbrev pub sunk : Bool → Tree → RemovedSubtree
 sunk red t =
     if red then record { tree = t; fell = false }
     else (if is_red_tree t then record { tree = blackened t; fell = false } else record { tree = t; fell = true })
@@ -61,29 +62,29 @@ least_of other leaf = other
 least_of other (fork red left n right) = least_of n left
 
 -- the tree without its first node
-abbrev pub without_least : Tree → Rest
+abbrev pub without_least : Tree → RemovedSubtree
 without_least leaf = record { tree = leaf; fell = false }
 without_least (fork red leaf n right) = sunk red right
 without_least (fork red (fork red' left m middle) n right) = settled Left red (without_least (fork red' left m middle))
     n right
 
 -- the tree without its root, whose place the next node takes
-abbrev pub without_root : Bool → Tree → Tree → Rest
+abbrev pub without_root : Bool → Tree → Tree → RemovedSubtree
 without_root red left leaf = sunk red left
 without_root red left (fork red' middle n right) =
     settled Right red (without_least (fork red' middle n right)) (least_of n middle) left
 
-abbrev pub uprooted : Tree → Rest
+abbrev pub uprooted : Tree → RemovedSubtree
 uprooted leaf = record { tree = leaf; fell = false }
 uprooted (fork red left n right) = without_root red left right
 
 -- the tree without the node
-abbrev pub shrunk : (ℕ → ℕ → Bool) → ℕ → Tree → Rest
-shrunk precedes x leaf = record { tree = leaf; fell = false }
-shrunk precedes x (fork red left n right) =
+abbrev pub after_remove : (ℕ → ℕ → Bool) → ℕ → Tree → RemovedSubtree
+after_remove precedes x leaf = record { tree = leaf; fell = false }
+after_remove precedes x (fork red left n right) =
     if n == x then without_root red left right
-    else (if precedes x n then settled Left red (shrunk precedes x left) n right else settled Right red
-    (shrunk precedes x right) n left)
+    else (if precedes x n then settled Left red (after_remove precedes x left) n right else settled Right red
+    (after_remove precedes x right) n left)
 
 -- steps that are kept in hand while the tree falls
 abbrev pub spare : Bool → ℕ

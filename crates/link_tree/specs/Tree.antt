@@ -1,5 +1,6 @@
 -- Ordered red-black trees over nodes that are numbers, and links that lead from node to node.
-use Rattle.std.specs.Prelude.{◌≡◌, ℕ, zero, suc, ◌+◌, ◌*◌, ◌≤◌, max, Bool, true, false, not, ◌&&◌, Option, Some, None, List, [], ◌∷◌, ◌++◌, length, IsTrue, ◌==◌, if◌then◌else◌, ◌↔◌}
+use Rattle.std.specs.Prelude.{◌≡◌, ℕ, zero, suc, ◌+◌, ◌*◌, ◌≤◌, max, Bool, true, false, not, ◌&&◌, Option, Some, None}
+use Rattle.std.specs.Prelude.{List, [], ◌∷◌, ◌++◌, length, IsTrue, ◌==◌, if◌then◌else◌, ◌↔◌}
 use Rattle.std.specs.List.{list_all}
 use Rattle.std.specs.Int.Digits.{digits_of}
 
@@ -25,20 +26,21 @@ nodes_of leaf = []
 nodes_of (fork red left n right) = nodes_of left ++ n ∷ nodes_of right
 
 -- the cell of each node of the tree says its colour and its two trees
-abbrev pub Holds : (ℕ → Cell) → Tree → Type 0
-Holds cells leaf = Unit {0}
-Holds cells (fork red left n right) =
-    (cells n ≡ record { left = root_of left; right = root_of right; red = red }) × Holds cells left × Holds cells right
+abbrev pub AreCellsOf : (ℕ → Cell) → Tree → Type 0
+AreCellsOf cells leaf = Unit {0}
+AreCellsOf cells (fork red left n right) =
+    (cells n ≡ record { left = root_of left; right = root_of right; red = red }) × AreCellsOf cells left
+    × AreCellsOf cells right
 
 -- the link leads to this tree
 pub record IsTree (cells : ℕ → Cell) (link : Option ℕ) (t : Tree) : Type 0 where
   pub root : link ≡ root_of t
-  pub holds : Holds cells t
+  pub holds : AreCellsOf cells t
 
 -- each node precedes all that stand behind it, so that none stands twice
-abbrev pub rises : (ℕ → ℕ → Bool) → List ℕ → Bool
-rises precedes [] = true
-rises precedes (n ∷ ns) = list_all (precedes n) ns && rises precedes ns
+abbrev pub is_sorted : (ℕ → ℕ → Bool) → List ℕ → Bool
+is_sorted precedes [] = true
+is_sorted precedes (n ∷ ns) = list_all (precedes n) ns && is_sorted precedes ns
 
 abbrev pub has_black_root : Tree → Bool
 has_black_root leaf = true
@@ -67,7 +69,7 @@ pub record IsRedBlack (t : Tree) : Type 0 where
 -- the link leads to this tree, which is ordered and red-black
 pub record IsSearchTree (precedes : ℕ → ℕ → Bool) (cells : ℕ → Cell) (link : Option ℕ) (t : Tree) : Type 0 where
   pub tree : IsTree cells link t
-  pub ordered : IsTrue (rises precedes (nodes_of t))
+  pub ordered : IsTrue (is_sorted precedes (nodes_of t))
   pub red_black : IsRedBlack t
 
 -- the nodes on the longest path to a null link

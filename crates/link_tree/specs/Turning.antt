@@ -3,7 +3,7 @@ use Rattle.std.specs.Prelude.{◌≡◌, ℕ, Bool, true, false, not, Option, Li
 use Rattle.link_tree.specs.Tree.{Cell, Tree, leaf, fork, IsTree, has_black_root}
 use Rattle.link_tree.specs.Nodes.{is_in}
 use Rattle.link_tree.specs.Sides.{opposite, tree_on, joined_at}
-use Rattle.link_tree.specs.declared.visits.Side.{Side}
+use Rattle.link_tree.specs.declared.cursor.Side.{Side}
 
 -- the cells of no other nodes than these changed, and the link now leads to this tree
 pub record Turned (cells cells' : ℕ → Cell) (ns : List ℕ) (link : Option ℕ) (t : Tree) : Type 0 where
@@ -28,9 +28,9 @@ lifted_over side red (fork red' left m right) n far =
     joined_at side red' (tree_on side left right) m (joined_at side red (tree_on (opposite side) left right) n far)
 
 -- the child on this side turned up over its parent
-abbrev pub lifted : Side → Tree → Tree
-lifted side leaf = leaf
-lifted side (fork red left n right) = lifted_over side red (tree_on side left right) n
+abbrev pub rotated : Side → Tree → Tree
+rotated side leaf = leaf
+rotated side (fork red left n right) = lifted_over side red (tree_on side left right) n
     (tree_on (opposite side) left right)
 
 abbrev pub balanced_inner : Side → Tree → ℕ → Tree → ℕ → Tree → Tree

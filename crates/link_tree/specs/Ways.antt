@@ -2,8 +2,8 @@
 use Rattle.std.specs.Prelude.{ℕ, Bool, not, ◌&&◌, ◌==◌, Option, Some, None, if◌then◌else◌}
 use Rattle.std.specs.Option.{option_or}
 use Rattle.link_tree.specs.Tree.{Tree, leaf, fork, has_black_root}
-use Rattle.link_tree.specs.declared.ways.Passed.{Passed}
-use Rattle.link_tree.specs.declared.ways.Followed.{Followed}
+use Rattle.link_tree.specs.declared.change_points.Passed.{Passed}
+use Rattle.link_tree.specs.declared.change_points.Followed.{Followed}
 
 -- what is found below a node, or else the node, where it is black and the way goes on to no red one
 abbrev pub entry_over : Bool → ℕ → Tree → Option ℕ → Option ℕ
@@ -12,10 +12,11 @@ entry_over red n next below = option_or below (if not red && has_black_root next
 -- The lowest black node on the path of a search that no red one follows there. Where a red node is hung at the end of
 -- the path, the tree below this one is balanced anew, with this one still on top and black: so all above it is as it
 -- was.
-abbrev pub entry_of : (ℕ → Bool) → Tree → Option ℕ
-entry_of before leaf = None
-entry_of before (fork red left n right) =
-    if before n then entry_over red n right (entry_of before right) else entry_over red n left (entry_of before left)
+abbrev pub insert_point_of : (ℕ → Bool) → Tree → Option ℕ
+insert_point_of before leaf = None
+insert_point_of before (fork red left n right) =
+    if before n then entry_over red n right (insert_point_of before right) else entry_over red n left
+    (insert_point_of before left)
 
 -- one node further down, on the way in
 abbrev pub passed : Passed → ℕ → Bool → Bool → Passed
@@ -32,12 +33,12 @@ exit_over n next below = option_or below (if has_black_root next then None else 
 -- The lowest node above another that a red one follows on the way there. Where the other is taken out, the tree under
 -- the red one has as many black nodes on each path as before, whatever its root is then: so all above this node is as
 -- it was.
-abbrev pub exit_of : (ℕ → ℕ → Bool) → ℕ → Tree → Option ℕ
-exit_of precedes x leaf = None
-exit_of precedes x (fork red left n right) =
+abbrev pub remove_point_of : (ℕ → ℕ → Bool) → ℕ → Tree → Option ℕ
+remove_point_of precedes x leaf = None
+remove_point_of precedes x (fork red left n right) =
     if n == x then None
-    else (if precedes x n then exit_over n left (exit_of precedes x left) else exit_over n right
-    (exit_of precedes x right))
+    else (if precedes x n then exit_over n left (remove_point_of precedes x left) else exit_over n right
+    (remove_point_of precedes x right))
 
 -- one node further down, on the way out
 abbrev pub followed : Followed → ℕ → Bool → Bool → Followed

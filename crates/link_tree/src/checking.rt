@@ -1,20 +1,21 @@
 //! Whether links are an ordered red-black tree.
 
-ghost use Rattle.std.specs.Prelude.{◌≡◌, ◌↔◌, ℕ, ◌+◌, ◌*◌, ◌<◌, ◌≤◌, ◌^◌, Bool, true, false, Option, Some, None, List, length, IfSome, is_some, ◌⊎◌, if◌then◌else◌};
+ghost use Rattle.std.specs.Prelude.{◌≡◌, ◌↔◌, ℕ, ◌+◌, ◌*◌, ◌<◌, ◌≤◌, ◌^◌, Bool, true, false, Option, Some, None, List};
+ghost use Rattle.std.specs.Prelude.{length, IfSome, is_some, ◌⊎◌, if◌then◌else◌};
 ghost use Rattle.link_tree.specs.Tree.{Cell, Tree, IsSearchTree, nodes_of, height, bits};
 ghost use Rattle.link_tree.specs.Nodes.{leads, is_in};
 ghost use Rattle.link_tree.specs.Between.{is_above, is_below, count_between};
-ghost use Rattle.link_tree.specs.Checking.{IsClosed, IsSound};
+ghost use Rattle.link_tree.specs.Checking.{IsLinkClosed, IsSound};
 
+use crate::cursor::NodeCursor;
 use crate::nodes::Nodes;
-use crate::visits::Visits;
 
 /// A red-black tree of at most 2 to the 40th nodes is no higher.
-pub const MOST_LEVELS: u64 = 82;
+pub const MAX_HEIGHT: u64 = 82;
 
 /// How many nodes the tree has, where there is one, and the steps that the check took.
 #[derive(Clone, Copy, Debug, PartialEq, Eq)]
-pub struct Checked {
+pub struct CheckedTree {
     /// The number of nodes; none where the links are no ordered red-black tree.
     pub nodes: Option<u64>,
     /// How often the check went to a node.
@@ -28,17 +29,17 @@ struct Part {
     blacks: u64,
 }
 
-fn stands_above<N: Nodes>(visits: &mut Visits<N>, low: Option<u64>, node: u64) -> bool
-    requires low { leads (N.is_node visits.old.nodes.now) low ≡ true }
+fn stands_above<N: Nodes>(visits: &mut NodeCursor<N>, low: Option<u64>, node: u64) -> bool
+    requires min_value { leads (N.is_node visits.old.nodes.now) low ≡ true }
     requires node { N.is_node visits.old.nodes.now node ≡ true }
-    requires room { visits.old.steps + 2 < 2 ^ 64 }
+    requires no_overflow { visits.old.steps + 2 < 2 ^ 64 }
     ensures value { result ≡ is_above (N.order visits.old.nodes.now) low node }
     ensures nodes { visits.new.nodes.now ≡ visits.old.nodes.now }
-    ensures at { low ≡ None → visits.new.at ≡ visits.old.at }
-    ensures counted { visits.old.steps ≤ visits.new.steps }
-    ensures most { visits.new.steps ≤ visits.old.steps + 2 }
+    ensures position { low ≡ None → visits.new.at ≡ visits.old.at }
+    ensures steps_lower { visits.old.steps ≤ visits.new.steps }
+    ensures steps_upper { visits.new.steps ≤ visits.old.steps + 2 }
     // No node precedes itself, so two are gone to.
-    ensures goes { result ≡ true → is_some low ≡ true → visits.old.steps < visits.new.steps }
+    ensures progress_on_step { result ≡ true → is_some low ≡ true → visits.old.steps < visits.new.steps }
 {
     match low {
         Some(low) => visits.precedes(low, node),
@@ -46,16 +47,16 @@ fn stands_above<N: Nodes>(visits: &mut Visits<N>, low: Option<u64>, node: u64) -
     }
 }
 
-fn stands_below<N: Nodes>(visits: &mut Visits<N>, node: u64, high: Option<u64>) -> bool
-    requires high { leads (N.is_node visits.old.nodes.now) high ≡ true }
+fn stands_below<N: Nodes>(visits: &mut NodeCursor<N>, node: u64, high: Option<u64>) -> bool
+    requires max_value { leads (N.is_node visits.old.nodes.now) high ≡ true }
     requires node { N.is_node visits.old.nodes.now node ≡ true }
-    requires room { visits.old.steps + 2 < 2 ^ 64 }
+    requires no_overflow { visits.old.steps + 2 < 2 ^ 64 }
     ensures value { result ≡ is_below (N.order visits.old.nodes.now) node high }
     ensures nodes { visits.new.nodes.now ≡ visits.old.nodes.now }
-    ensures at { high ≡ None → visits.new.at ≡ visits.old.at }
-    ensures counted { visits.old.steps ≤ visits.new.steps }
-    ensures most { visits.new.steps ≤ visits.old.steps + 2 }
-    ensures goes { result ≡ true → is_some high ≡ true → visits.old.steps < visits.new.steps }
+    ensures position { high ≡ None → visits.new.at ≡ visits.old.at }
+    ensures steps_lower { visits.old.steps ≤ visits.new.steps }
+    ensures steps_upper { visits.new.steps ≤ visits.old.steps + 2 }
+    ensures progress_on_step { result ≡ true → is_some high ≡ true → visits.old.steps < visits.new.steps }
 {
     match high {
         Some(high) => visits.precedes(node, high),
@@ -67,7 +68,7 @@ fn stands_below<N: Nodes>(visits: &mut Visits<N>, node: u64, high: Option<u64>) 
 ///
 /// No node is met twice between the same bounds, so this ends on a cycle, and at a shared node.
 fn check_below<N: Nodes>(
-    visits: &mut Visits<N>,
+    visits: &mut NodeCursor<N>,
     link: Option<u64>,
     low: Option<u64>,
     high: Option<u64>,
@@ -75,9 +76,9 @@ fn check_below<N: Nodes>(
     levels: u64,
 ) -> Option<Part>
     requires link { leads (N.is_node visits.old.nodes.now) link ≡ true }
-    requires low { leads (N.is_node visits.old.nodes.now) low ≡ true }
-    requires high { leads (N.is_node visits.old.nodes.now) high ≡ true }
-    requires room { (ns : List ℕ) × IsClosed (N.cells visits.old.nodes.now) ns
+    requires min_value { leads (N.is_node visits.old.nodes.now) low ≡ true }
+    requires max_value { leads (N.is_node visits.old.nodes.now) high ≡ true }
+    requires no_overflow { (ns : List ℕ) × IsLinkClosed (N.cells visits.old.nodes.now) ns
         × (leads (λ n. is_in n ns) link ≡ true)
         × (visits.old.steps
         + 5 * count_between (N.order visits.old.nodes.now) low high ns + 5 < 2 ^ 64) }
@@ -90,7 +91,7 @@ fn check_below<N: Nodes>(
         → IsSound (N.order visits.old.nodes.now)
         (N.cells visits.old.nodes.now) link low high red_above t blacks
         → height t ≤ levels → is_some result ≡ true }
-    ensures steps { (ns : List ℕ) → IsClosed (N.cells visits.old.nodes.now) ns
+    ensures steps { (ns : List ℕ) → IsLinkClosed (N.cells visits.old.nodes.now) ns
         → leads (λ n. is_in n ns) link ≡ true
         → visits.new.steps ≤ visits.old.steps
         + 5 * count_between (N.order visits.old.nodes.now) low high ns
@@ -148,27 +149,27 @@ fn check_below<N: Nodes>(
 ///
 /// The links may be any links between nodes: with cycles, with nodes that are shared.
 /// A step is going to a node, with all that is read there before the check goes to another.
-pub fn check<N: Nodes>(nodes: &N, root: Option<u64>) -> Checked
+pub fn check<N: Nodes>(nodes: &N, root: Option<u64>) -> CheckedTree
     requires { leads (N.is_node nodes.now) root ≡ true }
     // It counts n nodes exactly where the links are an ordered red-black tree of n nodes.
-    ensures counts { (n : ℕ) → (result.nodes ≡ Some n)
+    ensures count { (n : ℕ) → (result.nodes ≡ Some n)
         ↔ ((t : Tree) × IsSearchTree (N.order nodes.now) (N.cells nodes.now) root t
         × (length (nodes_of t) ≡ n)) }
     // `ns` may be any list of nodes that has the root, and with each node those that its links lead to.
-    ensures steps { (ns : List ℕ) → IsClosed (N.cells nodes.now) ns
+    ensures steps { (ns : List ℕ) → IsLinkClosed (N.cells nodes.now) ns
         → leads (λ n. is_in n ns) root ≡ true
         → result.steps ≤ 5 * length ns + 5 }
     // A check that says yes went to each node at least once.
     ensures steps_lower { IfSome result.nodes (λ n. n ≤ result.steps) }
 {
-    let mut visits = Visits::new(nodes);
-    let Some(part) = check_below(&mut visits, root, None, None, true, MOST_LEVELS) else {
-        return Checked {
+    let mut visits = NodeCursor::new(nodes);
+    let Some(part) = check_below(&mut visits, root, None, None, true, MAX_HEIGHT) else {
+        return CheckedTree {
             nodes: None,
             steps: visits.steps(),
         };
     };
-    Checked {
+    CheckedTree {
         nodes: Some(part.nodes),
         steps: visits.steps(),
     }

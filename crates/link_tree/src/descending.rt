@@ -1,26 +1,27 @@
 //! The one way of a search down a tree, with what it keeps of the nodes that it passes.
 
-ghost use Rattle.std.specs.Prelude.{◌≡◌, ℕ, ◌+◌, ◌*◌, ◌<◌, ◌≤◌, ◌^◌, Bool, true, false, Option, Some, None, List, length};
+ghost use Rattle.std.specs.Prelude.{◌≡◌, ℕ, ◌+◌, ◌*◌, ◌<◌, ◌≤◌, ◌^◌, Bool, true, false, Option, Some, None, List};
+ghost use Rattle.std.specs.Prelude.{length};
 ghost use Rattle.link_tree.specs.Tree.{Tree, IsSearchTree, nodes_of, bits};
 ghost use Rattle.link_tree.specs.Nodes.{leads};
 ghost use Rattle.link_tree.specs.Searching.{path_length, noted};
 
+use crate::cursor::NodeCursor;
 use crate::nodes::Nodes;
-use crate::visits::Visits;
 
 /// What a search keeps of the nodes that it passes.
-pub trait Notes: Copy {
+pub trait PathFold: Copy {
     // What is kept after one more node, of its number, whether it is red, and whether it stands before the probe.
     ghost passed: { Self → ℕ → Bool → Bool → Self };
 
     /// Passes the node that the search stands at.
-    fn pass<N: Nodes>(self, visits: &mut Visits<N>, node: u64, before: bool) -> Self
+    fn fold_node<N: Nodes>(self, visits: &mut NodeCursor<N>, node: u64, before: bool) -> Self
         requires node { N.is_node visits.old.nodes.now node ≡ true }
-        requires at { visits.old.at ≡ Some node }
-        requires room { visits.old.steps + 1 < 2 ^ 64 }
-        ensures noted { result ≡ passed self node (N.cells visits.old.nodes.now node).red before }
+        requires position { visits.old.at ≡ Some node }
+        requires no_overflow { visits.old.steps + 1 < 2 ^ 64 }
+        ensures mark { result ≡ passed self node (N.cells visits.old.nodes.now node).red before }
         ensures nodes { visits.new.nodes.now ≡ visits.old.nodes.now }
-        ensures at { visits.new.at ≡ Some node }
+        ensures position { visits.new.at ≡ Some node }
         ensures steps { visits.new.steps ≡ visits.old.steps };
 }
 
@@ -33,7 +34,7 @@ pub struct Descent<K> {
 
 /// Goes down the path of a search for the probe, to its end: on to the right of a node that stands before the probe,
 /// and to the left of any other.
-pub fn descend<N: Nodes, K: Notes>(
+pub fn descend<N: Nodes, K: PathFold>(
     nodes: &N,
     root: Option<u64>,
     probe: &N::Probe,
@@ -41,19 +42,19 @@ pub fn descend<N: Nodes, K: Notes>(
 ) -> Descent<K>
     requires root { leads (N.is_node nodes.now) root ≡ true }
     requires tree { (t : Tree) × IsSearchTree (N.order nodes.now) (N.cells nodes.now) root t }
-    ensures noted { (t : Tree) → IsSearchTree (N.order nodes.now) (N.cells nodes.now) root t
+    ensures mark { (t : Tree) → IsSearchTree (N.order nodes.now) (N.cells nodes.now) root t
         → result.notes ≡ noted K.passed (N.before nodes.now probe.now) start t }
     ensures steps { (t : Tree) → IsSearchTree (N.order nodes.now) (N.cells nodes.now) root t
         → result.steps ≤ 2 * bits (length (nodes_of t) + 1) }
-    ensures exact { (t : Tree) → IsSearchTree (N.order nodes.now) (N.cells nodes.now) root t
+    ensures steps_exact { (t : Tree) → IsSearchTree (N.order nodes.now) (N.cells nodes.now) root t
         → result.steps ≡ path_length (N.before nodes.now probe.now) t }
 {
-    let mut visits = Visits::new(nodes);
+    let mut visits = NodeCursor::new(nodes);
     let mut link = root;
     let mut notes = start;
     while let Some(node) = link {
         let before = visits.before_probe(node, probe);
-        notes = notes.pass(&mut visits, node, before);
+        notes = notes.fold_node(&mut visits, node, before);
         if before {
             link = visits.right(node);
         } else {

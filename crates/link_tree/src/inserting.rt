@@ -1,18 +1,19 @@
 //! Putting a node into a tree.
 
-ghost use Rattle.std.specs.Prelude.{◌≡◌, ◌≢◌, ℕ, ◌+◌, ◌*◌, ◌<◌, ◌≤◌, ◌^◌, Bool, true, false, Option, Some, None, List, [], ◌∷◌, length, IfSome, IsTrue, not};
-ghost use Rattle.link_tree.specs.Tree.{Cell, Tree, leaf, fork, IsTree, IsSearchTree, nodes_of, rises, height, bits};
-ghost use Rattle.link_tree.specs.Nodes.{leads, is_in, has_place, put};
+ghost use Rattle.std.specs.Prelude.{◌≡◌, ◌≢◌, ℕ, ◌+◌, ◌*◌, ◌<◌, ◌≤◌, ◌^◌, Bool, true, false, Option, Some, None, List};
+ghost use Rattle.std.specs.Prelude.{[], ◌∷◌, length, IfSome, IsTrue, not};
+ghost use Rattle.link_tree.specs.Tree.{Cell, Tree, leaf, fork, IsTree, IsSearchTree, nodes_of, is_sorted, height, bits};
+ghost use Rattle.link_tree.specs.Nodes.{leads, is_in, is_ordered_with, put};
 ghost use Rattle.link_tree.specs.Turning.{Turned};
-ghost use Rattle.link_tree.specs.Growing.{Grows, grown};
-ghost use Rattle.link_tree.specs.Ways.{entry_of};
-ghost use Rattle.link_tree.specs.Frame.{SameBesideCells};
+ghost use Rattle.link_tree.specs.Growing.{CanInsert, after_insert};
+ghost use Rattle.link_tree.specs.Ways.{insert_point_of};
+ghost use Rattle.link_tree.specs.Frame.{SameExceptCells};
 
-use crate::besides::Beside;
+use crate::change_points::find_insert_point;
+use crate::cursor::{NodeCursorMut, Side};
 use crate::nodes::NodesMut;
-use crate::turning::{balance, paint};
-use crate::visits::{Side, VisitsMut};
-use crate::ways::find_way_in;
+use crate::rotation::{fix_double_red, paint};
+use crate::search_adaptors::SearchForNode;
 
 /// The root of a tree that was changed, and the steps that the change took.
 #[derive(Clone, Copy, Debug, PartialEq, Eq)]
@@ -24,16 +25,16 @@ pub struct Changed {
 }
 
 /// Makes the node a red one with no node below it.
-fn lay<N: NodesMut>(visits: &mut VisitsMut<N>, node: u64)
+fn lay<N: NodesMut>(visits: &mut NodeCursorMut<N>, node: u64)
     requires node { N.is_node visits.old.nodes.now node ≡ true }
-    requires room { visits.old.steps + 3 < 2 ^ 64 }
-    ensures laid { Turned (N.cells visits.old.nodes.now) (N.cells visits.new.nodes.now) (node ∷ [])
+    requires no_overflow { visits.old.steps + 3 < 2 ^ 64 }
+    ensures layout { Turned (N.cells visits.old.nodes.now) (N.cells visits.new.nodes.now) (node ∷ [])
         (Some node) (fork true leaf node leaf) }
-    ensures most { visits.new.steps ≤ visits.old.steps + 3 }
-    ensures counted { visits.old.steps ≤ visits.new.steps }
-    ensures went { visits.old.at ≡ None → visits.old.steps < visits.new.steps }
-    ensures reference { visits.new.nodes.ghost_name ≡ visits.old.nodes.ghost_name }
-    ensures same { SameBesideCells N.Nodes visits.old.nodes.now visits.new.nodes.now }
+    ensures steps_upper { visits.new.steps ≤ visits.old.steps + 3 }
+    ensures steps_lower { visits.old.steps ≤ visits.new.steps }
+    ensures progress { visits.old.at ≡ None → visits.old.steps < visits.new.steps }
+    ensures same_borrow { visits.new.nodes.ghost_name ≡ visits.old.nodes.ghost_name }
+    ensures keeper { SameExceptCells N.Nodes visits.old.nodes.now visits.new.nodes.now }
 {
     visits.set_child(node, Side::Left, None);
     visits.set_child(node, Side::Right, None);
@@ -41,24 +42,24 @@ fn lay<N: NodesMut>(visits: &mut VisitsMut<N>, node: u64)
 }
 
 /// Puts the node into the tree that the link leads to, and answers the root of what it has become.
-fn grow<N: NodesMut>(visits: &mut VisitsMut<N>, link: Option<u64>, node: u64) -> u64
+fn grow<N: NodesMut>(visits: &mut NodeCursorMut<N>, link: Option<u64>, node: u64) -> u64
     requires link { leads (N.is_node visits.old.nodes.now) link ≡ true }
     requires node { N.is_node visits.old.nodes.now node ≡ true }
     requires tree { (t : Tree)
-        × Grows (N.order visits.old.nodes.now) (N.cells visits.old.nodes.now) link node t
+        × CanInsert (N.order visits.old.nodes.now) (N.cells visits.old.nodes.now) link node t
         × (visits.old.steps + 13 * height t + 16 < 2 ^ 64) }
-    ensures grown { (t : Tree)
-        → Grows (N.order visits.old.nodes.now) (N.cells visits.old.nodes.now) link node t
+    ensures growth { (t : Tree)
+        → CanInsert (N.order visits.old.nodes.now) (N.cells visits.old.nodes.now) link node t
         → Turned (N.cells visits.old.nodes.now) (N.cells visits.new.nodes.now) (node ∷ nodes_of t)
-        (Some result) (grown (N.order visits.old.nodes.now) node t) }
+        (Some result) (after_insert (N.order visits.old.nodes.now) node t) }
     ensures steps { (t : Tree)
-        → Grows (N.order visits.old.nodes.now) (N.cells visits.old.nodes.now) link node t
+        → CanInsert (N.order visits.old.nodes.now) (N.cells visits.old.nodes.now) link node t
         → visits.new.steps ≤ visits.old.steps + 13 * height t + 3 }
     ensures root { N.is_node visits.old.nodes.now result ≡ true }
-    ensures counted { visits.old.steps ≤ visits.new.steps }
-    ensures went { visits.old.at ≡ None → visits.old.steps < visits.new.steps }
-    ensures reference { visits.new.nodes.ghost_name ≡ visits.old.nodes.ghost_name }
-    ensures same { SameBesideCells N.Nodes visits.old.nodes.now visits.new.nodes.now }
+    ensures steps_lower { visits.old.steps ≤ visits.new.steps }
+    ensures progress { visits.old.at ≡ None → visits.old.steps < visits.new.steps }
+    ensures same_borrow { visits.new.nodes.ghost_name ≡ visits.old.nodes.ghost_name }
+    ensures keeper { SameExceptCells N.Nodes visits.old.nodes.now visits.new.nodes.now }
 {
     let Some(at) = link else {
         lay(visits, node);
@@ -67,7 +68,7 @@ fn grow<N: NodesMut>(visits: &mut VisitsMut<N>, link: Option<u64>, node: u64) ->
     let way = visits.toward(node, at);
     let child = grow(visits, way.link, node);
     visits.set_child(at, way.side, Some(child));
-    balance(visits, at, way.side)
+    fix_double_red(visits, at, way.side)
 }
 
 /// Puts the node into the tree, from where a search for its place has found that the tree changes.
@@ -84,14 +85,14 @@ pub fn insert_at<N: NodesMut>(
     requires root { leads (N.is_node nodes.old) root ≡ true }
     requires node { N.is_node nodes.old node ≡ true }
     // The node must precede or follow each node of the tree, and the insertion begin at the root or where
-    // `find_way_in` says.
+    // `find_insert_point` says.
     requires tree { (t : Tree) × IsSearchTree (N.order nodes.old) (N.cells nodes.old) root t
-        × IsTrue (has_place (N.order nodes.old) node (nodes_of t))
-        × IfSome entry (λ n. entry_of (λ m. not (N.order nodes.old node m)) t ≡ Some n) }
+        × IsTrue (is_ordered_with (N.order nodes.old) node (nodes_of t))
+        × IfSome entry (λ n. insert_point_of (λ m. not (N.order nodes.old node m)) t ≡ Some n) }
     // `put` puts the node before the first one that it precedes.
     ensures tree { (t : Tree) → IsSearchTree (N.order nodes.old) (N.cells nodes.old) root t
-        → (grown : Tree) × IsSearchTree (N.order nodes.new) (N.cells nodes.new) result.root grown
-        × (nodes_of grown ≡ put (N.order nodes.old) node (nodes_of t)) }
+        → (after_insert : Tree) × IsSearchTree (N.order nodes.new) (N.cells nodes.new) result.root after_insert
+        × (nodes_of after_insert ≡ put (N.order nodes.old) node (nodes_of t)) }
     // No other node's links or colour changed.
     ensures frame { (t : Tree) → IsSearchTree (N.order nodes.old) (N.cells nodes.old) root t
         → (m : ℕ) → m ≢ node → is_in m (nodes_of t) ≡ false
@@ -99,13 +100,13 @@ pub fn insert_at<N: NodesMut>(
     // `bits` counts binary digits, here of the number of nodes before the call and one.
     ensures steps { (t : Tree) → IsSearchTree (N.order nodes.old) (N.cells nodes.old) root t
         → result.steps ≤ 28 * bits (length (nodes_of t) + 1) + 32 }
-    ensures counted { 0 < result.steps }
+    ensures steps_lower { 0 < result.steps }
     ensures root { leads (N.is_node nodes.new) result.root ≡ true }
     // Nothing but links and colours changed: the nodes, their order, the reference they are reached by, and what else
     // there is stay.
-    ensures same { SameBesideCells N.Nodes nodes.old nodes.new }
+    ensures keeper { SameExceptCells N.Nodes nodes.old nodes.new }
 {
-    let mut visits = VisitsMut::new(nodes);
+    let mut visits = NodeCursorMut::new(nodes);
     if let Some(start) = entry {
         grow(&mut visits, Some(start), node);
         return Changed {
@@ -132,11 +133,11 @@ pub fn insert<N: NodesMut>(nodes: &mut N, root: Option<u64>, node: u64) -> Chang
     requires node { N.is_node nodes.old node ≡ true }
     // The node must precede or follow each node of the tree.
     requires tree { (t : Tree) × IsSearchTree (N.order nodes.old) (N.cells nodes.old) root t
-        × IsTrue (has_place (N.order nodes.old) node (nodes_of t)) }
+        × IsTrue (is_ordered_with (N.order nodes.old) node (nodes_of t)) }
     // `put` puts the node before the first one that it precedes.
     ensures tree { (t : Tree) → IsSearchTree (N.order nodes.old) (N.cells nodes.old) root t
-        → (grown : Tree) × IsSearchTree (N.order nodes.new) (N.cells nodes.new) result.root grown
-        × (nodes_of grown ≡ put (N.order nodes.old) node (nodes_of t)) }
+        → (after_insert : Tree) × IsSearchTree (N.order nodes.new) (N.cells nodes.new) result.root after_insert
+        × (nodes_of after_insert ≡ put (N.order nodes.old) node (nodes_of t)) }
     // No other node's links or colour changed.
     ensures frame { (t : Tree) → IsSearchTree (N.order nodes.old) (N.cells nodes.old) root t
         → (m : ℕ) → m ≢ node → is_in m (nodes_of t) ≡ false
@@ -144,18 +145,18 @@ pub fn insert<N: NodesMut>(nodes: &mut N, root: Option<u64>, node: u64) -> Chang
     // `bits` counts binary digits, here of the number of nodes before the call and one.
     ensures steps { (t : Tree) → IsSearchTree (N.order nodes.old) (N.cells nodes.old) root t
         → result.steps ≤ 32 * bits (length (nodes_of t) + 1) + 32 }
-    ensures counted { 0 < result.steps }
+    ensures steps_lower { 0 < result.steps }
     ensures root { leads (N.is_node nodes.new) result.root ≡ true }
     // Nothing but links and colours changed: the nodes, their order, the reference they are reached by, and what else
     // there is stay.
-    ensures same { SameBesideCells N.Nodes nodes.old nodes.new }
+    ensures keeper { SameExceptCells N.Nodes nodes.old nodes.new }
 {
     // A tree with nothing in it needs no search, as that of the gaps has where there was one.
     if root.is_none() {
         return insert_at(nodes, root, None, node);
     }
-    let way = find_way_in(
-        &Beside {
+    let way = find_insert_point(
+        &SearchForNode {
             nodes: &*nodes,
             node,
         },

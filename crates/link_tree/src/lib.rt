@@ -7,24 +7,24 @@
 //! after Okasaki, `remove` after Filliâtre and Letouzey.
 #![tactic(auto)]
 
-mod besides;
+mod change_points;
 mod checking;
+mod cursor;
 mod descending;
 mod inserting;
 mod nodes;
 mod removing;
+mod rotation;
+mod search_adaptors;
 mod searching;
 mod theorems;
-mod turning;
-mod visits;
 mod walking;
-mod ways;
 
-pub use checking::{Checked, check};
+pub use change_points::{InsertPoint, RemovePoint, find_insert_point, find_remove_point};
+pub use checking::{CheckedTree, check};
 pub use inserting::{Changed, insert, insert_at};
 pub use nodes::{Nodes, NodesMut};
 pub use removing::{remove, remove_at};
-pub use searching::{Found, find_first_not_before, find_last, find_last_before};
+pub use searching::{SearchResult, find_first_not_before, find_last, find_last_before};
 pub use theorems::{law_of_height, law_of_reading};
 pub use walking::walk;
-pub use ways::{WayIn, WayOut, find_way_in, find_way_out};

@@ -90,25 +90,25 @@ pub trait Nodes {
 /// Each call changes one field of one node and nothing else: which numbers are nodes, their order, what stands before
 /// a probe, the reference that the nodes are reached by, and what the keeper has besides all stay as they were.
 pub trait NodesMut: Nodes {
-    ghost use Rattle.link_tree.specs.Frame.{SameBesideCells};
+    ghost use Rattle.link_tree.specs.Frame.{SameExceptCells};
 
     /// Sets the link to the left, to a node or to nowhere.
     fn set_left(&mut self, node: u64, to: Option<u64>)
         requires node { Self.is_node self.old node ≡ true }
         requires target { leads (Self.is_node self.old) to ≡ true }
         ensures cells { Self.cells self.new ≡ with_left (Self.cells self.old) node to }
-        ensures same { SameBesideCells Self.Nodes self.old self.new };
+        ensures keeper { SameExceptCells Self.Nodes self.old self.new };
 
     /// Sets the link to the right, to a node or to nowhere.
     fn set_right(&mut self, node: u64, to: Option<u64>)
         requires node { Self.is_node self.old node ≡ true }
         requires target { leads (Self.is_node self.old) to ≡ true }
         ensures cells { Self.cells self.new ≡ with_right (Self.cells self.old) node to }
-        ensures same { SameBesideCells Self.Nodes self.old self.new };
+        ensures keeper { SameExceptCells Self.Nodes self.old self.new };
 
     /// Makes the node red, or black.
     fn set_red(&mut self, node: u64, red: bool)
         requires { Self.is_node self.old node ≡ true }
         ensures cells { Self.cells self.new ≡ with_red (Self.cells self.old) node red }
-        ensures same { SameBesideCells Self.Nodes self.old self.new };
+        ensures keeper { SameExceptCells Self.Nodes self.old self.new };
 }

@@ -1,18 +1,20 @@
 //! Taking a node out of a tree.
 
-ghost use Rattle.std.specs.Prelude.{◌≡◌, ◌≢◌, ℕ, ◌+◌, ◌*◌, ◌<◌, ◌≤◌, ◌^◌, Bool, true, false, Option, Some, None, List, length, IfSome, IsTrue};
-ghost use Rattle.link_tree.specs.Tree.{Cell, Tree, IsTree, IsSearchTree, nodes_of, rises, height, bits};
+ghost use Rattle.std.specs.Prelude.{◌≡◌, ◌≢◌, ℕ, ◌+◌, ◌*◌, ◌<◌, ◌≤◌, ◌^◌, Bool, true, false, Option, Some, None, List};
+ghost use Rattle.std.specs.Prelude.{length, IfSome, IsTrue};
+ghost use Rattle.link_tree.specs.Tree.{Cell, Tree, IsTree, IsSearchTree, nodes_of, is_sorted, height, bits};
 ghost use Rattle.link_tree.specs.Nodes.{leads, is_in, without};
 ghost use Rattle.link_tree.specs.Sides.{opposite, child_of, joined_at};
 ghost use Rattle.link_tree.specs.Turning.{Turned};
-ghost use Rattle.link_tree.specs.Shrinking.{Rest, Shrinks, Leaves, mended, settled, sunk, least_of, without_least, uprooted, shrunk, spare};
-ghost use Rattle.link_tree.specs.Ways.{exit_of};
-ghost use Rattle.link_tree.specs.Frame.{SameBesideCells};
+ghost use Rattle.link_tree.specs.Shrinking.{RemovedSubtree, IsOrderedTree, RemovesTo, mended, settled, sunk, least_of};
+ghost use Rattle.link_tree.specs.Shrinking.{without_least, uprooted, after_remove, spare};
+ghost use Rattle.link_tree.specs.Ways.{remove_point_of};
+ghost use Rattle.link_tree.specs.Frame.{SameExceptCells};
 
+use crate::cursor::{NodeCursorMut, Side};
 use crate::inserting::Changed;
 use crate::nodes::NodesMut;
-use crate::turning::{balance, is_red, lift, paint};
-use crate::visits::{Side, VisitsMut};
+use crate::rotation::{fix_double_red, is_red, paint, rotate};
 
 /// What is left of a tree, and whether each path to its end has one black node fewer than before.
 #[derive(Clone, Copy)]
@@ -29,27 +31,32 @@ struct Least {
 }
 
 /// `mend` under a heavy child that is red: its inner child gives the black node away.
-fn mend_red<N: NodesMut>(visits: &mut VisitsMut<N>, top: u64, heavy: u64, side: Side) -> Leftover
+fn mend_red<N: NodesMut>(
+    visits: &mut NodeCursorMut<N>,
+    top: u64,
+    heavy: u64,
+    side: Side,
+) -> Leftover
     requires node { N.is_node visits.old.nodes.now top ≡ true }
-    requires heavy { child_of side (N.cells visits.old.nodes.now top) ≡ Some heavy }
+    requires min_weight { child_of side (N.cells visits.old.nodes.now top) ≡ Some heavy }
     requires red { (N.cells visits.old.nodes.now heavy).red ≡ true }
-    requires room { visits.old.steps + 20 < 2 ^ 64 }
-    ensures mended { (t : Tree) → IsTree (N.cells visits.old.nodes.now) (Some top) t
-        → rises (N.order visits.old.nodes.now) (nodes_of t) ≡ true
-        → Leaves (N.cells visits.old.nodes.now) (N.cells visits.new.nodes.now)
+    requires no_overflow { visits.old.steps + 20 < 2 ^ 64 }
+    ensures repair { (t : Tree) → IsTree (N.cells visits.old.nodes.now) (Some top) t
+        → is_sorted (N.order visits.old.nodes.now) (nodes_of t) ≡ true
+        → RemovesTo (N.cells visits.old.nodes.now) (N.cells visits.new.nodes.now)
         (nodes_of t) result.root result.fell (mended side t) }
-    ensures fell { result.fell ≡ false }
+    ensures height { result.fell ≡ false }
     ensures root { leads (N.is_node visits.old.nodes.now) result.root ≡ true }
-    ensures most { visits.new.steps ≤ visits.old.steps + 18 }
-    ensures counted { visits.old.steps ≤ visits.new.steps }
-    ensures reference { visits.new.nodes.ghost_name ≡ visits.old.nodes.ghost_name }
-    ensures same { SameBesideCells N.Nodes visits.old.nodes.now visits.new.nodes.now }
+    ensures steps_upper { visits.new.steps ≤ visits.old.steps + 18 }
+    ensures steps_lower { visits.old.steps ≤ visits.new.steps }
+    ensures same_borrow { visits.new.nodes.ghost_name ≡ visits.old.nodes.ghost_name }
+    ensures keeper { SameExceptCells N.Nodes visits.old.nodes.now visits.new.nodes.now }
 {
-    lift(visits, top, side);
+    rotate(visits, top, side);
     visits.set_red(heavy, false);
     let inner = visits.child(top, side);
     paint(visits, inner, true);
-    let root = balance(visits, top, side);
+    let root = fix_double_red(visits, top, side);
     visits.set_child(heavy, side.other(), Some(root));
     Leftover {
         root: Some(heavy),
@@ -60,19 +67,19 @@ fn mend_red<N: NodesMut>(visits: &mut VisitsMut<N>, top: u64, heavy: u64, side: 
 /// Where the tree below `top` on the other side fell, takes a black node from this, heavy side.
 ///
 /// Jean-Christophe Filliâtre and Pierre Letouzey, Functors for Proofs and Programs, 2004.
-fn mend<N: NodesMut>(visits: &mut VisitsMut<N>, top: u64, side: Side) -> Leftover
+fn mend<N: NodesMut>(visits: &mut NodeCursorMut<N>, top: u64, side: Side) -> Leftover
     requires node { N.is_node visits.old.nodes.now top ≡ true }
-    requires at { visits.old.at ≡ Some top }
-    requires room { visits.old.steps + 22 < 2 ^ 64 }
-    ensures mended { (t : Tree) → IsTree (N.cells visits.old.nodes.now) (Some top) t
-        → rises (N.order visits.old.nodes.now) (nodes_of t) ≡ true
-        → Leaves (N.cells visits.old.nodes.now) (N.cells visits.new.nodes.now)
+    requires position { visits.old.at ≡ Some top }
+    requires no_overflow { visits.old.steps + 22 < 2 ^ 64 }
+    ensures repair { (t : Tree) → IsTree (N.cells visits.old.nodes.now) (Some top) t
+        → is_sorted (N.order visits.old.nodes.now) (nodes_of t) ≡ true
+        → RemovesTo (N.cells visits.old.nodes.now) (N.cells visits.new.nodes.now)
         (nodes_of t) result.root result.fell (mended side t) }
     ensures root { leads (N.is_node visits.old.nodes.now) result.root ≡ true }
     ensures steps { visits.new.steps + spare result.fell ≤ visits.old.steps + 19 }
-    ensures counted { visits.old.steps ≤ visits.new.steps }
-    ensures reference { visits.new.nodes.ghost_name ≡ visits.old.nodes.ghost_name }
-    ensures same { SameBesideCells N.Nodes visits.old.nodes.now visits.new.nodes.now }
+    ensures steps_lower { visits.old.steps ≤ visits.new.steps }
+    ensures same_borrow { visits.new.nodes.ghost_name ≡ visits.old.nodes.ghost_name }
+    ensures keeper { SameExceptCells N.Nodes visits.old.nodes.now visits.new.nodes.now }
 {
     let Some(heavy) = visits.child(top, side) else {
         return Leftover {
@@ -86,7 +93,7 @@ fn mend<N: NodesMut>(visits: &mut VisitsMut<N>, top: u64, side: Side) -> Leftove
     }
     visits.set_red(heavy, true);
     visits.set_red(top, false);
-    let root = balance(visits, top, side);
+    let root = fix_double_red(visits, top, side);
     Leftover {
         root: Some(root),
         fell: !red,
@@ -95,20 +102,20 @@ fn mend<N: NodesMut>(visits: &mut VisitsMut<N>, top: u64, side: Side) -> Leftove
 
 /// Hangs what is left on this side under its parent again.
 fn settle<N: NodesMut>(
-    visits: &mut VisitsMut<N>,
+    visits: &mut NodeCursorMut<N>,
     parent: u64,
     side: Side,
     below: Leftover,
 ) -> Leftover
     requires node { N.is_node visits.old.nodes.now parent ≡ true }
-    requires below { leads (N.is_node visits.old.nodes.now) below.root ≡ true }
-    requires room { visits.old.steps + 23 < 2 ^ 64 }
+    requires subtree { leads (N.is_node visits.old.nodes.now) below.root ≡ true }
+    requires no_overflow { visits.old.steps + 23 < 2 ^ 64 }
     ensures settled { (near far : Tree) → IsTree (N.cells visits.old.nodes.now) below.root near
         → IsTree (N.cells visits.old.nodes.now)
         (child_of (opposite side) (N.cells visits.old.nodes.now parent)) far
-        → rises (N.order visits.old.nodes.now)
+        → is_sorted (N.order visits.old.nodes.now)
         (nodes_of (joined_at side (N.cells visits.old.nodes.now parent).red near parent far)) ≡ true
-        → Leaves (N.cells visits.old.nodes.now) (N.cells visits.new.nodes.now)
+        → RemovesTo (N.cells visits.old.nodes.now) (N.cells visits.new.nodes.now)
         (nodes_of (joined_at side (N.cells visits.old.nodes.now parent).red near parent far))
         result.root result.fell
         (settled side (N.cells visits.old.nodes.now parent).red
@@ -116,9 +123,9 @@ fn settle<N: NodesMut>(
     ensures root { leads (N.is_node visits.old.nodes.now) result.root ≡ true }
     ensures steps { visits.new.steps + spare result.fell ≤ visits.old.steps + 13
         + spare below.fell }
-    ensures counted { visits.old.steps ≤ visits.new.steps }
-    ensures reference { visits.new.nodes.ghost_name ≡ visits.old.nodes.ghost_name }
-    ensures same { SameBesideCells N.Nodes visits.old.nodes.now visits.new.nodes.now }
+    ensures steps_lower { visits.old.steps ≤ visits.new.steps }
+    ensures same_borrow { visits.new.nodes.ghost_name ≡ visits.old.nodes.ghost_name }
+    ensures keeper { SameExceptCells N.Nodes visits.old.nodes.now visits.new.nodes.now }
 {
     visits.set_child(parent, side, below.root);
     if below.fell {
@@ -131,19 +138,19 @@ fn settle<N: NodesMut>(
 }
 
 /// Puts a tree into the place of its parent of that colour, which has no other.
-fn sink<N: NodesMut>(visits: &mut VisitsMut<N>, red: bool, link: Option<u64>) -> Leftover
+fn sink<N: NodesMut>(visits: &mut NodeCursorMut<N>, red: bool, link: Option<u64>) -> Leftover
     requires link { leads (N.is_node visits.old.nodes.now) link ≡ true }
-    requires room { visits.old.steps + 2 < 2 ^ 64 }
-    ensures sunk { (t : Tree) → IsTree (N.cells visits.old.nodes.now) link t
-        → rises (N.order visits.old.nodes.now) (nodes_of t) ≡ true
-        → Leaves (N.cells visits.old.nodes.now) (N.cells visits.new.nodes.now)
+    requires no_overflow { visits.old.steps + 2 < 2 ^ 64 }
+    ensures descent { (t : Tree) → IsTree (N.cells visits.old.nodes.now) link t
+        → is_sorted (N.order visits.old.nodes.now) (nodes_of t) ≡ true
+        → RemovesTo (N.cells visits.old.nodes.now) (N.cells visits.new.nodes.now)
         (nodes_of t) result.root result.fell (sunk red t) }
     ensures root { leads (N.is_node visits.old.nodes.now) result.root ≡ true }
     // Where the tree fell, `spare` steps are kept in hand for mending it one level higher.
     ensures steps { visits.new.steps + spare result.fell ≤ visits.old.steps + 9 }
-    ensures counted { visits.old.steps ≤ visits.new.steps }
-    ensures reference { visits.new.nodes.ghost_name ≡ visits.old.nodes.ghost_name }
-    ensures same { SameBesideCells N.Nodes visits.old.nodes.now visits.new.nodes.now }
+    ensures steps_lower { visits.old.steps ≤ visits.new.steps }
+    ensures same_borrow { visits.new.nodes.ghost_name ≡ visits.old.nodes.ghost_name }
+    ensures keeper { SameExceptCells N.Nodes visits.old.nodes.now visits.new.nodes.now }
 {
     if red {
         return Leftover {
@@ -165,28 +172,28 @@ fn sink<N: NodesMut>(visits: &mut VisitsMut<N>, red: bool, link: Option<u64>) ->
 }
 
 /// Takes the first node out of the tree below `at`.
-fn take_least<N: NodesMut>(visits: &mut VisitsMut<N>, at: u64) -> Least
+fn take_least<N: NodesMut>(visits: &mut NodeCursorMut<N>, at: u64) -> Least
     requires node { N.is_node visits.old.nodes.now at ≡ true }
     // So that the way down to it is a step, which pays for what is done there on the way back.
-    requires away { visits.old.at ≢ Some at }
+    requires removal { visits.old.at ≢ Some at }
     requires tree { (t : Tree)
-        × Shrinks (N.order visits.old.nodes.now) (N.cells visits.old.nodes.now) (Some at) t
+        × IsOrderedTree (N.order visits.old.nodes.now) (N.cells visits.old.nodes.now) (Some at) t
         × (visits.old.steps + 14 * height t + 40 < 2 ^ 64) }
     ensures node { (t : Tree)
-        → Shrinks (N.order visits.old.nodes.now) (N.cells visits.old.nodes.now) (Some at) t
+        → IsOrderedTree (N.order visits.old.nodes.now) (N.cells visits.old.nodes.now) (Some at) t
         → result.node ≡ least_of at t }
     ensures rest { (t : Tree)
-        → Shrinks (N.order visits.old.nodes.now) (N.cells visits.old.nodes.now) (Some at) t
-        → Leaves (N.cells visits.old.nodes.now) (N.cells visits.new.nodes.now)
+        → IsOrderedTree (N.order visits.old.nodes.now) (N.cells visits.old.nodes.now) (Some at) t
+        → RemovesTo (N.cells visits.old.nodes.now) (N.cells visits.new.nodes.now)
         (nodes_of t) result.rest.root result.rest.fell (without_least t) }
     ensures steps { (t : Tree)
-        → Shrinks (N.order visits.old.nodes.now) (N.cells visits.old.nodes.now) (Some at) t
+        → IsOrderedTree (N.order visits.old.nodes.now) (N.cells visits.old.nodes.now) (Some at) t
         → visits.new.steps + spare result.rest.fell ≤ visits.old.steps + 14 * height t + 9 }
     ensures is_node { N.is_node visits.old.nodes.now result.node ≡ true }
     ensures root { leads (N.is_node visits.old.nodes.now) result.rest.root ≡ true }
-    ensures counted { visits.old.steps ≤ visits.new.steps }
-    ensures reference { visits.new.nodes.ghost_name ≡ visits.old.nodes.ghost_name }
-    ensures same { SameBesideCells N.Nodes visits.old.nodes.now visits.new.nodes.now }
+    ensures steps_lower { visits.old.steps ≤ visits.new.steps }
+    ensures same_borrow { visits.new.nodes.ghost_name ≡ visits.old.nodes.ghost_name }
+    ensures keeper { SameExceptCells N.Nodes visits.old.nodes.now visits.new.nodes.now }
 {
     let Some(left) = visits.child(at, Side::Left) else {
         let red = visits.red(at);
@@ -204,23 +211,23 @@ fn take_least<N: NodesMut>(visits: &mut VisitsMut<N>, at: u64) -> Least
 }
 
 /// Takes out the root of a tree, and puts the next node into its place: by links, no node is copied.
-fn uproot<N: NodesMut>(visits: &mut VisitsMut<N>, at: u64) -> Leftover
+fn uproot<N: NodesMut>(visits: &mut NodeCursorMut<N>, at: u64) -> Leftover
     requires node { N.is_node visits.old.nodes.now at ≡ true }
     requires tree { (t : Tree)
-        × Shrinks (N.order visits.old.nodes.now) (N.cells visits.old.nodes.now) (Some at) t
+        × IsOrderedTree (N.order visits.old.nodes.now) (N.cells visits.old.nodes.now) (Some at) t
         × (visits.old.steps + 15 * height t + 60 < 2 ^ 64) }
     ensures rest { (t : Tree)
-        → Shrinks (N.order visits.old.nodes.now) (N.cells visits.old.nodes.now) (Some at) t
-        → Leaves (N.cells visits.old.nodes.now) (N.cells visits.new.nodes.now)
+        → IsOrderedTree (N.order visits.old.nodes.now) (N.cells visits.old.nodes.now) (Some at) t
+        → RemovesTo (N.cells visits.old.nodes.now) (N.cells visits.new.nodes.now)
         (nodes_of t) result.root result.fell (uprooted t) }
     ensures steps { (t : Tree)
-        → Shrinks (N.order visits.old.nodes.now) (N.cells visits.old.nodes.now) (Some at) t
+        → IsOrderedTree (N.order visits.old.nodes.now) (N.cells visits.old.nodes.now) (Some at) t
         → visits.new.steps + spare result.fell ≤ visits.old.steps + 15 * height t + 10 }
     ensures root { leads (N.is_node visits.old.nodes.now) result.root ≡ true }
-    ensures counted { visits.old.steps ≤ visits.new.steps }
-    ensures went { visits.old.at ≡ None → visits.old.steps < visits.new.steps }
-    ensures reference { visits.new.nodes.ghost_name ≡ visits.old.nodes.ghost_name }
-    ensures same { SameBesideCells N.Nodes visits.old.nodes.now visits.new.nodes.now }
+    ensures steps_lower { visits.old.steps ≤ visits.new.steps }
+    ensures progress { visits.old.at ≡ None → visits.old.steps < visits.new.steps }
+    ensures same_borrow { visits.new.nodes.ghost_name ≡ visits.old.nodes.ghost_name }
+    ensures keeper { SameExceptCells N.Nodes visits.old.nodes.now visits.new.nodes.now }
 {
     let red = visits.red(at);
     let left = visits.child(at, Side::Left);
@@ -234,24 +241,24 @@ fn uproot<N: NodesMut>(visits: &mut VisitsMut<N>, at: u64) -> Leftover
 }
 
 /// Takes the node out of the tree that the link leads to.
-fn cut<N: NodesMut>(visits: &mut VisitsMut<N>, link: Option<u64>, node: u64) -> Leftover
+fn cut<N: NodesMut>(visits: &mut NodeCursorMut<N>, link: Option<u64>, node: u64) -> Leftover
     requires link { leads (N.is_node visits.old.nodes.now) link ≡ true }
     requires node { N.is_node visits.old.nodes.now node ≡ true }
     requires tree { (t : Tree)
-        × Shrinks (N.order visits.old.nodes.now) (N.cells visits.old.nodes.now) link t
+        × IsOrderedTree (N.order visits.old.nodes.now) (N.cells visits.old.nodes.now) link t
         × (visits.old.steps + 15 * height t + 60 < 2 ^ 64) }
     ensures rest { (t : Tree)
-        → Shrinks (N.order visits.old.nodes.now) (N.cells visits.old.nodes.now) link t
-        → Leaves (N.cells visits.old.nodes.now) (N.cells visits.new.nodes.now)
-        (nodes_of t) result.root result.fell (shrunk (N.order visits.old.nodes.now) node t) }
+        → IsOrderedTree (N.order visits.old.nodes.now) (N.cells visits.old.nodes.now) link t
+        → RemovesTo (N.cells visits.old.nodes.now) (N.cells visits.new.nodes.now)
+        (nodes_of t) result.root result.fell (after_remove (N.order visits.old.nodes.now) node t) }
     ensures steps { (t : Tree)
-        → Shrinks (N.order visits.old.nodes.now) (N.cells visits.old.nodes.now) link t
+        → IsOrderedTree (N.order visits.old.nodes.now) (N.cells visits.old.nodes.now) link t
         → visits.new.steps + spare result.fell ≤ visits.old.steps + 15 * height t + 10 }
     ensures root { leads (N.is_node visits.old.nodes.now) result.root ≡ true }
-    ensures counted { visits.old.steps ≤ visits.new.steps }
-    ensures went { visits.old.at ≡ None → link ≢ None → visits.old.steps < visits.new.steps }
-    ensures reference { visits.new.nodes.ghost_name ≡ visits.old.nodes.ghost_name }
-    ensures same { SameBesideCells N.Nodes visits.old.nodes.now visits.new.nodes.now }
+    ensures steps_lower { visits.old.steps ≤ visits.new.steps }
+    ensures progress { visits.old.at ≡ None → link ≢ None → visits.old.steps < visits.new.steps }
+    ensures same_borrow { visits.new.nodes.ghost_name ≡ visits.old.nodes.ghost_name }
+    ensures keeper { SameExceptCells N.Nodes visits.old.nodes.now visits.new.nodes.now }
 {
     let Some(at) = link else {
         return Leftover {
@@ -279,27 +286,27 @@ pub fn remove_at<N: NodesMut>(
     node: u64,
 ) -> Changed
     requires root { leads (N.is_node nodes.old) root ≡ true }
-    // The node must be in the tree, and the removal begin at the root or where `find_way_out` says.
+    // The node must be in the tree, and the removal begin at the root or where `find_remove_point` says.
     requires tree { (t : Tree) × IsSearchTree (N.order nodes.old) (N.cells nodes.old) root t
         × IsTrue (is_in node (nodes_of t))
-        × IfSome exit (λ n. exit_of (N.order nodes.old) node t ≡ Some n) }
+        × IfSome exit (λ n. remove_point_of (N.order nodes.old) node t ≡ Some n) }
     // The other nodes are in it as before, in the same order.
     ensures tree { (t : Tree) → IsSearchTree (N.order nodes.old) (N.cells nodes.old) root t
-        → (shrunk : Tree) × IsSearchTree (N.order nodes.new) (N.cells nodes.new) result.root shrunk
-        × (nodes_of shrunk ≡ without node (nodes_of t)) }
+        → (after_remove : Tree) × IsSearchTree (N.order nodes.new) (N.cells nodes.new) result.root after_remove
+        × (nodes_of after_remove ≡ without node (nodes_of t)) }
     // No links or colour of a node outside the tree changed.
     ensures frame { (t : Tree) → IsSearchTree (N.order nodes.old) (N.cells nodes.old) root t
         → (m : ℕ) → is_in m (nodes_of t) ≡ false → N.cells nodes.new m ≡ N.cells nodes.old m }
     // `bits` counts binary digits, here of the number of nodes before the call and one.
     ensures steps { (t : Tree) → IsSearchTree (N.order nodes.old) (N.cells nodes.old) root t
         → result.steps ≤ 30 * bits (length (nodes_of t) + 1) + 32 }
-    ensures counted { 0 < result.steps }
+    ensures steps_lower { 0 < result.steps }
     ensures root { leads (N.is_node nodes.new) result.root ≡ true }
     // Nothing but links and colours changed: the nodes, their order, the reference they are reached by, and what else
     // there is stay.
-    ensures same { SameBesideCells N.Nodes nodes.old nodes.new }
+    ensures keeper { SameExceptCells N.Nodes nodes.old nodes.new }
 {
-    let mut visits = VisitsMut::new(nodes);
+    let mut visits = NodeCursorMut::new(nodes);
     if let Some(start) = exit {
         cut(&mut visits, Some(start), node);
         return Changed {
@@ -327,19 +334,19 @@ pub fn remove<N: NodesMut>(nodes: &mut N, root: Option<u64>, node: u64) -> Chang
         × IsTrue (is_in node (nodes_of t)) }
     // The other nodes are in it as before, in the same order.
     ensures tree { (t : Tree) → IsSearchTree (N.order nodes.old) (N.cells nodes.old) root t
-        → (shrunk : Tree) × IsSearchTree (N.order nodes.new) (N.cells nodes.new) result.root shrunk
-        × (nodes_of shrunk ≡ without node (nodes_of t)) }
+        → (after_remove : Tree) × IsSearchTree (N.order nodes.new) (N.cells nodes.new) result.root after_remove
+        × (nodes_of after_remove ≡ without node (nodes_of t)) }
     // No links or colour of a node outside the tree changed.
     ensures frame { (t : Tree) → IsSearchTree (N.order nodes.old) (N.cells nodes.old) root t
         → (m : ℕ) → is_in m (nodes_of t) ≡ false → N.cells nodes.new m ≡ N.cells nodes.old m }
     // `bits` counts binary digits, here of the number of nodes before the call and one.
     ensures steps { (t : Tree) → IsSearchTree (N.order nodes.old) (N.cells nodes.old) root t
         → result.steps ≤ 32 * bits (length (nodes_of t) + 1) + 32 }
-    ensures counted { 0 < result.steps }
+    ensures steps_lower { 0 < result.steps }
     ensures root { leads (N.is_node nodes.new) result.root ≡ true }
     // Nothing but links and colours changed: the nodes, their order, the reference they are reached by, and what else
     // there is stay.
-    ensures same { SameBesideCells N.Nodes nodes.old nodes.new }
+    ensures keeper { SameExceptCells N.Nodes nodes.old nodes.new }
 {
     remove_at(nodes, root, None, node)
 }

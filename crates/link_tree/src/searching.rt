@@ -1,19 +1,20 @@
 //! Nodes that are looked for: the neighbours of a probe, and the last node.
 
-ghost use Rattle.std.specs.Prelude.{◌≡◌, ℕ, ◌+◌, ◌*◌, ◌≤◌, Bool, true, false, Option, Some, None, List, length, if◌then◌else◌};
+ghost use Rattle.std.specs.Prelude.{◌≡◌, ℕ, ◌+◌, ◌*◌, ◌≤◌, Bool, true, false, Option, Some, None, List, length};
+ghost use Rattle.std.specs.Prelude.{if◌then◌else◌};
 ghost use Rattle.std.specs.List.{last_or};
 ghost use Rattle.link_tree.specs.Tree.{Tree, IsSearchTree, nodes_of, bits};
-ghost use Rattle.link_tree.specs.Nodes.{leads, first_not, last_before};
+ghost use Rattle.link_tree.specs.Nodes.{leads, first_not_before, last_before};
 ghost use Rattle.link_tree.specs.Searching.{path_length};
 
-use crate::besides::AllBefore;
-use crate::descending::{Notes, descend};
+use crate::cursor::NodeCursor;
+use crate::descending::{PathFold, descend};
 use crate::nodes::Nodes;
-use crate::visits::Visits;
+use crate::search_adaptors::SearchToEnd;
 
 /// The node that was looked for, if there is one, and the steps that the search took.
 #[derive(Clone, Copy, Debug, PartialEq, Eq)]
-pub struct Found {
+pub struct SearchResult {
     /// The node; none where there is no such node in the tree.
     pub node: Option<u64>,
     /// How often the search went to a node.
@@ -26,10 +27,10 @@ struct First {
     node: Option<u64>,
 }
 
-impl Notes for First {
+impl PathFold for First {
     ghost passed = { λ notes n red before. record { node = if before then notes.node else Some n } };
 
-    fn pass<N: Nodes>(self, _visits: &mut Visits<N>, node: u64, before: bool) -> First {
+    fn fold_node<N: Nodes>(self, _visits: &mut NodeCursor<N>, node: u64, before: bool) -> First {
         if before {
             return self;
         }
@@ -43,10 +44,10 @@ struct Last {
     node: Option<u64>,
 }
 
-impl Notes for Last {
+impl PathFold for Last {
     ghost passed = { λ notes n red before. record { node = if before then Some n else notes.node } };
 
-    fn pass<N: Nodes>(self, _visits: &mut Visits<N>, node: u64, before: bool) -> Last {
+    fn fold_node<N: Nodes>(self, _visits: &mut NodeCursor<N>, node: u64, before: bool) -> Last {
         if before {
             return Last { node: Some(node) };
         }
@@ -58,20 +59,24 @@ impl Notes for Last {
 ///
 /// A step is going to a node, with all that is read there before the search goes to another: it takes one for each node
 /// of the path that it goes down from the root, so there are at most as many steps as the tree is high.
-pub fn find_first_not_before<N: Nodes>(nodes: &N, root: Option<u64>, probe: &N::Probe) -> Found
+pub fn find_first_not_before<N: Nodes>(
+    nodes: &N,
+    root: Option<u64>,
+    probe: &N::Probe,
+) -> SearchResult
     requires root { leads (N.is_node nodes.now) root ≡ true }
     requires tree { (t : Tree) × IsSearchTree (N.order nodes.now) (N.cells nodes.now) root t }
     // None, where all nodes stand before the probe.
     ensures first { (t : Tree) → IsSearchTree (N.order nodes.now) (N.cells nodes.now) root t
-        → result.node ≡ first_not (N.before nodes.now probe.now) (nodes_of t) }
+        → result.node ≡ first_not_before (N.before nodes.now probe.now) (nodes_of t) }
     // `bits` counts binary digits: at most 2 log2 (n + 1) + 2 steps in a tree of n nodes.
     ensures steps { (t : Tree) → IsSearchTree (N.order nodes.now) (N.cells nodes.now) root t
         → result.steps ≤ 2 * bits (length (nodes_of t) + 1) }
-    ensures exact { (t : Tree) → IsSearchTree (N.order nodes.now) (N.cells nodes.now) root t
+    ensures steps_exact { (t : Tree) → IsSearchTree (N.order nodes.now) (N.cells nodes.now) root t
         → result.steps ≡ path_length (N.before nodes.now probe.now) t }
 {
     let way = descend(nodes, root, probe, First { node: None });
-    Found {
+    SearchResult {
         node: way.notes.node,
         steps: way.steps,
     }
@@ -80,7 +85,7 @@ pub fn find_first_not_before<N: Nodes>(nodes: &N, root: Option<u64>, probe: &N::
 /// The last node of the tree that stands before the probe.
 ///
 /// It goes down the same path as `find_first_not_before`, with as many steps.
-pub fn find_last_before<N: Nodes>(nodes: &N, root: Option<u64>, probe: &N::Probe) -> Found
+pub fn find_last_before<N: Nodes>(nodes: &N, root: Option<u64>, probe: &N::Probe) -> SearchResult
     requires root { leads (N.is_node nodes.now) root ≡ true }
     requires tree { (t : Tree) × IsSearchTree (N.order nodes.now) (N.cells nodes.now) root t }
     // None, where no node stands before the probe.
@@ -88,11 +93,11 @@ pub fn find_last_before<N: Nodes>(nodes: &N, root: Option<u64>, probe: &N::Probe
         → result.node ≡ last_before (N.before nodes.now probe.now) (nodes_of t) }
     ensures steps { (t : Tree) → IsSearchTree (N.order nodes.now) (N.cells nodes.now) root t
         → result.steps ≤ 2 * bits (length (nodes_of t) + 1) }
-    ensures exact { (t : Tree) → IsSearchTree (N.order nodes.now) (N.cells nodes.now) root t
+    ensures steps_exact { (t : Tree) → IsSearchTree (N.order nodes.now) (N.cells nodes.now) root t
         → result.steps ≡ path_length (N.before nodes.now probe.now) t }
 {
     let way = descend(nodes, root, probe, Last { node: None });
-    Found {
+    SearchResult {
         node: way.notes.node,
         steps: way.steps,
     }
@@ -101,7 +106,7 @@ pub fn find_last_before<N: Nodes>(nodes: &N, root: Option<u64>, probe: &N::Probe
 /// The last node of the tree.
 ///
 /// It takes a step for each node of the path that goes down from the root to the right.
-pub fn find_last<N: Nodes>(nodes: &N, root: Option<u64>) -> Found
+pub fn find_last<N: Nodes>(nodes: &N, root: Option<u64>) -> SearchResult
     requires root { leads (N.is_node nodes.now) root ≡ true }
     requires tree { (t : Tree) × IsSearchTree (N.order nodes.now) (N.cells nodes.now) root t }
     // None, where there is no node.
@@ -109,8 +114,8 @@ pub fn find_last<N: Nodes>(nodes: &N, root: Option<u64>) -> Found
         → result.node ≡ last_or None (nodes_of t) }
     ensures steps { (t : Tree) → IsSearchTree (N.order nodes.now) (N.cells nodes.now) root t
         → result.steps ≤ 2 * bits (length (nodes_of t) + 1) }
-    ensures exact { (t : Tree) → IsSearchTree (N.order nodes.now) (N.cells nodes.now) root t
+    ensures steps_exact { (t : Tree) → IsSearchTree (N.order nodes.now) (N.cells nodes.now) root t
         → result.steps ≡ path_length (λ n. true) t }
 {
-    find_last_before(&AllBefore { nodes }, root, &())
+    find_last_before(&SearchToEnd { nodes }, root, &())
 }

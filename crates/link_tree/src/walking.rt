@@ -6,13 +6,13 @@ ghost use Rattle.link_tree.specs.Tree.{Tree, IsSearchTree, nodes_of};
 ghost use Rattle.link_tree.specs.Nodes.{leads, is_in};
 ghost use Rattle.link_tree.specs.Walking.{IsAhead};
 
-use crate::checking::MOST_LEVELS;
+use crate::checking::MAX_HEIGHT;
+use crate::cursor::NodeCursor;
 use crate::nodes::Nodes;
-use crate::visits::Visits;
 
 /// Visits the nodes below the link in order, where they are at most so many levels.
 fn walk_below<N: Nodes, F: FnMut(u64)>(
-    visits: &mut Visits<N>,
+    visits: &mut NodeCursor<N>,
     link: Option<u64>,
     visit: &mut F,
     levels: u64,
@@ -23,7 +23,7 @@ fn walk_below<N: Nodes, F: FnMut(u64)>(
         × IsAhead (N.order visits.old.nodes.now) (N.cells visits.old.nodes.now)
         link levels visits.old.at t
         × (visits.old.steps + length (nodes_of t) + 1 < 2 ^ 64) }
-    ensures walked { (t : Tree)
+    ensures walk { (t : Tree)
         → IsAhead (N.order visits.old.nodes.now) (N.cells visits.old.nodes.now)
         link levels visits.old.at t
         → FoldsTo (λ p x q. F.step p x tt q) visit.old (nodes_of t) visit.new }
@@ -33,7 +33,7 @@ fn walk_below<N: Nodes, F: FnMut(u64)>(
         link levels visits.old.at t
         → visits.new.steps ≡ visits.old.steps + length (nodes_of t) }
     // The walk stands where it stood, or at a node of the tree.
-    ensures at { (t : Tree)
+    ensures position { (t : Tree)
         → IsAhead (N.order visits.old.nodes.now) (N.cells visits.old.nodes.now)
         link levels visits.old.at t
         → (m : ℕ) → is_in m (nodes_of t) ≡ false → visits.old.at ≢ Some m → visits.new.at ≢ Some m }
@@ -58,14 +58,14 @@ pub fn walk<N: Nodes, F: FnMut(u64)>(nodes: &N, root: Option<u64>, visit: &mut F
     requires root { leads (N.is_node nodes.now) root ≡ true }
     requires tree { (t : Tree) × IsSearchTree (N.order nodes.now) (N.cells nodes.now) root t }
     // The state of `visit` is what one call for each node, in order, makes of it, and no other call.
-    ensures walked { (t : Tree) → IsSearchTree (N.order nodes.now) (N.cells nodes.now) root t
+    ensures walk { (t : Tree) → IsSearchTree (N.order nodes.now) (N.cells nodes.now) root t
         → FoldsTo (λ p x q. F.step p x tt q) visit.old (nodes_of t) visit.new }
     ensures callable { F.IsAlwaysCallable visit.new }
     // One step for each node: it is left for good before the walk goes on.
     ensures steps { (t : Tree) → IsSearchTree (N.order nodes.now) (N.cells nodes.now) root t
         → result ≡ length (nodes_of t) }
 {
-    let mut visits = Visits::new(nodes);
-    walk_below(&mut visits, root, visit, MOST_LEVELS);
+    let mut visits = NodeCursor::new(nodes);
+    walk_below(&mut visits, root, visit, MAX_HEIGHT);
     visits.steps()
 }

@@ -81,8 +81,8 @@ impl Bench {
 
     /// `construct`: so many times the value, at this handle.
     pub fn makes<T: Scalar>(&mut self, name: u8, count: u32, value: T, handle: Handle)
-        requires some { 1 ≤ count }
-        requires few { count ≤ 1048576 }
+        requires non_empty { 1 ≤ count }
+        requires max_count { count ≤ 1048576 }
     {
         if let Some(name) = self.name(&[name]) {
             let made = self.segment.construct(&NewKey::Name(name), count, value);
@@ -98,8 +98,8 @@ impl Bench {
         value: T,
         found: (Handle, u32),
     )
-        requires some { 1 ≤ count }
-        requires few { count ≤ 1048576 }
+        requires non_empty { 1 ≤ count }
+        requires max_count { count ≤ 1048576 }
     {
         if let Some(name) = self.name(&[name]) {
             let key = IndexKey::Name(name);

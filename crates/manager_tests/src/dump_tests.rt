@@ -4,7 +4,7 @@ use crate::checks::{done, holds, same};
 use crate::dumps::{empty, is_dumped, loaded, text_of, writer};
 use crate::segments::{named, new_named};
 use seg_types::{Handle, Key, ScalarKind, ScalarValue};
-use segment_dump::{dump_json, dump_with_capacities, said_size, without_notes};
+use segment_dump::{declared_size, dump_json, dump_with_capacities, without_notes};
 use segment_manager::{AnonymousInstance, Segment, UniqueInstance};
 use std::process::Abort;
 
@@ -146,8 +146,8 @@ fn notes_are_left_out(rt: HostRuntime) {
 
 #[test]
 fn the_size_is_said(rt: HostRuntime) {
-    same(&rt, said_size(NOTED), Some(4096));
-    same(&rt, said_size(b"segment dump 2\nsize 4096\n"), None);
+    same(&rt, declared_size(NOTED), Some(4096));
+    same(&rt, declared_size(b"segment dump 2\nsize 4096\n"), None);
 }
 
 /// One object of each kind as lines of JSON.

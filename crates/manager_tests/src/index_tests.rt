@@ -4,7 +4,7 @@ use crate::checks::same;
 use crate::segments::{fresh, named_is, unique_is};
 use block_tags::Role;
 use seg_types::{Handle, Kind, NewKey, Scalar};
-use segment_manager::Span;
+use segment_manager::TileInfo;
 
 /// Five names, the last one first: the index is moved to 368, and where it stood is a gap.
 fn five_names(bench: &mut Bench) {
@@ -41,7 +41,7 @@ fn tiles_follow_one_another(rt: HostRuntime) {
     let mut bench = fresh(&rt);
     five_names(&mut bench);
     for (i, offset, len, use_of) in TILES {
-        let tile = Span {
+        let tile = TileInfo {
             offset,
             len,
             use_of,

@@ -30,8 +30,8 @@ fn takes_for(
     next: i64,
 )
     requires kind { IsOfItsKind (new_key_seen key.now) OfI64 }
-    requires some { 1 ≤ count }
-    requires few { count ≤ 1048576 }
+    requires non_empty { 1 ≤ count }
+    requires max_count { count ≤ 1048576 }
 {
     let mut items = 1..end;
     let got = bench.segment.construct_it(key, count, &mut items);
@@ -48,8 +48,8 @@ fn takes(
     made: Result<Handle, Refusal>,
     next: i64,
 )
-    requires some { 1 ≤ count }
-    requires few { count ≤ 1048576 }
+    requires non_empty { 1 ≤ count }
+    requires max_count { count ≤ 1048576 }
 {
     if let Some(name) = bench.name(&[name]) {
         takes_for(bench, &NewKey::Name(name), count, end, made, next);

@@ -5,8 +5,8 @@ use crate::checks::{done, holds, refusal, same};
 use crate::regions::{are_sevens, reads, region_of_sevens};
 use crate::segments::fresh;
 use image_check::{
-    ExamineError, ExamineRefused, ImageClass, OpenError, OpenRefused, Verdict, Versions, examine,
-    examine_bytes, open, open_bytes, verify,
+    AcceptedVersions, ExamineError, ExamineRefused, ImageClass, OpenError, OpenRefused, Verdict,
+    examine, examine_bytes, open, open_bytes, verify,
 };
 use memory_devices::{Last, MemorySource};
 use raw_region::{RawRegion, Steps};
@@ -193,7 +193,14 @@ fn examined_there<R: Abort + AllocGlobal>(
 ) -> Result<RawRegion, ExamineRefused> {
     let region = region_of_sevens(rt, 2048);
     let mut steps = Steps::new();
-    examine_bytes(Versions::All, rt.alloc(), image, region, 16, &mut steps)
+    examine_bytes(
+        AcceptedVersions::All,
+        rt.alloc(),
+        image,
+        region,
+        16,
+        &mut steps,
+    )
 }
 
 #[test]

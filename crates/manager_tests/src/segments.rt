@@ -11,7 +11,7 @@ use image_check::open;
 use memory_devices::{Last, MemorySource};
 use raw_region::{RawRegion, Steps};
 use seg_types::{Handle, Key, Name, NewKey};
-use segment_manager::conditioned::{named_at, unique_at};
+use segment_manager::unchecked::{named_at, unique_at};
 use segment_manager::{Mode, Segment};
 use std::process::Abort;
 

@@ -1,6 +1,6 @@
 //! Readers and writers in memory: they give or take a few bytes at a time, and fail where they are told to.
 ghost use Rattle.std.specs.Prelude.{◌≡◌, ◌<◌, [], false, IfOk, vec_len};
-ghost use Rattle.raw_region.specs.Device.{Gave, Took};
+ghost use Rattle.raw_region.specs.Device.{ReaderHistory, WriterHistory};
 
 use raw_region::{DeviceFault, History, Sink, Source};
 use std::alloc::{AllocError, Global};
@@ -27,9 +27,9 @@ pub struct MemorySource<'a> {
 }
 
 impl<'a> Model for MemorySource<'a> {
-    ghost use Rattle.raw_region.specs.Device.{Gave};
+    ghost use Rattle.raw_region.specs.Device.{ReaderHistory};
 
-    ghost Value = { Gave };
+    ghost Value = { ReaderHistory };
 
     ghost view = { λ r. record {
       bytes = r.history.bytes;
@@ -89,9 +89,9 @@ pub struct MemorySink {
 
 impl Model for MemorySink {
     ghost use Rattle.std.specs.Prelude.{◌≡◌, ◌≤◌, take, vec_len};
-    ghost use Rattle.raw_region.specs.Device.{Took};
+    ghost use Rattle.raw_region.specs.Device.{WriterHistory};
 
-    ghost Value = { Took };
+    ghost Value = { WriterHistory };
 
     ghost view = { λ w. record { bytes = w.history.bytes; failures = w.failures } };
 

@@ -1,7 +1,7 @@
 -- The laws of links for other crates.
 
 -- a link whose bytes stay leads where it led
-pub use Rattle.offset_link.proofs.Links.{Same-link, SameBut-link}
+pub use Rattle.offset_link.proofs.Links.{SameBytes-link, SameBytesExcept-link}
 -- a link that leads nowhere is the null word
 pub use Rattle.offset_link.proofs.Links.{null_word}
 -- links that are shifted are as many as they were

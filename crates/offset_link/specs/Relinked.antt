@@ -9,20 +9,20 @@ abbrev pub IsLink : Memory → ℕ → Type 0
 IsLink m at = IfSome (link_at m at) (λ target. target % 16 ≡ 0)
 
 -- so do the n links from an offset on
-pub record AreLinks (m : Memory) (at n : ℕ) : Type 0 where
+pub record AreValidLinks (m : Memory) (at n : ℕ) : Type 0 where
   pub each : (k : ℕ) → k < n → IsLink m (at + 8 * k)
 
 -- so do they, and none of them leads nowhere
-pub record AllLead (m : Memory) (at n : ℕ) : Type 0 where
+pub record AllLinksLead (m : Memory) (at n : ℕ) : Type 0 where
   pub each : (k : ℕ) → k < n → (target : ℕ) × (link_at m (at + 8 * k) ≡ Some target) × (target % 16 ≡ 0)
 
 -- none of them leads nowhere, whatever the others lead to
-pub record NoneIsNull (m : Memory) (at n : ℕ) : Type 0 where
+pub record HasNoNullLink (m : Memory) (at n : ℕ) : Type 0 where
   pub each : (k : ℕ) → k < n → link_at m (at + 8 * k) ≢ None
 
 -- two numbers, each of which is even
-abbrev pub AreEven : ℕ → ℕ → Type 0
-AreEven a b = (a % 2 ≡ 0) × (b % 2 ≡ 0)
+abbrev pub BothEven : ℕ → ℕ → Type 0
+BothEven a b = (a % 2 ≡ 0) × (b % 2 ≡ 0)
 
 -- the bytes of the n words from an offset on, once they stand at another: each has become what f says of the two
 -- offsets and of itself
@@ -31,20 +31,20 @@ reworded f m at to zero = []
 reworded f m at to (suc n) = word_bytes (f at to (word_at m at)) ++ reworded f m (at + 8) (to + 8) n
 
 -- the word of a link, once it stands at another offset and leads where it led
-abbrev pub by_target : ℕ → ℕ → ℕ → ℕ
-by_target at to w = link_word to (target_of at w)
+abbrev pub word_by_target : ℕ → ℕ → ℕ → ℕ
+word_by_target at to w = link_word to (target_of at w)
 
 -- the same of a link that is not null, whose word changes by the distance
-abbrev pub by_distance : ℕ → ℕ → ℕ → ℕ
-by_distance at to w = link_word to (Some ((at + w) % 2 ^ 64))
+abbrev pub word_by_distance : ℕ → ℕ → ℕ → ℕ
+word_by_distance at to w = link_word to (Some ((at + w) % 2 ^ 64))
 
 -- a word that changed by the distance between two offsets, null again where it was null
 abbrev pub unless_null : ℕ → ℕ → ℕ → ℕ → ℕ → ℕ
-unless_null from to here there w = if w == by_distance from to 1 then 1 else w
+unless_null from to here there w = if w == word_by_distance from to 1 then 1 else w
 
 -- the bytes of the n links from an offset on, once they stand at another and lead where they led
 abbrev pub relinked : Memory → ℕ → ℕ → ℕ → List ℕ
-relinked m at to n = reworded by_target m at to n
+relinked m at to n = reworded word_by_target m at to n
 
 -- the n links from an offset on stand at another, and lead where they led
 pub record KeepTargets (m m' : Memory) (at to n : ℕ) : Type 0 where

@@ -19,7 +19,7 @@ pub struct BadLink;
 /// The target of the link at `at`, or `None` where it is null.
 pub fn load(w: &Window, at: u64) -> Option<u64>
     requires aligned { at % 8 ≡ 0 }
-    requires inside { at + 8 ≤ length w.now.bytes }
+    requires in_bounds { at + 8 ≤ length w.now.bytes }
     ensures { result ≡ link_at (bytes_of w.now.bytes) at }
 {
     let word = w.read_u64(at);
@@ -32,11 +32,11 @@ pub fn load(w: &Window, at: u64) -> Option<u64>
 /// Makes the link at `at` lead to `target`, a multiple of 16.
 pub fn store(w: &mut Window, at: u64, target: u64)
     requires aligned { at % 8 ≡ 0 }
-    requires inside { at + 8 ≤ length w.old.bytes }
+    requires in_bounds { at + 8 ≤ length w.old.bytes }
     requires target { target % 16 ≡ 0 }
     ensures len { length w.new.bytes ≡ length w.old.bytes }
-    ensures leads { link_at (bytes_of w.new.bytes) at ≡ Some target }
-    ensures written { w.new ≡ with_bytes w.old (patched w.old.bytes at (link at (Some target))) }
+    ensures link_target { link_at (bytes_of w.new.bytes) at ≡ Some target }
+    ensures output { w.new ≡ with_bytes w.old (patched w.old.bytes at (link at (Some target))) }
 {
     w.write_u64(at, target.wrapping_sub(at));
 }
@@ -45,10 +45,10 @@ pub fn store(w: &mut Window, at: u64, target: u64)
 #[tactic(auto, using(crate::proofs::Links::links))]
 pub fn store_null(w: &mut Window, at: u64)
     requires aligned { at % 8 ≡ 0 }
-    requires inside { at + 8 ≤ length w.old.bytes }
+    requires in_bounds { at + 8 ≤ length w.old.bytes }
     ensures len { length w.new.bytes ≡ length w.old.bytes }
-    ensures leads { link_at (bytes_of w.new.bytes) at ≡ None }
-    ensures written { w.new ≡ with_bytes w.old (patched w.old.bytes at (link at None)) }
+    ensures link_target { link_at (bytes_of w.new.bytes) at ≡ None }
+    ensures output { w.new ≡ with_bytes w.old (patched w.old.bytes at (link at None)) }
 {
     w.write_u64(at, NULL);
 }
@@ -57,12 +57,12 @@ pub fn store_null(w: &mut Window, at: u64)
 pub fn copy(w: &mut Window, from: u64, to: u64)
     requires from_aligned { from % 8 ≡ 0 }
     requires to_aligned { to % 8 ≡ 0 }
-    requires from_inside { from + 8 ≤ length w.old.bytes }
-    requires to_inside { to + 8 ≤ length w.old.bytes }
+    requires from_in_bounds { from + 8 ≤ length w.old.bytes }
+    requires to_in_bounds { to + 8 ≤ length w.old.bytes }
     requires target { IsLink (bytes_of w.old.bytes) from }
     ensures len { length w.new.bytes ≡ length w.old.bytes }
-    ensures leads { link_at (bytes_of w.new.bytes) to ≡ link_at (bytes_of w.old.bytes) from }
-    ensures written { w.new ≡ with_bytes w.old (patched w.old.bytes to (link to (link_at (bytes_of w.old.bytes) from))) }
+    ensures link_target { link_at (bytes_of w.new.bytes) to ≡ link_at (bytes_of w.old.bytes) from }
+    ensures output { w.new ≡ with_bytes w.old (patched w.old.bytes to (link to (link_at (bytes_of w.old.bytes) from))) }
 {
     match load(w, from) {
         Some(target) => store(w, to, target),
@@ -74,9 +74,9 @@ pub fn copy(w: &mut Window, from: u64, to: u64)
 /// multiple of 16 from 144 to the window's size less 32.
 pub fn checked(w: &Window, at: u64) -> Result<Option<u64>, BadLink>
     requires aligned { at % 8 ≡ 0 }
-    requires inside { at + 8 ≤ length w.now.bytes }
-    ensures ok { IfOk result (λ target. target ≡ link_at (bytes_of w.now.bytes) at) }
-    ensures err { is_err result ≡ is_bad (length w.now.bytes) (link_at (bytes_of w.now.bytes) at) }
+    requires in_bounds { at + 8 ≤ length w.now.bytes }
+    ensures on_ok { IfOk result (λ target. target ≡ link_at (bytes_of w.now.bytes) at) }
+    ensures on_error { is_err result ≡ is_bad (length w.now.bytes) (link_at (bytes_of w.now.bytes) at) }
 {
     match load(w, at) {
         None => Ok(None),

@@ -3,8 +3,9 @@ ghost use Rattle.std.specs.Prelude.{◌≡◌, ◌↔◌, IsTrue, ◌+◌, ◌-�
 ghost use Rattle.raw_region.specs.Memory.{bytes_of, patched, word_at};
 ghost use Rattle.raw_region.specs.Regions.{with_bytes};
 ghost use Rattle.offset_link.specs.Link.{link_at, link, link_word};
-ghost use Rattle.offset_link.specs.Relinked.{by_distance, relinked, reworded, unless_null, AllLead, AreEven, AreLinks};
-ghost use Rattle.offset_link.specs.Relinked.{KeepTargets, NoneIsNull};
+ghost use Rattle.offset_link.specs.Relinked.{word_by_distance, relinked, reworded, unless_null, AllLinksLead, BothEven};
+ghost use Rattle.offset_link.specs.Relinked.{AreValidLinks};
+ghost use Rattle.offset_link.specs.Relinked.{KeepTargets, HasNoNullLink};
 ghost use Rattle.offset_link.specs.Moves.{moved_to, StaysInside};
 
 use crate::link::{NULL, load};
@@ -22,8 +23,8 @@ pub enum Places {
 /// Whether each of the `n` links from `at` on leads to a multiple of 16 or nowhere.
 pub fn are_links(w: &Window, at: u64, n: u64) -> bool
     requires aligned { at % 8 ≡ 0 }
-    requires inside { at + 8 * n ≤ length w.now.bytes }
-    ensures { IsTrue result ↔ AreLinks (bytes_of w.now.bytes) at n }
+    requires in_bounds { at + 8 * n ≤ length w.now.bytes }
+    ensures { IsTrue result ↔ AreValidLinks (bytes_of w.now.bytes) at n }
 {
     // No offset passes the size, which is a u64.
     let _size = w.size();
@@ -40,8 +41,8 @@ pub fn are_links(w: &Window, at: u64, n: u64) -> bool
 /// Whether each of the `n` links from `at` on leads to a multiple of 16.
 pub fn all_lead(w: &Window, at: u64, n: u64) -> bool
     requires aligned { at % 8 ≡ 0 }
-    requires inside { at + 8 * n ≤ length w.now.bytes }
-    ensures { IsTrue result ↔ AllLead (bytes_of w.now.bytes) at n }
+    requires in_bounds { at + 8 * n ≤ length w.now.bytes }
+    ensures { IsTrue result ↔ AllLinksLead (bytes_of w.now.bytes) at n }
 {
     // No offset passes the size, which is a u64.
     let _size = w.size();
@@ -61,12 +62,12 @@ pub fn all_lead(w: &Window, at: u64, n: u64) -> bool
 pub fn shift(w: &mut Window, at: u64, n: u64, by: Places)
     requires aligned { at % 8 ≡ 0 }
     requires source { at + 8 * n ≤ length w.old.bytes }
-    requires stays { StaysInside at by }
+    requires unchanged { StaysInside at by }
     requires target { moved_to at by + 8 * n ≤ length w.old.bytes }
-    requires links { AreLinks (bytes_of w.old.bytes) at n }
+    requires links { AreValidLinks (bytes_of w.old.bytes) at n }
     ensures len { length w.new.bytes ≡ length w.old.bytes }
     ensures lead { KeepTargets (bytes_of w.old.bytes) (bytes_of w.new.bytes) at (moved_to at by) n }
-    ensures written { w.new ≡ with_bytes w.old (patched w.old.bytes (moved_to at by)
+    ensures output { w.new ≡ with_bytes w.old (patched w.old.bytes (moved_to at by)
         (relinked (bytes_of w.old.bytes) at (moved_to at by) n)) }
 {
     let size = w.size();
@@ -87,12 +88,12 @@ pub fn shift(w: &mut Window, at: u64, n: u64, by: Places)
 pub fn shift_non_null(w: &mut Window, at: u64, n: u64, by: Places)
     requires aligned { at % 8 ≡ 0 }
     requires source { at + 8 * n ≤ length w.old.bytes }
-    requires stays { StaysInside at by }
+    requires unchanged { StaysInside at by }
     requires target { moved_to at by + 8 * n ≤ length w.old.bytes }
-    requires links { AllLead (bytes_of w.old.bytes) at n }
+    requires links { AllLinksLead (bytes_of w.old.bytes) at n }
     ensures len { length w.new.bytes ≡ length w.old.bytes }
     ensures lead { KeepTargets (bytes_of w.old.bytes) (bytes_of w.new.bytes) at (moved_to at by) n }
-    ensures written { w.new ≡ with_bytes w.old (patched w.old.bytes (moved_to at by)
+    ensures output { w.new ≡ with_bytes w.old (patched w.old.bytes (moved_to at by)
         (relinked (bytes_of w.old.bytes) at (moved_to at by) n)) }
 {
     let size = w.size();
@@ -129,7 +130,7 @@ impl Seen {
     /// Whether one of the words was odd, as that of a link that leads nowhere is.
     #[inline(always)]
     fn has_odd(self) -> bool
-        ensures { result ≡ false → AreEven self.first self.second }
+        ensures { result ≡ false → BothEven self.first self.second }
     {
         (self.first | self.second) % 2 == 1
     }
@@ -139,9 +140,9 @@ impl Seen {
 /// That none is null may be known.
 #[inline(always)]
 fn move_up<const NON_NULL: bool>(bytes: &mut [u8], at: usize, n: usize, by: usize)
-    requires inside { at + by + 8 * n ≤ length bytes.old }
+    requires in_bounds { at + by + 8 * n ≤ length bytes.old }
     requires places { by % 8 ≡ 0 }
-    requires non_null { IsTrue NON_NULL → NoneIsNull (bytes_of bytes.old) at n }
+    requires non_null { IsTrue NON_NULL → HasNoNullLink (bytes_of bytes.old) at n }
     ensures { bytes.new ≡ patched bytes.old (at + by) (relinked (bytes_of bytes.old) at (at + by) n) }
 {
     // The last one moves alone where the runs before it then end at a multiple of 16: each of their stores of 16 bytes
@@ -158,9 +159,9 @@ fn move_up<const NON_NULL: bool>(bytes: &mut [u8], at: usize, n: usize, by: usiz
 /// odd, those that led nowhere are put right.
 #[inline(always)]
 fn runs_up<const NON_NULL: bool>(bytes: &mut [u8], at: usize, n: usize, by: usize)
-    requires inside { at + by + 64 * n ≤ length bytes.old }
+    requires in_bounds { at + by + 64 * n ≤ length bytes.old }
     requires places { by % 8 ≡ 0 }
-    requires non_null { IsTrue NON_NULL → NoneIsNull (bytes_of bytes.old) at (8 * n) }
+    requires non_null { IsTrue NON_NULL → HasNoNullLink (bytes_of bytes.old) at (8 * n) }
     ensures { bytes.new ≡ patched bytes.old (at + by) (relinked (bytes_of bytes.old) at (at + by) (8 * n)) }
 {
     hold_bytes(bytes);
@@ -173,11 +174,13 @@ fn runs_up<const NON_NULL: bool>(bytes: &mut [u8], at: usize, n: usize, by: usiz
 /// The turns of all runs; those that are far look ahead.
 #[inline(always)]
 fn all_turns_up<const NON_NULL: bool>(bytes: &mut [u8], at: usize, n: usize, by: usize) -> Seen
-    requires inside { at + by + 64 * n ≤ length bytes.old }
+    requires in_bounds { at + by + 64 * n ≤ length bytes.old }
     requires places { by % 8 ≡ 0 }
-    ensures moved { bytes.new ≡ patched bytes.old (at + by) (reworded by_distance (bytes_of bytes.old) at (at + by)
+    ensures changes { bytes.new ≡ patched bytes.old (at + by)
+        (reworded word_by_distance (bytes_of bytes.old) at (at + by)
         (8 * n)) }
-    ensures seen { NON_NULL ≡ false → AreEven result.first result.second → NoneIsNull (bytes_of bytes.old) at (8 * n) }
+    ensures keys_seen { NON_NULL ≡ false → BothEven result.first result.second
+        → HasNoNullLink (bytes_of bytes.old) at (8 * n) }
 {
     if n <= NEAR {
         return turns_up::<NON_NULL>(bytes, at, n, by, 0, Seen::default());
@@ -204,13 +207,14 @@ fn turns_up<const NON_NULL: bool>(
     ahead: usize,
     before: Seen,
 ) -> Seen
-    requires ahead { ahead ≤ at }
-    requires inside { at + by + 64 * n ≤ length bytes.old }
+    requires prefix { ahead ≤ at }
+    requires in_bounds { at + by + 64 * n ≤ length bytes.old }
     requires places { by % 8 ≡ 0 }
-    ensures moved { bytes.new ≡ patched bytes.old (at + by) (reworded by_distance (bytes_of bytes.old) at (at + by)
+    ensures changes { bytes.new ≡ patched bytes.old (at + by)
+        (reworded word_by_distance (bytes_of bytes.old) at (at + by)
         (8 * n)) }
-    ensures seen { NON_NULL ≡ false → AreEven result.first result.second → AreEven before.first before.second
-        × NoneIsNull (bytes_of bytes.old) at (8 * n) }
+    ensures keys_seen { NON_NULL ≡ false → BothEven result.first result.second → BothEven before.first before.second
+        × HasNoNullLink (bytes_of bytes.old) at (8 * n) }
 {
     let mut left = n;
     let mut seen = before;
@@ -231,7 +235,7 @@ fn turns_up<const NON_NULL: bool>(
 #[inline(always)]
 fn look_ahead(bytes: &[u8], later: usize, far: bool, seen: Seen) -> Seen
     requires { later + 72 ≤ length bytes.now }
-    ensures { AreEven result.first result.second → AreEven seen.first seen.second }
+    ensures { BothEven result.first result.second → BothEven seen.first seen.second }
 {
     if !far {
         return seen;
@@ -246,12 +250,12 @@ fn look_ahead(bytes: &[u8], later: usize, far: bool, seen: Seen) -> Seen
 /// the rest.
 #[inline(always)]
 fn see_run<const NON_NULL: bool>(bytes: &mut [u8], from: usize, to: usize, seen: Seen) -> Seen
-    requires from_inside { from + 64 ≤ length bytes.old }
-    requires to_inside { to + 64 ≤ length bytes.old }
+    requires from_in_bounds { from + 64 ≤ length bytes.old }
+    requires to_in_bounds { to + 64 ≤ length bytes.old }
     requires places { from % 8 ≡ to % 8 }
-    ensures moved { bytes.new ≡ patched bytes.old to (reworded by_distance (bytes_of bytes.old) from to 8) }
-    ensures seen { NON_NULL ≡ false → AreEven result.first result.second → AreEven seen.first seen.second
-        × NoneIsNull (bytes_of bytes.old) from 8 }
+    ensures changes { bytes.new ≡ patched bytes.old to (reworded word_by_distance (bytes_of bytes.old) from to 8) }
+    ensures keys_seen { NON_NULL ≡ false → BothEven result.first result.second → BothEven seen.first seen.second
+        × HasNoNullLink (bytes_of bytes.old) from 8 }
 {
     let now = move_run(bytes, from, to, seen);
     if NON_NULL { seen } else { now }
@@ -274,9 +278,9 @@ fn links_up(bytes: &mut [u8], at: usize, n: usize, by: usize)
 #[inline(always)]
 fn move_down<const NON_NULL: bool>(bytes: &mut [u8], at: usize, n: usize, by: usize)
     requires source { at + 8 * n ≤ length bytes.old }
-    requires inside { by ≤ at }
+    requires in_bounds { by ≤ at }
     requires places { by % 8 ≡ 0 }
-    requires non_null { IsTrue NON_NULL → NoneIsNull (bytes_of bytes.old) at n }
+    requires non_null { IsTrue NON_NULL → HasNoNullLink (bytes_of bytes.old) at n }
     ensures { bytes.new ≡ patched bytes.old (at - by) (relinked (bytes_of bytes.old) at (at - by) n) }
 {
     // The first one moves alone where the runs behind it then begin at a multiple of 16, as those of `move_up` end at
@@ -294,9 +298,9 @@ fn move_down<const NON_NULL: bool>(bytes: &mut [u8], at: usize, n: usize, by: us
 #[inline(always)]
 fn runs_down<const NON_NULL: bool>(bytes: &mut [u8], at: usize, n: usize, by: usize)
     requires source { at + 64 * n ≤ length bytes.old }
-    requires inside { by ≤ at }
+    requires in_bounds { by ≤ at }
     requires places { by % 8 ≡ 0 }
-    requires non_null { IsTrue NON_NULL → NoneIsNull (bytes_of bytes.old) at (8 * n) }
+    requires non_null { IsTrue NON_NULL → HasNoNullLink (bytes_of bytes.old) at (8 * n) }
     ensures { bytes.new ≡ patched bytes.old (at - by) (relinked (bytes_of bytes.old) at (at - by) (8 * n)) }
 {
     hold_bytes(bytes);
@@ -310,11 +314,13 @@ fn runs_down<const NON_NULL: bool>(bytes: &mut [u8], at: usize, n: usize, by: us
 #[inline(always)]
 fn all_turns_down<const NON_NULL: bool>(bytes: &mut [u8], at: usize, n: usize, by: usize) -> Seen
     requires source { at + 64 * n ≤ length bytes.old }
-    requires inside { by ≤ at }
+    requires in_bounds { by ≤ at }
     requires places { by % 8 ≡ 0 }
-    ensures moved { bytes.new ≡ patched bytes.old (at - by) (reworded by_distance (bytes_of bytes.old) at (at - by)
+    ensures changes { bytes.new ≡ patched bytes.old (at - by)
+        (reworded word_by_distance (bytes_of bytes.old) at (at - by)
         (8 * n)) }
-    ensures seen { NON_NULL ≡ false → AreEven result.first result.second → NoneIsNull (bytes_of bytes.old) at (8 * n) }
+    ensures keys_seen { NON_NULL ≡ false → BothEven result.first result.second
+        → HasNoNullLink (bytes_of bytes.old) at (8 * n) }
 {
     if n <= NEAR {
         return turns_down::<NON_NULL>(bytes, at, n, by, 0, Seen::default());
@@ -336,12 +342,13 @@ fn turns_down<const NON_NULL: bool>(
     before: Seen,
 ) -> Seen
     requires source { at + 64 * n + ahead ≤ length bytes.old }
-    requires inside { by ≤ at }
+    requires in_bounds { by ≤ at }
     requires places { by % 8 ≡ 0 }
-    ensures moved { bytes.new ≡ patched bytes.old (at - by) (reworded by_distance (bytes_of bytes.old) at (at - by)
+    ensures changes { bytes.new ≡ patched bytes.old (at - by)
+        (reworded word_by_distance (bytes_of bytes.old) at (at - by)
         (8 * n)) }
-    ensures seen { NON_NULL ≡ false → AreEven result.first result.second → AreEven before.first before.second
-        × NoneIsNull (bytes_of bytes.old) at (8 * n) }
+    ensures keys_seen { NON_NULL ≡ false → BothEven result.first result.second → BothEven before.first before.second
+        × HasNoNullLink (bytes_of bytes.old) at (8 * n) }
 {
     let mut seen = before;
     'runs: for i in 0..n / 2 {
@@ -360,7 +367,7 @@ fn turns_down<const NON_NULL: bool>(
 /// The links one by one, the first of them first.
 fn links_down(bytes: &mut [u8], at: usize, n: usize, by: usize)
     requires source { at + 8 * n ≤ length bytes.old }
-    requires inside { by ≤ at }
+    requires in_bounds { by ≤ at }
     ensures { bytes.new ≡ patched bytes.old (at - by) (relinked (bytes_of bytes.old) at (at - by) n) }
 {
     'links: for i in 0..n {
@@ -373,12 +380,12 @@ fn links_down(bytes: &mut [u8], at: usize, n: usize, by: usize)
 /// for null ones. All are read before one is written, and what is written is seen.
 #[inline(always)]
 fn move_run(bytes: &mut [u8], from: usize, to: usize, seen: Seen) -> Seen
-    requires from_inside { from + 64 ≤ length bytes.old }
-    requires to_inside { to + 64 ≤ length bytes.old }
+    requires from_in_bounds { from + 64 ≤ length bytes.old }
+    requires to_in_bounds { to + 64 ≤ length bytes.old }
     requires places { from % 8 ≡ to % 8 }
-    ensures moved { bytes.new ≡ patched bytes.old to (reworded by_distance (bytes_of bytes.old) from to 8) }
-    ensures seen { AreEven result.first result.second → AreEven seen.first seen.second
-        × NoneIsNull (bytes_of bytes.old) from 8 }
+    ensures changes { bytes.new ≡ patched bytes.old to (reworded word_by_distance (bytes_of bytes.old) from to 8) }
+    ensures keys_seen { BothEven result.first result.second → BothEven seen.first seen.second
+        × HasNoNullLink (bytes_of bytes.old) from 8 }
 {
     let a = moved_by_distance(bytes, from, to);
     let b = moved_by_distance(bytes, from + 8, to + 8);
@@ -428,8 +435,8 @@ fn null_again(word: u64, null: u64) -> u64
 
 /// Makes the word at `to` a link that leads where the one at `from` leads.
 fn move_one(bytes: &mut [u8], from: usize, to: usize)
-    requires from_inside { from + 8 ≤ length bytes.old }
-    requires to_inside { to + 8 ≤ length bytes.old }
+    requires from_in_bounds { from + 8 ≤ length bytes.old }
+    requires to_in_bounds { to + 8 ≤ length bytes.old }
     ensures { bytes.new ≡ patched bytes.old to (link to (link_at (bytes_of bytes.old) from)) }
 {
     let word = moved(bytes, from, to);
@@ -451,7 +458,7 @@ fn moved(bytes: &[u8], from: usize, to: usize) -> u64
 #[inline(always)]
 fn moved_by_distance(bytes: &[u8], from: usize, to: usize) -> u64
     requires { from + 8 ≤ length bytes.now }
-    ensures { result ≡ by_distance from to (word_at (bytes_of bytes.now) from) }
+    ensures { result ≡ word_by_distance from to (word_at (bytes_of bytes.now) from) }
 {
     less_distance(word_in(bytes, from), from, to)
 }
@@ -459,7 +466,7 @@ fn moved_by_distance(bytes: &[u8], from: usize, to: usize) -> u64
 /// A word at `from`, less the distance to `to`.
 #[inline(always)]
 fn less_distance(word: u64, from: usize, to: usize) -> u64
-    ensures { result ≡ by_distance from to word }
+    ensures { result ≡ word_by_distance from to word }
 {
     let target = (from as u64).wrapping_add(word);
     target.wrapping_sub(to as u64)

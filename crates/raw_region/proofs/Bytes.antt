@@ -4,13 +4,14 @@ use Rattle.std.proofs.Common.{zero, suc, ◌++◌, length-append, ◌-◌, take,
 use Rattle.std.specs.Prelude.{IsTrue, nat_lt}
 use Rattle.std.proofs.lemmas.Bool.{and_from, lt-ltb}
 use Rattle.std.proofs.lemmas.List.{length-take, length-drop, drop_at}
-use Rattle.raw_region.specs.Memory.{AreBytes, Memory, SameBut, Has, are_bytes, read, patched}
-use Rattle.raw_region.proofs.Words.{Same-read as read-same}
+use Rattle.raw_region.specs.Memory.{AreBytes, Memory, SameBytesExcept, HasBytesAt, are_bytes, read, patched}
+use Rattle.raw_region.proofs.Words.{SameBytes-read as read-same}
 
 -- what is a byte at each place is a list of bytes
 pub fits-are_bytes : (b : List ℕ) → AreBytes b → IsTrue (are_bytes b)
 fits-are_bytes [] f = refl
-fits-are_bytes (x ∷ b) f = and_from (nat_lt x 256) (are_bytes b) (lt-ltb x 256 (f 0)) (fits-are_bytes b (λ k. f (suc k)))
+fits-are_bytes (x ∷ b) f = and_from (nat_lt x 256) (are_bytes b) (lt-ltb x 256 (f 0))
+    (fits-are_bytes b (λ k. f (suc k)))
 
 -- products
 pub more-times : (each m n : ℕ) → m ≤ n → each * m ≤ each * n
@@ -23,8 +24,9 @@ read-append m at (suc a) b =
     let e1 : suc a + b ≡ suc (a + b) = omega arith in let e2 : at + 1 + a ≡ at + suc a = omega arith in
     ap (read m at) e1 ∙ ap (λ ws. m at ∷ ws) (read-append m (at + 1) a b ∙ ap (λ k. read m (at + 1) a ++ read m k b) e2)
 
-pub Has-append : (m : Memory) (at : ℕ) (xs ys : List ℕ) → Has m at xs → Has m (at + length xs) ys → Has m at (xs ++ ys)
-Has-append m at xs ys h k = ap (read m at) (length-append xs ys) ∙ read-append m at (length xs) (length ys)
+pub HasBytesAt-append : (m : Memory) (at : ℕ) (xs ys : List ℕ) → HasBytesAt m at xs
+    → HasBytesAt m (at + length xs) ys → HasBytesAt m at (xs ++ ys)
+HasBytesAt-append m at xs ys h k = ap (read m at) (length-append xs ys) ∙ read-append m at (length xs) (length ys)
     ∙ (λ i. h i ++ k i)
 
 pub length-read : (m : Memory) (at n : ℕ) → length (read m at n) ≡ n
@@ -40,39 +42,40 @@ read-drop : (m : Memory) (at k n : ℕ) → drop k (read m at (k + n)) ≡ read 
 read-drop m at k n = ap (drop k) (read-append m at k n) ∙ drop_at (read m at k) (read m (at + k) n) k
     (length-read m at k)
 
-pub Has-take : (m : Memory) (at k : ℕ) (bytes : List ℕ) → k ≤ length bytes → Has m at bytes → Has m at (take k bytes)
-Has-take m at k bytes f h =
+pub HasBytesAt-take : (m : Memory) (at k : ℕ) (bytes : List ℕ) → k ≤ length bytes → HasBytesAt m at bytes
+    → HasBytesAt m at (take k bytes)
+HasBytesAt-take m at k bytes f h =
     let e : length (take k bytes) ≡ k = omega (arith, length-take k bytes, f) in
     ap (read m at) e ∙ sym (read-take m at k (length bytes) f) ∙ ap (take k) h
 
-pub Has-drop : (m : Memory) (at k : ℕ) (bytes : List ℕ) → k ≤ length bytes → Has m at bytes
-    → Has m (at + k) (drop k bytes)
-Has-drop m at k bytes f h =
+pub HasBytesAt-drop : (m : Memory) (at k : ℕ) (bytes : List ℕ) → k ≤ length bytes → HasBytesAt m at bytes
+    → HasBytesAt m (at + k) (drop k bytes)
+HasBytesAt-drop m at k bytes f h =
     let e : length (drop k bytes) ≡ length bytes - k = omega (arith, length-drop k bytes) in
     let sum : k + (length bytes - k) ≡ length bytes = omega (arith, f) in
     ap (read m (at + k)) e ∙ sym (read-drop m at k (length bytes - k)) ∙ ap (drop k) (ap (read m at) sum ∙ h)
 
 -- bytes beside those that are written
-pub Has-beside : {m m' : Memory} {from n : ℕ} (at : ℕ) (bytes : List ℕ) → SameBut m m' from n
-    → (at + length bytes ≤ from) ⊎ (from + n ≤ at) → Has m at bytes → Has m' at bytes
-Has-beside {m} {m'} at bytes s (inl f) h = read-same m m' at (at + length bytes) at (length bytes)
+pub HasBytesAt-beside : {m m' : Memory} {from n : ℕ} (at : ℕ) (bytes : List ℕ) → SameBytesExcept m m' from n
+    → (at + length bytes ≤ from) ⊎ (from + n ≤ at) → HasBytesAt m at bytes → HasBytesAt m' at bytes
+HasBytesAt-beside {m} {m'} at bytes s (inl f) h = read-same m m' at (at + length bytes) at (length bytes)
     (record { at = λ k a b. s.at k (inl (omega (arith, f, b))) }) (omega arith) (omega arith) ∙ h
-Has-beside {m} {m'} at bytes s (inr f) h = read-same m m' at (at + length bytes) at (length bytes)
+HasBytesAt-beside {m} {m'} at bytes s (inr f) h = read-same m m' at (at + length bytes) at (length bytes)
     (record { at = λ k a b. s.at k (inr (omega (arith, f, a))) }) (omega arith) (omega arith) ∙ h
 
-pub Has-patched : {m m' : Memory} (g from : ℕ) (bytes more : List ℕ) → from + length more ≤ length bytes
-    → SameBut m m' (g + from) (length more) → Has m g bytes → Has m' (g + from) more
-    → Has m' g (patched bytes from more)
-Has-patched {m} {m'} g from bytes more f s h k =
+pub HasBytesAt-patched : {m m' : Memory} (g from : ℕ) (bytes more : List ℕ) → from + length more ≤ length bytes
+    → SameBytesExcept m m' (g + from) (length more) → HasBytesAt m g bytes → HasBytesAt m' (g + from) more
+    → HasBytesAt m' g (patched bytes from more)
+HasBytesAt-patched {m} {m'} g from bytes more f s h k =
     let n : ℕ = from + length more in
     let short : length (take from bytes) ≡ from = omega (arith, length-take from bytes, f) in
     let both : length (take from bytes ++ more) ≡ n = omega (arith, length-append (take from bytes) more, short) in
-    let a = Has-beside g (take from bytes) s (inl (omega (arith, short)))
-    (Has-take m g from bytes (omega (arith, f)) h) in
-    let b : Has m' (g + length (take from bytes)) more = subst (λ j. Has m' (g + j) more) (sym short) k in
-    let c = Has-beside (g + n) (drop n bytes) s (inr (omega arith)) (Has-drop m g n bytes f h) in
-    Has-append m' g (take from bytes ++ more) (drop n bytes) (Has-append m' g (take from bytes) more a b)
-    (subst (λ j. Has m' (g + j) (drop n bytes)) (sym both) c)
+    let a = HasBytesAt-beside g (take from bytes) s (inl (omega (arith, short)))
+    (HasBytesAt-take m g from bytes (omega (arith, f)) h) in
+    let b : HasBytesAt m' (g + length (take from bytes)) more = subst (λ j. HasBytesAt m' (g + j) more) (sym short) k in
+    let c = HasBytesAt-beside (g + n) (drop n bytes) s (inr (omega arith)) (HasBytesAt-drop m g n bytes f h) in
+    HasBytesAt-append m' g (take from bytes ++ more) (drop n bytes) (HasBytesAt-append m' g (take from bytes) more a b)
+    (subst (λ j. HasBytesAt m' (g + j) (drop n bytes)) (sym both) c)
 
 pub length-patch : (bytes : List ℕ) (from : ℕ) (more : List ℕ) → from + length more ≤ length bytes
     → length (patched bytes from more) ≡ length bytes

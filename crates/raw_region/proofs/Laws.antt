@@ -2,15 +2,22 @@
 use Rattle.std.proofs.Common.{◌≡◌, ap, refl, ◌∙◌, ℕ, List, ◌++◌, length, drop, append_assoc}
 use Rattle.std.proofs.lemmas.List.{drop_at}
 -- parts of a list of bytes, and a list with a part rewritten
-pub use Rattle.raw_region.proofs.Patches.{length-part, part-at, part-part, same_bytes, read-part, length-patched, patched-all, patched-append, patched-inside, patched-outside, patched-prepend, refill-all, whole-cut_at, length-word}
+pub use Rattle.raw_region.proofs.Patches.{length-part, part-at, part-part, same_bytes, read-part, length-patched}
+pub use Rattle.raw_region.proofs.Patches.{patched-all, patched-append, patched-inside, patched-outside, patched-prepend}
+pub use Rattle.raw_region.proofs.Patches.{refill-all, whole-cut_at, length-word}
 -- where memory stays
-pub use Rattle.raw_region.proofs.Words.{Same-refl, Same-trans, Same-part, Same-read, Same-word, Same-half_word, Has-same}
-pub use Rattle.raw_region.proofs.Words.{SameBut-trans, SameBut-wider, SameBut-Same, SameBut-word, SameBut-half_word, SameBut-word_above, SameBut-word_below}
-pub use Rattle.raw_region.proofs.Words.{SamePlace-trans, with_bytes-SamePlace}
+pub use Rattle.raw_region.proofs.Words.{SameBytes-refl, SameBytes-trans, SameBytes-part, SameBytes-read, SameBytes-word}
+pub use Rattle.raw_region.proofs.Words.{SameBytes-half_word, HasBytesAt-same}
+pub use Rattle.raw_region.proofs.Words.{SameBytesExcept-trans, SameBytesExcept-wider, SameBytesExcept-SameBytes}
+pub use Rattle.raw_region.proofs.Words.{SameBytesExcept-word, SameBytesExcept-half_word, SameBytesExcept-word_above}
+pub use Rattle.raw_region.proofs.Words.{SameBytesExcept-word_below}
+pub use Rattle.raw_region.proofs.Words.{SameSurroundings-trans, with_bytes-SameSurroundings}
 -- words that are written, and words that are moved
-pub use Rattle.raw_region.proofs.Words.{word-own, word-before, word-after, word-inside, word-first, word-behind, word_moved, length-word_written, word_written-SameBut, patched-Has, patched-SameBut}
+pub use Rattle.raw_region.proofs.Words.{word-own, word-before, word-after, word-inside, word-first, word-behind}
+pub use Rattle.raw_region.proofs.Words.{word_moved, length-word_written, word_written-SameBytesExcept}
+pub use Rattle.raw_region.proofs.Words.{patched-HasBytesAt, patched-SameBytesExcept}
 -- zeros
-pub use Rattle.raw_region.proofs.Words.{filled-AreZero, filled-SameBut, length-zeros, zeros-AreZero}
+pub use Rattle.raw_region.proofs.Words.{filled-AreZero, filled-SameBytesExcept, length-zeros, zeros-AreZero}
 -- texts that are written piece by piece
 pub use Rattle.raw_region.proofs.Writing.{writes-behind, writes-then, writes-cut, writes-element}
 

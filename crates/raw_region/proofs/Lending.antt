@@ -18,4 +18,5 @@ module _ {M : Type 1} {𝓤 : Ura M} (𝓛 : Logic 𝓤) (l : Lft) (b : ℕ) whe
 
   pub Lends-bytes : (xs : List ℕ) (o : ℕ) → Lends 𝓛 (bytes full_share xs b o) (elements_shared u8 xs b o) l
   Lends-bytes [] o = Lends-nothing 𝓛 ftrue l
-  Lends-bytes (x ∷ xs) o = Lends-both 𝓛 (part_at u8 full_share x b o) (bytes full_share xs b (o + 1)) (shared_of u8 x b o) (elements_shared u8 xs b (o + 1)) l (one x o) (Lends-bytes xs (o + 1))
+  Lends-bytes (x ∷ xs) o = Lends-both 𝓛 (part_at u8 full_share x b o) (bytes full_share xs b (o + 1))
+      (shared_of u8 x b o) (elements_shared u8 xs b (o + 1)) l (one x o) (Lends-bytes xs (o + 1))

@@ -2,7 +2,7 @@
 use Rattle.std.proofs.Common.{◌≡◌, ℕ, ◌+◌, ◌-◌, ◌≤◌, List, ◌++◌, length, drop, take, refl, sym, ap, ◌∙◌, arith}
 use Rattle.std.specs.List.{refill}
 use Rattle.std.proofs.lemmas.List.{length-take, take-replicate, drop-replicate}
-use Rattle.raw_region.specs.Memory.{Cut, part, patched, whole, cut_at, zeros}
+use Rattle.raw_region.specs.Memory.{WindowState, part, patched, whole, cut_at, zeros}
 use Rattle.raw_region.specs.Regions.{with_bytes, IsWindow}
 use Rattle.raw_region.proofs.Patches.{length-part, part-part, whole-cut_at, cut_at-patched}
 
@@ -13,12 +13,14 @@ unfolding zeros
 all-zeros region base size inside e =
     let n = length region in
     let dropped = ap (λ (l : List ℕ). drop base l) e ∙ drop-replicate {X = ℕ} base n 0 in
-    let bytes = ap (λ (l : List ℕ). take size l) dropped ∙ take-replicate {X = ℕ} size (n - base) 0 (omega (arith, inside)) in
+    let bytes = ap (λ (l : List ℕ). take size l) dropped
+    ∙ take-replicate {X = ℕ} size (n - base) 0 (omega (arith, inside)) in
     ap (λ (l : List ℕ). with_bytes (cut_at region base size) l) bytes
 
-module _ (region : List ℕ) (base size : ℕ) (w : Cut) (view_is : cut_at region base size ≡ w) (window : IsWindow region base size) where
+module _ (region : List ℕ) (base size : ℕ) (w : WindowState) (view_is : cut_at region base size
+    ≡ w) (window : IsWindow region base size) where
   bytes_are : part region base size ≡ w.bytes
-  bytes_are = ap (λ (c : Cut). c.bytes) view_is
+  bytes_are = ap (λ (c : WindowState). c.bytes) view_is
 
   pub size_is : length w.bytes ≡ size
   size_is = ap (λ (l : List ℕ). length l) (sym bytes_are) ∙ length-part region base size window.inside
@@ -28,7 +30,8 @@ module _ (region : List ℕ) (base size : ℕ) (w : Cut) (view_is : cut_at regio
 
   -- the same from its base on, up to another end
   base_is : length w.before ≡ base
-  base_is = let inside = window.inside in ap (λ (c : Cut). length c.before) (sym view_is) ∙ omega (arith, length-take base region)
+  base_is = let inside = window.inside
+      in ap (λ (c : WindowState). length c.before) (sym view_is) ∙ omega (arith, length-take base region)
 
   pub resizes : (n : ℕ) → cut_at region base n ≡ cut_at (whole w) (length w.before) n
   resizes n = ap (λ (l : List ℕ). cut_at l base n) is_whole ∙ ap (λ (b : ℕ). cut_at (whole w) b n) (sym base_is)
@@ -37,17 +40,22 @@ module _ (region : List ℕ) (base size : ℕ) (w : Cut) (view_is : cut_at regio
   stays_whole n = whole-cut_at region base n ∙ is_whole
 
   pub reads : (from len : ℕ) → from + len ≤ length w.bytes → part region (base + from) len ≡ part w.bytes from len
-  reads from len h = sym (part-part region base size from len (omega (arith, size_is))) ∙ ap (λ (l : List ℕ). part l from len) bytes_are
+  reads from len h = sym (part-part region base size from len (omega (arith, size_is)))
+      ∙ ap (λ (l : List ℕ). part l from len) bytes_are
 
-  pub writes : (new : List ℕ) (from : ℕ) (ws : List ℕ) → from + length ws ≤ length w.bytes → new ≡ patched region (base + from) ws
+  pub writes : (new : List ℕ) (from : ℕ) (ws : List ℕ) → from + length ws ≤ length w.bytes
+      → new ≡ patched region (base + from) ws
       → cut_at new base size ≡ with_bytes w (patched w.bytes from ws)
   writes new from ws h e =
-      ap (λ (l : List ℕ). cut_at l base size) e ∙ cut_at-patched region base size from ws window.inside (omega (arith, size_is))
-      ∙ ap (λ (c : Cut). with_bytes c (patched c.bytes from ws)) view_is
+      ap (λ (l : List ℕ). cut_at l base size) e
+      ∙ cut_at-patched region base size from ws window.inside (omega (arith, size_is))
+      ∙ ap (λ (c : WindowState). with_bytes c (patched c.bytes from ws)) view_is
 
   pub lends : (from len : ℕ) → from + len ≤ length w.bytes → (ws : List ℕ)
-      → cut_at (patched region (base + from) (refill len (part region (base + from) len) ws)) base size ≡ with_bytes w (patched w.bytes from (refill len (part w.bytes from len) ws))
+      → cut_at (patched region (base + from) (refill len (part region (base + from) len) ws)) base size
+      ≡ with_bytes w (patched w.bytes from (refill len (part w.bytes from len) ws))
   lends from len h ws =
       ap (λ (l : List ℕ). cut_at (patched region (base + from) (refill len l ws)) base size) (reads from len h)
-      ∙ writes (patched region (base + from) (refill len (part w.bytes from len) ws)) from (refill len (part w.bytes from len) ws)
+      ∙ writes (patched region (base + from) (refill len (part w.bytes from len) ws)) from
+      (refill len (part w.bytes from len) ws)
       (omega (arith, length-take len (ws ++ drop (length ws) (part w.bytes from len)))) refl

@@ -1,5 +1,6 @@
 -- What the answers of readers and writers say.
-use Rattle.std.specs.Prelude.{◌≡◌, ◌<◌, ℕ, Bool, false, List, ◌++◌, length, take, nat_lt, ◌==◌, ◌&&◌, if◌then◌else◌, Result, Ok, Err}
+use Rattle.std.specs.Prelude.{◌≡◌, ◌<◌, ℕ, Bool, false, List, ◌++◌, length, take, nat_lt, ◌==◌, ◌&&◌, if◌then◌else◌}
+use Rattle.std.specs.Prelude.{Result, Ok, Err}
 
 -- a read of a slice that is not empty answered the end
 abbrev pub answers_end : {E : Type 0} → Result ℕ E → Bool
@@ -32,7 +33,7 @@ write_failures_in (Ok n) len = if (n == 0) && nat_lt 0 len then 1 else 0
 write_failures_in (Err e) len = 1
 
 -- new is old with some of the bytes, from the first on, but not all
-pub record AddsFront (old new bytes : List ℕ) : Type 0 where
+pub record AppendsProperPrefix (old new bytes : List ℕ) : Type 0 where
   pub count : ℕ
   pub fewer : count < length bytes
   pub added : new ≡ old ++ take count bytes

@@ -1,61 +1,61 @@
 -- What readers and writers gave and took: so far, and in a call.
 use Rattle.std.specs.Prelude.{◌≡◌, ◌<◌, ◌≤◌, ℕ, ◌+◌, Bool, List, ◌++◌, length, drop, nat_lt, Result, OnOk, OnErr}
-use Rattle.raw_region.specs.Answers.{AddsFront, failures_in}
+use Rattle.raw_region.specs.Answers.{AppendsProperPrefix, failures_in}
 
 -- ---- what a device did so far
 
 -- the bytes that a reader gave; whether its last read of a slice that is not empty answered the end, and how many reads
 -- did; and how many reads failed
-pub record Gave : Type 0 where
+pub record ReaderHistory : Type 0 where
   pub bytes : List ℕ
   pub ended : Bool
   pub ends : ℕ
   pub failures : ℕ
 
 -- the bytes that a writer took, and how many writes failed
-pub record Took : Type 0 where
+pub record WriterHistory : Type 0 where
   pub bytes : List ℕ
   pub failures : ℕ
 
 -- ---- what it did in a call
 
 -- of a reader: the bytes that it gave, whether its last read answered the end, and whether it failed
-pub record Given : Type 0 where
+pub record ReadDelta : Type 0 where
   pub bytes : List ℕ
   pub ended : Bool
   pub failed : Bool
 
 -- of a writer: the bytes that it took, and whether it failed
-pub record Taken : Type 0 where
+pub record WriteDelta : Type 0 where
   pub bytes : List ℕ
   pub failed : Bool
 
 -- from what it did before and after the call
-abbrev pub given_since : Gave → Gave → Given
-given_since old new =
+abbrev pub read_delta : ReaderHistory → ReaderHistory → ReadDelta
+read_delta old new =
     record { bytes = drop (length old.bytes) new.bytes; ended = new.ended; failed = nat_lt old.failures new.failures }
 
-abbrev pub taken_since : Took → Took → Taken
-taken_since old new = record { bytes = drop (length old.bytes) new.bytes; failed = nat_lt old.failures new.failures }
+abbrev pub write_delta : WriterHistory → WriterHistory → WriteDelta
+write_delta old new = record { bytes = drop (length old.bytes) new.bytes; failed = nat_lt old.failures new.failures }
 
 -- A call writes a text: all of it where it answers Ok; where it answers an error, not all of it, from the first byte
 -- on, and one more failure.
-pub record Writes {A E : Type 0} (old new : Took) (result : Result A E) (text : List ℕ) : Type 0 where
+pub record Writes {A E : Type 0} (old new : WriterHistory) (result : Result A E) (text : List ℕ) : Type 0 where
   pub ok : OnOk result (new.bytes ≡ old.bytes ++ text)
-  pub err : OnErr result (AddsFront old.bytes new.bytes text)
+  pub err : OnErr result (AppendsProperPrefix old.bytes new.bytes text)
   pub counted : new.failures ≡ old.failures + failures_in result
 
 -- the new bytes are the old ones, and more
-abbrev pub Grows : List ℕ → List ℕ → Type 0
-Grows old new = new ≡ old ++ drop (length old) new
+abbrev pub AppendsBytes : List ℕ → List ℕ → Type 0
+AppendsBytes old new = new ≡ old ++ drop (length old) new
 
 -- A call reads: what it was given comes behind what was given before, and this many of its reads failed.
-pub record Reads (old new : Gave) (failed : ℕ) : Type 0 where
-  pub grows : Grows old.bytes new.bytes
+pub record ReadsSource (old new : ReaderHistory) (failed : ℕ) : Type 0 where
+  pub grows : AppendsBytes old.bytes new.bytes
   pub counted : new.failures ≡ old.failures + failed
 
 -- A call asks a reader no more behind its end: at most one of its reads answered it.
-abbrev pub EndsAtMostOnce : Gave → Gave → Type 0
+abbrev pub EndsAtMostOnce : ReaderHistory → ReaderHistory → Type 0
 EndsAtMostOnce old new = new.ends ≤ old.ends + 1
 
 -- front is what stands before some further byte of all

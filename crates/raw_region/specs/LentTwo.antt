@@ -6,7 +6,9 @@ use Rattle.raw_region.specs.Memory.{part, patched}
 
 -- xs with what was written to two of its parts
 abbrev pub with_two : List ℕ → ℕ → ℕ → ℕ → ℕ → List ℕ → List ℕ → List ℕ
-with_two xs from len from' len' ws ws' = patched (patched xs from (refill len (part xs from len) ws)) from' (refill len' (part xs from' len') ws')
+with_two xs from len from' len' ws ws' =
+    patched (patched xs from (refill len (part xs from len) ws)) from' (refill len' (part xs from' len') ws')
 
 abbrev pub LendsTwo : MutBor (List ℕ) → ℕ → ℕ → ℕ → ℕ → MutBor (List ℕ) × MutBor (List ℕ) → Fml
-LendsTwo s from len from' len' r = LendsBoth (Array u8 0) (Array u8 0) (Array u8 0) s r (with_two s.now from len from' len')
+LendsTwo s from len from' len' r =
+    LendsBoth (Array u8 0) (Array u8 0) (Array u8 0) s r (with_two s.now from len from' len')

@@ -8,7 +8,10 @@ use Rattle.raw_region.specs.contracts.block.Block.{the_row}
 
 -- b with ws in the place of the len bytes from an offset on
 abbrev pub rewritten : Block → ℕ → ℕ → List ℕ → Block
-rewritten b from len ws = record { place = b.place; items = patched b.items from (refill len (part b.items from len) ws) }
+rewritten b from len ws = record {
+  place = b.place;
+  items = patched b.items from (refill len (part b.items from len) ws);
+}
 
 -- b ends so where r ends as ws
 abbrev pub lends_part : MutBor Block → ℕ → ℕ → MutBor (List ℕ) → Fml

@@ -1,5 +1,6 @@
 -- Memory as contracts see it: the byte at each offset. A window and a list of bytes are both read in this way.
-use Rattle.std.specs.Prelude.{◌≡◌, ℕ, zero, suc, ◌+◌, ◌≤◌, ◌<◌, ◌⊎◌, Bool, List, [], ◌∷◌, ◌++◌, length, take, drop, slice_index, replicate}
+use Rattle.std.specs.Prelude.{◌≡◌, ℕ, zero, suc, ◌+◌, ◌≤◌, ◌<◌, ◌⊎◌, Bool, List, [], ◌∷◌, ◌++◌, length, take, drop}
+use Rattle.std.specs.Prelude.{slice_index, replicate}
 use Rattle.std.specs.Prelude.{nat_lt}
 use Rattle.std.specs.List.{list_all}
 use Rattle.byteorder.specs.Endian.{little_number, little_bytes}
@@ -26,8 +27,8 @@ read m at zero = []
 read m at (suc n) = m at ∷ read m (at + 1) n
 
 -- memory has these bytes at this offset
-abbrev pub Has : Memory → ℕ → List ℕ → Type 0
-Has m at bytes = read m at (length bytes) ≡ bytes
+abbrev pub HasBytesAt : Memory → ℕ → List ℕ → Type 0
+HasBytesAt m at bytes = read m at (length bytes) ≡ bytes
 
 -- a word is eight bytes and a half word four, the lowest first
 unfoldable pub word_bytes : ℕ → List ℕ
@@ -55,25 +56,25 @@ abbrev pub patched : List ℕ → ℕ → List ℕ → List ℕ
 patched b from bytes = take from b ++ bytes ++ drop (from + length bytes) b
 
 -- a list of bytes in three pieces: a window is the middle one, and its base is the length of the first
-pub record Cut : Type 0 where
+pub record WindowState : Type 0 where
   pub before : List ℕ
   pub bytes : List ℕ
   pub after : List ℕ
 
 -- all bytes of the region that a window lies in
-abbrev pub whole : Cut → List ℕ
+abbrev pub whole : WindowState → List ℕ
 whole c = c.before ++ c.bytes ++ c.after
 
 -- the window of size bytes at this base of a region
-abbrev pub cut_at : List ℕ → ℕ → ℕ → Cut
+abbrev pub cut_at : List ℕ → ℕ → ℕ → WindowState
 cut_at b base size = record { before = take base b; bytes = part b base size; after = drop (base + size) b }
 
 -- the bytes from an offset up to another stay
-pub record Same (m m' : Memory) (from to : ℕ) : Type 0 where
+pub record SameBytes (m m' : Memory) (from to : ℕ) : Type 0 where
   pub at : (k : ℕ) → from ≤ k → k < to → m' k ≡ m k
 
 -- all bytes stay but the n from an offset on
-pub record SameBut (m m' : Memory) (from n : ℕ) : Type 0 where
+pub record SameBytesExcept (m m' : Memory) (from n : ℕ) : Type 0 where
   pub at : (k : ℕ) → (k < from) ⊎ (from + n ≤ k) → m' k ≡ m k
 
 -- the bytes from an offset up to another are 0
@@ -81,6 +82,6 @@ pub record AreZero (m : Memory) (from to : ℕ) : Type 0 where
   pub at : (k : ℕ) → from ≤ k → k < to → m k ≡ 0
 
 -- what lies round the window stays
-pub record SamePlace (old new : Cut) : Type 0 where
+pub record SameSurroundings (old new : WindowState) : Type 0 where
   pub before : new.before ≡ old.before
   pub after : new.after ≡ old.after

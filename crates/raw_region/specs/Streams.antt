@@ -1,17 +1,17 @@
 -- Readers and writers over others, as contracts see them.
 use Rattle.std.specs.Prelude.{ℕ, Bool, List, refl}
-use Rattle.raw_region.specs.Device.{Gave, Took}
+use Rattle.raw_region.specs.Device.{ReaderHistory, WriterHistory}
 use Rattle.std.specs.Coded.{Coded, code_by, coded×, coded_ℕ, coded_bool, coded_list}
 
 -- a reader that stands over another one: that one as it is now, and what it did itself
 pub record GaveFrom (R : Type 0) : Type 0 where
   pub inner : R
-  pub history : Gave
+  pub history : ReaderHistory
 
 -- a writer that stands over another one
 pub record TookTo (W : Type 0) : Type 0 where
   pub inner : W
-  pub history : Took
+  pub history : WriterHistory
 
 -- how they are stored
 abbrev pub gave_from_code : {R : Type 0} → Coded R → Coded (GaveFrom R)

@@ -1,9 +1,9 @@
 //! Readers and writers as the crates above are given them: contracts see every byte that they give
 //! or take, and count each failure.
 ghost use Rattle.std.specs.Prelude.{◌≡◌, ◌+◌, ◌-◌, ◌^◌, ◌<◌, ◌≤◌, ◌++◌, length, take, IfOk, OnErr};
-ghost use Rattle.raw_region.specs.Answers.{answers_end, falls_short, ends_in, ends_short, AddsFront};
+ghost use Rattle.raw_region.specs.Answers.{answers_end, falls_short, ends_in, ends_short, AppendsProperPrefix};
 ghost use Rattle.raw_region.specs.Answers.{failures_in, write_failures_in};
-ghost use Rattle.raw_region.specs.Device.{Gave, Took, Writes};
+ghost use Rattle.raw_region.specs.Device.{ReaderHistory, WriterHistory, Writes};
 
 use thiserror::Error;
 
@@ -16,7 +16,7 @@ pub struct DeviceFault;
 pub trait Source {
     // What it did so far: all bytes that it gave, whether its last read of a slice that is not empty answered the end,
     // how many reads did, and how many failed.
-    ghost history: { Self → Gave };
+    ghost history: { Self → ReaderHistory };
 
     /// Reads into the front of the slice, and answers how many bytes. 0 for a slice that is not
     /// empty is the end. An error gives no byte.
@@ -28,13 +28,13 @@ pub trait Source {
         ensures end { 0 < length into.old → (history self.new).ended ≡ answers_end result }
         ensures same_end { length into.old ≡ 0 → (history self.new).ended ≡ (history self.old).ended }
         ensures ends { (history self.new).ends ≡ (history self.old).ends + ends_in result (length into.old) }
-        ensures counted { (history self.new).failures ≡ (history self.old).failures + failures_in result };
+        ensures failures { (history self.new).failures ≡ (history self.old).failures + failures_in result };
 }
 
 /// A writer.
 pub trait Sink {
     // What it did so far: all bytes that it took, and how many writes failed.
-    ghost history: { Self → Took };
+    ghost history: { Self → WriterHistory };
 
     /// Takes the front of the slice, and answers how many bytes. To take none of a slice that is
     /// not empty is a failure. An error takes no byte.
@@ -43,7 +43,8 @@ pub trait Sink {
         ensures count { IfOk result (λ n. n ≤ length bytes.now) }
         ensures bytes { IfOk result (λ n. (history self.new).bytes ≡ (history self.old).bytes ++ take n bytes.now) }
         ensures no_bytes { OnErr result ((history self.new).bytes ≡ (history self.old).bytes) }
-        ensures counted { (history self.new).failures ≡ (history self.old).failures + write_failures_in result (length bytes.now) };
+        ensures failures { (history self.new).failures
+            ≡ (history self.old).failures + write_failures_in result (length bytes.now) };
 }
 
 /// Writes all the bytes, unless the writer fails.
@@ -63,15 +64,16 @@ pub fn write_all<S: Sink>(sink: &mut S, bytes: &[u8]) -> Result<(), DeviceFault>
 }
 
 /// Reads until the slice is full, the reader ends or fails, and answers how many bytes. It asks no more behind the end.
-pub fn fill<S: Source>(source: &mut S, into: &mut [u8]) -> Result<usize, DeviceFault>
+pub fn read_full<S: Source>(source: &mut S, into: &mut [u8]) -> Result<usize, DeviceFault>
     requires { (S.history source.old).failures < 2 ^ 64 - 1 }
     ensures count { IfOk result (λ n. n ≤ length into.new) }
     ensures bytes { IfOk result (λ n. (S.history source.new).bytes ≡ (S.history source.old).bytes ++ take n into.new) }
-    ensures err { OnErr result (AddsFront (S.history source.old).bytes (S.history source.new).bytes into.new) }
+    ensures on_error { OnErr result
+        (AppendsProperPrefix (S.history source.old).bytes (S.history source.new).bytes into.new) }
     ensures end { 0 < length into.old → (S.history source.new).ended ≡ falls_short result (length into.old) }
     ensures same_end { length into.old ≡ 0 → (S.history source.new).ended ≡ (S.history source.old).ended }
     ensures ends { (S.history source.new).ends ≡ (S.history source.old).ends + ends_short result (length into.old) }
-    ensures counted { (S.history source.new).failures ≡ (S.history source.old).failures + failures_in result }
+    ensures failures { (S.history source.new).failures ≡ (S.history source.old).failures + failures_in result }
 {
     let mut filled = 0;
     'pieces: while filled < into.len() {

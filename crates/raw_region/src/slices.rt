@@ -22,9 +22,10 @@ pub fn set_word_in(bytes: &mut [u8], at: usize, value: u64)
     LittleEndian::write_u64(&mut bytes[at..at + 8], value);
 }
 
-/// The elements of a slice of type `u8` are below 256. Nothing is done: a contract knows it of a parameter's type alone.
+/// The elements of a slice of type `u8` are below 256. Nothing is done: a contract knows it of a parameter's type
+/// alone.
 #[inline(always)]
 pub fn hold_bytes(bytes: &[u8])
-    ensures each { AreBytes bytes.now }
-    ensures all { IsTrue (are_bytes bytes.now) }
+    ensures each_element { AreBytes bytes.now }
+    ensures every { IsTrue (are_bytes bytes.now) }
 {}

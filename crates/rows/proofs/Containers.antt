@@ -4,7 +4,7 @@ use Rattle.std.specs.Cmp.Lexicographic.{slice_cmp}
 use Rattle.std.specs.Ordering.{nat_cmp, is_lt}
 use Rattle.raw_region.specs.Memory.{Memory, bytes_of, word_at, word_bytes}
 use Rattle.block_tags.specs.declared.tile.Role.TheVariants.{Storage, Node}
-use Rattle.best_fit.specs.Table.{Table}
+use Rattle.best_fit.specs.Table.{BackingArray}
 use Rattle.seg_vector.specs.Vector.{IsVectorOf, is_vector}
 use Rattle.seg_map.specs.Map.{Pair, IsMapAt, put_pair, remove_pair, is_rising, is_pair}
 use Rattle.rows.proofs.Images.{words, extent, table}
@@ -25,7 +25,7 @@ is_point p = true
 abbrev points_memory : Memory
 points_memory = bytes_of (words (40 ∷ 2 ∷ 3 ∷ 0 ∷ 32 ∷ []) ++ 1 ∷ 2 ∷ 3 ∷ 4 ∷ [])
 
-abbrev three : Table
+abbrev three : BackingArray
 three = table 3 (extent 24 32 Storage)
 
 points : IsVectorOf point_bytes points_memory 0 ((1, 2) ∷ (3, 4) ∷ []) three

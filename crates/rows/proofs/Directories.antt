@@ -3,7 +3,7 @@ use Rattle.std.proofs.Common.{◌≡◌, refl, ap, ℕ, pos, List, [], ◌∷◌
 use Rattle.raw_region.specs.Memory.{Memory, bytes_of, word_at, word_bytes}
 use Rattle.offset_link.specs.Link.{link_at}
 use Rattle.block_tags.specs.declared.tile.Role.TheVariants.{Object, Storage}
-use Rattle.best_fit.specs.Table.{no_table}
+use Rattle.best_fit.specs.Table.{no_backing}
 use Rattle.seg_types.specs.declared.kinds.ScalarKind.TheVariants.{I64}
 use Rattle.seg_types.specs.declared.kinds.Class.TheVariants.{Anonymous}
 use Rattle.seg_vector.specs.Vector.{IsVectorAt, IsTextAt, IsTextsAt}
@@ -17,7 +17,8 @@ abbrev one_text : ℕ → SomeObject
 one_text byte = record {
   class = Anonymous;
   name = [];
-  value = Texts (record { bytes = byte ∷ []; extent = Some (extent 224 32 Storage) } ∷ []) (table 1 (extent 192 32 Storage));
+  value = Texts (record { bytes = byte ∷ []; extent = Some (extent 224 32 Storage) } ∷ [])
+      (table 1 (extent 192 32 Storage));
   extent = extent 128 64 Object;
 }
 
@@ -52,18 +53,19 @@ capacity_word : word_at null_words 16 ≡ 0
 unfolding word_at word_bytes
 capacity_word = refl
 
-no_vector : (m : Memory) → IsVectorAt m 0 I64 (pos 5 ∷ []) no_table → ⊥
+no_vector : (m : Memory) → IsVectorAt m 0 I64 (pos 5 ∷ []) no_backing → ⊥
 no_vector m h = not_empty 5 _ h.storage
 
-no_text : (m : Memory) → IsTextAt m 0 (5 ∷ []) no_table → ⊥
+no_text : (m : Memory) → IsTextAt m 0 (5 ∷ []) no_backing → ⊥
 no_text m h = not_empty 5 [] h.storage
 
 -- an array with an empty text, and a text of one byte in no block
-no_array : (m : Memory) → IsTextsAt m 0 (record { bytes = []; extent = None } ∷ []) no_table → ⊥
+no_array : (m : Memory) → IsTextsAt m 0 (record { bytes = []; extent = None } ∷ []) no_backing → ⊥
 no_array m h = not_empty _ [] h.array
 
-no_bytes : (m : Memory) → IsTextsAt m 0 (record { bytes = 5 ∷ []; extent = None } ∷ []) (table 1 (extent 192 32 Storage)) → ⊥
+no_bytes : (m : Memory) → IsTextsAt m 0 (record { bytes = 5 ∷ []; extent = None } ∷ [])
+    (table 1 (extent 192 32 Storage)) → ⊥
 no_bytes m h = not_empty 5 [] h.texts.0
 
-no_entry : (m : Memory) → IsIndexAt m 32 no_table (144 ∷ []) → ⊥
+no_entry : (m : Memory) → IsIndexAt m 32 no_backing (144 ∷ []) → ⊥
 no_entry m h = not_empty 144 [] h.entries

@@ -21,7 +21,8 @@ orders = refl
 abbrev vectors : Memory
 vectors = bytes_of vectors_image
 
-entry : code_at vectors 192 ∷ count_at vectors 192 ∷ name_len_at vectors 192 ∷ class_at vectors 192 ∷ [] ≡ 131076 ∷ 1 ∷ 1 ∷ 1 ∷ []
+entry : code_at vectors 192 ∷ count_at vectors 192 ∷ name_len_at vectors 192 ∷ class_at vectors 192 ∷ []
+    ≡ 131076 ∷ 1 ∷ 1 ∷ 1 ∷ []
 unfolding word_at word_bytes zeros
 entry = refl
 

@@ -16,7 +16,8 @@ use Rattle.segment_manager.specs.declared.modes.Mode.TheVariants.{Write, ReadOnl
 use Rattle.segment_manager.specs.Directory.{empty, live}
 use Rattle.segment_manager.specs.Answers.{Made, Refused}
 use Rattle.segment_manager.specs.Step.{step}
-use Rattle.grow_shrink.specs.declared.refusals.GrowError.TheVariants.{ReadOnly as ReadOnlyError, BadGrow, TooLarge, RegionTooSmall}
+use Rattle.grow_shrink.specs.declared.refusals.GrowError.TheVariants.{ReadOnly as ReadOnlyError, BadGrow, TooLarge}
+use Rattle.grow_shrink.specs.declared.refusals.GrowError.TheVariants.{RegionTooSmall}
 use Rattle.grow_shrink.specs.Resized.{grown, shrunk, growth_refusal}
 use Rattle.rows.proofs.Images.{named_image, with_number}
 
@@ -26,7 +27,14 @@ abbrev allocated : LiveSet → ℕ → LiveSet
 allocated live n = elim (place live n Object) [ None ↦ live | Some x ↦ added live x ]
 
 abbrev block : LiveSet → ℕ → Extent
-block live h = elim (find (λ (x : Extent). handle x == h) live.extents) [ None ↦ record { offset = 0; len = 0; role = Object } | Some x ↦ x ]
+block live h = elim (find (λ (x : Extent). handle x == h) live.extents) [
+  | None ↦ record {
+    offset = 0;
+    len = 0;
+    role = Object;
+  }
+  | Some x ↦ x
+]
 
 abbrev lengthened : LiveSet → Extent → ℕ → LiveSet
 lengthened live x n = elim (longer live x n) [ None ↦ live | Some y ↦ resized live y ]
@@ -93,17 +101,20 @@ tree_order = refl
 abbrev tile : ℕ → ℕ → Tile
 tile offset len = record { offset = offset; len = len; use_of = None; red = false }
 
-named_tiles : tiles_of (bytes_of named_image) 1024 ≡ record (tile 128 48) { use_of = Some Index } ∷ record (tile 176 48) { use_of = Some Object } ∷ tile 224 784 ∷ []
+named_tiles : tiles_of (bytes_of named_image) 1024
+    ≡ record (tile 128 48) { use_of = Some Index } ∷ record (tile 176 48) { use_of = Some Object } ∷ tile 224 784 ∷ []
 unfolding word_at word_bytes zeros
 named_tiles = refl
 
 -- ---- an iterator that ends too early, after all requests were met: nothing changes
 
-too_few_items : step Write (empty 1024) (asked.ConstructIt (ByName (codes "v")) I64 3 (pos 1 ∷ pos 2 ∷ [])) ≡ (Refused OutOfRange, empty 1024)
+too_few_items : step Write (empty 1024) (asked.ConstructIt (ByName (codes "v")) I64 3 (pos 1 ∷ pos 2 ∷ []))
+    ≡ (Refused OutOfRange, empty 1024)
 unfolding step
 too_few_items = refl
 
-enough_items : (step Write (empty 1024) (asked.ConstructIt (ByName (codes "v")) I64 3 (pos 1 ∷ pos 2 ∷ pos 3 ∷ []))).0 ≡ Made 192
+enough_items : (step Write (empty 1024)
+    (asked.ConstructIt (ByName (codes "v")) I64 3 (pos 1 ∷ pos 2 ∷ pos 3 ∷ []))).0 ≡ Made 192
 unfolding step
 enough_items = refl
 

@@ -3,9 +3,12 @@ use Rattle.std.proofs.Common.{◌≡◌, refl, ℕ, List, [], ◌∷◌, ◌++�
 use Rattle.raw_region.specs.Memory.{patched, word_bytes, half_word_bytes, word_at, half_word_at, zeros}
 use Rattle.seg_types.specs.Names.{is_text_name}
 use Rattle.image_check.specs.declared.classes.ImageClass.{ImageClass}
-use Rattle.image_check.specs.declared.classes.ImageClass.TheVariants.{Truncated, BadMagic, UnsupportedVersion, BadSize, BadReserved, BadTag, BadFreeTree, BadIndex, BadObject, SharedBlock, BadContainer, OrphanBlock}
+use Rattle.image_check.specs.declared.classes.ImageClass.TheVariants.{Truncated, BadMagic, UnsupportedVersion, BadSize}
+use Rattle.image_check.specs.declared.classes.ImageClass.TheVariants.{BadReserved, BadTag, BadFreeTree, BadIndex}
+use Rattle.image_check.specs.declared.classes.ImageClass.TheVariants.{BadObject, SharedBlock, BadContainer, OrphanBlock}
 use Rattle.image_check.specs.Classes.{class_of}
-use Rattle.rows.proofs.Images.{words, magic_word, fresh_image, named_image, two_names_image, vectors_image, pair_image, map_image}
+use Rattle.rows.proofs.Images.{words, magic_word, fresh_image, named_image, two_names_image, vectors_image, pair_image}
+use Rattle.rows.proofs.Images.{map_image}
 
 -- each image has the class that stands beside it
 abbrev AreOf : ℕ → List (List ℕ × Option ImageClass) → Type 0
@@ -141,7 +144,8 @@ plain_damaged = refl
 abbrev texts_image : List ℕ
 texts_image =
     words (magic_word ∷ 2 ∷ 1024 ∷ 344 ∷ 112 ∷ 1 ∷ 4 ∷ 1 ∷ []) ++ zeros 72
-    ++ words (53 ∷ 48 ∷ 0 ∷ 0 ∷ 0 ∷ 48 ∷ 65 ∷ 4295229440 ∷ 4294967297 ∷ 118 ∷ 40 ∷ 2 ∷ 2 ∷ 64 ∷ 57 ∷ 48 ∷ 1 ∷ 64 ∷ 2 ∷ 48 ∷ 41 ∷ 97 ∷ 0 ∷ 32 ∷ 41 ∷ 25186 ∷ 0 ∷ 32 ∷ 656 ∷ 1 ∷ 1 ∷ [])
+    ++ words (53 ∷ 48 ∷ 0 ∷ 0 ∷ 0 ∷ 48 ∷ 65 ∷ 4295229440 ∷ 4294967297 ∷ 118 ∷ 40 ∷ 2 ∷ 2 ∷ 64 ∷ 57 ∷ 48 ∷ 1 ∷ 64 ∷ 2
+    ∷ 48 ∷ 41 ∷ 97 ∷ 0 ∷ 32 ∷ 41 ∷ 25186 ∷ 0 ∷ 32 ∷ 656 ∷ 1 ∷ 1 ∷ [])
     ++ zeros 624 ++ words (656 ∷ 1 ∷ [])
 
 -- the image of a directory; two texts with one block, a text above its block, a text of nothing

@@ -3,7 +3,8 @@ use Rattle.std.proofs.Common.{◌≡◌, refl, ℕ, pos, negsuc, List, [], ◌�
 use Rattle.seg_types.specs.declared.kinds.ScalarKind.TheVariants.{I64, U8}
 use Rattle.seg_types.specs.declared.kinds.Kind.TheVariants.{Map}
 use Rattle.seg_types.specs.Names.{ByName, ByKind, NoKey}
-use Rattle.seg_types.specs.Commands.{Reading, Nothing, Asked, UnknownCommand, LineTooLong, BadSyntax, Size, Append, Set, Whole, Truth, Quoted, Construct, Numbers, NoPairs, Assign}
+use Rattle.seg_types.specs.Commands.{Reading, Nothing, Asked, UnknownCommand, LineTooLong, BadSyntax, Size, Append, Set}
+use Rattle.seg_types.specs.Commands.{Whole, Truth, Quoted, Construct, Numbers, NoPairs, Assign}
 use Rattle.segment_lang.specs.Language.{whole}
 use Rattle.segment_lang.specs.Reading.{reading}
 
@@ -59,7 +60,10 @@ kinds : AreRead (
     ∷ (codes "construct i64[0] a 1", BadSyntax)
     ∷ (codes "construct i64[3] - 7", Asked (Construct NoKey (Numbers I64 (pos 7 ∷ pos 7 ∷ pos 7 ∷ []))))
     ∷ (codes "construct map<u8,i64> @map<u8,i64>", Asked (Construct (ByKind (Map U8 I64)) (NoPairs U8 I64)))
-    ∷ (codes "assign v 1 true \"x\"", Asked (Assign (ByName (codes "v")) (Whole (pos 1) ∷ Truth true ∷ Quoted (codes "x") ∷ [])))
+    ∷ (
+      codes "assign v 1 true \"x\"",
+      Asked (Assign (ByName (codes "v")) (Whole (pos 1) ∷ Truth true ∷ Quoted (codes "x") ∷ [])),
+    )
     ∷ []
     )
 unfolding reading

@@ -12,7 +12,8 @@ abbrev two_gaps : LiveSet
 two_gaps = record { size = 256; extents = extent 160 32 Object ∷ [] }
 
 -- the second goes where the first has left room
-both_placed : place_all two_gaps ((1, Storage) ∷ (20, Storage) ∷ []) ≡ Some (extent 128 32 Storage ∷ extent 192 48 Storage ∷ [])
+both_placed : place_all two_gaps ((1, Storage) ∷ (20, Storage) ∷ [])
+    ≡ Some (extent 128 32 Storage ∷ extent 192 48 Storage ∷ [])
 unfolding place fit gaps
 both_placed = refl
 
@@ -21,7 +22,8 @@ without_room : place_all two_gaps ((20, Storage) ∷ (20, Storage) ∷ []) ≡ N
 unfolding place fit gaps
 without_room = refl
 
-all_live : all_added two_gaps (extent 192 48 Storage ∷ extent 128 32 Storage ∷ []) ≡ record { size = 256; extents = extent 128 32 Storage ∷ extent 160 32 Object ∷ extent 192 48 Storage ∷ [] }
+all_live : all_added two_gaps (extent 192 48 Storage ∷ extent 128 32 Storage ∷ [])
+    ≡ record { size = 256; extents = extent 128 32 Storage ∷ extent 160 32 Object ∷ extent 192 48 Storage ∷ [] }
 all_live = refl
 
 -- of three texts the empty one asks for nothing
@@ -32,5 +34,8 @@ needs : text_needs three_texts ≡ (1, Storage) ∷ (2, Storage) ∷ []
 needs = refl
 
 texts : owned_texts three_texts (extent 128 32 Storage ∷ extent 192 48 Storage ∷ [])
-    ≡ record { bytes = 7 ∷ []; extent = Some (extent 128 32 Storage) } ∷ record { bytes = []; extent = None } ∷ record { bytes = 8 ∷ 9 ∷ []; extent = Some (extent 192 48 Storage) } ∷ []
+    ≡ record { bytes = 7 ∷ []; extent = Some (extent 128 32 Storage) } ∷ record {
+      bytes = [];
+      extent = None;
+    } ∷ record { bytes = 8 ∷ 9 ∷ []; extent = Some (extent 192 48 Storage) } ∷ []
 texts = refl

@@ -3,7 +3,7 @@ ghost use Rattle.std.specs.Prelude.{◌≡◌, ◌<◌, ◌-◌, ◌^◌, ◌%�
 
 use crate::among::runs_among;
 use crate::names::{class_name, fault_name};
-use image_check::{ExamineError, Versions, examine_bytes};
+use image_check::{AcceptedVersions, ExamineError, examine_bytes};
 use memory_devices::{MemorySink, MemorySource};
 use raw_region::{RawRegion, Steps};
 use rows_trials::{Call, Case, Outcome, Place, Runner};
@@ -44,7 +44,7 @@ fn verdict_on(alloc: Global, image: &[u8]) -> Option<(&'static str, u64)> {
         return None;
     };
     let mut steps = Steps::new();
-    match examine_bytes(Versions::All, alloc, image, region, 0, &mut steps) {
+    match examine_bytes(AcceptedVersions::All, alloc, image, region, 0, &mut steps) {
         Ok(_) => None,
         Err(refused) => match refused.cause {
             ExamineError::Image(verdict) => Some((class_name(verdict.class), verdict.place)),
@@ -87,7 +87,7 @@ fn outcome_by(
     answers: &mut MemorySink,
     saved: &mut MemorySink,
 ) -> Result<Outcome, AllocError>
-    requires answers { answers.old.failures < 2 ^ 64 - 1 }
+    requires outcome { answers.old.failures < 2 ^ 64 - 1 }
     requires saved { saved.old.failures < 2 ^ 64 - 1 }
 {
     Ok(Outcome {
@@ -104,7 +104,7 @@ fn fault(
     answers: &mut MemorySink,
     saved: &mut MemorySink,
 ) -> Result<&'static str, AllocError>
-    requires answers { answers.old.failures < 2 ^ 64 - 1 }
+    requires outcome { answers.old.failures < 2 ^ 64 - 1 }
     requires saved { saved.old.failures < 2 ^ 64 - 1 }
 {
     let piece = case.piece;

@@ -1,42 +1,48 @@
 -- Changes of a heap, one after another, and what stays beside the words of an index.
 use Rattle.seg_index.proofs.Common.{IsTrue, has_room, heap_touches, is_live_in, ◌≡◌, ap, subst, ◌∙◌, ℕ, ◌+◌, ◌-◌, ◌≤◌}
-use Rattle.seg_index.proofs.Common.{current, Cut, bytes_of, SamePlace-trans, Role, LiveSet, added, others, IsAllocated}
-use Rattle.seg_index.proofs.Common.{IsChanged, IsHeap, LaysOut, live_of, allocated-live, laid-heap, inl, inr, List}
-use Rattle.seg_index.proofs.Common.{arith, Option, Some, None, Same-part, Extent, Keeps, SameBlock, changed-keeps}
-use Rattle.seg_index.proofs.Common.{KeepsRest, without_link}
-use Rattle.raw_region.proofs.Laws.{SameBut-trans, SameBut-wider, Same-trans, SameBut-Same}
+use Rattle.seg_index.proofs.Common.{current, WindowState, bytes_of, SameSurroundings-trans, Role, LiveSet, added}
+use Rattle.seg_index.proofs.Common.{others, AllocatesOk}
+use Rattle.seg_index.proofs.Common.{ChangesBytes, IsHeap, EncodesLiveSet, live_of, allocated-live, laid-heap, inl, inr}
+use Rattle.seg_index.proofs.Common.{List}
+use Rattle.seg_index.proofs.Common.{arith, Option, Some, None, SameBytes-part, Extent, KeepsBlocks, SameBlock}
+use Rattle.seg_index.proofs.Common.{changed-keeps}
+use Rattle.seg_index.proofs.Common.{KeepsOutsideIndex, without_link}
+use Rattle.raw_region.proofs.Laws.{SameBytesExcept-trans, SameBytesExcept-wider, SameBytes-trans}
+use Rattle.raw_region.proofs.Laws.{SameBytesExcept-SameBytes}
 use Rattle.best_fit.specs.Fit.{insert}
 use Rattle.best_fit.proofs.Laws.{changed-live, is_proper-IsProper, others-insert_same, AllByRecursion-others}
 use Rattle.best_fit.proofs.Laws.{blocks-trans, changed-header_blocks, others-comm}
 
 -- what a change leaves is the same live set
-pub same_live : {a b : Cut} {from n : ℕ} → IsChanged current a b from n → live_of b.bytes ≡ live_of a.bytes
+pub same_live : {a b : WindowState} {from n : ℕ} → ChangesBytes current a b from n → live_of b.bytes ≡ live_of a.bytes
 same_live c = changed-live current _ _ _ _ c
 
-pub changed_used : (a b : Cut) (from n h : ℕ) → IsChanged current a b from n → IsTrue (is_live_in (live_of a.bytes) h)
+pub changed_used : (a b : WindowState) (from n h : ℕ) → ChangesBytes current a b from n
+    → IsTrue (is_live_in (live_of a.bytes) h)
     → IsTrue (is_live_in (live_of b.bytes) h)
 changed_used a b from n h c used = rw (same_live c) used
 
-pub changed_touches : (a b : Cut) (from n : ℕ) → IsChanged current a b from n
+pub changed_touches : (a b : WindowState) (from n : ℕ) → ChangesBytes current a b from n
     → heap_touches (live_of b.bytes) ≡ heap_touches (live_of a.bytes)
 changed_touches a b from n c = ap heap_touches (same_live c)
 
-pub changed_heap : {a b : Cut} {from n : ℕ} → IsChanged current a b from n → IsHeap current b.bytes
+pub changed_heap : {a b : WindowState} {from n : ℕ} → ChangesBytes current a b from n → IsHeap current b.bytes
 changed_heap {a} {b} c = laid-heap b.bytes (live_of a.bytes) c.live
 
-pub changed_trans : {a b c : Cut} {f n g k : ℕ} (from m : ℕ) → IsChanged current a b f n → IsChanged current b c g k
-    → from ≤ f → f + n ≤ from + m → from ≤ g → g + k ≤ from + m → IsChanged current a c from m
+pub changed_trans : {a b c : WindowState} {f n g k : ℕ} (from m : ℕ) → ChangesBytes current a b f n
+    → ChangesBytes current b c g k
+    → from ≤ f → f + n ≤ from + m → from ≤ g → g + k ≤ from + m → ChangesBytes current a c from m
 changed_trans {a} {b} {c} {f} {n} {g} {k} from m i j low high low2 high2 =
     let A = bytes_of a.bytes in let B = bytes_of b.bytes in let C = bytes_of c.bytes in
     record {
-      place = SamePlace-trans a b c i.place j.place;
-      live = subst (λ (l : LiveSet). LaysOut current c.bytes l) (same_live i) j.live;
-      rest = SameBut-trans A B C from m (SameBut-wider A B f n from m i.rest low high)
-          (SameBut-wider B C g k from m j.rest low2 high2);
+      place = SameSurroundings-trans a b c i.place j.place;
+      live = subst (λ (l : LiveSet). EncodesLiveSet current c.bytes l) (same_live i) j.live;
+      rest = SameBytesExcept-trans A B C from m (SameBytesExcept-wider A B f n from m i.rest low high)
+          (SameBytesExcept-wider B C g k from m j.rest low2 high2);
     }
 
 -- without the block that was taken the blocks are those before
-pub taken_others : {a b : Cut} {n h : ℕ} {role : Role} → IsAllocated current a b n role h
+pub taken_others : {a b : WindowState} {n h : ℕ} {role : Role} → AllocatesOk current a b n role h
     → others h (live_of b.bytes).extents ≡ (live_of a.bytes).extents
 taken_others {a} {b} {n} {h} {role} i =
     let l = live_of a.bytes in let proper = (is_proper-IsProper (added l i.extent) i.live.proper).list in
@@ -52,30 +58,33 @@ pub record InHeader (at : ℕ) : Type 0 where
   pub small : at + 24 ≤ 128
 
 -- what keeps the header keeps the words beside those of an index
-pub rest_of : {a b : Cut} {at : ℕ} {xs : List Extent} → Keeps a b xs → InHeader at → KeepsRest a b at xs
+pub rest_of : {a b : WindowState} {at : ℕ} {xs : List Extent} → KeepsBlocks a b xs → InHeader at
+    → KeepsOutsideIndex a b at xs
 rest_of {a} {b} {at} k h =
     let A = bytes_of a.bytes in let B = bytes_of b.bytes in
     record {
       place = k.place;
       front = k.front;
-      before = Same-part A B 32 128 32 at k.behind (omega arith) (omega arith);
-      behind = Same-part A B 32 128 (at + 24) 128 k.behind (omega arith) (omega arith);
+      before = SameBytes-part A B 32 128 32 at k.behind (omega arith) (omega arith);
+      behind = SameBytes-part A B 32 128 (at + 24) 128 k.behind (omega arith) (omega arith);
       blocks = k.blocks;
     }
 
-pub rest_trans : {a b c : Cut} {at : ℕ} {xs : List Extent} → KeepsRest a b at xs → KeepsRest b c at xs
-    → KeepsRest a c at xs
+pub rest_trans : {a b c : WindowState} {at : ℕ} {xs : List Extent} → KeepsOutsideIndex a b at xs
+    → KeepsOutsideIndex b c at xs
+    → KeepsOutsideIndex a c at xs
 rest_trans {a} {b} {c} {at} {xs} p q =
     let A = bytes_of a.bytes in let B = bytes_of b.bytes in let C = bytes_of c.bytes in
     record {
-      place = SamePlace-trans a b c p.place q.place;
-      front = Same-trans A B C 0 24 p.front q.front;
-      before = Same-trans A B C 32 at p.before q.before;
-      behind = Same-trans A B C (at + 24) 128 p.behind q.behind;
+      place = SameSurroundings-trans a b c p.place q.place;
+      front = SameBytes-trans A B C 0 24 p.front q.front;
+      before = SameBytes-trans A B C 32 at p.before q.before;
+      behind = SameBytes-trans A B C (at + 24) 128 p.behind q.behind;
       blocks = blocks-trans A B C xs p.blocks q.blocks;
     }
 
-pub rest_others : {a b : Cut} {at : ℕ} {xs : List Extent} (h : ℕ) → KeepsRest a b at xs → KeepsRest a b at (others h xs)
+pub rest_others : {a b : WindowState} {at : ℕ} {xs : List Extent} (h : ℕ) → KeepsOutsideIndex a b at xs
+    → KeepsOutsideIndex a b at (others h xs)
 rest_others {a} {b} {xs = xs} h k = record {
   place = k.place;
   front = k.front;
@@ -84,36 +93,37 @@ rest_others {a} {b} {xs = xs} h k = record {
   blocks = AllByRecursion-others (SameBlock (bytes_of a.bytes) (bytes_of b.bytes)) h xs k.blocks;
 }
 
-pub rest_without : {a b : Cut} {at : ℕ} (l : LiveSet) (o : Option ℕ) → KeepsRest a b at l.extents
-    → KeepsRest a b at (without_link l o).extents
+pub rest_without : {a b : WindowState} {at : ℕ} (l : LiveSet) (o : Option ℕ) → KeepsOutsideIndex a b at l.extents
+    → KeepsOutsideIndex a b at (without_link l o).extents
 rest_without l None k = k
 rest_without l (Some h) k = rest_others h k
 
 -- a change of the three words
-pub keeps_words : {a b : Cut} {f n : ℕ} (at : ℕ) → IsChanged current a b f n → InHeader at → at ≤ f → f + n ≤ at + 24
-    → KeepsRest a b at (live_of a.bytes).extents
+pub keeps_words : {a b : WindowState} {f n : ℕ} (at : ℕ) → ChangesBytes current a b f n → InHeader at → at ≤ f
+    → f + n ≤ at + 24
+    → KeepsOutsideIndex a b at (live_of a.bytes).extents
 keeps_words {a} {b} {f} {n} at c h low high =
     let A = bytes_of a.bytes in let B = bytes_of b.bytes in
     record {
       place = c.place;
-      front = SameBut-Same A B f n 0 24 c.rest (inl (omega arith));
-      before = SameBut-Same A B f n 32 at c.rest (inl (omega arith));
-      behind = SameBut-Same A B f n (at + 24) 128 c.rest (inr (omega arith));
+      front = SameBytesExcept-SameBytes A B f n 0 24 c.rest (inl (omega arith));
+      before = SameBytesExcept-SameBytes A B f n 32 at c.rest (inl (omega arith));
+      behind = SameBytesExcept-SameBytes A B f n (at + 24) 128 c.rest (inr (omega arith));
       blocks = changed-header_blocks current a b f n c (omega arith);
     }
 
 -- a change within a block
-pub keeps_written : {a b : Cut} {n at : ℕ} (block k : ℕ) → IsChanged current a b (block + k) n
+pub keeps_written : {a b : WindowState} {n at : ℕ} (block k : ℕ) → ChangesBytes current a b (block + k) n
     → IsTrue (has_room (live_of a.bytes) block (k + n)) → InHeader at
-    → KeepsRest a b at (others block (live_of a.bytes).extents)
+    → KeepsOutsideIndex a b at (others block (live_of a.bytes).extents)
 keeps_written {a} {b} {n} block k c room h = rest_of (changed-keeps current a b block k n c room) h
 
 -- and then of the words
-pub keeps_both : {a b c : Cut} {n f m at : ℕ} (block k : ℕ) → IsChanged current a b (block + k) n
-    → IsTrue (has_room (live_of a.bytes) block (k + n)) → IsChanged current b c f m → InHeader at → at ≤ f
-    → f + m ≤ at + 24 → KeepsRest a c at (others block (live_of a.bytes).extents)
+pub keeps_both : {a b c : WindowState} {n f m at : ℕ} (block k : ℕ) → ChangesBytes current a b (block + k) n
+    → IsTrue (has_room (live_of a.bytes) block (k + n)) → ChangesBytes current b c f m → InHeader at → at ≤ f
+    → f + m ≤ at + 24 → KeepsOutsideIndex a c at (others block (live_of a.bytes).extents)
 keeps_both {a} {b} {c} {at = at} block k one room two h low high = rest_trans (keeps_written block k one room h)
-    (subst (λ (l : LiveSet). KeepsRest b c at (others block l.extents)) (same_live one)
+    (subst (λ (l : LiveSet). KeepsOutsideIndex b c at (others block l.extents)) (same_live one)
     (rest_others block (keeps_words at two h low high)))
 
 -- ---- two blocks less

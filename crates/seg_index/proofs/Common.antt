@@ -1,24 +1,27 @@
 -- The names that most proofs cite, passed on from one place.
 pub use Rattle.best_fit.proofs.Laws.{allocated-live, among, changed-keeps, found-less, found-new, found-room, laid-heap}
 pub use Rattle.best_fit.proofs.Laws.{live-rises, released-live, rising-insert, room-less, room_block}
-pub use Rattle.best_fit.specs.Heap.{IsAllocated, IsChanged, IsHeap, IsReleased, Keeps, LaysOut, SameBlock, extent_at}
+pub use Rattle.best_fit.specs.Heap.{AllocatesOk, ChangesBytes, IsHeap, Deallocates, KeepsBlocks, EncodesLiveSet}
+pub use Rattle.best_fit.specs.Heap.{SameBlock, extent_at}
 pub use Rattle.best_fit.specs.Heap.{has_room, heap_touches, is_live_in, live_of}
 pub use Rattle.best_fit.specs.{Extents.Extent, Extents.LiveSet, Extents.handle, Extents.holds, Fit.added, Fit.others}
-pub use Rattle.best_fit.specs.{Fit.place, Fit.released, Table.Table, Table.same_role, Table.serves}
+pub use Rattle.best_fit.specs.{Fit.place, Fit.released, Table.BackingArray, Table.same_role, Table.serves}
 pub use Rattle.block_tags.specs.declared.tile.Role.{TheVariants.Index as IndexRole, Role}
 pub use Rattle.byteorder.specs.Endian.{big_number}
 pub use Rattle.link_tree.specs.Tree.{bits}
-pub use Rattle.offset_link.proofs.Laws.{Same-link, SameBut-link}
-pub use Rattle.offset_link.specs.{Relinked.AllLead, Relinked.KeepTargets, Link.link_at}
-pub use Rattle.raw_region.proofs.Laws.{Same-part, Same-word, SameBut-word, SamePlace-trans}
-pub use Rattle.raw_region.specs.{Memory.Cut, Memory.Memory, Memory.Same, Memory.bytes_of, Memory.read, Format.current}
+pub use Rattle.offset_link.proofs.Laws.{SameBytes-link, SameBytesExcept-link}
+pub use Rattle.offset_link.specs.{Relinked.AllLinksLead, Relinked.KeepTargets, Link.link_at}
+pub use Rattle.raw_region.proofs.Laws.{SameBytes-part, SameBytes-word, SameBytesExcept-word, SameSurroundings-trans}
+pub use Rattle.raw_region.specs.{Memory.WindowState, Memory.Memory, Memory.SameBytes, Memory.bytes_of, Memory.read}
+pub use Rattle.raw_region.specs.{Format.current}
 pub use Rattle.raw_region.specs.Memory.{AreBytes}
-pub use Rattle.seg_index.specs.Comparing.{HasEntry, comparisons_in, middle, order_at}
-pub use Rattle.seg_index.specs.Growth.{IsBlockFor, KeepsRest, beside_table, unlinked, without_link}
+pub use Rattle.seg_index.specs.Comparing.{IsKeyedEntry, comparisons_in, middle, order_at}
+pub use Rattle.seg_index.specs.Growth.{IsBlockFor, KeepsOutsideIndex, beside_table, unlinked, without_link}
 pub use Rattle.seg_index.specs.declared.keys.Lookup.{TheVariants.Absent, TheVariants.Found, Lookup}
 pub use Rattle.seg_index.specs.{Held.IsIndexOf, Held.capacity_at, Held.place_of, Beginnings.front}
-pub use Rattle.seg_index.specs.{Index.AreEntries, Index.AreLinks, Index.grown_capacity, Keys.name_at, Keys.name_len_at}
-pub use Rattle.seg_index.specs.{Lookups.AreKeys, Lookups.IsPlaceIn, Lookups.order, declared.keys.Entry.Entry}
+pub use Rattle.seg_index.specs.{Index.AreIndexEntries, Index.AreLinksTo, Index.grown_capacity, Keys.name_at}
+pub use Rattle.seg_index.specs.{Keys.name_len_at}
+pub use Rattle.seg_index.specs.{Lookups.AreKeys, Lookups.FindsPositionIn, Lookups.order, declared.keys.Entry.Entry}
 pub use Rattle.std.proofs.Common.{Bool, IsTrue, List, [], ap, ap₂, arith, bit_and, false, get_or, inl, inr, length, min}
 pub use Rattle.std.proofs.Common.{refl, subst, suc, sym, true, zero, ℕ, ◌%◌, ◌*◌, ◌+◌, ◌-◌, ◌/◌, ◌<◌, ◌==◌, ◌^◌, ◌∙◌}
 pub use Rattle.std.proofs.Common.{◌∷◌, ◌≡◌, ◌≢◌, ◌≤◌}

@@ -13,7 +13,7 @@ use Rattle.std.proofs.lemmas.List.Edits.{get_or-insert_above, get_or-insert_at, 
 use Rattle.std.proofs.lemmas.List.Edits.{get_or-remove_above, get_or-remove_below}
 use Rattle.std.proofs.{lemmas.Bool.eqb-true, lemmas.Option.slice_get_within}
 use Rattle.std.specs.{List.list_any, Prelude.find}
-use Rattle.seg_index.specs.{Lookups.HasKey, Lookups.IsPlace, declared.index.Index.TheVariants.Named}
+use Rattle.seg_index.specs.{Lookups.IsKeyReadable, Lookups.FindsPosition, declared.index.Index.TheVariants.Named}
 use Rattle.seg_index.specs.{declared.index.Index.TheVariants.Unique, Comparing.comparisons, declared.index.Index.Index}
 use Rattle.seg_index.specs.Sorted.{HasSortKey, HasSortedIndex, index_of, sort_key_end, sort_order}
 use Rattle.block_tags.specs.declared.tile.Role.TheVariants.{Object as ObjectRole}
@@ -321,7 +321,7 @@ less_at o hs i j g h s l e f =
 
 -- the object of an entry has room for a key of the sort of its index
 key_given : {c : Cut} {i : Index} (key : Entry) (h : ℕ) → index_of key ≡ i → IsHeap current c.bytes → HasSortKey c i h
-    → HasKey c key h
+    → IsKeyReadable c key h
 key_given {c} {i} key h e heap k =
     let m = bytes_of c.bytes in let l = live_of c.bytes in let x = k.extent in let n = sort_key_end i m h in
     let two = and_parts (same_role x.role ObjectRole) (holds x n) k.fits in
@@ -347,7 +347,7 @@ keys_given c i key block count k sort p e =
     }
 
 pub place_found : (m : Memory) (key : Entry) (hs : List ℕ) (block count : ℕ) (r : Lookup) → AreLinks m block hs
-    → count ≡ length hs → IsPlaceIn m key block count r → IsPlace m key hs r
+    → count ≡ length hs → IsPlaceIn m key block count r → FindsPosition m key hs r
 place_found m key hs block count (Found j) a long p = (
   get_or hs j 0,
   slice_get-get_or hs j 0 (omega arith),

@@ -2,14 +2,15 @@
 use Rattle.seg_index.proofs.Common.{◌≡◌, ap, ◌∙◌, ℕ, ◌+◌, ◌/◌, ◌<◌, ◌≤◌, ◌^◌, arith, ordering_reverse, Ordering, Less}
 use Rattle.seg_index.proofs.Common.{Greater, nat_list_cmp_total, bits, Memory, Entry, order, name_at, refl, sym, zero}
 use Rattle.seg_index.proofs.Common.{suc, ◌-◌, inl, inr, Bool, true, false, cases_lt, Equal, comparisons_among, middle}
-use Rattle.seg_index.proofs.Common.{◌*◌, subst, Option, unwrap_or, Cut, bytes_of, live_of, room-less, Lookup, Absent}
-use Rattle.seg_index.proofs.Common.{Found, HasEntry, comparisons_in, order_at, AreKeys, IsPlaceIn}
+use Rattle.seg_index.proofs.Common.{◌*◌, subst, Option, unwrap_or, WindowState, bytes_of, live_of, room-less, Lookup}
+use Rattle.seg_index.proofs.Common.{Absent}
+use Rattle.seg_index.proofs.Common.{Found, IsKeyedEntry, comparisons_in, order_at, AreKeys, FindsPositionIn}
 use Rattle.std.proofs.{lemmas.Int.Digits.length-digits_of_step, lemmas.Cmp.nat_cmp_total, Common.lt-ltb, Common.le-ltb}
 use Rattle.std.specs.Cmp.{IsTotalOrder}
 use Rattle.best_fit.proofs.Laws.{bits-le}
 use Rattle.link_tree.proofs.Laws.{bits_most}
 use Rattle.seg_index.specs.{declared.keys.Entry.TheVariants.Name, declared.keys.Entry.TheVariants.Code, Keys.code_at}
-use Rattle.seg_index.specs.{Lookups.Leads, Sorted.index_of, Sorted.sort_order}
+use Rattle.seg_index.specs.{Lookups.IsEntryLinkTo, Sorted.index_of, Sorted.sort_order}
 
 greater_on : {K : Type 0} {R : K → K → Ordering} → IsTotalOrder R → (x y z : K) → R x y ≡ Less → R x z ≡ Greater
     → R y z ≡ Greater
@@ -154,24 +155,24 @@ few_comparisons (suc most) stands low high = elim (cases_lt low high) [
 -- ---- what a search knows of the keys before and behind those that are left, and of its comparisons
 
 -- a link leads to one handle, of which it is known how its key stands
-one_order : (m : Memory) (key : Entry) (block i j h : ℕ) (x : Ordering) → j ≡ i → Leads m block j h
+one_order : (m : Memory) (key : Entry) (block i j h : ℕ) (x : Ordering) → j ≡ i → IsEntryLinkTo m block j h
     → order_at m key block i ≡ x → order m key h ≡ x
 one_order m key block i j h x q e is =
     sym (ap (λ k. order_at m key block k) (sym q) ∙ ap (λ (o : Option ℕ). order m key (unwrap_or o 0)) e) ∙ is
 
 -- ---- what is left of a search: the keys from `low` on and below `high`
 
-pub record IsLeft (c : Cut) (key : Entry) (block count low high made : ℕ) : Type 0 where
+pub record IsLeft (c : WindowState) (key : Entry) (block count low high made : ℕ) : Type 0 where
   pub rises : low ≤ high
   pub within : high ≤ count
-  pub before : (j h : ℕ) → j < low → Leads (bytes_of c.bytes) block j h → order (bytes_of c.bytes) key h ≡ Less
-  pub behind : (j h : ℕ) → high ≤ j → j < count → Leads (bytes_of c.bytes) block j h
+  pub before : (j h : ℕ) → j < low → IsEntryLinkTo (bytes_of c.bytes) block j h → order (bytes_of c.bytes) key h ≡ Less
+  pub behind : (j h : ℕ) → high ≤ j → j < count → IsEntryLinkTo (bytes_of c.bytes) block j h
       → order (bytes_of c.bytes) key h ≡ Greater
   pub few : made + bits (high - low) ≤ bits count
   pub counting : Counting (order_at (bytes_of c.bytes) key block) count low high made
 
 -- a key that stands before the one that is looked up, and so all before it do
-pub left_up : {c : Cut} {key : Entry} {block count low high made : ℕ} → AreKeys c block count key
+pub left_up : {c : WindowState} {key : Entry} {block count low high made : ℕ} → AreKeys c block count key
     → IsLeft c key block count low high made → low < high → order_at (bytes_of c.bytes) key block
     (middle low high) ≡ Less → IsLeft c key block count (middle low high + 1) high (made + 1)
 left_up {c} {key} {block} {low = low} {high} keys i l is =
@@ -191,7 +192,7 @@ left_up {c} {key} {block} {low = low} {high} keys i l is =
       counting = counts_up i.counting l is;
     }
 
-pub left_down : {c : Cut} {key : Entry} {block count low high made : ℕ} → AreKeys c block count key
+pub left_down : {c : WindowState} {key : Entry} {block count low high made : ℕ} → AreKeys c block count key
     → IsLeft c key block count low high made → low < high → order_at (bytes_of c.bytes) key block
     (middle low high) ≡ Greater → IsLeft c key block count low (middle low high) (made + 1)
 left_down {c} {key} {block} {low = low} {high} keys i l is =
@@ -212,12 +213,13 @@ left_down {c} {key} {block} {low = low} {high} keys i l is =
     }
 
 -- what a search answers
-pub record Answers (c : Cut) (key : Entry) (block count made : ℕ) (r : Lookup) : Type 0 where
-  pub place : IsPlaceIn (bytes_of c.bytes) key block count r
+pub record Answers (c : WindowState) (key : Entry) (block count made : ℕ) (r : Lookup) : Type 0 where
+  pub place : FindsPositionIn (bytes_of c.bytes) key block count r
   pub few : made ≤ bits count
   pub exact : made ≡ comparisons_in (bytes_of c.bytes) key block count
 
-pub left_found : {c : Cut} {key : Entry} {block count low high made : ℕ} → IsLeft c key block count low high made
+pub left_found : {c : WindowState} {key : Entry} {block count low high made : ℕ}
+    → IsLeft c key block count low high made
     → low < high → order_at (bytes_of c.bytes) key block (middle low high) ≡ Equal
     → Answers c key block count (made + 1) (Found (middle low high))
 left_found {c} {key} {block} {low = low} {high} i l is =
@@ -229,7 +231,7 @@ left_found {c} {key} {block} {low = low} {high} i l is =
       exact = counts_found i.counting l is;
     }
 
-pub left_none : {c : Cut} {key : Entry} {block count low high made : ℕ} → IsLeft c key block count low high made
+pub left_none : {c : WindowState} {key : Entry} {block count low high made : ℕ} → IsLeft c key block count low high made
     → high ≤ low → Answers c key block count made (Absent low)
 left_none i l =
     let few = i.few in
@@ -241,8 +243,8 @@ left_none i l =
 
 -- ---- the entry that is compared
 
-pub entry_of : {c : Cut} {key : Entry} {block count : ℕ} (i : ℕ) → AreKeys c block count key → i < count
-    → HasEntry c key block i
+pub entry_of : {c : WindowState} {key : Entry} {block count : ℕ} (i : ℕ) → AreKeys c block count key → i < count
+    → IsKeyedEntry c key block i
 entry_of {c} {block = block} {count} i keys l =
     let t = keys.target i l in
     record {
@@ -253,7 +255,8 @@ entry_of {c} {block = block} {count} i keys l =
     }
 
 -- what holds of a heap, a key and a block holds of those that are equal to them
-pub same_search : {c v : Cut} {key k : Entry} {block b : ℕ} (P : Cut → Entry → ℕ → Type 0) → c ≡ v → key ≡ k → block ≡ b
+pub same_search : {c v : WindowState} {key k : Entry} {block b : ℕ} (P : WindowState → Entry → ℕ → Type 0) → c ≡ v
+    → key ≡ k → block ≡ b
     → P c key block → P v k b
 same_search {c} {key = key} {k} {b = b} P e f g h =
-    subst (λ (v : Cut). P v k b) e (subst (λ (q : Entry). P c q b) f (subst (λ (n : ℕ). P c key n) g h))
+    subst (λ (v : WindowState). P v k b) e (subst (λ (q : Entry). P c q b) f (subst (λ (n : ℕ). P c key n) g h))

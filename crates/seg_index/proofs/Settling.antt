@@ -14,15 +14,15 @@ use Rattle.seg_index.proofs.Entries.{links_moved, remove_all, Placed, beside, le
 use Rattle.seg_index.proofs.Entries.{table_cases, remove_links, found_handle, found_live, inside, entry_here}
 use Rattle.seg_index.proofs.Staying.{still_released, still_taken, still_written, meant, not_its_own, taken_block}
 use Rattle.seg_index.proofs.{Changing.taken_others, Entries.insert_all, Entries.insert_links}
-use Rattle.seg_index.specs.{Capacities.IsShrunk, Capacities.with_cut, Held.IsIndexIn}
+use Rattle.seg_index.specs.{Capacities.ShrinksIndex, Capacities.with_cut, Held.IsIndexIn}
 use Rattle.best_fit.proofs.Laws.{block_aligned, gaps-header, gaps-payload, gaps-then, keeps-refl, resized-live, Rising}
 use Rattle.best_fit.proofs.Laws.{found-less, found-more, released-live, shorter-IsShorter}
 use Rattle.seg_index.proofs.SortedEntries.{beside-stays, keeps-sorted, unchanged-sorted}
 use Rattle.std.proofs.lemmas.List.{nil_from_length}
 use Rattle.std.proofs.lemmas.Bool.{cond-false, cond-true, eq-eqb, le-leb, ne_eqb}
 use Rattle.std.specs.Prelude.{option_map}
-use Rattle.best_fit.specs.Heap.{IsResized, IsShortened, KeepsGaps}
-use Rattle.best_fit.specs.{Table.cut_table, Table.no_table, Fit.resized, Fit.shorter}
+use Rattle.best_fit.specs.Heap.{ResizesBlock, ShrinksInPlace, KeepsGaps}
+use Rattle.best_fit.specs.{Table.shrunk_backing, Table.no_backing, Fit.resized, Fit.shorter}
 
 -- other links in the block, and then their number in the header
 counted : {a b c : Cut} {at block f n place count : ℕ} {t : Table} {hs : List ℕ} (gs : List ℕ) → Placed a at t hs block
@@ -348,25 +348,25 @@ taken_keeps {a} {b} {e} {at} {h = h} w i same k =
 
 -- ---- what a table is cut to
 
-cut_none : (l : LiveSet) (n : ℕ) (t : Table) → n ≡ 0 → cut_table l 8 n t ≡ no_table
-unfolding cut_table
-cut_none l n t e = cond-true (n == 0) no_table
+cut_none : (l : LiveSet) (n : ℕ) (t : Table) → n ≡ 0 → shrunk_backing l 8 n t ≡ no_backing
+unfolding shrunk_backing
+cut_none l n t e = cond-true (n == 0) no_backing
     (record { capacity = n; extent = option_map (λ (x : Extent). shorter l x (8 * n)) t.extent }) (eq-eqb n 0 e)
 
 cut_some : (l : LiveSet) (n cap : ℕ) (x : Extent) → (n ≡ 0 → ⊥)
-    → cut_table l 8 n (record { capacity = cap; extent = Some x })
+    → shrunk_backing l 8 n (record { capacity = cap; extent = Some x })
     ≡ record { capacity = n; extent = Some (shorter l x (8 * n)) }
-unfolding cut_table
+unfolding shrunk_backing
 cut_some l n cap x some =
-    cond-false (n == 0) no_table (record { capacity = n; extent = Some (shorter l x (8 * n)) }) (ne_eqb n 0 some)
+    cond-false (n == 0) no_backing (record { capacity = n; extent = Some (shorter l x (8 * n)) }) (ne_eqb n 0 some)
 
 -- ---- without a block
 
 pub shrunk_bare : {a : Cut} {at : ℕ} {t : Table} {hs : List ℕ} → IsIndexOf a at t hs
-    → link_at (bytes_of a.bytes) at ≡ None → InHeader at → IsShrunk a a at t hs
-shrunk_bare {a} {at} {t} {hs} i leads w = table_cases (λ u. IsIndexOf a at u hs → IsShrunk a a at u hs) (λ cap j.
+    → link_at (bytes_of a.bytes) at ≡ None → InHeader at → ShrinksIndex a a at t hs
+shrunk_bare {a} {at} {t} {hs} i leads w = table_cases (λ u. IsIndexOf a at u hs → ShrinksIndex a a at u hs) (λ cap j.
     let zero = no_entries j leads in let none = bare j leads in
-    let same : record { capacity = cap; extent = None } ≡ no_table =
+    let same : record { capacity = cap; extent = None } ≡ no_backing =
     ap (λ k. let u : Table = record { capacity = k; extent = None } in u) none in
     let xs = (live_of a.bytes).extents in
     record {
@@ -382,7 +382,7 @@ shrunk_bare {a} {at} {t} {hs} i leads w = table_cases (λ u. IsIndexOf a at u hs
 -- ---- without entries
 
 pub empty_index : {a c : Cut} {at : ℕ} (hs : List ℕ) → Headed a c at None 0 0 → length hs ≡ 0
-    → AllByRecursion (λ h. h % 16 ≡ 0) hs → IsIndexOf c at no_table hs
+    → AllByRecursion (λ h. h % 16 ≡ 0) hs → IsIndexOf c at no_backing hs
 empty_index hs w zero whole = record {
   heap = changed_heap w.change;
   stands = record {
@@ -419,7 +419,7 @@ cut_zero {t = t} p l n z = ap (released l) (sym p.begins)
     ∙ ap (λ (o : Option Extent). with_cut l n (record { capacity = t.capacity; extent = o })) (sym p.is)
 
 pub shrunk_empty : {a c e : Cut} {at block : ℕ} {t : Table} {hs : List ℕ} → Placed a at t hs block → length hs ≡ 0
-    → Headed a c at None 0 0 → IsReleased current c e block → InHeader at → IsShrunk a e at t hs
+    → Headed a c at None 0 0 → IsReleased current c e block → InHeader at → ShrinksIndex a e at t hs
 shrunk_empty {a} {c} {e} {at} {block} {t} {hs} p zero w r h =
     let l = live_of a.bytes in
     let here = still_released h r (λ q. none-some block (sym w.link ∙ q)) (empty_index hs w zero p.index.whole) in
@@ -443,12 +443,12 @@ shrunk_empty {a} {c} {e} {at} {block} {t} {hs} p zero w r h =
 
 -- the block is the shorter one of its own
 resized_here : {b e : Cut} {l : LiveSet} {x : Extent} {block n : ℕ} → live_of b.bytes ≡ l → extent_at l block ≡ Some x
-    → IsShortened current b e block n → IsResized current b e x (shorter l x n)
+    → ShrinksInPlace current b e block n → ResizesBlock current b e x (shorter l x n)
 resized_here {b} {e} {l} {x} {block} {n} live found s =
     let same : s.extent ≡ x =
     same_Some s.extent x (sym s.found ∙ ap (λ (k : LiveSet). extent_at k block) live ∙ found) in
-    subst (λ (k : LiveSet). IsResized current b e x (shorter k x n)) live
-    (subst (λ (y : Extent). IsResized current b e y (shorter (live_of b.bytes) y n)) same s.shortened)
+    subst (λ (k : LiveSet). ResizesBlock current b e x (shorter k x n)) live
+    (subst (λ (y : Extent). ResizesBlock current b e y (shorter (live_of b.bytes) y n)) same s.shortened)
 
 -- what the shorter block is
 record Short (x y : Extent) (n : ℕ) : Type 0 where
@@ -484,13 +484,13 @@ found_cut l x y rises found begins =
 
 shrunk_some : (a b e : Cut) (at cap : ℕ) (x : Extent) (hs : List ℕ)
     → Placed a at (record { capacity = cap; extent = Some x }) hs (handle x) → (length hs ≡ 0 → ⊥) → IsChanged current a
-    b (at + 16) 8 → word_at (bytes_of b.bytes) (at + 16) ≡ length hs → IsShortened current b e (handle x)
-    (8 * length hs) → InHeader at → IsShrunk a e at (record { capacity = cap; extent = Some x }) hs
+    b (at + 16) 8 → word_at (bytes_of b.bytes) (at + 16) ≡ length hs → ShrinksInPlace current b e (handle x)
+    (8 * length hs) → InHeader at → ShrinksIndex a e at (record { capacity = cap; extent = Some x }) hs
 shrunk_some a b e at cap x hs p some one word s w =
     let A = bytes_of a.bytes in let B = bytes_of b.bytes in let E = bytes_of e.bytes in let i = p.index in
     let l = live_of a.bytes in let n = length hs in let y = shorter l x (8 * n) in
     let few = i.few in let live : live_of b.bytes ≡ l = same_live one in
-    let r : IsResized current b e x y = resized_here live i.held s in
+    let r : ResizesBlock current b e x y = resized_here live i.held s in
     let two = and_parts (nat_lt 0 cap) (serves x IndexRole (8 * cap)) i.places in
     let h : Short x y (8 * n) = short l x cap n few two.1 in let begins = h.begins in
     let now : live_of e.bytes ≡ resized l y = resized-live current b e x y r ∙ ap (λ (k : LiveSet). resized k y) live in
@@ -541,15 +541,15 @@ shrunk_some a b e at cap x hs p some one word s w =
 
 pub shrunk_short : {a b e : Cut} {at block place n : ℕ} {t : Table} {hs : List ℕ} → Placed a at t hs block → (n ≡ 0 → ⊥)
     → n ≡ length hs → place ≡ at → IsChanged current a b (place + 16) 8 → word_at (bytes_of b.bytes) (place + 16) ≡ n
-    → IsShortened current b e block (8 * n) → InHeader at → IsShrunk a e at t hs
+    → ShrinksInPlace current b e block (8 * n) → InHeader at → ShrinksIndex a e at t hs
 shrunk_short {a} {b} {e} {at} {block} {place} {n} {t} {hs} p some long there change word s w =
     let one : IsChanged current a b (at + 16) 8 = subst (λ k. IsChanged current a b (k + 16) 8) there change in
     let is : word_at (bytes_of b.bytes) (at + 16) ≡ length hs =
     ap (λ k. word_at (bytes_of b.bytes) (k + 16)) (sym there) ∙ word ∙ long in
-    let cut : IsShortened current b e block (8 * length hs) =
-    subst (λ k. IsShortened current b e block (8 * k)) long s in
-    table_cases (λ u. Placed a at u hs block → IsShrunk a e at u hs)
+    let cut : ShrinksInPlace current b e block (8 * length hs) =
+    subst (λ k. ShrinksInPlace current b e block (8 * k)) long s in
+    table_cases (λ u. Placed a at u hs block → ShrinksIndex a e at u hs)
     (λ cap q. absurd (none-some q.extent q.is)) (λ cap x q.
     let same : block ≡ handle x = sym q.begins ∙ ap (λ (z : Extent). handle z) (sym (same_Some x q.extent q.is)) in
     shrunk_some a b e at cap x hs (subst (λ k. Placed a at (record { capacity = cap; extent = Some x }) hs k) same q)
-    (λ z. some (long ∙ z)) one is (subst (λ k. IsShortened current b e k (8 * length hs)) same cut) w) t p
+    (λ z. some (long ∙ z)) one is (subst (λ k. ShrinksInPlace current b e k (8 * length hs)) same cut) w) t p

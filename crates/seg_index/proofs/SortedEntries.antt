@@ -1,6 +1,7 @@
 -- Entries stay sorted where the blocks of their objects stay, and where one is put in or taken out.
 use Rattle.seg_index.proofs.Common as common
-use common.{◌≡◌, refl, sym, ap, ap₂, subst, ◌∙◌, ℕ, zero, suc, ◌+◌, ◌<◌, ◌≤◌, ◌==◌, List, [], ◌∷◌, length, get_or, arith}
+use common.{◌≡◌, refl, sym, ap, ap₂, subst, ◌∙◌, ℕ, zero, suc, ◌+◌, ◌<◌, ◌≤◌, ◌==◌, List, [], ◌∷◌, length, get_or}
+use common.{arith}
 use common.{IsTrue, Option, Some, None, inl, inr, insert, remove, slice_get, AllByRecursion, none-some, same_Some, Less}
 use common.{Greater, Ordering, ordering_reverse, slice_cmp, nat_cmp, nat_list_cmp_total, cases_Bool, leb-true, holds}
 use common.{and_parts, slice_get-get_or, current, Cut, Memory, bytes_of, Same-word, Role, IndexRole, link_at}
@@ -13,14 +14,15 @@ use Rattle.seg_index.proofs.Entries.{all_at, all_found, first, insert_all, no_en
 use Rattle.seg_index.proofs.Entries.{less_at, remove_all, table_cases}
 use Rattle.seg_index.proofs.Staying.{found_still}
 use Rattle.seg_index.specs.declared.index.Index.{Index, TheVariants.Named, TheVariants.Unique}
-use Rattle.seg_index.specs.{Held.place_of, Keys.code_at, Sorted.AreSorted, Sorted.BelongsAt, Sorted.HasSortKey}
+use Rattle.seg_index.specs.{Held.place_of, Keys.code_at, Sorted.AreSortedHandles, Sorted.BelongsAt, Sorted.HasSortKey}
 use Rattle.seg_index.specs.Sorted.{CanAdd, IsKeyOf, KeepsSorted, index_of, sort_key_end, sort_order}
-use Rattle.seg_index.specs.{Lookups.IsPlace, declared.keys.Entry.TheVariants.Code, declared.keys.Entry.TheVariants.Name}
+use Rattle.seg_index.specs.{Lookups.FindsPosition, declared.keys.Entry.TheVariants.Code}
+use Rattle.seg_index.specs.{declared.keys.Entry.TheVariants.Name}
 use Rattle.block_tags.specs.{Tiles.role_bits, declared.tile.Role.TheVariants.Object as ObjectRole}
 use Rattle.best_fit.proofs.Laws.{SameBlock-trans, block_aligned, lay_out_one, room_block}
 use Rattle.seg_index.proofs.Changing.{same_live}
 use Rattle.best_fit.specs.{Extents.end_of}
-use Rattle.raw_region.proofs.Laws.{Same-read}
+use Rattle.raw_region.proofs.Laws.{SameBytes-read}
 use Rattle.std.proofs.lemmas.{Bool.eqb-true, Cmp.nat_cmp_total, List.nil_from_length}
 use Rattle.std.specs.List.Sorted.{IsStrictlySortedBy}
 
@@ -44,7 +46,8 @@ key-same : (i : Index) (m m' : Memory) (h : ℕ) (x : Extent) → handle x ≡ h
 key-same Named m m' h x at s long =
     let word = Same-word m m' (handle x) (end_of x) (h + 8) s.payload (omega arith) (omega arith) in
     let len : name_len_at m' h ≡ name_len_at m h = ap (λ w. w % 4294967296) word in
-    let name = Same-read m m' (handle x) (end_of x) (h + 16) (name_len_at m h) s.payload (omega arith) (omega arith) in
+    let name = SameBytes-read m m' (handle x) (end_of x) (h + 16) (name_len_at m h) s.payload (omega arith)
+    (omega arith) in
     (len, ap (λ n. read m' (h + 16) n) len ∙ name)
 key-same Unique m m' h x at s long = ap (λ w. w % 4294967296)
     (Same-word m m' (handle x) (end_of x) h s.payload (omega arith) (omega arith))
@@ -104,7 +107,7 @@ module _ (a b : Cut) (i : Index) where
       (order-stays g h s ss.0 k ks.0 ∙ l.0, each-stays g hs s k ss.1 ks.1 l.1)
 
   sorted-each : (hs : List ℕ) → AllByRecursion (ObjectStays a b) hs → AllByRecursion (HasSortKey a i) hs
-      → IsStrictlySortedBy (sort_order i A) hs → AreSorted b i hs
+      → IsStrictlySortedBy (sort_order i A) hs → AreSortedHandles b i hs
   unfolding IsStrictlySortedBy
   sorted-each [] ss ks l = record { keys = tt; rises = tt }
   sorted-each (h ∷ hs) ss ks l =
@@ -114,7 +117,8 @@ module _ (a b : Cut) (i : Index) where
         rises = (each-stays h hs ss.0 ks.0 ss.1 ks.1 l.0, rest.rises);
       }
 
-  pub sorted-stays : (hs : List ℕ) → AllByRecursion (ObjectStays a b) hs → AreSorted a i hs → AreSorted b i hs
+  pub sorted-stays : (hs : List ℕ) → AllByRecursion (ObjectStays a b) hs → AreSortedHandles a i hs
+      → AreSortedHandles b i hs
   sorted-stays hs ss s = sorted-each hs ss s.keys s.rises
 
 all-stay : {a b : Cut} → ((h : ℕ) → ObjectStays a b h) → (hs : List ℕ) → AllByRecursion (ObjectStays a b) hs
@@ -124,12 +128,12 @@ all-stay f (h ∷ hs) = (f h, all-stay f hs)
 pub keeps-sorted : {a b : Cut} → ((h : ℕ) → ObjectStays a b h) → KeepsSorted a b
 keeps-sorted {a} {b} f i hs s = sorted-stays a b i hs (all-stay f hs) s
 
-pub none-sorted : {c : Cut} {i : Index} → AreSorted c i []
+pub none-sorted : {c : Cut} {i : Index} → AreSortedHandles c i []
 unfolding IsStrictlySortedBy
 none-sorted = record { keys = tt; rises = tt }
 
 pub unchanged-sorted : {a b : Cut} → b ≡ a → KeepsSorted a b
-unchanged-sorted e i hs s = subst (λ (c : Cut). AreSorted c i hs) (sym e) s
+unchanged-sorted e i hs s = subst (λ (c : Cut). AreSortedHandles c i hs) (sym e) s
 
 -- ---- which objects stay
 
@@ -213,8 +217,8 @@ written-stays {a} {b} {n} k at change room h apart = record {
 }
 
 -- the entries are none of the block
-pub sorted-beside : {a b : Cut} {i : Index} (k : ℕ) (hs : List ℕ) → AreSorted a i hs
-    → AllByRecursion (λ g. g ≡ k → ⊥) hs → ((h : ℕ) → (h ≡ k → ⊥) → ObjectStays a b h) → AreSorted b i hs
+pub sorted-beside : {a b : Cut} {i : Index} (k : ℕ) (hs : List ℕ) → AreSortedHandles a i hs
+    → AllByRecursion (λ g. g ≡ k → ⊥) hs → ((h : ℕ) → (h ≡ k → ⊥) → ObjectStays a b h) → AreSortedHandles b i hs
 sorted-beside {a} {b} {i} k hs s other f = sorted-stays a b i hs (each hs other) s
   where
     each : (gs : List ℕ) → AllByRecursion (λ g. g ≡ k → ⊥) gs → AllByRecursion (ObjectStays a b) gs
@@ -231,7 +235,10 @@ stays-trans {a} {b} {c} f g h = record {
 }
 
 pub stays-itself : {a : Cut} (h : ℕ) → ObjectStays a a h
-stays-itself {a} h = record { each = λ x e role. (e, record { payload = record { at = λ k f g. refl }; colour = refl }) }
+stays-itself {a} h = record {
+  each = λ x e role.
+      (e, record { payload = record { at = λ k f g. refl }; colour = refl });
+}
 
 -- where blocks stay and the live set too
 pub kept-stays : {a b : Cut} → LaysOut current b.bytes (live_of a.bytes) → Keeps a b (live_of a.bytes).extents → (h : ℕ)
@@ -301,16 +308,16 @@ sorted-remove c (x ∷ xs) zero l s = s.1
 sorted-remove c (x ∷ xs) (suc i) l s =
     (remove_all (λ g. c x g ≡ Less) xs i (omega arith) s.0, sorted-remove c xs i (omega arith) s.1)
 
-pub one-more : {c : Cut} {i : Index} {hs : List ℕ} {place h : ℕ} → AreSorted c i hs → BelongsAt c i hs place h
-    → AreSorted c i (insert hs place h)
+pub one-more : {c : Cut} {i : Index} {hs : List ℕ} {place h : ℕ} → AreSortedHandles c i hs → BelongsAt c i hs place h
+    → AreSortedHandles c i (insert hs place h)
 one-more {c} {i} {hs} {place} {h} s b = record {
   keys = insert_all (HasSortKey c i) hs place h b.within s.keys b.key;
   rises = sorted-insert (sort_order i (bytes_of c.bytes)) hs place h b.within s.rises
       (λ j g e. let p = b.each j g e in (p.0, λ l. flipped i (bytes_of c.bytes) g h (p.1 l)));
 }
 
-pub one-less : {c : Cut} {i : Index} {hs : List ℕ} {place : ℕ} → AreSorted c i hs → place < length hs
-    → AreSorted c i (remove hs place)
+pub one-less : {c : Cut} {i : Index} {hs : List ℕ} {place : ℕ} → AreSortedHandles c i hs → place < length hs
+    → AreSortedHandles c i (remove hs place)
 one-less {c} {i} {hs} {place} s l = record {
   keys = remove_all (HasSortKey c i) hs place l s.keys;
   rises = sorted-remove (sort_order i (bytes_of c.bytes)) hs place l s.rises;
@@ -322,9 +329,10 @@ order-by-key : (key : Entry) (m m' : Memory) (g h : ℕ) → SameSortKey (index_
 order-by-key (Name s) m m' g h same is = ap₂ (λ xs ys. slice_cmp nat_cmp xs ys) same.1 is
 order-by-key (Code n) m m' g h same is = ap₂ (λ x y. nat_cmp x y) same is
 
-pub belongs-at : {a b : Cut} {i : Index} {hs : List ℕ} (key : Entry) (place h : ℕ) → index_of key ≡ i → AreSorted a i hs
+pub belongs-at : {a b : Cut} {i : Index} {hs : List ℕ} (key : Entry) (place h : ℕ) → index_of key ≡ i
+    → AreSortedHandles a i hs
     → ((g : ℕ) → ObjectStays a b g) → HasSortKey b i h → IsKeyOf key (bytes_of b.bytes) h
-    → IsPlace (bytes_of a.bytes) key hs (Absent place) → BelongsAt b i hs place h
+    → FindsPosition (bytes_of a.bytes) key hs (Absent place) → BelongsAt b i hs place h
 belongs-at {a} {b} {i} {hs} key place h sort s stays k is p =
     let m = bytes_of a.bytes in let m' = bytes_of b.bytes in
     record {
@@ -354,25 +362,25 @@ both-equal m (Code n) g h = clash nat_cmp_total (code_at m g) (code_at m h) n
 
 -- it is not found at an earlier entry, and not missed there
 module _ (m : Memory) (key : Entry) (hs : List ℕ) (rises : IsStrictlySortedBy (sort_order (index_of key) m) hs) where
-  found-once : (i j : ℕ) → i < j → IsPlace m key hs (Found i) → IsPlace m key hs (Found j) → ⊥
+  found-once : (i j : ℕ) → i < j → FindsPosition m key hs (Found i) → FindsPosition m key hs (Found j) → ⊥
   found-once i j l p q = both-equal m key p.0 q.0
       (less_at (sort_order (index_of key) m) hs i j p.0 q.0 rises l p.1 q.1) p.2 q.2
 
-  found-or-absent : (i j : ℕ) → IsPlace m key hs (Found i) → IsPlace m key hs (Absent j) → ⊥
+  found-or-absent : (i j : ℕ) → FindsPosition m key hs (Found i) → FindsPosition m key hs (Absent j) → ⊥
   found-or-absent i j p q = elim (cases_lt i j) [
     | inl l ↦ let less : order m key p.0 ≡ Less = (q.1 i p.0 p.1).0 l in let equal : order m key p.0 ≡ Equal = p.2 in cc
     | inr l ↦
         let greater : order m key p.0 ≡ Greater = (q.1 i p.0 p.1).1 l in let equal : order m key p.0 ≡ Equal = p.2 in cc
   ]
 
-  absent-once : (i j : ℕ) → i < j → IsPlace m key hs (Absent i) → IsPlace m key hs (Absent j) → ⊥
+  absent-once : (i j : ℕ) → i < j → FindsPosition m key hs (Absent i) → FindsPosition m key hs (Absent j) → ⊥
   absent-once i j l p q =
       let h = get_or hs i 0 in let e = slice_get-get_or hs i 0 (omega (arith, l, q.0)) in
       let greater : order m key h ≡ Greater = (p.1 i h e).1 (omega arith) in
       let less : order m key h ≡ Less = (q.1 i h e).0 l in cc
 
 pub one-place : (m : Memory) (key : Entry) (hs : List ℕ) (r s : Lookup)
-    → IsStrictlySortedBy (sort_order (index_of key) m) hs → IsPlace m key hs r → IsPlace m key hs s → r ≡ s
+    → IsStrictlySortedBy (sort_order (index_of key) m) hs → FindsPosition m key hs r → FindsPosition m key hs s → r ≡ s
 one-place m key hs (Found i) (Found j) o p q = elim (cases_lt i j) [
   | inl l ↦ absurd (found-once m key hs o i j l p q)
   | inr f ↦ elim (cases_lt j i) [
@@ -419,6 +427,7 @@ aligned {c} {i} {place} {h} k =
 
 -- with it the entries are sorted, whatever the table
 pub added-sorted : {c : Cut} {i : Index} {place h : ℕ} {t : Table} {hs : List ℕ} → CanAdd c i place h
-    → IsIndexOf c (place_of i) t hs → AreSorted c i (insert hs place h)
-added-sorted {c} {i} {place} {h} k index = subst (λ gs. AreSorted c i (insert gs place h)) (one-list k.index.index index)
+    → IsIndexOf c (place_of i) t hs → AreSortedHandles c i (insert hs place h)
+added-sorted {c} {i} {place} {h} k index =
+    subst (λ gs. AreSortedHandles c i (insert gs place h)) (one-list k.index.index index)
     (one-more k.index.sorted k.belongs)

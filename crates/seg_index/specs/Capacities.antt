@@ -1,35 +1,36 @@
 -- What a call leaves that gives an index another capacity.
 use Rattle.std.specs.Prelude.{◌≡◌, ℕ, ◌+◌, ◌*◌, ◌<◌, ◌≤◌, Some, None, Result, MatchResult, List, length, ◌==◌}
 use Rattle.std.specs.Prelude.{if◌then◌else◌}
-use Rattle.raw_region.specs.{Format.current, Memory.Cut, Memory.bytes_of}
+use Rattle.raw_region.specs.{Format.current, Memory.WindowState, Memory.bytes_of}
 use Rattle.block_tags.specs.declared.tile.Role.TheVariants.{Index as IndexRole}
 use Rattle.offset_link.specs.Link.{link_at}
 use Rattle.best_fit.specs.Extents.{Extent, LiveSet, handle}
 use Rattle.best_fit.specs.Fit.{added, place, released, resized, shorter}
-use Rattle.best_fit.specs.Heap.{IsRefused, KeepsGaps, LaysOut, heap_touches, live_of}
-use Rattle.best_fit.specs.Table.{Table, cut_table}
-use Rattle.seg_index.specs.Growth.{KeepsRest, beside_table, unlinked, without_link}
+use Rattle.best_fit.specs.Heap.{AllocatesNoSpace, KeepsGaps, EncodesLiveSet, heap_touches, live_of}
+use Rattle.best_fit.specs.Table.{BackingArray, shrunk_backing}
+use Rattle.seg_index.specs.Growth.{KeepsOutsideIndex, beside_table, unlinked, without_link}
 use Rattle.seg_index.specs.{Held.IsIndexOf, Held.capacity_at, Sorted.KeepsSorted}
 
 -- the index has so many places in a new block, and its old one is no longer in use
-pub record IsReserved (old new : Cut) (at n : ℕ) : Type 0 where
+pub record ReservesIndexOk (old new : WindowState) (at n : ℕ) : Type 0 where
   pub extent : Extent
   pub placed : place (live_of old.bytes) (8 * n) IndexRole ≡ Some extent
-  pub index : (t : Table) (handles : List ℕ) → IsIndexOf old at t handles
+  pub index : (t : BackingArray) (handles : List ℕ) → IsIndexOf old at t handles
       → IsIndexOf new at (record { capacity = n; extent = Some extent }) handles
-  pub live : LaysOut current new.bytes
+  pub live : EncodesLiveSet current new.bytes
       (without_link (added (live_of old.bytes) extent) (link_at (bytes_of old.bytes) at))
-  pub keeps : KeepsRest old new at (unlinked old at).extents
+  pub keeps : KeepsOutsideIndex old new at (unlinked old at).extents
   pub order : KeepsSorted old new
 
 -- nothing changes where there are so many places
-pub record IsRoomy (old new : Cut) (at n : ℕ) : Type 0 where
+pub record KeepsRoomyIndex (old new : WindowState) (at n : ℕ) : Type 0 where
   pub same : n ≤ capacity_at old at → new ≡ old
-  pub reserved : capacity_at old at < n → IsReserved old new at n
+  pub reserved : capacity_at old at < n → ReservesIndexOk old new at n
 
-abbrev pub Reserves : {T E : Type 0} → Cut → Cut → ℕ → ℕ → Result T E → Type 0
-Reserves old new at n result =
-    MatchResult result (λ v. IsRoomy old new at n) (λ e. (capacity_at old at < n) × IsRefused old new (8 * n) IndexRole)
+abbrev pub ReservesIndex : {T E : Type 0} → WindowState → WindowState → ℕ → ℕ → Result T E → Type 0
+ReservesIndex old new at n result =
+    MatchResult result (λ v. KeepsRoomyIndex old new at n) (λ e. (capacity_at old at < n)
+    × AllocatesNoSpace old new (8 * n) IndexRole)
 
 -- one for the request, and one for the release of the old block
 abbrev pub reserve_steps : LiveSet → ℕ → ℕ
@@ -37,7 +38,7 @@ reserve_steps live n =
     heap_touches live + elim (place live (8 * n) IndexRole) [ None ↦ 0 | Some x ↦ heap_touches (added live x) ]
 
 -- the live set where the block of a table is cut to n places
-abbrev pub with_cut : LiveSet → ℕ → Table → LiveSet
+abbrev pub with_cut : LiveSet → ℕ → BackingArray → LiveSet
 with_cut live n t = elim t.extent [
   | None ↦ live
   | Some x ↦ if n == 0 then released live (handle x) else resized live (shorter live x (8 * n))
@@ -45,11 +46,11 @@ with_cut live n t = elim t.extent [
 
 -- the index has as many places as entries; without a block nothing changes, and where the block is not cut no byte of
 -- a gap does
-pub record IsShrunk (old new : Cut) (at : ℕ) (t : Table) (handles : List ℕ) : Type 0 where
+pub record ShrinksIndex (old new : WindowState) (at : ℕ) (t : BackingArray) (handles : List ℕ) : Type 0 where
   pub same : t.extent ≡ None → new ≡ old
-  pub index : IsIndexOf new at (cut_table (live_of old.bytes) 8 (length handles) t) handles
-  pub live : LaysOut current new.bytes (with_cut (live_of old.bytes) (length handles) t)
-  pub keeps : KeepsRest old new at (beside_table t (live_of old.bytes).extents)
+  pub index : IsIndexOf new at (shrunk_backing (live_of old.bytes) 8 (length handles) t) handles
+  pub live : EncodesLiveSet current new.bytes (with_cut (live_of old.bytes) (length handles) t)
+  pub keeps : KeepsOutsideIndex old new at (beside_table t (live_of old.bytes).extents)
   pub order : KeepsSorted old new
   pub gaps : (x : Extent) → t.extent ≡ Some x → 0 < length handles
       → shorter (live_of old.bytes) x (8 * length handles) ≡ x → KeepsGaps old new

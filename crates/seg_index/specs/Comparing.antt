@@ -2,10 +2,10 @@
 use Rattle.std.specs.Prelude.{ℕ, zero, suc, ◌+◌, ◌-◌, ◌*◌, ◌/◌, true, false, List, length, nat_lt, slice_get, unwrap_or}
 use Rattle.std.specs.{Prelude.IsTrue, declared.cmp.Ordering.Ordering}
 use Rattle.std.specs.declared.cmp.Ordering.TheVariants.{Less, Equal, Greater}
-use Rattle.raw_region.specs.Memory.{Cut, Memory, bytes_of}
+use Rattle.raw_region.specs.Memory.{WindowState, Memory, bytes_of}
 use Rattle.offset_link.specs.Link.{link_at}
 use Rattle.best_fit.specs.Heap.{has_room, live_of}
-use Rattle.seg_index.specs.{declared.keys.Entry.Entry, Lookups.HasKey, Lookups.Leads, Lookups.order}
+use Rattle.seg_index.specs.{declared.keys.Entry.Entry, Lookups.IsKeyReadable, Lookups.IsEntryLinkTo, Lookups.order}
 
 -- the key that is compared where those from `low` on and below `high` are left
 abbrev pub middle : ℕ → ℕ → ℕ
@@ -40,8 +40,8 @@ abbrev pub comparisons_in : Memory → Entry → ℕ → ℕ → ℕ
 comparisons_in m key block count = comparisons_among count (order_at m key block) 0 count
 
 -- an entry that leads to a key
-pub record HasEntry (c : Cut) (key : Entry) (block i : ℕ) : Type 0 where
+pub record IsKeyedEntry (c : WindowState) (key : Entry) (block i : ℕ) : Type 0 where
   pub room : IsTrue (has_room (live_of c.bytes) block (8 * i + 8))
   pub handle : ℕ
-  pub leads : Leads (bytes_of c.bytes) block i handle
-  pub keyed : HasKey c key handle
+  pub leads : IsEntryLinkTo (bytes_of c.bytes) block i handle
+  pub keyed : IsKeyReadable c key handle

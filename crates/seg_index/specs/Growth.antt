@@ -1,57 +1,60 @@
 -- What the calls of an index leave in a heap.
 use Rattle.std.specs.Prelude.{◌≡◌, ℕ, ◌+◌, ◌*◌, ◌<◌, ◌≤◌, Option, Some, None, Result, MatchResult, IfSome, List, IsTrue}
 use Rattle.std.specs.List.{AllByRecursion}
-use Rattle.raw_region.specs.{Memory.Cut, Memory.Same, Memory.SamePlace, Memory.bytes_of, Format.current}
+use Rattle.raw_region.specs.{Memory.WindowState, Memory.SameBytes, Memory.SameSurroundings, Memory.bytes_of}
+use Rattle.raw_region.specs.{Format.current}
 use Rattle.block_tags.specs.declared.tile.Role.TheVariants.{Index as IndexRole}
-use Rattle.best_fit.specs.Heap.{extent_at, IsAllocated, IsRefused, IsReleased, Keeps, LaysOut, SameBlock, is_live_in}
-use Rattle.best_fit.specs.{Extents.Extent, Extents.LiveSet, Extents.handle, Heap.live_of, Table.Table, Table.serves}
+use Rattle.best_fit.specs.Heap.{extent_at, AllocatesOk, AllocatesNoSpace, Deallocates, KeepsBlocks, EncodesLiveSet}
+use Rattle.best_fit.specs.Heap.{SameBlock, is_live_in}
+use Rattle.best_fit.specs.{Extents.Extent, Extents.LiveSet, Extents.handle, Heap.live_of, Table.BackingArray}
+use Rattle.best_fit.specs.{Table.serves}
 use Rattle.best_fit.specs.Fit.{others, released}
 use Rattle.offset_link.specs.Link.{link_at}
 use Rattle.seg_index.specs.{Held.IsIndexIn, Held.IsIndexOf, Held.capacity_at, Held.entry_count, Index.grown_capacity}
 use Rattle.seg_index.specs.declared.growing.Growth.{Growth}
 
 -- the bytes that a full index asks for
-abbrev pub grown_bytes : Cut → ℕ → ℕ
+abbrev pub grown_bytes : WindowState → ℕ → ℕ
 grown_bytes c at = 8 * grown_capacity (capacity_at c at)
 
 -- a new block exactly where the index is full
-abbrev pub IsGrowth : Cut → Cut → ℕ → Option ℕ → Type 0
+abbrev pub IsGrowth : WindowState → WindowState → ℕ → Option ℕ → Type 0
 IsGrowth old new at None = (entry_count old at < capacity_at old at) × (new ≡ old)
 IsGrowth old new at (Some h) =
-    (capacity_at old at ≤ entry_count old at) × IsAllocated current old new (grown_bytes old at) IndexRole h
+    (capacity_at old at ≤ entry_count old at) × AllocatesOk current old new (grown_bytes old at) IndexRole h
 
-abbrev pub Prepares : {E : Type 0} → Cut → Cut → ℕ → Result Growth E → Type 0
+abbrev pub Prepares : {E : Type 0} → WindowState → WindowState → ℕ → Result Growth E → Type 0
 Prepares old new at result =
     MatchResult result (λ g. IsGrowth old new at g.block)
-    (λ e. (capacity_at old at ≤ entry_count old at) × IsRefused old new (grown_bytes old at) IndexRole)
+    (λ e. (capacity_at old at ≤ entry_count old at) × AllocatesNoSpace old new (grown_bytes old at) IndexRole)
 
 -- the block is given back, if there is one
-abbrev pub GivesBack : Cut → Cut → Option ℕ → Type 0
-GivesBack old new None = new ≡ old
-GivesBack old new (Some h) = IsReleased current old new h
+abbrev pub FreesGrowth : WindowState → WindowState → Option ℕ → Type 0
+FreesGrowth old new None = new ≡ old
+FreesGrowth old new (Some h) = Deallocates current old new h
 
-abbrev pub IsHeld : Cut → Growth → Type 0
-IsHeld c g = IfSome g.block (λ h. IsTrue (is_live_in (live_of c.bytes) h))
+abbrev pub IsLiveGrowth : WindowState → Growth → Type 0
+IsLiveGrowth c g = IfSome g.block (λ h. IsTrue (is_live_in (live_of c.bytes) h))
 
 -- and with it the live set from which it was taken
-abbrev pub Restores : Cut → Cut → Growth → Type 0
-Restores old new g = IfSome g.block (λ h. (before : Cut) (n : ℕ) → IsAllocated current before old n IndexRole h
-    → LaysOut current new.bytes (live_of before.bytes) × Keeps before new (live_of before.bytes).extents)
+abbrev pub Restores : WindowState → WindowState → Growth → Type 0
+Restores old new g = IfSome g.block (λ h. (before : WindowState) (n : ℕ) → AllocatesOk current before old n IndexRole h
+    → EncodesLiveSet current new.bytes (live_of before.bytes) × KeepsBlocks before new (live_of before.bytes).extents)
 
 -- the place, the header but word 24 and the three words of an index, and these blocks stay
-pub record KeepsRest (old new : Cut) (at : ℕ) (xs : List Extent) : Type 0 where
-  pub place : SamePlace old new
-  pub front : Same (bytes_of old.bytes) (bytes_of new.bytes) 0 24
-  pub before : Same (bytes_of old.bytes) (bytes_of new.bytes) 32 at
-  pub behind : Same (bytes_of old.bytes) (bytes_of new.bytes) (at + 24) 128
+pub record KeepsOutsideIndex (old new : WindowState) (at : ℕ) (xs : List Extent) : Type 0 where
+  pub place : SameSurroundings old new
+  pub front : SameBytes (bytes_of old.bytes) (bytes_of new.bytes) 0 24
+  pub before : SameBytes (bytes_of old.bytes) (bytes_of new.bytes) 32 at
+  pub behind : SameBytes (bytes_of old.bytes) (bytes_of new.bytes) (at + 24) 128
   pub blocks : AllByRecursion (SameBlock (bytes_of old.bytes) (bytes_of new.bytes)) xs
 
 -- the extents but for the block of an index
-abbrev pub beside_table : Table → List Extent → List Extent
+abbrev pub beside_table : BackingArray → List Extent → List Extent
 beside_table t xs = elim t.extent [ None ↦ xs | Some x ↦ others (handle x) xs ]
 
 -- a block in use that has so many places for an index
-pub record IsBlockFor (c : Cut) (h places : ℕ) : Type 0 where
+pub record IsBlockFor (c : WindowState) (h places : ℕ) : Type 0 where
   pub extent : Extent
   pub found : extent_at (live_of c.bytes) h ≡ Some extent
   pub fits : IsTrue (serves extent IndexRole (8 * places))
@@ -60,23 +63,23 @@ pub record IsBlockFor (c : Cut) (h places : ℕ) : Type 0 where
 abbrev pub without_link : LiveSet → Option ℕ → LiveSet
 without_link live link = elim link [ None ↦ live | Some h ↦ released live h ]
 
-abbrev pub unlinked : Cut → ℕ → LiveSet
+abbrev pub unlinked : WindowState → ℕ → LiveSet
 unlinked c at = without_link (live_of c.bytes) (link_at (bytes_of c.bytes) at)
 
 -- a growth for an index as it is: none where there are places left, or a block of enough places that is not its own
-abbrev pub CanGrow : Cut → ℕ → Option ℕ → Type 0
+abbrev pub CanGrow : WindowState → ℕ → Option ℕ → Type 0
 CanGrow c at None = entry_count c at < capacity_at c at
 CanGrow c at (Some h) =
     IsBlockFor c h (grown_capacity (capacity_at c at)) × (link_at (bytes_of c.bytes) at ≡ Some h → ⊥)
 
-abbrev pub Adds : Cut → Cut → ℕ → Table → List ℕ → Option ℕ → Type 0
-Adds old new at t handles None = IsIndexOf new at t handles
-Adds old new at t handles (Some h) = IsIndexIn old new at h (grown_capacity (capacity_at old at)) handles
+abbrev pub AddsEntry : WindowState → WindowState → ℕ → BackingArray → List ℕ → Option ℕ → Type 0
+AddsEntry old new at t handles None = IsIndexOf new at t handles
+AddsEntry old new at t handles (Some h) = IsIndexIn old new at h (grown_capacity (capacity_at old at)) handles
 
-abbrev pub grown_live : Cut → ℕ → Option ℕ → LiveSet
+abbrev pub grown_live : WindowState → ℕ → Option ℕ → LiveSet
 grown_live c at None = live_of c.bytes
 grown_live c at (Some h) = unlinked c at
 
-abbrev pub AddKeeps : Cut → Cut → ℕ → Table → Option ℕ → Type 0
-AddKeeps old new at t None = KeepsRest old new at (beside_table t (live_of old.bytes).extents)
-AddKeeps old new at t (Some h) = KeepsRest old new at (others h (unlinked old at).extents)
+abbrev pub AddKeeps : WindowState → WindowState → ℕ → BackingArray → Option ℕ → Type 0
+AddKeeps old new at t None = KeepsOutsideIndex old new at (beside_table t (live_of old.bytes).extents)
+AddKeeps old new at t (Some h) = KeepsOutsideIndex old new at (others h (unlinked old at).extents)

@@ -1,9 +1,10 @@
 -- An index of a heap, with its block.
 use Rattle.std.specs.Prelude.{◌≡◌, ℕ, ◌+◌, ◌%◌, ◌≤◌, Some, IfSome, List, length, IsTrue}
 use Rattle.std.specs.List.{AllByRecursion}
-use Rattle.raw_region.specs.{Memory.Cut, Memory.bytes_of, Memory.word_at, Format.current}
+use Rattle.raw_region.specs.{Memory.WindowState, Memory.bytes_of, Memory.word_at, Format.current}
 use Rattle.block_tags.specs.declared.tile.Role.TheVariants.{Index as IndexRole}
-use Rattle.best_fit.specs.{Extents.handle, Heap.IsHeap, Heap.extent_at, Heap.live_of, Table.Table, Table.is_table}
+use Rattle.best_fit.specs.{Extents.handle, Heap.IsHeap, Heap.extent_at, Heap.live_of, Table.BackingArray}
+use Rattle.best_fit.specs.{Table.has_backing}
 use Rattle.seg_index.specs.{declared.index.Index.Index, Index.IsIndexAt}
 use Rattle.seg_index.specs.declared.index.Index.TheVariants.{Named, Unique}
 
@@ -13,27 +14,27 @@ place_of Named = 32
 place_of Unique = 56
 
 -- the words of an index: how many entries it has, and how many places
-abbrev pub entry_count : Cut → ℕ → ℕ
+abbrev pub entry_count : WindowState → ℕ → ℕ
 entry_count c at = word_at (bytes_of c.bytes) (at + 8)
 
-abbrev pub capacity_at : Cut → ℕ → ℕ
+abbrev pub capacity_at : WindowState → ℕ → ℕ
 capacity_at c at = word_at (bytes_of c.bytes) (at + 16)
 
 -- An index in the header of a heap: its block is in use, has all its places, and no more of them are used.
-pub record IsIndexOf (c : Cut) (at : ℕ) (t : Table) (handles : List ℕ) : Type 0 where
+pub record IsIndexOf (c : WindowState) (at : ℕ) (t : BackingArray) (handles : List ℕ) : Type 0 where
   pub heap : IsHeap current c.bytes
   pub stands : IsIndexAt (bytes_of c.bytes) at t handles
-  pub places : IsTrue (is_table IndexRole 8 t)
+  pub places : IsTrue (has_backing IndexRole 8 t)
   pub few : length handles ≤ t.capacity
   pub held : IfSome t.extent (λ x. extent_at (live_of c.bytes) (handle x) ≡ Some x)
   pub whole : AllByRecursion (λ h. h % 16 ≡ 0) handles
 
-pub record HasIndex (c : Cut) (at : ℕ) : Type 0 where
-  pub table : Table
+pub record HasIndex (c : WindowState) (at : ℕ) : Type 0 where
+  pub table : BackingArray
   pub handles : List ℕ
   pub index : IsIndexOf c at table handles
 
 -- the index has so many places in a block that was in use before
-abbrev pub IsIndexIn : Cut → Cut → ℕ → ℕ → ℕ → List ℕ → Type 0
+abbrev pub IsIndexIn : WindowState → WindowState → ℕ → ℕ → ℕ → List ℕ → Type 0
 IsIndexIn old new at block places handles =
     IsIndexOf new at (record { capacity = places; extent = extent_at (live_of old.bytes) block }) handles

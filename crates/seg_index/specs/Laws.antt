@@ -1,70 +1,75 @@
 -- What holds of indexes beside other calls of their heap.
 use Rattle.std.specs.Prelude.{◌≡◌, ℕ, ◌+◌, ◌%◌, ◌<◌, ◌≤◌, ◌==◌, if◌then◌else◌, Option, Some, List, [], ◌∷◌, IsTrue}
 use Rattle.std.specs.declared.cmp.Ordering.{Ordering}
-use Rattle.raw_region.specs.{Format.current, Memory.Cut, Memory.Memory, Memory.bytes_of}
+use Rattle.raw_region.specs.{Format.current, Memory.WindowState, Memory.Memory, Memory.bytes_of}
 use Rattle.block_tags.specs.declared.tile.Role.{Role}
 use Rattle.link_tree.specs.Tree.{bits}
 use Rattle.offset_link.specs.Link.{link_at}
-use Rattle.best_fit.specs.Heap.{IsAllocated, IsChanged, IsReleased, Keeps, LaysOut, has_room, live_of}
-use Rattle.best_fit.specs.Table.{Table}
+use Rattle.best_fit.specs.Heap.{AllocatesOk, ChangesBytes, Deallocates, KeepsBlocks, EncodesLiveSet, has_room, live_of}
+use Rattle.best_fit.specs.Table.{BackingArray}
 use Rattle.seg_index.specs.{declared.index.Index.Index, Growth.CanGrow, Growth.IsGrowth, Held.IsIndexOf, Held.place_of}
 use Rattle.seg_index.specs.{declared.keys.Entry.TheVariants.Code, Comparing.comparisons, Comparing.comparisons_among}
-use Rattle.seg_index.specs.{declared.keys.Entry.Entry, declared.keys.Lookup.Lookup, Lookups.IsPlace}
+use Rattle.seg_index.specs.{declared.keys.Entry.Entry, declared.keys.Lookup.Lookup, Lookups.FindsPosition}
 use Rattle.seg_index.specs.declared.keys.Lookup.TheVariants.{Absent}
-use Rattle.seg_index.specs.Sorted.{AreSorted, BelongsAt, HasSortKey, IsKeyOf, KeepsSorted, index_of}
+use Rattle.seg_index.specs.Sorted.{AreSortedHandles, BelongsAt, HasSortKey, IsKeyOf, KeepsSorted, index_of}
 use Rattle.std.specs.List.{AllByRecursion}
 
 -- the link of an index leads to this block
-abbrev pub IsItsBlock : Cut → Index → ℕ → Type 0
+abbrev pub IsItsBlock : WindowState → Index → ℕ → Type 0
 IsItsBlock c i h = link_at (bytes_of c.bytes) (place_of i) ≡ Some h
 
 -- the law: an index stays where a block is taken, and where a block that is not its own is released or written
 pub record IndexesStay : Type 0 where
-  pub taken : (i : Index) (a b : Cut) (n : ℕ) (role : Role) (h : ℕ) (t : Table) (handles : List ℕ)
-      → IsIndexOf a (place_of i) t handles → IsAllocated current a b n role h
+  pub taken : (i : Index) (a b : WindowState) (n : ℕ) (role : Role) (h : ℕ) (t : BackingArray) (handles : List ℕ)
+      → IsIndexOf a (place_of i) t handles → AllocatesOk current a b n role h
       → IsIndexOf b (place_of i) t handles
-  pub released : (i : Index) (a b : Cut) (h : ℕ) (t : Table) (handles : List ℕ) → IsIndexOf a (place_of i) t handles
+  pub released : (i : Index) (a b : WindowState) (h : ℕ) (t : BackingArray) (handles : List ℕ)
+      → IsIndexOf a (place_of i) t handles
       → IsReleased current a b h → (IsItsBlock a i h → ⊥)
       → IsIndexOf b (place_of i) t handles
-  pub written : (i : Index) (a b : Cut) (h at n : ℕ) (t : Table) (handles : List ℕ) → IsIndexOf a (place_of i) t handles
+  pub written : (i : Index) (a b : WindowState) (h at n : ℕ) (t : BackingArray) (handles : List ℕ)
+      → IsIndexOf a (place_of i) t handles
       → IsChanged current a b (h + at) n
       → IsTrue (has_room (live_of a.bytes) h (at + n)) → (IsItsBlock a i h → ⊥) → IsIndexOf b (place_of i) t handles
 
 -- the law: entries stay sorted where a block is taken, where one that is none of their objects' is released or written,
 -- and where the same blocks are in use again with their bytes
 pub record EntriesStaySorted : Type 0 where
-  pub taken : (a b : Cut) (n : ℕ) (role : Role) (h : ℕ) → IsAllocated current a b n role h → KeepsSorted a b
-  pub released : (i : Index) (a b : Cut) (h : ℕ) (handles : List ℕ) → AreSorted a i handles → IsReleased current a b h
-      → AllByRecursion (λ g. g ≡ h → ⊥) handles → AreSorted b i handles
-  pub written : (i : Index) (a b : Cut) (h at n : ℕ) (handles : List ℕ) → AreSorted a i handles
+  pub taken : (a b : WindowState) (n : ℕ) (role : Role) (h : ℕ) → AllocatesOk current a b n role h → KeepsSorted a b
+  pub released : (i : Index) (a b : WindowState) (h : ℕ) (handles : List ℕ) → AreSortedHandles a i handles
+      → Deallocates current a b h
+      → AllByRecursion (λ g. g ≡ h → ⊥) handles → AreSortedHandles b i handles
+  pub written : (i : Index) (a b : WindowState) (h at n : ℕ) (handles : List ℕ) → AreSortedHandles a i handles
       → IsChanged current a b (h + at) n → IsTrue (has_room (live_of a.bytes) h (at + n))
-      → AllByRecursion (λ g. g ≡ h → ⊥) handles → AreSorted b i handles
-  pub restored : (a b : Cut) → LaysOut current b.bytes (live_of a.bytes) → Keeps a b (live_of a.bytes).extents
+      → AllByRecursion (λ g. g ≡ h → ⊥) handles → AreSortedHandles b i handles
+  pub restored : (a b : WindowState) → EncodesLiveSet current b.bytes (live_of a.bytes)
+      → KeepsBlocks a b (live_of a.bytes).extents
       → KeepsSorted a b
 
 -- the law: an object whose key a look-up did not find belongs at the place that it answered
 abbrev pub AbsentKeysBelong : Type 0
 AbsentKeysBelong =
-    (c : Cut) (key : Entry) (handles : List ℕ) (place h : ℕ) → AreSorted c (index_of key) handles
-    → IsPlace (bytes_of c.bytes) key handles (Absent place) → HasSortKey c (index_of key) h
+    (c : WindowState) (key : Entry) (handles : List ℕ) (place h : ℕ) → AreSortedHandles c (index_of key) handles
+    → FindsPosition (bytes_of c.bytes) key handles (Absent place) → HasSortKey c (index_of key) h
     → IsKeyOf key (bytes_of c.bytes) h → BelongsAt c (index_of key) handles place h
 
 -- the law: of a sorted list one place alone is that of a key
 abbrev pub KeysHaveOnePlace : Type 0
 KeysHaveOnePlace =
-    (c : Cut) (key : Entry) (handles : List ℕ) (r s : Lookup) → AreSorted c (index_of key) handles
-    → IsPlace (bytes_of c.bytes) key handles r → IsPlace (bytes_of c.bytes) key handles s → r ≡ s
+    (c : WindowState) (key : Entry) (handles : List ℕ) (r s : Lookup) → AreSortedHandles c (index_of key) handles
+    → FindsPosition (bytes_of c.bytes) key handles r → FindsPosition (bytes_of c.bytes) key handles s → r ≡ s
 
 -- the law: what `prepare` answers is what `add` wants, and stays so where a block is taken, and where another is
 -- released or one is written
 pub record GrowthsStay : Type 0 where
-  pub prepared : (i : Index) (a b : Cut) (g : Option ℕ) (t : Table) (handles : List ℕ)
+  pub prepared : (i : Index) (a b : WindowState) (g : Option ℕ) (t : BackingArray) (handles : List ℕ)
       → IsIndexOf a (place_of i) t handles → IsGrowth a b (place_of i) g → CanGrow b (place_of i) g
-  pub taken : (i : Index) (a b : Cut) (g : Option ℕ) (n : ℕ) (role : Role) (h : ℕ) → CanGrow a (place_of i) g
+  pub taken : (i : Index) (a b : WindowState) (g : Option ℕ) (n : ℕ) (role : Role) (h : ℕ) → CanGrow a (place_of i) g
       → IsAllocated current a b n role h → CanGrow b (place_of i) g
-  pub released : (i : Index) (a b : Cut) (g : Option ℕ) (h : ℕ) → CanGrow a (place_of i) g → IsReleased current a b h
+  pub released : (i : Index) (a b : WindowState) (g : Option ℕ) (h : ℕ) → CanGrow a (place_of i) g
+      → Deallocates current a b h
       → (g ≡ Some h → ⊥) → CanGrow b (place_of i) g
-  pub written : (i : Index) (a b : Cut) (g : Option ℕ) (h at n : ℕ) → CanGrow a (place_of i) g
+  pub written : (i : Index) (a b : WindowState) (g : Option ℕ) (h at n : ℕ) → CanGrow a (place_of i) g
       → IsChanged current a b (h + at) n
       → IsTrue (has_room (live_of a.bytes) h (at + n)) → CanGrow b (place_of i) g
 

@@ -3,7 +3,7 @@ use Rattle.std.specs.Prelude.{◌≡◌, ℕ, ◌+◌, ◌*◌, ◌<◌, ◌≤�
 use Rattle.std.specs.{Cmp.Lexicographic.slice_cmp, declared.cmp.Ordering.Ordering}
 use Rattle.std.specs.Ordering.{nat_cmp}
 use Rattle.std.specs.declared.cmp.Ordering.TheVariants.{Less, Equal, Greater}
-use Rattle.raw_region.specs.{Memory.Cut, Memory.Memory, Memory.bytes_of, Format.current}
+use Rattle.raw_region.specs.{Memory.WindowState, Memory.Memory, Memory.bytes_of, Format.current}
 use Rattle.offset_link.specs.Link.{link_at}
 use Rattle.best_fit.specs.Heap.{IsHeap, has_room, live_of}
 use Rattle.seg_index.specs.declared.keys.Entry.{Entry}
@@ -18,14 +18,14 @@ order m (Name s) h = slice_cmp nat_cmp (name_at m h) s.now
 order m (Code n) h = nat_cmp (code_at m h) n
 
 -- the block of a handle has room for its key
-pub record HasKey (c : Cut) (key : Entry) (h : ℕ) : Type 0 where
+pub record IsKeyReadable (c : WindowState) (key : Entry) (h : ℕ) : Type 0 where
   pub heap : IsHeap current c.bytes
   pub room : IsTrue (has_room (live_of c.bytes) h (sort_key_end (index_of key) (bytes_of c.bytes) h))
 
 -- the entry has the key; or none has it, for all keys before this entry are less, and all from it on greater
-abbrev pub IsPlace : Memory → Entry → List ℕ → Lookup → Type 0
-IsPlace m key handles (Found i) = (h : ℕ) × (slice_get handles i ≡ Some h) × (order m key h ≡ Equal)
-IsPlace m key handles (Absent i) =
+abbrev pub FindsPosition : Memory → Entry → List ℕ → Lookup → Type 0
+FindsPosition m key handles (Found i) = (h : ℕ) × (slice_get handles i ≡ Some h) × (order m key h ≡ Equal)
+FindsPosition m key handles (Absent i) =
     (i ≤ length handles)
     × ((j h : ℕ) → slice_get handles j ≡ Some h
     → (j < i → order m key h ≡ Less) × (i ≤ j → order m key h ≡ Greater))
@@ -33,20 +33,22 @@ IsPlace m key handles (Absent i) =
 -- ---- the same over the links of a block
 
 -- the link of an entry leads to a handle
-abbrev pub Leads : Memory → ℕ → ℕ → ℕ → Type 0
-Leads m block i h = link_at m (block + 8 * i) ≡ Some h
+abbrev pub IsEntryLinkTo : Memory → ℕ → ℕ → ℕ → Type 0
+IsEntryLinkTo m block i h = link_at m (block + 8 * i) ≡ Some h
 
 -- the first links of a block lead to keys, each of which stands before those behind it
-pub record AreKeys (c : Cut) (block count : ℕ) (key : Entry) : Type 0 where
+pub record AreKeys (c : WindowState) (block count : ℕ) (key : Entry) : Type 0 where
   pub room : IsTrue (has_room (live_of c.bytes) block (8 * count))
-  pub target : (i : ℕ) → i < count → (h : ℕ) × Leads (bytes_of c.bytes) block i h
-  pub keyed : (i h : ℕ) → i < count → Leads (bytes_of c.bytes) block i h → HasKey c key h
-  pub rises : (i j g h : ℕ) → i < j → j < count → Leads (bytes_of c.bytes) block i g → Leads (bytes_of c.bytes) block j h
+  pub target : (i : ℕ) → i < count → (h : ℕ) × IsEntryLinkTo (bytes_of c.bytes) block i h
+  pub keyed : (i h : ℕ) → i < count → IsEntryLinkTo (bytes_of c.bytes) block i h → IsKeyReadable c key h
+  pub rises : (i j g h : ℕ) → i < j → j < count → IsEntryLinkTo (bytes_of c.bytes) block i g
+      → IsEntryLinkTo (bytes_of c.bytes) block j h
       → sort_order (index_of key) (bytes_of c.bytes) g h ≡ Less
 
-abbrev pub IsPlaceIn : Memory → Entry → ℕ → ℕ → Lookup → Type 0
-IsPlaceIn m key block count (Found i) = (i < count) × ((h : ℕ) → Leads m block i h → order m key h ≡ Equal)
-IsPlaceIn m key block count (Absent i) =
+abbrev pub FindsPositionIn : Memory → Entry → ℕ → ℕ → Lookup → Type 0
+FindsPositionIn m key block count (Found i) =
+    (i < count) × ((h : ℕ) → IsEntryLinkTo m block i h → order m key h ≡ Equal)
+FindsPositionIn m key block count (Absent i) =
     (i ≤ count)
-    × ((j h : ℕ) → j < count → Leads m block j h
+    × ((j h : ℕ) → j < count → IsEntryLinkTo m block j h
     → (j < i → order m key h ≡ Less) × (i ≤ j → order m key h ≡ Greater))

@@ -4,9 +4,9 @@ use Rattle.std.specs.Prelude.{◌≡◌, ℕ, ◌+◌, ◌<◌, ◌≤◌, Some,
 use Rattle.std.specs.{List.AllByRecursion, List.Sorted.IsStrictlySortedBy, Cmp.Lexicographic.slice_cmp}
 use Rattle.std.specs.{Ordering.nat_cmp, declared.cmp.Ordering.Ordering}
 use Rattle.std.specs.declared.cmp.Ordering.TheVariants.{Less, Greater}
-use Rattle.raw_region.specs.Memory.{Cut, Memory, bytes_of}
+use Rattle.raw_region.specs.Memory.{WindowState, Memory, bytes_of}
 use Rattle.block_tags.specs.declared.tile.Role.TheVariants.{Object as ObjectRole}
-use Rattle.best_fit.specs.{Extents.Extent, Heap.extent_at, Heap.live_of, Table.Table, Table.serves}
+use Rattle.best_fit.specs.{Extents.Extent, Heap.extent_at, Heap.live_of, Table.BackingArray, Table.serves}
 use Rattle.seg_index.specs.{declared.index.Index.Index, declared.keys.Entry.Entry, Held.IsIndexOf, Held.place_of}
 use Rattle.seg_index.specs.declared.index.Index.TheVariants.{Named, Unique}
 use Rattle.seg_index.specs.declared.keys.Entry.TheVariants.{Name, Code}
@@ -28,7 +28,7 @@ sort_order Named m g h = slice_cmp nat_cmp (name_at m g) (name_at m h)
 sort_order Unique m g h = nat_cmp (code_at m g) (code_at m h)
 
 -- the handle is that of an object's block in use, which holds the sort key
-pub record HasSortKey (c : Cut) (i : Index) (h : ℕ) : Type 0 where
+pub record HasSortKey (c : WindowState) (i : Index) (h : ℕ) : Type 0 where
   pub extent : Extent
   pub found : extent_at (live_of c.bytes) h ≡ Some extent
   pub fits : IsTrue (serves extent ObjectRole (sort_key_end i (bytes_of c.bytes) h))
@@ -39,21 +39,21 @@ IsKeyOf (Name s) m h = name_at m h ≡ s.now
 IsKeyOf (Code n) m h = code_at m h ≡ n
 
 -- each handle leads to a sort key, and each of these is less than those after it
-pub record AreSorted (c : Cut) (i : Index) (handles : List ℕ) : Type 0 where
+pub record AreSortedHandles (c : WindowState) (i : Index) (handles : List ℕ) : Type 0 where
   pub keys : AllByRecursion (HasSortKey c i) handles
   pub rises : IsStrictlySortedBy (sort_order i (bytes_of c.bytes)) handles
 
-pub record IsSortedIndex (c : Cut) (i : Index) (t : Table) (handles : List ℕ) : Type 0 where
+pub record IsSortedIndex (c : WindowState) (i : Index) (t : BackingArray) (handles : List ℕ) : Type 0 where
   pub index : IsIndexOf c (place_of i) t handles
-  pub sorted : AreSorted c i handles
+  pub sorted : AreSortedHandles c i handles
 
-pub record HasSortedIndex (c : Cut) (i : Index) : Type 0 where
-  pub table : Table
+pub record HasSortedIndex (c : WindowState) (i : Index) : Type 0 where
+  pub table : BackingArray
   pub handles : List ℕ
   pub index : IsSortedIndex c i table handles
 
 -- the sort key of this handle is greater than those before this place, and less than those from there on
-pub record BelongsAt (c : Cut) (i : Index) (handles : List ℕ) (place handle : ℕ) : Type 0 where
+pub record BelongsAt (c : WindowState) (i : Index) (handles : List ℕ) (place handle : ℕ) : Type 0 where
   pub key : HasSortKey c i handle
   pub within : place ≤ length handles
   pub each : (j g : ℕ) → slice_get handles j ≡ Some g
@@ -61,12 +61,12 @@ pub record BelongsAt (c : Cut) (i : Index) (handles : List ℕ) (place handle : 
       × (place ≤ j → sort_order i (bytes_of c.bytes) g handle ≡ Greater)
 
 -- the index is sorted, and with an entry for this handle at this place it still would be
-pub record CanAdd (c : Cut) (i : Index) (place handle : ℕ) : Type 0 where
-  pub table : Table
+pub record CanAdd (c : WindowState) (i : Index) (place handle : ℕ) : Type 0 where
+  pub table : BackingArray
   pub handles : List ℕ
   pub index : IsSortedIndex c i table handles
   pub belongs : BelongsAt c i handles place handle
 
 -- what was sorted is sorted still, of either index
-abbrev pub KeepsSorted : Cut → Cut → Type 0
-KeepsSorted old new = (i : Index) (handles : List ℕ) → AreSorted old i handles → AreSorted new i handles
+abbrev pub KeepsSorted : WindowState → WindowState → Type 0
+KeepsSorted old new = (i : Index) (handles : List ℕ) → AreSortedHandles old i handles → AreSortedHandles new i handles

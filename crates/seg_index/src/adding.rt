@@ -2,12 +2,12 @@
 ghost use Rattle.std.specs.Prelude.{◌≡◌, ℕ, ◌+◌, ◌-◌, ◌*◌, ◌%◌, ◌<◌, ◌≤◌, ◌⊎◌, IfSome, IsTrue, List, None, Some};
 ghost use Rattle.std.specs.Prelude.{insert, remove};
 ghost use Rattle.raw_region.specs.{Format.current, Memory.bytes_of};
-ghost use Rattle.offset_link.specs.{Link.link_at, Relinked.AllLead, Relinked.KeepTargets};
-ghost use Rattle.best_fit.specs.Heap.{IsChanged, IsHeap, KeepsGaps, LaysOut, has_room, heap_touches, live_of};
-ghost use Rattle.best_fit.specs.Table.{Table as ATable};
-ghost use Rattle.seg_index.specs.Growth.{AddKeeps, Adds, CanGrow, KeepsRest, beside_table, grown_live};
+ghost use Rattle.offset_link.specs.{Link.link_at, Relinked.AllLinksLead, Relinked.KeepTargets};
+ghost use Rattle.best_fit.specs.Heap.{ChangesBytes, IsHeap, KeepsGaps, EncodesLiveSet, has_room, heap_touches, live_of};
+ghost use Rattle.best_fit.specs.Table.{BackingArray as ATable};
+ghost use Rattle.seg_index.specs.Growth.{AddKeeps, AddsEntry, CanGrow, KeepsOutsideIndex, beside_table, grown_live};
 ghost use Rattle.seg_index.specs.Held.{HasIndex, IsIndexOf, entry_count, place_of};
-ghost use Rattle.seg_index.specs.Sorted.{AreSorted, CanAdd, IsSortedIndex, KeepsSorted};
+ghost use Rattle.seg_index.specs.Sorted.{AreSortedHandles, CanAdd, IsSortedIndex, KeepsSorted};
 
 use crate::growing::{Growth, LINK, grown};
 use crate::index::Index;
@@ -21,32 +21,32 @@ impl Index {
         requires entry { CanAdd heap.old self place handle }
         requires growth { CanGrow heap.old (place_of self) growth.block }
         ensures index { (t : ATable) (handles : List ℕ) → IsIndexOf heap.old (place_of self) t handles
-            → Adds heap.old heap.new (place_of self) t (insert handles place handle) growth.block }
+            → AddsEntry heap.old heap.new (place_of self) t (insert handles place handle) growth.block }
         ensures sorted { (t : ATable) (handles : List ℕ) → IsIndexOf heap.old (place_of self) t handles
-            → AreSorted heap.new self (insert handles place handle) }
+            → AreSortedHandles heap.new self (insert handles place handle) }
         ensures order { KeepsSorted heap.old heap.new }
-        ensures live { LaysOut current heap.new.bytes (grown_live heap.old (place_of self) growth.block) }
-        ensures keeps { (t : ATable) (handles : List ℕ) → IsIndexOf heap.old (place_of self) t handles
+        ensures live { EncodesLiveSet current heap.new.bytes (grown_live heap.old (place_of self) growth.block) }
+        ensures frame { (t : ATable) (handles : List ℕ) → IsIndexOf heap.old (place_of self) t handles
             → AddKeeps heap.old heap.new (place_of self) t growth.block }
         ensures gaps { growth.block ≡ None → KeepsGaps heap.old heap.new }
-        ensures counted { steps.old ≤ steps.new }
+        ensures steps_lower { steps.old ≤ steps.new }
         ensures noop { (growth.block ≡ None) ⊎ (link_at (bytes_of heap.old.bytes) (place_of self) ≡ None)
             → steps.new ≡ steps.old }
-        ensures went { IfSome growth.block (λ block. IfSome (link_at (bytes_of heap.old.bytes) (place_of self))
+        ensures progress { IfSome growth.block (λ block. IfSome (link_at (bytes_of heap.old.bytes) (place_of self))
             (λ old. steps.old < steps.new)) }
         ensures steps { steps.new ≤ steps.old + heap_touches (live_of heap.old.bytes) }
     {
         let count = self.len(heap);
         match growth.block {
             None => {
-                let block = heap.header_link(self.place()).unwrap_or(0);
+                let block = heap.header_link(self.header_offset()).unwrap_or(0);
                 spread(heap, block, block, place, count, handle);
-                heap.set_header_word(self.place() + 8, count + 1);
+                heap.set_header_word(self.header_offset() + 8, count + 1);
             }
             Some(block) => {
                 let capacity = grown(self.capacity(heap));
                 // without a block there are no links to be moved
-                let from = heap.header_link(self.place()).unwrap_or(block);
+                let from = heap.header_link(self.header_offset()).unwrap_or(block);
                 heap.shift_non_null_links(from, 0, block, 0, place);
                 spread(heap, from, block, place, count, handle);
                 self.settle(heap, block, capacity, count + 1, steps);
@@ -57,22 +57,22 @@ impl Index {
     /// Takes the entry at a place out. Those behind it stand one place before; the block stays.
     pub fn remove(self, heap: &mut Heap, place: u64)
         requires index { HasIndex heap.old (place_of self) }
-        requires below { place < entry_count heap.old (place_of self) }
+        requires subtree { place < entry_count heap.old (place_of self) }
         ensures index { (t : ATable) (handles : List ℕ) → IsIndexOf heap.old (place_of self) t handles
             → IsIndexOf heap.new (place_of self) t (remove handles place) }
         ensures sorted { (t : ATable) (handles : List ℕ) → IsSortedIndex heap.old self t handles
-            → AreSorted heap.new self (remove handles place) }
+            → AreSortedHandles heap.new self (remove handles place) }
         ensures order { KeepsSorted heap.old heap.new }
-        ensures live { LaysOut current heap.new.bytes (live_of heap.old.bytes) }
-        ensures keeps { (t : ATable) (handles : List ℕ) → IsIndexOf heap.old (place_of self) t handles
-            → KeepsRest heap.old heap.new (place_of self) (beside_table t (live_of heap.old.bytes).extents) }
+        ensures live { EncodesLiveSet current heap.new.bytes (live_of heap.old.bytes) }
+        ensures frame { (t : ATable) (handles : List ℕ) → IsIndexOf heap.old (place_of self) t handles
+            → KeepsOutsideIndex heap.old heap.new (place_of self) (beside_table t (live_of heap.old.bytes).extents) }
         ensures gaps { KeepsGaps heap.old heap.new }
     {
         let count = self.len(heap);
-        let block = heap.header_link(self.place()).unwrap_or(0);
+        let block = heap.header_link(self.header_offset()).unwrap_or(0);
         let at = LINK * place;
         heap.shift_non_null_links(block, at + LINK, block, at, count - place - 1);
-        heap.set_header_word(self.place() + 8, count - 1);
+        heap.set_header_word(self.header_offset() + 8, count - 1);
     }
 }
 
@@ -80,13 +80,13 @@ impl Index {
 /// another.
 fn spread(heap: &mut Heap, from: u64, to: u64, place: u64, count: u64, handle: u64)
     requires heap { IsHeap current heap.old.bytes }
-    requires within { place ≤ count }
+    requires in_bounds { place ≤ count }
     requires source { IsTrue (has_room (live_of heap.old.bytes) from (8 * count)) }
     requires target { IsTrue (has_room (live_of heap.old.bytes) to (8 * count + 8)) }
-    requires links { AllLead (bytes_of heap.old.bytes) (from + 8 * place) (count - place) }
+    requires links { AllLinksLead (bytes_of heap.old.bytes) (from + 8 * place) (count - place) }
     requires handle { handle % 16 ≡ 0 }
-    ensures change { IsChanged current heap.old heap.new (to + 8 * place) (8 * (count - place) + 8) }
-    ensures here { link_at (bytes_of heap.new.bytes) (to + 8 * place) ≡ Some handle }
+    ensures changes { ChangesBytes current heap.old heap.new (to + 8 * place) (8 * (count - place) + 8) }
+    ensures in_place { link_at (bytes_of heap.new.bytes) (to + 8 * place) ≡ Some handle }
     ensures tail { KeepTargets (bytes_of heap.old.bytes) (bytes_of heap.new.bytes) (from + 8 * place)
         (to + 8 * place + 8) (count - place) }
 {

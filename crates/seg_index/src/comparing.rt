@@ -5,7 +5,7 @@ ghost use Rattle.std.specs.{Cmp.Lexicographic.slice_cmp, Ordering.nat_cmp};
 ghost use Rattle.raw_region.specs.{Memory.bytes_of, Format.current};
 ghost use Rattle.best_fit.specs.Heap.{IsHeap, has_room, live_of};
 ghost use Rattle.seg_index.specs.Beginnings.{front as front_of_bytes, key_front};
-ghost use Rattle.seg_index.specs.{Comparing.HasEntry, Comparing.order_at, Keys.name_at, Keys.name_len_at};
+ghost use Rattle.seg_index.specs.{Comparing.IsKeyedEntry, Comparing.order_at, Keys.name_at, Keys.name_len_at};
 
 use crate::keys::Entry;
 use best_fit::Heap;
@@ -18,7 +18,7 @@ const HALF: u64 = 4294967296;
 
 /// The entries of a block, and how often one of their keys was compared with the one that is looked up.
 #[derive(Drop)]
-pub struct Comparisons<'a> {
+pub struct ComparisonCounter<'a> {
     heap: &'a Heap,
     key: Entry<'a>,
     /// How the key begins, where it is a name.
@@ -27,16 +27,16 @@ pub struct Comparisons<'a> {
     count: u64,
 }
 
-impl<'a> Comparisons<'a> {
+impl<'a> ComparisonCounter<'a> {
     /// None yet.
-    pub fn new(heap: &'a Heap, key: Entry<'a>, block: u64) -> Comparisons<'a>
+    pub fn new(heap: &'a Heap, key: Entry<'a>, block: u64) -> ComparisonCounter<'a>
         ensures heap { result.heap.now ≡ heap.now }
         ensures key { result.key ≡ key.entry }
         ensures front { result.front ≡ key_front result.key }
         ensures block { result.block ≡ block }
         ensures count { result.count ≡ 0 }
     {
-        Comparisons {
+        ComparisonCounter {
             heap,
             key,
             front: front_of(key),
@@ -54,11 +54,11 @@ impl<'a> Comparisons<'a> {
 
     /// How the key that the entry with `i` others before it leads to stands to the key that is looked up.
     pub fn compare(&mut self, i: u64) -> Ordering
-        requires entry { HasEntry self.old.heap.now self.old.key self.old.block i }
+        requires entry { IsKeyedEntry self.old.heap.now self.old.key self.old.block i }
         requires front { self.old.front ≡ key_front self.old.key }
         requires room { self.old.count < 2 ^ 63 }
         ensures order { result ≡ order_at (bytes_of self.old.heap.now.bytes) self.old.key self.old.block i }
-        ensures counted { self.new ≡ record self.old { count = self.old.count + 1 } }
+        ensures steps_lower { self.new ≡ record self.old { count = self.old.count + 1 } }
     {
         self.count += 1;
         let handle = self.heap.link(self.block, 8 * i).unwrap_or(0);

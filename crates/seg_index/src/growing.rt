@@ -3,12 +3,13 @@ ghost use Rattle.std.specs.Prelude.{◌≡◌, ◌≢◌, ℕ, ◌+◌, ◌*◌,
 ghost use Rattle.std.specs.List.{AllByRecursion};
 ghost use Rattle.raw_region.specs.{Format.current, Memory.bytes_of};
 ghost use Rattle.offset_link.specs.Link.{link_at};
-ghost use Rattle.best_fit.specs.Heap.{IsHeap, LaysOut, heap_touches, is_live_in, live_of};
-ghost use Rattle.best_fit.specs.Table.{Table as ATable};
-ghost use Rattle.seg_index.specs.Capacities.{IsShrunk, Reserves, reserve_steps};
-ghost use Rattle.seg_index.specs.Growth.{GivesBack, IsBlockFor, IsHeld, KeepsRest, Prepares, Restores, unlinked};
+ghost use Rattle.best_fit.specs.Heap.{IsHeap, EncodesLiveSet, heap_touches, is_live_in, live_of};
+ghost use Rattle.best_fit.specs.Table.{BackingArray as ATable};
+ghost use Rattle.seg_index.specs.Capacities.{ShrinksIndex, ReservesIndex, reserve_steps};
+ghost use Rattle.seg_index.specs.Growth.{FreesGrowth, IsBlockFor, IsLiveGrowth, KeepsOutsideIndex, Prepares, Restores};
+ghost use Rattle.seg_index.specs.Growth.{unlinked};
 ghost use Rattle.seg_index.specs.Held.{HasIndex, IsIndexIn, IsIndexOf, capacity_at, entry_count, place_of};
-ghost use Rattle.seg_index.specs.{Index.AreLinks, Index.grown_capacity, Sorted.KeepsSorted};
+ghost use Rattle.seg_index.specs.{Index.AreLinksTo, Index.grown_capacity, Sorted.KeepsSorted};
 
 use crate::index::Index;
 use best_fit::{Heap, NoSpace};
@@ -33,10 +34,10 @@ impl Index {
         requires index { HasIndex heap.old (place_of self) }
         ensures growth { Prepares heap.old heap.new (place_of self) result }
         ensures order { KeepsSorted heap.old heap.new }
-        ensures counted { steps.old ≤ steps.new }
+        ensures steps_lower { steps.old ≤ steps.new }
         ensures noop { entry_count heap.old (place_of self) < capacity_at heap.old (place_of self)
             → steps.new ≡ steps.old }
-        ensures went { heap.new ≢ heap.old → steps.old < steps.new }
+        ensures progress { heap.new ≢ heap.old → steps.old < steps.new }
         ensures steps { steps.new ≤ steps.old + heap_touches (live_of heap.old.bytes) }
     {
         let capacity = self.capacity(heap);
@@ -49,12 +50,12 @@ impl Index {
 
     /// Gives the block of a growth back, and with it the live set from which it was taken.
     pub fn give_back(growth: Growth, heap: &mut Heap, steps: &mut Steps)
-        requires held { IsHeld heap.old growth }
-        ensures change { GivesBack heap.old heap.new growth.block }
-        ensures restored { Restores heap.old heap.new growth }
-        ensures counted { steps.old ≤ steps.new }
+        requires lock { IsLiveGrowth heap.old growth }
+        ensures changes { FreesGrowth heap.old heap.new growth.block }
+        ensures unchanged { Restores heap.old heap.new growth }
+        ensures steps_lower { steps.old ≤ steps.new }
         ensures noop { growth.block ≡ None → steps.new ≡ steps.old }
-        ensures went { heap.new ≢ heap.old → steps.old < steps.new }
+        ensures progress { heap.new ≢ heap.old → steps.old < steps.new }
         ensures steps { steps.new ≤ steps.old + heap_touches (live_of heap.old.bytes) }
     {
         if let Some(taken) = growth.block {
@@ -70,10 +71,10 @@ impl Index {
     /// `NoSpace` where no gap is long enough, as for each `n` above 134217728. Nothing changes.
     pub fn reserve(self, heap: &mut Heap, n: u64, steps: &mut Steps) -> Result<(), NoSpace>
         requires index { HasIndex heap.old (place_of self) }
-        ensures reserved { Reserves heap.old heap.new (place_of self) n result }
-        ensures counted { steps.old ≤ steps.new }
+        ensures capacity { ReservesIndex heap.old heap.new (place_of self) n result }
+        ensures steps_lower { steps.old ≤ steps.new }
         ensures noop { n ≤ capacity_at heap.old (place_of self) → steps.new ≡ steps.old }
-        ensures went { heap.new ≢ heap.old → steps.old < steps.new }
+        ensures progress { heap.new ≢ heap.old → steps.old < steps.new }
         ensures steps { steps.new ≤ steps.old + reserve_steps (live_of heap.old.bytes) n }
     {
         if n <= self.capacity(heap) {
@@ -82,7 +83,7 @@ impl Index {
         let block = heap.allocate(n.saturating_mul(LINK), Role::Index, steps)?;
         let count = self.len(heap);
         // without a block there are no links to be moved
-        let from = heap.header_link(self.place()).unwrap_or(block);
+        let from = heap.header_link(self.header_offset()).unwrap_or(block);
         heap.shift_non_null_links(from, 0, block, 0, count);
         self.settle(heap, block, n, count, steps);
         Ok(())
@@ -92,14 +93,14 @@ impl Index {
     /// stands, as far as what is cut off can be free, also where the capacity is that already.
     pub fn shrink(self, heap: &mut Heap, steps: &mut Steps)
         requires index { HasIndex heap.old (place_of self) }
-        ensures shrunk { (t : ATable) (handles : List ℕ) → IsIndexOf heap.old (place_of self) t handles
-            → IsShrunk heap.old heap.new (place_of self) t handles }
-        ensures counted { steps.old ≤ steps.new }
+        ensures shrinking { (t : ATable) (handles : List ℕ) → IsIndexOf heap.old (place_of self) t handles
+            → ShrinksIndex heap.old heap.new (place_of self) t handles }
+        ensures steps_lower { steps.old ≤ steps.new }
         ensures noop { link_at (bytes_of heap.old.bytes) (place_of self) ≡ None → steps.new ≡ steps.old }
-        ensures went { live_of heap.new.bytes ≢ live_of heap.old.bytes → steps.old < steps.new }
+        ensures progress { live_of heap.new.bytes ≢ live_of heap.old.bytes → steps.old < steps.new }
         ensures steps { steps.new ≤ steps.old + heap_touches (live_of heap.old.bytes) }
     {
-        let place = self.place();
+        let place = self.header_offset();
         let Some(block) = heap.header_link(place) else {
             return;
         };
@@ -120,19 +121,20 @@ impl Index {
         requires block { IsBlockFor heap.old block n }
         requires released { IfSome (link_at (bytes_of heap.old.bytes) (place_of self))
             (λ h. IsTrue (is_live_in (live_of heap.old.bytes) h) × (h ≢ block)) }
-        requires some { 0 < n }
-        requires within { count ≤ n }
-        ensures index { (handles : List ℕ) → AreLinks (bytes_of heap.old.bytes) block handles → count ≡ length handles
+        requires non_empty { 0 < n }
+        requires in_bounds { count ≤ n }
+        ensures index { (handles : List ℕ) → AreLinksTo (bytes_of heap.old.bytes) block handles → count ≡ length handles
             → AllByRecursion (λ h. h % 16 ≡ 0) handles
             → IsIndexIn heap.old heap.new (place_of self) block n handles }
-        ensures live { LaysOut current heap.new.bytes (unlinked heap.old (place_of self)) }
-        ensures keeps { KeepsRest heap.old heap.new (place_of self) (unlinked heap.old (place_of self)).extents }
-        ensures counted { steps.old ≤ steps.new }
+        ensures live { EncodesLiveSet current heap.new.bytes (unlinked heap.old (place_of self)) }
+        ensures frame { KeepsOutsideIndex heap.old heap.new (place_of self)
+            (unlinked heap.old (place_of self)).extents }
+        ensures steps_lower { steps.old ≤ steps.new }
         ensures noop { link_at (bytes_of heap.old.bytes) (place_of self) ≡ None → steps.new ≡ steps.old }
-        ensures went { IfSome (link_at (bytes_of heap.old.bytes) (place_of self)) (λ h. steps.old < steps.new) }
+        ensures progress { IfSome (link_at (bytes_of heap.old.bytes) (place_of self)) (λ h. steps.old < steps.new) }
         ensures steps { steps.new ≤ steps.old + heap_touches (live_of heap.old.bytes) }
     {
-        let place = self.place();
+        let place = self.header_offset();
         let old = heap.header_link(place);
         heap.set_header_link(place, Some(block));
         heap.set_header_word(place + 8, count);

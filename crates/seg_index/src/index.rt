@@ -2,12 +2,12 @@
 ghost use Rattle.std.specs.Prelude.{◌≡◌, ℕ, ◌+◌, ◌<◌, ◌≤◌, List, [], Some, length, slice_get};
 ghost use Rattle.raw_region.specs.{Memory.bytes_of, Format.current};
 ghost use Rattle.link_tree.specs.Tree.{bits};
-ghost use Rattle.best_fit.specs.{Heap.IsChanged, Table.Table as ATable, Table.no_table};
-ghost use Rattle.seg_index.specs.{Comparing.comparisons, Lookups.IsPlace};
+ghost use Rattle.best_fit.specs.{Heap.ChangesBytes, Table.BackingArray as ATable, Table.no_backing};
+ghost use Rattle.seg_index.specs.{Comparing.comparisons, Lookups.FindsPosition};
 ghost use Rattle.seg_index.specs.Held.{HasIndex, IsIndexOf, capacity_at, entry_count, place_of};
 ghost use Rattle.seg_index.specs.Sorted.{HasSortedIndex, IsSortedIndex, index_of};
 
-use crate::comparing::Comparisons;
+use crate::comparing::ComparisonCounter;
 use crate::keys::{Entry, Lookup};
 use crate::searching::search;
 use best_fit::Heap;
@@ -25,7 +25,7 @@ pub enum Index {
 
 impl Index {
     /// Where its three words begin: the link to its block, the number of its entries, and its capacity.
-    pub(crate) fn place(self) -> u64
+    pub(crate) fn header_offset(self) -> u64
         ensures { result ≡ place_of self }
     {
         match self {
@@ -35,11 +35,11 @@ impl Index {
     }
 
     /// Makes it an index without a place, whatever its words were. A block that it had is not released.
-    pub fn start(self, heap: &mut Heap)
-        ensures index { IsSortedIndex heap.new self no_table [] }
-        ensures change { IsChanged current heap.old heap.new (place_of self) 24 }
+    pub fn init(self, heap: &mut Heap)
+        ensures index { IsSortedIndex heap.new self no_backing [] }
+        ensures changes { ChangesBytes current heap.old heap.new (place_of self) 24 }
     {
-        let place = self.place();
+        let place = self.header_offset();
         heap.set_header_link(place, None);
         heap.set_header_word(place + 8, 0);
         heap.set_header_word(place + 16, 0);
@@ -51,7 +51,7 @@ impl Index {
         ensures len { (t : ATable) (handles : List ℕ) → IsIndexOf heap.now (place_of self) t handles
             → result ≡ length handles }
     {
-        heap.header_word(self.place() + 8)
+        heap.header_word(self.header_offset() + 8)
     }
 
     /// The number of its places. Without a block there are none.
@@ -60,17 +60,17 @@ impl Index {
         ensures capacity { (t : ATable) (handles : List ℕ) → IsIndexOf heap.now (place_of self) t handles
             → result ≡ t.capacity }
     {
-        heap.header_word(self.place() + 16)
+        heap.header_word(self.header_offset() + 16)
     }
 
     /// The handle that the entry with `i` others before it leads to.
     pub fn at(self, heap: &Heap, i: u64) -> u64
         requires index { HasIndex heap.now (place_of self) }
-        requires below { i < entry_count heap.now (place_of self) }
+        requires subtree { i < entry_count heap.now (place_of self) }
         ensures { (t : ATable) (handles : List ℕ) → IsIndexOf heap.now (place_of self) t handles
             → slice_get handles i ≡ Some result }
     {
-        let block = heap.header_link(self.place()).unwrap_or(0);
+        let block = heap.header_link(self.header_offset()).unwrap_or(0);
         heap.link(block, 8 * i).unwrap_or(0)
     }
 
@@ -80,16 +80,16 @@ impl Index {
         requires index { HasSortedIndex heap.now self }
         requires sort { index_of key ≡ self }
         ensures place { (t : ATable) (handles : List ℕ) → IsIndexOf heap.now (place_of self) t handles
-            → IsPlace (bytes_of heap.now.bytes) key.entry handles result }
-        ensures counted { steps.old ≤ steps.new }
+            → FindsPosition (bytes_of heap.now.bytes) key.entry handles result }
+        ensures steps_lower { steps.old ≤ steps.new }
         ensures steps { steps.new ≤ steps.old + bits (entry_count heap.now (place_of self)) }
-        ensures exact { (t : ATable) (handles : List ℕ) → IsIndexOf heap.now (place_of self) t handles
+        ensures steps_exact { (t : ATable) (handles : List ℕ) → IsIndexOf heap.now (place_of self) t handles
             → steps.new ≡ steps.old + comparisons (bytes_of heap.now.bytes) key.entry handles }
     {
-        let Some(block) = heap.header_link(self.place()) else {
+        let Some(block) = heap.header_link(self.header_offset()) else {
             return Lookup::Absent(0);
         };
-        let mut comparisons = Comparisons::new(heap, key, block);
+        let mut comparisons = ComparisonCounter::new(heap, key, block);
         let result = search(&mut comparisons, self.len(heap));
         steps.add(comparisons.count());
         result

@@ -2,22 +2,23 @@
 ghost use Rattle.std.specs.Prelude.{◌≡◌, ◌^◌, ◌<◌, ◌≤◌};
 ghost use Rattle.raw_region.specs.Memory.{bytes_of};
 ghost use Rattle.link_tree.specs.Tree.{bits};
-ghost use Rattle.seg_index.specs.{Beginnings.key_front, Comparing.comparisons_in, Lookups.AreKeys, Lookups.IsPlaceIn};
+ghost use Rattle.seg_index.specs.{Beginnings.key_front, Comparing.comparisons_in, Lookups.AreKeys};
+ghost use Rattle.seg_index.specs.{Lookups.FindsPositionIn};
 
-use crate::comparing::Comparisons;
+use crate::comparing::ComparisonCounter;
 use crate::keys::Lookup;
 use std::cmp::Ordering;
 
 /// Where the key stands among those that the first entries lead to.
-pub fn search(comparisons: &mut Comparisons<'_>, count: u64) -> Lookup
+pub fn search(comparisons: &mut ComparisonCounter<'_>, count: u64) -> Lookup
     requires keys { AreKeys comparisons.old.heap.now comparisons.old.block count comparisons.old.key }
-    requires few { count < 2 ^ 40 }
+    requires max_count { count < 2 ^ 40 }
     requires front { comparisons.old.front ≡ key_front comparisons.old.key }
-    requires none { comparisons.old.count ≡ 0 }
-    ensures place { IsPlaceIn (bytes_of comparisons.old.heap.now.bytes) comparisons.old.key comparisons.old.block
+    requires absent { comparisons.old.count ≡ 0 }
+    ensures place { FindsPositionIn (bytes_of comparisons.old.heap.now.bytes) comparisons.old.key comparisons.old.block
         count result }
     ensures count { comparisons.new.count ≤ bits count }
-    ensures exact { comparisons.new.count
+    ensures steps_exact { comparisons.new.count
         ≡ comparisons_in (bytes_of comparisons.old.heap.now.bytes) comparisons.old.key comparisons.old.block count }
 {
     let mut low = 0;

@@ -2,24 +2,29 @@
 pub use Rattle.best_fit.proofs.Laws.{beside_cell, cell_stays, changed-keeps, changed-live, changed-room, found-less}
 pub use Rattle.best_fit.proofs.Laws.{found-room, is_proper-IsProper, laid-heap, lay_out_one, live-rises, room-less}
 pub use Rattle.best_fit.proofs.Laws.{roomy, Rising, allocated-room}
-pub use Rattle.best_fit.specs.{Exchange.SameBlockBut, Fit.others, Fit.released, FreeTree.cells_of, Heap.SameBlock}
+pub use Rattle.best_fit.specs.{Exchange.SameBlockExcept, Fit.others, Fit.released, FreeTree.cells_of, Heap.SameBlock}
 pub use Rattle.best_fit.specs.Extents.{Extent, LiveSet, end_of, handle, is_proper}
-pub use Rattle.best_fit.specs.Heap.{extent_at, has_room, is_live_in, IsAllocated, IsChanged, IsHeap, Keeps, LaysOut}
+pub use Rattle.best_fit.specs.Heap.{extent_at, has_room, is_live_in, AllocatesOk, ChangesBytes, IsHeap, KeepsBlocks}
+pub use Rattle.best_fit.specs.Heap.{EncodesLiveSet}
 pub use Rattle.block_tags.specs.declared.tile.Role.TheVariants.{Node}
 pub use Rattle.link_tree.proofs.Laws.{all_from, entry_same, holds_same, root_in, tree_same}
-pub use Rattle.link_tree.specs.Nodes.{first_not, has_place, is_in, last_before, leads, put, without}
-pub use Rattle.link_tree.specs.Tree.{IsSearchTree, IsTree, Tree, bits, fork, leaf, nodes_of, rises, root_of}
-pub use Rattle.link_tree.specs.Ways.{entry_of}
-pub use Rattle.offset_link.proofs.Laws.{Same-link, SameBut-link}
+pub use Rattle.link_tree.specs.Nodes.{first_not_before, is_ordered_with, is_in, last_before, leads, put, without}
+pub use Rattle.link_tree.specs.Tree.{IsSearchTree, IsTree, Tree, bits, fork, leaf, nodes_of, is_sorted, root_of}
+pub use Rattle.link_tree.specs.Ways.{insert_point_of}
+pub use Rattle.offset_link.proofs.Laws.{SameBytes-link, SameBytesExcept-link}
 pub use Rattle.offset_link.specs.Link.{link_at}
-pub use Rattle.raw_region.proofs.Laws.{Has-same, Same-trans, Same-word, SameBut-Same, SameBut-word, SamePlace-trans}
+pub use Rattle.raw_region.proofs.Laws.{HasBytesAt-same, SameBytes-trans, SameBytes-word, SameBytesExcept-SameBytes}
+pub use Rattle.raw_region.proofs.Laws.{SameBytesExcept-word, SameSurroundings-trans}
 pub use Rattle.raw_region.specs.Format.{current}
-pub use Rattle.raw_region.specs.Memory.{Cut, Has, Memory, Same, SamePlace, bytes_of, read, word_at}
-pub use Rattle.seg_map.specs.Changing.{IsBesideMap, IsErased, IsHeaded, IsLoose, IsMade, IsPlanted}
+pub use Rattle.raw_region.specs.Memory.{WindowState, HasBytesAt, Memory, SameBytes, SameSurroundings, bytes_of, read}
+pub use Rattle.raw_region.specs.Memory.{word_at}
+pub use Rattle.seg_map.specs.Changing.{KeepsOutsideMap, ErasesPair, WritesMapHeader, IsUnlinkedPair, AllocatesNodeOk}
+pub use Rattle.seg_map.specs.Changing.{IsPlanted}
 pub use Rattle.seg_map.specs.{Linking.IsKeyTree, Linking.Relinked, Linking.keys_in, Searches.entry_in, Searches.exit_in}
 pub use Rattle.seg_map.specs.{PairNodes.pair_cells, PairNodes.stands, PairNodes.stands_before, Places.is_passed}
 pub use Rattle.seg_map.specs.Map.{IsPairAt, Pair, is_key, is_rising, node_len, pair_at, put_pair, remove_pair}
-pub use Rattle.seg_map.specs.PairLaws.{Chains, Good, In, IsStrict, PairNode, PairNode-is_pair_node, cells_at, disjoint}
+pub use Rattle.seg_map.specs.PairLaws.{Chains, IsGoodNodeSet, In, IsStrict, PairNode, PairNode-is_pair_node, cells_at}
+pub use Rattle.seg_map.specs.PairLaws.{disjoint}
 pub use Rattle.seg_map.specs.PairLaws.{is_pair_node-PairNode, lies, node_block, node_place, passing}
 pub use Rattle.seg_map.specs.PairNodes.{before_key, comes_before, is_kept, is_link_byte, is_other, links_among}
 pub use Rattle.seg_map.specs.Places.{last_pair, nodes_of_pairs, pair_node, HoldsMap, IsPairIn, final_pair, first_pair}

@@ -14,10 +14,10 @@ use Rattle.seg_map.proofs.Entering.{Laws, found_in, good, keys, other_block}
 use Rattle.seg_map.proofs.Staying.{at_node, map_stays, AtNode, beside_then, keeps_beside, relaid}
 use Rattle.seg_map.proofs.PairSteps.{any_at, begins_behind, own_handle}
 use Rattle.seg_map.proofs.{PairLists.known, PairLists.removed_rising, Searching.lent_own, Searching.lent_tree}
-use Rattle.seg_map.specs.{Changing.IsTaken, Changing.IsGivenUp}
-use Rattle.link_tree.specs.Ways.{exit_of}
+use Rattle.seg_map.specs.{Changing.UnlinksPair, Changing.FreesAllPairs}
+use Rattle.link_tree.specs.Ways.{remove_point_of}
 use Rattle.best_fit.proofs.Laws.{released-live, others-comm, rising-weak}
-use Rattle.best_fit.specs.{Exchange.exchanged, Exchange.without_all, Heap.IsReleased}
+use Rattle.best_fit.specs.{Exchange.exchanged, Exchange.without_all, Heap.Deallocates}
 
 -- a node of the tree that can be taken out, from the root on or from where its removal begins
 pub record CanUnlink {K : Type 0} (k : Plain K) (ns : List ℕ) (c : Cut) (root start : Option ℕ) (node : ℕ) : Type 0
@@ -25,7 +25,7 @@ pub record CanUnlink {K : Type 0} (k : Plain K) (ns : List ℕ) (c : Cut) (root 
     pub shape : Tree
     pub tree : IsKeyTree k ns c root shape
     pub listed : is_in node (nodes_of shape) ≡ true
-    pub begins : IfSome start (λ n. exit_of (comes_before k.order (keys_in k ns c)) node shape ≡ Some n)
+    pub begins : IfSome start (λ n. remove_point_of (comes_before k.order (keys_in k ns c)) node shape ≡ Some n)
 
 module _ {K V : Type 0} {kp : Plain K} {vp : Plain V} (kl : Laws kp) (c : Cut) {h at : ℕ} {root : Option ℕ}
     {ps : List (Pair K V)} (s : HoldsMap kp vp c.bytes h at ps) (is : root ≡ link_at (bytes_of c.bytes) (h + at))
@@ -46,7 +46,7 @@ module _ {K V : Type 0} {kp : Plain K} {vp : Plain V} (kl : Laws kp) (c : Cut) {
 
   -- the map without the pair
   pub taken : {d e : Cut} {top : Option ℕ} {n steps : ℕ} → Relinked kp lent c d root top (without node) steps → Laws vp
-      → n + 1 ≡ length ps → IsHeaded d e (h + at) top n → IsTaken kp vp c e h at ps key
+      → n + 1 ≡ length ps → IsHeaded d e (h + at) top n → UnlinksPair kp vp c e h at ps key
   taken u vl count head = relaid s (lent_tree kl c s is refl) u kl vl ps s.pairs s.map.pairs (ns_is ∙ s.map.tree.lists)
       (rw ns_is (good kl c s)) head ((λ i. without (sym here i) (s.map.tree.lists i)) ∙ without_nodes kp.order
       kl.irreflexive kl.transitive (keys_in kp (nodes_of s.map.tree.tree) c) p key ps (keys kl c s) s.rising has)
@@ -56,8 +56,9 @@ module _ {K V : Type 0} {kp : Plain K} {vp : Plain V} (kl : Laws kp) (c : Cut) {
 -- the block of a pair that is gone is given back
 module _ {K V : Type 0} {kp : Plain K} {vp : Plain V} (kl : Laws kp) (vl : Laws vp) {c e f : Cut} {h at : ℕ}
     {ps : List (Pair K V)} (s : HoldsMap kp vp c.bytes h at ps) (key : K) {p : Pair K V}
-    (has : pair_at kp.order ps key ≡ Some p) {node : ℕ} (here : pair_node p ≡ node) (t : IsTaken kp vp c e h at ps key)
-    (r : IsReleased current e f node) where
+    (has : pair_at kp.order ps key ≡ Some p) {node : ℕ} (here : pair_node p
+    ≡ node) (t : UnlinksPair kp vp c e h at ps key)
+    (r : Deallocates current e f node) where
   live_is : live_of e.bytes ≡ live_of c.bytes
   live_is = lay_out_one _ _ _ t.live
 
@@ -190,7 +191,7 @@ pub record IsGoing {K V : Type 0} (k : Plain K) (v : Plain V) (old now : Cut) (h
   pub same : ps ≡ [] → now ≡ old
 
 -- the removal of the node at the root begins there
-exit_of_root : (less : ℕ → ℕ → Bool) (n : ℕ) (t : Tree) → Some n ≡ root_of t → None ≡ exit_of less n t
+exit_of_root : (less : ℕ → ℕ → Bool) (n : ℕ) (t : Tree) → Some n ≡ root_of t → None ≡ remove_point_of less n t
 exit_of_root less n leaf e = absurd (cc)
 exit_of_root less n (fork red left m right) e = let same : m ≡ n = cc in rw (eq-eqb m n same) refl
 
@@ -258,7 +259,7 @@ module _ {K V : Type 0} {k : Plain K} {v : Plain V} (kl : Laws k) {old now : Cut
   no_pairs (fork red left n right) qs e f = absurd (cc)
 
   pub given_up : IsTrue (is_proper (live_of old.bytes)) → link_at (bytes_of now.bytes) (h + at) ≡ None
-      → IsGivenUp k v old now h at ps
+      → FreesAllPairs k v old now h at ps
   given_up proper e =
       let none : g.pairs ≡ [] = no_pairs g.holds.map.tree.tree g.pairs
       (sym e ∙ g.holds.map.tree.linked.root) g.holds.map.tree.lists in

@@ -4,7 +4,8 @@ use Rattle.seg_map.proofs.Common.{find, option_map, AllByRecursion, last_or, cas
 use Rattle.seg_map.proofs.Common.{if◌then◌else◌, and_parts, Chains, Pair, is_rising, pair_at, first_pair, ℕ, suc, ◌≢◌}
 use Rattle.seg_map.proofs.Common.{length, ◌==◌, both_ways, or_left, or_right, eq-eqb, ne_eqb, is_in, without, IsStrict}
 use Rattle.seg_map.proofs.Common.{is_key, remove_pair, nodes_of_pairs, pair_node, LiveSet, eqb-true, false≢true}
-use Rattle.seg_map.proofs.Common.{or_cases, ◌⊎◌, has_place, put, put_pair, before_key, comes_before, Plain, Memory}
+use Rattle.seg_map.proofs.Common.{or_cases, ◌⊎◌, is_ordered_with, put, put_pair, before_key, comes_before, Plain}
+use Rattle.seg_map.proofs.Common.{Memory}
 use Rattle.seg_map.proofs.Common.{IsPairAt, IsPairIn, IfSome, stands, stands_before, [], or_parts, false_from_ne_true}
 use Rattle.std.proofs.lemmas.{Bool.and_from, Bool.true≢false, Bool.not-false, List.map-append}
 use Rattle.std.proofs.Common.{◌++◌, nat_eq}
@@ -299,12 +300,12 @@ module _ {K V : Type 0} (less : K → K → Bool) where
   module _ (keys : ℕ → Option K) (p : Pair K V) (own : keys (pair_node p) ≡ Some p.key) where
     -- the node has a place among those of the others
     pub place_of : (ps : List (Pair K V)) → HaveKeys keys ps → pair_at less ps p.key ≡ None
-        → has_place (comes_before less keys) (pair_node p) (nodes_of_pairs ps) ≡ true
+        → is_ordered_with (comes_before less keys) (pair_node p) (nodes_of_pairs ps) ≡ true
     place_of [] k e = refl
     place_of (q ∷ qs) k e =
         let two = absent_here p.key q qs e in
         and_from (comes_before less keys (pair_node p) (pair_node q) || comes_before less keys (pair_node q)
-        (pair_node p)) (has_place (comes_before less keys) (pair_node p) (nodes_of_pairs qs))
+        (pair_node p)) (is_ordered_with (comes_before less keys) (pair_node p) (nodes_of_pairs qs))
         ((λ i. before_key less (own i) (k.0 i) || before_key less (k.0 i) (own i))
         ∙ not-false (less p.key q.key || less q.key p.key) two.0) (place_of qs k.1 two.1)
 

@@ -11,12 +11,12 @@ use common.{and_parts, is_proper-IsProper, allocated-room, AllByRecursion, PairN
 use common.{live_of, changed-room, if◌then◌else◌, SameBut-Same, SameBut-word, SameBut-link, is_link_byte, stands_before}
 use common.{passing, or_left, bytes_of, all_from, cells_of, is_other, PairNode, cells_at, disjoint, value_in, not-true}
 use Rattle.best_fit.proofs.Laws.{legal_size, others-here, others-past}
-use Rattle.best_fit.specs.{Heap.IsRecoloured, Heap.is_node_in, Heap.is_node_role, FreeTree.is_red, Extents.holds}
+use Rattle.best_fit.specs.{Heap.Recolours, Heap.is_node_in, Heap.is_node_role, FreeTree.is_red, Extents.holds}
 use Rattle.std.proofs.Math.Nat.{le_refl, le_trans, lt_of_lt_of_le}
 use Rattle.std.proofs.{lemmas.Bool.cases_lt, Common.zero, Common.◌/◌}
-use Rattle.seg_map.specs.PairLaws.{Good-is_good, Place, cells_off, link_parts, links_at, Block}
-use Rattle.seg_map.specs.{declared.reading.Sought.Sought, PairNodes.is_good}
-use Rattle.raw_region.proofs.Laws.{Same-read}
+use Rattle.seg_map.specs.PairLaws.{IsGoodNodeSet-is_good, NodeBounds, cells_off, link_parts, links_at, NodeBlock}
+use Rattle.seg_map.specs.{declared.reading.KeyProbe.KeyProbe, PairNodes.is_good}
+use Rattle.raw_region.proofs.Laws.{SameBytes-read}
 use Rattle.link_tree.specs.{Nodes.with_left, Nodes.with_right, Nodes.with_red, Tree.Cell}
 
 -- no extent begins before the first
@@ -84,7 +84,8 @@ module _ {len : ℕ} {ns : List ℕ} {c d : Cut} {n : ℕ} (g : PairNode len ns 
   pub nodes_stay : is_pair_node len ns d ≡ is_pair_node len ns c
   unfolding is_pair_node
   nodes_stay = let good : is_good len ns d ≡ is_good len ns c =
-      Good-is_good len ns d good_stays ∙ sym (Good-is_good len ns c g.good) in λ i m. good i && is_in m ns
+      IsGoodNodeSet-is_good len ns d good_stays ∙ sym (IsGoodNodeSet-is_good len ns c g.good)
+      in λ i m. good i && is_in m ns
 
   byte_stays : (k : ℕ) → (is_kept ns (live_of c.bytes) k ≡ true) ⊎ (is_kept ns (live_of c.bytes) k ≡ false)
       → (if is_kept ns (live_of d.bytes) k then bytes_of d.bytes k else 0)
@@ -150,7 +151,10 @@ module _ {K : Type 0} (value : List ℕ → Option K) (size : ℕ) {ns : List �
   key_stays : (m : ℕ) → (is_pair_node (16 + size) ns c m ≡ true) ⊎ (is_pair_node (16 + size) ns c m ≡ false)
       → key_of value size ns d m ≡ key_of value size ns c m
   unfolding key_of key_at
-  key_stays m (inl e) = rw (ap (λ (p : ℕ → Bool). p m) (nodes_stay g h) ∙ e, e) (ap value (Same-read _ _ _ _ (m + 16)
+  key_stays m (inl e) = rw (
+    ap (λ (p : ℕ → Bool). p m) (nodes_stay g h) ∙ e,
+    e,
+  ) (ap value (SameBytes-read _ _ _ _ (m + 16)
       size (h.keys m (is_pair_node-PairNode (16 + size) ns c m e).listed) (le_refl (m + 16)) (omega arith)))
   key_stays m (inr e) = rw (ap (λ (p : ℕ → Bool). p m) (nodes_stay g h) ∙ e, e) refl
 
@@ -224,7 +228,7 @@ record LinksSet (len : ℕ) (ns : List ℕ) (c d : Cut) (n : ℕ) (left right : 
 
 module _ {len : ℕ} {ns : List ℕ} {c d : Cut} {n from : ℕ} (g : PairNode len ns c n)
     (change : IsChanged current c d from 8) (long : 16 ≤ len) (low : n ≤ from) (high : from + 8 ≤ n + 16) where
-  p : Place len c n
+  p : NodeBounds len c n
   p = node_place len ns c n g
 
   other_cell : (m : ℕ) → is_in m ns ≡ true → (m ≡ n → ⊥) → cells_of (bytes_of d.bytes) m ≡ cells_of (bytes_of c.bytes) m
@@ -293,7 +297,7 @@ pub same_red : (v w : ℕ) → w % 16 ≡ v % 16 → (w / 2 % 2 == 1) ≡ (v / 2
 same_red v w e = let f : w / 2 % 2 ≡ v / 2 % 2 = omega arith in ap (λ k. k == 1) f
 
 module _ {len : ℕ} {ns : List ℕ} {c d : Cut} {n : ℕ} {red : Bool} (g : PairNode len ns c n)
-    (change : IsRecoloured current c d n red) (long : 16 ≤ len) where
+    (change : Recolours current c d n red) (long : 16 ≤ len) where
   same_payload : (x : Extent) → In x (live_of c.bytes).extents
       → Same (bytes_of c.bytes) (bytes_of d.bytes) (handle x) (end_of x)
   same_payload x i = all_in (λ (y : Extent). Same (bytes_of c.bytes) (bytes_of d.bytes) (handle y) (end_of y))
@@ -359,7 +363,7 @@ module _ {len : ℕ} {ns : List ℕ} {c d : Cut} {n : ℕ} {red : Bool} (g : Pai
 -- ---- what a setter leaves
 
 -- the nodes that stand before what is looked for
-abbrev ahead_of : {K : Type 0} → Plain K → List ℕ → Cut → Sought K → ℕ → Bool
+abbrev ahead_of : {K : Type 0} → Plain K → List ℕ → Cut → KeyProbe K → ℕ → Bool
 ahead_of k ns c s = stands_before k.order (keys_in k ns c) s.past s.key
 
 pub record IsSet {K : Type 0} (k : Plain K) (ns : List ℕ) (c d : Cut) (now : ℕ → Cell) : Type 0 where
@@ -402,7 +406,7 @@ module _ {K : Type 0} (k : Plain K) {ns : List ℕ} {c : Cut} {n : ℕ} (g : Pai
         (leads_in (16 + k.SIZE) ns c to target) in
         set _ o.changed (one_cell g o.changed (λ (x : Cell). record x { right = to }) o.own)
 
-  pub red_set : {red : Bool} → IsRecoloured current c d n red
+  pub red_set : {red : Bool} → Recolours current c d n red
       → IsSet k ns c d (with_red (pair_cells (16 + k.SIZE) ns c) n red)
   unfolding with_red
   red_set {red} change =
@@ -413,7 +417,7 @@ module _ {K : Type 0} (k : Plain K) {ns : List ℕ} {c : Cut} {n : ℕ} (g : Pai
 
 -- the heap may be reached by another name
 module _ (len : ℕ) (ns : List ℕ) (c w : Cut) (n : ℕ) (h : is_pair_node len ns c n ≡ true) (same : w ≡ c) where
-  b : Block len (live_of c.bytes).extents n
+  b : NodeBlock len (live_of c.bytes).extents n
   b = node_block len ns c n (is_pair_node-PairNode len ns c n h)
 
   pub node_room : (k : ℕ) → k ≤ len → IsTrue (has_room (live_of w.bytes) n k)

@@ -17,8 +17,8 @@ use Rattle.seg_map.proofs.PairLists.{replaced_nodes, replaced_rising, in_nodes, 
 use Rattle.seg_map.proofs.PairLists.{put_length, put_nodes, put_rising, HaveKeys, keys_agree, known}
 use Rattle.seg_map.proofs.PairLists.{beside as not_beside, each, each_both, pair_of, replaced_all}
 use Rattle.seg_map.proofs.{Staying.relaid, Searching.lent_own, PairSteps.all_in}
-use Rattle.seg_map.specs.Changing.{IsNew, IsPut, IsPutAgain, CanPutIn, PutsIn}
-use Rattle.raw_region.proofs.Laws.{SameBut-trans, SameBut-wider}
+use Rattle.seg_map.specs.Changing.{InitsMap, PutsNewPair, OverwritesPair, CanLinkPair, LinksPair}
+use Rattle.raw_region.proofs.Laws.{SameBytesExcept-trans, SameBytesExcept-wider}
 use Rattle.best_fit.proofs.Laws.{still_allocated-block, Differs, allocated-live, allocated-room_before, found-more}
 use Rattle.best_fit.proofs.Laws.{found-new, place-serves, rising-insert}
 use Rattle.best_fit.specs.Fit.{added}
@@ -32,15 +32,15 @@ module _ {a b c d : Cut} {at : ℕ} {root : Option ℕ} {count : ℕ} (first : I
     (third : IsChanged current c d (at + 16) 8) (zero : word_at (bytes_of d.bytes) (at + 16) ≡ 0) where
   pub headed : IsHeaded a d at root count
   headed =
-      let p = SameBut-wider _ _ _ _ at 24 first.rest (omega arith) (omega arith) in
-      let q = SameBut-wider _ _ _ _ at 24 second.rest (omega arith) (omega arith) in
-      let r = SameBut-wider _ _ _ _ at 24 third.rest (omega arith) (omega arith) in
+      let p = SameBytesExcept-wider _ _ _ _ at 24 first.rest (omega arith) (omega arith) in
+      let q = SameBytesExcept-wider _ _ _ _ at 24 second.rest (omega arith) (omega arith) in
+      let r = SameBytesExcept-wider _ _ _ _ at 24 third.rest (omega arith) (omega arith) in
       record {
         change = record {
           place = SamePlace-trans _ _ _ first.place (SamePlace-trans _ _ _ second.place third.place);
           live = subst (LaysOut current d.bytes) (changed-live _ _ _ _ _ second ∙ changed-live _ _ _ _ _ first)
               third.live;
-          rest = SameBut-trans _ _ _ _ _ p (SameBut-trans _ _ _ _ _ q r);
+          rest = SameBytesExcept-trans _ _ _ _ _ p (SameBytesExcept-trans _ _ _ _ _ q r);
         };
         link = SameBut-link _ _ _ _ at third.rest (inl (omega arith))
             ∙ SameBut-link _ _ _ _ at second.rest (inl (omega arith)) ∙ link;
@@ -50,7 +50,7 @@ module _ {a b c d : Cut} {at : ℕ} {root : Option ℕ} {count : ℕ} (first : I
 
 -- a map without pairs
 pub is_new : {K V : Type 0} (k : Plain K) (v : Plain V) {a d : Cut} (h at : ℕ) → at % 8 ≡ 0
-    → IsTrue (has_room (live_of a.bytes) h (at + 24)) → IsHeaded a d (h + at) None 0 → IsNew k v a d h at
+    → IsTrue (has_room (live_of a.bytes) h (at + 24)) → IsHeaded a d (h + at) None 0 → InitsMap k v a d h at
 is_new {K} {V} k v {a} {d} h at whole room w = record {
   change = w.change;
   map = record {
@@ -188,7 +188,7 @@ module _ {K V : Type 0} {kp : Plain K} {vp : Plain V} (kl : Laws kp) (vl : Laws 
 
   -- an insertion begins where it did before the block was taken
   pub can_put_in : {root start : Option ℕ} → root ≡ link_at (bytes_of c.bytes) (h + at)
-      → start ≡ entry_in kp c key s.map.tree.tree → CanPutIn kp vp d h at root start node
+      → start ≡ entry_in kp c key s.map.tree.tree → CanLinkPair kp vp d h at root start node
   can_put_in top e =
       let old = keys_in kp (nodes_of s.map.tree.tree) c in let new = keys_in kp (nodes_of map_there.map.tree.tree) d in
       let before = keys kl c s in let after = keys kl d map_there in
@@ -201,7 +201,7 @@ module _ {K V : Type 0} {kp : Plain K} {vp : Plain V} (kl : Laws kp) (vl : Laws 
             ∙ ap (entry_of (stands_before kp.order new false key)) (sym there_tree);
       }
 
-  pub is_put : {e : Cut} → PutsIn kp vp d e h at node → IsPut kp vp c e h at ps key value
+  pub is_put : {e : Cut} → LinksPair kp vp d e h at node → PutsNewPair kp vp c e h at ps key value
   is_put {e} puts =
       let q = puts ps new_pair map_there loose (sym m.block.at) in
       record {
@@ -431,7 +431,7 @@ module _ {K V : Type 0} {kp : Plain K} {vp : Plain V} (c : Cut) {h at : ℕ} {ps
         s.pairs)) (replaced_all kp.order kl.transitive p new same_key_is Was
         (IsPairAt kp.SIZE kp.spelling vp.spelling (bytes_of d.bytes)) bytes_stay own_bytes ps s.rising has were)
 
-    pub is_put_again : IsPutAgain kp vp c d h at ps p key value
+    pub is_put_again : OverwritesPair kp vp c d h at ps p key value
     is_put_again =
         let behind : handle p.node + (16 + kp.SIZE) ≡ handle p.node + 16 + kp.SIZE = omega arith in
         record {

@@ -1,8 +1,10 @@
 -- The pairs of a map that are lent to a call of the tree, and what a search among them finds.
 use Rattle.seg_map.proofs.Common.{◌≡◌, refl, sym, ap, subst, ◌∙◌, ℕ, ◌+◌, ◌*◌, ◌≤◌, Bool, List, ◌∷◌, length, true}
 use Rattle.seg_map.proofs.Common.{false, arith, not, IsTrue, reverse, Option, Some, None, IfSome, find, option_map}
-use Rattle.seg_map.proofs.Common.{if◌then◌else◌, AllByRecursion, last_or, Cut, bytes_of, read, link_at, IsSearchTree}
-use Rattle.seg_map.proofs.Common.{Tree, bits, nodes_of, first_not, last_before, entry_of, has_room, live_of, found-room}
+use Rattle.seg_map.proofs.Common.{if◌then◌else◌, AllByRecursion, last_or, WindowState, bytes_of, read, link_at}
+use Rattle.seg_map.proofs.Common.{IsSearchTree}
+use Rattle.seg_map.proofs.Common.{Tree, bits, nodes_of, first_not_before, last_before, insert_point_of, has_room}
+use Rattle.seg_map.proofs.Common.{live_of, found-room}
 use Rattle.seg_map.proofs.Common.{room-less, IsKeyTree, keys_in, Pair, IsPairAt, pair_at, Chains, comes_before}
 use Rattle.seg_map.proofs.Common.{own_nodes, pair_cells, stands_before, HoldsMap, IsPairIn, final_pair, first_pair}
 use Rattle.seg_map.proofs.Common.{is_passed, last_pair, pair_node, entry_in, exit_in, Plain, [], nodes_of_pairs}
@@ -10,13 +12,14 @@ use Rattle.seg_map.proofs.{Entering.keys, Entering.last_node, PairLists.all_reve
 use Rattle.seg_map.proofs.Entering.{with_bytes, own, pair_parts, read_spelled, value_of, Laws, first_node, key_tree}
 use Rattle.seg_map.proofs.PairLists.{each, last_mapped, by_key, pair_by_key, HaveKeys, narrowed, each_both}
 use Rattle.std.specs.Prelude.{option_and_then}
-use Rattle.link_tree.specs.{Searching.path_length, Ways.exit_of}
-use Rattle.seg_map.specs.Searches.{path_in, reading_steps, FindsExit, IsOpened, IsRead, LooksFor, LooksUp, item_at}
+use Rattle.link_tree.specs.{Searching.path_length, Ways.remove_point_of}
+use Rattle.seg_map.specs.Searches.{path_in, reading_steps, FindsExit, OpensPairTree, IsRead, LooksFor, LooksUp, item_at}
 use Rattle.best_fit.specs.declared.places.Place.{Place}
 use Rattle.seg_map.specs.{Searches.last_path, Searches.node_with, PairNodes.both}
 use Rattle.seg_map.specs.Places.{IsSomeMap, SearchSteps, item_of, value_of_pair, FindsItem}
 
-module _ {K V : Type 0} {kp : Plain K} {vp : Plain V} (laws : Laws kp) (c : Cut) {h at : ℕ} {ps : List (Pair K V)}
+module _ {K V : Type 0} {kp : Plain K} {vp : Plain V} (laws : Laws kp) (c : WindowState) {h at : ℕ}
+    {ps : List (Pair K V)}
     (s : HoldsMap kp vp c.bytes h at ps) {root : Option ℕ} {ms : List ℕ}
     (is : root ≡ link_at (bytes_of c.bytes) (h + at)) (are : ms ≡ own_nodes c.bytes root None) where
   pub lent_own : ms ≡ nodes_of s.map.tree.tree
@@ -27,7 +30,7 @@ module _ {K V : Type 0} {kp : Plain K} {vp : Plain V} (laws : Laws kp) (c : Cut)
 
 -- ---- a map is opened to a search
 
-module _ {K V : Type 0} {kp : Plain K} {vp : Plain V} (kl : Laws kp) (vl : Laws vp) (c : Cut) (h : ℕ) where
+module _ {K V : Type 0} {kp : Plain K} {vp : Plain V} (kl : Laws kp) (vl : Laws vp) (c : WindowState) (h : ℕ) where
   read_pair : (by : ℕ → Option K) (p : Pair K V) → IsPairIn kp vp (live_of c.bytes) h p → IsPairAt kp.SIZE kp.spelling
       vp.spelling (bytes_of c.bytes) p → by (pair_node p) ≡ Some p.key → IsRead kp vp c by p
   read_pair by p i b e =
@@ -44,7 +47,7 @@ module _ {K V : Type 0} {kp : Plain K} {vp : Plain V} (kl : Laws kp) (vl : Laws 
       }
 
   pub opened : (at : ℕ) {root : Option ℕ} {ms : List ℕ} → root ≡ link_at (bytes_of c.bytes) (h + at)
-      → ms ≡ own_nodes c.bytes root None → IsOpened kp vp c c (record { handle = h; at = at }) ms root
+      → ms ≡ own_nodes c.bytes root None → OpensPairTree kp vp c c (record { handle = h; at = at }) ms root
   opened at {root} {ms} is are = record {
     same = refl;
     nodes = λ ps s. lent_own kl c s is are;
@@ -56,7 +59,7 @@ module _ {K V : Type 0} {kp : Plain K} {vp : Plain V} (kl : Laws kp) (vl : Laws 
 -- ---- what a search finds
 
 -- the node of a pair, or none, after so many steps
-pub record Finds {K V : Type 0} (k : Plain K) (v : Plain V) (c : Cut) (at : Place)
+pub record Finds {K V : Type 0} (k : Plain K) (v : Plain V) (c : WindowState) (at : Place)
     (pair : List (Pair K V) → Option (Pair K V)) (path : Tree → ℕ) (found : Option ℕ) (taken : ℕ) : Type 0 where
   pub keys : ℕ → Option K
   pub good : (ps : List (Pair K V)) → HoldsMap k v c.bytes at.handle at.at ps → IfSome (pair ps) (IsRead k v c keys)
@@ -78,8 +81,8 @@ last_good : {A : Type 0} (P : A → Type 0) (o : Option A) (xs : List A) → IfS
 last_good P o [] h a = h
 last_good P o (x ∷ xs) h a = last_good P (Some x) xs a.0 a.1
 
-module _ {K V : Type 0} {k : Plain K} {v : Plain V} {now c : Cut} {at : Place} {own : List ℕ}
-    {root : Option ℕ} (o : IsOpened k v now c at own root) where
+module _ {K V : Type 0} {k : Plain K} {v : Plain V} {now c : WindowState} {at : Place} {own : List ℕ}
+    {root : Option ℕ} (o : OpensPairTree k v now c at own root) where
   abbrev Asked : (Tree → Type 0) → Type 0
   Asked P = (t : Tree) → IsSearchTree (comes_before k.order (keys_in k own now))
       (pair_cells (16 + k.SIZE) own now) root t → P t
@@ -119,9 +122,9 @@ module _ {K V : Type 0} {k : Plain K} {v : Plain V} {now c : Cut} {at : Place} {
     path_is ps s = exact s.map.tree.tree (o.tree ps s).tree
         ∙ ap (λ ks. path_length (stands_before k.order ks past key) s.map.tree.tree) (keys_are ps s)
 
-    pub finds_first : {found : Option ℕ} → Asked (λ t. found ≡ first_not (ahead past key) (nodes_of t))
+    pub finds_first : {found : Option ℕ} → Asked (λ t. found ≡ first_not_before (ahead past key) (nodes_of t))
         → Finds k v c at (first_pair k.order past key) (path_in k c past key) found taken
-    finds_first first = finds (first_not (ahead past key)) (first_pair k.order past key)
+    finds_first first = finds (first_not_before (ahead past key)) (first_pair k.order past key)
         (λ P ps a. find_good P (λ p. not (is_passed k.order past key p)) ps a)
         (first_node k.order (keys_in k own now) past key) first path_is most
 
@@ -138,16 +141,17 @@ module _ {K V : Type 0} {k : Plain K} {v : Plain V} {now c : Cut} {at : Place} {
       (λ ps keyed. last_mapped pair_node None ps) last (λ ps s. exact s.map.tree.tree (o.tree ps s).tree) most
 
   -- where a change begins, by the keys of the map
-  pub entry_is : (key : K) {start : Option ℕ} → Asked (λ t. start ≡ entry_of (ahead false key) t)
+  pub entry_is : (key : K) {start : Option ℕ} → Asked (λ t. start ≡ insert_point_of (ahead false key) t)
       → (ps : List (Pair K V)) (s : HoldsMap k v c.bytes at.handle at.at ps) → start ≡ entry_in k c key s.map.tree.tree
   entry_is key entry ps s = entry s.map.tree.tree (o.tree ps s).tree
-      ∙ ap (λ ks. entry_of (stands_before k.order ks false key) s.map.tree.tree) (keys_are ps s)
+      ∙ ap (λ ks. insert_point_of (stands_before k.order ks false key) s.map.tree.tree) (keys_are ps s)
 
   pub exit_is : (r found start : Option ℕ) → IfSome r (λ n. found ≡ Some n)
-      → Asked (λ t. IfSome found (λ n. start ≡ exit_of (comes_before k.order (keys_in k own now)) n t))
+      → Asked (λ t. IfSome found (λ n. start ≡ remove_point_of (comes_before k.order (keys_in k own now)) n t))
       → FindsExit k v c at r start
   exit_is r found start same exit = λ ps s. narrowed r found (λ n. start ≡ exit_in k c n s.map.tree.tree) same
-      (subst (λ (ks : ℕ → Option K). IfSome found (λ n. start ≡ exit_of (comes_before k.order ks) n s.map.tree.tree))
+      (subst (λ (ks : ℕ → Option K).
+      IfSome found (λ n. start ≡ remove_point_of (comes_before k.order ks) n s.map.tree.tree))
       (keys_are ps s) (exit s.map.tree.tree (o.tree ps s).tree))
 
 -- ---- what is read of it
@@ -157,7 +161,7 @@ if_mapped : {A B : Type 0} (f : A → B) (x : A) (b : Bool)
 if_mapped f x true = refl
 if_mapped f x false = refl
 
-module _ {K V : Type 0} (k : Plain K) (v : Plain V) (c : Cut) (by : ℕ → Option K) where
+module _ {K V : Type 0} (k : Plain K) (v : Plain V) (c : WindowState) (by : ℕ → Option K) where
   item_read : (o : Option (Pair K V)) → IfSome o (IsRead k v c by)
       → option_and_then (item_at k v (bytes_of c.bytes)) (option_map pair_node o) ≡ option_map item_of o
   item_read None h = refl
@@ -187,7 +191,8 @@ reads_same : {K V : Type 0} (o : Option (Pair K V)) → reading_steps (option_ma
 reads_same None = refl
 reads_same (Some p) = refl
 
-module _ {K V : Type 0} {k : Plain K} {v : Plain V} {c : Cut} {at : Place} {pair : List (Pair K V) → Option (Pair K V)}
+module _ {K V : Type 0} {k : Plain K} {v : Plain V} {c : WindowState} {at : Place} {pair : List (Pair K V)
+    → Option (Pair K V)}
     {path : Tree → ℕ} {found : Option ℕ} {taken : ℕ} (f : Finds k v c at pair path found taken) where
   pub found_room : IsSomeMap k v c.bytes at.handle at.at
       → IfSome found (λ n. IsTrue (has_room (live_of c.bytes) n (16 + k.SIZE + v.SIZE)))
@@ -226,7 +231,8 @@ module _ {K V : Type 0} {k : Plain K} {v : Plain V} {c : Cut} {at : Place} {pair
     exact = steps_read before after e;
   }
 
-pub looked_for : {K V : Type 0} {k : Plain K} {v : Plain V} {c : Cut} {at : Place} (key : K) {found result : Option ℕ}
+pub looked_for : {K V : Type 0} {k : Plain K} {v : Plain V} {c : WindowState} {at : Place} (key : K)
+    {found result : Option ℕ}
     {taken before after : ℕ} → Finds k v c at (first_pair k.order false key) (path_in k c false key) found taken
     → Chains k.order → result ≡ option_and_then (node_with k (bytes_of c.bytes) key) found
     → after ≡ before + taken + reading_steps found → LooksFor k v c at key result before after
@@ -255,7 +261,7 @@ value_by_key {K} {V} {k} on key item ps s = ap (option_and_then (λ (x : K × V)
 
 -- ---- the pair of a node that was looked for by its key
 
-module _ {K V : Type 0} {k : Plain K} {v : Plain V} {c : Cut} {at : Place} {key : K} {found : Option ℕ}
+module _ {K V : Type 0} {k : Plain K} {v : Plain V} {c : WindowState} {at : Place} {key : K} {found : Option ℕ}
     {before after : ℕ} (f : LooksFor k v c at key found before after) {ps : List (Pair K V)}
     (s : HoldsMap k v c.bytes at.handle at.at ps) where
   pub key_at_node : {node : ℕ} → found ≡ Some node → AtNode (λ p. pair_at k.order ps key ≡ Some p) node

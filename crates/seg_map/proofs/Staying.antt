@@ -14,14 +14,14 @@ use Rattle.seg_map.proofs.PairSteps.{any_at, block_apart, same_red, all_in, targ
 use Rattle.seg_map.proofs.Entering.{Laws, pair_parts, found_in, other_block}
 use Rattle.seg_map.proofs.PairLists.{each, each_both, AreAt, AreIn, removed_length, in_from, nodes_in}
 use Rattle.std.proofs.lemmas.Bool.{le-ltb, lt-leb}
-use Rattle.seg_map.specs.{PairNodes.Kept, PairNodes.lies_in_block, Changing.IsRelaid}
+use Rattle.seg_map.specs.{PairNodes.PairTreeFrame, PairNodes.lies_in_block, Changing.RewritesNodes}
 use Rattle.best_fit.proofs.Laws.{but-trans, written-but}
 use Rattle.seg_types.specs.contracts.plain.Plain.TheBound.{Met}
 
 -- the live set is kept
 pub live_stays : (c d : Cut) (ns ms : List ℕ) → kept_of ms d ≡ kept_of ns c → live_of d.bytes ≡ live_of c.bytes
 unfolding kept_of
-live_stays c d ns ms e = ap (λ (k : Kept). k.live) e
+live_stays c d ns ms e = ap (λ (k : PairTreeFrame). k.live) e
 
 pub kept_proper : (c d : Cut) (ns : List ℕ) → kept_of ns d ≡ kept_of ns c → IsTrue (is_proper (live_of c.bytes))
     → IsTrue (is_proper (live_of d.bytes))
@@ -34,7 +34,7 @@ kept_room c d ns h n e room = rw (live_stays c d ns ns e) room
 -- the list of nodes is kept
 pub own_stays : (c d : Cut) (ns ms : List ℕ) → kept_of ms d ≡ kept_of ns c → ms ≡ ns
 unfolding kept_of
-own_stays c d ns ms e = ap (λ (k : Kept). k.own) e
+own_stays c d ns ms e = ap (λ (k : PairTreeFrame). k.own) e
 
 -- a byte away from the links of each node is none of a link
 no_link : (ns : List ℕ) (k : ℕ) → ((n : ℕ) → is_in n ns ≡ true → (k < n) ⊎ (n + 16 ≤ k)) → is_link_byte ns k ≡ false
@@ -50,12 +50,12 @@ module _ {len : ℕ} {ns : List ℕ} {c : Cut} (d : Cut) (good : Good len ns c) 
     (long : 16 ≤ len) where
   kept_byte : (k : ℕ) → is_kept ns (live_of c.bytes) k ≡ true → bytes_of d.bytes k ≡ bytes_of c.bytes k
   unfolding kept_of
-  kept_byte k t = let e = ap (λ (r : Kept). r.byte k) same in rw (live_stays c d ns ns same, t) at e
+  kept_byte k t = let e = ap (λ (r : PairTreeFrame). r.byte k) same in rw (live_stays c d ns ns same, t) at e
 
   kept_colour : (h : ℕ) → is_other ns (live_of c.bytes) h ≡ true
       → word_at (bytes_of d.bytes) (h - 8) % 16 ≡ word_at (bytes_of c.bytes) (h - 8) % 16
   unfolding kept_of
-  kept_colour h t = let e = ap (λ (r : Kept). r.colour h) same in rw (live_stays c d ns ns same, t) at e
+  kept_colour h t = let e = ap (λ (r : PairTreeFrame). r.colour h) same in rw (live_stays c d ns ns same, t) at e
 
   -- a header byte but word 24 stays
   kept_header : (k : ℕ) → (k < 24) ⊎ ((32 ≤ k) × (k < 128)) → bytes_of d.bytes k ≡ bytes_of c.bytes k
@@ -107,7 +107,10 @@ module _ {len : ℕ} {ns : List ℕ} {c : Cut} (d : Cut) (good : Good len ns c) 
   pub kept_keeps : Keeps c d []
   unfolding kept_of
   kept_keeps = record {
-    place = record { before = ap (λ (k : Kept). k.before) same; after = ap (λ (k : Kept). k.after) same };
+    place = record {
+      before = ap (λ (k : PairTreeFrame). k.before) same;
+      after = ap (λ (k : PairTreeFrame). k.after) same;
+    };
     front = record { at = λ k l h. kept_header k (inl h) };
     behind = record { at = λ k l h. kept_header k (inr (l, h)) };
     blocks = tt;
@@ -376,7 +379,7 @@ module _ {K V : Type 0} {kp : Plain K} {vp : Plain V} {c d : Cut} {h at : ℕ} {
     -- the map has the pairs of the tree
     pub relaid : {qs : List (Pair K V)} → becomes (nodes_of s.map.tree.tree) ≡ nodes_of_pairs qs
         → ((P : Pair K V → Type 0) → AllByRecursion P ws → AllByRecursion P qs) → is_rising kp.order qs ≡ true
-        → n ≡ length qs → IsRelaid kp vp c e h at (nodes_of_pairs ws) qs
+        → n ≡ length qs → RewritesNodes kp vp c e h at (nodes_of_pairs ws) qs
     relaid {qs} becoming all rising count =
         let r = u.tree s.map.tree.tree tree in let lists = r.2 ∙ becoming in
         let own = in_from ns qs (all (λ q. is_in (pair_node q) ns ≡ true)

@@ -2,31 +2,32 @@
 use Rattle.std.specs.Prelude.{◌≡◌, ℕ, ◌+◌, ◌*◌, ◌≤◌, Bool, true, false, Option, Some, None, Result, Ok, List, [], ◌∷◌}
 use Rattle.std.specs.Prelude.{IfSome, MatchOption, MatchResult, length, map}
 use Rattle.raw_region.specs.Format.{current}
-use Rattle.raw_region.specs.Memory.{Cut, Has, Same, SamePlace, bytes_of, word_at}
+use Rattle.raw_region.specs.Memory.{WindowState, HasBytesAt, SameBytes, SameSurroundings, bytes_of, word_at}
 use Rattle.block_tags.specs.declared.tile.Role.TheVariants.{Node}
 use Rattle.offset_link.specs.Link.{link_at}
 use Rattle.link_tree.specs.{Tree.bits, Nodes.is_in}
-use Rattle.best_fit.specs.{Exchange.IsExchanged, Exchange.SameBlockBut, Fit.added, Fit.place, Fit.released}
+use Rattle.best_fit.specs.{Exchange.ExchangesBlocks, Exchange.SameBlockExcept, Fit.added, Fit.place, Fit.released}
 use Rattle.best_fit.specs.Extents.{Extent, handle}
-use Rattle.best_fit.specs.Heap.{IsAllocated, IsChanged, IsRefused, LaysOut, extent_at, heap_touches, live_of}
+use Rattle.best_fit.specs.Heap.{AllocatesOk, ChangesBytes, AllocatesNoSpace, EncodesLiveSet, extent_at, heap_touches}
+use Rattle.best_fit.specs.Heap.{live_of}
 use Rattle.seg_types.specs.declared.plain.Plain.{Ghosts as Plain}
 use Rattle.seg_map.specs.Map.{Pair, IsPairAt, node_len, pair_at, put_pair, remove_pair}
 use Rattle.seg_map.specs.Places.{HoldsMap, IsPairIn, nodes_of_pairs, pair_node}
 use Rattle.seg_map.specs.Searches.{entry_in, exit_in}
 
 -- the three words of a map are these now, and nothing else changes
-pub record IsHeaded (old new : Cut) (at : ℕ) (root : Option ℕ) (count : ℕ) : Type 0 where
-  pub change : IsChanged current old new at 24
+pub record WritesMapHeader (old new : WindowState) (at : ℕ) (root : Option ℕ) (count : ℕ) : Type 0 where
+  pub change : ChangesBytes current old new at 24
   pub link : link_at (bytes_of new.bytes) at ≡ root
   pub counted : word_at (bytes_of new.bytes) (at + 8) ≡ count
   pub third : word_at (bytes_of new.bytes) (at + 16) ≡ 0
 
 -- of all blocks but these nodes no byte changes but the 24 of the map, nor does the header but for word 24, or what
 -- lies round the window
-pub record IsBesideMap (old new : Cut) (at : ℕ) (ns : List ℕ) : Type 0 where
-  pub place : SamePlace old new
-  pub front : Same (bytes_of old.bytes) (bytes_of new.bytes) 0 24
-  pub behind : Same (bytes_of old.bytes) (bytes_of new.bytes) 32 128
+pub record KeepsOutsideMap (old new : WindowState) (at : ℕ) (ns : List ℕ) : Type 0 where
+  pub place : SameSurroundings old new
+  pub front : SameBytes (bytes_of old.bytes) (bytes_of new.bytes) 0 24
+  pub behind : SameBytes (bytes_of old.bytes) (bytes_of new.bytes) 32 128
   pub blocks : (x : Extent) → extent_at (live_of old.bytes) (handle x) ≡ Some x → is_in (handle x) ns ≡ false
       → SameBlockBut (bytes_of old.bytes) (bytes_of new.bytes) at 24 x
 
@@ -35,12 +36,12 @@ abbrev pub CountsPairs : {K V : Type 0} → Plain K → Plain V → List ℕ →
 CountsPairs {K} {V} k v b h at n = (ps : List (Pair K V)) → HoldsMap k v b h at ps → n ≡ length ps
 
 -- a map without pairs
-pub record IsNew {K V : Type 0} (k : Plain K) (v : Plain V) (old new : Cut) (h at : ℕ) : Type 0 where
-  pub change : IsChanged current old new (h + at) 24
+pub record InitsMap {K V : Type 0} (k : Plain K) (v : Plain V) (old new : WindowState) (h at : ℕ) : Type 0 where
+  pub change : ChangesBytes current old new (h + at) 24
   pub map : let none : List (Pair K V) = [] in HoldsMap k v new.bytes h at none
 
 -- the root of the map's tree, the node of a pair of it, and where its removal begins: none where that is at the root
-pub record CanGiveUp {K V : Type 0} (k : Plain K) (v : Plain V) (c : Cut) (h at : ℕ) (root start : Option ℕ)
+pub record CanUnlinkPair {K V : Type 0} (k : Plain K) (v : Plain V) (c : WindowState) (h at : ℕ) (root start : Option ℕ)
     (node : ℕ) : Type 0 where
   pub pairs : List (Pair K V)
   pub key : K
@@ -52,71 +53,74 @@ pub record CanGiveUp {K V : Type 0} (k : Plain K) (v : Plain V) (c : Cut) (h at 
   pub begins : start ≡ exit_in k c node map.map.tree.tree
 
 -- the map has these pairs now: no block comes or goes, and of all but these nodes no byte changes but the 24 of the map
-pub record IsRelaid {K V : Type 0} (k : Plain K) (v : Plain V) (old new : Cut) (h at : ℕ) (ns : List ℕ)
+pub record RewritesNodes {K V : Type 0} (k : Plain K) (v : Plain V) (old new : WindowState) (h at : ℕ) (ns : List ℕ)
     (ps : List (Pair K V)) : Type 0 where
-  pub live : LaysOut current new.bytes (live_of old.bytes)
-  pub beside : IsBesideMap old new (h + at) ns
+  pub live : EncodesLiveSet current new.bytes (live_of old.bytes)
+  pub beside : KeepsOutsideMap old new (h + at) ns
   pub map : HoldsMap k v new.bytes h at ps
 
 -- the pair of a key is no longer in the map; its block is still in use
-abbrev pub IsTaken : {K V : Type 0} → Plain K → Plain V → Cut → Cut → ℕ → ℕ → List (Pair K V) → K → Type 0
-IsTaken k v old new h at ps key = IsRelaid k v old new h at (nodes_of_pairs ps) (remove_pair k.order ps key)
+abbrev pub UnlinksPair : {K V : Type 0} → Plain K → Plain V → WindowState → WindowState → ℕ → ℕ → List (Pair K V)
+    → K → Type 0
+UnlinksPair k v old new h at ps key = RewritesNodes k v old new h at (nodes_of_pairs ps) (remove_pair k.order ps key)
 
 -- the steps of a call of the tree, and so many more
-abbrev pub TreeSteps : {K V : Type 0} → Plain K → Plain V → Cut → ℕ → ℕ → ℕ → ℕ → ℕ → Type 0
+abbrev pub TreeSteps : {K V : Type 0} → Plain K → Plain V → WindowState → ℕ → ℕ → ℕ → ℕ → ℕ → Type 0
 TreeSteps {K} {V} k v old h at more before after = (ps : List (Pair K V)) → HoldsMap k v old.bytes h at ps
     → after ≤ before + 30 * bits (length ps + 1) + 32 + more
 
 -- the pair of a key is gone, and its block
-pub record IsErased {K V : Type 0} (k : Plain K) (v : Plain V) (old new : Cut) (h at : ℕ) (ps : List (Pair K V))
+pub record ErasesPair {K V : Type 0} (k : Plain K) (v : Plain V) (old new : WindowState) (h at : ℕ)
+    (ps : List (Pair K V))
     (p : Pair K V) (key : K) : Type 0 where
-  pub live : LaysOut current new.bytes (released (live_of old.bytes) (handle p.node))
-  pub beside : IsBesideMap old new (h + at) (nodes_of_pairs ps)
+  pub live : EncodesLiveSet current new.bytes (released (live_of old.bytes) (handle p.node))
+  pub beside : KeepsOutsideMap old new (h + at) (nodes_of_pairs ps)
   pub map : HoldsMap k v new.bytes h at (remove_pair k.order ps key)
 
 -- a key that is there is erased, and else nothing changes
-abbrev pub Erases : {K V : Type 0} → Plain K → Plain V → Cut → Cut → ℕ → ℕ → K → Bool → Type 0
-Erases {K} {V} k v old new h at key result =
+abbrev pub ErasesKey : {K V : Type 0} → Plain K → Plain V → WindowState → WindowState → ℕ → ℕ → K → Bool → Type 0
+ErasesKey {K} {V} k v old new h at key result =
     (ps : List (Pair K V)) → HoldsMap k v old.bytes h at ps
     → MatchOption (pair_at k.order ps key) ((result ≡ false) × (new ≡ old))
-    (λ p. (result ≡ true) × IsErased k v old new h at ps p key)
+    (λ p. (result ≡ true) × ErasesPair k v old new h at ps p key)
 
 -- the pair of a node is gone, and its block
-abbrev pub Drops : {K V : Type 0} → Plain K → Plain V → Cut → Cut → ℕ → ℕ → ℕ → Type 0
+abbrev pub Drops : {K V : Type 0} → Plain K → Plain V → WindowState → WindowState → ℕ → ℕ → ℕ → Type 0
 Drops {K} {V} k v old new h at node =
     (ps : List (Pair K V)) (key : K) (p : Pair K V) → HoldsMap k v old.bytes h at ps → pair_at k.order ps key ≡ Some p
-    → pair_node p ≡ node → IsErased k v old new h at ps p key
+    → pair_node p ≡ node → ErasesPair k v old new h at ps p key
 
 -- all pairs are gone, and their blocks; of all other blocks no byte changes but the 24 of the map, and where there was
 -- no pair, nothing
-pub record IsGivenUp {K V : Type 0} (k : Plain K) (v : Plain V) (old new : Cut) (h at : ℕ)
+pub record FreesAllPairs {K V : Type 0} (k : Plain K) (v : Plain V) (old new : WindowState) (h at : ℕ)
     (ps : List (Pair K V)) : Type 0 where
-  pub change : IsExchanged current old new (h + at) 24 (map (λ (p : Pair K V). p.node) ps) []
+  pub change : ExchangesBlocks current old new (h + at) 24 (map (λ (p : Pair K V). p.node) ps) []
   pub empty : let none : List (Pair K V) = [] in HoldsMap k v new.bytes h at none
   pub same : ps ≡ [] → new ≡ old
 
-abbrev pub Releases : {K V : Type 0} → Plain K → Plain V → Cut → Cut → ℕ → ℕ → Type 0
-Releases {K} {V} k v old new h at = (ps : List (Pair K V)) → HoldsMap k v old.bytes h at ps
-    → IsGivenUp k v old new h at ps
+abbrev pub ReleasesMap : {K V : Type 0} → Plain K → Plain V → WindowState → WindowState → ℕ → ℕ → Type 0
+ReleasesMap {K} {V} k v old new h at = (ps : List (Pair K V)) → HoldsMap k v old.bytes h at ps
+    → FreesAllPairs k v old new h at ps
 
 -- a node that is made: a new block with null links, a key and a value
-pub record IsMade {K V : Type 0} (k : Plain K) (v : Plain V) (old new : Cut) (key : K) (value : V)
+pub record AllocatesNodeOk {K V : Type 0} (k : Plain K) (v : Plain V) (old new : WindowState) (key : K) (value : V)
     (node : ℕ) : Type 0 where
-  pub block : IsAllocated current old new (node_len k.SIZE v.SIZE) Node node
+  pub block : AllocatesOk current old new (node_len k.SIZE v.SIZE) Node node
   pub left : link_at (bytes_of new.bytes) node ≡ None
   pub right : link_at (bytes_of new.bytes) (node + 8) ≡ None
   pub is_a_key : k.is_value key ≡ true
   pub is_a_value : v.is_value value ≡ true
-  pub key_there : Has (bytes_of new.bytes) (node + 16) (k.spelling key)
-  pub value_there : Has (bytes_of new.bytes) (node + 16 + k.SIZE) (v.spelling value)
+  pub key_there : HasBytesAt (bytes_of new.bytes) (node + 16) (k.spelling key)
+  pub value_there : HasBytesAt (bytes_of new.bytes) (node + 16 + k.SIZE) (v.spelling value)
 
 -- a node, or no space for its block, and then nothing changes
-abbrev pub Makes : {K V E : Type 0} → Plain K → Plain V → Cut → Cut → K → V → Result ℕ E → Type 0
-Makes {K} {V} k v old new key value result = MatchResult result (IsMade k v old new key value)
-    (λ e. IsRefused old new (node_len k.SIZE v.SIZE) Node)
+abbrev pub AllocatesNode : {K V E : Type 0} → Plain K → Plain V → WindowState → WindowState → K → V → Result ℕ E
+    → Type 0
+AllocatesNode {K} {V} k v old new key value result = MatchResult result (AllocatesNodeOk k v old new key value)
+    (λ e. AllocatesNoSpace old new (node_len k.SIZE v.SIZE) Node)
 
 -- a pair with a node that leads nowhere, which is none of the map, as its key is not
-pub record IsLoose {K V : Type 0} (k : Plain K) (v : Plain V) (b : List ℕ) (h : ℕ) (ps : List (Pair K V))
+pub record IsUnlinkedPair {K V : Type 0} (k : Plain K) (v : Plain V) (b : List ℕ) (h : ℕ) (ps : List (Pair K V))
     (p : Pair K V) : Type 0 where
   pub absent : pair_at k.order ps p.key ≡ None
   pub block : IsPairIn k v (live_of b) h p
@@ -126,61 +130,67 @@ pub record IsLoose {K V : Type 0} (k : Plain K) (v : Plain V) (b : List ℕ) (h 
   pub bytes : IsPairAt k.SIZE k.spelling v.spelling (bytes_of b) p
 
 -- a map, and the node of such a pair
-pub record HasLooseNode {K V : Type 0} (k : Plain K) (v : Plain V) (b : List ℕ) (h at node : ℕ) : Type 0 where
+pub record HasUnlinkedNode {K V : Type 0} (k : Plain K) (v : Plain V) (b : List ℕ) (h at node : ℕ) : Type 0 where
   pub pairs : List (Pair K V)
   pub pair : Pair K V
   pub map : HoldsMap k v b h at pairs
-  pub loose : IsLoose k v b h pairs pair
+  pub loose : IsUnlinkedPair k v b h pairs pair
   pub is : pair_node pair ≡ node
 
 -- the same, with the root of the tree, and where the insertion of the node begins: none where that is at the root
-pub record CanPutIn {K V : Type 0} (k : Plain K) (v : Plain V) (c : Cut) (h at : ℕ) (root start : Option ℕ)
+pub record CanLinkPair {K V : Type 0} (k : Plain K) (v : Plain V) (c : WindowState) (h at : ℕ) (root start : Option ℕ)
     (node : ℕ) : Type 0 where
-  pub there : HasLooseNode k v c.bytes h at node
+  pub there : HasUnlinkedNode k v c.bytes h at node
   pub leads : root ≡ link_at (bytes_of c.bytes) (h + at)
   pub begins : start ≡ entry_in k c there.pair.key there.map.map.tree.tree
 
 -- the pair is in the map
-abbrev pub IsPlanted : {K V : Type 0} → Plain K → Plain V → Cut → Cut → ℕ → ℕ → List (Pair K V) → Pair K V → Type 0
-IsPlanted k v old new h at ps p = IsRelaid k v old new h at (pair_node p ∷ nodes_of_pairs ps) (put_pair k.order p ps)
+abbrev pub IsPlanted : {K V : Type 0} → Plain K → Plain V → WindowState → WindowState → ℕ → ℕ → List (Pair K V)
+    → Pair K V → Type 0
+IsPlanted k v old new h at ps p =
+    RewritesNodes k v old new h at (pair_node p ∷ nodes_of_pairs ps) (put_pair k.order p ps)
 
-abbrev pub PutsIn : {K V : Type 0} → Plain K → Plain V → Cut → Cut → ℕ → ℕ → ℕ → Type 0
-PutsIn {K} {V} k v old new h at node =
-    (ps : List (Pair K V)) (p : Pair K V) → HoldsMap k v old.bytes h at ps → IsLoose k v old.bytes h ps p
+abbrev pub LinksPair : {K V : Type 0} → Plain K → Plain V → WindowState → WindowState → ℕ → ℕ → ℕ → Type 0
+LinksPair {K} {V} k v old new h at node =
+    (ps : List (Pair K V)) (p : Pair K V) → HoldsMap k v old.bytes h at ps → IsUnlinkedPair k v old.bytes h ps p
     → pair_node p ≡ node → IsPlanted k v old new h at ps p
 
 -- a pair more, in a new block
-pub record IsPut {K V : Type 0} (k : Plain K) (v : Plain V) (old new : Cut) (h at : ℕ) (ps : List (Pair K V)) (key : K)
+pub record PutsNewPair {K V : Type 0} (k : Plain K) (v : Plain V) (old new : WindowState) (h at : ℕ)
+    (ps : List (Pair K V)) (key : K)
     (value : V) : Type 0 where
   pub extent : Extent
   pub placed : place (live_of old.bytes) (node_len k.SIZE v.SIZE) Node ≡ Some extent
-  pub live : LaysOut current new.bytes (added (live_of old.bytes) extent)
-  pub beside : IsBesideMap old new (h + at) (nodes_of_pairs ps)
+  pub live : EncodesLiveSet current new.bytes (added (live_of old.bytes) extent)
+  pub beside : KeepsOutsideMap old new (h + at) (nodes_of_pairs ps)
   pub map : HoldsMap k v new.bytes h at (put_pair k.order (record { key = key; value = value; node = extent }) ps)
 
 -- another value of a key, in the block that it had: no byte changes but those of the value
-pub record IsPutAgain {K V : Type 0} (k : Plain K) (v : Plain V) (old new : Cut) (h at : ℕ) (ps : List (Pair K V))
+pub record OverwritesPair {K V : Type 0} (k : Plain K) (v : Plain V) (old new : WindowState) (h at : ℕ)
+    (ps : List (Pair K V))
     (p : Pair K V) (key : K) (value : V) : Type 0 where
-  pub change : IsChanged current old new (handle p.node + 16 + k.SIZE) v.SIZE
-  pub beside : IsBesideMap old new (h + at) (nodes_of_pairs ps)
+  pub change : ChangesBytes current old new (handle p.node + 16 + k.SIZE) v.SIZE
+  pub beside : KeepsOutsideMap old new (h + at) (nodes_of_pairs ps)
   pub map : HoldsMap k v new.bytes h at (put_pair k.order (record { key = key; value = value; node = p.node }) ps)
 
 -- there is no space for the block of a new pair, and nothing changes
-pub record IsFull {K V : Type 0} (k : Plain K) (v : Plain V) (old new : Cut) : Type 0 where
+pub record PutsNoSpace {K V : Type 0} (k : Plain K) (v : Plain V) (old new : WindowState) : Type 0 where
   pub none : place (live_of old.bytes) (node_len k.SIZE v.SIZE) Node ≡ None
   pub same : new ≡ old
 
 -- a new key has a new pair, where there is space for it, and another key its new value
-abbrev pub Puts : {K V E : Type 0} → Plain K → Plain V → Cut → Cut → ℕ → ℕ → K → V → Result Bool E → Type 0
-Puts {K} {V} k v old new h at key value result =
+abbrev pub PutsPair : {K V E : Type 0} → Plain K → Plain V → WindowState → WindowState → ℕ → ℕ → K → V
+    → Result Bool E → Type 0
+PutsPair {K} {V} k v old new h at key value result =
     (ps : List (Pair K V)) → HoldsMap k v old.bytes h at ps
-    → MatchOption (pair_at k.order ps key) (MatchResult result (λ b. (b ≡ true) × IsPut k v old new h at ps key value)
-    (λ e. IsFull k v old new))
-    (λ p. (result ≡ Ok false) × IsPutAgain k v old new h at ps p key value)
+    → MatchOption (pair_at k.order ps key) (MatchResult result (λ b. (b ≡ true)
+    × PutsNewPair k v old new h at ps key value)
+    (λ e. PutsNoSpace k v old new))
+    (λ p. (result ≡ Ok false) × OverwritesPair k v old new h at ps p key value)
 
 -- the steps of the two tree calls of a change, the one in which what is found is read, and the touches of one call of
 -- the heap
-abbrev pub ChangeSteps : {K V : Type 0} → Plain K → Plain V → Cut → ℕ → ℕ → ℕ → ℕ → Type 0
+abbrev pub ChangeSteps : {K V : Type 0} → Plain K → Plain V → WindowState → ℕ → ℕ → ℕ → ℕ → Type 0
 ChangeSteps {K} {V} k v old h at before after =
     (ps : List (Pair K V)) → HoldsMap k v old.bytes h at ps
     → after ≤ before + 32 * bits (length ps + 1) + 33 + heap_touches (live_of old.bytes)

@@ -4,7 +4,7 @@ use Rattle.std.proofs.Common.{true, false, ◌&&◌, not, List, [], ◌∷◌, l
 use Rattle.std.specs.{Prelude.Option, Prelude.Some, Prelude.None, List.list_all, List.list_any}
 use Rattle.std.proofs.lemmas.Bool.{false≢true, both_ways, and_parts, and_from, or_cases, or_left, or_right, eqb-true}
 use Rattle.std.proofs.lemmas.Bool.{eq-eqb, leb-true, cond-true, cond-false, not-true}
-use Rattle.raw_region.specs.Memory.{Cut, bytes_of}
+use Rattle.raw_region.specs.Memory.{WindowState, bytes_of}
 use Rattle.block_tags.specs.declared.tile.Role.{Role}
 use Rattle.block_tags.specs.declared.tile.Role.TheVariants.{Object, Index, Storage, Node}
 use Rattle.link_tree.specs.{Tree.Cell, Nodes.is_in, Nodes.leads}
@@ -83,7 +83,7 @@ few_extents live h =
     let n = (legal_size live.size p.size).high in omega arith
 
 -- a node block
-pub record Block (len : ℕ) (xs : List Extent) (n : ℕ) : Type 0 where
+pub record NodeBlock (len : ℕ) (xs : List Extent) (n : ℕ) : Type 0 where
   pub extent : Extent
   pub listed : In extent xs
   pub at : handle extent ≡ n
@@ -97,12 +97,12 @@ is_node Storage e = absurd (false≢true e)
 is_node Node e = refl
 
 -- an extent of the list that passes a test that some of them passes
-pub record Passing (test : Extent → Bool) (xs : List Extent) : Type 0 where
+pub record PassingExtent (test : Extent → Bool) (xs : List Extent) : Type 0 where
   pub extent : Extent
   pub listed : In extent xs
   pub passes : test extent ≡ true
 
-pub passing : (test : Extent → Bool) (xs : List Extent) → list_any test xs ≡ true → Passing test xs
+pub passing : (test : Extent → Bool) (xs : List Extent) → list_any test xs ≡ true → PassingExtent test xs
 passing test [] h = absurd (false≢true h)
 passing test (x ∷ xs) h =
     elim (or_cases _ _ h) [
@@ -112,7 +112,7 @@ passing test (x ∷ xs) h =
     ]
 
 pub block_at : (len : ℕ) (xs : List Extent) (n : ℕ) → list_any
-    (λ (x : Extent). (handle x == n) && serves x Node len) xs ≡ true → Block len xs n
+    (λ (x : Extent). (handle x == n) && serves x Node len) xs ≡ true → NodeBlock len xs n
 block_at len xs n h =
     let p = passing (λ (x : Extent). (handle x == n) && serves x Node len) xs h in
     let two = and_parts _ _ p.passes in let s = and_parts _ _ two.1 in
@@ -126,50 +126,54 @@ block_at len xs n h =
 
 -- ---- the parts of the test
 
-pub record Good (len : ℕ) (ns : List ℕ) (c : Cut) : Type 0 where
+pub record IsGoodNodeSet (len : ℕ) (ns : List ℕ) (c : WindowState) : Type 0 where
   pub proper : IsTrue (is_proper (live_of c.bytes))
   pub blocks : list_all (is_block_in len (live_of c.bytes)) ns ≡ true
   pub links : list_all (links_among (bytes_of c.bytes) ns) ns ≡ true
 
-pub is_good-Good : (len : ℕ) (ns : List ℕ) (c : Cut) → IsTrue (is_good len ns c) → Good len ns c
-is_good-Good len ns c h =
+pub is_good-IsGoodNodeSet : (len : ℕ) (ns : List ℕ) (c : WindowState) → IsTrue (is_good len ns c)
+    → IsGoodNodeSet len ns c
+is_good-IsGoodNodeSet len ns c h =
     let two = and_parts _ _ h in
     let one = and_parts _ _ two.0 in
     record { proper = one.0; blocks = one.1; links = two.1 }
 
-pub Good-is_good : (len : ℕ) (ns : List ℕ) (c : Cut) → Good len ns c → IsTrue (is_good len ns c)
-Good-is_good len ns c g =
+pub IsGoodNodeSet-is_good : (len : ℕ) (ns : List ℕ) (c : WindowState) → IsGoodNodeSet len ns c
+    → IsTrue (is_good len ns c)
+IsGoodNodeSet-is_good len ns c g =
     and_from (is_proper (live_of c.bytes) && list_all (is_block_in len (live_of c.bytes)) ns)
     (list_all (links_among (bytes_of c.bytes) ns) ns)
     (and_from (is_proper (live_of c.bytes)) (list_all (is_block_in len (live_of c.bytes)) ns) g.proper g.blocks) g.links
 
-pub record PairNode (len : ℕ) (ns : List ℕ) (c : Cut) (n : ℕ) : Type 0 where
-  pub good : Good len ns c
+pub record PairNode (len : ℕ) (ns : List ℕ) (c : WindowState) (n : ℕ) : Type 0 where
+  pub good : IsGoodNodeSet len ns c
   pub listed : is_in n ns ≡ true
 
-pub is_pair_node-PairNode : (len : ℕ) (ns : List ℕ) (c : Cut) (n : ℕ) → is_pair_node len ns c n ≡ true
+pub is_pair_node-PairNode : (len : ℕ) (ns : List ℕ) (c : WindowState) (n : ℕ) → is_pair_node len ns c n ≡ true
     → PairNode len ns c n
 unfolding is_pair_node
 is_pair_node-PairNode len ns c n h = let two = and_parts _ _ h in
-    record { good = is_good-Good len ns c two.0; listed = two.1 }
+    record { good = is_good-IsGoodNodeSet len ns c two.0; listed = two.1 }
 
-pub PairNode-is_pair_node : (len : ℕ) (ns : List ℕ) (c : Cut) (n : ℕ) → PairNode len ns c n
+pub PairNode-is_pair_node : (len : ℕ) (ns : List ℕ) (c : WindowState) (n : ℕ) → PairNode len ns c n
     → is_pair_node len ns c n ≡ true
 unfolding is_pair_node
-PairNode-is_pair_node len ns c n g = and_from (is_good len ns c) (is_in n ns) (Good-is_good len ns c g.good) g.listed
+PairNode-is_pair_node len ns c n g =
+    and_from (is_good len ns c) (is_in n ns) (IsGoodNodeSet-is_good len ns c g.good) g.listed
 
-pub node_block : (len : ℕ) (ns : List ℕ) (c : Cut) (n : ℕ) → PairNode len ns c n → Block len (live_of c.bytes).extents n
+pub node_block : (len : ℕ) (ns : List ℕ) (c : WindowState) (n : ℕ) → PairNode len ns c n
+    → NodeBlock len (live_of c.bytes).extents n
 node_block len ns c n g = block_at len (live_of c.bytes).extents n
     (all_at (is_block_in len (live_of c.bytes)) ns n g.good.blocks g.listed)
 
 -- where a node lies
-pub record Place (len : ℕ) (c : Cut) (n : ℕ) : Type 0 where
-  pub block : Block len (live_of c.bytes).extents n
+pub record NodeBounds (len : ℕ) (c : WindowState) (n : ℕ) : Type 0 where
+  pub block : NodeBlock len (live_of c.bytes).extents n
   pub low : 144 ≤ n
   pub whole : n % 16 ≡ 0
   pub high : n + len ≤ 2 ^ 30
 
-pub node_place : (len : ℕ) (ns : List ℕ) (c : Cut) (n : ℕ) → PairNode len ns c n → Place len c n
+pub node_place : (len : ℕ) (ns : List ℕ) (c : WindowState) (n : ℕ) → PairNode len ns c n → NodeBounds len c n
 node_place len ns c n g =
     let b = node_block len ns c n g in
     let p = is_proper-IsProper (live_of c.bytes) g.good.proper in
@@ -190,16 +194,16 @@ pub handles_length : (xs : List Extent) → length (map handle xs) ≡ length xs
 handles_length [] = refl
 handles_length (x ∷ xs) = ap suc (handles_length xs)
 
-abbrev pub Finite : ℕ → List ℕ → Cut → Type 0
+abbrev pub Finite : ℕ → List ℕ → WindowState → Type 0
 Finite len ns c = (ms : List ℕ) × (length ms ≤ 2 ^ 40) × ((n : ℕ) → is_pair_node len ns c n ≡ true → is_in n ms ≡ true)
 
-pub pairs_finite : (len : ℕ) (ns : List ℕ) (c : Cut) → Finite len ns c
+pub pairs_finite : (len : ℕ) (ns : List ℕ) (c : WindowState) → Finite len ns c
 pairs_finite len ns c = by_test (is_good len ns c) refl
   where
     by_test : (b : Bool) → is_good len ns c ≡ b → (ms : List ℕ) × (length ms ≤ 2 ^ 40)
         × ((n : ℕ) → is_pair_node len ns c n ≡ true → is_in n ms ≡ true)
     by_test true e =
-        let g = is_good-Good len ns c e in
+        let g = is_good-IsGoodNodeSet len ns c e in
         let n = few_extents (live_of c.bytes) g.proper in
         let l = handles_length (live_of c.bytes).extents in (
           map handle (live_of c.bytes).extents,
@@ -212,43 +216,44 @@ pairs_finite len ns c = by_test (is_good len ns c) refl
       [],
       omega arith,
       λ n h. absurd (both_ways (is_good len ns c) e
-          (Good-is_good len ns c (is_pair_node-PairNode len ns c n h).good)),
+          (IsGoodNodeSet-is_good len ns c (is_pair_node-PairNode len ns c n h).good)),
     )
 
 -- ---- links lead to nodes
 
-pub links_at : (len : ℕ) (ns : List ℕ) (c : Cut) (n : ℕ) → PairNode len ns c n
+pub links_at : (len : ℕ) (ns : List ℕ) (c : WindowState) (n : ℕ) → PairNode len ns c n
     → links_among (bytes_of c.bytes) ns n ≡ true
 links_at len ns c n g = all_at (links_among (bytes_of c.bytes) ns) ns n g.good.links g.listed
 
-pub link_parts : {len : ℕ} {ns : List ℕ} {c : Cut} {n : ℕ} → PairNode len ns c n
+pub link_parts : {len : ℕ} {ns : List ℕ} {c : WindowState} {n : ℕ} → PairNode len ns c n
     → (leads (λ k. is_in k ns) (cells_of (bytes_of c.bytes) n).left ≡ true)
     × (leads (λ k. is_in k ns) (cells_of (bytes_of c.bytes) n).right ≡ true)
 link_parts {len} {ns} {c} {n} g = and_parts _ _ (links_at len ns c n g)
 
-leads_to_node : (len : ℕ) (ns : List ℕ) (c : Cut) (o : Option ℕ) → Good len ns c → leads (λ k. is_in k ns) o ≡ true
+leads_to_node : (len : ℕ) (ns : List ℕ) (c : WindowState) (o : Option ℕ) → IsGoodNodeSet len ns c
+    → leads (λ k. is_in k ns) o ≡ true
     → leads (is_pair_node len ns c) o ≡ true
 leads_to_node len ns c None g h = refl
 leads_to_node len ns c (Some n) g h = PairNode-is_pair_node len ns c n (record { good = g; listed = h })
 
-pub cells_at : (len : ℕ) (ns : List ℕ) (c : Cut) (n : ℕ) → is_pair_node len ns c n ≡ true
+pub cells_at : (len : ℕ) (ns : List ℕ) (c : WindowState) (n : ℕ) → is_pair_node len ns c n ≡ true
     → pair_cells len ns c n ≡ cells_of (bytes_of c.bytes) n
 unfolding pair_cells
 cells_at len ns c n h = cond-true (is_pair_node len ns c n) (cells_of (bytes_of c.bytes) n) no_cell h
 
-pub cells_off : (len : ℕ) (ns : List ℕ) (c : Cut) (n : ℕ) → is_pair_node len ns c n ≡ false
+pub cells_off : (len : ℕ) (ns : List ℕ) (c : WindowState) (n : ℕ) → is_pair_node len ns c n ≡ false
     → pair_cells len ns c n ≡ no_cell
 unfolding pair_cells
 cells_off len ns c n h = cond-false (is_pair_node len ns c n) (cells_of (bytes_of c.bytes) n) no_cell h
 
-pub pairs_left : (len : ℕ) (ns : List ℕ) (c : Cut) (n : ℕ) → is_pair_node len ns c n ≡ true
+pub pairs_left : (len : ℕ) (ns : List ℕ) (c : WindowState) (n : ℕ) → is_pair_node len ns c n ≡ true
     → leads (is_pair_node len ns c) (pair_cells len ns c n).left ≡ true
 pairs_left len ns c n h =
     let g = is_pair_node-PairNode len ns c n h in
     subst (λ (x : Cell). leads (is_pair_node len ns c) x.left ≡ true) (sym (cells_at len ns c n h))
     (leads_to_node len ns c (cells_of (bytes_of c.bytes) n).left g.good (link_parts g).0)
 
-pub pairs_right : (len : ℕ) (ns : List ℕ) (c : Cut) (n : ℕ) → is_pair_node len ns c n ≡ true
+pub pairs_right : (len : ℕ) (ns : List ℕ) (c : WindowState) (n : ℕ) → is_pair_node len ns c n ≡ true
     → leads (is_pair_node len ns c) (pair_cells len ns c n).right ≡ true
 pairs_right len ns c n h =
     let g = is_pair_node-PairNode len ns c n h in

@@ -3,7 +3,7 @@
 use Rattle.std.specs.Prelude.{ℕ, ◌+◌, ◌-◌, ◌%◌, Bool, true, false, ◌&&◌, ◌||◌, not, Option, Some, None, List, [], ◌∷◌}
 use Rattle.std.specs.Prelude.{◌++◌, ◌==◌, nat_le, nat_lt, if◌then◌else◌}
 use Rattle.std.specs.List.{list_all, list_any}
-use Rattle.raw_region.specs.Memory.{Memory, Cut, bytes_of, read, word_at}
+use Rattle.raw_region.specs.Memory.{Memory, WindowState, bytes_of, read, word_at}
 use Rattle.block_tags.specs.declared.tile.Role.TheVariants.{Node}
 use Rattle.link_tree.specs.{Tree.Cell, Tree.Tree, Tree.nodes_of, Tree.tree_from, Nodes.is_in, Nodes.leads}
 use Rattle.best_fit.specs.Extents.{Extent, LiveSet, handle, end_of, is_proper}
@@ -18,19 +18,19 @@ abbrev pub links_among : Memory → List ℕ → ℕ → Bool
 links_among m ns n = leads (λ k. is_in k ns) (cells_of m n).left && leads (λ k. is_in k ns) (cells_of m n).right
 
 -- the list names node blocks whose links lead to each other
-abbrev pub is_good : ℕ → List ℕ → Cut → Bool
+abbrev pub is_good : ℕ → List ℕ → WindowState → Bool
 is_good len ns c =
     is_proper (live_of c.bytes) && list_all (is_block_in len (live_of c.bytes)) ns && list_all
     (links_among (bytes_of c.bytes) ns) ns
 
 -- where blocks and links are good, the list has the nodes
-unfoldable pub is_pair_node : ℕ → List ℕ → Cut → ℕ → Bool
+unfoldable pub is_pair_node : ℕ → List ℕ → WindowState → ℕ → Bool
 is_pair_node len ns c n = is_good len ns c && is_in n ns
 
 abbrev pub no_cell : Cell
 no_cell = record { left = None; right = None; red = false }
 
-unfoldable pub pair_cells : ℕ → List ℕ → Cut → ℕ → Cell
+unfoldable pub pair_cells : ℕ → List ℕ → WindowState → ℕ → Cell
 pair_cells len ns c n = if is_pair_node len ns c n then cells_of (bytes_of c.bytes) n else no_cell
 
 -- the key stands behind the links: the value that the bytes there spell, or none
@@ -38,7 +38,7 @@ unfoldable pub key_at : {K : Type 0} → (List ℕ → Option K) → ℕ → Mem
 key_at value size m n = value (read m (n + 16) size)
 
 -- other numbers have none
-unfoldable pub key_of : {K : Type 0} → (List ℕ → Option K) → ℕ → List ℕ → Cut → ℕ → Option K
+unfoldable pub key_of : {K : Type 0} → (List ℕ → Option K) → ℕ → List ℕ → WindowState → ℕ → Option K
 key_of value size ns c n = if is_pair_node (16 + size) ns c n then key_at value size (bytes_of c.bytes) n else None
 
 abbrev pub before_key : {K : Type 0} → (K → K → Bool) → Option K → Option K → Bool
@@ -81,7 +81,7 @@ is_other ns live h = is_live_in live h && not (is_in h ns)
 
 -- the nodes, what lies round the window, the blocks in use, their bytes and colours but for the nodes' links and
 -- colours
-pub record Kept : Type 0 where
+pub record PairTreeFrame : Type 0 where
   pub own : List ℕ
   pub before : List ℕ
   pub after : List ℕ
@@ -89,7 +89,7 @@ pub record Kept : Type 0 where
   pub byte : ℕ → ℕ
   pub colour : ℕ → ℕ
 
-unfoldable pub kept_of : List ℕ → Cut → Kept
+unfoldable pub kept_of : List ℕ → WindowState → PairTreeFrame
 kept_of ns c =
     record {
       own = ns;

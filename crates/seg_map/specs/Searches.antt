@@ -1,8 +1,8 @@
 -- The steps of a search in a map, one by one: those of its path, from the root of the tree of its pairs down.
 use Rattle.std.specs.Prelude.{◌≡◌, ℕ, ◌+◌, ◌≤◌, Bool, true, false, Option, Some, None, List, IfSome, IsTrue}
 use Rattle.std.specs.{Prelude.if◌then◌else◌, Prelude.option_and_then, Prelude.option_map, List.AllByRecursion}
-use Rattle.raw_region.specs.Memory.{Cut, Memory, bytes_of, read}
-use Rattle.link_tree.specs.{Searching.path_length, Tree.Tree, Tree.nodes_of, Ways.entry_of, Ways.exit_of}
+use Rattle.raw_region.specs.Memory.{WindowState, Memory, bytes_of, read}
+use Rattle.link_tree.specs.{Searching.path_length, Tree.Tree, Tree.nodes_of, Ways.insert_point_of, Ways.remove_point_of}
 use Rattle.best_fit.specs.Heap.{has_room, live_of}
 use Rattle.seg_types.specs.{declared.plain.Plain.Ghosts as Plain, Plain.value_in}
 use Rattle.best_fit.specs.declared.places.Place.{Place}
@@ -11,7 +11,7 @@ use Rattle.seg_map.specs.{Map.Pair, PairNodes.both, PairNodes.comes_before, Pair
 use Rattle.seg_map.specs.Places.{FindsKey, HoldsMap, SearchSteps, final_pair, first_pair, item_of, last_pair, pair_node}
 
 -- the nodes that a search goes to, for the first pair that is not below a key, or that is above it
-abbrev pub path_in : {K : Type 0} → Plain K → Cut → Bool → K → Tree → ℕ
+abbrev pub path_in : {K : Type 0} → Plain K → WindowState → Bool → K → Tree → ℕ
 path_in k c past key t = path_length (stands_before k.order (keys_in k (nodes_of t) c) past key) t
 
 -- what is found is read, in one step
@@ -20,19 +20,19 @@ reading_steps None = 0
 reading_steps (Some x) = 1
 
 -- a look-up takes the steps of a search, and one more where there is such a pair
-abbrev pub LookUpTakes : {K V : Type 0} → Plain K → Plain V → Cut → Place → Bool → K → ℕ → ℕ → Type 0
-LookUpTakes {K} {V} k v c at past key before after =
+abbrev pub LookupSteps : {K V : Type 0} → Plain K → Plain V → WindowState → Place → Bool → K → ℕ → ℕ → Type 0
+LookupSteps {K} {V} k v c at past key before after =
     (ps : List (Pair K V)) (s : HoldsMap k v c.bytes at.handle at.at ps)
     → after ≡ before + path_in k c past key s.map.tree.tree + reading_steps (first_pair k.order past key ps)
 
 -- a call that looks a key up first takes these steps, and so many more at least
-abbrev pub LooksUpFirst : {K V : Type 0} → Plain K → Plain V → Cut → Place → K → ℕ → ℕ → ℕ → Type 0
+abbrev pub LooksUpFirst : {K V : Type 0} → Plain K → Plain V → WindowState → Place → K → ℕ → ℕ → ℕ → Type 0
 LooksUpFirst {K} {V} k v c at key more before after =
     (ps : List (Pair K V)) (s : HoldsMap k v c.bytes at.handle at.at ps)
     → before + path_in k c false key s.map.tree.tree + reading_steps (first_pair k.order false key ps) + more ≤ after
 
 -- So does one that looks back: it goes down the same path as the look-up of that key.
-abbrev pub LookBackTakes : {K V : Type 0} → Plain K → Plain V → Cut → Place → Bool → K → ℕ → ℕ → Type 0
+abbrev pub LookBackTakes : {K V : Type 0} → Plain K → Plain V → WindowState → Place → Bool → K → ℕ → ℕ → Type 0
 LookBackTakes {K} {V} k v c at past key before after =
     (ps : List (Pair K V)) (s : HoldsMap k v c.bytes at.handle at.at ps)
     → after ≡ before + path_in k c past key s.map.tree.tree + reading_steps (last_pair k.order past key ps)
@@ -41,7 +41,7 @@ LookBackTakes {K} {V} k v c at past key before after =
 abbrev pub last_path : Tree → ℕ
 last_path t = path_length (λ n. true) t
 
-abbrev pub LastTakes : {K V : Type 0} → Plain K → Plain V → Cut → Place → ℕ → ℕ → Type 0
+abbrev pub LastTakes : {K V : Type 0} → Plain K → Plain V → WindowState → Place → ℕ → ℕ → Type 0
 LastTakes {K} {V} k v c at before after =
     (ps : List (Pair K V)) (s : HoldsMap k v c.bytes at.handle at.at ps) → after ≡ before + last_path s.map.tree.tree
     + reading_steps (final_pair ps)
@@ -61,14 +61,15 @@ node_with k m key n =
     (value_in k.reading k.is_value k.spelling (read m (n + 16) k.SIZE))
 
 -- the node of a pair has its key, and is read as its key and value
-pub record IsRead {K V : Type 0} (k : Plain K) (v : Plain V) (c : Cut) (keys : ℕ → Option K) (p : Pair K V) : Type 0
+pub record IsRead {K V : Type 0} (k : Plain K) (v : Plain V) (c : WindowState) (keys : ℕ
+    → Option K) (p : Pair K V) : Type 0
   where
     pub key : keys (pair_node p) ≡ Some p.key
     pub item : item_at k v (bytes_of c.bytes) (pair_node p) ≡ Some (item_of p)
     pub room : IsTrue (has_room (live_of c.bytes) (pair_node p) (16 + k.SIZE + v.SIZE))
 
 -- the nodes that are searched are those of a map, with its tree and its pairs
-pub record IsOpened {K V : Type 0} (k : Plain K) (v : Plain V) (now c : Cut) (at : Place) (own : List ℕ)
+pub record OpensPairTree {K V : Type 0} (k : Plain K) (v : Plain V) (now c : WindowState) (at : Place) (own : List ℕ)
     (root : Option ℕ) : Type 0 where
   pub same : now ≡ c
   pub nodes : (ps : List (Pair K V)) (s : HoldsMap k v c.bytes at.handle at.at ps) → own ≡ nodes_of s.map.tree.tree
@@ -78,7 +79,7 @@ pub record IsOpened {K V : Type 0} (k : Plain K) (v : Plain V) (now c : Cut) (at
       → AllByRecursion (IsRead k v c (keys_in k own now)) ps
 
 -- the key and the value of the pair that is looked for, and the steps of the path to it
-pub record LooksUp {K V : Type 0} (k : Plain K) (v : Plain V) (c : Cut) (at : Place)
+pub record LooksUp {K V : Type 0} (k : Plain K) (v : Plain V) (c : WindowState) (at : Place)
     (pair : List (Pair K V) → Option (Pair K V)) (path : Tree → ℕ) (result : Option (K × V)) (before after : ℕ) : Type 0
   where
     pub item : (ps : List (Pair K V)) → HoldsMap k v c.bytes at.handle at.at ps → result ≡ option_map item_of (pair ps)
@@ -88,28 +89,29 @@ pub record LooksUp {K V : Type 0} (k : Plain K) (v : Plain V) (c : Cut) (at : Pl
         → after ≡ before + path s.map.tree.tree + reading_steps (pair ps)
 
 -- the node of a key, with the steps of a look-up
-pub record LooksFor {K V : Type 0} (k : Plain K) (v : Plain V) (c : Cut) (at : Place) (key : K) (found : Option ℕ)
+pub record LooksFor {K V : Type 0} (k : Plain K) (v : Plain V) (c : WindowState) (at : Place) (key : K)
+    (found : Option ℕ)
     (before after : ℕ) : Type 0 where
   pub node : FindsKey k v c.bytes at.handle at.at key found
   pub counted : before ≤ after
   pub steps : SearchSteps k v c.bytes at 1 before after
-  pub exact : LookUpTakes k v c at false key before after
+  pub exact : LookupSteps k v c at false key before after
 
 -- ---- where a change of the tree begins
 
 -- that of a node which enters at the end of the search for a key
-abbrev pub entry_in : {K : Type 0} → Plain K → Cut → K → Tree → Option ℕ
-entry_in k c key t = entry_of (stands_before k.order (keys_in k (nodes_of t) c) false key) t
+abbrev pub entry_in : {K : Type 0} → Plain K → WindowState → K → Tree → Option ℕ
+entry_in k c key t = insert_point_of (stands_before k.order (keys_in k (nodes_of t) c) false key) t
 
 -- that of a node which leaves
-abbrev pub exit_in : {K : Type 0} → Plain K → Cut → ℕ → Tree → Option ℕ
-exit_in k c node t = exit_of (comes_before k.order (keys_in k (nodes_of t) c)) node t
+abbrev pub exit_in : {K : Type 0} → Plain K → WindowState → ℕ → Tree → Option ℕ
+exit_in k c node t = remove_point_of (comes_before k.order (keys_in k (nodes_of t) c)) node t
 
-abbrev pub FindsEntry : {K V : Type 0} → Plain K → Plain V → Cut → Place → K → Option ℕ → Type 0
+abbrev pub FindsEntry : {K V : Type 0} → Plain K → Plain V → WindowState → Place → K → Option ℕ → Type 0
 FindsEntry {K} {V} k v c at key start =
     (ps : List (Pair K V)) (s : HoldsMap k v c.bytes at.handle at.at ps) → start ≡ entry_in k c key s.map.tree.tree
 
-abbrev pub FindsExit : {K V : Type 0} → Plain K → Plain V → Cut → Place → Option ℕ → Option ℕ → Type 0
+abbrev pub FindsExit : {K V : Type 0} → Plain K → Plain V → WindowState → Place → Option ℕ → Option ℕ → Type 0
 FindsExit {K} {V} k v c at node start =
     (ps : List (Pair K V)) (s : HoldsMap k v c.bytes at.handle at.at ps)
     → IfSome node (λ n. start ≡ exit_in k c n s.map.tree.tree)

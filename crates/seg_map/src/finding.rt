@@ -4,17 +4,18 @@ ghost use Rattle.raw_region.specs.Memory.{bytes_of};
 ghost use Rattle.offset_link.specs.Link.{link_at};
 ghost use Rattle.link_tree.specs.Nodes.{leads};
 ghost use Rattle.best_fit.specs.Heap.{has_room, live_of};
-ghost use Rattle.seg_map.specs.Searches.{FindsEntry, FindsExit, IsOpened, LastTakes, LookBackTakes, LookUpTakes};
+ghost use Rattle.seg_map.specs.Searches.{FindsEntry, FindsExit, OpensPairTree, LastTakes, LookBackTakes, LookupSteps};
 ghost use Rattle.seg_map.specs.Searches.{LooksFor, LooksUp, item_at, node_with, path_in, reading_steps};
 ghost use Rattle.seg_map.specs.Places.{FindsItem, FindsItemBefore, FindsLastItem, FindsValue, IsSomeMap, SearchSteps};
-ghost use Rattle.seg_map.specs.{Linking.HasTree, PairNodes.is_pair_node, Places.first_pair, Places.last_pair};
+ghost use Rattle.seg_map.specs.{Linking.HasKeyTree, PairNodes.is_pair_node, Places.first_pair, Places.last_pair};
 
 use crate::maps::SegMap;
-use crate::nodes::{Own, Pairs};
-use crate::reading::{KEY, Sought, value_at};
+use crate::nodes::{NodeSet, PairTree};
+use crate::reading::{KEY_OFFSET, KeyProbe, value_at};
 use best_fit::Heap;
 use link_tree::{
-    Found, find_first_not_before, find_last, find_last_before, find_way_in, find_way_out,
+    SearchResult, find_first_not_before, find_insert_point, find_last, find_last_before,
+    find_remove_point,
 };
 use raw_region::Steps;
 use seg_types::Plain;
@@ -22,7 +23,7 @@ use std::marker::PhantomData;
 
 /// The root of a map's tree, the node of a key, and where a change of the tree begins, which a search has found.
 #[derive(Clone, Copy)]
-pub struct Trace {
+pub struct KeyCursor {
     /// The root; none where there is no pair.
     pub root: Option<u64>,
     /// The node; none where the key is not there.
@@ -36,9 +37,9 @@ impl<K: Plain, V: Plain> SegMap<K, V> {
     pub fn get(self, heap: &Heap, key: K, steps: &mut Steps) -> Option<V>
         requires { IsSomeMap K.Plain V.Plain heap.now.bytes self.place.handle self.place.at }
         ensures value { FindsValue K.Plain V.Plain heap.now.bytes self.place.handle self.place.at key result }
-        ensures counted { steps.old ≤ steps.new }
+        ensures steps_lower { steps.old ≤ steps.new }
         ensures steps { SearchSteps K.Plain V.Plain heap.now.bytes self.place 1 steps.old steps.new }
-        ensures exact { LookUpTakes K.Plain V.Plain heap.now self.place false key steps.old steps.new }
+        ensures steps_exact { LookupSteps K.Plain V.Plain heap.now self.place false key steps.old steps.new }
     {
         let (found, value) = self.first_from(heap, key, steps)?;
         (!key.precedes(found)).then_some(value)
@@ -48,31 +49,31 @@ impl<K: Plain, V: Plain> SegMap<K, V> {
     pub fn first_from(self, heap: &Heap, key: K, steps: &mut Steps) -> Option<(K, V)>
         requires { IsSomeMap K.Plain V.Plain heap.now.bytes self.place.handle self.place.at }
         ensures item { FindsItem K.Plain V.Plain heap.now.bytes self.place.handle self.place.at false key result }
-        ensures counted { steps.old ≤ steps.new }
+        ensures steps_lower { steps.old ≤ steps.new }
         ensures steps { SearchSteps K.Plain V.Plain heap.now.bytes self.place 1 steps.old steps.new }
-        ensures exact { LookUpTakes K.Plain V.Plain heap.now self.place false key steps.old steps.new }
+        ensures steps_exact { LookupSteps K.Plain V.Plain heap.now self.place false key steps.old steps.new }
     {
-        self.find_from(heap, &Sought { key, past: false }, steps)
+        self.find_from(heap, &KeyProbe { key, past: false }, steps)
     }
 
     /// The key and the value of the pair with the least key above `key`.
     pub fn next_after(self, heap: &Heap, key: K, steps: &mut Steps) -> Option<(K, V)>
         requires { IsSomeMap K.Plain V.Plain heap.now.bytes self.place.handle self.place.at }
         ensures item { FindsItem K.Plain V.Plain heap.now.bytes self.place.handle self.place.at true key result }
-        ensures counted { steps.old ≤ steps.new }
+        ensures steps_lower { steps.old ≤ steps.new }
         ensures steps { SearchSteps K.Plain V.Plain heap.now.bytes self.place 1 steps.old steps.new }
-        ensures exact { LookUpTakes K.Plain V.Plain heap.now self.place true key steps.old steps.new }
+        ensures steps_exact { LookupSteps K.Plain V.Plain heap.now self.place true key steps.old steps.new }
     {
-        self.find_from(heap, &Sought { key, past: true }, steps)
+        self.find_from(heap, &KeyProbe { key, past: true }, steps)
     }
 
     /// The key and the value of the pair with the greatest key.
     pub fn last(self, heap: &Heap, steps: &mut Steps) -> Option<(K, V)>
         requires { IsSomeMap K.Plain V.Plain heap.now.bytes self.place.handle self.place.at }
         ensures item { FindsLastItem K.Plain V.Plain heap.now.bytes self.place.handle self.place.at result }
-        ensures counted { steps.old ≤ steps.new }
+        ensures steps_lower { steps.old ≤ steps.new }
         ensures steps { SearchSteps K.Plain V.Plain heap.now.bytes self.place 1 steps.old steps.new }
-        ensures exact { LastTakes K.Plain V.Plain heap.now self.place steps.old steps.new }
+        ensures steps_exact { LastTakes K.Plain V.Plain heap.now self.place steps.old steps.new }
     {
         let pairs = self.open(heap);
         let found = find_last(&pairs, pairs.root);
@@ -83,43 +84,43 @@ impl<K: Plain, V: Plain> SegMap<K, V> {
     pub fn last_up_to(self, heap: &Heap, key: K, steps: &mut Steps) -> Option<(K, V)>
         requires { IsSomeMap K.Plain V.Plain heap.now.bytes self.place.handle self.place.at }
         ensures item { FindsItemBefore K.Plain V.Plain heap.now.bytes self.place.handle self.place.at true key result }
-        ensures counted { steps.old ≤ steps.new }
+        ensures steps_lower { steps.old ≤ steps.new }
         ensures steps { SearchSteps K.Plain V.Plain heap.now.bytes self.place 1 steps.old steps.new }
-        ensures exact { LookBackTakes K.Plain V.Plain heap.now self.place true key steps.old steps.new }
+        ensures steps_exact { LookBackTakes K.Plain V.Plain heap.now self.place true key steps.old steps.new }
     {
-        self.find_before(heap, &Sought { key, past: true }, steps)
+        self.find_before(heap, &KeyProbe { key, past: true }, steps)
     }
 
     /// The key and the value of the pair with the greatest key below `key`.
     pub fn previous_before(self, heap: &Heap, key: K, steps: &mut Steps) -> Option<(K, V)>
         requires { IsSomeMap K.Plain V.Plain heap.now.bytes self.place.handle self.place.at }
         ensures item { FindsItemBefore K.Plain V.Plain heap.now.bytes self.place.handle self.place.at false key result }
-        ensures counted { steps.old ≤ steps.new }
+        ensures steps_lower { steps.old ≤ steps.new }
         ensures steps { SearchSteps K.Plain V.Plain heap.now.bytes self.place 1 steps.old steps.new }
-        ensures exact { LookBackTakes K.Plain V.Plain heap.now self.place false key steps.old steps.new }
+        ensures steps_exact { LookBackTakes K.Plain V.Plain heap.now self.place false key steps.old steps.new }
     {
-        self.find_before(heap, &Sought { key, past: false }, steps)
+        self.find_before(heap, &KeyProbe { key, past: false }, steps)
     }
 
     /// The pairs of the map, for a search.
-    fn open(self, heap: &Heap) -> Pairs<&Heap, K>
+    fn open(self, heap: &Heap) -> PairTree<&Heap, K>
         requires { IsSomeMap K.Plain V.Plain heap.now.bytes self.place.handle self.place.at }
         ensures root { result.root ≡ link_at (bytes_of heap.now.bytes) (self.place.handle + self.place.at) }
-        ensures leads { leads (is_pair_node (16 + K.SIZE) result.own result.heap.now) result.root ≡ true }
-        ensures tree { HasTree K.Plain result.own result.heap.now result.root }
-        ensures opened { IsOpened K.Plain V.Plain result.heap.now heap.now self.place result.own result.root }
+        ensures link_target { leads (is_pair_node (16 + K.SIZE) result.own result.heap.now) result.root ≡ true }
+        ensures tree { HasKeyTree K.Plain result.own result.heap.now result.root }
+        ensures opening { OpensPairTree K.Plain V.Plain result.heap.now heap.now self.place result.own result.root }
     {
         let root = heap.link(self.place.handle, self.place.at);
-        Pairs {
+        PairTree {
             heap,
-            own: Own::new(heap, root, None),
+            own: NodeSet::new(heap, root, None),
             root,
             keys: PhantomData,
         }
     }
 
     /// The key and the value of the first pair that does not stand before what is looked for.
-    fn find_from(self, heap: &Heap, sought: &Sought<K>, steps: &mut Steps) -> Option<(K, V)>
+    fn find_from(self, heap: &Heap, sought: &KeyProbe<K>, steps: &mut Steps) -> Option<(K, V)>
         requires { IsSomeMap K.Plain V.Plain heap.now.bytes self.place.handle self.place.at }
         ensures { LooksUp K.Plain V.Plain heap.now self.place (first_pair K.order sought.now.past sought.now.key)
             (path_in K.Plain heap.now sought.now.past sought.now.key) result steps.old steps.new }
@@ -130,7 +131,7 @@ impl<K: Plain, V: Plain> SegMap<K, V> {
     }
 
     /// The key and the value of the last pair that stands before what is looked for.
-    fn find_before(self, heap: &Heap, sought: &Sought<K>, steps: &mut Steps) -> Option<(K, V)>
+    fn find_before(self, heap: &Heap, sought: &KeyProbe<K>, steps: &mut Steps) -> Option<(K, V)>
         requires { IsSomeMap K.Plain V.Plain heap.now.bytes self.place.handle self.place.at }
         ensures { LooksUp K.Plain V.Plain heap.now self.place (last_pair K.order sought.now.past sought.now.key)
             (path_in K.Plain heap.now sought.now.past sought.now.key) result steps.old steps.new }
@@ -141,17 +142,17 @@ impl<K: Plain, V: Plain> SegMap<K, V> {
     }
 
     /// The node of a key, and where a node with that key would enter.
-    pub(crate) fn find_in(self, heap: &Heap, key: K, steps: &mut Steps) -> Trace
+    pub(crate) fn find_for_put(self, heap: &Heap, key: K, steps: &mut Steps) -> KeyCursor
         requires map { IsSomeMap K.Plain V.Plain heap.now.bytes self.place.handle self.place.at }
-        ensures found { LooksFor K.Plain V.Plain heap.now self.place key result.node steps.old steps.new }
+        ensures search { LooksFor K.Plain V.Plain heap.now self.place key result.node steps.old steps.new }
         ensures value { IfSome result.node (λ node. K.is_value key ≡ true) }
         ensures root { result.root ≡ link_at (bytes_of heap.now.bytes) (self.place.handle + self.place.at) }
         ensures entry { FindsEntry K.Plain V.Plain heap.now self.place key result.start }
     {
         let pairs = self.open(heap);
-        let way = find_way_in(&pairs, pairs.root, &Sought { key, past: false });
+        let way = find_insert_point(&pairs, pairs.root, &KeyProbe { key, past: false });
         steps.add(way.steps);
-        Trace {
+        KeyCursor {
             root: pairs.root,
             node: with_key(heap, way.node, key, steps),
             start: way.entry,
@@ -159,17 +160,17 @@ impl<K: Plain, V: Plain> SegMap<K, V> {
     }
 
     /// The node of a key, and where its removal begins.
-    pub(crate) fn find_out(self, heap: &Heap, key: K, steps: &mut Steps) -> Trace
+    pub(crate) fn find_for_erase(self, heap: &Heap, key: K, steps: &mut Steps) -> KeyCursor
         requires map { IsSomeMap K.Plain V.Plain heap.now.bytes self.place.handle self.place.at }
-        ensures found { LooksFor K.Plain V.Plain heap.now self.place key result.node steps.old steps.new }
+        ensures search { LooksFor K.Plain V.Plain heap.now self.place key result.node steps.old steps.new }
         ensures value { IfSome result.node (λ node. K.is_value key ≡ true) }
         ensures root { result.root ≡ link_at (bytes_of heap.now.bytes) (self.place.handle + self.place.at) }
         ensures exit { FindsExit K.Plain V.Plain heap.now self.place result.node result.start }
     {
         let pairs = self.open(heap);
-        let way = find_way_out(&pairs, pairs.root, &Sought { key, past: false });
+        let way = find_remove_point(&pairs, pairs.root, &KeyProbe { key, past: false });
         steps.add(way.steps);
-        Trace {
+        KeyCursor {
             root: pairs.root,
             node: with_key(heap, way.node, key, steps),
             start: way.exit,
@@ -178,7 +179,11 @@ impl<K: Plain, V: Plain> SegMap<K, V> {
 }
 
 /// The key and the value of what a search has found. What it took is counted here.
-fn read_found<K: Plain, V: Plain>(heap: &Heap, found: Found, steps: &mut Steps) -> Option<(K, V)>
+fn read_found<K: Plain, V: Plain>(
+    heap: &Heap,
+    found: SearchResult,
+    steps: &mut Steps,
+) -> Option<(K, V)>
     requires { IfSome found.node (λ n. IsTrue (has_room (live_of heap.now.bytes) n (16 + K.SIZE + V.SIZE))) }
     ensures item { result ≡ option_and_then (item_at K.Plain V.Plain (bytes_of heap.now.bytes)) found.node }
     ensures steps { steps.new ≡ steps.old + found.steps + reading_steps found.node }
@@ -186,8 +191,8 @@ fn read_found<K: Plain, V: Plain>(heap: &Heap, found: Found, steps: &mut Steps) 
     steps.add(found.steps);
     let node = found.node?;
     steps.add(1);
-    let key = value_at::<K>(heap, node, KEY)?;
-    let value = value_at::<V>(heap, node, KEY + K::SIZE)?;
+    let key = value_at::<K>(heap, node, KEY_OFFSET)?;
+    let value = value_at::<V>(heap, node, KEY_OFFSET + K::SIZE)?;
     Some((key, value))
 }
 
@@ -195,12 +200,12 @@ fn read_found<K: Plain, V: Plain>(heap: &Heap, found: Found, steps: &mut Steps) 
 fn with_key<K: Plain>(heap: &Heap, node: Option<u64>, key: K, steps: &mut Steps) -> Option<u64>
     requires { IfSome node (λ n. IsTrue (has_room (live_of heap.now.bytes) n (16 + K.SIZE))) }
     ensures node { result ≡ option_and_then (node_with K.Plain (bytes_of heap.now.bytes) key) node }
-    ensures same { IfSome result (λ n. node ≡ Some n) }
+    ensures unchanged { IfSome result (λ n. node ≡ Some n) }
     ensures value { IfSome result (λ n. K.is_value key ≡ true) }
     ensures steps { steps.new ≡ steps.old + reading_steps node }
 {
     let node = node?;
     steps.add(1);
-    let found = value_at::<K>(heap, node, KEY)?;
+    let found = value_at::<K>(heap, node, KEY_OFFSET)?;
     (!key.precedes(found)).then_some(node)
 }

@@ -2,11 +2,11 @@
 ghost use Rattle.std.specs.Prelude.{◌≡◌, ◌+◌, ◌%◌, ◌<◌, IfSome, IsTrue};
 ghost use Rattle.best_fit.specs.{Extents.is_proper, Heap.has_room, Heap.heap_touches, Heap.live_of};
 ghost use Rattle.seg_map.specs.PairNodes.{own_nodes};
-ghost use Rattle.seg_map.specs.Changing.{CanGiveUp, CanPutIn, Drops, IsHeaded, PutsIn, TreeSteps};
+ghost use Rattle.seg_map.specs.Changing.{CanUnlinkPair, CanLinkPair, Drops, WritesMapHeader, LinksPair, TreeSteps};
 
-use crate::finding::Trace;
+use crate::finding::KeyCursor;
 use crate::maps::SegMap;
-use crate::nodes::{Own, Pairs};
+use crate::nodes::{NodeSet, PairTree};
 use best_fit::{Heap, Place};
 use link_tree::{insert_at, remove_at};
 use raw_region::Steps;
@@ -19,12 +19,12 @@ pub const COUNT: u64 = 8;
 const THIRD: u64 = 16;
 
 /// Writes the three words of a map: the link to the root, the number of pairs, and 0.
-pub fn write_head(heap: &mut Heap, place: Place, root: Option<u64>, count: u64)
+pub fn write_map_header(heap: &mut Heap, place: Place, root: Option<u64>, count: u64)
     requires aligned { place.at % 8 ≡ 0 }
     requires proper { IsTrue (is_proper (live_of heap.old.bytes)) }
     requires room { IsTrue (has_room (live_of heap.old.bytes) place.handle (place.at + 24)) }
     requires root { IfSome root (λ node. node % 16 ≡ 0) }
-    ensures { IsHeaded heap.old heap.new (place.handle + place.at) root count }
+    ensures { WritesMapHeader heap.old heap.new (place.handle + place.at) root count }
 {
     heap.set_link(place.handle, place.at, root);
     heap.set_word(place.handle, place.at + COUNT, count);
@@ -35,10 +35,17 @@ impl<K: Plain, V: Plain> SegMap<K, V> {
     /// Takes a pair out of the map, from the root of the tree on or from where a search has found that it changes, and
     /// gives its block back.
     #[tactic(auto, using(crate::proofs::PairSteps::rooms, crate::proofs::Staying::trees))]
-    pub(crate) fn give_up(self, heap: &mut Heap, trace: &Trace, node: u64, steps: &mut Steps)
-        requires { CanGiveUp K.Plain V.Plain heap.old self.place.handle self.place.at trace.now.root trace.now.start node }
-        ensures dropped { Drops K.Plain V.Plain heap.old heap.new self.place.handle self.place.at node }
-        ensures counted { steps.old + 1 < steps.new }
+    pub(crate) fn unlink_pair(
+        self,
+        heap: &mut Heap,
+        trace: &KeyCursor,
+        node: u64,
+        steps: &mut Steps,
+    )
+        requires { CanUnlinkPair K.Plain V.Plain heap.old self.place.handle self.place.at trace.now.root
+            trace.now.start node }
+        ensures changes { Drops K.Plain V.Plain heap.old heap.new self.place.handle self.place.at node }
+        ensures steps_lower { steps.old + 1 < steps.new }
         ensures steps { TreeSteps K.Plain V.Plain heap.old self.place.handle self.place.at
             (heap_touches (live_of heap.old.bytes)) steps.old steps.new }
     {
@@ -46,23 +53,24 @@ impl<K: Plain, V: Plain> SegMap<K, V> {
         let mut pairs = lend::<K>(heap, trace.root, None);
         let changed = remove_at(&mut pairs, trace.root, trace.start, node);
         steps.add(changed.steps);
-        write_head(heap, self.place, changed.root, count - 1);
+        write_map_header(heap, self.place, changed.root, count - 1);
         heap.deallocate(node, steps);
     }
 
     /// Puts a pair into the map, whose node is made, from where the search for its key has found that the tree changes.
     #[tactic(auto, using(crate::proofs::PairSteps::rooms, crate::proofs::Staying::trees))]
-    pub(crate) fn put_in(self, heap: &mut Heap, trace: &Trace, node: u64, steps: &mut Steps)
-        requires { CanPutIn K.Plain V.Plain heap.old self.place.handle self.place.at trace.now.root trace.now.start node }
-        ensures planted { PutsIn K.Plain V.Plain heap.old heap.new self.place.handle self.place.at node }
-        ensures counted { steps.old < steps.new }
+    pub(crate) fn link_pair(self, heap: &mut Heap, trace: &KeyCursor, node: u64, steps: &mut Steps)
+        requires { CanLinkPair K.Plain V.Plain heap.old self.place.handle self.place.at trace.now.root
+            trace.now.start node }
+        ensures tree { LinksPair K.Plain V.Plain heap.old heap.new self.place.handle self.place.at node }
+        ensures steps_lower { steps.old < steps.new }
         ensures steps { TreeSteps K.Plain V.Plain heap.old self.place.handle self.place.at 0 steps.old steps.new }
     {
         let count = self.len(&*heap);
         let mut pairs = lend::<K>(heap, trace.root, Some(node));
         let changed = insert_at(&mut pairs, trace.root, trace.start, node);
         steps.add(changed.steps);
-        write_head(heap, self.place, changed.root, count + 1);
+        write_map_header(heap, self.place, changed.root, count + 1);
     }
 }
 
@@ -71,13 +79,13 @@ fn lend<'a, K: Plain>(
     heap: &'a mut Heap,
     root: Option<u64>,
     spare: Option<u64>,
-) -> Pairs<&'a mut Heap, K>
-    ensures reference { result.heap.ghost_name ≡ heap.entry.ghost_name }
+) -> PairTree<&'a mut Heap, K>
+    ensures same_borrow { result.heap.ghost_name ≡ heap.entry.ghost_name }
     ensures heap { result.heap.now ≡ heap.old }
-    ensures own { result.own ≡ own_nodes heap.old.bytes root spare }
+    ensures ownership { result.own ≡ own_nodes heap.old.bytes root spare }
 {
-    let own = Own::new(&*heap, root, spare);
-    Pairs {
+    let own = NodeSet::new(&*heap, root, spare);
+    PairTree {
         heap,
         own,
         root,

@@ -1,13 +1,13 @@
 //! Maps from values of a fixed number of bytes to such values.
 ghost use Rattle.std.specs.Prelude.{◌≡◌, ◌+◌, ◌%◌, ◌<◌, ◌≤◌, IfOk, IsTrue, false, true};
 ghost use Rattle.best_fit.specs.{Extents.is_proper, Heap.has_room, Heap.live_of};
-ghost use Rattle.seg_map.specs.Changing.{ChangeSteps, CountsPairs, Erases, IsNew, Puts, Releases};
-ghost use Rattle.seg_map.specs.{Places.IsSomeMap, Searches.LookUpTakes, Searches.LooksUpFirst};
+ghost use Rattle.seg_map.specs.Changing.{ChangeSteps, CountsPairs, ErasesKey, InitsMap, PutsPair, ReleasesMap};
+ghost use Rattle.seg_map.specs.{Places.IsSomeMap, Searches.LookupSteps, Searches.LooksUpFirst};
 
-use crate::finding::Trace;
-use crate::linking::{COUNT, write_head};
-use crate::putting::{make_node, write_value};
-use crate::reading::KEY;
+use crate::finding::KeyCursor;
+use crate::linking::{COUNT, write_map_header};
+use crate::putting::{allocate_node, write_value};
+use crate::reading::KEY_OFFSET;
 use best_fit::{Heap, NoSpace, Place};
 use raw_region::Steps;
 use seg_types::Plain;
@@ -41,9 +41,9 @@ impl<K: Plain, V: Plain> SegMap<K, V> {
         requires proper { IsTrue (is_proper (live_of heap.old.bytes)) }
         requires room { IsTrue (has_room (live_of heap.old.bytes) place.handle (place.at + 24)) }
         ensures place { result.place ≡ place }
-        ensures map { IsNew K.Plain V.Plain heap.old heap.new place.handle place.at }
+        ensures map { InitsMap K.Plain V.Plain heap.old heap.new place.handle place.at }
     {
-        write_head(heap, place, None, 0);
+        write_map_header(heap, place, None, 0);
         SegMap::at(place)
     }
 
@@ -63,22 +63,22 @@ impl<K: Plain, V: Plain> SegMap<K, V> {
     /// `NoSpace` where the key is new and no gap is long enough for its block. Nothing changes.
     pub fn put(self, heap: &mut Heap, key: K, value: V, steps: &mut Steps) -> Result<bool, NoSpace>
         requires { IsSomeMap K.Plain V.Plain heap.old.bytes self.place.handle self.place.at }
-        ensures put { Puts K.Plain V.Plain heap.old heap.new self.place.handle self.place.at key value result }
-        ensures counted { steps.old ≤ steps.new }
+        ensures effect { PutsPair K.Plain V.Plain heap.old heap.new self.place.handle self.place.at key value result }
+        ensures steps_lower { steps.old ≤ steps.new }
         ensures steps { ChangeSteps K.Plain V.Plain heap.old self.place.handle self.place.at steps.old steps.new }
-        ensures searched { LooksUpFirst K.Plain V.Plain heap.old self.place key 0 steps.old steps.new }
-        ensures went { IfOk result (λ new. new ≡ true
+        ensures search { LooksUpFirst K.Plain V.Plain heap.old self.place key 0 steps.old steps.new }
+        ensures progress { IfOk result (λ new. new ≡ true
             → LooksUpFirst K.Plain V.Plain heap.old self.place key 2 steps.old steps.new) }
-        ensures exact { IfOk result (λ new. new ≡ false
-            → LookUpTakes K.Plain V.Plain heap.old self.place false key steps.old steps.new) }
+        ensures steps_exact { IfOk result (λ new. new ≡ false
+            → LookupSteps K.Plain V.Plain heap.old self.place false key steps.old steps.new) }
     {
-        let trace = self.find_in(&*heap, key, steps);
+        let trace = self.find_for_put(&*heap, key, steps);
         if let Some(node) = trace.node {
-            write_value::<V>(heap, node, KEY + K::SIZE, value);
+            write_value::<V>(heap, node, KEY_OFFSET + K::SIZE, value);
             return Ok(false);
         }
-        let node = make_node::<K, V>(heap, key, value, steps)?;
-        self.put_in(heap, &trace, node, steps);
+        let node = allocate_node::<K, V>(heap, key, value, steps)?;
+        self.link_pair(heap, &trace, node, steps);
         Ok(true)
     }
 
@@ -86,33 +86,34 @@ impl<K: Plain, V: Plain> SegMap<K, V> {
     /// theirs.
     pub fn erase(self, heap: &mut Heap, key: K, steps: &mut Steps) -> bool
         requires { IsSomeMap K.Plain V.Plain heap.old.bytes self.place.handle self.place.at }
-        ensures erased { Erases K.Plain V.Plain heap.old heap.new self.place.handle self.place.at key result }
-        ensures counted { steps.old ≤ steps.new }
+        ensures changes { ErasesKey K.Plain V.Plain heap.old heap.new self.place.handle self.place.at key result }
+        ensures steps_lower { steps.old ≤ steps.new }
         ensures steps { ChangeSteps K.Plain V.Plain heap.old self.place.handle self.place.at steps.old steps.new }
-        ensures went { result ≡ true → LooksUpFirst K.Plain V.Plain heap.old self.place key 2 steps.old steps.new }
-        ensures exact { result ≡ false → LookUpTakes K.Plain V.Plain heap.old self.place false key steps.old steps.new }
+        ensures progress { result ≡ true → LooksUpFirst K.Plain V.Plain heap.old self.place key 2 steps.old steps.new }
+        ensures steps_exact { result ≡ false
+            → LookupSteps K.Plain V.Plain heap.old self.place false key steps.old steps.new }
     {
-        let trace = self.find_out(&*heap, key, steps);
+        let trace = self.find_for_erase(&*heap, key, steps);
         let Some(node) = trace.node else {
             return false;
         };
-        self.give_up(heap, &trace, node, steps);
+        self.unlink_pair(heap, &trace, node, steps);
         true
     }
 
     /// Gives the blocks of all pairs back. There is no pair then.
     pub fn release(self, heap: &mut Heap)
         requires { IsSomeMap K.Plain V.Plain heap.old.bytes self.place.handle self.place.at }
-        ensures { Releases K.Plain V.Plain heap.old heap.new self.place.handle self.place.at }
+        ensures { ReleasesMap K.Plain V.Plain heap.old heap.new self.place.handle self.place.at }
     {
         // the pair at the root goes each time: the tree needs no walk then, and the map is one at each moment
         'pairs: while let Some(node) = heap.link(self.place.handle, self.place.at) {
-            let trace = Trace {
+            let trace = KeyCursor {
                 root: Some(node),
                 node: Some(node),
                 start: None,
             };
-            self.give_up(heap, &trace, node, &mut Steps::new());
+            self.unlink_pair(heap, &trace, node, &mut Steps::new());
         }
     }
 }

@@ -1,22 +1,23 @@
 //! The pairs of a map as the nodes of a tree.
 ghost use Rattle.std.specs.Prelude.{◌≡◌, ℕ, ◌+◌};
-ghost use Rattle.raw_region.specs.Memory.{Cut};
+ghost use Rattle.raw_region.specs.Memory.{WindowState};
 ghost use Rattle.seg_types.specs.Plain.{value_in};
-ghost use Rattle.seg_map.specs.PairNodes.{Kept as WhatStays, comes_before, is_pair_node, kept_of, key_of, pair_cells};
+ghost use Rattle.seg_map.specs.PairNodes.{PairTreeFrame as WhatStays, comes_before, is_pair_node, kept_of, key_of};
+ghost use Rattle.seg_map.specs.PairNodes.{pair_cells};
 ghost use Rattle.seg_map.specs.PairLaws.{comes_agrees, comes_irreflexive, comes_transitive, pairs_finite, pairs_left};
 ghost use Rattle.seg_map.specs.{Linking.keys_in, PairNodes.stands_before, PairLaws.pairs_right};
 
-use crate::reading::{KEY, Sought, value_at};
-use best_fit::{Heap, RIGHT};
+use crate::reading::{KEY_OFFSET, KeyProbe, value_at};
+use best_fit::{Heap, RIGHT_LINK};
 use link_tree::{Nodes, NodesMut};
 use raw_region::Snapshot;
 use seg_types::Plain;
 use std::marker::{Model, PhantomData};
 
 /// A heap that is lent to a call of the tree, to be read or to be changed.
-pub trait Lent {
+pub trait HeapRef {
     // What the heap has.
-    ghost cut: { Self → Cut };
+    ghost cut: { Self → WindowState };
 
     // The name of the reference, where the heap is lent to be changed.
     ghost lender: { Self → ℕ } = { λ _. 0 };
@@ -26,7 +27,7 @@ pub trait Lent {
         ensures { result.now ≡ cut self.now };
 }
 
-impl Lent for &Heap {
+impl HeapRef for &Heap {
     ghost cut = { λ s. s.now };
 
     #[inline(always)]
@@ -35,7 +36,7 @@ impl Lent for &Heap {
     }
 }
 
-impl Lent for &mut Heap {
+impl HeapRef for &mut Heap {
     ghost cut = { λ s. s.now };
 
     ghost lender = { λ s. s.ghost_name };
@@ -49,13 +50,13 @@ impl Lent for &mut Heap {
 /// The nodes of one map: those of the tree that led from a link when it was made, and one more. What is written since
 /// does not change which they are.
 #[derive(Drop)]
-pub struct Own {
+pub struct NodeSet {
     then: Snapshot,
     root: Option<u64>,
     spare: Option<u64>,
 }
 
-impl Model for Own {
+impl Model for NodeSet {
     ghost use Rattle.std.specs.Prelude.{ℕ, List};
     ghost use Rattle.seg_map.specs.PairNodes.{own_nodes};
 
@@ -64,15 +65,15 @@ impl Model for Own {
     ghost view = { λ o. own_nodes o.then o.root o.spare };
 }
 
-impl Own {
+impl NodeSet {
     ghost use Rattle.std.specs.Prelude.{◌≡◌};
     ghost use Rattle.seg_map.specs.PairNodes.{own_nodes};
 
     /// The nodes that are reached from `root`, and the one that is to join them.
-    pub fn new(heap: &Heap, root: Option<u64>, spare: Option<u64>) -> Own
+    pub fn new(heap: &Heap, root: Option<u64>, spare: Option<u64>) -> NodeSet
         ensures { result ≡ own_nodes heap.now.bytes root spare }
     {
-        Own {
+        NodeSet {
             then: Snapshot::take(heap.as_bytes()),
             root,
             spare,
@@ -82,16 +83,16 @@ impl Own {
 
 /// A heap with the pairs of one map in it, and the link to the root of their tree.
 #[derive(Drop)]
-pub struct Pairs<H, K> {
+pub struct PairTree<H, K> {
     pub heap: H,
-    pub own: Own,
+    pub own: NodeSet,
     pub root: Option<u64>,
     pub keys: PhantomData<K>,
 }
 
 #[tactic(auto, using(crate::proofs::PairSteps::nodes))]
-impl<H: Lent, K: Plain> Nodes for Pairs<H, K> {
-    type Probe = Sought<K>;
+impl<H: HeapRef, K: Plain> Nodes for PairTree<H, K> {
+    type Probe = KeyProbe<K>;
 
     ghost cells = { λ s. pair_cells (16 + K.SIZE) s.own (H.cut s.heap) };
 
@@ -112,7 +113,7 @@ impl<H: Lent, K: Plain> Nodes for Pairs<H, K> {
     }
 
     fn right(&self, node: u64) -> Option<u64> {
-        self.heap.heap().link(node, RIGHT)
+        self.heap.heap().link(node, RIGHT_LINK)
     }
 
     fn red(&self, node: u64) -> bool {
@@ -121,14 +122,17 @@ impl<H: Lent, K: Plain> Nodes for Pairs<H, K> {
 
     fn precedes(&self, a: u64, b: u64) -> bool {
         let heap = self.heap.heap();
-        match (value_at::<K>(heap, a, KEY), value_at::<K>(heap, b, KEY)) {
+        match (
+            value_at::<K>(heap, a, KEY_OFFSET),
+            value_at::<K>(heap, b, KEY_OFFSET),
+        ) {
             (Some(first), Some(second)) => first.precedes(second),
             _ => false,
         }
     }
 
-    fn before_probe(&self, node: u64, probe: &Sought<K>) -> bool {
-        match value_at::<K>(self.heap.heap(), node, KEY) {
+    fn before_probe(&self, node: u64, probe: &KeyProbe<K>) -> bool {
+        match value_at::<K>(self.heap.heap(), node, KEY_OFFSET) {
             None => false,
             Some(key) if probe.past => !probe.key.precedes(key),
             Some(key) => key.precedes(probe.key),
@@ -152,13 +156,13 @@ impl<H: Lent, K: Plain> Nodes for Pairs<H, K> {
 }
 
 #[tactic(auto, using(crate::proofs::PairSteps::nodes))]
-impl<'a, K: Plain> NodesMut for Pairs<&'a mut Heap, K> {
+impl<'a, K: Plain> NodesMut for PairTree<&'a mut Heap, K> {
     fn set_left(&mut self, node: u64, to: Option<u64>) {
         self.heap.set_link(node, 0, to);
     }
 
     fn set_right(&mut self, node: u64, to: Option<u64>) {
-        self.heap.set_link(node, RIGHT, to);
+        self.heap.set_link(node, RIGHT_LINK, to);
     }
 
     fn set_red(&mut self, node: u64, red: bool) {

@@ -8,11 +8,11 @@ use best_fit::Heap;
 use seg_types::Plain;
 
 /// Where the key of a node stands.
-pub const KEY: u64 = 16;
+pub const KEY_OFFSET: u64 = 16;
 
 /// A key that is looked for: pairs below it stand before it, and where it is past, those that have it too.
 #[derive(Drop)]
-pub struct Sought<K> {
+pub struct KeyProbe<K> {
     pub key: K,
     pub past: bool,
 }

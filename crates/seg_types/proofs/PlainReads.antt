@@ -1,11 +1,12 @@
 -- What is read as a value of a plain type, and of a scalar type by the whole number that its bytes say.
-use Rattle.std.proofs.Common.{◌≡◌, sym, ap, subst, ◌∙◌, ℕ, suc, ◌<◌, refl, inl, inr, Bool, true, false, ◌&&◌, ◌==◌, if◌then◌else◌, List, [], ◌∷◌, length, get_or, Option, Some, None, MatchOption, ℤ}
+use Rattle.std.proofs.Common.{◌≡◌, sym, ap, subst, ◌∙◌, ℕ, suc, ◌<◌, refl, inl, inr, Bool, true, false, ◌&&◌, ◌==◌}
+use Rattle.std.proofs.Common.{if◌then◌else◌, List, [], ◌∷◌, length, get_or, Option, Some, None, MatchOption, ℤ}
 use Rattle.std.proofs.lemmas.Bool.{and_parts, and_from, cases_Bool, cond-true, cond-false, eq-eqb, eqb-true, false≢true}
 use Rattle.std.specs.List.{AllByRecursion}
 use Rattle.byteorder.specs.Endian.{little_number}
 use Rattle.seg_types.specs.declared.kinds.ScalarKind.{ScalarKind}
 use Rattle.seg_types.specs.Kinds.{size_of, is_value, value_of, spelling, is_spelling, SpellsOne}
-use Rattle.seg_types.specs.Plain.{Reads, same_bytes, value_in}
+use Rattle.seg_types.specs.Plain.{Decodes, same_bytes, value_in}
 use Rattle.seg_types.specs.ScalarLaws.{all_spell_one}
 
 -- ---- plain types
@@ -13,7 +14,8 @@ use Rattle.seg_types.specs.ScalarLaws.{all_spell_one}
 -- bytes that spell a value are read as it
 pub written-read : {T : Type 0} (is_one : T → Bool) (spell : T → List ℕ)
     → ((x y : T) → is_one x ≡ true → is_one y ≡ true → spell x ≡ spell y → x ≡ y)
-    → (bytes : List ℕ) (r : Option T) → Reads is_one spell bytes r → (x : T) → is_one x ≡ true → spell x ≡ bytes → r ≡ Some x
+    → (bytes : List ℕ) (r : Option T) → Decodes is_one spell bytes r → (x : T) → is_one x ≡ true → spell x ≡ bytes
+    → r ≡ Some x
 written-read is_one spell differs bytes (Some y) reads x one e = ap Some (differs y x reads.0 one (reads.1 ∙ sym e))
 written-read is_one spell differs bytes None none x one e = absurd (none x one e)
 
@@ -37,21 +39,30 @@ pub value-spelled : {T : Type 0} (reading : List ℕ → Option T) (is_one : T �
 unfolding value_in
 value-spelled {T} reading is_one spell reads x bytes one e =
     subst (λ bs. value_in reading is_one spell bs ≡ Some x) e
-    (ap (λ (o : Option T). elim o as (λ _. Option T) [ None ↦ None | Some y ↦ if is_one y && same_bytes (spell y) (spell x) then Some y else None ]) (reads x one)
-    ∙ cond-true (is_one x && same_bytes (spell x) (spell x)) (Some x) None (and_from (is_one x) (same_bytes (spell x) (spell x)) one (same-refl (spell x))))
+    (ap (λ (o : Option T). elim o as (λ _. Option T) [
+      | None ↦ None
+      | Some y ↦ if is_one y && same_bytes (spell y) (spell x) then Some y else None
+    ]) (reads x one)
+    ∙ cond-true (is_one x && same_bytes (spell x) (spell x)) (Some x) None
+    (and_from (is_one x) (same_bytes (spell x) (spell x)) one (same-refl (spell x))))
 
 -- what is read of bytes is the value that they spell
 pub read-value : {T : Type 0} (reading : List ℕ → Option T) (is_one : T → Bool) (spell : T → List ℕ)
     → ((x : T) → is_one x ≡ true → reading (spell x) ≡ Some x)
-    → (bytes : List ℕ) (r : Option T) → Reads is_one spell bytes r → r ≡ value_in reading is_one spell bytes
+    → (bytes : List ℕ) (r : Option T) → Decodes is_one spell bytes r → r ≡ value_in reading is_one spell bytes
 unfolding value_in
 read-value reading is_one spell reads bytes (Some x) h = sym (value-spelled reading is_one spell reads x bytes h.0 h.1)
 read-value {T} reading is_one spell reads bytes None h = by_reading (reading bytes)
   where
-    by_reading : (o : Option T) → None ≡ (elim o as (λ _. Option T) [ None ↦ None | Some x ↦ if is_one x && same_bytes (spell x) bytes then Some x else None ])
+    by_reading : (o : Option T) → None
+        ≡ (elim o as (λ _. Option T) [
+          | None ↦ None
+          | Some x ↦ if is_one x && same_bytes (spell x) bytes then Some x else None
+        ])
     by_reading None = refl
     by_reading (Some x) = elim (cases_Bool (is_one x && same_bytes (spell x) bytes)) [
-      | inl t ↦ let two = and_parts (is_one x) (same_bytes (spell x) bytes) t in absurd (h x two.0 (same-equal (spell x) bytes two.1))
+      | inl t ↦ let two = and_parts (is_one x) (same_bytes (spell x) bytes) t
+          in absurd (h x two.0 (same-equal (spell x) bytes two.1))
       | inr f ↦ sym (cond-false (is_one x && same_bytes (spell x) bytes) (Some x) None f)
     ]
 
@@ -62,7 +73,8 @@ pub whole-differs : {T : Type 0} (k : ScalarKind) (is_one : T → Bool) (spell :
     → ((x y : T) → is_one x ≡ true → is_one y ≡ true → spell x ≡ spell y → x ≡ y)
     → ((x : T) → spell x ≡ spelling k (whole x))
     → (x y : T) → is_one x ≡ true → is_one y ≡ true → whole x ≡ whole y → x ≡ y
-whole-differs k is_one spell whole differs spelled x y h i e = differs x y h i (spelled x ∙ ap (spelling k) e ∙ sym (spelled y))
+whole-differs k is_one spell whole differs spelled x y h i e =
+    differs x y h i (spelled x ∙ ap (spelling k) e ∙ sym (spelled y))
 
 not-true : (b : Bool) → (b ≡ true → ⊥) → b ≡ false
 not-true true h = absurd (h refl)
@@ -77,13 +89,16 @@ pub scalar-read : {T : Type 0} (k : ScalarKind) (is_one : T → Bool) (spell : T
     → ((x : T) → is_one x ≡ is_value k (whole x)) → ((x : T) → spell x ≡ spelling k (whole x))
     → ((z : ℤ) → is_value k z ≡ true → (x : T) × (whole x ≡ z))
     → (bytes : List ℕ) → ((i : ℕ) → get_or bytes i 0 < 256) → length bytes ≡ size_of k
-    → (r : Option T) → Reads is_one spell bytes r
-    → MatchOption r (is_spelling k bytes ≡ false) (λ x. (is_spelling k bytes ≡ true) × (whole x ≡ value_of k (little_number (size_of k) bytes)))
+    → (r : Option T) → Decodes is_one spell bytes r
+    → MatchOption r (is_spelling k bytes ≡ false) (λ x. (is_spelling k bytes ≡ true)
+    × (whole x ≡ value_of k (little_number (size_of k) bytes)))
 scalar-read k is_one spell whole values spelled reached bytes small len (Some x) reads =
     let value : is_value k (whole x) ≡ true = sym (values x) ∙ reads.0 in
     let same : spelling k (whole x) ≡ bytes = sym (spelled x) ∙ reads.1 in
-    let law : SpellsOne k (whole x) = all_spell_one k (whole x) value in
-    (ap (is_spelling k) (sym same) ∙ law.is_one, sym law.reads ∙ ap (λ (bs : List ℕ). value_of k (little_number (size_of k) bs)) same)
+    let law : SpellsOne k (whole x) = all_spell_one k (whole x) value in (
+      ap (is_spelling k) (sym same) ∙ law.is_one,
+      sym law.reads ∙ ap (λ (bs : List ℕ). value_of k (little_number (size_of k) bs)) same,
+    )
 scalar-read k is_one spell whole values spelled reached bytes small len None none =
     not-true (is_spelling k bytes) (λ h.
     let z : ℤ = value_of k (little_number (size_of k) bytes) in

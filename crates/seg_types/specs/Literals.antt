@@ -9,19 +9,19 @@ use Rattle.seg_types.specs.Kinds.{is_value}
 use Rattle.seg_types.specs.Values.{kind_of_scalar, value_of_scalar}
 
 -- the values of literals: a wrong form among them comes before a wrong range
-abbrev pub and_then : Result ℤ Refusal → Result (List ℤ) Refusal → Result (List ℤ) Refusal
-and_then (Ok z) (Ok zs) = Ok (z ∷ zs)
-and_then (Ok z) (Err r) = Err r
-and_then (Err WrongKind) zs = Err WrongKind
-and_then (Err r) (Err WrongKind) = Err WrongKind
-and_then (Err r) zs = Err r
+abbrev pub cons_values : Result ℤ Refusal → Result (List ℤ) Refusal → Result (List ℤ) Refusal
+cons_values (Ok z) (Ok zs) = Ok (z ∷ zs)
+cons_values (Ok z) (Err r) = Err r
+cons_values (Err WrongKind) zs = Err WrongKind
+cons_values (Err r) (Err WrongKind) = Err WrongKind
+cons_values (Err r) zs = Err r
 
 abbrev pub values_of : ScalarKind → List Literal → Result (List ℤ) Refusal
 values_of k [] = Ok []
-values_of k (l ∷ ls) = and_then (value_of_literal k l) (values_of k ls)
+values_of k (l ∷ ls) = cons_values (value_of_literal k l) (values_of k ls)
 
-abbrev pub pair_of : ScalarKind → ScalarKind → Literal → Literal → Result (List ℤ) Refusal
-pair_of k v key value = and_then (value_of_literal k key) (and_then (value_of_literal v value) (Ok []))
+abbrev pub pair_values : ScalarKind → ScalarKind → Literal → Literal → Result (List ℤ) Refusal
+pair_values k v key value = cons_values (value_of_literal k key) (cons_values (value_of_literal v value) (Ok []))
 
 -- the value has the kind, and is the number that is wanted, or it is refused for the same reason
 abbrev pub IsValueOf : ScalarKind → Result ℤ Refusal → Result ScalarValue Refusal → Type 0
@@ -34,8 +34,8 @@ abbrev pub IsOfScalarKind : ScalarKind → ScalarValue → Type 0
 IsOfScalarKind k v = (kind_of_scalar v ≡ k) × (is_value k (value_of_scalar v) ≡ true)
 
 -- key and value have the kinds, and are the numbers that are wanted, or they are refused for the same reason
-abbrev pub IsPairOf : ScalarKind → ScalarKind → Result (List ℤ) Refusal → Result (ScalarValue × ScalarValue) Refusal
+abbrev pub ConvertsPair : ScalarKind → ScalarKind → Result (List ℤ) Refusal → Result (ScalarValue × ScalarValue) Refusal
     → Type 0
-IsPairOf k v wanted (Ok p) = IsOfScalarKind k p.0 × IsOfScalarKind v p.1
+ConvertsPair k v wanted (Ok p) = IsOfScalarKind k p.0 × IsOfScalarKind v p.1
     × (wanted ≡ Ok (value_of_scalar p.0 ∷ value_of_scalar p.1 ∷ []))
-IsPairOf k v wanted (Err r) = wanted ≡ Err r
+ConvertsPair k v wanted (Err r) = wanted ≡ Err r

@@ -1,6 +1,7 @@
 -- Each value of a kind is spelled by the bytes of one number, which is read as the value, and by no other bytes. Below
 -- stand the laws of the scalar types, which follow.
-use Rattle.std.proofs.Common.{◌≡◌, sym, ap, subst, ◌∙◌, ℕ, zero, suc, ◌+◌, ◌-◌, ◌*◌, ◌/◌, ◌%◌, ◌^◌, ◌<◌, ◌≤◌, ◌⊎◌, inl, inr, refl, List, [], ◌∷◌, length, arith, append-nil, lit≤, Bool, true, false}
+use Rattle.std.proofs.Common.{◌≡◌, sym, ap, subst, ◌∙◌, ℕ, zero, suc, ◌+◌, ◌-◌, ◌*◌, ◌/◌, ◌%◌, ◌^◌, ◌<◌, ◌≤◌, ◌⊎◌, inl}
+use Rattle.std.proofs.Common.{inr, refl, List, [], ◌∷◌, length, arith, append-nil, lit≤, Bool, true, false}
 use Rattle.std.proofs.Math.Nat.{div-div-eq-div-mul, div-one, pow-succ'}
 use Rattle.std.specs.Prelude.{IsTrue, nat_lt, ℤ, pos, negsuc, int_lt, Option, Some, if◌then◌else◌, ◌==◌}
 use Rattle.std.specs.List.{AllByRecursion}
@@ -93,7 +94,8 @@ byte_at-is (suc k) x = refl
 pub byte_at-next : (k a x : ℕ) → a < 256 → byte_at (suc k) (a + 256 * x) ≡ byte_at k x
 byte_at-next k a x small =
     let up : (a + 256 * x) / 256 ≡ x = omega arith in
-    let split : (a + 256 * x) / 256 ^ suc k ≡ (a + 256 * x) / 256 / 256 ^ k = ap (λ (p : ℕ). (a + 256 * x) / p) (pow-succ' 256 k) ∙ sym (div-div-eq-div-mul (a + 256 * x) 256 (256 ^ k)) in
+    let split : (a + 256 * x) / 256 ^ suc k ≡ (a + 256 * x) / 256 / 256 ^ k =
+    ap (λ (p : ℕ). (a + 256 * x) / p) (pow-succ' 256 k) ∙ sym (div-div-eq-div-mul (a + 256 * x) 256 (256 ^ k)) in
     ap (λ (y : ℕ). y % 256) (split ∙ ap (λ (y : ℕ). y / 256 ^ k) up) ∙ sym (byte_at-is k x)
 
 -- and so are all of them
@@ -105,7 +107,8 @@ bytes_low_first-next i (suc n) a x small =
     λ j. e j ∷ ih j
 
 -- the bytes of the number that bytes say are these bytes
-pub bytes-back : (bs : List ℕ) → AllByRecursion (λ b. b < 256) bs → bytes_low_first 0 (length bs) (little_number (length bs) bs) ≡ bs
+pub bytes-back : (bs : List ℕ) → AllByRecursion (λ b. b < 256) bs
+    → bytes_low_first 0 (length bs) (little_number (length bs) bs) ≡ bs
 bytes-back [] small = refl
 bytes-back (b ∷ bs) small =
     let here = small.0 in
@@ -140,11 +143,15 @@ number-back I64 x s = i64-back x s (cases_lt x (2 ^ 63))
 number-back U64 x s = refl
 
 -- bytes whose value is read are its spelling
-only-spelling : (k : ScalarKind) (z : ℤ) (bs : List ℕ) → AllByRecursion (λ b. b < 256) bs → length bs ≡ size_of k → value_of k (little_number (size_of k) bs) ≡ z → bs ≡ spelling k z
+only-spelling : (k : ScalarKind) (z : ℤ) (bs : List ℕ) → AllByRecursion (λ b. b < 256) bs → length bs ≡ size_of k
+    → value_of k (little_number (size_of k) bs) ≡ z → bs ≡ spelling k z
 only-spelling k z bs small len is =
-    let fits : little_number (size_of k) bs < 256 ^ size_of k = subst (λ (n : ℕ). little_number n bs < 256 ^ n) len (number-small bs small) in
-    let back : bytes_low_first 0 (size_of k) (little_number (size_of k) bs) ≡ bs = subst (λ (n : ℕ). bytes_low_first 0 n (little_number n bs) ≡ bs) len (bytes-back bs small) in
-    sym back ∙ ap (bytes_low_first 0 (size_of k)) (sym (number-back k (little_number (size_of k) bs) fits) ∙ ap (complement (size_of k)) is)
+    let fits : little_number (size_of k) bs < 256 ^ size_of k =
+    subst (λ (n : ℕ). little_number n bs < 256 ^ n) len (number-small bs small) in
+    let back : bytes_low_first 0 (size_of k) (little_number (size_of k) bs) ≡ bs =
+    subst (λ (n : ℕ). bytes_low_first 0 n (little_number n bs) ≡ bs) len (bytes-back bs small) in
+    sym back ∙ ap (bytes_low_first 0 (size_of k)) (sym (number-back k (little_number (size_of k) bs) fits)
+    ∙ ap (complement (size_of k)) is)
 
 -- ---- the law
 
@@ -172,8 +179,10 @@ sizes U64 = (lit≤ tt, lit≤ tt)
 pub spells : (k : ScalarKind) (z : ℤ) → is_value k z ≡ true → length (spelling k z) ≡ size_of k
 spells k z h = (all_spell_one k z h).len
 
-pub differs : (k : ScalarKind) (y z : ℤ) → is_value k y ≡ true → is_value k z ≡ true → spelling k y ≡ spelling k z → y ≡ z
-differs k y z h i e = sym (all_spell_one k y h).reads ∙ ap (λ bs. value_of k (little_number (size_of k) bs)) e ∙ (all_spell_one k z i).reads
+pub differs : (k : ScalarKind) (y z : ℤ) → is_value k y ≡ true → is_value k z ≡ true → spelling k y ≡ spelling k z
+    → y ≡ z
+differs k y z h i e = sym (all_spell_one k y h).reads ∙ ap (λ bs. value_of k (little_number (size_of k) bs)) e
+    ∙ (all_spell_one k z i).reads
 
 -- the value that bytes spell
 abbrev pub whole-reading : ScalarKind → List ℕ → Option ℤ

@@ -1,5 +1,6 @@
 -- How kinds, values, names and keys are printed.
-use Rattle.std.specs.Prelude.{ℕ, ◌+◌, ◌/◌, ◌%◌, ℤ, Bool, false, ◌&&◌, ◌||◌, List, [], ◌∷◌, ◌++◌, flat_map, decimal, ◌==◌, if◌then◌else◌, codes, nat_le, nat_lt, nat_abs}
+use Rattle.std.specs.Prelude.{ℕ, ◌+◌, ◌/◌, ◌%◌, ℤ, Bool, false, ◌&&◌, ◌||◌, List, [], ◌∷◌, ◌++◌, flat_map, decimal}
+use Rattle.std.specs.Prelude.{◌==◌, if◌then◌else◌, codes, nat_le, nat_lt, nat_abs}
 use Rattle.std.specs.Fmt.{signed_decimal}
 use Rattle.std.specs.List.{list_all}
 use Rattle.seg_types.specs.declared.kinds.ScalarKind.{ScalarKind}

@@ -1,5 +1,6 @@
 -- What the values of the code stand for.
-use Rattle.std.specs.Prelude.{◌≡◌, ◌≢◌, ℕ, ℤ, Result, Ok, Err, pos, nat_abs, nat_lt, true, false, List, Option, Some, None}
+use Rattle.std.specs.Prelude.{◌≡◌, ◌≢◌, ℕ, ℤ, Result, Ok, Err, pos, nat_abs, nat_lt, true, false, List, Option, Some}
+use Rattle.std.specs.Prelude.{None}
 use Rattle.byteorder.specs.Endian.{little_number}
 use Rattle.seg_types.specs.declared.kinds.ScalarKind.{ScalarKind}
 use Rattle.seg_types.specs.declared.kinds.ScalarKind.TheVariants as kind
@@ -35,10 +36,11 @@ scalar_of kind.U64 z = U64 (nat_abs z)
 
 -- the value of a kind that the bytes spell, or none where they spell no value of the kind
 abbrev pub SpelledBy : ScalarKind → List ℕ → Option ScalarValue → Type 0
-SpelledBy k bytes (Some v) = (is_spelling k bytes ≡ true) × (kind_of_scalar v ≡ k) × (value_of_scalar v ≡ value_of k (little_number (size_of k) bytes))
+SpelledBy k bytes (Some v) = (is_spelling k bytes ≡ true) × (kind_of_scalar v ≡ k)
+    × (value_of_scalar v ≡ value_of k (little_number (size_of k) bytes))
 SpelledBy k bytes None = is_spelling k bytes ≡ false
 
 -- a value of a kind taken as one of a type, by its whole number; one of another kind is of the wrong kind
-abbrev pub IsTaken : {T : Type 0} → ScalarKind → (T → ℤ) → ScalarValue → Result T Refusal → Type 0
-IsTaken k whole v (Ok x) = (kind_of_scalar v ≡ k) × (value_of_scalar v ≡ whole x)
-IsTaken k whole v (Err why) = (kind_of_scalar v ≢ k) × (why ≡ WrongKind)
+abbrev pub ConvertsTo : {T : Type 0} → ScalarKind → (T → ℤ) → ScalarValue → Result T Refusal → Type 0
+ConvertsTo k whole v (Ok x) = (kind_of_scalar v ≡ k) × (value_of_scalar v ≡ whole x)
+ConvertsTo k whole v (Err why) = (kind_of_scalar v ≢ k) × (why ≡ WrongKind)

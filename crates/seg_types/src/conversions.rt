@@ -5,7 +5,7 @@ ghost use Rattle.seg_types.specs.declared.values.ScalarValue.TheVariants as valu
 ghost use Rattle.seg_types.specs.Keys.{index_key_seen, key_seen, name_seen, new_key_seen};
 ghost use Rattle.seg_types.specs.Kinds.{truth_number};
 ghost use Rattle.seg_types.specs.Names.{ByName, is_text_name};
-ghost use Rattle.seg_types.specs.Values.{IsTaken};
+ghost use Rattle.seg_types.specs.Values.{ConvertsTo};
 
 use crate::keys::{IndexKey, Key, NewKey};
 use crate::names::Name;
@@ -21,7 +21,9 @@ pub struct BadName;
 impl<'a> TryFrom<&'a [u8]> for Name<'a> {
     type Error = BadName;
 
-    ghost try_from_gives = { λ bytes made. MatchResult made (λ name. (is_text_name bytes.now ≡ true) × (name_seen name ≡ bytes.now)) (λ _. is_text_name bytes.now ≡ false) };
+    ghost try_from_gives = { λ bytes made.
+        MatchResult made (λ name. (is_text_name bytes.now ≡ true) × (name_seen name ≡ bytes.now)) (λ _.
+        is_text_name bytes.now ≡ false) };
 
     fn try_from(bytes: &'a [u8]) -> Result<Name<'a>, BadName> {
         match Name::new(bytes) {
@@ -34,7 +36,9 @@ impl<'a> TryFrom<&'a [u8]> for Name<'a> {
 impl<'a> TryFrom<&'a str> for Name<'a> {
     type Error = BadName;
 
-    ghost try_from_gives = { λ text made. MatchResult made (λ name. (is_text_name text.now ≡ true) × (name_seen name ≡ text.now)) (λ _. is_text_name text.now ≡ false) };
+    ghost try_from_gives = { λ text made.
+        MatchResult made (λ name. (is_text_name text.now ≡ true) × (name_seen name ≡ text.now)) (λ _.
+        is_text_name text.now ≡ false) };
 
     fn try_from(text: &'a str) -> Result<Name<'a>, BadName> {
         match Name::new(text.as_bytes()) {
@@ -127,7 +131,7 @@ impl From<u64> for ScalarValue {
 impl TryFrom<ScalarValue> for bool {
     type Error = Refusal;
 
-    ghost try_from_gives = { λ from taken. IsTaken kind.Bool truth_number from taken };
+    ghost try_from_gives = { λ from taken. ConvertsTo kind.Bool truth_number from taken };
 
     fn try_from(from: ScalarValue) -> Result<bool, Refusal> {
         match from {
@@ -140,7 +144,7 @@ impl TryFrom<ScalarValue> for bool {
 impl TryFrom<ScalarValue> for u8 {
     type Error = Refusal;
 
-    ghost try_from_gives = { λ from taken. IsTaken kind.U8 pos from taken };
+    ghost try_from_gives = { λ from taken. ConvertsTo kind.U8 pos from taken };
 
     fn try_from(from: ScalarValue) -> Result<u8, Refusal> {
         match from {
@@ -153,7 +157,7 @@ impl TryFrom<ScalarValue> for u8 {
 impl TryFrom<ScalarValue> for i32 {
     type Error = Refusal;
 
-    ghost try_from_gives = { λ from taken. IsTaken kind.I32 (λ number. number) from taken };
+    ghost try_from_gives = { λ from taken. ConvertsTo kind.I32 (λ number. number) from taken };
 
     fn try_from(from: ScalarValue) -> Result<i32, Refusal> {
         match from {
@@ -166,7 +170,7 @@ impl TryFrom<ScalarValue> for i32 {
 impl TryFrom<ScalarValue> for i64 {
     type Error = Refusal;
 
-    ghost try_from_gives = { λ from taken. IsTaken kind.I64 (λ number. number) from taken };
+    ghost try_from_gives = { λ from taken. ConvertsTo kind.I64 (λ number. number) from taken };
 
     fn try_from(from: ScalarValue) -> Result<i64, Refusal> {
         match from {
@@ -179,7 +183,7 @@ impl TryFrom<ScalarValue> for i64 {
 impl TryFrom<ScalarValue> for u64 {
     type Error = Refusal;
 
-    ghost try_from_gives = { λ from taken. IsTaken kind.U64 pos from taken };
+    ghost try_from_gives = { λ from taken. ConvertsTo kind.U64 pos from taken };
 
     fn try_from(from: ScalarValue) -> Result<u64, Refusal> {
         match from {

@@ -4,7 +4,8 @@ ghost use Rattle.std.specs.Fmt.{DisplaysOnOk};
 ghost use Rattle.std.specs.List.{list_all};
 ghost use Rattle.seg_types.specs.Keys.{index_key_seen, key_seen, name_seen, new_key_seen};
 ghost use Rattle.seg_types.specs.Names.{ByKind};
-ghost use Rattle.seg_types.specs.Texts.{escape_text, is_bare_name, is_letter, is_name_byte, item_text, key_text, name_text, quoted_text};
+ghost use Rattle.seg_types.specs.Texts.{escape_text, is_bare_name, is_letter, is_name_byte, item_text, key_text};
+ghost use Rattle.seg_types.specs.Texts.{name_text, quoted_text};
 
 use crate::keys::{IndexKey, Key, NewKey};
 use crate::kinds::Kind;

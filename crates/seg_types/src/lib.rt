@@ -19,7 +19,7 @@ pub use conversions::BadName;
 pub use key_texts::is_bare_name;
 pub use keys::{Handle, IndexKey, Key, NewKey};
 pub use kinds::{Class, Kind, MAX_ARRAY_LEN, ScalarKind};
-pub use names::{LONGEST_NAME, Name, is_name};
+pub use names::{MAX_NAME_LEN, Name, is_name};
 pub use plain::{MAX_SPELLING_LEN, Plain, SHORT_SPELLING_LEN};
 pub use refusals::{LineError, Refusal};
 pub use scalars::Scalar;

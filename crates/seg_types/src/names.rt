@@ -5,7 +5,7 @@ ghost use Rattle.std.specs.Str.{chars};
 ghost use Rattle.seg_types.specs.Names.{is_control, is_name, is_printable_name, is_text_name};
 
 /// The most bytes that a name has.
-pub const LONGEST_NAME: usize = 255;
+pub const MAX_NAME_LEN: usize = 255;
 
 /// The most bytes that a name has in formats 0 and 1.
 const LONGEST_PRINTABLE_NAME: usize = 63;
@@ -75,7 +75,7 @@ fn are_printable(bytes: &[u8]) -> bool
 fn is_text_name(bytes: &[u8]) -> bool
     ensures { result ≡ is_text_name bytes.now }
 {
-    if bytes.is_empty() || bytes.len() > LONGEST_NAME {
+    if bytes.is_empty() || bytes.len() > MAX_NAME_LEN {
         return false;
     }
     if are_printable(bytes) {

@@ -1,6 +1,6 @@
 //! Values of a fixed number of bytes, as containers keep them.
 ghost use Rattle.std.specs.Prelude.{◌≡◌, ℕ, ◌≤◌, Bool, true, false, List, Option, Some, length};
-ghost use Rattle.seg_types.specs.Plain.{Reads};
+ghost use Rattle.seg_types.specs.Plain.{Decodes};
 
 /// The most bytes of a spelling.
 pub const MAX_SPELLING_LEN: usize = 4096;
@@ -44,7 +44,7 @@ pub trait Plain: Copy {
     /// The value that the `SIZE` bytes of `from` spell, or `None` where they spell none.
     fn read(from: &[u8]) -> Option<Self>
         requires { length from.now ≡ SIZE }
-        ensures { Reads is_value spelling from.now result };
+        ensures { Decodes is_value spelling from.now result };
 
     /// Whether the value stands before `other`.
     fn precedes(self, other: Self) -> bool
@@ -70,5 +70,6 @@ pub trait Plain: Copy {
     ghost transitive: { (x y z : Self) → order x y ≡ true → order y z ≡ true → order x z ≡ true };
 
     // Of two different values one stands before the other.
-    ghost total: { (x y : Self) → is_value x ≡ true → is_value y ≡ true → order x y ≡ false → order y x ≡ false → x ≡ y };
+    ghost total: { (x y : Self) → is_value x ≡ true → is_value y ≡ true → order x y ≡ false → order y x ≡ false
+        → x ≡ y };
 }

@@ -14,7 +14,7 @@ pub fn values_spell_one()
 /// What is written is read again: the `SIZE` bytes of `bytes` spell `value` then, and are read as it.
 pub fn written_is_read<T: Plain>(value: T, bytes: &mut [u8]) -> Option<T>
     requires { length bytes.old ≡ T.SIZE }
-    ensures written { bytes.new ≡ T.spelling value }
+    ensures output { bytes.new ≡ T.spelling value }
     ensures read { result ≡ Some value }
 {
     value.write(bytes);
@@ -24,7 +24,8 @@ pub fn written_is_read<T: Plain>(value: T, bytes: &mut [u8]) -> Option<T>
 /// The `SIZE` bytes of `from` are read as the whole number that they say, exactly where they spell one of the kind.
 pub fn scalar_is_number<T: Scalar>(from: &[u8]) -> Option<T>
     requires { length from.now ≡ T.SIZE }
-    ensures { MatchOption result (is_spelling T.kind from.now ≡ false) (λ x. (is_spelling T.kind from.now ≡ true) × (T.whole x ≡ value_of T.kind (little_number (size_of T.kind) from.now))) }
+    ensures { MatchOption result (is_spelling T.kind from.now ≡ false) (λ x. (is_spelling T.kind from.now ≡ true)
+        × (T.whole x ≡ value_of T.kind (little_number (size_of T.kind) from.now))) }
 {
     T::read(from)
 }

@@ -1,7 +1,7 @@
 //! Values as callers write them: what one is as a value of a kind is learnt when the program runs.
 ghost use Rattle.std.specs.Prelude.{◌≡◌, MatchOption, ⊤};
 ghost use Rattle.seg_types.specs.Commands.{Literal, Quoted, Truth, Whole, value_of_literal};
-ghost use Rattle.seg_types.specs.Literals.{IsPairOf, IsValueOf, pair_of};
+ghost use Rattle.seg_types.specs.Literals.{ConvertsPair, IsValueOf, pair_values};
 ghost use Rattle.seg_types.specs.Written.{NoText, literal_seen};
 
 use crate::kinds::ScalarKind;
@@ -95,7 +95,7 @@ pub fn pair_of<A: Written, B: Written>(
     at: &A,
     value: &B,
 ) -> Result<(ScalarValue, ScalarValue), Refusal>
-    ensures { IsPairOf keys values (pair_of keys values (A.literal at.now) (B.literal value.now)) result }
+    ensures { ConvertsPair keys values (pair_values keys values (A.literal at.now) (B.literal value.now)) result }
 {
     match (at.value_of(keys), value.value_of(values)) {
         (Ok(new_key), Ok(new_value)) => Ok((new_key, new_value)),

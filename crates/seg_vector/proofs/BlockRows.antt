@@ -1,10 +1,12 @@
 -- Bytes that are written into a block by way of its whole payload.
-use W.{◌≡◌, sym, ap, subst, ◌∙◌, refl, inl, inr, ℕ, ◌+◌, ◌-◌, ◌<◌, ◌≤◌, ◌⊎◌, List, Some, None, length, arith, IsTrue, Cut}
-use W.{Has, IsChanged, IsHeap, block_payload, bytes_of, current, has_room, live_of, part, patched, payload_at, read-part}
+use W.{◌≡◌, sym, ap, subst, ◌∙◌, refl, inl, inr, ℕ, ◌+◌, ◌-◌, ◌<◌, ◌≤◌, ◌⊎◌, List, Some, None, length, arith, IsTrue}
+use W.{Cut}
+use W.{Has, IsChanged, IsHeap, block_payload, bytes_of, current, has_room, live_of, part, patched, payload_at}
+use W.{read-part}
 use W.{room_block}
 use Rattle.std.specs.Prelude.{slice_index}
 use Rattle.std.proofs.lemmas.Bool.{cases_lt}
-use Rattle.raw_region.proofs.Laws.{length-part, length-patched, part-at, part-part, patched-Has, patched-outside}
+use Rattle.raw_region.proofs.Laws.{length-part, length-patched, part-at, part-part, patched-HasBytesAt, patched-outside}
 use Rattle.best_fit.specs.Heap.{LoansWriteOneBlock, payload_len, with_payload}
 use Rattle.seg_vector.proofs.Storage.{live-if}
 use Rattle.seg_vector.proofs.Words as W
@@ -45,7 +47,7 @@ module _ (c d : Cut) (h at n : ℕ) (bs : List ℕ) (inside : h + n ≤ length c
       read-part d.bytes (h + at) (length bs) (omega (arith, inside, long, within))
       ∙ sym (part-part d.bytes h n at (length bs) within) ∙ ap (λ (l : List ℕ). part l at (length bs)) s
       ∙ sym (read-part all at (length bs) (omega (arith, length-patched (part c.bytes h n) at bs fits, fits)))
-      ∙ patched-Has (part c.bytes h n) at bs fits
+      ∙ patched-HasBytesAt (part c.bytes h n) at bs fits
 
 -- the payload of a block is as long as the room that it has
 pub payload-room : (c : Cut) (h n : ℕ) → IsHeap current c.bytes → IsTrue (has_room (live_of c.bytes) h n)
@@ -71,7 +73,8 @@ module _ (law : LoansWriteOneBlock) (c : Cut) (h at : ℕ) (bs : List ℕ) (heap
       let n : ℕ = b.tile.len - 16 in let inside : h + n ≤ length c.bytes = omega arith in
       let is : payload ≡ part c.bytes h n = block_payload c h b in
       let whole : length payload ≡ n = ap length is ∙ length-part c.bytes h n inside in
-      let count : length ws ≡ n = ap length e ∙ length-patched payload at bs (payload-room c h (at + length bs) heap room) ∙ whole in
+      let count : length ws ≡ n = ap length e
+      ∙ length-patched payload at bs (payload-room c h (at + length bs) heap room) ∙ whole in
       let len : payload_len (live_of c.bytes) h ≡ n =
       ap (λ o. elim o as (λ _. ℕ) [ None ↦ 0 | Some x ↦ x.len - 16 ]) b.extent in
       let now = law c h ws heap (live-if h (at + length bs) (live_of c.bytes).extents room) (count ∙ sym len) in

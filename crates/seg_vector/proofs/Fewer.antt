@@ -1,25 +1,30 @@
 -- The three words of a container are written, and its storage is given back or shortened to its elements.
 use Rattle.seg_vector.proofs.Words.{◌≡◌, refl, sym, ap, subst, ◌∙◌, inl, ℕ, ◌+◌, ◌%◌, ◌≤◌, Option, Some, None, List}
 use Rattle.seg_vector.proofs.Words.{arith, ◌≢◌, ◌*◌, min, ◌∷◌, length, ◌==◌, IsTrue, option_map, option_to_list, nat_lt}
-use Rattle.seg_vector.proofs.Words.{and_from, cond-false, cond-true, eq-eqb, le-leb, leb-true, lt-ltb, ne_eqb, Cut}
-use Rattle.seg_vector.proofs.Words.{bytes_of, word_at, Has, current, SameBut-word, link_at, SameBut-link, IsExchanged}
-use Rattle.seg_vector.proofs.Words.{Extent, LiveSet, handle, holds, shorter, IsChanged, IsReleased, extent_at, has_room}
-use Rattle.seg_vector.proofs.Words.{live_of, IsResized, IsShortened, Table, no_table, same_role, serves, changed-live}
+use Rattle.seg_vector.proofs.Words.{and_from, cond-false, cond-true, eq-eqb, le-leb, leb-true, lt-ltb, ne_eqb}
+use Rattle.seg_vector.proofs.Words.{WindowState}
+use Rattle.seg_vector.proofs.Words.{bytes_of, word_at, HasBytesAt, current, SameBytesExcept-word, link_at}
+use Rattle.seg_vector.proofs.Words.{SameBytesExcept-link, ExchangesBlocks}
+use Rattle.seg_vector.proofs.Words.{Extent, LiveSet, handle, holds, shorter, ChangesBytes, Deallocates, extent_at}
+use Rattle.seg_vector.proofs.Words.{has_room}
+use Rattle.seg_vector.proofs.Words.{live_of, ResizesBlock, ShrinksInPlace, BackingArray, no_backing, same_role, serves}
+use Rattle.seg_vector.proofs.Words.{changed-live}
 use Rattle.seg_vector.proofs.Words.{laid-heap, read-same, shorter-IsShorter, spread-refl, exchange-released}
-use Rattle.seg_vector.proofs.Words.{exchange-resized, Role, Storage, Place, IsGivenBack, IsFitted, Stands, place_at, []}
+use Rattle.seg_vector.proofs.Words.{exchange-resized, Role, Storage, Place, FreesStorageOk, ShrinksStorageOk}
+use Rattle.seg_vector.proofs.Words.{IsContainer, place_at, []}
 use Rattle.seg_vector.proofs.Runs.{AreHeadWords, IsRun, beside-head, head-gaps, head-wider, none-some, room-head}
 use Rattle.seg_vector.proofs.Runs.{run-headed, run-stands, run-swapped, same-some, stands-run, table, table-full}
 use Rattle.seg_vector.proofs.{Words.nil_from_length, Words.KeepsGaps, Storage.storage-role}
 use Rattle.raw_region.proofs.Bytes.{more-times}
-use Rattle.best_fit.specs.Table.{cut_table}
+use Rattle.best_fit.specs.Table.{shrunk_backing}
 
 -- ---- a container without a place
 
-pub started : {old s1 s2 new : Cut} (p : Place) (each : ℕ) → p.at % 8 ≡ 0
-    → IsTrue (has_room (live_of old.bytes) p.handle (p.at + 24)) → IsChanged current old new (place_at p) 24
-    → link_at (bytes_of s1.bytes) (p.handle + p.at) ≡ None → IsChanged current s1 s2 (p.handle + (p.at + 8)) 8
-    → word_at (bytes_of s2.bytes) (p.handle + (p.at + 8)) ≡ 0 → IsChanged current s2 new (p.handle + (p.at + 16)) 8
-    → word_at (bytes_of new.bytes) (p.handle + (p.at + 16)) ≡ 0 → Stands new.bytes p each 0 no_table []
+pub started : {old s1 s2 new : WindowState} (p : Place) (each : ℕ) → p.at % 8 ≡ 0
+    → IsTrue (has_room (live_of old.bytes) p.handle (p.at + 24)) → ChangesBytes current old new (place_at p) 24
+    → link_at (bytes_of s1.bytes) (p.handle + p.at) ≡ None → ChangesBytes current s1 s2 (p.handle + (p.at + 8)) 8
+    → word_at (bytes_of s2.bytes) (p.handle + (p.at + 8)) ≡ 0 → ChangesBytes current s2 new (p.handle + (p.at + 16)) 8
+    → word_at (bytes_of new.bytes) (p.handle + (p.at + 16)) ≡ 0 → IsContainer new.bytes p each 0 no_backing []
 started {old} {s1} {s2} {new} p each a r c link c2 len c3 cap =
     let m1 = bytes_of s1.bytes in let m2 = bytes_of s2.bytes in let m3 = bytes_of new.bytes in
     let at = place_at p in let one : p.handle + (p.at + 8) ≡ at + 8 = omega arith in
@@ -27,9 +32,10 @@ started {old} {s1} {s2} {new} p each a r c link c2 len c3 cap =
     record {
       heap = laid-heap _ _ c.live;
       words = record {
-        link = SameBut-link m2 m3 _ 8 at c3.rest (inl (omega arith))
-            ∙ SameBut-link m1 m2 _ 8 at c2.rest (inl (omega arith)) ∙ link;
-        len_word = SameBut-word m2 m3 _ 8 (at + 8) c3.rest (inl (omega arith)) ∙ subst (λ k. word_at m2 k ≡ 0) one len;
+        link = SameBytesExcept-link m2 m3 _ 8 at c3.rest (inl (omega arith))
+            ∙ SameBytesExcept-link m1 m2 _ 8 at c2.rest (inl (omega arith)) ∙ link;
+        len_word = SameBytesExcept-word m2 m3 _ 8 (at + 8) c3.rest (inl (omega arith))
+            ∙ subst (λ k. word_at m2 k ≡ 0) one len;
         capacity = subst (λ k. word_at m3 k ≡ 0) two cap;
         storage = refl;
       };
@@ -44,20 +50,22 @@ started {old} {s1} {s2} {new} p each a r c link c2 len c3 cap =
 -- ---- the storage is given back
 
 -- the words are those of a container without a place
-emptied : {old mid : Cut} {p : Place} {each len : ℕ} {t : Table} {bytes : List ℕ} → Stands old.bytes p each len t bytes
-    → IsChanged current old mid (place_at p) 24 → Stands mid.bytes p each 0 no_table []
-    → IsRun old mid p (option_to_list t.extent) (option_to_list t.extent) 0 no_table
-emptied {old} s c1 e = run-headed {k = 0} {u = no_table} (stands-run old s) c1
+emptied : {old mid : WindowState} {p : Place} {each len : ℕ} {t : BackingArray} {bytes : List ℕ}
+    → IsContainer old.bytes p each len t bytes
+    → ChangesBytes current old mid (place_at p) 24 → IsContainer mid.bytes p each 0 no_backing []
+    → IsRun old mid p (option_to_list t.extent) (option_to_list t.extent) 0 no_backing
+emptied {old} s c1 e = run-headed {k = 0} {u = no_backing} (stands-run old s) c1
     (record { link = e.words.link; len_word = e.words.len_word; capacity = e.words.capacity })
 
-pub given-back : {old mid new : Cut} {p : Place} {each len c g : ℕ} {o : Option Extent} {bytes : List ℕ}
-    → Stands old.bytes p each len (table c o) bytes → link_at (bytes_of old.bytes) (place_at p) ≡ Some g
-    → IsChanged current old mid (place_at p) 24 → Stands mid.bytes p each 0 no_table [] → IsReleased current mid new g
-    → IsGivenBack old new p each (table c o)
+pub given-back : {old mid new : WindowState} {p : Place} {each len c g : ℕ} {o : Option Extent} {bytes : List ℕ}
+    → IsContainer old.bytes p each len (table c o) bytes → link_at (bytes_of old.bytes) (place_at p) ≡ Some g
+    → ChangesBytes current old mid (place_at p) 24 → IsContainer mid.bytes p each 0 no_backing []
+    → Deallocates current mid new g
+    → FreesStorageOk old new p each (table c o)
 given-back {o = None} s link c1 e r = none-some s.words.link link
 given-back {old} {mid} {new} {o = Some x} s link c1 e r =
     let g_is = same-some (sym link ∙ s.words.link) in
-    let gone = exchange-released current mid new x 0 0 (subst (IsReleased current mid new) g_is r) in
+    let gone = exchange-released current mid new x 0 0 (subst (Deallocates current mid new) g_is r) in
     let run = run-swapped [] (spread-refl (x ∷ [])) (emptied s c1 e) gone ((λ f. s.own.1 (sym f)), tt) in
     record {
       change = run.change;
@@ -65,10 +73,10 @@ given-back {old} {mid} {new} {o = Some x} s link c1 e r =
       stands = run-stands [] s run refl (omega arith) (omega arith) refl;
     }
 
-pub given-nothing : {old new : Cut} {p : Place} {each len c : ℕ} {o : Option Extent} {bytes : List ℕ}
-    → Stands old.bytes p each len (table c o) bytes → link_at (bytes_of old.bytes) (place_at p) ≡ None
-    → IsChanged current old new (place_at p) 24 → Stands new.bytes p each 0 no_table []
-    → IsGivenBack old new p each (table c o)
+pub given-nothing : {old new : WindowState} {p : Place} {each len c : ℕ} {o : Option Extent} {bytes : List ℕ}
+    → IsContainer old.bytes p each len (table c o) bytes → link_at (bytes_of old.bytes) (place_at p) ≡ None
+    → ChangesBytes current old new (place_at p) 24 → IsContainer new.bytes p each 0 no_backing []
+    → FreesStorageOk old new p each (table c o)
 given-nothing {p} {o = None} s link c1 e =
     record { change = (emptied s c1 e).change; gaps = λ same. head-gaps p s.room c1; stands = e }
 given-nothing {o = Some x} s link c1 e = none-some link s.words.link
@@ -80,46 +88,47 @@ none-left (Some x) n = absurd (n x refl)
 
 -- ---- what the table is cut to
 
-cut-none : (l : LiveSet) (each n : ℕ) (t : Table) → n ≡ 0 → cut_table l each n t ≡ no_table
-unfolding cut_table
-cut-none l each n t e = cond-true (n == 0) no_table
+cut-none : (l : LiveSet) (each n : ℕ) (t : BackingArray) → n ≡ 0 → shrunk_backing l each n t ≡ no_backing
+unfolding shrunk_backing
+cut-none l each n t e = cond-true (n == 0) no_backing
     (record { capacity = n; extent = option_map (λ (x : Extent). shorter l x (each * n)) t.extent }) (eq-eqb n 0 e)
 
-pub cut-some : (l : LiveSet) (each n c : ℕ) (x : Extent) → 1 ≤ n → cut_table l each n (table c (Some x)) ≡ table n
+pub cut-some : (l : LiveSet) (each n c : ℕ) (x : Extent) → 1 ≤ n → shrunk_backing l each n (table c (Some x)) ≡ table n
     (Some (shorter l x (each * n)))
-unfolding cut_table
-cut-some l each n c x f = cond-false (n == 0) no_table (table n (Some (shorter l x (each * n))))
+unfolding shrunk_backing
+cut-some l each n c x f = cond-false (n == 0) no_backing (table n (Some (shorter l x (each * n))))
     (ne_eqb n 0 (λ e. omega (arith, e, f)))
 
 -- ---- without elements
 
-pub fits-nothing : {old new : Cut} {p : Place} {each len : ℕ} {t : Table} {bytes : List ℕ}
-    → Stands old.bytes p each len t bytes → len ≡ 0 → IsGivenBack old new p each t → IsFitted old new p each len t bytes
+pub fits-nothing : {old new : WindowState} {p : Place} {each len : ℕ} {t : BackingArray} {bytes : List ℕ}
+    → IsContainer old.bytes p each len t bytes → len ≡ 0 → FreesStorageOk old new p each t
+    → ShrinksStorageOk old new p each len t bytes
 fits-nothing {old} {new} {p} {each} {len} {t} {bytes} s e r =
     let cut = cut-none (live_of old.bytes) each len t e in
     let none : each * len ≡ 0 = ap (λ k. each * k) e ∙ (let z : each * 0 ≡ 0 = omega arith in z) in
     let empty = nil_from_length bytes (s.long ∙ none) in
-    subst (λ (bs : List ℕ). IsFitted old new p each len t bs) (sym empty) (record {
-      change = subst (λ (u : Table). IsExchanged current old new (place_at p) 24 (option_to_list t.extent)
+    subst (λ (bs : List ℕ). ShrinksStorageOk old new p each len t bs) (sym empty) (record {
+      change = subst (λ (u : BackingArray). ExchangesBlocks current old new (place_at p) 24 (option_to_list t.extent)
           (option_to_list u.extent)) (sym cut) r.change;
-      gaps = λ same. r.gaps (same ∙ ap (λ (u : Table). u.extent) cut);
-      stands = subst (λ (u : Table). Stands new.bytes p each len u []) (sym cut)
-          (subst (λ k. Stands new.bytes p each k no_table []) (sym e) r.stands);
+      gaps = λ same. r.gaps (same ∙ ap (λ (u : BackingArray). u.extent) cut);
+      stands = subst (λ (u : BackingArray). IsContainer new.bytes p each len u []) (sym cut)
+          (subst (λ k. IsContainer new.bytes p each k no_backing []) (sym e) r.stands);
     })
 
 -- ---- with elements
 
 -- the block is the shorter one of its own
-resized-here : {b e : Cut} (l : LiveSet) {x : Extent} {g n : ℕ} → live_of b.bytes ≡ l → extent_at l g ≡ Some x
-    → IsShortened current b e g n → IsResized current b e x (shorter l x n)
+resized-here : {b e : WindowState} (l : LiveSet) {x : Extent} {g n : ℕ} → live_of b.bytes ≡ l → extent_at l g ≡ Some x
+    → ShrinksInPlace current b e g n → ResizesBlock current b e x (shorter l x n)
 resized-here {b} {e} l {x} {g} {n} live found s =
     let same = same-some (sym s.found ∙ ap (λ (k : LiveSet). extent_at k g) live ∙ found) in
-    subst (λ (k : LiveSet). IsResized current b e x (shorter k x n)) live
-    (subst (λ (y : Extent). IsResized current b e y (shorter (live_of b.bytes) y n)) same s.shortened)
+    subst (λ (k : LiveSet). ResizesBlock current b e x (shorter k x n)) live
+    (subst (λ (y : Extent). ResizesBlock current b e y (shorter (live_of b.bytes) y n)) same s.shortened)
 
 -- where the shorter block is the block itself
-unshortened : {b e : Cut} (l : LiveSet) {x : Extent} {g n : ℕ} → live_of b.bytes ≡ l → extent_at l g ≡ Some x
-    → (s : IsShortened current b e g n) → shorter l x n ≡ x → shorter (live_of b.bytes) s.extent n ≡ s.extent
+unshortened : {b e : WindowState} (l : LiveSet) {x : Extent} {g n : ℕ} → live_of b.bytes ≡ l → extent_at l g ≡ Some x
+    → (s : ShrinksInPlace current b e g n) → shorter l x n ≡ x → shorter (live_of b.bytes) s.extent n ≡ s.extent
 unshortened {b} l {x} {g} {n} live found s is =
     let same = same-some (sym s.found ∙ ap (λ (k : LiveSet). extent_at k g) live ∙ found) in
     (λ i. shorter (live i) (same i) n) ∙ is ∙ sym same
@@ -143,10 +152,11 @@ short l x n role big =
           (subst (λ (r : Role). IsTrue (same_role r Storage)) (sym (ap (λ (z : Extent). z.role) sh.same)) role) enough;
     }
 
-pub fitted : {old mid new : Cut} {p : Place} {each len c g : ℕ} {o : Option Extent} {bytes : List ℕ} → 1 ≤ len
-    → Stands old.bytes p each len (table c o) bytes → link_at (bytes_of old.bytes) (place_at p) ≡ Some g
-    → IsChanged current old mid (p.handle + (p.at + 16)) 8 → word_at (bytes_of mid.bytes) (p.handle + (p.at + 16)) ≡ len
-    → IsShortened current mid new g (each * len) → IsFitted old new p each len (table c o) bytes
+pub fitted : {old mid new : WindowState} {p : Place} {each len c g : ℕ} {o : Option Extent} {bytes : List ℕ} → 1 ≤ len
+    → IsContainer old.bytes p each len (table c o) bytes → link_at (bytes_of old.bytes) (place_at p) ≡ Some g
+    → ChangesBytes current old mid (p.handle + (p.at + 16)) 8
+    → word_at (bytes_of mid.bytes) (p.handle + (p.at + 16)) ≡ len
+    → ShrinksInPlace current mid new g (each * len) → ShrinksStorageOk old new p each len (table c o) bytes
 fitted {o = None} some s link c1 word sh = none-some s.words.link link
 fitted {old} {mid} {new} {p} {each} {len} {c} {g} {o = Some x} {bytes} some s link c1 word sh =
     let l = live_of old.bytes in let m = bytes_of old.bytes in let mi = bytes_of mid.bytes in
@@ -157,12 +167,12 @@ fitted {old} {mid} {new} {p} {each} {len} {c} {g} {o = Some x} {bytes} some s li
     let q = short l x n (storage-role each c (Some x) s.table) (omega (arith, full, less)) in
     let wide = head-wider p c1 (omega arith) (omega arith) in
     let one = run-headed {k = len} {u = table len (Some x)} (stands-run old s) wide (record {
-      link = SameBut-link m mi _ 8 at c1.rest (inl (omega arith)) ∙ s.words.link;
-      len_word = SameBut-word m mi _ 8 (at + 8) c1.rest (inl (omega arith)) ∙ s.words.len_word;
+      link = SameBytesExcept-link m mi _ 8 at c1.rest (inl (omega arith)) ∙ s.words.link;
+      len_word = SameBytesExcept-word m mi _ 8 (at + 8) c1.rest (inl (omega arith)) ∙ s.words.len_word;
       capacity = ap (word_at mi) (omega arith) ∙ word;
     }) in
     let r = resized-here {b = mid} {e = new} l {g = handle x} {n = n} (changed-live current old mid at 24 wide) s.own.0
-    (subst (λ k. IsShortened current mid new k n) g_is sh) in
+    (subst (λ k. ShrinksInPlace current mid new k n) g_is sh) in
     let two = run-swapped [] (spread-refl (x ∷ [])) one (exchange-resized current mid new x y 0 0 q.begins r)
     (other, tt) in
     let words : AreHeadWords m' at len (table len (Some y)) = record {
@@ -174,19 +184,21 @@ fitted {old} {mid} {new} {p} {each} {len} {c} {g} {o = Some x} {bytes} some s li
     record { change = two.change; heap = two.heap; head = two.head; words = words } in
     let k1 = beside-head (handle x) s.heap (room-head old p s.heap s.room) wide s.own.0 other in let total = s.long in
     let least : min x.len y.len ≡ y.len = omega (arith, q.less) in
-    let stored : Has mi (handle x) bytes = read-same m mi _ _ (handle x) (length bytes) k1.payload (omega arith)
+    let stored : HasBytesAt mi (handle x) bytes = read-same m mi _ _ (handle x) (length bytes) k1.payload (omega arith)
     (omega (arith, full, less, total)) ∙ s.words.storage in
-    let carried : Has m' (handle x) bytes = read-same mi m' _ _ (handle x) (length bytes) r.still.payload (omega arith)
+    let carried : HasBytesAt m' (handle x) bytes =
+    read-same mi m' _ _ (handle x) (length bytes) r.still.payload (omega arith)
     (omega (arith, least, q.long, total)) ∙ stored in
     let serving = and_from (nat_lt 0 len) (serves y Storage n) (lt-ltb 0 len (omega (arith, some))) q.serves_it in
     let stands = run-stands bytes s three serving (omega arith) s.long
-    (subst (λ k. Has m' k bytes) (sym q.begins) carried) in
+    (subst (λ k. HasBytesAt m' k bytes) (sym q.begins) carried) in
     let cut = cut-some l each len c x some in
     record {
-      change = subst (λ (u : Table). IsExchanged current old new at 24 (x ∷ []) (option_to_list u.extent)) (sym cut)
+      change = subst (λ (u : BackingArray).
+          ExchangesBlocks current old new at 24 (x ∷ []) (option_to_list u.extent)) (sym cut)
           three.change;
-      gaps = λ same. subst (λ (v : Cut). KeepsGaps old v) (sym (sh.same (unshortened l {x = x} {g = g} {n = n}
+      gaps = λ same. subst (λ (v : WindowState). KeepsGaps old v) (sym (sh.same (unshortened l {x = x} {g = g} {n = n}
           (changed-live current old mid at 24 wide) (subst (λ k. extent_at l k ≡ Some x) (sym g_is) s.own.0) sh
-          (same-some (sym (same ∙ ap (λ (u : Table). u.extent) cut)))))) (head-gaps p s.room wide);
-      stands = subst (λ (u : Table). Stands new.bytes p each len u bytes) (sym cut) stands;
+          (same-some (sym (same ∙ ap (λ (u : BackingArray). u.extent) cut)))))) (head-gaps p s.room wide);
+      stands = subst (λ (u : BackingArray). IsContainer new.bytes p each len u bytes) (sym cut) stands;
     }

@@ -10,14 +10,18 @@ use W.{false, le-leb, lt-leb, lt-ltb, eq-eqb, Memory, Extent, handle, end_of, ot
 use W.{Option, length, IsTrue, IfSome, nat_lt, nat_le, resized, LaysOut, live_of, IsSound, IsGrown, Refusal, NoSpace}
 use W.{append-nil, option_map, IsGivenRoom, without_all, IsExchanged, proper_from, is_live_in, spread-refl, IsRewritten}
 use W.{option_to_list, AllByRecursion, IsNotGivenRoom, all-same-but, all_keep_proper, capacity_for_one, nil_from_length}
-use W.{KeepsGaps, gaps-trans, and_parts, take-take, read-part, exchanged, IsRegrown, IsChanged, extent_at, same_role, all-in-use, live-rises}
-use W.{◌≢◌, IsFound, Rising, found-none, found-without, or_left, SameBut, word_at, patched, link_at, Storage, current, LiveSet, is_hole, too_long, place_at, take-nil}
+use W.{KeepsGaps, gaps-trans, and_parts, take-take, read-part, exchanged, IsRegrown, IsChanged, extent_at, same_role}
+use W.{all-in-use, live-rises}
+use W.{◌≢◌, IsFound, Rising, found-none, found-without, or_left, SameBut, word_at, patched, link_at, Storage, current}
+use W.{LiveSet, is_hole, too_long, place_at, take-nil}
 use Rattle.seg_vector.proofs.Runs.{IsRun, beside-head, block-written, head-room, head-wider, len-written, head-gaps}
-use Rattle.seg_vector.proofs.Runs.{came-found, none-some, own-facts, room-head, run-found, run-headed, run-stands, run-swapped}
+use Rattle.seg_vector.proofs.Runs.{came-found, none-some, own-facts, room-head, run-found, run-headed, run-stands}
+use Rattle.seg_vector.proofs.Runs.{run-swapped}
 use Rattle.seg_vector.proofs.Runs.{same-some, serves-full, spread-nil, stands-none-of, stands-run, table, table-full}
-use Rattle.raw_region.proofs.Bytes.{more-times, Has-append, Has-take, Has-drop, Has-beside, Has-patched, length-patch}
+use Rattle.raw_region.proofs.Bytes.{more-times, HasBytesAt-append, HasBytesAt-take, HasBytesAt-drop, HasBytesAt-beside}
+use Rattle.raw_region.proofs.Bytes.{HasBytesAt-patched, length-patch}
 use Rattle.best_fit.specs.{Extents.is_proper, Fit.regrow}
-use Rattle.seg_vector.specs.Vector.{grown_table}
+use Rattle.seg_vector.specs.Vector.{grown_backing}
 use Rattle.seg_vector.proofs.Words as W
 
 -- ---- what stands
@@ -48,14 +52,14 @@ stands-block {b} {p} {t} s = own-block (live_of b) p.handle t.extent s.own
 
 -- ---- the table
 
-pub grown-same : (l : LiveSet) (each n : ℕ) (t : Table) → n ≤ t.capacity → grown_table l each n t ≡ Some t
-unfolding grown_table
+pub grown-same : (l : LiveSet) (each n : ℕ) (t : Table) → n ≤ t.capacity → grown_backing l each n t ≡ Some t
+unfolding grown_backing
 grown-same l each n t f = ap (λ b. if b then Some t else option_map (λ x. table n (Some x)) (regrow l t.extent
     (each * n))) (le-leb n t.capacity f)
 
 pub grown-more : (l : LiveSet) (each n : ℕ) (t : Table) → t.capacity < n
-    → grown_table l each n t ≡ option_map (λ x. table n (Some x)) (regrow l t.extent (each * n))
-unfolding grown_table
+    → grown_backing l each n t ≡ option_map (λ x. table n (Some x)) (regrow l t.extent (each * n))
+unfolding grown_backing
 grown-more l each n t f = ap (λ b. if b then Some t else option_map (λ x. table n (Some x)) (regrow l t.extent
     (each * n))) (lt-leb n t.capacity f)
 
@@ -153,7 +157,8 @@ grows-more {old} {mid} {new} {p} {each} n {len} {t = t} {bytes} more s r w =
       table = table n (Some y);
       grown = grown-more l each n t more ∙ ap (option_map (λ x. table n (Some x))) r.regrown;
       change = done.change;
-      gaps = λ same. head-gaps p s.room (subst (λ (c : Cut). IsChanged current c new (place_at p) 24) (r.same same) w.change);
+      gaps = λ same. head-gaps p s.room
+          (subst (λ (c : Cut). IsChanged current c new (place_at p) 24) (r.same same) w.change);
       stands = run-stands bytes s done full (omega (arith, s.fits, more)) s.long (read-same _ _ _ _ (handle y)
           (length bytes) stays.payload (omega arith) (omega (arith, long, less, total)) ∙ stored);
       enough = λ less. absurd (omega (arith, less, more));
@@ -335,8 +340,9 @@ table-if l n t false None e f = absurd (cc)
 table-if l n t {u} false (Some x) e f = let same : table n (Some x) ≡ u = cc in subst (λ (v : Table). n ≤ v.capacity)
     same (omega arith)
 
-pub table-places : (l : LiveSet) (each n : ℕ) (t : Table) {u : Table} → grown_table l each n t ≡ Some u → n ≤ u.capacity
-unfolding grown_table
+pub table-places : (l : LiveSet) (each n : ℕ) (t : Table) {u : Table} → grown_backing l each n t ≡ Some u
+    → n ≤ u.capacity
+unfolding grown_backing
 table-places l each n t e = table-if l n t (nat_le n t.capacity) (regrow l t.extent (each * n)) refl e
 
 -- gaps that stay after its growth, in the block that there was
@@ -384,7 +390,7 @@ overwritten-all {new} {p} {each} {len} {g} i n {t} {bytes} more s f e link c1 co
     let inside : each * i + length more ≤ length bytes = omega (arith, within, step, total, e) in
     rewritten (each * i) len (patched bytes (each * i) more) s link c1 (omega (arith, inside, total, less)) s.fits
     (length-patch bytes (each * i) more inside ∙ s.long)
-    (Has-patched g (each * i) bytes more inside c1.rest (storage-has s link) content)
+    (HasBytesAt-patched g (each * i) bytes more inside c1.rest (storage-has s link) content)
     (unchanged new (p.handle + (p.at + 8)) 8 (laid-heap _ _ c1.live)) (ap (word_at (bytes_of new.bytes)) (omega arith)
     ∙ (written-run (each * i) s link c1 (omega (arith, inside, total, less))).words.len_word)
 
@@ -404,7 +410,7 @@ cut-storage k {o = None} {bytes} s f c2 = ap (take k) s.words.storage ∙ take-n
 cut-storage {old} {new} {p} {each} {len} {c} k {o = Some x} {bytes} s f c2 =
     let full = table-full each c x s.table in let less = more-times each len c s.fits in let total = s.long in
     let stays = beside-head (handle x) s.heap (room-head old p s.heap s.room) c2 s.own.0 (λ e. s.own.1 (sym e)) in
-    Has-take (bytes_of new.bytes) (handle x) k bytes f (read-same _ _ _ _ (handle x) (length bytes) stays.payload
+    HasBytesAt-take (bytes_of new.bytes) (handle x) k bytes f (read-same _ _ _ _ (handle x) (length bytes) stays.payload
     (omega arith) (omega (arith, full, less, total)) ∙ s.words.storage)
 
 pub truncated : {old new : Cut} {p : Place} {each len : ℕ} (n : ℕ) {t : Table} {bytes : List ℕ}
@@ -555,7 +561,7 @@ extended {old} {s1} {each} {len} {g} n {t} {bytes} more s f long link c1 content
     ∙ storage-has s link in
     let behind : Has ms (g + length bytes) more = subst (λ k. Has ms k more) (omega (arith, total)) content in
     rewritten (each * len) (len + n) (bytes ++ more) s link c1 (omega (arith, long, less, step)) f
-    (omega (arith, sum, total, long, step)) (Has-append ms g bytes more front behind) c2 word
+    (omega (arith, sum, total, long, step)) (HasBytesAt-append ms g bytes more front behind) c2 word
 
 pub extended-not : (c : Cut) {p : Place} {each len k : ℕ} (n : ℕ) {o : Option Extent} {bytes : List ℕ} (more : List ℕ)
     → Stands c.bytes p each len (table k o) bytes → len + n ≤ k → length more ≡ each * n
@@ -608,14 +614,14 @@ erased {old} {s1} {each} {len} {g} i {t} {bytes} s f link c1 moved c2 word =
     let less = more-times each len t.capacity s.fits in
     let shorter : each * (len - 1) ≡ each * i + n = ap (λ j. each * j) (let e : len - 1 ≡ i + (len - i - 1) = omega
     (arith, f) in e) ∙ (let e : each * (i + (len - i - 1)) ≡ each * i + each * (len - i - 1) = omega arith in e) in
-    let one = Has-beside g front c1.rest (inl (omega (arith, before)))
-    (Has-take m g (each * i) bytes (omega (arith, total, sum)) has) in
-    let rest = Has-drop m g k bytes (omega (arith, total, sum)) has in
+    let one = HasBytesAt-beside g front c1.rest (inl (omega (arith, before)))
+    (HasBytesAt-take m g (each * i) bytes (omega (arith, total, sum)) has) in
+    let rest = HasBytesAt-drop m g k bytes (omega (arith, total, sum)) has in
     let two : Has ms (g + each * i) back = ap (read ms (g + each * i)) behind ∙ moved ∙ ap (read m (g + k))
     (sym behind) ∙ rest in
     rewritten (each * i) (len - 1) (front ++ back) s link c1 (omega (arith, sum, less)) (omega (arith, s.fits))
     (omega (arith, length-append front back, before, behind, shorter))
-    (Has-append ms g front back one (subst (λ j. Has ms (g + j) back) (sym before) two)) c2 word
+    (HasBytesAt-append ms g front back one (subst (λ j. Has ms (g + j) back) (sym before) two)) c2 word
 
 -- ---- an element is put in
 
@@ -651,17 +657,19 @@ put_in {old} {s1} {s2} {each} {len} {g} i {t} {bytes} more s f room e link c1 mo
       live = subst (LaysOut current s2.bytes) (changed-live _ old s1 _ n c1) c2.live;
       rest = both-within (omega arith) c1.rest c2.rest;
     } in
-    let one = Has-beside g front c.rest (inl (omega (arith, before)))
-    (Has-take m g (each * i) bytes (omega (arith, total, sum)) has) in
-    let rest = Has-drop m g (each * i) bytes (omega (arith, total, sum)) has in
+    let one = HasBytesAt-beside g front c.rest (inl (omega (arith, before)))
+    (HasBytesAt-take m g (each * i) bytes (omega (arith, total, sum)) has) in
+    let rest = HasBytesAt-drop m g (each * i) bytes (omega (arith, total, sum)) has in
     let up : Has m1 (g + (each * i + each)) back = ap (read m1 (g + (each * i + each))) behind ∙ moved
     ∙ ap (read m (g + each * i)) (sym behind) ∙ rest in
-    let two = Has-beside (g + (each * i + each)) back c2.rest (inr (omega arith)) up in
-    let three = Has-append ms (g + each * i) more back content (subst (λ j. Has ms j back) (omega (arith, e)) two) in
+    let two = HasBytesAt-beside (g + (each * i + each)) back c2.rest (inr (omega arith)) up in
+    let three = HasBytesAt-append ms (g + each * i) more back content
+    (subst (λ j. Has ms j back) (omega (arith, e)) two) in
     rewritten (each * i) (len + 1) (front ++ (more ++ back)) s link c (omega (arith, sum, less, step))
     (omega (arith, room))
     (omega (arith, length-append front (more ++ back), length-append more back, before, behind, e, sum, step))
-    (Has-append ms g front (more ++ back) one (subst (λ j. Has ms (g + j) (more ++ back)) (sym before) three)) c3 word
+    (HasBytesAt-append ms g front (more ++ back) one
+    (subst (λ j. Has ms (g + j) (more ++ back)) (sym before) three)) c3 word
 
 -- ---- what the calls of the heap ask for
 

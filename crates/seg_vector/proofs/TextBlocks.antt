@@ -12,7 +12,8 @@ use W.{found-inserted, found-none, found-room, live-rises, middle-first, rising-
 use W.{all_of-inserted, but-apart, exchanged-live, found-without, inserted-append, laid-heap, without-inserted, kept}
 use W.{kept-found, word-same, block_payload, room_block, exchange-next, exchange-released, exchange-same, spread-refl}
 use W.{IsSound, live-sound, Has-same, SameBut-word, read-part, SameBut-link, Place, place_at, Stands, IsServed}
-use W.{AreReleased, KeepsGaps, IsSwapped, AreHeldElements, IsHeldElement, AreSameElements, IsSameElement, AreEvenLinks, IsHeldText, IsTexts}
+use W.{AreReleased, KeepsGaps, IsSwapped, AreHeldElements, IsHeldElement, AreSameElements, IsSameElement, AreEvenLinks}
+use W.{IsHeldText, IsTexts}
 use W.{text_blocks, IsTextsNow, IsTextElement, AreInArray, IsOwnedText, OwnedText, AreTextLinks, []}
 use Rattle.seg_vector.proofs.Runs.{AreHeadWords, IsHead, IsRun, changed-both, none-some, same-some, came-found}
 use Rattle.seg_vector.proofs.Runs.{room-head, own-facts, facts-own}

@@ -8,17 +8,20 @@ use W.{length-take, IsAllocated, spread-refl, IsGivenBack, text_blocks, placed_t
 use W.{remove, IfSome, eq-eqb, ne_eqb, Memory, Extent, handle, end_of, IsHeap, IsNone, shorter, IsTexts, length-append}
 use W.{option_to_list, AllByRecursion, allocated-room, exchange-taken, AreSameElements, nil_from_length, if◌then◌else◌}
 use W.{append_assoc, length-drop, exchange-next, place-serves, IsHeldElement, IsTextPlaced, AreTextLinks, word_at}
-use W.{AreReleased, KeepsGaps, IsExchanged, exchanged-live, gaps-payload, gaps-then, gaps-trans, current, link_at, LiveSet, live_of, no_table, is_table, IsFound, Storage, IsFitted, place_at, IsServed}
+use W.{AreReleased, KeepsGaps, IsExchanged, exchanged-live, gaps-payload, gaps-then, gaps-trans, current, link_at}
+use W.{LiveSet, live_of, no_table, is_table, IsFound, Storage, IsFitted, place_at, IsServed}
 use Rattle.seg_vector.proofs.Runs.{AreHeadWords, IsHead, IsRun, beside-head, block-written, head-kept, head-room}
 use Rattle.seg_vector.proofs.Runs.{head-wider, len-written, none-some, room-head, run-found, run-headed, run-swapped}
-use Rattle.seg_vector.proofs.Runs.{head-gaps, same-some, table, table-full, words-kept, all-as, came-found, came-others, all-kept}
+use Rattle.seg_vector.proofs.Runs.{head-gaps, same-some, table, table-full, words-kept, all-as, came-found, came-others}
+use Rattle.seg_vector.proofs.Runs.{all-kept}
 use Rattle.seg_vector.proofs.TextBlocks.{none-stands, IsArrayLeft, all-split, array-left, drop-at, element-beside}
 use Rattle.seg_vector.proofs.TextBlocks.{element-in, element-trans, even-block, found-texts, held-element, links-edited}
 use Rattle.seg_vector.proofs.TextBlocks.{links-moved, no-array, none-of, of-none, one-of, run-begin, swapped-none}
-use Rattle.seg_vector.proofs.TextBlocks.{behind-array, fresh-none, no-extent, same-extent, texts-between, held-texts, served-texts, owned-same, same-loose}
+use Rattle.seg_vector.proofs.TextBlocks.{behind-array, fresh-none, no-extent, same-extent, texts-between, held-texts}
+use Rattle.seg_vector.proofs.TextBlocks.{served-texts, owned-same, same-loose}
 use Rattle.seg_vector.proofs.{Runs.all-found-kept, Runs.none-of-none, Runs.spread-nil, Fewer.cut-some, Typed.set-pieces}
 use Rattle.raw_region.proofs.Bytes.{length-read}
-use Rattle.best_fit.specs.Table.{cut_table}
+use Rattle.best_fit.specs.Table.{shrunk_backing}
 use Rattle.seg_vector.proofs.Words as W
 
 -- ---- the elements of the array
@@ -56,7 +59,8 @@ pub cleared : {old mid new : Cut} {p : Place} {ps : List OwnedText} {t : Table} 
     → word_at (bytes_of new.bytes) (p.handle + (p.at + 8)) ≡ 0
     → IsTextsNow old new p (option_to_list t.extent ++ text_blocks ps) (option_to_list t.extent) [] t
 cleared {old} {mid} {new} {p} {ps} {t} s r c word =
-    let x = r.change in let wide = head-wider p c (omega arith) (omega arith) in let arr = option_to_list t.extent in let tb = text_blocks ps in
+    let x = r.change in let wide = head-wider p c (omega arith) (omega arith) in let arr = option_to_list t.extent
+    in let tb = text_blocks ps in
     let r0 = run-begin old [] ps [] (sym (append-nil ps)) s in
     let r1 = run-swapped arr (last-first arr tb) r0 x (none-of p.handle tb s.apart) in
     let r2 = run-headed r1 wide
@@ -266,9 +270,9 @@ same-elements {m} {m'} {at} n s j f = record {
 -- ---- the vector afterwards
 
 cut-links : (l : LiveSet) (m m' : Memory) (ps : List OwnedText) (c : ℕ) (o : Option Extent)
-    → AreInArray m (table c o) ps → IsStorage m' (cut_table l 16 (length ps) (table c o)) (raw m (length ps) o)
-    → AreInArray m' (cut_table l 16 (length ps) (table c o)) ps
-cut-links l m m' [] c o a h = let u : Table = cut_table l 16 0 (table c o) in no-links m' u.capacity u.extent
+    → AreInArray m (table c o) ps → IsStorage m' (shrunk_backing l 16 (length ps) (table c o)) (raw m (length ps) o)
+    → AreInArray m' (shrunk_backing l 16 (length ps) (table c o)) ps
+cut-links l m m' [] c o a h = let u : Table = shrunk_backing l 16 0 (table c o) in no-links m' u.capacity u.extent
 cut-links l m m' (q ∷ qs) c None a h = absurd (cc)
 cut-links l m m' (q ∷ qs) c (Some x) a h =
     let n = length (q ∷ qs) in let y = shorter l x (16 * n) in let cut = cut-some l 16 n c x (omega arith) in
@@ -284,10 +288,10 @@ cut-links l m m' (q ∷ qs) c (Some x) a h =
 
 pub shrunk : {old new : Cut} {p : Place} {ps : List OwnedText} {t : Table} → IsTexts old.bytes p ps t
     → IsFitted old new p 16 (length ps) t (raw (bytes_of old.bytes) (length ps) t.extent) → IsTextsNow old new p
-    (option_to_list t.extent) (option_to_list (cut_table (live_of old.bytes) 16 (length ps) t).extent) ps
-    (cut_table (live_of old.bytes) 16 (length ps) t)
+    (option_to_list t.extent) (option_to_list (shrunk_backing (live_of old.bytes) 16 (length ps) t).extent) ps
+    (shrunk_backing (live_of old.bytes) 16 (length ps) t)
 shrunk {old} {new} {ps} {t} s f =
-    let u = cut_table (live_of old.bytes) 16 (length ps) t in
+    let u = shrunk_backing (live_of old.bytes) 16 (length ps) t in
     let arr = option_to_list t.extent in let arr' = option_to_list u.extent in let w = f.stands in
     texts-between ps [] [] [] ps {u = u} refl refl (sym (append-nil arr)) (sym (append-nil arr')) s f.change w.table
     w.fits (record { link = w.words.link; len_word = w.words.len_word; capacity = w.words.capacity })
@@ -437,7 +441,8 @@ pub text-set : {s0 s1 mid s3 : Cut} {p : Place} {ps : List OwnedText} {c len g :
 text-set {o = None} i s e pl at r written link_is word_is len_is = none-some (texts-still s pl.change).words.link at
 text-set {s0} {s1} {mid} {s3} {p} {ps} {c} {len} {o = Some x} {q} {block = block} i s e pl at r written link_is word_is
     len_is =
-    let y = r.change in let g_is = same-some (sym at ∙ (texts-still s pl.change).words.link) in let t = table c (Some x) in
+    let y = r.change in let g_is = same-some (sym at ∙ (texts-still s pl.change).words.link) in let t =
+    table c (Some x) in
     let z = pl.text in let n = length ps in let eb = option_to_list q.extent in let ez = option_to_list z.extent in
     let gone : List Extent = x ∷ eb in
     let below = slice_get_within ps i q e in let fits = s.fits in let full = table-full 16 c x s.table in

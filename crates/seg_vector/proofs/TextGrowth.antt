@@ -16,7 +16,7 @@ use Rattle.seg_vector.proofs.TextBlocks.{run-begin, swapped-none, texts-between}
 use Rattle.seg_vector.proofs.Storage.{grown-more, grown-same, regrow-new, storage-role, too-many}
 use Rattle.seg_vector.proofs.TextCalls.{held-elements, run-others, texts-stand}
 use Rattle.best_fit.specs.Fit.{regrow}
-use Rattle.seg_vector.specs.Vector.{grown_table}
+use Rattle.seg_vector.specs.Vector.{grown_backing}
 use Rattle.seg_vector.proofs.Words as W
 
 -- ---- it is asked for
@@ -56,11 +56,11 @@ asked-beside {old} new {t} {n} r s link w a = asked-new old new t.extent n r (ap
 -- ---- the table
 
 pub grown-to : (l : LiveSet) (n : ℕ) (t : Table) {y : Extent} → t.capacity < n → regrow l t.extent (16 * n) ≡ Some y
-    → grown_table l 16 n t ≡ Some (record { capacity = n; extent = Some y })
+    → grown_backing l 16 n t ≡ Some (record { capacity = n; extent = Some y })
 grown-to l n t f e = grown-more l 16 n t f ∙ ap (option_map (λ x. table n (Some x))) e
 
 pub not-grown : (l : LiveSet) (n : ℕ) (t : Table) → t.capacity < n → regrow l t.extent (16 * n) ≡ None
-    → grown_table l 16 n t ≡ None
+    → grown_backing l 16 n t ≡ None
 not-grown l n t f e = grown-more l 16 n t f ∙ ap (option_map (λ x. table n (Some x))) e
 
 -- ---- what stays
@@ -422,7 +422,8 @@ pub new-table : (n : ℕ) (y : Extent) → 0 < n → IsTrue (serves y Storage (1
 new-table n y f s = and_from (nat_lt 0 n) (serves y Storage (16 * n)) (lt-ltb 0 n f) s
 
 pub reserved : {first mid new : Cut} {p : Place} {ps : List OwnedText} {t : Table} {g n : ℕ} → IsTexts first.bytes p ps
-    t → t.capacity < n → IsAdopted first mid new p ps t g n [] → (w : Table) × (grown_table (live_of first.bytes) 16 n t
+    t → t.capacity < n → IsAdopted first mid new p ps t g n []
+    → (w : Table) × (grown_backing (live_of first.bytes) 16 n t
     ≡ Some w) × IsTextsNow first new p (option_to_list t.extent) (option_to_list w.extent) ps w
 reserved {new} {p} {ps} {t} {n} s more a =
     let u = table n (Some a.array) in let arr = option_to_list t.extent in
@@ -436,7 +437,7 @@ reserved {new} {p} {ps} {t} {n} s more a =
     )
 
 pub reserved-same : (c : Cut) {p : Place} {ps : List OwnedText} {t : Table} (n : ℕ) → IsTexts c.bytes p ps t
-    → n ≤ t.capacity → (w : Table) × (grown_table (live_of c.bytes) 16 n t ≡ Some w)
+    → n ≤ t.capacity → (w : Table) × (grown_backing (live_of c.bytes) 16 n t ≡ Some w)
     × IsTextsNow c c p (option_to_list t.extent) (option_to_list w.extent) ps w
 reserved-same c {p} {ps} {t} n s f =
     let same : IsTextsNow c c p (option_to_list t.extent) (option_to_list t.extent) ps t =
@@ -444,5 +445,5 @@ reserved-same c {p} {ps} {t} n s f =
     (t, grown-same (live_of c.bytes) 16 n t f, same)
 
 pub too-many-texts : (c : Cut) {p : Place} {ps : List OwnedText} {t : Table} (n : ℕ) → IsTexts c.bytes p ps t
-    → 1073741824 < n → grown_table (live_of c.bytes) 16 n t ≡ None
+    → 1073741824 < n → grown_backing (live_of c.bytes) 16 n t ≡ None
 too-many-texts c n s f = (too-many c n (texts-stand s) (omega arith) f).none

@@ -6,20 +6,22 @@ use W.{ap, word_at, current, link_at, LiveSet, resized, Refusal, live_of, IsFoun
 use W.{subst, if◌then◌else◌, length-append, exchange-taken, widened-back, rising-insert, IsStillAtFirst, exchanged-live}
 use W.{◌∙◌, ℕ, ◌+◌, ◌*◌, ◌<◌, ◌≤◌, ◌∷◌, inl, inr, ◌%◌, ◌-◌, max, Ok, Err, Cut, []}
 use W.{Option, eqb-true, bytes_of, exchanged, IsChanged, has_room, laid-heap, place_at, IsAdopted, IsSwapped, OwnedText}
-use W.{IsExchanged, KeepsGaps, gaps-payload, gaps-refl, gaps-then, gaps-trans, Some, length, IsTrue, Result, IfSome, nat_lt, insert, lt-ltb, le-ltb, Extent, widened, room_of, IsTexts, NoSpace}
+use W.{IsExchanged, KeepsGaps, gaps-payload, gaps-refl, gaps-then, gaps-trans, Some, length, IsTrue, Result, IfSome}
+use W.{nat_lt, insert, lt-ltb, le-ltb, Extent, widened, room_of, IsTexts, NoSpace}
 use W.{append-nil, option_map, IsRestored, IsReleased, is_live_in, lay_out_one, others-past, IsTextPutIn, placed_text}
 use W.{option_to_list, AllByRecursion, length-drop, take-append-drop, exchange-order, AreSameElements, capacity_for_one}
 use Rattle.seg_vector.proofs.Runs.{AreHeadWords, IsHead, IsRun, beside-head, block-written, head-kept, head-wider}
 use Rattle.seg_vector.proofs.Runs.{len-written, none-some, own-facts, run-found, run-headed, run-swapped, room-head}
 use Rattle.seg_vector.proofs.Runs.{head-gaps, head-room, stands-none-of, same-some, table, table-full}
 use Rattle.seg_vector.proofs.TextBlocks.{element-beside, element-in, element-trans, even-block, found-live, found-texts}
-use Rattle.seg_vector.proofs.TextBlocks.{behind-array, no-extent, links-at, links-edited, one-of, run-begin, texts-between, same-loose}
+use Rattle.seg_vector.proofs.TextBlocks.{behind-array, no-extent, links-at, links-edited, one-of, run-begin}
+use Rattle.seg_vector.proofs.TextBlocks.{texts-between, same-loose}
 use Rattle.seg_vector.proofs.TextGrowth.{grown-to, not-grown, all-beside-head, new-other, IsReadyRun, ready-in}
 use Rattle.seg_vector.proofs.TextCalls.{loose-kept, run-others, texts-stand, texts-still}
 use Rattle.seg_vector.proofs.Storage.{capacity-bytes, room-small, grown-same, same-storage}
 use Rattle.seg_vector.proofs.{TextGrowth.asked-alone, TextGrowth.new-table, Typed.has-element}
 use Rattle.best_fit.specs.Fit.{regrow}
-use Rattle.seg_vector.specs.Vector.{grown_table}
+use Rattle.seg_vector.specs.Vector.{grown_backing}
 use Rattle.seg_vector.proofs.Words as W
 use Rattle.best_fit.specs.Fit as fit
 
@@ -231,8 +233,8 @@ wanted-same : (k c : ℕ) → k < c → capacity_for_one k c ≡ c
 wanted-same k c f = ap (λ b. if b then c else max 4 (2 * c)) (lt-ltb k c f)
 
 same-grown-one : (l : LiveSet) (ps : List OwnedText) (t : Table) → length ps < t.capacity
-    → grown_table l 16 (capacity_for_one (length ps) t.capacity) t ≡ Some t
-same-grown-one l ps t f = ap (λ n. grown_table l 16 n t) (wanted-same (length ps) t.capacity f) ∙ grown-same l 16
+    → grown_backing l 16 (capacity_for_one (length ps) t.capacity) t ≡ Some t
+same-grown-one l ps t f = ap (λ n. grown_backing l 16 n t) (wanted-same (length ps) t.capacity f) ∙ grown-same l 16
     t.capacity t (omega arith)
 
 array-is : (l : LiveSet) (t : Table) → with_array l t t ≡ l
@@ -364,7 +366,7 @@ growing-ok {s0} {s1} {t} {n} i {bytes} more wanted a pl ad now =
     ∙ ap (λ (y : Extent). resized l y) (sym same) ∙ sym x.live in
     record {
       table = table n (Some ad.array);
-      grown = subst (λ k. grown_table l 16 k t ≡ Some (table n (Some ad.array))) wanted ad.grown;
+      grown = subst (λ k. grown_backing l 16 k t ≡ Some (table n (Some ad.array))) wanted ad.grown;
       text = pl.text;
       placed = ap (λ (s : LiveSet). placed_text s bytes) live ∙ pl.placed;
       now = now;
@@ -374,7 +376,7 @@ pub growing-none : {s0 s1 : Cut} {p : Place} {ps : List OwnedText} {t : Table} (
     → IsTexts s0.bytes p ps t → t.capacity < n → n ≡ capacity_for_one (length ps) t.capacity
     → IsWithoutFit s0 s1 (regrow (live_of s0.bytes) t.extent (16 * n)) e → IsRefusedPut s0 s1 ps t bytes e
 growing-none {s0} {t = t} n bytes s more wanted r = refused-same s.heap r.refusal
-    (ap (after (live_of s0.bytes) t bytes) (ap (λ k. grown_table (live_of s0.bytes) 16 k t) (sym wanted)
+    (ap (after (live_of s0.bytes) t bytes) (ap (λ k. grown_backing (live_of s0.bytes) 16 k t) (sym wanted)
     ∙ not-grown (live_of s0.bytes) n t more r.none)) r.same
 
 pub growing-err : {s0 s1 s2 new : Cut} (ps : List OwnedText) (t : Table) {g : ℕ} (n : ℕ) {bytes : List ℕ} {e : Refusal}
@@ -385,12 +387,12 @@ growing-err {s0} {s1} ps t n {bytes} more wanted full a r back =
     let l = live_of s0.bytes in let x = asked-extent a in
     record {
       refusal = r.refusal;
-      none = ap (after l t bytes) (ap (λ k. grown_table l 16 k t) (sym wanted) ∙ grown-to l n t more x.regrown)
+      none = ap (after l t bytes) (ap (λ k. grown_backing l 16 k t) (sym wanted) ∙ grown-to l n t more x.regrown)
           ∙ ap (λ (s : LiveSet). placed_text s bytes) (more-array l t n x.extent more ∙ sym x.live) ∙ r.none;
       restored = back;
       first = record {
         text = λ f none. absurd (omega (arith, f, full));
-        array = λ none. let both = sym (ap (λ k. grown_table l 16 k t) (sym wanted) ∙ grown-to l n t more x.regrown)
+        array = λ none. let both = sym (ap (λ k. grown_backing l 16 k t) (sym wanted) ∙ grown-to l n t more x.regrown)
             ∙ none in absurd (cc);
       };
     }

@@ -14,7 +14,8 @@ use W.{OwnedText, Place, place_at, [], IsPointed, all-same-but, drop-map, drop-c
 use Rattle.seg_vector.proofs.Runs.{AreHeadWords, IsHead, block-written, changed-both, head-exchanged, len-written}
 use Rattle.seg_vector.proofs.Runs.{run-none, run-swapped, same-some, serves-full, table, all-as, came-found}
 use Rattle.seg_vector.proofs.TextBlocks.{all-join, all-split, element-beside, element-in, element-trans, even-block}
-use Rattle.seg_vector.proofs.TextBlocks.{fresh-none, found-live, links-join, links-moved, of-none, own_blocks, run-begin}
+use Rattle.seg_vector.proofs.TextBlocks.{fresh-none, found-live, links-join, links-moved, of-none, own_blocks}
+use Rattle.seg_vector.proofs.TextBlocks.{run-begin}
 use Rattle.seg_vector.proofs.{Runs.came-others, Runs.all-kept, Runs.none-of-none, TextBlocks.owned-same}
 use Rattle.seg_vector.proofs.{TextBlocks.texts-between, TextBlocks.texts-own, TextGrowth.new-table, TextCalls.come-even}
 use Rattle.seg_vector.proofs.{TextCalls.run-others, TextCalls.texts-still, TextPuts.came-alone, TextPuts.flip-each}

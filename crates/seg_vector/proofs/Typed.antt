@@ -3,13 +3,15 @@ use W.{◌≡◌, sym, ◌∙◌, ℕ, suc, ◌+◌, ◌*◌, ◌<◌, ◌∷◌
 use W.{refl, zero, Bool, true, List, ◌++◌, take, drop, arith, false, Some, Table, Place, Result, Grows, Stands, IsText}
 use W.{ap, if◌then◌else◌, length-append, take-append-add, drop-append-add, length-insert, length-remove, IsWithoutSpace}
 use W.{subst, list_all-append, take-append-drop, flat_map-append, take-append_seam, capacity_for_one, capacity_for_text}
-use W.{length, append_assoc, append-nil, length-take, length-drop, MatchResult, IsRewritten, IsTextGrown, IsVectorGrown, IsVectorNow}
+use W.{length, append_assoc, append-nil, length-take, length-drop, MatchResult, IsRewritten, IsTextGrown, IsVectorGrown}
+use W.{IsVectorNow}
 use W.{IsTrue, insert, remove, nat_le, patched, word_at, live_of, Refusal, Erases, Extends, Inserts, IsGrown, drop-nil}
 use W.{flat_map, list_all, and_from, leb-true, bytes_of, no_table, ReadsOne, IsVector, take-nil, KeepsGaps, gaps-refl}
 use W.{slice_get, slice_set, and_parts, length-set, GivesBack, Overwrites, Truncates, IsStanding, IsTextNow, gaps-trans}
-use Rattle.seg_vector.proofs.Storage.{at-least, capacity-bytes, exchange-then, grown-gaps, has-place, not-refused, same-storage}
+use Rattle.seg_vector.proofs.Storage.{at-least, capacity-bytes, exchange-then, grown-gaps, has-place, not-refused}
+use Rattle.seg_vector.proofs.Storage.{same-storage}
 use Rattle.seg_vector.proofs.{Storage.unchanged-rewritten, Storage.wanted-places, Runs.same-some}
-use Rattle.best_fit.specs.Table.{cut_table}
+use Rattle.best_fit.specs.Table.{shrunk_backing}
 use Rattle.raw_region.proofs.Laws.{patched-append}
 use Rattle.seg_vector.specs.{Vector.capacity_for_more, VectorCalls.replaced}
 use Rattle.seg_vector.proofs.Words as W
@@ -257,7 +259,8 @@ text-then {old} {mid} {new} s c w = record {
 }
 
 pub text-grown-then : {old mid new : Cut} {p : Place} {n : ℕ} {t : Table} {bytes ys : List ℕ}
-    → IsText old.bytes p bytes t → (g : IsGrown old mid p 1 n (length bytes) t bytes) → IsTextNow mid new p g.table ys g.table
+    → IsText old.bytes p bytes t → (g : IsGrown old mid p 1 n (length bytes) t bytes)
+    → IsTextNow mid new p g.table ys g.table
     → IsTextGrown old new p t n ys
 text-grown-then s g w = record {
   table = g.table;
@@ -371,7 +374,7 @@ module _ {T : Type 0} {size : ℕ} {test : T → Bool} {sp : T → List ℕ} (ol
       (flat-remove size test sp spells xs i v.values) (all-edit test xs i (suc i) [] v.values refl)
 
   pub fitted-now : Fits old mid p k
-      → IsVectorNow size test sp old mid p t xs (cut_table (live_of old.bytes) size (length xs) t)
+      → IsVectorNow size test sp old mid p t xs (shrunk_backing (live_of old.bytes) size (length xs) t)
   fitted-now h =
       let r = subst (Fits old mid p) e h (length xs) t (flat_map sp xs) v.stands in
       record { change = r.change; gaps = r.gaps; vector = record { stands = r.stands; values = v.values } }

@@ -12,38 +12,47 @@ pub use Rattle.best_fit.proofs.Laws.{two-apart, taken-back, widened-back, lay_ou
 pub use Rattle.best_fit.proofs.Laws.{all_of-insert, all-same-but, in_use-all, room-less, IfSome_is, without-inserted}
 pub use Rattle.best_fit.proofs.Laws.{block_payload, room_block, IsSound, live-sound, SameBlock-trans, blocks-trans}
 pub use Rattle.best_fit.proofs.Laws.{gaps-payload, gaps-refl, gaps-then, gaps-trans, hole-order}
-pub use Rattle.best_fit.specs.Exchange.{IsNotWidened, IsWidened, CarriesOver, IsGivenRoom, IsNotGivenRoom, SameBlockBut}
-pub use Rattle.best_fit.specs.Exchange.{block_of, exchanged, without_all, IsExchanged, inserted, IsRestored, IsRegrown}
+pub use Rattle.best_fit.specs.Exchange.{CannotWiden, WidensBlock, CarriesOver, RegrowsOk, RegrowsNoSpace}
+pub use Rattle.best_fit.specs.Exchange.{SameBlockExcept}
+pub use Rattle.best_fit.specs.Exchange.{block_of, exchanged, without_all, ExchangesBlocks, inserted, KeepsLiveSet}
+pub use Rattle.best_fit.specs.Exchange.{ReplacesBlocks}
 pub use Rattle.best_fit.specs.Extents.{Extent, LiveSet, handle, holds, end_of, is_block, is_hole, proper_from}
-pub use Rattle.best_fit.specs.Heap.{IsChanged, IsHeap, LaysOut, SameBlock, extent_at, has_room, live_of, IsReleased}
-pub use Rattle.best_fit.specs.Heap.{IsResized, IsShortened, IsAllocated, KeepsGaps, is_live_in, payload_at}
-pub use Rattle.best_fit.specs.Table.{Table, is_table, serves, same_role, table_link, no_table}
+pub use Rattle.best_fit.specs.Heap.{ChangesBytes, IsHeap, EncodesLiveSet, SameBlock, extent_at, has_room, live_of}
+pub use Rattle.best_fit.specs.Heap.{Deallocates}
+pub use Rattle.best_fit.specs.Heap.{ResizesBlock, ShrinksInPlace, AllocatesOk, KeepsGaps, is_live_in, payload_at}
+pub use Rattle.best_fit.specs.Table.{BackingArray, has_backing, serves, same_role, table_link, no_backing}
 pub use Rattle.best_fit.specs.Fit.{place, shorter, others, resized, longer}
-pub use Rattle.raw_region.proofs.Bytes.{Has-append, Has-beside, Has-drop, Has-patched, Has-take, length-patch}
+pub use Rattle.raw_region.proofs.Bytes.{HasBytesAt-append, HasBytesAt-beside, HasBytesAt-drop, HasBytesAt-patched}
+pub use Rattle.raw_region.proofs.Bytes.{HasBytesAt-take, length-patch}
 pub use Rattle.raw_region.proofs.Bytes.{length-read, more-times}
 pub use Rattle.block_tags.specs.{Format.is_legal_size, declared.tile.Role.Role, declared.tile.Role.TheVariants.Storage}
-pub use Rattle.offset_link.proofs.Laws.{SameBut-link}
+pub use Rattle.offset_link.proofs.Laws.{SameBytesExcept-link}
 pub use Rattle.offset_link.specs.Link.{link_at, target_of}
-pub use Rattle.raw_region.proofs.Laws.{SameBut-wider, SameBut-word, Has-same, read-part}
-pub use Rattle.raw_region.specs.Memory.{Memory, Cut, SameBut, bytes_of, word_at, Same, Has, part, patched, read}
+pub use Rattle.raw_region.proofs.Laws.{SameBytesExcept-wider, SameBytesExcept-word, HasBytesAt-same, read-part}
+pub use Rattle.raw_region.specs.Memory.{Memory, WindowState, SameBytesExcept, bytes_of, word_at, SameBytes, HasBytesAt}
+pub use Rattle.raw_region.specs.Memory.{part, patched, read}
 pub use Rattle.raw_region.specs.Format.{current}
 pub use Rattle.seg_types.specs.{declared.refusals.Refusal.Refusal, declared.refusals.Refusal.TheVariants.NoSpace}
-pub use Rattle.seg_vector.specs.Elements.{IsGivenBack, IsFitted, Erases, Extends, Fits, GivesBack, Inserts, IsRewritten}
+pub use Rattle.seg_vector.specs.Elements.{FreesStorageOk, ShrinksStorageOk, ErasesElement, Extends, ShrinksStorage}
+pub use Rattle.seg_vector.specs.Elements.{FreesStorage, Inserts, RewritesElements}
 pub use Rattle.seg_vector.specs.Elements.{Overwrites, PutsAt, ReadsOne, Truncates}
-pub use Rattle.seg_vector.specs.Standing.{IsOwnBlock, Stands, place_at, IsGrown, Grows, IsStanding}
-pub use Rattle.seg_vector.specs.TextLists.{AreLaid, AreLaidUpTo, AreLaidOut, AreNotLaidOut}
-pub use Rattle.seg_vector.specs.TextParts.{AreReleased, AreHeldElements, IsHeldElement, IsSameElement, AreEvenLinks, IsAdopted}
-pub use Rattle.seg_vector.specs.TextParts.{IsAsked, taken, widened, IsReady, IsPutAsked, IsPutReady, room_of}
-pub use Rattle.seg_vector.specs.TextParts.{IsRefusedPut, PutsInto, IsPointed, IsSwapped, AreSameElements, IsServed}
-pub use Rattle.seg_vector.specs.TextsCalls.{AreOthers, placed_text, placed_texts, text_blocks, with_text, all_texts}
-pub use Rattle.seg_vector.specs.TextsCalls.{ReleasesTexts, IsHeldText, IsTextElement, IsStillAtFirst, IsTextPutIn}
-pub use Rattle.seg_vector.specs.TextsCalls.{new_array, AreTextsAssigned, AssignsTexts, IsTexts, IsTextsNow, with_array}
+pub use Rattle.seg_vector.specs.Containers.{IsStorageBlock, IsContainer, place_at, ReservesStorageOk, ReservesStorage}
+pub use Rattle.seg_vector.specs.Containers.{IsStanding}
+pub use Rattle.seg_vector.specs.TextLists.{AreLaid, StoresArrayUpTo, StoresArrayOk, StoresArrayErr}
+pub use Rattle.seg_vector.specs.TextParts.{FreesBlocks, AreHeldElements, IsHeldElement, IsSameElement, AreEvenLinks}
+pub use Rattle.seg_vector.specs.TextParts.{IsAdopted}
+pub use Rattle.seg_vector.specs.TextParts.{ReservesArray, taken, widened, IsArrayReserved, IsPutAsked, IsPutReady}
+pub use Rattle.seg_vector.specs.TextParts.{room_of}
+pub use Rattle.seg_vector.specs.TextParts.{RefusesPut, PutsInto, SetsStorage, IsSwapped, SameElements, IsServed}
+pub use Rattle.seg_vector.specs.TextsCalls.{AreDistinct, placed_text, placed_texts, text_blocks, with_text, all_texts}
+pub use Rattle.seg_vector.specs.TextsCalls.{ReleasesTexts, IsHeldText, IsTextElement, RefusesFirstBlock, InsertsTextOk}
+pub use Rattle.seg_vector.specs.TextsCalls.{new_array, AssignsTextsOk, AssignsTexts, IsTexts, ReplacesTexts, with_array}
 pub use Rattle.seg_vector.specs.Vector.{IsStorage, AreTextLinks, IsOwnedText, OwnedText, capacity_for_one}
-pub use Rattle.seg_vector.specs.VectorCalls.{IsVector, IsVectorGrown, IsVectorNow, IsWithoutSpace}
-pub use Rattle.seg_vector.specs.TextCalls.{IsTextNow, IsText, IsTextGrown}
-pub use Rattle.seg_vector.specs.{TextParts.TakesStorage, TextParts.IsTextPlaced, TextsCalls.one_more, Vector.AreInArray}
+pub use Rattle.seg_vector.specs.VectorCalls.{IsVector, GrowsVectorOk, ReplacesVector, LacksSpace}
+pub use Rattle.seg_vector.specs.TextCalls.{ReplacesText, IsText, GrowsTextOk}
+pub use Rattle.seg_vector.specs.{TextParts.TakesStorage, TextParts.PlacesTextOk, TextsCalls.one_more, Vector.AreInArray}
 pub use Rattle.best_fit.specs.declared.places.Place.{Place}
-pub use Rattle.seg_vector.specs.{TextsCalls.IsWithoutFit, Vector.capacity_for_text}
+pub use Rattle.seg_vector.specs.{TextsCalls.LacksFit, Vector.capacity_for_text}
 pub use Rattle.std.proofs.Common.{None, List, [], ◌∷◌, length, arith, ◌⊎◌, ◌++◌, append-nil, ◌%◌, min, ◌==◌, zero, suc}
 pub use Rattle.std.proofs.Common.{append_assoc, length-append, drop, map, slice_index_or, Bor, if◌then◌else◌, false, Ok}
 pub use Rattle.std.proofs.Common.{◌≡◌, ◌≢◌, refl, sym, ap, subst, ◌∙◌, inl, inr, ℕ, ◌+◌, ◌*◌, ◌<◌, ◌≤◌, Option, Some}

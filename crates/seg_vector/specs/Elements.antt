@@ -1,68 +1,70 @@
 -- The elements of a container that stands at a place: read, written over, and fewer or more of them in the places that
 -- there are.
 use Rattle.std.specs.Prelude.{◌≡◌, ℕ, ◌+◌, ◌-◌, ◌*◌, ◌<◌, ◌≤◌, None, List, [], ◌++◌, take, drop, option_to_list}
-use Rattle.raw_region.specs.{Memory.Cut, Memory.part, Memory.patched, Format.current}
-use Rattle.best_fit.specs.{Exchange.IsExchanged, Heap.KeepsGaps, Heap.live_of}
-use Rattle.best_fit.specs.Table.{Table, cut_table, no_table}
-use Rattle.seg_vector.specs.{declared.elements.Spot.Spot, Standing.Stands, Standing.capacity_at, Standing.len_at}
-use Rattle.seg_vector.specs.{Standing.place_at}
-use Rattle.seg_vector.specs.declared.elements.Spot.TheVariants.{End, Over, Before}
+use Rattle.raw_region.specs.{Memory.WindowState, Memory.part, Memory.patched, Format.current}
+use Rattle.best_fit.specs.{Exchange.ExchangesBlocks, Heap.KeepsGaps, Heap.live_of}
+use Rattle.best_fit.specs.Table.{BackingArray, shrunk_backing, no_backing}
+use Rattle.seg_vector.specs.{declared.elements.WritePos.WritePos, Containers.IsContainer, Containers.capacity_at}
+use Rattle.seg_vector.specs.{Containers.len_at}
+use Rattle.seg_vector.specs.{Containers.place_at}
+use Rattle.seg_vector.specs.declared.elements.WritePos.TheVariants.{End, Over, Before}
 use Rattle.best_fit.specs.declared.places.Place.{Place}
 
 -- the container has other elements in the places that there were; of all other blocks no byte changes but its own 24,
 -- and of gaps none
-pub record IsRewritten (old new : Cut) (p : Place) (each len : ℕ) (t : Table) (bytes : List ℕ) : Type 0 where
-  pub change : IsExchanged current old new (place_at p) 24 (option_to_list t.extent) (option_to_list t.extent)
+pub record RewritesElements (old new : WindowState) (p : Place) (each len : ℕ) (t : BackingArray) (bytes : List ℕ) :
+    Type 0 where
+  pub change : ExchangesBlocks current old new (place_at p) 24 (option_to_list t.extent) (option_to_list t.extent)
   pub gaps : KeepsGaps old new
-  pub stands : Stands new.bytes p each len t bytes
+  pub stands : IsContainer new.bytes p each len t bytes
 
 -- the bytes of all elements
 abbrev pub ReadsAll : List ℕ → Place → ℕ → List ℕ → Type 0
-ReadsAll b p each out = (len : ℕ) (t : Table) (bytes : List ℕ) → Stands b p each len t bytes → out ≡ bytes
+ReadsAll b p each out = (len : ℕ) (t : BackingArray) (bytes : List ℕ) → IsContainer b p each len t bytes → out ≡ bytes
 
 -- the bytes of the element with i others before it
 abbrev pub ReadsOne : List ℕ → Place → ℕ → ℕ → List ℕ → Type 0
-ReadsOne b p each i out = (len : ℕ) (t : Table) (bytes : List ℕ) → Stands b p each len t bytes
+ReadsOne b p each i out = (len : ℕ) (t : BackingArray) (bytes : List ℕ) → IsContainer b p each len t bytes
     → out ≡ part bytes (each * i) each
 
 -- the element with i others before it has these bytes now
-abbrev pub Overwrites : Cut → Cut → Place → ℕ → ℕ → List ℕ → Type 0
+abbrev pub Overwrites : WindowState → WindowState → Place → ℕ → ℕ → List ℕ → Type 0
 Overwrites old new p each i more =
-    (len : ℕ) (t : Table) (bytes : List ℕ) → Stands old.bytes p each len t bytes
-    → IsRewritten old new p each len t (patched bytes (each * i) more)
+    (len : ℕ) (t : BackingArray) (bytes : List ℕ) → IsContainer old.bytes p each len t bytes
+    → RewritesElements old new p each len t (patched bytes (each * i) more)
 
 -- the first n elements are left
-abbrev pub Truncates : Cut → Cut → Place → ℕ → ℕ → Type 0
+abbrev pub Truncates : WindowState → WindowState → Place → ℕ → ℕ → Type 0
 Truncates old new p each n =
-    (len : ℕ) (t : Table) (bytes : List ℕ) → Stands old.bytes p each len t bytes
-    → IsRewritten old new p each n t (take (each * n) bytes)
+    (len : ℕ) (t : BackingArray) (bytes : List ℕ) → IsContainer old.bytes p each len t bytes
+    → RewritesElements old new p each n t (take (each * n) bytes)
 
 -- an element more, with i others before it
-abbrev pub Inserts : Cut → Cut → Place → ℕ → ℕ → List ℕ → Type 0
+abbrev pub Inserts : WindowState → WindowState → Place → ℕ → ℕ → List ℕ → Type 0
 Inserts old new p each i more =
-    (len : ℕ) (t : Table) (bytes : List ℕ) → Stands old.bytes p each len t bytes
-    → IsRewritten old new p each (len + 1) t (take (each * i) bytes ++ (more ++ drop (each * i) bytes))
+    (len : ℕ) (t : BackingArray) (bytes : List ℕ) → IsContainer old.bytes p each len t bytes
+    → RewritesElements old new p each (len + 1) t (take (each * i) bytes ++ (more ++ drop (each * i) bytes))
 
 -- the element with i others before it is left out
-abbrev pub Erases : Cut → Cut → Place → ℕ → ℕ → Type 0
-Erases old new p each i =
-    (len : ℕ) (t : Table) (bytes : List ℕ) → Stands old.bytes p each len t bytes
-    → IsRewritten old new p each (len - 1) t (take (each * i) bytes ++ drop (each * i + each) bytes)
+abbrev pub ErasesElement : WindowState → WindowState → Place → ℕ → ℕ → Type 0
+ErasesElement old new p each i =
+    (len : ℕ) (t : BackingArray) (bytes : List ℕ) → IsContainer old.bytes p each len t bytes
+    → RewritesElements old new p each (len - 1) t (take (each * i) bytes ++ drop (each * i + each) bytes)
 
 -- n elements more, behind the last one
-abbrev pub Extends : Cut → Cut → Place → ℕ → ℕ → List ℕ → Type 0
+abbrev pub Extends : WindowState → WindowState → Place → ℕ → ℕ → List ℕ → Type 0
 Extends old new p each n more =
-    (len : ℕ) (t : Table) (bytes : List ℕ) → Stands old.bytes p each len t bytes
-    → IsRewritten old new p each (len + n) t (bytes ++ more)
+    (len : ℕ) (t : BackingArray) (bytes : List ℕ) → IsContainer old.bytes p each len t bytes
+    → RewritesElements old new p each (len + n) t (bytes ++ more)
 
 -- where an element is put: behind the last one and before another one where there is a place more, and over one that is
 -- there
-abbrev pub HasSpot : List ℕ → Place → Spot → Type 0
+abbrev pub HasSpot : List ℕ → Place → WritePos → Type 0
 HasSpot b p End = len_at b p < capacity_at b p
 HasSpot b p (Over i) = i < len_at b p
 HasSpot b p (Before i) = (len_at b p < capacity_at b p) × (i ≤ len_at b p)
 
-abbrev pub PutsAt : Cut → Cut → Place → ℕ → Spot → List ℕ → Type 0
+abbrev pub PutsAt : WindowState → WindowState → Place → ℕ → WritePos → List ℕ → Type 0
 PutsAt old new p each End more = Extends old new p each 1 more
 PutsAt old new p each (Over i) more = Overwrites old new p each i more
 PutsAt old new p each (Before i) more = Inserts old new p each i more
@@ -70,23 +72,24 @@ PutsAt old new p each (Before i) more = Inserts old new p each i more
 -- ---- fewer places
 
 -- the container has no place, and its storage is given back; without storage no byte of a gap changes
-pub record IsGivenBack (old new : Cut) (p : Place) (each : ℕ) (t : Table) : Type 0 where
-  pub change : IsExchanged current old new (place_at p) 24 (option_to_list t.extent) []
+pub record FreesStorageOk (old new : WindowState) (p : Place) (each : ℕ) (t : BackingArray) : Type 0 where
+  pub change : ExchangesBlocks current old new (place_at p) 24 (option_to_list t.extent) []
   pub gaps : t.extent ≡ None → KeepsGaps old new
-  pub stands : Stands new.bytes p each 0 no_table []
+  pub stands : IsContainer new.bytes p each 0 no_backing []
 
-abbrev pub GivesBack : Cut → Cut → Place → ℕ → Type 0
-GivesBack old new p each = (len : ℕ) (t : Table) (bytes : List ℕ) → Stands old.bytes p each len t bytes
-    → IsGivenBack old new p each t
+abbrev pub FreesStorage : WindowState → WindowState → Place → ℕ → Type 0
+FreesStorage old new p each = (len : ℕ) (t : BackingArray) (bytes : List ℕ) → IsContainer old.bytes p each len t bytes
+    → FreesStorageOk old new p each t
 
 -- the container has as many places as elements: its storage is shortened, or given back where there is no element;
 -- where the block stays as it is, no byte of a gap changes
-pub record IsFitted (old new : Cut) (p : Place) (each len : ℕ) (t : Table) (bytes : List ℕ) : Type 0 where
-  pub change : IsExchanged current old new (place_at p) 24 (option_to_list t.extent)
-      (option_to_list (cut_table (live_of old.bytes) each len t).extent)
-  pub gaps : t.extent ≡ (cut_table (live_of old.bytes) each len t).extent → KeepsGaps old new
-  pub stands : Stands new.bytes p each len (cut_table (live_of old.bytes) each len t) bytes
+pub record ShrinksStorageOk (old new : WindowState) (p : Place) (each len : ℕ) (t : BackingArray) (bytes : List ℕ) :
+    Type 0 where
+  pub change : ExchangesBlocks current old new (place_at p) 24 (option_to_list t.extent)
+      (option_to_list (shrunk_backing (live_of old.bytes) each len t).extent)
+  pub gaps : t.extent ≡ (shrunk_backing (live_of old.bytes) each len t).extent → KeepsGaps old new
+  pub stands : IsContainer new.bytes p each len (shrunk_backing (live_of old.bytes) each len t) bytes
 
-abbrev pub Fits : Cut → Cut → Place → ℕ → Type 0
-Fits old new p each = (len : ℕ) (t : Table) (bytes : List ℕ) → Stands old.bytes p each len t bytes
-    → IsFitted old new p each len t bytes
+abbrev pub ShrinksStorage : WindowState → WindowState → Place → ℕ → Type 0
+ShrinksStorage old new p each = (len : ℕ) (t : BackingArray) (bytes : List ℕ) → IsContainer old.bytes p each len t bytes
+    → ShrinksStorageOk old new p each len t bytes

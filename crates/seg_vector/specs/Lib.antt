@@ -1,5 +1,5 @@
 pub mod Vector
-pub mod Standing
+pub mod Containers
 pub mod Elements
 pub mod VectorCalls
 pub mod TextCalls

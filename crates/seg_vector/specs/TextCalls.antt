@@ -1,88 +1,91 @@
 -- A text at a place, and what its calls answer and do: elements of a byte each, under their own bytes.
 use Rattle.std.specs.Prelude.{◌≡◌, ℕ, ◌<◌, ◌≤◌, Some, Result, Ok, MatchResult, List, [], ◌++◌, length, slice_get}
 use Rattle.std.specs.Prelude.{slice_set, option_to_list}
-use Rattle.raw_region.specs.{Memory.Cut, Format.current}
-use Rattle.best_fit.specs.{Exchange.IsExchanged, Heap.KeepsGaps, Heap.live_of}
-use Rattle.best_fit.specs.Table.{Table, cut_table, no_table}
+use Rattle.raw_region.specs.{Memory.WindowState, Format.current}
+use Rattle.best_fit.specs.{Exchange.ExchangesBlocks, Heap.KeepsGaps, Heap.live_of}
+use Rattle.best_fit.specs.Table.{BackingArray, shrunk_backing, no_backing}
 use Rattle.seg_types.specs.declared.refusals.Refusal.{Refusal}
 use Rattle.best_fit.specs.declared.places.Place.{Place}
-use Rattle.seg_vector.specs.{Vector.capacity_for_text, Vector.grown_table}
-use Rattle.seg_vector.specs.{Standing.Stands, Standing.place_at, VectorCalls.IsOutside, VectorCalls.IsWithoutSpace}
+use Rattle.seg_vector.specs.{Vector.capacity_for_text, Vector.grown_backing}
+use Rattle.seg_vector.specs.{Containers.IsContainer, Containers.place_at, VectorCalls.RefusesIndex}
+use Rattle.seg_vector.specs.{VectorCalls.LacksSpace}
 
 -- the text at a place has these bytes
-abbrev pub IsText : List ℕ → Place → List ℕ → Table → Type 0
-IsText b p bytes t = Stands b p 1 (length bytes) t bytes
+abbrev pub IsText : List ℕ → Place → List ℕ → BackingArray → Type 0
+IsText b p bytes t = IsContainer b p 1 (length bytes) t bytes
 
 abbrev pub IsSomeText : List ℕ → Place → Type 0
-IsSomeText b p = (bytes : List ℕ) × ((t : Table) × IsText b p bytes t)
+IsSomeText b p = (bytes : List ℕ) × ((t : BackingArray) × IsText b p bytes t)
 
 -- The text with these bytes and this storage is in the place of the one with that storage. Of all blocks that stay no
 -- byte changes but its own 24, and of gaps none where the storage is the block that it was.
-pub record IsTextNow (old new : Cut) (p : Place) (t : Table) (bytes : List ℕ) (u : Table) : Type 0 where
-  pub change : IsExchanged current old new (place_at p) 24 (option_to_list t.extent) (option_to_list u.extent)
+pub record ReplacesText (old new : WindowState) (p : Place) (t : BackingArray) (bytes : List ℕ) (u : BackingArray) :
+    Type 0 where
+  pub change : ExchangesBlocks current old new (place_at p) 24 (option_to_list t.extent) (option_to_list u.extent)
   pub gaps : t.extent ≡ u.extent → KeepsGaps old new
   pub text : IsText new.bytes p bytes u
 
 -- it has n places, or more
-pub record IsTextGrown (old new : Cut) (p : Place) (t : Table) (n : ℕ) (bytes : List ℕ) : Type 0 where
-  pub table : Table
-  pub grown : grown_table (live_of old.bytes) 1 n t ≡ Some table
-  pub now : IsTextNow old new p t bytes table
+pub record GrowsTextOk (old new : WindowState) (p : Place) (t : BackingArray) (n : ℕ) (bytes : List ℕ) : Type 0 where
+  pub table : BackingArray
+  pub grown : grown_backing (live_of old.bytes) 1 n t ≡ Some table
+  pub now : ReplacesText old new p t bytes table
 
 -- ---- what is read
 
 abbrev pub CountsBytes : List ℕ → Place → ℕ → Type 0
-CountsBytes b p n = (bytes : List ℕ) (t : Table) → IsText b p bytes t → n ≡ length bytes
+CountsBytes b p n = (bytes : List ℕ) (t : BackingArray) → IsText b p bytes t → n ≡ length bytes
 
 abbrev pub CountsBytePlaces : List ℕ → Place → ℕ → Type 0
-CountsBytePlaces b p n = (bytes : List ℕ) (t : Table) → IsText b p bytes t → n ≡ t.capacity
+CountsBytePlaces b p n = (bytes : List ℕ) (t : BackingArray) → IsText b p bytes t → n ≡ t.capacity
 
 abbrev pub ReadsText : List ℕ → Place → List ℕ → Type 0
-ReadsText b p out = (bytes : List ℕ) (t : Table) → IsText b p bytes t → out ≡ bytes
+ReadsText b p out = (bytes : List ℕ) (t : BackingArray) → IsText b p bytes t → out ≡ bytes
 
-abbrev pub GetsByte : Cut → Place → ℕ → Result ℕ Refusal → Type 0
-GetsByte c p i result = (bytes : List ℕ) (t : Table) → IsText c.bytes p bytes t
-    → MatchResult result (λ x. slice_get bytes i ≡ Some x) (IsOutside c c (length bytes) i)
+abbrev pub GetsByte : WindowState → Place → ℕ → Result ℕ Refusal → Type 0
+GetsByte c p i result = (bytes : List ℕ) (t : BackingArray) → IsText c.bytes p bytes t
+    → MatchResult result (λ x. slice_get bytes i ≡ Some x) (RefusesIndex c c (length bytes) i)
 
 -- ---- what changes
 
 -- a text without a place, whatever stood there
-abbrev pub StartsText : Cut → Cut → Place → Type 0
-StartsText old new p = IsTextNow old new p no_table [] no_table
+abbrev pub StartsText : WindowState → WindowState → Place → Type 0
+StartsText old new p = ReplacesText old new p no_backing [] no_backing
 
-abbrev pub SetsByte : Cut → Cut → Place → ℕ → ℕ → Result (Unit {0}) Refusal → Type 0
+abbrev pub SetsByte : WindowState → WindowState → Place → ℕ → ℕ → Result (Unit {0}) Refusal → Type 0
 SetsByte old new p i x result =
-    (bytes : List ℕ) (t : Table) → IsText old.bytes p bytes t
-    → MatchResult result (λ u. (i < length bytes) × IsTextNow old new p t (slice_set bytes i x) t)
-    (IsOutside old new (length bytes) i)
+    (bytes : List ℕ) (t : BackingArray) → IsText old.bytes p bytes t
+    → MatchResult result (λ u. (i < length bytes) × ReplacesText old new p t (slice_set bytes i x) t)
+    (RefusesIndex old new (length bytes) i)
 
-abbrev pub ClearsText : Cut → Cut → Place → Type 0
-ClearsText old new p = (bytes : List ℕ) (t : Table) → IsText old.bytes p bytes t → IsTextNow old new p t [] t
+abbrev pub ClearsText : WindowState → WindowState → Place → Type 0
+ClearsText old new p = (bytes : List ℕ) (t : BackingArray) → IsText old.bytes p bytes t → ReplacesText old new p t [] t
 
-abbrev pub ReservesBytes : Cut → Cut → Place → ℕ → Result (Unit {0}) Refusal → Type 0
+abbrev pub ReservesBytes : WindowState → WindowState → Place → ℕ → Result (Unit {0}) Refusal → Type 0
 ReservesBytes old new p n result =
-    (bytes : List ℕ) (t : Table) → IsText old.bytes p bytes t
-    → MatchResult result (λ u. IsTextGrown old new p t n bytes) (IsWithoutSpace old new 1 n t)
+    (bytes : List ℕ) (t : BackingArray) → IsText old.bytes p bytes t
+    → MatchResult result (λ u. GrowsTextOk old new p t n bytes) (LacksSpace old new 1 n t)
 
 -- where there are n places already, nothing changes
-abbrev pub ReservesNoBytes : Cut → Cut → Place → ℕ → Result (Unit {0}) Refusal → Type 0
-ReservesNoBytes old new p n result = (bytes : List ℕ) (t : Table) → IsText old.bytes p bytes t → n ≤ t.capacity
+abbrev pub ReservesNoBytes : WindowState → WindowState → Place → ℕ → Result (Unit {0}) Refusal → Type 0
+ReservesNoBytes old new p n result = (bytes : List ℕ) (t : BackingArray) → IsText old.bytes p bytes t → n ≤ t.capacity
     → (result ≡ Ok tt) × (new ≡ old)
 
-abbrev pub AssignsText : Cut → Cut → Place → List ℕ → Result (Unit {0}) Refusal → Type 0
+abbrev pub AssignsText : WindowState → WindowState → Place → List ℕ → Result (Unit {0}) Refusal → Type 0
 AssignsText old new p more result =
-    (bytes : List ℕ) (t : Table) → IsText old.bytes p bytes t
-    → MatchResult result (λ u. IsTextGrown old new p t (length more) more) (IsWithoutSpace old new 1 (length more) t)
+    (bytes : List ℕ) (t : BackingArray) → IsText old.bytes p bytes t
+    → MatchResult result (λ u. GrowsTextOk old new p t (length more) more) (LacksSpace old new 1 (length more) t)
 
-abbrev pub AppendsText : Cut → Cut → Place → List ℕ → Result (Unit {0}) Refusal → Type 0
+abbrev pub AppendsText : WindowState → WindowState → Place → List ℕ → Result (Unit {0}) Refusal → Type 0
 AppendsText old new p more result =
-    (bytes : List ℕ) (t : Table) → IsText old.bytes p bytes t
+    (bytes : List ℕ) (t : BackingArray) → IsText old.bytes p bytes t
     → let n = capacity_for_text (length (bytes ++ more)) t.capacity in
-    MatchResult result (λ u. IsTextGrown old new p t n (bytes ++ more)) (IsWithoutSpace old new 1 n t)
+    MatchResult result (λ u. GrowsTextOk old new p t n (bytes ++ more)) (LacksSpace old new 1 n t)
 
-abbrev pub ShrinksText : Cut → Cut → Place → Type 0
-ShrinksText old new p = (bytes : List ℕ) (t : Table) → IsText old.bytes p bytes t
-    → IsTextNow old new p t bytes (cut_table (live_of old.bytes) 1 (length bytes) t)
+abbrev pub ShrinksText : WindowState → WindowState → Place → Type 0
+ShrinksText old new p = (bytes : List ℕ) (t : BackingArray) → IsText old.bytes p bytes t
+    → ReplacesText old new p t bytes (shrunk_backing (live_of old.bytes) 1 (length bytes) t)
 
-abbrev pub ReleasesText : Cut → Cut → Place → Type 0
-ReleasesText old new p = (bytes : List ℕ) (t : Table) → IsText old.bytes p bytes t → IsTextNow old new p t [] no_table
+abbrev pub ReleasesText : WindowState → WindowState → Place → Type 0
+ReleasesText old new p = (bytes : List ℕ) (t : BackingArray) → IsText old.bytes p bytes t
+    → ReplacesText old new p t [] no_backing

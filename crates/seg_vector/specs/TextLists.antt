@@ -2,9 +2,9 @@
 use Rattle.std.specs.Prelude.{◌≡◌, ℕ, ◌*◌, ◌<◌, ◌≤◌, Some, None, Result, MatchResult, List, [], ◌∷◌, ◌++◌, drop, length}
 use Rattle.std.specs.Prelude.{option_map}
 use Rattle.std.specs.List.{AllByRecursion}
-use Rattle.raw_region.specs.{Memory.Cut, Memory.bytes_of, Format.current}
+use Rattle.raw_region.specs.{Memory.WindowState, Memory.bytes_of, Format.current}
 use Rattle.block_tags.specs.declared.tile.Role.TheVariants.{Storage}
-use Rattle.best_fit.specs.Exchange.{IsRestored}
+use Rattle.best_fit.specs.Exchange.{KeepsLiveSet}
 use Rattle.best_fit.specs.{Extents.Extent, Extents.handle, Fit.place, Fit.resized, Heap.extent_at, Heap.live_of}
 use Rattle.seg_types.specs.{declared.refusals.Refusal.Refusal, declared.refusals.Refusal.TheVariants.NoSpace}
 use Rattle.seg_vector.specs.TextParts.{IsServed, IsSwapped}
@@ -13,7 +13,7 @@ use Rattle.seg_vector.specs.Vector.{AreTextLinks, IsOwnedText, OwnedText}
 
 -- The first n texts are laid out: each has its element in the block of an array, and a block of its own, where it is
 -- not empty.
-pub record AreLaid (old now : Cut) (y : Extent) (n : ℕ) (more : List (List ℕ)) : Type 0 where
+pub record AreLaid (old now : WindowState) (y : Extent) (n : ℕ) (more : List (List ℕ)) : Type 0 where
   pub texts : List OwnedText
   pub long : length texts ≡ n
   pub placed : placed_texts (live_of old.bytes) more ≡ option_map (λ (qs : List OwnedText). texts ++ qs)
@@ -24,17 +24,17 @@ pub record AreLaid (old now : Cut) (y : Extent) (n : ℕ) (more : List (List ℕ
   pub served : AllByRecursion IsServed texts
 
 -- all of them, or as many as there are before the first without a fit
-pub record AreLaidUpTo (old new : Cut) (y : Extent) (n : ℕ) (more : List (List ℕ)) : Type 0 where
+pub record StoresArrayUpTo (old new : WindowState) (y : Extent) (n : ℕ) (more : List (List ℕ)) : Type 0 where
   pub laid : AreLaid old new y n more
   pub within : n ≤ length more
   pub stopped : n < length more → placed_texts (live_of new.bytes) (drop n more) ≡ None
 
-abbrev pub LaysTexts : Cut → Cut → ℕ → List (List ℕ) → ℕ → Type 0
+abbrev pub LaysTexts : WindowState → WindowState → ℕ → List (List ℕ) → ℕ → Type 0
 LaysTexts old new array more n = (y : Extent) → handle y ≡ array → extent_at (live_of old.bytes) array ≡ Some y
-    → AreLaidUpTo old new y n more
+    → StoresArrayUpTo old new y n more
 
 -- the array and the texts
-pub record AreLaidOut (old new : Cut) (more : List (List ℕ)) (array : ℕ) : Type 0 where
+pub record StoresArrayOk (old new : WindowState) (more : List (List ℕ)) (array : ℕ) : Type 0 where
   pub block : Extent
   pub at : array ≡ handle block
   pub fit : place (live_of old.bytes) (16 * length more) Storage ≡ Some block
@@ -47,11 +47,11 @@ pub record AreLaidOut (old new : Cut) (more : List (List ℕ)) (array : ℕ) : T
   pub served : AllByRecursion IsServed texts
 
 -- one of them has no space; where it is the array, nothing changes
-pub record AreNotLaidOut (old new : Cut) (more : List (List ℕ)) (e : Refusal) : Type 0 where
+pub record StoresArrayErr (old new : WindowState) (more : List (List ℕ)) (e : Refusal) : Type 0 where
   pub refusal : e ≡ NoSpace
   pub none : all_texts (live_of old.bytes) more ≡ None
-  pub restored : IsRestored current old new
+  pub restored : KeepsLiveSet current old new
   pub first : new_array (live_of old.bytes) (length more) ≡ None → new ≡ old
 
-abbrev pub LaysOut : Cut → Cut → List (List ℕ) → Result ℕ Refusal → Type 0
-LaysOut old new more result = MatchResult result (AreLaidOut old new more) (AreNotLaidOut old new more)
+abbrev pub StoresArray : WindowState → WindowState → List (List ℕ) → Result ℕ Refusal → Type 0
+StoresArray old new more result = MatchResult result (StoresArrayOk old new more) (StoresArrayErr old new more)

@@ -2,25 +2,25 @@
 use Rattle.std.specs.Prelude.{◌≡◌, ◌≢◌, ℕ, ◌+◌, ◌-◌, ◌*◌, ◌%◌, ◌<◌, ◌≤◌, ◌⊎◌, IsTrue, IfSome, Option, Some, None, List}
 use Rattle.std.specs.Prelude.{[], ◌∷◌, insert, length, option_map, option_to_list, Result, MatchResult}
 use Rattle.std.specs.List.{AllByRecursion}
-use Rattle.raw_region.specs.{Memory.Memory, Memory.Cut, Memory.bytes_of, Memory.word_at, Format.current}
+use Rattle.raw_region.specs.{Memory.Memory, Memory.WindowState, Memory.bytes_of, Memory.word_at, Format.current}
 use Rattle.offset_link.specs.Link.{link_at}
-use Rattle.best_fit.specs.{Exchange.IsExchanged, Exchange.IsRestored, Exchange.IsWidened, Fit.place, Fit.regrow}
-use Rattle.best_fit.specs.{Extents.Extent, Extents.handle, Table.Table, Table.is_table, Table.serves}
-use Rattle.best_fit.specs.Heap.{IsAllocated, IsChanged, IsHeap, KeepsGaps, SameBlock, extent_at, has_room, live_of}
+use Rattle.best_fit.specs.{Exchange.ExchangesBlocks, Exchange.KeepsLiveSet, Exchange.WidensBlock, Fit.place, Fit.regrow}
+use Rattle.best_fit.specs.{Extents.Extent, Extents.handle, Table.BackingArray, Table.has_backing, Table.serves}
+use Rattle.best_fit.specs.Heap.{AllocatesOk, ChangesBytes, IsHeap, KeepsGaps, SameBlock, extent_at, has_room, live_of}
 use Rattle.block_tags.specs.declared.tile.Role.TheVariants.{Storage}
 use Rattle.seg_types.specs.{declared.refusals.Refusal.Refusal, declared.refusals.Refusal.TheVariants.NoSpace}
 use Rattle.best_fit.specs.declared.places.Place.{Place}
-use Rattle.seg_vector.specs.{Standing.place_at}
-use Rattle.seg_vector.specs.Vector.{AreTextLinks, IsOwnedText, OwnedText, capacity_for_one, grown_table}
-use Rattle.seg_vector.specs.TextsCalls.{AreOthers, IsStillAtFirst, IsWithoutFit, IsTextPutIn, IsTexts, IsTextsNow}
+use Rattle.seg_vector.specs.{Containers.place_at}
+use Rattle.seg_vector.specs.Vector.{AreTextLinks, IsOwnedText, OwnedText, capacity_for_one, grown_backing}
+use Rattle.seg_vector.specs.TextsCalls.{AreDistinct, RefusesFirstBlock, LacksFit, InsertsTextOk, IsTexts, ReplacesTexts}
 use Rattle.seg_vector.specs.TextsCalls.{one_more, placed_text, text_blocks}
 
 -- blocks are gone and others came, and nothing in those that stay changes
-abbrev pub IsSwapped : Cut → Cut → List Extent → List Extent → Type 0
-IsSwapped old new gone come = IsExchanged current old new 0 0 gone come
+abbrev pub IsSwapped : WindowState → WindowState → List Extent → List Extent → Type 0
+IsSwapped old new gone come = ExchangesBlocks current old new 0 0 gone come
 
 -- these blocks are gone, and nothing in those that stay changes; where there are none, nothing does
-pub record AreReleased (old new : Cut) (xs : List Extent) : Type 0 where
+pub record FreesBlocks (old new : WindowState) (xs : List Extent) : Type 0 where
   pub change : IsSwapped old new xs []
   pub same : xs ≡ [] → new ≡ old
 
@@ -44,7 +44,7 @@ pub record AreHeldElements (b : List ℕ) (array n : ℕ) (ps : List OwnedText) 
   pub links : AreTextLinks (bytes_of b) array ps
   pub live : AreLive b (text_blocks ps)
   pub apart : AllByRecursion (λ (x : Extent). handle x ≢ array) (text_blocks ps)
-  pub others : AreOthers (text_blocks ps)
+  pub others : AreDistinct (text_blocks ps)
 
 -- each of n links, 16 bytes from one to the next, leads to a multiple of 16, or nowhere
 abbrev pub AreEvenLinks : Memory → ℕ → ℕ → Type 0
@@ -63,8 +63,8 @@ pub record HasElementRoom (b : List ℕ) (array at : ℕ) (text : Option ℕ) : 
   pub target : IfSome text (λ target. target % 16 ≡ 0)
 
 -- the element at an offset is this now
-pub record IsElementPut (old new : Cut) (at : ℕ) (text : Option ℕ) (len : ℕ) : Type 0 where
-  pub change : IsChanged current old new at 16
+pub record PutsElement (old new : WindowState) (at : ℕ) (text : Option ℕ) (len : ℕ) : Type 0 where
+  pub change : ChangesBytes current old new at 16
   pub link : link_at (bytes_of new.bytes) at ≡ text
   pub len_word : word_at (bytes_of new.bytes) (at + 8) ≡ len
 
@@ -74,13 +74,13 @@ pub record IsSameElement (m m' : Memory) (a b : ℕ) : Type 0 where
   pub len_word : word_at m' (b + 8) ≡ word_at m (a + 8)
 
 -- and so do n of them
-abbrev pub AreSameElements : Memory → Memory → ℕ → ℕ → ℕ → Type 0
-AreSameElements m m' a b n = (j : ℕ) → j < n → IsSameElement m m' (a + 16 * j) (b + 16 * j)
+abbrev pub SameElements : Memory → Memory → ℕ → ℕ → ℕ → Type 0
+SameElements m m' a b n = (j : ℕ) → j < n → IsSameElement m m' (a + 16 * j) (b + 16 * j)
 
 -- n elements at b say what those at a said, and nothing else changes
-pub record AreCarried (old new : Cut) (a b n : ℕ) : Type 0 where
-  pub change : IsChanged current old new b (16 * n)
-  pub carried : AreSameElements (bytes_of old.bytes) (bytes_of new.bytes) a b n
+pub record CarriesElements (old new : WindowState) (a b n : ℕ) : Type 0 where
+  pub change : ChangesBytes current old new b (16 * n)
+  pub carried : SameElements (bytes_of old.bytes) (bytes_of new.bytes) a b n
 
 -- n elements of one block, and as many places for them in another, or in the same one, but not behind them in it
 pub record CanCarryDown (b : List ℕ) (from from_at to to_at n : ℕ) : Type 0 where
@@ -100,9 +100,9 @@ pub record CanCarryUp (b : List ℕ) (array at n : ℕ) : Type 0 where
   pub even : AreEvenLinks (bytes_of b) (array + at) n
 
 -- a block of storage is taken into use
-abbrev pub TakesStorage : Cut → Cut → ℕ → Result ℕ Refusal → Type 0
-TakesStorage old new n result = MatchResult result (IsAllocated current old new n Storage)
-    (IsWithoutFit old new (place (live_of old.bytes) n Storage))
+abbrev pub TakesStorage : WindowState → WindowState → ℕ → Result ℕ Refusal → Type 0
+TakesStorage old new n result = MatchResult result (AllocatesOk current old new n Storage)
+    (LacksFit old new (place (live_of old.bytes) n Storage))
 
 -- ---- the block of a text
 
@@ -114,7 +114,7 @@ IsServed q = elim q.extent [
 ]
 
 -- a block was taken into use, and the text stands in it; an empty one needs none, and nothing changes
-pub record IsTextPlaced (old new : Cut) (bytes : List ℕ) (block : Option ℕ) : Type 0 where
+pub record PlacesTextOk (old new : WindowState) (bytes : List ℕ) (block : Option ℕ) : Type 0 where
   pub text : OwnedText
   pub placed : placed_text (live_of old.bytes) bytes ≡ Some text
   pub same : text.bytes ≡ bytes
@@ -124,53 +124,53 @@ pub record IsTextPlaced (old new : Cut) (bytes : List ℕ) (block : Option ℕ) 
   pub owned : IsOwnedText (bytes_of new.bytes) text
   pub served : IsServed text
 
-abbrev pub PlacesText : Cut → Cut → List ℕ → Result (Option ℕ) Refusal → Type 0
-PlacesText old new bytes result = MatchResult result (IsTextPlaced old new bytes)
-    (IsWithoutFit old new (placed_text (live_of old.bytes) bytes))
+abbrev pub PlacesText : WindowState → WindowState → List ℕ → Result (Option ℕ) Refusal → Type 0
+PlacesText old new bytes result = MatchResult result (PlacesTextOk old new bytes)
+    (LacksFit old new (placed_text (live_of old.bytes) bytes))
 
 -- ---- an array with more places
 
 -- The old array has the room where it stands; or a new block was taken into use, beside the old one.
-pub data IsAsked (old new : Cut) (o : Option Extent) (n g : ℕ) : Type 0 where
-  widened : (w : IsWidened current old new g n) → o ≡ Some w.before → IsAsked old new o n g
-  taken : (a : IsAllocated current old new n Storage g) → regrow (live_of old.bytes) o n ≡ Some a.extent
+pub data ReservesArray (old new : WindowState) (o : Option Extent) (n g : ℕ) : Type 0 where
+  widened : (w : WidensBlock current old new g n) → o ≡ Some w.before → ReservesArray old new o n g
+  taken : (a : AllocatesOk current old new n Storage g) → regrow (live_of old.bytes) o n ≡ Some a.extent
       → IsAsked old new o n g
 
-abbrev pub AsksArray : Cut → Cut → Place → ℕ → Result ℕ Refusal → Type 0
+abbrev pub AsksArray : WindowState → WindowState → Place → ℕ → Result ℕ Refusal → Type 0
 AsksArray old new p n result =
-    (ps : List OwnedText) (t : Table) → IsTexts old.bytes p ps t
-    → MatchResult result (IsAsked old new t.extent (16 * n))
-    (IsWithoutFit old new (regrow (live_of old.bytes) t.extent (16 * n)))
+    (ps : List OwnedText) (t : BackingArray) → IsTexts old.bytes p ps t
+    → MatchResult result (ReservesArray old new t.extent (16 * n))
+    (LacksFit old new (regrow (live_of old.bytes) t.extent (16 * n)))
 
 -- the link and the capacity at a place are these
-pub record IsPointed (old new : Cut) (p : Place) (g n : ℕ) : Type 0 where
-  pub change : IsChanged current old new (place_at p) 24
+pub record SetsStorage (old new : WindowState) (p : Place) (g n : ℕ) : Type 0 where
+  pub change : ChangesBytes current old new (place_at p) 24
   pub link : link_at (bytes_of new.bytes) (place_at p) ≡ Some g
   pub len_word : word_at (bytes_of new.bytes) (place_at p + 8) ≡ word_at (bytes_of old.bytes) (place_at p + 8)
   pub capacity : word_at (bytes_of new.bytes) (place_at p + 16) ≡ n
 
 -- An array was asked for, and other blocks were taken into use since; the vector is as it was.
-pub record IsReady (now : Cut) (p : Place) (g n : ℕ) : Type 0 where
-  pub first : Cut
-  pub mid : Cut
+pub record IsArrayReserved (now : WindowState) (p : Place) (g n : ℕ) : Type 0 where
+  pub first : WindowState
+  pub mid : WindowState
   pub ps : List OwnedText
-  pub t : Table
+  pub t : BackingArray
   pub loose : List Extent
   pub texts : IsTexts first.bytes p ps t
   pub more : t.capacity < n
-  pub asked : IsAsked first mid t.extent (16 * n) g
+  pub asked : ReservesArray first mid t.extent (16 * n) g
   pub since : IsSwapped mid now [] loose
   pub still : loose ≡ [] → now ≡ mid
 
 -- The vector has the array that was asked for, with n places. Its elements are the same, and the blocks taken since
 -- stay. No byte of a gap changed where the array is the block that it was, and no other one was taken.
-pub record IsAdopted (first old new : Cut) (p : Place) (ps : List OwnedText) (t : Table) (g n : ℕ)
+pub record IsAdopted (first old new : WindowState) (p : Place) (ps : List OwnedText) (t : BackingArray) (g n : ℕ)
     (loose : List Extent) : Type 0 where
   pub array : Extent
   pub at : g ≡ handle array
-  pub grown : grown_table (live_of first.bytes) 16 n t ≡ Some (record { capacity = n; extent = Some array })
+  pub grown : grown_backing (live_of first.bytes) 16 n t ≡ Some (record { capacity = n; extent = Some array })
   pub serves : IsTrue (serves array Storage (16 * n))
-  pub change : IsExchanged current first new (place_at p) 24 (option_to_list t.extent) (array ∷ loose)
+  pub change : ExchangesBlocks current first new (place_at p) 24 (option_to_list t.extent) (array ∷ loose)
   pub gaps : option_to_list t.extent ≡ array ∷ loose → KeepsGaps first new
   pub link : link_at (bytes_of new.bytes) (place_at p) ≡ Some g
   pub len_word : word_at (bytes_of new.bytes) (place_at p + 8) ≡ length ps
@@ -178,19 +178,20 @@ pub record IsAdopted (first old new : Cut) (p : Place) (ps : List OwnedText) (t 
   pub links : AreTextLinks (bytes_of new.bytes) g ps
   pub stay : AllByRecursion (SameBlock (bytes_of old.bytes) (bytes_of new.bytes)) loose
 
-abbrev pub Adopts : Cut → Cut → Place → ℕ → ℕ → Type 0
-Adopts old new p g n = (r : IsReady old p g n) → IsAdopted r.first old new p r.ps r.t g n r.loose
+abbrev pub Adopts : WindowState → WindowState → Place → ℕ → ℕ → Type 0
+Adopts old new p g n = (r : IsArrayReserved old p g n) → IsAdopted r.first old new p r.ps r.t g n r.loose
 
 -- ---- one text more
 
 -- Since the first call blocks were exchanged: the array y, with m places, came, and the block of a text that is not in
 -- the vector yet.
-pub record IsPutReady (first now : Cut) (p : Place) (ps : List OwnedText) (t : Table) (y : Extent) (m : ℕ)
+pub record IsPutReady (first now : WindowState) (p : Place) (ps : List OwnedText) (t : BackingArray) (y : Extent)
+    (m : ℕ)
     (z : OwnedText) : Type 0 where
   pub texts : IsTexts first.bytes p ps t
-  pub table : IsTrue (is_table Storage 16 (record { capacity = m; extent = Some y }))
+  pub table : IsTrue (has_backing Storage 16 (record { capacity = m; extent = Some y }))
   pub space : length ps < m
-  pub change : IsExchanged current first now (place_at p) 24 (option_to_list t.extent) (y ∷ option_to_list z.extent)
+  pub change : ExchangesBlocks current first now (place_at p) 24 (option_to_list t.extent) (y ∷ option_to_list z.extent)
   pub gaps : option_to_list t.extent ≡ y ∷ option_to_list z.extent → KeepsGaps first now
   pub link : link_at (bytes_of now.bytes) (place_at p) ≡ Some (handle y)
   pub len_word : word_at (bytes_of now.bytes) (place_at p + 8) ≡ length ps
@@ -200,10 +201,10 @@ pub record IsPutReady (first now : Cut) (p : Place) (ps : List OwnedText) (t : T
   pub served : IsServed z
 
 -- the element of this text is asked for at i
-pub record IsPutAsked (now : Cut) (p : Place) (i : ℕ) (block : Option ℕ) (len : ℕ) : Type 0 where
-  pub first : Cut
+pub record IsPutAsked (now : WindowState) (p : Place) (i : ℕ) (block : Option ℕ) (len : ℕ) : Type 0 where
+  pub first : WindowState
   pub ps : List OwnedText
-  pub t : Table
+  pub t : BackingArray
   pub y : Extent
   pub m : ℕ
   pub z : OwnedText
@@ -211,11 +212,11 @@ pub record IsPutAsked (now : Cut) (p : Place) (i : ℕ) (block : Option ℕ) (le
   pub inside : i ≤ length ps
   pub at : block ≡ option_map handle z.extent
 
-abbrev pub PutsIn : Cut → Cut → Place → ℕ → Option ℕ → ℕ → Type 0
-PutsIn old new p i block len =
-    (first : Cut) (ps : List OwnedText) (t : Table) (y : Extent) (m : ℕ) (z : OwnedText)
+abbrev pub InsertsElement : WindowState → WindowState → Place → ℕ → Option ℕ → ℕ → Type 0
+InsertsElement old new p i block len =
+    (first : WindowState) (ps : List OwnedText) (t : BackingArray) (y : Extent) (m : ℕ) (z : OwnedText)
     → IsPutReady first old p ps t y m z → i ≤ length ps → block ≡ option_map handle z.extent → len ≡ length z.bytes
-    → IsTextsNow first new p (option_to_list t.extent) (y ∷ option_to_list z.extent) (insert ps i z)
+    → ReplacesTexts first new p (option_to_list t.extent) (y ∷ option_to_list z.extent) (insert ps i z)
     (record { capacity = m; extent = Some y })
 
 -- ---- an array that is given up
@@ -225,57 +226,60 @@ abbrev pub room_of : Option Extent → ℕ
 room_of o = elim o [ None ↦ 0 | Some x ↦ x.len - 16 ]
 
 abbrev pub HasArrayRoom : List ℕ → Place → ℕ → Type 0
-HasArrayRoom b p room = (ps : List OwnedText) (t : Table) → IsTexts b p ps t → room ≡ room_of t.extent
+HasArrayRoom b p room = (ps : List OwnedText) (t : BackingArray) → IsTexts b p ps t → room ≡ room_of t.extent
 
 -- an array was asked for, and nothing else since
-pub record IsToBeGivenUp (now : Cut) (p : Place) (g room : ℕ) : Type 0 where
-  pub first : Cut
+pub record IsToBeGivenUp (now : WindowState) (p : Place) (g room : ℕ) : Type 0 where
+  pub first : WindowState
   pub ps : List OwnedText
-  pub t : Table
+  pub t : BackingArray
   pub n : ℕ
   pub texts : IsTexts first.bytes p ps t
-  pub asked : IsAsked first now t.extent (16 * n) g
+  pub asked : ReservesArray first now t.extent (16 * n) g
   pub was : room ≡ room_of t.extent
 
-abbrev pub GivesUp : Cut → Cut → Place → ℕ → ℕ → Type 0
+abbrev pub GivesUp : WindowState → WindowState → Place → ℕ → ℕ → Type 0
 GivesUp old new p g room =
-    (first : Cut) (ps : List OwnedText) (t : Table) (n : ℕ) → IsTexts first.bytes p ps t
-    → IsAsked first old t.extent (16 * n) g → room ≡ room_of t.extent → IsRestored current first new
+    (first : WindowState) (ps : List OwnedText) (t : BackingArray) (n : ℕ) → IsTexts first.bytes p ps t
+    → ReservesArray first old t.extent (16 * n) g → room ≡ room_of t.extent → KeepsLiveSet current first new
 
 -- ---- a text put in, once the index is known to be inside
 
-pub record IsRefusedPut (old new : Cut) (ps : List OwnedText) (t : Table) (bytes : List ℕ) (e : Refusal) : Type 0 where
+pub record RefusesPut (old new : WindowState) (ps : List OwnedText) (t : BackingArray) (bytes : List ℕ)
+    (e : Refusal) : Type 0 where
   pub refusal : e ≡ NoSpace
   pub none : one_more (live_of old.bytes) ps t bytes ≡ None
-  pub restored : IsRestored current old new
-  pub first : IsStillAtFirst old new ps t bytes
+  pub restored : KeepsLiveSet current old new
+  pub first : RefusesFirstBlock old new ps t bytes
 
-abbrev pub PutsInto : Cut → Cut → Place → List OwnedText → Table → ℕ → List ℕ → Result (Unit {0}) Refusal → Type 0
-PutsInto old new p ps t i bytes result = MatchResult result (λ u. IsTextPutIn old new p ps t i bytes)
-    (IsRefusedPut old new ps t bytes)
+abbrev pub PutsInto : WindowState → WindowState → Place → List OwnedText → BackingArray → ℕ → List ℕ
+    → Result (Unit {0}) Refusal → Type 0
+PutsInto old new p ps t i bytes result = MatchResult result (λ u. InsertsTextOk old new p ps t i bytes)
+    (RefusesPut old new ps t bytes)
 
 -- there is a place for it
-pub record HasPlace (b : List ℕ) (p : Place) (i : ℕ) : Type 0 where
+pub record HasSpareCapacity (b : List ℕ) (p : Place) (i : ℕ) : Type 0 where
   pub ps : List OwnedText
-  pub t : Table
+  pub t : BackingArray
   pub texts : IsTexts b p ps t
   pub inside : i ≤ length ps
   pub space : length ps < t.capacity
 
-abbrev pub InsertsWithin : Cut → Cut → Place → ℕ → List ℕ → Result (Unit {0}) Refusal → Type 0
-InsertsWithin old new p i bytes result = (ps : List OwnedText) (t : Table) → IsTexts old.bytes p ps t → i ≤ length ps
+abbrev pub InsertsWithin : WindowState → WindowState → Place → ℕ → List ℕ → Result (Unit {0}) Refusal → Type 0
+InsertsWithin old new p i bytes result = (ps : List OwnedText) (t : BackingArray) → IsTexts old.bytes p ps t
+    → i ≤ length ps
     → length ps < t.capacity → PutsInto old new p ps t i bytes result
 
 -- there is none, and n places are asked for
-pub record IsFull (b : List ℕ) (p : Place) (i n : ℕ) : Type 0 where
+pub record IsFullVector (b : List ℕ) (p : Place) (i n : ℕ) : Type 0 where
   pub ps : List OwnedText
-  pub t : Table
+  pub t : BackingArray
   pub texts : IsTexts b p ps t
   pub inside : i ≤ length ps
   pub full : t.capacity ≤ length ps
   pub wanted : n ≡ capacity_for_one (length ps) t.capacity
 
-abbrev pub InsertsGrowing : Cut → Cut → Place → ℕ → List ℕ → ℕ → Result (Unit {0}) Refusal → Type 0
+abbrev pub InsertsGrowing : WindowState → WindowState → Place → ℕ → List ℕ → ℕ → Result (Unit {0}) Refusal → Type 0
 InsertsGrowing old new p i bytes n result =
-    (ps : List OwnedText) (t : Table) → IsTexts old.bytes p ps t → i ≤ length ps → t.capacity ≤ length ps
+    (ps : List OwnedText) (t : BackingArray) → IsTexts old.bytes p ps t → i ≤ length ps → t.capacity ≤ length ps
     → n ≡ capacity_for_one (length ps) t.capacity → PutsInto old new p ps t i bytes result

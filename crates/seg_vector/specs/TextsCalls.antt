@@ -5,17 +5,18 @@ use Rattle.std.specs.Prelude.{Option, Some, None, Result, Ok, MatchResult, List,
 use Rattle.std.specs.Prelude.{flat_map, slice_get, slice_set, option_map, option_to_list}
 use Rattle.std.specs.List.{AllByRecursion}
 use denote.Ref.{Bor}
-use Rattle.raw_region.specs.{Memory.Cut, Memory.bytes_of, Memory.word_at, Format.current}
+use Rattle.raw_region.specs.{Memory.WindowState, Memory.bytes_of, Memory.word_at, Format.current}
 use Rattle.block_tags.specs.declared.tile.Role.TheVariants.{Storage}
 use Rattle.offset_link.specs.Link.{link_at}
-use Rattle.best_fit.specs.{Exchange.IsExchanged, Exchange.IsRestored, Extents.Extent, Extents.LiveSet, Extents.handle}
+use Rattle.best_fit.specs.{Exchange.ExchangesBlocks, Exchange.KeepsLiveSet, Extents.Extent, Extents.LiveSet}
+use Rattle.best_fit.specs.{Extents.handle}
 use Rattle.best_fit.specs.{Fit.place, Fit.resized}
 use Rattle.best_fit.specs.Heap.{IsHeap, KeepsGaps, extent_at, has_room, live_of}
-use Rattle.best_fit.specs.Table.{Table, cut_table, is_table, no_table, serves}
+use Rattle.best_fit.specs.Table.{BackingArray, shrunk_backing, has_backing, no_backing, serves}
 use Rattle.seg_types.specs.{declared.refusals.Refusal.Refusal, declared.refusals.Refusal.TheVariants.NoSpace}
 use Rattle.best_fit.specs.declared.places.Place.{Place}
-use Rattle.seg_vector.specs.{Standing.IsOwnBlock, Standing.place_at, VectorCalls.IsOutside}
-use Rattle.seg_vector.specs.Vector.{IsOwnedText, IsTextsAt, OwnedText, capacity_for_one, grown_table}
+use Rattle.seg_vector.specs.{Containers.IsStorageBlock, Containers.place_at, VectorCalls.RefusesIndex}
+use Rattle.seg_vector.specs.Vector.{IsOwnedText, IsTextsAt, OwnedText, capacity_for_one, grown_backing}
 
 -- the blocks of texts
 abbrev pub text_blocks : List OwnedText → List Extent
@@ -30,39 +31,39 @@ IsHeldText live q = elim q.extent [
 ]
 
 -- no two of these are one block
-abbrev pub AreOthers : List Extent → Type 0
-AreOthers [] = ⊤
-AreOthers (x ∷ xs) = AllByRecursion (λ (y : Extent). handle x ≢ handle y) xs × AreOthers xs
+abbrev pub AreDistinct : List Extent → Type 0
+AreDistinct [] = ⊤
+AreDistinct (x ∷ xs) = AllByRecursion (λ (y : Extent). handle x ≢ handle y) xs × AreDistinct xs
 
 -- the vector at a place has these texts, each in a block of its own
-pub record IsTexts (b : List ℕ) (p : Place) (ps : List OwnedText) (t : Table) : Type 0 where
+pub record IsTexts (b : List ℕ) (p : Place) (ps : List OwnedText) (t : BackingArray) : Type 0 where
   pub heap : IsHeap current b
   pub words : IsTextsAt (bytes_of b) (place_at p) ps t
   pub aligned : p.at % 8 ≡ 0
   pub room : IsTrue (has_room (live_of b) p.handle (p.at + 24))
-  pub table : IsTrue (is_table Storage 16 t)
+  pub table : IsTrue (has_backing Storage 16 t)
   pub fits : length ps ≤ t.capacity
-  pub own : IsOwnBlock (live_of b) p.handle t.extent
+  pub own : IsStorageBlock (live_of b) p.handle t.extent
   pub held : AllByRecursion (IsHeldText (live_of b)) ps
   pub apart : AllByRecursion (λ (x : Extent). handle x ≢ p.handle) (text_blocks ps)
-  pub others : AreOthers (option_to_list t.extent ++ text_blocks ps)
+  pub others : AreDistinct (option_to_list t.extent ++ text_blocks ps)
 
-abbrev pub IsSomeTexts : List ℕ → Place → Type 0
-IsSomeTexts b p = (ps : List OwnedText) × ((t : Table) × IsTexts b p ps t)
+abbrev pub IsTextsContainer : List ℕ → Place → Type 0
+IsTextsContainer b p = (ps : List OwnedText) × ((t : BackingArray) × IsTexts b p ps t)
 
 -- The vector has these texts and this array. Some blocks are gone and others came; of all blocks that stay, those of
 -- the other texts among them, no byte changes but its own 24, and of gaps none where the blocks are those that they
 -- were.
-pub record IsTextsNow (old new : Cut) (p : Place) (gone come : List Extent) (ps : List OwnedText)
-    (t : Table) : Type 0 where
-  pub change : IsExchanged current old new (place_at p) 24 gone come
+pub record ReplacesTexts (old new : WindowState) (p : Place) (gone come : List Extent) (ps : List OwnedText)
+    (t : BackingArray) : Type 0 where
+  pub change : ExchangesBlocks current old new (place_at p) 24 gone come
   pub gaps : gone ≡ come → KeepsGaps old new
   pub texts : IsTexts new.bytes p ps t
 
 -- ---- what is asked for
 
 -- the live set in which the array is grown: the old array is in use still, where it is not the new one
-abbrev pub with_array : LiveSet → Table → Table → LiveSet
+abbrev pub with_array : LiveSet → BackingArray → BackingArray → LiveSet
 with_array live t u =
     if nat_lt t.capacity u.capacity then elim u.extent [ None ↦ live | Some x ↦ resized live x ] else live
 
@@ -85,28 +86,28 @@ placed_texts live (bytes ∷ more) = elim (placed_text live bytes) [
 ]
 
 -- an array of so many places, in a new block
-abbrev pub new_array : LiveSet → ℕ → Option Table
-new_array live n = if n == 0 then Some no_table else option_map
-    (λ (x : Extent). let u : Table = record { capacity = n; extent = Some x } in u) (place live (16 * n) Storage)
+abbrev pub new_array : LiveSet → ℕ → Option BackingArray
+new_array live n = if n == 0 then Some no_backing else option_map
+    (λ (x : Extent). let u : BackingArray = record { capacity = n; extent = Some x } in u) (place live (16 * n) Storage)
 
 -- ---- what calls answer and do
 
-abbrev pub CountsTexts : List ℕ → Place → ℕ → Type 0
-CountsTexts b p n = (ps : List OwnedText) (t : Table) → IsTexts b p ps t → n ≡ length ps
+abbrev pub ReadsTextsLen : List ℕ → Place → ℕ → Type 0
+ReadsTextsLen b p n = (ps : List OwnedText) (t : BackingArray) → IsTexts b p ps t → n ≡ length ps
 
-abbrev pub CountsTextPlaces : List ℕ → Place → ℕ → Type 0
-CountsTextPlaces b p n = (ps : List OwnedText) (t : Table) → IsTexts b p ps t → n ≡ t.capacity
+abbrev pub ReadsTextsCapacity : List ℕ → Place → ℕ → Type 0
+ReadsTextsCapacity b p n = (ps : List OwnedText) (t : BackingArray) → IsTexts b p ps t → n ≡ t.capacity
 
 -- a vector without a place, whatever stood there
-abbrev pub StartsTexts : Cut → Cut → Place → Type 0
-StartsTexts old new p = IsTextsNow old new p [] [] [] no_table
+abbrev pub InitsTexts : WindowState → WindowState → Place → Type 0
+InitsTexts old new p = ReplacesTexts old new p [] [] [] no_backing
 
 -- the text with i others before it, or a refusal where there are no more
-abbrev pub GetsText : Cut → Place → ℕ → Result (Bor (List ℕ)) Refusal → Type 0
+abbrev pub GetsText : WindowState → Place → ℕ → Result (Bor (List ℕ)) Refusal → Type 0
 GetsText c p i result =
-    (ps : List OwnedText) (t : Table) → IsTexts c.bytes p ps t
+    (ps : List OwnedText) (t : BackingArray) → IsTexts c.bytes p ps t
     → MatchResult result (λ (r : Bor (List ℕ)). option_map (λ (q : OwnedText). q.bytes) (slice_get ps i) ≡ Some r.now)
-    (IsOutside c c (length ps) i)
+    (RefusesIndex c c (length ps) i)
 
 -- 16 bytes at an offset in a block are the element of a text
 pub record IsTextElement (b : List ℕ) (array at : ℕ) (q : OwnedText) : Type 0 where
@@ -119,132 +120,136 @@ pub record IsTextElement (b : List ℕ) (array at : ℕ) (q : OwnedText) : Type 
   pub held : IsHeldText (live_of b) q
 
 -- there is no space for the one block that is asked for, and nothing changes
-pub record IsWithoutFit {A : Type 0} (old new : Cut) (met : Option A) (e : Refusal) : Type 0 where
+pub record LacksFit {A : Type 0} (old new : WindowState) (met : Option A) (e : Refusal) : Type 0 where
   pub refusal : e ≡ NoSpace
   pub none : met ≡ None
   pub same : new ≡ old
 
 -- One of several blocks has no space. Those before it are given back, and an array that was lengthened is shortened:
 -- the same blocks are in use as before, and nothing in them changed.
-pub record IsGivenUp {A : Type 0} (old new : Cut) (met : Option A) (e : Refusal) : Type 0 where
+pub record UndoesRequests {A : Type 0} (old new : WindowState) (met : Option A) (e : Refusal) : Type 0 where
   pub refusal : e ≡ NoSpace
   pub none : met ≡ None
-  pub restored : IsRestored current old new
+  pub restored : KeepsLiveSet current old new
 
 -- one more with i others before it: the array's growth is asked for first, and then the text's block
-pub record IsTextPutIn (old new : Cut) (p : Place) (ps : List OwnedText) (t : Table) (i : ℕ)
+pub record InsertsTextOk (old new : WindowState) (p : Place) (ps : List OwnedText) (t : BackingArray) (i : ℕ)
     (bytes : List ℕ) : Type 0 where
-  pub table : Table
-  pub grown : grown_table (live_of old.bytes) 16 (capacity_for_one (length ps) t.capacity) t ≡ Some table
+  pub table : BackingArray
+  pub grown : grown_backing (live_of old.bytes) 16 (capacity_for_one (length ps) t.capacity) t ≡ Some table
   pub text : OwnedText
   pub placed : placed_text (with_array (live_of old.bytes) t table) bytes ≡ Some text
-  pub now : IsTextsNow old new p (option_to_list t.extent) (option_to_list table.extent ++ option_to_list text.extent)
+  pub now : ReplacesTexts old new p (option_to_list t.extent) (option_to_list table.extent
+      ++ option_to_list text.extent)
       (insert ps i text) table
 
-abbrev pub one_more : LiveSet → List OwnedText → Table → List ℕ → Option OwnedText
-one_more live ps t bytes = elim (grown_table live 16 (capacity_for_one (length ps) t.capacity) t) [
+abbrev pub one_more : LiveSet → List OwnedText → BackingArray → List ℕ → Option OwnedText
+one_more live ps t bytes = elim (grown_backing live 16 (capacity_for_one (length ps) t.capacity) t) [
   | None ↦ None
   | Some u ↦ placed_text (with_array live t u) bytes
 ]
 
 -- Where the block that is asked for first has no space, nothing changes: it is the text's where there is a place, and
 -- else the array's.
-pub record IsStillAtFirst (old new : Cut) (ps : List OwnedText) (t : Table) (bytes : List ℕ) : Type 0 where
+pub record RefusesFirstBlock (old new : WindowState) (ps : List OwnedText) (t : BackingArray) (bytes : List ℕ) :
+    Type 0 where
   pub text : length ps < t.capacity → placed_text (live_of old.bytes) bytes ≡ None → new ≡ old
-  pub array : grown_table (live_of old.bytes) 16 (capacity_for_one (length ps) t.capacity) t ≡ None → new ≡ old
+  pub array : grown_backing (live_of old.bytes) 16 (capacity_for_one (length ps) t.capacity) t ≡ None → new ≡ old
 
-abbrev pub StaysAtFirst : Cut → Cut → Place → List ℕ → Type 0
-StaysAtFirst old new p bytes = (ps : List OwnedText) (t : Table) → IsTexts old.bytes p ps t
-    → IsStillAtFirst old new ps t bytes
+abbrev pub StaysAtFirst : WindowState → WindowState → Place → List ℕ → Type 0
+StaysAtFirst old new p bytes = (ps : List OwnedText) (t : BackingArray) → IsTexts old.bytes p ps t
+    → RefusesFirstBlock old new ps t bytes
 
-abbrev pub PushesText : Cut → Cut → Place → List ℕ → Result (Unit {0}) Refusal → Type 0
+abbrev pub PushesText : WindowState → WindowState → Place → List ℕ → Result (Unit {0}) Refusal → Type 0
 PushesText old new p bytes result =
-    (ps : List OwnedText) (t : Table) → IsTexts old.bytes p ps t
-    → MatchResult result (λ u. IsTextPutIn old new p ps t (length ps) bytes)
-    (IsGivenUp old new (one_more (live_of old.bytes) ps t bytes))
+    (ps : List OwnedText) (t : BackingArray) → IsTexts old.bytes p ps t
+    → MatchResult result (λ u. InsertsTextOk old new p ps t (length ps) bytes)
+    (UndoesRequests old new (one_more (live_of old.bytes) ps t bytes))
 
-abbrev pub InsertsText : Cut → Cut → Place → ℕ → List ℕ → Result (Unit {0}) Refusal → Type 0
+abbrev pub InsertsText : WindowState → WindowState → Place → ℕ → List ℕ → Result (Unit {0}) Refusal → Type 0
 InsertsText old new p i bytes result =
-    (ps : List OwnedText) (t : Table) → IsTexts old.bytes p ps t
-    → MatchResult result (λ u. (i ≤ length ps) × IsTextPutIn old new p ps t i bytes)
-    (λ e. IsOutside old new (length ps + 1) i e ⊎
-    ((i ≤ length ps) × IsGivenUp old new (one_more (live_of old.bytes) ps t bytes) e))
+    (ps : List OwnedText) (t : BackingArray) → IsTexts old.bytes p ps t
+    → MatchResult result (λ u. (i ≤ length ps) × InsertsTextOk old new p ps t i bytes)
+    (λ e. RefusesIndex old new (length ps + 1) i e ⊎
+    ((i ≤ length ps) × UndoesRequests old new (one_more (live_of old.bytes) ps t bytes) e))
 
 -- another in the place of one, whose block is released once there is the new one
-pub record IsTextSet (old new : Cut) (p : Place) (ps : List OwnedText) (t : Table) (i : ℕ)
+pub record SetsTextOk (old new : WindowState) (p : Place) (ps : List OwnedText) (t : BackingArray) (i : ℕ)
     (bytes : List ℕ) : Type 0 where
   pub before : OwnedText
   pub found : slice_get ps i ≡ Some before
   pub text : OwnedText
   pub placed : placed_text (live_of old.bytes) bytes ≡ Some text
-  pub now : IsTextsNow old new p (option_to_list t.extent ++ option_to_list before.extent)
+  pub now : ReplacesTexts old new p (option_to_list t.extent ++ option_to_list before.extent)
       (option_to_list t.extent ++ option_to_list text.extent) (slice_set ps i text) t
 
-abbrev pub SetsText : Cut → Cut → Place → ℕ → List ℕ → Result (Unit {0}) Refusal → Type 0
+abbrev pub SetsText : WindowState → WindowState → Place → ℕ → List ℕ → Result (Unit {0}) Refusal → Type 0
 SetsText old new p i bytes result =
-    (ps : List OwnedText) (t : Table) → IsTexts old.bytes p ps t
-    → MatchResult result (λ u. IsTextSet old new p ps t i bytes)
-    (λ e. IsOutside old new (length ps) i e ⊎
-    ((i < length ps) × IsWithoutFit old new (placed_text (live_of old.bytes) bytes) e))
+    (ps : List OwnedText) (t : BackingArray) → IsTexts old.bytes p ps t
+    → MatchResult result (λ u. SetsTextOk old new p ps t i bytes)
+    (λ e. RefusesIndex old new (length ps) i e ⊎
+    ((i < length ps) × LacksFit old new (placed_text (live_of old.bytes) bytes) e))
 
 -- one less, and its block is released; the array stays
-pub record IsTextLeftOut (old new : Cut) (p : Place) (ps : List OwnedText) (t : Table) (i : ℕ) : Type 0 where
+pub record RemovesTextOk (old new : WindowState) (p : Place) (ps : List OwnedText) (t : BackingArray) (i : ℕ) : Type
+    0 where
   pub before : OwnedText
   pub found : slice_get ps i ≡ Some before
-  pub now : IsTextsNow old new p (option_to_list t.extent ++ option_to_list before.extent) (option_to_list t.extent)
+  pub now : ReplacesTexts old new p (option_to_list t.extent ++ option_to_list before.extent) (option_to_list t.extent)
       (remove ps i) t
 
-abbrev pub ErasesText : Cut → Cut → Place → ℕ → Result (Unit {0}) Refusal → Type 0
+abbrev pub ErasesText : WindowState → WindowState → Place → ℕ → Result (Unit {0}) Refusal → Type 0
 ErasesText old new p i result =
-    (ps : List OwnedText) (t : Table) → IsTexts old.bytes p ps t
-    → MatchResult result (λ u. IsTextLeftOut old new p ps t i) (IsOutside old new (length ps) i)
+    (ps : List OwnedText) (t : BackingArray) → IsTexts old.bytes p ps t
+    → MatchResult result (λ u. RemovesTextOk old new p ps t i) (RefusesIndex old new (length ps) i)
 
-abbrev pub PopsText : Cut → Cut → Place → Result (Unit {0}) Refusal → Type 0
+abbrev pub PopsText : WindowState → WindowState → Place → Result (Unit {0}) Refusal → Type 0
 PopsText old new p result =
-    (ps : List OwnedText) (t : Table) → IsTexts old.bytes p ps t
-    → MatchResult result (λ u. IsTextLeftOut old new p ps t (length ps - 1)) (IsOutside old new (length ps) 0)
+    (ps : List OwnedText) (t : BackingArray) → IsTexts old.bytes p ps t
+    → MatchResult result (λ u. RemovesTextOk old new p ps t (length ps - 1)) (RefusesIndex old new (length ps) 0)
 
-abbrev pub ReservesTexts : Cut → Cut → Place → ℕ → Result (Unit {0}) Refusal → Type 0
+abbrev pub ReservesTexts : WindowState → WindowState → Place → ℕ → Result (Unit {0}) Refusal → Type 0
 ReservesTexts old new p n result =
-    (ps : List OwnedText) (t : Table) → IsTexts old.bytes p ps t
+    (ps : List OwnedText) (t : BackingArray) → IsTexts old.bytes p ps t
     → MatchResult result
-    (λ u. (w : Table) × (grown_table (live_of old.bytes) 16 n t ≡ Some w)
-    × IsTextsNow old new p (option_to_list t.extent) (option_to_list w.extent) ps w)
-    (IsWithoutFit old new (grown_table (live_of old.bytes) 16 n t))
+    (λ u. (w : BackingArray) × (grown_backing (live_of old.bytes) 16 n t ≡ Some w)
+    × ReplacesTexts old new p (option_to_list t.extent) (option_to_list w.extent) ps w)
+    (LacksFit old new (grown_backing (live_of old.bytes) 16 n t))
 
 -- where there are n places already, nothing changes
-abbrev pub ReservesNoTexts : Cut → Cut → Place → ℕ → Result (Unit {0}) Refusal → Type 0
-ReservesNoTexts old new p n result = (ps : List OwnedText) (t : Table) → IsTexts old.bytes p ps t → n ≤ t.capacity
+abbrev pub ReservesNoTexts : WindowState → WindowState → Place → ℕ → Result (Unit {0}) Refusal → Type 0
+ReservesNoTexts old new p n result = (ps : List OwnedText) (t : BackingArray) → IsTexts old.bytes p ps t
+    → n ≤ t.capacity
     → (result ≡ Ok tt) × (new ≡ old)
 
-abbrev pub ShrinksTexts : Cut → Cut → Place → Type 0
+abbrev pub ShrinksTexts : WindowState → WindowState → Place → Type 0
 ShrinksTexts old new p =
-    (ps : List OwnedText) (t : Table) → IsTexts old.bytes p ps t
-    → let u = cut_table (live_of old.bytes) 16 (length ps) t in
-    IsTextsNow old new p (option_to_list t.extent) (option_to_list u.extent) ps u
+    (ps : List OwnedText) (t : BackingArray) → IsTexts old.bytes p ps t
+    → let u = shrunk_backing (live_of old.bytes) 16 (length ps) t in
+    ReplacesTexts old new p (option_to_list t.extent) (option_to_list u.extent) ps u
 
 -- no text: their blocks are released, and the array stays
-abbrev pub ClearsTexts : Cut → Cut → Place → Type 0
+abbrev pub ClearsTexts : WindowState → WindowState → Place → Type 0
 ClearsTexts old new p =
-    (ps : List OwnedText) (t : Table) → IsTexts old.bytes p ps t
-    → IsTextsNow old new p (option_to_list t.extent ++ text_blocks ps) (option_to_list t.extent) [] t
+    (ps : List OwnedText) (t : BackingArray) → IsTexts old.bytes p ps t
+    → ReplacesTexts old new p (option_to_list t.extent ++ text_blocks ps) (option_to_list t.extent) [] t
 
-abbrev pub ReleasesTexts : Cut → Cut → Place → Type 0
+abbrev pub ReleasesTexts : WindowState → WindowState → Place → Type 0
 ReleasesTexts old new p =
-    (ps : List OwnedText) (t : Table) → IsTexts old.bytes p ps t
-    → IsTextsNow old new p (option_to_list t.extent ++ text_blocks ps) [] [] no_table
+    (ps : List OwnedText) (t : BackingArray) → IsTexts old.bytes p ps t
+    → ReplacesTexts old new p (option_to_list t.extent ++ text_blocks ps) [] [] no_backing
 
 -- one or more texts: a new array for just so many and then the texts, and then the old ones are released
-pub record AreTextsAssigned (old new : Cut) (p : Place) (ps : List OwnedText) (t : Table)
+pub record AssignsTextsOk (old new : WindowState) (p : Place) (ps : List OwnedText) (t : BackingArray)
     (more : List (List ℕ)) : Type 0 where
-  pub table : Table
+  pub table : BackingArray
   pub array : new_array (live_of old.bytes) (length more) ≡ Some table
   pub texts : List OwnedText
   pub placed : placed_texts (elim table.extent [
     | None ↦ live_of old.bytes
     | Some x ↦ resized (live_of old.bytes) x
   ]) more ≡ Some texts
-  pub now : IsTextsNow old new p (option_to_list t.extent ++ text_blocks ps)
+  pub now : ReplacesTexts old new p (option_to_list t.extent ++ text_blocks ps)
       (option_to_list table.extent ++ text_blocks texts) texts table
 
 abbrev pub all_texts : LiveSet → List (List ℕ) → Option (List OwnedText)
@@ -253,9 +258,9 @@ all_texts live more = elim (new_array live (length more)) [
   | Some u ↦ placed_texts (elim u.extent [ None ↦ live | Some x ↦ resized live x ]) more
 ]
 
-abbrev pub AssignsTexts : Cut → Cut → Place → List (List ℕ) → Result (Unit {0}) Refusal → Type 0
+abbrev pub AssignsTexts : WindowState → WindowState → Place → List (List ℕ) → Result (Unit {0}) Refusal → Type 0
 AssignsTexts old new p [] result = (result ≡ Ok tt) × ClearsTexts old new p
 AssignsTexts old new p (bytes ∷ more) result =
-    (ps : List OwnedText) (t : Table) → IsTexts old.bytes p ps t
-    → MatchResult result (λ u. AreTextsAssigned old new p ps t (bytes ∷ more))
-    (IsGivenUp old new (all_texts (live_of old.bytes) (bytes ∷ more)))
+    (ps : List OwnedText) (t : BackingArray) → IsTexts old.bytes p ps t
+    → MatchResult result (λ u. AssignsTextsOk old new p ps t (bytes ∷ more))
+    (UndoesRequests old new (all_texts (live_of old.bytes) (bytes ∷ more)))

@@ -2,11 +2,11 @@
 use Rattle.std.specs.Prelude.{◌≡◌, ℕ, ◌+◌, ◌*◌, max, ℤ, Bool, ◌&&◌, Option, Some, None, List, [], ◌∷◌, length, flat_map}
 use Rattle.std.specs.Prelude.{if◌then◌else◌, nat_lt, nat_le, ⊤, option_map}
 use Rattle.std.specs.List.{AllByRecursion, list_all}
-use Rattle.raw_region.specs.Memory.{Memory, Has, word_at}
+use Rattle.raw_region.specs.Memory.{Memory, HasBytesAt, word_at}
 use Rattle.offset_link.specs.Link.{link_at}
 use Rattle.block_tags.specs.declared.tile.Role.TheVariants.{Storage}
 use Rattle.best_fit.specs.{Extents.Extent, Extents.LiveSet, Extents.handle, Fit.regrow}
-use Rattle.best_fit.specs.Table.{Table, is_table, table_link}
+use Rattle.best_fit.specs.Table.{BackingArray, has_backing, table_link}
 use Rattle.seg_types.specs.{declared.kinds.ScalarKind.ScalarKind, Kinds.spelling}
 
 -- the capacity that a vector has for one element more
@@ -23,11 +23,11 @@ abbrev pub capacity_for_text : ℕ → ℕ → ℕ
 capacity_for_text len capacity = if nat_le len capacity then capacity else max (max 16 (2 * capacity)) len
 
 -- the table with so many places: as it is where it has them, else its block regrown
-unfoldable pub grown_table : LiveSet → ℕ → ℕ → Table → Option Table
+unfoldable pub grown_backing : LiveSet → ℕ → ℕ → BackingArray → Option BackingArray
 unfolding regrow
-grown_table live each n t =
+grown_backing live each n t =
     if nat_le n t.capacity then Some t
-    else option_map (λ x. let u : Table = record { capacity = n; extent = Some x } in u)
+    else option_map (λ x. let u : BackingArray = record { capacity = n; extent = Some x } in u)
     (regrow live t.extent (each * n))
 
 abbrev pub spelled : ScalarKind → List ℤ → List ℕ
@@ -35,30 +35,31 @@ spelled k = flat_map (spelling k)
 
 -- The block begins with these bytes; without a block there are none. So a null link, the length 1 and the capacity 0
 -- are no vector of one number.
-abbrev pub IsStorage : Memory → Table → List ℕ → Type 0
-IsStorage m t bytes = elim t.extent [ None ↦ bytes ≡ [] | Some x ↦ Has m (handle x) bytes ]
+abbrev pub IsStorage : Memory → BackingArray → List ℕ → Type 0
+IsStorage m t bytes = elim t.extent [ None ↦ bytes ≡ [] | Some x ↦ HasBytesAt m (handle x) bytes ]
 
 -- the container at an offset has these bytes, which spell len elements
-pub record IsContainerAt (m : Memory) (at len : ℕ) (t : Table) (bytes : List ℕ) : Type 0 where
+pub record IsContainerAt (m : Memory) (at len : ℕ) (t : BackingArray) (bytes : List ℕ) : Type 0 where
   pub link : link_at m at ≡ table_link t
   pub len_word : word_at m (at + 8) ≡ len
   pub capacity : word_at m (at + 16) ≡ t.capacity
   pub storage : IsStorage m t bytes
 
 -- the vector at an offset, of elements of any type
-abbrev pub IsVectorOf : {T : Type 0} → (T → List ℕ) → Memory → ℕ → List T → Table → Type 0
+abbrev pub IsVectorOf : {T : Type 0} → (T → List ℕ) → Memory → ℕ → List T → BackingArray → Type 0
 IsVectorOf spelling_of m at items t = IsContainerAt m at (length items) t (flat_map spelling_of items)
 
 -- there are no more elements than places of so many bytes, and each is a value of its type
-abbrev pub is_vector : {T : Type 0} → ℕ → (T → Bool) → List T → Table → Bool
-is_vector size is_value items t = nat_le (length items) t.capacity && is_table Storage size t && list_all is_value items
+abbrev pub is_vector : {T : Type 0} → ℕ → (T → Bool) → List T → BackingArray → Bool
+is_vector size is_value items t =
+    nat_le (length items) t.capacity && has_backing Storage size t && list_all is_value items
 
 -- numbers of a scalar kind
-abbrev pub IsVectorAt : Memory → ℕ → ScalarKind → List ℤ → Table → Type 0
+abbrev pub IsVectorAt : Memory → ℕ → ScalarKind → List ℤ → BackingArray → Type 0
 IsVectorAt m at k items t = IsVectorOf (spelling k) m at items t
 
 -- bytes
-abbrev pub IsTextAt : Memory → ℕ → List ℕ → Table → Type 0
+abbrev pub IsTextAt : Memory → ℕ → List ℕ → BackingArray → Type 0
 IsTextAt m at bytes t = IsContainerAt m at (length bytes) t bytes
 
 -- a text in a vector: its bytes, and their block, which an empty one has not
@@ -73,13 +74,13 @@ AreTextLinks m at (p ∷ ps) =
     (link_at m at ≡ option_map handle p.extent) × (word_at m (at + 8) ≡ length p.bytes) × AreTextLinks m (at + 16) ps
 
 abbrev pub IsOwnedText : Memory → OwnedText → Type 0
-IsOwnedText m p = elim p.extent [ None ↦ p.bytes ≡ [] | Some x ↦ Has m (handle x) p.bytes ]
+IsOwnedText m p = elim p.extent [ None ↦ p.bytes ≡ [] | Some x ↦ HasBytesAt m (handle x) p.bytes ]
 
-abbrev pub AreInArray : Memory → Table → List OwnedText → Type 0
+abbrev pub AreInArray : Memory → BackingArray → List OwnedText → Type 0
 AreInArray m t ps = elim t.extent [ None ↦ ps ≡ [] | Some x ↦ AreTextLinks m (handle x) ps ]
 
 -- the vector of texts at an offset: its array has the elements, and each text stands in a block of its own
-pub record IsTextsAt (m : Memory) (at : ℕ) (ps : List OwnedText) (t : Table) : Type 0 where
+pub record IsTextsAt (m : Memory) (at : ℕ) (ps : List OwnedText) (t : BackingArray) : Type 0 where
   pub link : link_at m at ≡ table_link t
   pub len_word : word_at m (at + 8) ≡ length ps
   pub capacity : word_at m (at + 16) ≡ t.capacity

@@ -1,168 +1,181 @@
 -- A vector at a place, of any type whose values are spelled by `size` bytes, and what its calls answer and do.
 use Rattle.std.specs.Prelude.{◌≡◌, ℕ, ◌+◌, ◌-◌, ◌<◌, ◌≤◌, ◌⊎◌, Bool, IsTrue, Some, Result, Ok, MatchResult, List, []}
-use Rattle.std.specs.Prelude.{◌∷◌, ◌++◌, drop, length, take, insert, remove, slice_get, slice_set, flat_map, option_to_list}
+use Rattle.std.specs.Prelude.{◌∷◌, ◌++◌, drop, length, take, insert, remove, slice_get, slice_set, flat_map}
+use Rattle.std.specs.Prelude.{option_to_list}
 use Rattle.std.specs.List.{list_all}
-use Rattle.raw_region.specs.{Memory.Cut, Format.current}
-use Rattle.best_fit.specs.{Exchange.IsExchanged, Heap.KeepsGaps, Heap.live_of}
-use Rattle.best_fit.specs.Table.{Table, cut_table, no_table}
+use Rattle.raw_region.specs.{Memory.WindowState, Format.current}
+use Rattle.best_fit.specs.{Exchange.ExchangesBlocks, Heap.KeepsGaps, Heap.live_of}
+use Rattle.best_fit.specs.Table.{BackingArray, shrunk_backing, no_backing}
 use Rattle.seg_types.specs.{declared.refusals.Refusal.Refusal, declared.refusals.Refusal.TheVariants.OutOfRange}
 use Rattle.best_fit.specs.declared.places.Place.{Place}
-use Rattle.seg_vector.specs.{Standing.Stands, Standing.place_at, Vector.capacity_for_more, Vector.capacity_for_one, Vector.grown_table}
-pub use Rattle.seg_vector.specs.Standing.{IsWithoutSpace}
+use Rattle.seg_vector.specs.{Containers.IsContainer, Containers.place_at, Vector.capacity_for_more}
+use Rattle.seg_vector.specs.{Vector.capacity_for_one, Vector.grown_backing}
+pub use Rattle.seg_vector.specs.Containers.{LacksSpace}
 
 -- the vector at a place has these elements
 pub record IsVector {T : Type 0} (size : ℕ) (is_value : T → Bool) (spelling : T → List ℕ) (b : List ℕ) (p : Place)
-    (xs : List T) (t : Table) : Type 0 where
-  pub stands : Stands b p size (length xs) t (flat_map spelling xs)
+    (xs : List T) (t : BackingArray) : Type 0 where
+  pub stands : IsContainer b p size (length xs) t (flat_map spelling xs)
   pub values : IsTrue (list_all is_value xs)
 
 abbrev pub IsSomeVector : {T : Type 0} → ℕ → (T → Bool) → (T → List ℕ) → List ℕ → Place → Type 0
-IsSomeVector {T} size is_value spelling b p = (xs : List T) × ((t : Table) × IsVector size is_value spelling b p xs t)
+IsSomeVector {T} size is_value spelling b p =
+    (xs : List T) × ((t : BackingArray) × IsVector size is_value spelling b p xs t)
 
 -- The vector with these elements and this storage is in the place of the one with that storage. Of all blocks that stay
 -- no byte changes but its own 24, and of gaps none where the storage is the block that it was.
-pub record IsVectorNow {T : Type 0} (size : ℕ) (is_value : T → Bool) (spelling : T → List ℕ) (old new : Cut) (p : Place)
-    (t : Table) (ys : List T) (u : Table) : Type 0 where
-  pub change : IsExchanged current old new (place_at p) 24 (option_to_list t.extent) (option_to_list u.extent)
+pub record ReplacesVector {T : Type 0} (size : ℕ) (is_value : T → Bool) (spelling : T
+    → List ℕ) (old new : WindowState) (p : Place)
+    (t : BackingArray) (ys : List T) (u : BackingArray) : Type 0 where
+  pub change : ExchangesBlocks current old new (place_at p) 24 (option_to_list t.extent) (option_to_list u.extent)
   pub gaps : t.extent ≡ u.extent → KeepsGaps old new
   pub vector : IsVector size is_value spelling new.bytes p ys u
 
 -- it has n places, or more
-pub record IsVectorGrown {T : Type 0} (size : ℕ) (is_value : T → Bool) (spelling : T → List ℕ) (old new : Cut)
-    (p : Place) (t : Table) (n : ℕ) (ys : List T) : Type 0 where
-  pub table : Table
-  pub grown : grown_table (live_of old.bytes) size n t ≡ Some table
-  pub now : IsVectorNow size is_value spelling old new p t ys table
+pub record GrowsVectorOk {T : Type 0} (size : ℕ) (is_value : T → Bool) (spelling : T → List ℕ) (old new : WindowState)
+    (p : Place) (t : BackingArray) (n : ℕ) (ys : List T) : Type 0 where
+  pub table : BackingArray
+  pub grown : grown_backing (live_of old.bytes) size n t ≡ Some table
+  pub now : ReplacesVector size is_value spelling old new p t ys table
 
 -- ---- refusals
 
 -- the index is at the end or behind it, and nothing changes
-pub record IsOutside (old new : Cut) (end i : ℕ) (e : Refusal) : Type 0 where
+pub record RefusesIndex (old new : WindowState) (end i : ℕ) (e : Refusal) : Type 0 where
   pub refusal : e ≡ OutOfRange
   pub outside : end ≤ i
   pub same : new ≡ old
 
 -- ---- what is read
 
-abbrev pub Counts : {T : Type 0} → ℕ → (T → Bool) → (T → List ℕ) → List ℕ → Place → ℕ → Type 0
-Counts {T} size is_value spelling b p n = (xs : List T) (t : Table) → IsVector size is_value spelling b p xs t
+abbrev pub ReadsVectorLen : {T : Type 0} → ℕ → (T → Bool) → (T → List ℕ) → List ℕ → Place → ℕ → Type 0
+ReadsVectorLen {T} size is_value spelling b p n = (xs : List T) (t : BackingArray)
+    → IsVector size is_value spelling b p xs t
     → n ≡ length xs
 
 abbrev pub CountsPlaces : {T : Type 0} → ℕ → (T → Bool) → (T → List ℕ) → List ℕ → Place → ℕ → Type 0
-CountsPlaces {T} size is_value spelling b p n = (xs : List T) (t : Table) → IsVector size is_value spelling b p xs t
+CountsPlaces {T} size is_value spelling b p n = (xs : List T) (t : BackingArray)
+    → IsVector size is_value spelling b p xs t
     → n ≡ t.capacity
 
 -- the element with i others before it, or a refusal where there are no more
-abbrev pub Gets : {T : Type 0} → ℕ → (T → Bool) → (T → List ℕ) → Cut → Place → ℕ → Result T Refusal → Type 0
+abbrev pub Gets : {T : Type 0} → ℕ → (T → Bool) → (T → List ℕ) → WindowState → Place → ℕ → Result T Refusal → Type 0
 Gets {T} size is_value spelling c p i result =
-    (xs : List T) (t : Table) → IsVector size is_value spelling c.bytes p xs t
-    → MatchResult result (λ x. slice_get xs i ≡ Some x) (IsOutside c c (length xs) i)
+    (xs : List T) (t : BackingArray) → IsVector size is_value spelling c.bytes p xs t
+    → MatchResult result (λ x. slice_get xs i ≡ Some x) (RefusesIndex c c (length xs) i)
 
 -- ---- what changes in the places that there are
 
 -- a vector without a place, whatever stood there
-abbrev pub Starts : {T : Type 0} → ℕ → (T → Bool) → (T → List ℕ) → Cut → Cut → Place → Type 0
-Starts {T} size is_value spelling old new p =
-    let none : List T = [] in IsVectorNow size is_value spelling old new p no_table none no_table
+abbrev pub InitsVector : {T : Type 0} → ℕ → (T → Bool) → (T → List ℕ) → WindowState → WindowState → Place → Type 0
+InitsVector {T} size is_value spelling old new p =
+    let none : List T = [] in ReplacesVector size is_value spelling old new p no_backing none no_backing
 
-abbrev pub Sets : {T : Type 0} → ℕ → (T → Bool) → (T → List ℕ) → Cut → Cut → Place → ℕ → T → Result (Unit {0}) Refusal
+abbrev pub Sets : {T : Type 0} → ℕ → (T → Bool) → (T → List ℕ) → WindowState → WindowState → Place → ℕ → T
+    → Result (Unit {0}) Refusal
     → Type 0
 Sets {T} size is_value spelling old new p i x result =
-    (xs : List T) (t : Table) → IsVector size is_value spelling old.bytes p xs t
-    → MatchResult result (λ u. (i < length xs) × IsVectorNow size is_value spelling old new p t (slice_set xs i x) t)
-    (IsOutside old new (length xs) i)
+    (xs : List T) (t : BackingArray) → IsVector size is_value spelling old.bytes p xs t
+    → MatchResult result (λ u. (i < length xs) × ReplacesVector size is_value spelling old new p t (slice_set xs i x) t)
+    (RefusesIndex old new (length xs) i)
 
 -- a list with others in the places from one on
 abbrev pub replaced : {T : Type 0} → List T → ℕ → List T → List T
 replaced old first new = take first old ++ (new ++ drop (first + length new) old)
 
 -- all of them are there to be written over, or none is
-abbrev pub SetsAll : {T : Type 0} → ℕ → (T → Bool) → (T → List ℕ) → Cut → Cut → Place → ℕ → List T
+abbrev pub SetsAll : {T : Type 0} → ℕ → (T → Bool) → (T → List ℕ) → WindowState → WindowState → Place → ℕ → List T
     → Result (Unit {0}) Refusal → Type 0
 SetsAll {T} size is_value spelling old new p first ys result =
-    (xs : List T) (t : Table) → IsVector size is_value spelling old.bytes p xs t
+    (xs : List T) (t : BackingArray) → IsVector size is_value spelling old.bytes p xs t
     → MatchResult result (λ u. (first + length ys ≤ length xs)
-    × IsVectorNow size is_value spelling old new p t (replaced xs first ys) t)
-    (IsOutside old new (length xs + 1) (first + length ys))
+    × ReplacesVector size is_value spelling old new p t (replaced xs first ys) t)
+    (RefusesIndex old new (length xs + 1) (first + length ys))
 
-abbrev pub Pops : {T : Type 0} → ℕ → (T → Bool) → (T → List ℕ) → Cut → Cut → Place → Result T Refusal → Type 0
+abbrev pub Pops : {T : Type 0} → ℕ → (T → Bool) → (T → List ℕ) → WindowState → WindowState → Place
+    → Result T Refusal → Type 0
 Pops {T} size is_value spelling old new p result =
-    (xs : List T) (t : Table) → IsVector size is_value spelling old.bytes p xs t
+    (xs : List T) (t : BackingArray) → IsVector size is_value spelling old.bytes p xs t
     → MatchResult result (λ x. (slice_get xs (length xs - 1) ≡ Some x)
-    × IsVectorNow size is_value spelling old new p t (take (length xs - 1) xs) t) (IsOutside old new (length xs) 0)
+    × ReplacesVector size is_value spelling old new p t (take (length xs - 1) xs) t)
+    (RefusesIndex old new (length xs) 0)
 
-abbrev pub ErasesFrom : {T : Type 0} → ℕ → (T → Bool) → (T → List ℕ) → Cut → Cut → Place → ℕ → Result (Unit {0}) Refusal
+abbrev pub ErasesFrom : {T : Type 0} → ℕ → (T → Bool) → (T → List ℕ) → WindowState → WindowState → Place → ℕ
+    → Result (Unit {0}) Refusal
     → Type 0
 ErasesFrom {T} size is_value spelling old new p i result =
-    (xs : List T) (t : Table) → IsVector size is_value spelling old.bytes p xs t
-    → MatchResult result (λ u. (i < length xs) × IsVectorNow size is_value spelling old new p t (remove xs i) t)
-    (IsOutside old new (length xs) i)
+    (xs : List T) (t : BackingArray) → IsVector size is_value spelling old.bytes p xs t
+    → MatchResult result (λ u. (i < length xs) × ReplacesVector size is_value spelling old new p t (remove xs i) t)
+    (RefusesIndex old new (length xs) i)
 
-abbrev pub Clears : {T : Type 0} → ℕ → (T → Bool) → (T → List ℕ) → Cut → Cut → Place → Type 0
+abbrev pub Clears : {T : Type 0} → ℕ → (T → Bool) → (T → List ℕ) → WindowState → WindowState → Place → Type 0
 Clears {T} size is_value spelling old new p =
-    (xs : List T) (t : Table) → IsVector size is_value spelling old.bytes p xs t
-    → let none : List T = [] in IsVectorNow size is_value spelling old new p t none t
+    (xs : List T) (t : BackingArray) → IsVector size is_value spelling old.bytes p xs t
+    → let none : List T = [] in ReplacesVector size is_value spelling old new p t none t
 
 -- ---- what needs places, or has fewer
 
-abbrev pub Pushes : {T : Type 0} → ℕ → (T → Bool) → (T → List ℕ) → Cut → Cut → Place → T → Result (Unit {0}) Refusal
+abbrev pub Pushes : {T : Type 0} → ℕ → (T → Bool) → (T → List ℕ) → WindowState → WindowState → Place → T
+    → Result (Unit {0}) Refusal
     → Type 0
 Pushes {T} size is_value spelling old new p x result =
-    (xs : List T) (t : Table) → IsVector size is_value spelling old.bytes p xs t
+    (xs : List T) (t : BackingArray) → IsVector size is_value spelling old.bytes p xs t
     → let n = capacity_for_one (length xs) t.capacity in
-    MatchResult result (λ u. IsVectorGrown size is_value spelling old new p t n (xs ++ x ∷ []))
-    (IsWithoutSpace old new size n t)
+    MatchResult result (λ u. GrowsVectorOk size is_value spelling old new p t n (xs ++ x ∷ []))
+    (LacksSpace old new size n t)
 
 -- where both could be refused, the index is
-abbrev pub InsertsInto : {T : Type 0} → ℕ → (T → Bool) → (T → List ℕ) → Cut → Cut → Place → ℕ → T
+abbrev pub InsertsInto : {T : Type 0} → ℕ → (T → Bool) → (T → List ℕ) → WindowState → WindowState → Place → ℕ → T
     → Result (Unit {0}) Refusal → Type 0
 InsertsInto {T} size is_value spelling old new p i x result =
-    (xs : List T) (t : Table) → IsVector size is_value spelling old.bytes p xs t
+    (xs : List T) (t : BackingArray) → IsVector size is_value spelling old.bytes p xs t
     → let n = capacity_for_one (length xs) t.capacity in
-    MatchResult result (λ u. (i ≤ length xs) × IsVectorGrown size is_value spelling old new p t n (insert xs i x))
-    (λ e. IsOutside old new (length xs + 1) i e ⊎ ((i ≤ length xs) × IsWithoutSpace old new size n t e))
+    MatchResult result (λ u. (i ≤ length xs) × GrowsVectorOk size is_value spelling old new p t n (insert xs i x))
+    (λ e. RefusesIndex old new (length xs + 1) i e ⊎ ((i ≤ length xs) × LacksSpace old new size n t e))
 
-abbrev pub Reserves : {T : Type 0} → ℕ → (T → Bool) → (T → List ℕ) → Cut → Cut → Place → ℕ → Result (Unit {0}) Refusal
+abbrev pub ReservesVector : {T : Type 0} → ℕ → (T → Bool) → (T → List ℕ) → WindowState → WindowState → Place → ℕ
+    → Result (Unit {0}) Refusal
     → Type 0
-Reserves {T} size is_value spelling old new p n result =
-    (xs : List T) (t : Table) → IsVector size is_value spelling old.bytes p xs t
-    → MatchResult result (λ u. IsVectorGrown size is_value spelling old new p t n xs) (IsWithoutSpace old new size n t)
+ReservesVector {T} size is_value spelling old new p n result =
+    (xs : List T) (t : BackingArray) → IsVector size is_value spelling old.bytes p xs t
+    → MatchResult result (λ u. GrowsVectorOk size is_value spelling old new p t n xs) (LacksSpace old new size n t)
 
 -- where there are n places already, nothing changes
-abbrev pub ReservesNothing : {T : Type 0} → ℕ → (T → Bool) → (T → List ℕ) → Cut → Cut → Place → ℕ
+abbrev pub ReservesNothing : {T : Type 0} → ℕ → (T → Bool) → (T → List ℕ) → WindowState → WindowState → Place → ℕ
     → Result (Unit {0}) Refusal → Type 0
 ReservesNothing {T} size is_value spelling old new p n result =
-    (xs : List T) (t : Table) → IsVector size is_value spelling old.bytes p xs t → n ≤ t.capacity
+    (xs : List T) (t : BackingArray) → IsVector size is_value spelling old.bytes p xs t → n ≤ t.capacity
     → (result ≡ Ok tt) × (new ≡ old)
 
-abbrev pub Assigns : {T : Type 0} → ℕ → (T → Bool) → (T → List ℕ) → Cut → Cut → Place → List T
+abbrev pub Assigns : {T : Type 0} → ℕ → (T → Bool) → (T → List ℕ) → WindowState → WindowState → Place → List T
     → Result (Unit {0}) Refusal → Type 0
 Assigns {T} size is_value spelling old new p ys result =
-    (xs : List T) (t : Table) → IsVector size is_value spelling old.bytes p xs t
-    → MatchResult result (λ u. IsVectorGrown size is_value spelling old new p t (length ys) ys)
-    (IsWithoutSpace old new size (length ys) t)
+    (xs : List T) (t : BackingArray) → IsVector size is_value spelling old.bytes p xs t
+    → MatchResult result (λ u. GrowsVectorOk size is_value spelling old new p t (length ys) ys)
+    (LacksSpace old new size (length ys) t)
 
 -- values put behind the last one, where there are places for all of them or more can be had
-abbrev pub ExtendsBy : {T : Type 0} → ℕ → (T → Bool) → (T → List ℕ) → Cut → Cut → Place → List T
+abbrev pub ExtendsBy : {T : Type 0} → ℕ → (T → Bool) → (T → List ℕ) → WindowState → WindowState → Place → List T
     → Result (Unit {0}) Refusal → Type 0
 ExtendsBy {T} size is_value spelling old new p ys result =
-    (xs : List T) (t : Table) → IsVector size is_value spelling old.bytes p xs t
+    (xs : List T) (t : BackingArray) → IsVector size is_value spelling old.bytes p xs t
     → let n = capacity_for_more (length xs) (length ys) t.capacity in
-    MatchResult result (λ u. IsVectorGrown size is_value spelling old new p t n (xs ++ ys))
-    (IsWithoutSpace old new size n t)
+    MatchResult result (λ u. GrowsVectorOk size is_value spelling old new p t n (xs ++ ys))
+    (LacksSpace old new size n t)
 
-abbrev pub Shrinks : {T : Type 0} → ℕ → (T → Bool) → (T → List ℕ) → Cut → Cut → Place → Type 0
-Shrinks {T} size is_value spelling old new p =
-    (xs : List T) (t : Table) → IsVector size is_value spelling old.bytes p xs t
-    → IsVectorNow size is_value spelling old new p t xs (cut_table (live_of old.bytes) size (length xs) t)
+abbrev pub ShrinksVector : {T : Type 0} → ℕ → (T → Bool) → (T → List ℕ) → WindowState → WindowState → Place → Type 0
+ShrinksVector {T} size is_value spelling old new p =
+    (xs : List T) (t : BackingArray) → IsVector size is_value spelling old.bytes p xs t
+    → ReplacesVector size is_value spelling old new p t xs (shrunk_backing (live_of old.bytes) size (length xs) t)
 
-abbrev pub Releases : {T : Type 0} → ℕ → (T → Bool) → (T → List ℕ) → Cut → Cut → Place → Type 0
-Releases {T} size is_value spelling old new p =
-    (xs : List T) (t : Table) → IsVector size is_value spelling old.bytes p xs t
-    → let none : List T = [] in IsVectorNow size is_value spelling old new p t none no_table
+abbrev pub ReleasesVector : {T : Type 0} → ℕ → (T → Bool) → (T → List ℕ) → WindowState → WindowState → Place → Type 0
+ReleasesVector {T} size is_value spelling old new p =
+    (xs : List T) (t : BackingArray) → IsVector size is_value spelling old.bytes p xs t
+    → let none : List T = [] in ReplacesVector size is_value spelling old new p t none no_backing
 
 -- values put behind the last one, where there are places for all of them
-abbrev pub PutsAll : {T : Type 0} → ℕ → (T → Bool) → (T → List ℕ) → Cut → Cut → Place → List T → Type 0
+abbrev pub PutsAll : {T : Type 0} → ℕ → (T → Bool) → (T → List ℕ) → WindowState → WindowState → Place → List T → Type 0
 PutsAll {T} size is_value spelling old new p ys =
-    (xs : List T) (t : Table) → IsVector size is_value spelling old.bytes p xs t → length xs + length ys ≤ t.capacity
-    → IsVectorNow size is_value spelling old new p t (xs ++ ys) t
+    (xs : List T) (t : BackingArray) → IsVector size is_value spelling old.bytes p xs t
+    → length xs + length ys ≤ t.capacity
+    → ReplacesVector size is_value spelling old new p t (xs ++ ys) t

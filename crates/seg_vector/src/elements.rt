@@ -1,10 +1,11 @@
 //! The elements of a container at a place: read, written over, left out, and put in where there is a place.
 ghost use Rattle.std.specs.{Prelude.◌≡◌, Prelude.◌+◌, Prelude.◌*◌, Prelude.◌<◌, Prelude.◌≤◌, Prelude.IsTrue};
 ghost use Rattle.std.specs.{Prelude.flat_map, Prelude.length, Prelude.true, List.list_all};
-ghost use Rattle.raw_region.specs.{Format.current, Memory.Has, Memory.bytes_of, Memory.patched};
-ghost use Rattle.best_fit.specs.Heap.{IsChanged, IsHeap, has_room, live_of};
-ghost use Rattle.seg_vector.specs.Elements.{Erases, Extends, HasSpot, Overwrites, PutsAt, ReadsAll, ReadsOne, Truncates};
-ghost use Rattle.seg_vector.specs.Standing.{IsStanding, capacity_at, len_at};
+ghost use Rattle.raw_region.specs.{Format.current, Memory.HasBytesAt, Memory.bytes_of, Memory.patched};
+ghost use Rattle.best_fit.specs.Heap.{ChangesBytes, IsHeap, has_room, live_of};
+ghost use Rattle.seg_vector.specs.Elements.{ErasesElement, Extends, HasSpot, Overwrites, PutsAt, ReadsAll, ReadsOne};
+ghost use Rattle.seg_vector.specs.Elements.{Truncates};
+ghost use Rattle.seg_vector.specs.Containers.{IsStanding, capacity_at, len_at};
 
 use crate::places::{LEN, len_of, link_of};
 use best_fit::theorems::loans_write_one_block;
@@ -25,8 +26,8 @@ pub fn elements(heap: &Heap, place: Place, each: u64) -> &[u8]
 
 /// The bytes of the element with `index` others before it.
 pub fn element(heap: &Heap, place: Place, each: u64, index: u64) -> &[u8]
-    requires stands { IsStanding heap.now.bytes place each }
-    requires inside { index < len_at heap.now.bytes place }
+    requires container { IsStanding heap.now.bytes place each }
+    requires in_bounds { index < len_at heap.now.bytes place }
     ensures { ReadsOne heap.now.bytes place each index result.now }
 {
     let all = elements(heap, place, each);
@@ -36,8 +37,8 @@ pub fn element(heap: &Heap, place: Place, each: u64, index: u64) -> &[u8]
 
 /// Leaves the first `n` elements.
 pub fn truncate(heap: &mut Heap, place: Place, each: u64, n: u64)
-    requires stands { IsStanding heap.old.bytes place each }
-    requires fewer { n ≤ len_at heap.old.bytes place }
+    requires container { IsStanding heap.old.bytes place each }
+    requires smaller_count { n ≤ len_at heap.old.bytes place }
     ensures { Truncates heap.old heap.new place each n }
 {
     heap.set_word(place.handle, place.at + LEN, n);
@@ -45,10 +46,10 @@ pub fn truncate(heap: &mut Heap, place: Place, each: u64, n: u64)
 
 /// Writes `n` elements of `each` bytes behind the last one, where the capacity allows.
 pub fn extend(heap: &mut Heap, place: Place, each: u64, n: u64, bytes: &[u8])
-    requires stands { IsStanding heap.old.bytes place each }
+    requires container { IsStanding heap.old.bytes place each }
     requires space { len_at heap.old.bytes place + n ≤ capacity_at heap.old.bytes place }
-    requires some { 1 ≤ each }
-    requires long { length bytes.now ≡ each * n }
+    requires non_empty { 1 ≤ each }
+    requires min_len { length bytes.now ≡ each * n }
     ensures { Extends heap.old heap.new place each n bytes.now }
 {
     let len = len_of(heap, place);
@@ -60,9 +61,9 @@ pub fn extend(heap: &mut Heap, place: Place, each: u64, n: u64, bytes: &[u8])
 
 /// Leaves out the element with `index` others before it. Those behind it move down.
 pub fn erase_element(heap: &mut Heap, place: Place, each: u64, index: u64)
-    requires stands { IsStanding heap.old.bytes place each }
-    requires inside { index < len_at heap.old.bytes place }
-    ensures { Erases heap.old heap.new place each index }
+    requires container { IsStanding heap.old.bytes place each }
+    requires in_bounds { index < len_at heap.old.bytes place }
+    ensures { ErasesElement heap.old heap.new place each index }
 {
     let len = len_of(heap, place);
     if let Some(storage) = link_of(heap, place) {
@@ -75,7 +76,7 @@ pub fn erase_element(heap: &mut Heap, place: Place, each: u64, index: u64)
 
 /// Where an element is put.
 #[derive(Clone, Copy)]
-pub enum Spot {
+pub enum WritePos {
     /// Behind the last one.
     End,
     /// Over the one with so many others before it.
@@ -85,21 +86,21 @@ pub enum Spot {
 }
 
 /// Puts an element of `each` bytes at a spot.
-pub fn put_at(heap: &mut Heap, place: Place, each: u64, spot: Spot, bytes: &[u8])
-    requires stands { IsStanding heap.old.bytes place each }
+pub fn put_at(heap: &mut Heap, place: Place, each: u64, spot: WritePos, bytes: &[u8])
+    requires container { IsStanding heap.old.bytes place each }
     requires spot { HasSpot heap.old.bytes place spot }
-    requires some { 1 ≤ each }
-    requires long { length bytes.now ≡ each }
+    requires non_empty { 1 ≤ each }
+    requires min_len { length bytes.now ≡ each }
     ensures { PutsAt heap.old heap.new place each spot bytes.now }
 {
     match spot {
-        Spot::End => extend(heap, place, each, 1, bytes),
-        Spot::Over(index) => {
+        WritePos::End => extend(heap, place, each, 1, bytes),
+        WritePos::Over(index) => {
             if let Some(storage) = link_of(heap, place) {
                 heap.write(storage, each * index, bytes);
             }
         }
-        Spot::Before(index) => {
+        WritePos::Before(index) => {
             let len = len_of(heap, place);
             if let Some(storage) = link_of(heap, place) {
                 let from = each * index;
@@ -113,11 +114,11 @@ pub fn put_at(heap: &mut Heap, place: Place, each: u64, spot: Spot, bytes: &[u8]
 }
 
 /// Puts a value at a spot.
-pub fn put_value<T: Plain>(heap: &mut Heap, place: Place, spot: Spot, value: T)
-    requires stands { IsStanding heap.old.bytes place T.SIZE }
+pub fn put_value<T: Plain>(heap: &mut Heap, place: Place, spot: WritePos, value: T)
+    requires container { IsStanding heap.old.bytes place T.SIZE }
     requires spot { HasSpot heap.old.bytes place spot }
     ensures value { T.is_value value ≡ true }
-    ensures put { PutsAt heap.old heap.new place T.SIZE spot (T.spelling value) }
+    ensures effect { PutsAt heap.old heap.new place T.SIZE spot (T.spelling value) }
 {
     if T::SIZE as usize <= SHORT_SPELLING_LEN {
         put_by::<T, SHORT_SPELLING_LEN>(heap, place, spot, value);
@@ -127,13 +128,13 @@ pub fn put_value<T: Plain>(heap: &mut Heap, place: Place, spot: Spot, value: T)
 }
 
 /// The same by way of a buffer of `N` bytes.
-fn put_by<T: Plain, const N: usize>(heap: &mut Heap, place: Place, spot: Spot, value: T)
+fn put_by<T: Plain, const N: usize>(heap: &mut Heap, place: Place, spot: WritePos, value: T)
     requires buffer { T.SIZE ≤ N }
-    requires short { N ≤ 4096 }
-    requires stands { IsStanding heap.old.bytes place T.SIZE }
+    requires max_len { N ≤ 4096 }
+    requires container { IsStanding heap.old.bytes place T.SIZE }
     requires spot { HasSpot heap.old.bytes place spot }
     ensures value { T.is_value value ≡ true }
-    ensures put { PutsAt heap.old heap.new place T.SIZE spot (T.spelling value) }
+    ensures effect { PutsAt heap.old heap.new place T.SIZE spot (T.spelling value) }
 {
     let mut buffer = [0u8; N];
     let bytes = &mut buffer[..T::SIZE as usize];
@@ -167,8 +168,8 @@ pub fn spell<T: Plain>(heap: &mut Heap, handle: u64, at: u64, values: &[T])
     requires heap { IsHeap current heap.old.bytes }
     requires room { IsTrue (has_room (live_of heap.old.bytes) handle (at + T.SIZE * length values.now)) }
     ensures values { IsTrue (list_all T.is_value values.now) }
-    ensures change { IsChanged current heap.old heap.new (handle + at) (T.SIZE * length values.now) }
-    ensures content { Has (bytes_of heap.new.bytes) (handle + at) (flat_map T.spelling values.now) }
+    ensures changes { ChangesBytes current heap.old heap.new (handle + at) (T.SIZE * length values.now) }
+    ensures content { HasBytesAt (bytes_of heap.new.bytes) (handle + at) (flat_map T.spelling values.now) }
 {
     loans_write_one_block();
     put_spellings(heap.block_mut(handle), at as usize, values);
@@ -176,11 +177,11 @@ pub fn spell<T: Plain>(heap: &mut Heap, handle: u64, at: u64, values: &[T])
 
 /// Writes over the elements from `first` on with the spellings of values.
 pub fn put_over<T: Plain>(heap: &mut Heap, place: Place, first: u64, values: &[T])
-    requires stands { IsStanding heap.old.bytes place T.SIZE }
-    requires inside { first + length values.now ≤ len_at heap.old.bytes place }
-    requires some { 1 ≤ length values.now }
+    requires container { IsStanding heap.old.bytes place T.SIZE }
+    requires in_bounds { first + length values.now ≤ len_at heap.old.bytes place }
+    requires non_empty { 1 ≤ length values.now }
     ensures values { IsTrue (list_all T.is_value values.now) }
-    ensures over { Overwrites heap.old heap.new place T.SIZE first (flat_map T.spelling values.now) }
+    ensures overwrite { Overwrites heap.old heap.new place T.SIZE first (flat_map T.spelling values.now) }
 {
     if let Some(storage) = link_of(heap, place) {
         spell(heap, storage, T::SIZE * first, values);

@@ -2,18 +2,18 @@
 //! place alone: a call takes the heap anew, so that nothing is borrowed between two calls.
 #![tactic(auto, using(crate::proofs::Storage::sizes))]
 
+mod container_capacity;
 mod elements;
 mod owning;
 mod places;
-mod sizing;
 mod strings;
 mod text_arrays;
 mod texts;
 mod vectors;
 
 pub use best_fit::Place;
+pub use container_capacity::{free_storage, reserve, shrink_storage};
 pub use elements::{spell, truncate};
-pub use sizing::{fit, give_back, reserve};
 pub use strings::SegString;
 pub use texts::SegTexts;
 pub use vectors::SegVec;

@@ -3,8 +3,9 @@
 ghost use Rattle.std.specs.Prelude.{◌*◌, ◌<◌, IsTrue, List, length, map, option_to_list};
 ghost use Rattle.raw_region.specs.Format.{current};
 ghost use Rattle.best_fit.specs.Heap.{IsHeap, has_room, live_of};
-ghost use Rattle.seg_vector.specs.TextParts.{AreHeldElements, AreReleased, IsHeldElement, PlacesText, TakesStorage};
-ghost use Rattle.seg_vector.specs.{TextLists.LaysOut, TextLists.LaysTexts, TextsCalls.text_blocks, Vector.OwnedText};
+ghost use Rattle.seg_vector.specs.TextParts.{AreHeldElements, FreesBlocks, IsHeldElement, PlacesText, TakesStorage};
+ghost use Rattle.seg_vector.specs.{TextLists.StoresArray, TextLists.LaysTexts, TextsCalls.text_blocks};
+ghost use Rattle.seg_vector.specs.{Vector.OwnedText};
 
 use crate::places::ELEMENT;
 use crate::text_arrays::put_element;
@@ -42,7 +43,7 @@ pub fn place_text(heap: &mut Heap, text: &[u8]) -> Result<Option<u64>, Refusal>
 pub fn release_text(heap: &mut Heap, array: u64, at: u64)
     requires { (q : OwnedText) × IsHeldElement heap.old.bytes array at q }
     ensures { (q : OwnedText) → IsHeldElement heap.old.bytes array at q
-        → AreReleased heap.old heap.new (option_to_list q.extent) }
+        → FreesBlocks heap.old heap.new (option_to_list q.extent) }
 {
     if let Some(text) = heap.link(array, at) {
         heap.deallocate(text, &mut Steps::new());
@@ -53,7 +54,7 @@ pub fn release_text(heap: &mut Heap, array: u64, at: u64)
 pub fn release_texts(heap: &mut Heap, array: u64, n: u64)
     requires { (ps : List OwnedText) × AreHeldElements heap.old.bytes array n ps }
     ensures { (ps : List OwnedText) → AreHeldElements heap.old.bytes array n ps
-        → AreReleased heap.old heap.new (text_blocks ps) }
+        → FreesBlocks heap.old heap.new (text_blocks ps) }
 {
     for i in 0..n {
         release_text(heap, array, ELEMENT * i);
@@ -82,10 +83,10 @@ pub fn place_texts(heap: &mut Heap, array: u64, texts: &[&[u8]]) -> u64
 /// Takes an array of as many places as there are texts into use, and then a block for each text that is not empty, and
 /// writes the elements and the texts. It answers the array's handle, or `NoSpace` where one of them has no gap that is
 /// long enough: then the same blocks are in use as before, with the same bytes.
-pub fn lay_out(heap: &mut Heap, texts: &[&[u8]]) -> Result<u64, Refusal>
+pub fn store_array(heap: &mut Heap, texts: &[&[u8]]) -> Result<u64, Refusal>
     requires heap { IsHeap current heap.old.bytes }
-    requires some { 0 < length texts.now }
-    ensures { LaysOut heap.old heap.new (map (λ text. text.now) texts.now) result }
+    requires non_empty { 0 < length texts.now }
+    ensures { StoresArray heap.old heap.new (map (λ text. text.now) texts.now) result }
 {
     let n = texts.len() as u64;
     if n > MAX_SEGMENT_LEN {

@@ -3,7 +3,7 @@ ghost use Rattle.std.specs.Prelude.{◌≡◌, ◌+◌, ◌%◌, IsTrue};
 ghost use Rattle.raw_region.specs.{Format.current, Memory.bytes_of};
 ghost use Rattle.offset_link.specs.Link.{link_at};
 ghost use Rattle.best_fit.specs.Heap.{IsHeap, has_room, live_of};
-ghost use Rattle.seg_vector.specs.Standing.{capacity_at, len_at, place_at};
+ghost use Rattle.seg_vector.specs.Containers.{capacity_at, len_at, place_at};
 
 use best_fit::{Heap, Place};
 

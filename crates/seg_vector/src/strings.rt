@@ -1,15 +1,15 @@
 //! Texts: any bytes, one after another.
 ghost use Rattle.std.specs.Prelude.{◌≡◌, ◌+◌, ◌*◌, ◌%◌, ◌<◌, ◌≤◌, IsTrue};
 ghost use Rattle.raw_region.specs.Format.{current};
-ghost use Rattle.best_fit.specs.Heap.{IsChanged, IsHeap, has_room, live_of};
-ghost use Rattle.seg_vector.specs.{Standing.place_at, Vector.capacity_for_text as places_for_text};
+ghost use Rattle.best_fit.specs.Heap.{ChangesBytes, IsHeap, has_room, live_of};
+ghost use Rattle.seg_vector.specs.{Containers.place_at, Vector.capacity_for_text as places_for_text};
 ghost use Rattle.seg_vector.specs.TextCalls.{AppendsText, AssignsText, ClearsText, CountsBytePlaces, CountsBytes};
 ghost use Rattle.seg_vector.specs.TextCalls.{GetsByte, IsSomeText, ReadsText, ReleasesText, ReservesBytes};
 ghost use Rattle.seg_vector.specs.TextCalls.{ReservesNoBytes, SetsByte, ShrinksText, StartsText};
 
-use crate::elements::{Spot, elements, extend, put_at, truncate};
+use crate::container_capacity::{self, free_storage, init_container, shrink_storage};
+use crate::elements::{WritePos, elements, extend, put_at, truncate};
 use crate::places::{capacity_of, len_of};
-use crate::sizing::{self, fit, give_back, start};
 use best_fit::{Heap, Place};
 use block_tags::MAX_SEGMENT_LEN;
 use seg_types::Refusal;
@@ -41,10 +41,10 @@ impl SegString {
         requires aligned { place.at % 8 ≡ 0 }
         requires room { IsTrue (has_room (live_of heap.old.bytes) place.handle (place.at + 24)) }
         ensures place { result.place ≡ place }
-        ensures change { IsChanged current heap.old heap.new (place_at place) 24 }
+        ensures changes { ChangesBytes current heap.old heap.new (place_at place) 24 }
         ensures text { StartsText heap.old heap.new place }
     {
-        start(heap, place);
+        init_container(heap, place);
         SegString { place }
     }
 
@@ -97,7 +97,7 @@ impl SegString {
         if index >= self.len(heap) {
             return Err(Refusal::OutOfRange);
         }
-        put_at(heap, self.place, 1, Spot::Over(index), &[byte]);
+        put_at(heap, self.place, 1, WritePos::Over(index), &[byte]);
         Ok(())
     }
 
@@ -108,10 +108,10 @@ impl SegString {
     /// `NoSpace` where there are fewer and the storage cannot be regrown. Nothing changes.
     pub fn reserve(self, heap: &mut Heap, n: u64) -> Result<(), Refusal>
         requires { IsSomeText heap.old.bytes self.place }
-        ensures reserved { ReservesBytes heap.old heap.new self.place n result }
-        ensures enough { ReservesNoBytes heap.old heap.new self.place n result }
+        ensures capacity { ReservesBytes heap.old heap.new self.place n result }
+        ensures noop { ReservesNoBytes heap.old heap.new self.place n result }
     {
-        sizing::reserve(heap, self.place, 1, n)
+        container_capacity::reserve(heap, self.place, 1, n)
     }
 
     /// Leaves these bytes in place of those that there are. There are places for just so many, where there were fewer.
@@ -124,7 +124,7 @@ impl SegString {
         ensures { AssignsText heap.old heap.new self.place bytes.now result }
     {
         let len = bytes.len() as u64;
-        sizing::reserve(heap, self.place, 1, len)?;
+        container_capacity::reserve(heap, self.place, 1, len)?;
         self.clear(heap);
         extend(heap, self.place, 1, len, bytes);
         Ok(())
@@ -146,7 +146,7 @@ impl SegString {
         }
         let needed = self.len(heap) + more;
         let wanted = capacity_for_text(needed, self.capacity(heap));
-        sizing::reserve(heap, self.place, 1, wanted)?;
+        container_capacity::reserve(heap, self.place, 1, wanted)?;
         extend(heap, self.place, 1, more, bytes);
         Ok(())
     }
@@ -157,7 +157,7 @@ impl SegString {
         requires { IsSomeText heap.old.bytes self.place }
         ensures { ShrinksText heap.old heap.new self.place }
     {
-        fit(heap, self.place, 1);
+        shrink_storage(heap, self.place, 1);
     }
 
     /// Leaves no byte. The places stay.
@@ -173,6 +173,6 @@ impl SegString {
         requires { IsSomeText heap.old.bytes self.place }
         ensures { ReleasesText heap.old heap.new self.place }
     {
-        give_back(heap, self.place, 1);
+        free_storage(heap, self.place, 1);
     }
 }

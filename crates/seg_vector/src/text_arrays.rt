@@ -3,16 +3,18 @@
 ghost use Rattle.std.specs.Prelude.{◌+◌, ◌*◌, ◌^◌, ◌<◌};
 ghost use Rattle.raw_region.specs.{Format.current, Memory.bytes_of};
 ghost use Rattle.offset_link.specs.Link.{link_at};
-ghost use Rattle.best_fit.specs.Heap.{IsChanged};
-ghost use Rattle.seg_vector.specs.TextParts.{Adopts, AreCarried, AsksArray, CanCarryDown, CanCarryUp, GivesUp};
-ghost use Rattle.seg_vector.specs.TextParts.{HasArrayRoom, HasElement, HasElementRoom, HasPlace, InsertsGrowing};
-ghost use Rattle.seg_vector.specs.TextParts.{InsertsWithin, IsElementPut, IsFull, IsPutAsked, IsReady, IsSameElement};
-ghost use Rattle.seg_vector.specs.TextParts.{IsToBeGivenUp, PutsIn};
-ghost use Rattle.seg_vector.specs.TextsCalls.{IsSomeTexts};
+ghost use Rattle.best_fit.specs.Heap.{ChangesBytes};
+ghost use Rattle.seg_vector.specs.TextParts.{Adopts, CarriesElements, AsksArray, CanCarryDown, CanCarryUp, GivesUp};
+ghost use Rattle.seg_vector.specs.TextParts.{HasArrayRoom, HasElement, HasElementRoom, HasSpareCapacity};
+ghost use Rattle.seg_vector.specs.TextParts.{InsertsGrowing};
+ghost use Rattle.seg_vector.specs.TextParts.{InsertsWithin, PutsElement, IsFullVector, IsPutAsked, IsArrayReserved};
+ghost use Rattle.seg_vector.specs.TextParts.{IsSameElement};
+ghost use Rattle.seg_vector.specs.TextParts.{IsToBeGivenUp, InsertsElement};
+ghost use Rattle.seg_vector.specs.TextsCalls.{IsTextsContainer};
 
+use crate::container_capacity::set_storage;
 use crate::owning::{place_text, take};
 use crate::places::{ELEMENT, LEN, len_of, link_of};
-use crate::sizing::point_to;
 use best_fit::{Heap, Place};
 use raw_region::Steps;
 use seg_types::Refusal;
@@ -20,7 +22,7 @@ use seg_types::Refusal;
 /// Writes the element at an offset in a block: a link to the block of a text, or nowhere, and its length.
 pub fn put_element(heap: &mut Heap, array: u64, at: u64, text: Option<u64>, len: u64)
     requires { HasElementRoom heap.old.bytes array at text }
-    ensures { IsElementPut heap.old heap.new (array + at) text len }
+    ensures { PutsElement heap.old heap.new (array + at) text len }
 {
     heap.set_link(array, at, text);
     heap.set_word(array, at + LEN, len);
@@ -31,8 +33,8 @@ pub fn put_element(heap: &mut Heap, array: u64, at: u64, text: Option<u64>, len:
 pub fn carry_element(heap: &mut Heap, from: u64, from_at: u64, to: u64, to_at: u64)
     requires element { HasElement heap.old.bytes from from_at }
     requires room { HasElementRoom heap.old.bytes to to_at (link_at (bytes_of heap.old.bytes) (from + from_at)) }
-    ensures change { IsChanged current heap.old heap.new (to + to_at) 16 }
-    ensures carried { IsSameElement (bytes_of heap.old.bytes) (bytes_of heap.new.bytes) (from + from_at) (to + to_at) }
+    ensures changes { ChangesBytes current heap.old heap.new (to + to_at) 16 }
+    ensures carry { IsSameElement (bytes_of heap.old.bytes) (bytes_of heap.new.bytes) (from + from_at) (to + to_at) }
 {
     let text = heap.link(from, from_at);
     let len = heap.word(from, from_at + LEN);
@@ -41,9 +43,9 @@ pub fn carry_element(heap: &mut Heap, from: u64, from_at: u64, to: u64, to_at: u
 
 /// Makes the `n` elements from `to_at` on in the block `to` those from `from_at` on in the block `from`, the first one
 /// first. It may be one block, where they move down.
-pub fn carry_down(heap: &mut Heap, from: u64, from_at: u64, to: u64, to_at: u64, n: u64)
+pub fn move_elements_down(heap: &mut Heap, from: u64, from_at: u64, to: u64, to_at: u64, n: u64)
     requires { CanCarryDown heap.old.bytes from from_at to to_at n }
-    ensures { AreCarried heap.old heap.new (from + from_at) (to + to_at) n }
+    ensures { CarriesElements heap.old heap.new (from + from_at) (to + to_at) n }
 {
     for i in 0..n {
         carry_element(heap, from, from_at + ELEMENT * i, to, to_at + ELEMENT * i);
@@ -51,9 +53,9 @@ pub fn carry_down(heap: &mut Heap, from: u64, from_at: u64, to: u64, to_at: u64,
 }
 
 /// Moves the `n` elements from `at` on in a block up by one place, the last one first.
-pub fn carry_up(heap: &mut Heap, array: u64, at: u64, n: u64)
+pub fn move_elements_up(heap: &mut Heap, array: u64, at: u64, n: u64)
     requires { CanCarryUp heap.old.bytes array at n }
-    ensures { AreCarried heap.old heap.new (array + at) (array + at + 16) n }
+    ensures { CarriesElements heap.old heap.new (array + at) (array + at + 16) n }
 {
     for i in 0..n {
         let place = at + ELEMENT * (n - 1 - i);
@@ -65,9 +67,9 @@ pub fn carry_up(heap: &mut Heap, array: u64, at: u64, n: u64)
 /// that of the old one where it is long enough or can be lengthened where it stands, and else that of a new block,
 /// beside the old one. The vector's words stay. Where a new block is needed and no gap is long enough, it answers
 /// `NoSpace`, and nothing changes.
-pub fn ask_array(heap: &mut Heap, place: Place, n: u64) -> Result<u64, Refusal>
-    requires texts { IsSomeTexts heap.old.bytes place }
-    requires small { 16 * n < 2 ^ 64 }
+pub fn reserve_array(heap: &mut Heap, place: Place, n: u64) -> Result<u64, Refusal>
+    requires texts { IsTextsContainer heap.old.bytes place }
+    requires max_size { 16 * n < 2 ^ 64 }
     ensures { AsksArray heap.old heap.new place n result }
 {
     if let Some(array) = link_of(heap, place) {
@@ -83,31 +85,31 @@ pub fn ask_array(heap: &mut Heap, place: Place, n: u64) -> Result<u64, Refusal>
 
 /// Makes the block that was asked for the array of the vector of texts at a place, with `n` places. Where it is a new
 /// one, the elements are carried over, and the old block is given back.
-pub fn adopt(heap: &mut Heap, place: Place, array: u64, n: u64)
-    requires { IsReady heap.old place array n }
+pub fn install_array(heap: &mut Heap, place: Place, array: u64, n: u64)
+    requires { IsArrayReserved heap.old place array n }
     ensures { Adopts heap.old heap.new place array n }
 {
     let len = len_of(heap, place);
     if let Some(old) = link_of(heap, place) {
         if old != array {
-            carry_down(heap, old, 0, array, 0, len);
-            point_to(heap, place, array, n);
+            move_elements_down(heap, old, 0, array, 0, len);
+            set_storage(heap, place, array, n);
             heap.deallocate(old, &mut Steps::new());
             return;
         }
     }
-    point_to(heap, place, array, n);
+    set_storage(heap, place, array, n);
 }
 
 /// Writes the element of a text, whose block is in use already, where `index` others stand before it: those from there
 /// on move up. The array has a place for it.
-pub fn put_in(heap: &mut Heap, place: Place, index: u64, text: Option<u64>, text_len: u64)
+pub fn insert_element(heap: &mut Heap, place: Place, index: u64, text: Option<u64>, text_len: u64)
     requires { IsPutAsked heap.old place index text text_len }
-    ensures { PutsIn heap.old heap.new place index text text_len }
+    ensures { InsertsElement heap.old heap.new place index text text_len }
 {
     let len = len_of(heap, place);
     if let Some(array) = link_of(heap, place) {
-        carry_up(heap, array, ELEMENT * index, len - index);
+        move_elements_up(heap, array, ELEMENT * index, len - index);
         put_element(heap, array, ELEMENT * index, text, text_len);
         heap.set_word(place.handle, place.at + LEN, len + 1);
     }
@@ -115,7 +117,7 @@ pub fn put_in(heap: &mut Heap, place: Place, index: u64, text: Option<u64>, text
 
 /// The number of bytes that the array of the vector of texts at a place has room for, or 0 where it has no block.
 pub fn array_room(heap: &Heap, place: Place) -> u64
-    requires { IsSomeTexts heap.now.bytes place }
+    requires { IsTextsContainer heap.now.bytes place }
     ensures { HasArrayRoom heap.now.bytes place result }
 {
     match link_of(heap, place) {
@@ -126,7 +128,7 @@ pub fn array_room(heap: &Heap, place: Place) -> u64
 
 /// Undoes what was asked for an array: the old array is shortened again to the room that it had, or the new one is
 /// given back.
-pub fn give_up(heap: &mut Heap, place: Place, array: u64, room: u64)
+pub fn undo_reserve(heap: &mut Heap, place: Place, array: u64, room: u64)
     requires { IsToBeGivenUp heap.old place array room }
     ensures { GivesUp heap.old heap.new place array room }
 {
@@ -142,11 +144,11 @@ pub fn give_up(heap: &mut Heap, place: Place, array: u64, room: u64)
 /// Puts a text where `index` others stand before it. There is a place for it. Where no gap is long enough for the text,
 /// it answers `NoSpace`, and nothing changes.
 pub fn insert_within(heap: &mut Heap, place: Place, index: u64, text: &[u8]) -> Result<(), Refusal>
-    requires { HasPlace heap.old.bytes place index }
+    requires { HasSpareCapacity heap.old.bytes place index }
     ensures { InsertsWithin heap.old heap.new place index text.now result }
 {
     let block = place_text(heap, text)?;
-    put_in(heap, place, index, block, text.len() as u64);
+    insert_element(heap, place, index, block, text.len() as u64);
     Ok(())
 }
 
@@ -160,19 +162,19 @@ pub fn insert_growing(
     text: &[u8],
     n: u64,
 ) -> Result<(), Refusal>
-    requires { IsFull heap.old.bytes place index n }
+    requires { IsFullVector heap.old.bytes place index n }
     ensures { InsertsGrowing heap.old heap.new place index text.now n result }
 {
     let room = array_room(heap, place);
-    let array = ask_array(heap, place, n)?;
+    let array = reserve_array(heap, place, n)?;
     match place_text(heap, text) {
         Err(refusal) => {
-            give_up(heap, place, array, room);
+            undo_reserve(heap, place, array, room);
             Err(refusal)
         }
         Ok(block) => {
-            adopt(heap, place, array, n);
-            put_in(heap, place, index, block, text.len() as u64);
+            install_array(heap, place, array, n);
+            insert_element(heap, place, index, block, text.len() as u64);
             Ok(())
         }
     }

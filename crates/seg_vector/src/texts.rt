@@ -1,17 +1,20 @@
 //! Vectors of texts: an array of links and lengths, and a block for each text that is not empty.
 ghost use Rattle.std.specs.Prelude.{◌≡◌, ◌+◌, ◌%◌, None, IsTrue, length, map};
 ghost use Rattle.raw_region.specs.Format.{current};
-ghost use Rattle.best_fit.specs.Heap.{IsChanged, IsHeap, has_room, live_of};
-ghost use Rattle.seg_vector.specs.TextsCalls.{GetsText, InsertsText, IsSomeTexts, PopsText, PushesText, ReleasesTexts};
-ghost use Rattle.seg_vector.specs.TextsCalls.{AssignsTexts, ClearsTexts, CountsTextPlaces, CountsTexts, ErasesText};
-ghost use Rattle.seg_vector.specs.TextsCalls.{ReservesNoTexts, ReservesTexts, SetsText, ShrinksTexts, StartsTexts};
-ghost use Rattle.seg_vector.specs.{TextsCalls.StaysAtFirst, TextsCalls.new_array, Standing.place_at};
+ghost use Rattle.best_fit.specs.Heap.{ChangesBytes, IsHeap, has_room, live_of};
+ghost use Rattle.seg_vector.specs.TextsCalls.{GetsText, InsertsText, IsTextsContainer, PopsText, PushesText};
+ghost use Rattle.seg_vector.specs.TextsCalls.{ReleasesTexts};
+ghost use Rattle.seg_vector.specs.TextsCalls.{AssignsTexts, ClearsTexts, ReadsTextsCapacity, ReadsTextsLen, ErasesText};
+ghost use Rattle.seg_vector.specs.TextsCalls.{ReservesNoTexts, ReservesTexts, SetsText, ShrinksTexts, InitsTexts};
+ghost use Rattle.seg_vector.specs.{TextsCalls.StaysAtFirst, TextsCalls.new_array, Containers.place_at};
 
-use crate::owning::{lay_out, place_text, release_text, release_texts};
+use crate::container_capacity::{
+    capacity_for_one, free_storage, init_container, set_storage, shrink_storage,
+};
+use crate::owning::{place_text, release_text, release_texts, store_array};
 use crate::places::{ELEMENT, LEN, capacity_of, len_of, link_of};
-use crate::sizing::{capacity_for_one, fit, give_back, point_to, start};
 use crate::text_arrays::{
-    adopt, ask_array, carry_down, insert_growing, insert_within, put_element,
+    insert_growing, insert_within, install_array, move_elements_down, put_element, reserve_array,
 };
 use best_fit::{Heap, Place};
 use block_tags::MAX_SEGMENT_LEN;
@@ -32,25 +35,25 @@ impl SegTexts {
         requires aligned { place.at % 8 ≡ 0 }
         requires room { IsTrue (has_room (live_of heap.old.bytes) place.handle (place.at + 24)) }
         ensures place { result.place ≡ place }
-        ensures change { IsChanged current heap.old heap.new (place_at place) 24 }
-        ensures texts { StartsTexts heap.old heap.new place }
+        ensures changes { ChangesBytes current heap.old heap.new (place_at place) 24 }
+        ensures texts { InitsTexts heap.old heap.new place }
     {
-        start(heap, place);
+        init_container(heap, place);
         SegTexts { place }
     }
 
     /// The number of texts.
     pub fn len(self, heap: &Heap) -> u64
-        requires { IsSomeTexts heap.now.bytes self.place }
-        ensures { CountsTexts heap.now.bytes self.place result }
+        requires { IsTextsContainer heap.now.bytes self.place }
+        ensures { ReadsTextsLen heap.now.bytes self.place result }
     {
         len_of(heap, self.place)
     }
 
     /// The number of texts that the array has places for.
     pub fn capacity(self, heap: &Heap) -> u64
-        requires { IsSomeTexts heap.now.bytes self.place }
-        ensures { CountsTextPlaces heap.now.bytes self.place result }
+        requires { IsTextsContainer heap.now.bytes self.place }
+        ensures { ReadsTextsCapacity heap.now.bytes self.place result }
     {
         capacity_of(heap, self.place)
     }
@@ -62,7 +65,7 @@ impl SegTexts {
     /// `OutOfRange` where there are not so many.
     #[tactic(auto, using(crate::proofs::Storage::sizes, crate::proofs::TextPuts::few_places))]
     pub fn get(self, heap: &Heap, index: u64) -> Result<&[u8], Refusal>
-        requires { IsSomeTexts heap.now.bytes self.place }
+        requires { IsTextsContainer heap.now.bytes self.place }
         ensures { GetsText heap.now self.place index result }
     {
         if index >= self.len(heap) {
@@ -90,7 +93,7 @@ impl SegTexts {
     /// changes.
     #[tactic(auto, using(crate::proofs::Storage::sizes, crate::proofs::TextPuts::few_places))]
     pub fn set(self, heap: &mut Heap, index: u64, text: &[u8]) -> Result<(), Refusal>
-        requires { IsSomeTexts heap.old.bytes self.place }
+        requires { IsTextsContainer heap.old.bytes self.place }
         ensures { SetsText heap.old heap.new self.place index text.now result }
     {
         if index >= self.len(heap) {
@@ -113,8 +116,8 @@ impl SegTexts {
     /// no gap that is long enough: the same blocks are in use as before, with the same bytes. Nothing changes where it
     /// is the block that is asked for first: the text's, or the array's where the vector is full.
     pub fn insert(self, heap: &mut Heap, index: u64, text: &[u8]) -> Result<(), Refusal>
-        requires { IsSomeTexts heap.old.bytes self.place }
-        ensures inserted { InsertsText heap.old heap.new self.place index text.now result }
+        requires { IsTextsContainer heap.old.bytes self.place }
+        ensures changes { InsertsText heap.old heap.new self.place index text.now result }
         ensures first { StaysAtFirst heap.old heap.new self.place text.now }
     {
         let len = self.len(heap);
@@ -138,8 +141,8 @@ impl SegTexts {
     /// the same bytes. Nothing changes where it is the block that is asked for first: the text's, or the array's where
     /// the vector is full.
     pub fn push(self, heap: &mut Heap, text: &[u8]) -> Result<(), Refusal>
-        requires { IsSomeTexts heap.old.bytes self.place }
-        ensures pushed { PushesText heap.old heap.new self.place text.now result }
+        requires { IsTextsContainer heap.old.bytes self.place }
+        ensures changes { PushesText heap.old heap.new self.place text.now result }
         ensures first { StaysAtFirst heap.old heap.new self.place text.now }
     {
         let len = self.len(heap);
@@ -154,7 +157,7 @@ impl SegTexts {
     /// `OutOfRange` where there are not so many. Nothing changes.
     #[tactic(auto, using(crate::proofs::Storage::sizes, crate::proofs::TextPuts::few_places))]
     pub fn erase(self, heap: &mut Heap, index: u64) -> Result<(), Refusal>
-        requires { IsSomeTexts heap.old.bytes self.place }
+        requires { IsTextsContainer heap.old.bytes self.place }
         ensures { ErasesText heap.old heap.new self.place index result }
     {
         let len = self.len(heap);
@@ -164,7 +167,7 @@ impl SegTexts {
         if let Some(array) = link_of(heap, self.place) {
             let at = ELEMENT * index;
             release_text(heap, array, at);
-            carry_down(heap, array, at + ELEMENT, array, at, len - index - 1);
+            move_elements_down(heap, array, at + ELEMENT, array, at, len - index - 1);
             heap.set_word(self.place.handle, self.place.at + LEN, len - 1);
         }
         Ok(())
@@ -176,7 +179,7 @@ impl SegTexts {
     ///
     /// `OutOfRange` where there is none. Nothing changes.
     pub fn pop(self, heap: &mut Heap) -> Result<(), Refusal>
-        requires { IsSomeTexts heap.old.bytes self.place }
+        requires { IsTextsContainer heap.old.bytes self.place }
         ensures { PopsText heap.old heap.new self.place result }
     {
         let last = self.len(heap).checked_sub(1).ok_or(Refusal::OutOfRange)?;
@@ -190,9 +193,9 @@ impl SegTexts {
     /// `NoSpace` where there are fewer and the array cannot be lengthened and has no gap that is long enough. Nothing
     /// changes.
     pub fn reserve(self, heap: &mut Heap, n: u64) -> Result<(), Refusal>
-        requires { IsSomeTexts heap.old.bytes self.place }
-        ensures reserved { ReservesTexts heap.old heap.new self.place n result }
-        ensures enough { ReservesNoTexts heap.old heap.new self.place n result }
+        requires { IsTextsContainer heap.old.bytes self.place }
+        ensures capacity { ReservesTexts heap.old heap.new self.place n result }
+        ensures noop { ReservesNoTexts heap.old heap.new self.place n result }
     {
         if n <= self.capacity(heap) {
             return Ok(());
@@ -200,8 +203,8 @@ impl SegTexts {
         if n > MAX_SEGMENT_LEN {
             return Err(Refusal::NoSpace);
         }
-        let array = ask_array(heap, self.place, n)?;
-        adopt(heap, self.place, array, n);
+        let array = reserve_array(heap, self.place, n)?;
+        install_array(heap, self.place, array, n);
         Ok(())
     }
 
@@ -214,18 +217,18 @@ impl SegTexts {
     /// `NoSpace` where the array or a text has no gap that is long enough: the same blocks are in use as before, with
     /// the same bytes. Nothing changes where it is the array.
     pub fn assign(self, heap: &mut Heap, texts: &[&[u8]]) -> Result<(), Refusal>
-        requires { IsSomeTexts heap.old.bytes self.place }
-        ensures assigned { AssignsTexts heap.old heap.new self.place (map (λ text. text.now) texts.now) result }
+        requires { IsTextsContainer heap.old.bytes self.place }
+        ensures changes { AssignsTexts heap.old heap.new self.place (map (λ text. text.now) texts.now) result }
         ensures first { new_array (live_of heap.old.bytes) (length texts.now) ≡ None → heap.new ≡ heap.old }
     {
         if texts.is_empty() {
             self.clear(heap);
             return Ok(());
         }
-        let array = lay_out(heap, texts)?;
+        let array = store_array(heap, texts)?;
         self.release(heap);
         let n = texts.len() as u64;
-        point_to(heap, self.place, array, n);
+        set_storage(heap, self.place, array, n);
         heap.set_word(self.place.handle, self.place.at + LEN, n);
         Ok(())
     }
@@ -233,15 +236,15 @@ impl SegTexts {
     /// Makes the capacity the number of texts. The array is shortened to it, as far as a block can be, and given back
     /// where there is no text.
     pub fn shrink(self, heap: &mut Heap)
-        requires { IsSomeTexts heap.old.bytes self.place }
+        requires { IsTextsContainer heap.old.bytes self.place }
         ensures { ShrinksTexts heap.old heap.new self.place }
     {
-        fit(heap, self.place, ELEMENT);
+        shrink_storage(heap, self.place, ELEMENT);
     }
 
     /// Leaves no text, and gives back the blocks of those that there are. The array stays.
     pub fn clear(self, heap: &mut Heap)
-        requires { IsSomeTexts heap.old.bytes self.place }
+        requires { IsTextsContainer heap.old.bytes self.place }
         ensures { ClearsTexts heap.old heap.new self.place }
     {
         let len = self.len(heap);
@@ -253,10 +256,10 @@ impl SegTexts {
 
     /// Gives back the array and the blocks of all texts. There is no text and no place then.
     pub fn release(self, heap: &mut Heap)
-        requires { IsSomeTexts heap.old.bytes self.place }
+        requires { IsTextsContainer heap.old.bytes self.place }
         ensures { ReleasesTexts heap.old heap.new self.place }
     {
         self.clear(heap);
-        give_back(heap, self.place, ELEMENT);
+        free_storage(heap, self.place, ELEMENT);
     }
 }

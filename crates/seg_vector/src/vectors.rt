@@ -1,15 +1,21 @@
 //! Vectors of values of a fixed number of bytes.
 ghost use Rattle.std.specs.Prelude.{◌≡◌, ◌+◌, ◌%◌, ◌≤◌, ◌++◌, IsTrue, List, length};
 ghost use Rattle.raw_region.specs.Format.{current};
-ghost use Rattle.best_fit.specs.{Heap.IsChanged, Heap.IsHeap, Heap.has_room, Heap.live_of, Table.Table as ATable};
-ghost use Rattle.seg_vector.specs.Standing.{place_at};
-ghost use Rattle.seg_vector.specs.VectorCalls.{Assigns, Clears, Counts, CountsPlaces, ErasesFrom, ExtendsBy, Gets};
-ghost use Rattle.seg_vector.specs.VectorCalls.{InsertsInto, IsSomeVector, IsVector, Pops, Pushes, PutsAll, Releases};
-ghost use Rattle.seg_vector.specs.VectorCalls.{Reserves, ReservesNothing, Sets, SetsAll, Shrinks, Starts};
+ghost use Rattle.best_fit.specs.{Heap.ChangesBytes, Heap.IsHeap, Heap.has_room, Heap.live_of};
+ghost use Rattle.best_fit.specs.{Table.BackingArray as ATable};
+ghost use Rattle.seg_vector.specs.Containers.{place_at};
+ghost use Rattle.seg_vector.specs.VectorCalls.{Assigns, Clears, ReadsVectorLen, CountsPlaces, ErasesFrom, ExtendsBy};
+ghost use Rattle.seg_vector.specs.VectorCalls.{Gets};
+ghost use Rattle.seg_vector.specs.VectorCalls.{InsertsInto, IsSomeVector, IsVector, Pops, Pushes, PutsAll};
+ghost use Rattle.seg_vector.specs.VectorCalls.{ReleasesVector};
+ghost use Rattle.seg_vector.specs.VectorCalls.{ReservesVector, ReservesNothing, Sets, SetsAll, ShrinksVector};
+ghost use Rattle.seg_vector.specs.VectorCalls.{InitsVector};
 
-use crate::elements::{Spot, element, erase_element, put_over, put_value, truncate};
+use crate::container_capacity::{
+    self, capacity_for_more, free_storage, grow_for_one, init_container, shrink_storage,
+};
+use crate::elements::{WritePos, element, erase_element, put_over, put_value, truncate};
 use crate::places::{capacity_of, len_of};
-use crate::sizing::{self, capacity_for_more, fit, give_back, grow_for_one, start};
 use best_fit::{Heap, Place};
 use block_tags::MAX_SEGMENT_LEN;
 use seg_types::{Plain, Refusal};
@@ -42,17 +48,17 @@ impl<T: Plain> SegVec<T> {
         requires aligned { place.at % 8 ≡ 0 }
         requires room { IsTrue (has_room (live_of heap.old.bytes) place.handle (place.at + 24)) }
         ensures place { result.place ≡ place }
-        ensures change { IsChanged current heap.old heap.new (place_at place) 24 }
-        ensures vector { Starts T.SIZE T.is_value T.spelling heap.old heap.new place }
+        ensures changes { ChangesBytes current heap.old heap.new (place_at place) 24 }
+        ensures vector { InitsVector T.SIZE T.is_value T.spelling heap.old heap.new place }
     {
-        start(heap, place);
+        init_container(heap, place);
         SegVec::at(place)
     }
 
     /// The number of values.
     pub fn len(self, heap: &Heap) -> u64
         requires { IsSomeVector T.SIZE T.is_value T.spelling heap.now.bytes self.place }
-        ensures { Counts T.SIZE T.is_value T.spelling heap.now.bytes self.place result }
+        ensures { ReadsVectorLen T.SIZE T.is_value T.spelling heap.now.bytes self.place result }
     {
         len_of(heap, self.place)
     }
@@ -95,7 +101,7 @@ impl<T: Plain> SegVec<T> {
         if index >= self.len(heap) {
             return Err(Refusal::OutOfRange);
         }
-        put_value(heap, self.place, Spot::Over(index), value);
+        put_value(heap, self.place, WritePos::Over(index), value);
         Ok(())
     }
 
@@ -107,7 +113,7 @@ impl<T: Plain> SegVec<T> {
     pub fn overwrite(self, heap: &mut Heap, first: u64, values: &[T]) -> Result<(), Refusal>
         requires { IsSomeVector T.SIZE T.is_value T.spelling heap.old.bytes self.place }
         ensures sets { SetsAll T.SIZE T.is_value T.spelling heap.old heap.new self.place first values.now result }
-        ensures none { length values.now ≡ 0 → heap.new ≡ heap.old }
+        ensures absent { length values.now ≡ 0 → heap.new ≡ heap.old }
     {
         let len = self.len(heap);
         let more = values.len() as u64;
@@ -162,7 +168,7 @@ impl<T: Plain> SegVec<T> {
     {
         let len = self.len(heap);
         grow_for_one(heap, self.place, T::SIZE, len)?;
-        put_value(heap, self.place, Spot::End, value);
+        put_value(heap, self.place, WritePos::End, value);
         Ok(())
     }
 
@@ -182,7 +188,7 @@ impl<T: Plain> SegVec<T> {
             return Err(Refusal::OutOfRange);
         }
         grow_for_one(heap, self.place, T::SIZE, len)?;
-        put_value(heap, self.place, Spot::Before(index), value);
+        put_value(heap, self.place, WritePos::Before(index), value);
         Ok(())
     }
 
@@ -201,7 +207,7 @@ impl<T: Plain> SegVec<T> {
             return Err(Refusal::NoSpace);
         }
         let wanted = capacity_for_more(self.len(heap), more, self.capacity(heap));
-        sizing::reserve(heap, self.place, T::SIZE, wanted)?;
+        container_capacity::reserve(heap, self.place, T::SIZE, wanted)?;
         put_all(heap, self.place, values);
         Ok(())
     }
@@ -213,10 +219,10 @@ impl<T: Plain> SegVec<T> {
     /// `NoSpace` where there are fewer and the storage cannot be regrown. Nothing changes.
     pub fn reserve(self, heap: &mut Heap, n: u64) -> Result<(), Refusal>
         requires { IsSomeVector T.SIZE T.is_value T.spelling heap.old.bytes self.place }
-        ensures reserved { Reserves T.SIZE T.is_value T.spelling heap.old heap.new self.place n result }
-        ensures enough { ReservesNothing T.SIZE T.is_value T.spelling heap.old heap.new self.place n result }
+        ensures capacity { ReservesVector T.SIZE T.is_value T.spelling heap.old heap.new self.place n result }
+        ensures noop { ReservesNothing T.SIZE T.is_value T.spelling heap.old heap.new self.place n result }
     {
-        sizing::reserve(heap, self.place, T::SIZE, n)
+        container_capacity::reserve(heap, self.place, T::SIZE, n)
     }
 
     /// Leaves these values in place of those that there are. There are places for just so many, where there were fewer.
@@ -228,7 +234,7 @@ impl<T: Plain> SegVec<T> {
         requires { IsSomeVector T.SIZE T.is_value T.spelling heap.old.bytes self.place }
         ensures { Assigns T.SIZE T.is_value T.spelling heap.old heap.new self.place values.now result }
     {
-        sizing::reserve(heap, self.place, T::SIZE, values.len() as u64)?;
+        container_capacity::reserve(heap, self.place, T::SIZE, values.len() as u64)?;
         self.clear(heap);
         put_all(heap, self.place, values);
         Ok(())
@@ -238,9 +244,9 @@ impl<T: Plain> SegVec<T> {
     /// back where there is no value.
     pub fn shrink(self, heap: &mut Heap)
         requires { IsSomeVector T.SIZE T.is_value T.spelling heap.old.bytes self.place }
-        ensures { Shrinks T.SIZE T.is_value T.spelling heap.old heap.new self.place }
+        ensures { ShrinksVector T.SIZE T.is_value T.spelling heap.old heap.new self.place }
     {
-        fit(heap, self.place, T::SIZE);
+        shrink_storage(heap, self.place, T::SIZE);
     }
 
     /// Leaves no value. The places stay.
@@ -254,9 +260,9 @@ impl<T: Plain> SegVec<T> {
     /// Gives the storage back. There is no value and no place then.
     pub fn release(self, heap: &mut Heap)
         requires { IsSomeVector T.SIZE T.is_value T.spelling heap.old.bytes self.place }
-        ensures { Releases T.SIZE T.is_value T.spelling heap.old heap.new self.place }
+        ensures { ReleasesVector T.SIZE T.is_value T.spelling heap.old heap.new self.place }
     {
-        give_back(heap, self.place, T::SIZE);
+        free_storage(heap, self.place, T::SIZE);
     }
 }
 
@@ -267,6 +273,6 @@ fn put_all<T: Plain>(heap: &mut Heap, place: Place, values: &[T])
     ensures { PutsAll T.SIZE T.is_value T.spelling heap.old heap.new place values.now }
 {
     for value in values {
-        put_value(heap, place, Spot::End, *value);
+        put_value(heap, place, WritePos::End, *value);
     }
 }

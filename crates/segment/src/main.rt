@@ -6,18 +6,18 @@ ghost use Rattle.segment_disk.specs.Events.{nothing_taken};
 
 mod requests;
 
-use raw_region::stream::{ReadOnce, Reading, Writing};
+use raw_region::std_io::{ReadOnce, StdSink, StdSource};
 use raw_region::{DeviceFault, Source};
-use requests::{NoMemory, asked, borrowed, buffered, words};
+use requests::{NoAnswerMemory, asked, borrowed, buffered, words};
 use segment_answers::{Lined, Numbered};
 use segment_cli::{ProgramFault, SessionFault};
 use segment_commands::{
     CommandFault, check, check_all, create, explain, grow, lint, load, load_over, migrate, names,
     print, print_language, put_trouble, report, report_no_memory, shrink, tell_segment,
 };
-use segment_disk::{Disk, HostDisk, Opened, Outlet, Trouble};
+use segment_disk::{Disk, FileProblem, HostDisk, OpenedFile, StdOutput};
 use segment_invocation::{
-    Change, Invocation, Keeping, ModeName, Running, Saving, Script, VERSION, is_verbose,
+    FileChange, Invocation, Keeping, ModeName, Running, SaveMode, Script, VERSION, is_verbose,
     script_text,
 };
 use segment_scripts::{Until, command_rows};
@@ -34,19 +34,20 @@ const CLOSED_PIPE: u8 = 141;
 fn main(rt: HostRuntime) -> ExitCode {
     let status = match obey(&rt) {
         Ok(status) => status,
-        Err(_) => report_no_memory(&mut Writing::new(rt.stderr())),
+        Err(_) => report_no_memory(&mut StdSink::new(rt.stderr())),
     };
     ExitCode::from(status)
 }
 
 /// Says what a fault is, and answers its status.
 fn tell(rt: &HostRuntime, fault: CommandFault) -> u8 {
-    report(fault, &mut Writing::new(rt.stderr()))
+    report(fault, &mut StdSink::new(rt.stderr()))
 }
 
-/// Does what the program's own command line asks for, and answers the status. Words that are no text are a wrong command
+/// Does what the program's own command line asks for, and answers the status. Words that are no text are a wrong
+/// command
 /// line.
-fn obey(rt: &HostRuntime) -> Result<u8, NoMemory> {
+fn obey(rt: &HostRuntime) -> Result<u8, NoAnswerMemory> {
     let Some(owned) = words(rt)? else {
         let _ = eprintln!(rt; "error: the command line is no UTF-8");
         return Ok(tell(rt, USAGE));
@@ -64,11 +65,15 @@ fn obey(rt: &HostRuntime) -> Result<u8, NoMemory> {
 /// Does what the command line asks for, with the files of the system, standard input and standard output, and answers
 /// the status. Where a person reads standard error, or more is asked for, it is told behind the line of a fault why the
 /// system did not open or make the file, as far as it said so.
-fn perform(rt: &HostRuntime, asked: &Invocation<'_>, is_verbose: bool) -> Result<u8, NoMemory> {
+fn perform(
+    rt: &HostRuntime,
+    asked: &Invocation<'_>,
+    is_verbose: bool,
+) -> Result<u8, NoAnswerMemory> {
     let buffer = buffered(rt.alloc(), io::writer(rt))?;
     let mut disk = HostDisk::patient(rt, keeping_of(asked).wait);
     let mut scripts = HostDisk::new(rt);
-    let out = Outlet::new(buffer);
+    let out = StdOutput::new(buffer);
     let is_verbose = is_verbose || rt.stderr().is_terminal();
     let fault = match command(rt, &mut disk, &mut scripts, asked, is_verbose, out) {
         Ok(status) => return Ok(status),
@@ -77,7 +82,7 @@ fn perform(rt: &HostRuntime, asked: &Invocation<'_>, is_verbose: bool) -> Result
     let status = tell(rt, fault);
     if is_of_file(fault) && is_verbose {
         if let Some((path, trouble)) = trouble_of(asked, &disk, &scripts) {
-            let _ = put_trouble(path, Some(trouble), &mut Writing::new(rt.stderr()));
+            let _ = put_trouble(path, Some(trouble), &mut StdSink::new(rt.stderr()));
         }
     }
     Ok(status)
@@ -88,7 +93,7 @@ fn trouble_of<'a>(
     asked: &Invocation<'a>,
     disk: &HostDisk<'_, HostRuntime>,
     scripts: &HostDisk<'_, HostRuntime>,
-) -> Option<(&'a str, Trouble)> {
+) -> Option<(&'a str, FileProblem)> {
     match (script_of(asked), scripts.trouble()) {
         (Some(path), Some(trouble)) => Some((path, trouble)),
         _ => Some((file_of(asked)?, disk.trouble()?)),
@@ -111,7 +116,7 @@ fn command<W: Write + Drop>(
     scripts: &mut HostDisk<'_, HostRuntime>,
     asked: &Invocation<'_>,
     is_verbose: bool,
-    out: Outlet<W>,
+    out: StdOutput<W>,
 ) -> Result<u8, CommandFault>
     requires { out.history ≡ nothing_taken }
 {
@@ -142,20 +147,27 @@ fn command<W: Write + Drop>(
             let trouble_of = |disk: &HostDisk<'_, HostRuntime>| {
                 if is_verbose { disk.trouble() } else { None }
             };
-            let mut err = Writing::new(rt.stderr());
+            let mut err = StdSink::new(rt.stderr());
             let files = files.as_slice();
             return check_all(
                 alloc, disk, files, *is_quiet, trouble_of, &mut out, &mut err,
             );
         }
         Invocation::Explain(file) => explain(alloc, disk, file, &mut out),
-        Invocation::Grow(file, bytes) => grow(alloc, disk, file, *bytes, Saving::InPlace, &mut out),
-        Invocation::Shrink(file) => shrink(alloc, disk, file, Saving::InPlace, &mut out),
-        Invocation::Migrate(file) => migrate(alloc, disk, file, Saving::InPlace, &mut out),
+        Invocation::Grow(file, bytes) => grow(
+            alloc,
+            disk,
+            file,
+            *bytes,
+            SaveMode::InPlace,
+            &mut out,
+        ),
+        Invocation::Shrink(file) => shrink(alloc, disk, file, SaveMode::InPlace, &mut out),
+        Invocation::Migrate(file) => migrate(alloc, disk, file, SaveMode::InPlace, &mut out),
         Invocation::ChangeWith(file, change, Keeping { saving, .. }) => match change {
-            Change::Grow(bytes) => grow(alloc, disk, file, *bytes, *saving, &mut out),
-            Change::Shrink => shrink(alloc, disk, file, *saving, &mut out),
-            Change::Migrate => migrate(alloc, disk, file, *saving, &mut out),
+            FileChange::Grow(bytes) => grow(alloc, disk, file, *bytes, *saving, &mut out),
+            FileChange::Shrink => shrink(alloc, disk, file, *saving, &mut out),
+            FileChange::Migrate => migrate(alloc, disk, file, *saving, &mut out),
         },
         Invocation::Tell(file, what) => tell_segment(alloc, disk, file, &mut out, *what),
         Invocation::Names(file, prefix, most) => {
@@ -163,13 +175,13 @@ fn command<W: Write + Drop>(
             names(alloc, disk, file, prefix, most, &mut out)
         }
         Invocation::Load(file, size, keeping) => {
-            let mut text = Reading::new(rt.reader());
+            let mut text = StdSource::new(rt.reader());
             match keeping.saving {
-                Saving::InPlace => load(alloc, disk, file, *size, &mut text),
-                Saving::Replacing => load_over(alloc, disk, file, *size, &mut text),
+                SaveMode::InPlace => load(alloc, disk, file, *size, &mut text),
+                SaveMode::Replacing => load_over(alloc, disk, file, *size, &mut text),
             }
         }
-        Invocation::Lint => lint(command_rows(), &mut Reading::new(rt.reader()), &mut out),
+        Invocation::Lint => lint(command_rows(), &mut StdSource::new(rt.reader()), &mut out),
         Invocation::Language => print_language(&mut out, command_rows()),
         Invocation::Version => print(&mut out, VERSION),
     };
@@ -231,20 +243,27 @@ fn answer_to<O: Lined>(
 {
     match &how.script {
         Script::Input => {
-            let mut script = Reading::new(Prompted::new(rt, rt.reader()));
+            let mut script = StdSource::new(Prompted::new(rt, rt.reader()));
             run_script(rt, disk, run, how, &mut script, out)
         }
         Script::File(path) => {
             let Ok(opened) = scripts.open(path) else {
                 return Err(CommandFault::Program(ProgramFault::Session(SessionFault::ReadFault)));
             };
-            let Opened { reader, len: _ } = opened;
+            let OpenedFile { reader, len: _ } = opened;
             let mut script = reader;
             run_script(rt, disk, run, how, &mut script, out)
         }
         Script::Lines(lines) => {
             let text = script_text(rt.alloc(), lines.as_slice())?;
-            run_script(rt, disk, run, how, &mut Reading::new(text.as_slice()), out)
+            run_script(
+                rt,
+                disk,
+                run,
+                how,
+                &mut StdSource::new(text.as_slice()),
+                out,
+            )
         }
     }
 }

@@ -11,15 +11,15 @@ const PIECE: usize = 65536;
 /// The allocator refused memory for the command line or the answers. Its field is private: this module alone makes it,
 /// where it asked.
 #[derive(Clone, Copy)]
-pub struct NoMemory {
+pub struct NoAnswerMemory {
     _made: (),
 }
 
 /// What the token of a refusal is.
-const REFUSED: NoMemory = NoMemory { _made: () };
+const REFUSED: NoAnswerMemory = NoAnswerMemory { _made: () };
 
 /// The words of the command line, the program's name first, where they are texts.
-pub fn words(rt: &HostRuntime) -> Result<Option<Vec<String>>, NoMemory> {
+pub fn words(rt: &HostRuntime) -> Result<Option<Vec<String>>, NoAnswerMemory> {
     match std::env::args(rt) {
         Ok(words) => match words.collect(rt.alloc()) {
             Ok(words) => Ok(Some(words)),
@@ -31,7 +31,7 @@ pub fn words(rt: &HostRuntime) -> Result<Option<Vec<String>>, NoMemory> {
 }
 
 /// The words as texts that are lent.
-pub fn borrowed<'a>(alloc: Global, words: &'a [String]) -> Result<Vec<&'a str>, NoMemory> {
+pub fn borrowed<'a>(alloc: Global, words: &'a [String]) -> Result<Vec<&'a str>, NoAnswerMemory> {
     words
         .iter()
         .map(|word| word.as_str())
@@ -43,7 +43,7 @@ pub fn borrowed<'a>(alloc: Global, words: &'a [String]) -> Result<Vec<&'a str>, 
 pub fn asked<'a>(
     alloc: Global,
     words: &'a [&'a str],
-) -> Result<Result<Invocation<'a>, UsageError>, NoMemory> {
+) -> Result<Result<Invocation<'a>, UsageError>, NoAnswerMemory> {
     match invocation(alloc, words) {
         Ok(asked) => Ok(Ok(asked)),
         Err(InvocationFault::Usage(wrong)) => Ok(Err(wrong)),
@@ -52,7 +52,7 @@ pub fn asked<'a>(
 }
 
 /// A writer that puts its bytes out in pieces.
-pub fn buffered<W: Write + Drop>(alloc: Global, writer: W) -> Result<BufWriter<W>, NoMemory> {
+pub fn buffered<W: Write + Drop>(alloc: Global, writer: W) -> Result<BufWriter<W>, NoAnswerMemory> {
     match BufWriter::with_capacity(alloc, PIECE, writer) {
         Ok(buffer) => Ok(buffer),
         Err(_) => Err(REFUSED),

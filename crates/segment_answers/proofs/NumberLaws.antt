@@ -1,5 +1,6 @@
 -- Lines and their numbers, as a reader parts them.
-use Rattle.std.proofs.Common.{◌≡◌, ◌==◌, ◌&&◌, ℕ, ◌+◌, ◌-◌, ◌<◌, ◌≤◌, ◌^◌, Bool, true, false, not, List, [], ◌∷◌, ◌++◌, length, take, map, fold, refl, sym, ap, ap₂, subst, ◌∙◌, arith, slice_index, zero, suc}
+use Rattle.std.proofs.Common.{◌≡◌, ◌==◌, ◌&&◌, ℕ, ◌+◌, ◌-◌, ◌<◌, ◌≤◌, ◌^◌, Bool, true, false, not, List, [], ◌∷◌, ◌++◌}
+use Rattle.std.proofs.Common.{length, take, map, fold, refl, sym, ap, ap₂, subst, ◌∙◌, arith, slice_index, zero, suc}
 use Rattle.std.specs.Prelude.{IfOk, Result, Ok, decimal}
 use Rattle.std.proofs.Math.Seq.{take-length}
 use Rattle.std.specs.List.{list_all}
@@ -9,7 +10,7 @@ use Rattle.std.proofs.lemmas.Bool.Decides.{nat_tests}
 use Rattle.std.proofs.lemmas.Fmt.{decimal_digit, decimal-digits_of}
 use Rattle.std.proofs.lemmas.List.{append-nil, append_assoc, length-append, take-append-le}
 use Rattle.std.proofs.lemmas.List.Sums.{fold-append, fold_more}
-use Rattle.raw_region.specs.Answers.{AddsFront}
+use Rattle.raw_region.specs.Answers.{AppendsProperPrefix}
 use Rattle.segment_answers.specs.Numbers.{in_text, is_in_text, text_part}
 
 text-none : (t : Bool) → text_part t [] ≡ []
@@ -27,26 +28,30 @@ in-append t a b = fold-append in_text t a b
 
 -- ---- bytes of one line
 
-line-text : (k : ℕ) (bs : List ℕ) → ((j : ℕ) → j < k → is_in_text true (take j bs) ≡ true) → text_part true (take k bs) ≡ take k bs
+line-text : (k : ℕ) (bs : List ℕ) → ((j : ℕ) → j < k → is_in_text true (take j bs) ≡ true)
+    → text_part true (take k bs) ≡ take k bs
 line-text zero bs one = refl
 line-text (suc k) [] one = refl
 line-text (suc zero) (b ∷ bs) one = ap (λ (l : List ℕ). b ∷ l) (text-none (in_text true b))
 line-text (suc (suc k)) (b ∷ bs) one =
     let first : in_text true b ≡ true = one (suc zero) (omega arith) in
-    let rest : (j : ℕ) → j < suc k → is_in_text true (take j bs) ≡ true = λ j h. sym (ap (λ (t : Bool). is_in_text t (take j bs)) first) ∙ one (suc j) (omega arith) in
+    let rest : (j : ℕ) → j < suc k → is_in_text true (take j bs) ≡ true =
+    λ j h. sym (ap (λ (t : Bool). is_in_text t (take j bs)) first) ∙ one (suc j) (omega arith) in
     ap (λ (l : List ℕ). b ∷ l) (ap (λ (t : Bool). text_part t (take (suc k) bs)) first ∙ line-text (suc k) bs rest)
 
 module _ (old new line : List ℕ) (n : ℕ) (begun : is_in_text false old ≡ true) (some : 0 < n) (within : n ≤ length line)
     (one : (k : ℕ) → k < n → is_in_text true (take k line) ≡ true) (took : new ≡ old ++ take n line) where
   pub line_text : text_part false new ≡ text_part false old ++ take n line
   line_text = ap (text_part false) took ∙ text-append false old (take n line)
-      ∙ ap (λ (t : Bool). text_part false old ++ text_part t (take n line)) begun ∙ ap (λ (l : List ℕ). text_part false old ++ l) (line-text n line one)
+      ∙ ap (λ (t : Bool). text_part false old ++ text_part t (take n line)) begun
+      ∙ ap (λ (l : List ℕ). text_part false old ++ l) (line-text n line one)
 
   pub line_end : is_in_text false new ≡ in_text true (slice_index line (n - 1))
   line_end =
       let before : n - 1 < n = omega arith in
       let all : n ≡ n - 1 + 1 = omega arith in
-      ap (is_in_text false) took ∙ in-append false old (take n line) ∙ ap (λ (t : Bool). is_in_text t (take n line)) begun
+      ap (is_in_text false) took ∙ in-append false old (take n line)
+      ∙ ap (λ (t : Bool). is_in_text t (take n line)) begun
       ∙ ap (λ (m : ℕ). is_in_text true (take m line)) all ∙ fold_more in_text true line (n - 1) 0 (omega arith)
       ∙ ap (λ (t : Bool). in_text t (slice_index line (n - 1))) (one (n - 1) before)
 
@@ -93,7 +98,8 @@ digits-blankless (d ∷ ds) = ap₂ ◌&&◌ (digit-not-blank d) (digits-blankle
 
 decimal-blankless : (n : ℕ) → n < 2 ^ 64 → blankless (decimal n) ≡ true
 decimal-blankless zero h = ap blankless (decimal_digit 0 (omega arith))
-decimal-blankless (suc m) h = ap blankless (decimal-digits_of (suc m) (omega arith) h) ∙ digits-blankless (digits_of 10 (suc m))
+decimal-blankless (suc m) h = ap blankless (decimal-digits_of (suc m) (omega arith) h)
+    ∙ digits-blankless (digits_of 10 (suc m))
 
 module _ (n : ℕ) (few : n < 2 ^ 64) (old new : List ℕ) (front : is_in_text false old ≡ false) where
   abbrev text : List ℕ
@@ -106,17 +112,21 @@ module _ (n : ℕ) (few : n < 2 ^ 64) (old new : List ℕ) (front : is_in_text f
   digits-have-none = blankless-append (decimal n) (0x3A ∷ []) (decimal-blankless n few) refl
 
   pub number_text : new ≡ old ++ text → text_part false new ≡ text_part false old
-  number_text took = ap (text_part false) took ∙ text-append false old text ∙ ap (λ (t : Bool). text_part false old ++ text_part t text) front
+  number_text took = ap (text_part false) took ∙ text-append false old text
+      ∙ ap (λ (t : Bool). text_part false old ++ text_part t text) front
       ∙ ap (λ (l : List ℕ). text_part false old ++ l) (text-append false (decimal n) (0x3A ∷ 0x20 ∷ [])
-      ∙ ap₂ (λ (l : List ℕ) (t : Bool). l ++ text_part t (0x3A ∷ 0x20 ∷ [])) (hidden-text (decimal n) (decimal-blankless n few)) (hidden-in (decimal n) (decimal-blankless n few)))
+      ∙ ap₂ (λ (l : List ℕ) (t : Bool).
+      l ++ text_part t (0x3A ∷ 0x20 ∷ [])) (hidden-text (decimal n) (decimal-blankless n few))
+      (hidden-in (decimal n) (decimal-blankless n few)))
       ∙ append-nil (text_part false old)
 
   pub number_end : new ≡ old ++ text → is_in_text false new ≡ true
   number_end took = ap (is_in_text false) took ∙ in-append false old text ∙ ap (λ (t : Bool). is_in_text t text) front
-      ∙ in-append false (decimal n) (0x3A ∷ 0x20 ∷ []) ∙ ap (λ (t : Bool). is_in_text t (0x3A ∷ 0x20 ∷ [])) (hidden-in (decimal n) (decimal-blankless n few))
+      ∙ in-append false (decimal n) (0x3A ∷ 0x20 ∷ [])
+      ∙ ap (λ (t : Bool). is_in_text t (0x3A ∷ 0x20 ∷ [])) (hidden-in (decimal n) (decimal-blankless n few))
 
   -- a part of it is a part of its digits
-  module _ (adds : AddsFront old new text) where
+  module _ (adds : AppendsProperPrefix old new text) where
     abbrev cut : List ℕ
     cut = take adds.count digits
 
@@ -131,14 +141,18 @@ module _ (n : ℕ) (few : n < 2 ^ 64) (old new : List ℕ) (front : is_in_text f
     grown = adds.added ∙ ap (λ (l : List ℕ). old ++ l) cut-is
 
     pub part_text : text_part false new ≡ text_part false old
-    part_text = ap (text_part false) grown ∙ text-append false old cut ∙ ap (λ (t : Bool). text_part false old ++ text_part t cut) front
-        ∙ ap (λ (l : List ℕ). text_part false old ++ l) (hidden-text cut (blankless-take adds.count digits digits-have-none)) ∙ append-nil (text_part false old)
+    part_text = ap (text_part false) grown ∙ text-append false old cut
+        ∙ ap (λ (t : Bool). text_part false old ++ text_part t cut) front
+        ∙ ap (λ (l : List ℕ). text_part false old ++ l)
+        (hidden-text cut (blankless-take adds.count digits digits-have-none)) ∙ append-nil (text_part false old)
 
     pub part_end : is_in_text false new ≡ false
     part_end = ap (is_in_text false) grown ∙ in-append false old cut ∙ ap (λ (t : Bool). is_in_text t cut) front
         ∙ hidden-in cut (blankless-take adds.count digits digits-have-none)
 
 -- what passes a writer that takes all
-pub passed : {E : Type 0} (result : Result ℕ E) (old new bytes : List ℕ) → result ≡ Ok (length bytes) → IfOk result (λ n. new ≡ old ++ take n bytes) → new ≡ old ++ bytes
+pub passed : {E : Type 0} (result : Result ℕ E) (old new bytes : List ℕ) → result ≡ Ok (length bytes)
+    → IfOk result (λ n. new ≡ old ++ take n bytes) → new ≡ old ++ bytes
 passed {E} result old new bytes e h =
-    subst (λ (r : Result ℕ E). IfOk r (λ n. new ≡ old ++ take n bytes)) e h ∙ ap (λ (l : List ℕ). old ++ l) (take-length bytes)
+    subst (λ (r : Result ℕ E). IfOk r (λ n. new ≡ old ++ take n bytes)) e h
+    ∙ ap (λ (l : List ℕ). old ++ l) (take-length bytes)

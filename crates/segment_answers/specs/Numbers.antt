@@ -1,7 +1,7 @@
 -- Lines behind their numbers: what stands in front of each line, up to a blank, is its number.
 use Rattle.std.specs.Prelude.{◌≡◌, ◌==◌, ℕ, Bool, true, false, not, List, [], ◌∷◌, fold, if◌then◌else◌}
-use Rattle.segment_answers.specs.declared.numbering.Spot.{Spot}
-use Rattle.segment_answers.specs.declared.numbering.Spot.TheVariants.{Front, Ahead, Inside, Broken}
+use Rattle.segment_answers.specs.declared.numbering.LineSpot.{LineSpot}
+use Rattle.segment_answers.specs.declared.numbering.LineSpot.TheVariants.{Front, Ahead, Inside, Broken}
 
 -- whether the next byte is one of a line's text, behind this one
 abbrev pub in_text : Bool → ℕ → Bool
@@ -18,7 +18,7 @@ text_part true (c ∷ cs) = c ∷ text_part (in_text true c) cs
 text_part false (c ∷ cs) = text_part (in_text false c) cs
 
 -- whether a line's number is written
-abbrev pub has_number : Spot → Bool
+abbrev pub has_number : LineSpot → Bool
 has_number Front = false
 has_number Ahead = true
 has_number Inside = true

@@ -1,19 +1,20 @@
 //! An output whose lines stand behind the number of the line of the script that they answer.
-ghost use Rattle.std.specs.Prelude.{◌≡◌, ◌≢◌, ◌≤◌, ◌<◌, ◌-◌, ◌^◌, ◌+◌, ◌++◌, ℕ, true, false, codes, decimal, length, min, take, IfOk, OnOk, OnErr};
+ghost use Rattle.std.specs.Prelude.{◌≡◌, ◌≢◌, ◌≤◌, ◌<◌, ◌-◌, ◌^◌, ◌+◌, ◌++◌, ℕ, true, false, codes, decimal, length};
+ghost use Rattle.std.specs.Prelude.{min, take, IfOk, OnOk, OnErr};
 ghost use Rattle.raw_region.specs.Answers.{failures_in, write_failures_in};
 ghost use Rattle.segment_disk.specs.Events.{nothing_taken};
 ghost use Rattle.segment_answers.specs.Numbers.{has_number, in_text, is_in_text, text_part};
-ghost use Rattle.segment_answers.specs.declared.numbering.Spot.TheVariants.{Front, Broken as IsBroken};
+ghost use Rattle.segment_answers.specs.declared.numbering.LineSpot.TheVariants.{Front, Broken as IsBroken};
 
 use crate::lined::Lined;
-use raw_region::stream::Writing;
+use raw_region::std_io::StdSink;
 use raw_region::{DeviceFault, Sink};
-use segment_disk::{Output, Passing};
+use segment_disk::{Output, PassThrough};
 use segment_lang::{Piece, put_pieces};
 
 /// Where the next byte stands.
 #[derive(Clone, Copy, Debug, PartialEq, Eq)]
-pub enum Spot {
+pub enum LineSpot {
     /// It begins a line, whose number is to be written first.
     Front,
     /// It begins a line, whose number is written.
@@ -27,8 +28,8 @@ pub enum Spot {
 /// How many of the bytes stand up to the end of their first line.
 fn line_length(bytes: &[u8]) -> usize
     ensures count { result ≤ length bytes.now }
-    ensures some { 0 < length bytes.now → 0 < result }
-    ensures before { (k : ℕ) → k < result → is_in_text true (take k bytes.now) ≡ true }
+    ensures non_empty { 0 < length bytes.now → 0 < result }
+    ensures previous { (k : ℕ) → k < result → is_in_text true (take k bytes.now) ≡ true }
 {
     let mut is_inside = true;
     let mut count = 0;
@@ -40,14 +41,14 @@ fn line_length(bytes: &[u8]) -> usize
 }
 
 /// Where the next byte stands behind this one of a line's text.
-fn spot_behind(byte: u8) -> Spot
+fn spot_behind(byte: u8) -> LineSpot
     ensures text { has_number result ≡ in_text true byte }
-    ensures whole { result ≢ IsBroken }
+    ensures contents { result ≢ IsBroken }
 {
     if byte == b'\n' {
-        Spot::Front
+        LineSpot::Front
     } else {
-        Spot::Inside
+        LineSpot::Inside
     }
 }
 
@@ -57,9 +58,9 @@ fn spot_behind(byte: u8) -> Spot
 pub struct Numbered<O: Output> {
     inner: O,
     number: u64,
-    spot: Spot,
+    spot: LineSpot,
     failures: u64,
-    plain: Writing<Passing>,
+    plain: StdSink<PassThrough>,
     ghost few: { (O.history inner).failures ≤ failures },
     ghost told: { text_part false (O.history inner).bytes ≡ plain.history.bytes },
     ghost place: { is_in_text false (O.history inner).bytes ≡ has_number spot },
@@ -72,32 +73,32 @@ impl<O: Output> Numbered<O> {
     /// One that took nothing yet.
     pub fn new(inner: O) -> Numbered<O>
         requires { O.history inner ≡ nothing_taken }
-        ensures taken { result.plain.history ≡ nothing_taken }
+        ensures transfer { result.plain.history ≡ nothing_taken }
         ensures failures { result.failures ≡ 0 }
     {
         Numbered {
             inner,
             number: 0,
-            spot: Spot::Front,
+            spot: LineSpot::Front,
             failures: 0,
-            plain: Writing::new(Passing),
+            plain: StdSink::new(PassThrough),
         }
     }
 
     /// Writes the number of a line that begins here.
     fn begin(&mut self) -> Result<(), DeviceFault>
         requires { self.old.failures < 2 ^ 64 - 1 }
-        ensures ok { OnOk result (has_number self.new.spot ≡ true) }
+        ensures on_ok { OnOk result (has_number self.new.spot ≡ true) }
         ensures plain { self.new.plain ≡ self.old.plain }
-        ensures counted { self.new.failures ≡ self.old.failures + failures_in result }
+        ensures failures { self.new.failures ≡ self.old.failures + failures_in result }
     {
         match self.spot {
-            Spot::Ahead | Spot::Inside => Ok(()),
-            Spot::Broken => {
+            LineSpot::Ahead | LineSpot::Inside => Ok(()),
+            LineSpot::Broken => {
                 self.failures += 1;
                 Err(DeviceFault)
             }
-            Spot::Front => self.put_number(),
+            LineSpot::Front => self.put_number(),
         }
     }
 
@@ -105,21 +106,21 @@ impl<O: Output> Numbered<O> {
     fn put_number(&mut self) -> Result<(), DeviceFault>
         requires front { self.old.spot ≡ Front }
         requires room { self.old.failures < 2 ^ 64 - 1 }
-        ensures ok { OnOk result (has_number self.new.spot ≡ true) }
+        ensures on_ok { OnOk result (has_number self.new.spot ≡ true) }
         ensures number { OnOk result ((O.history self.new.inner).bytes
             ≡ (O.history self.old.inner).bytes ++ (decimal self.old.number ++ codes ": ")) }
         ensures plain { self.new.plain ≡ self.old.plain }
-        ensures counted { self.new.failures ≡ self.old.failures + failures_in result }
+        ensures failures { self.new.failures ≡ self.old.failures + failures_in result }
     {
         let number = [Piece::Number(self.number), Piece::Bytes(b": ")];
         match put_pieces(&mut self.inner, &number) {
             Ok(()) => {
-                self.spot = Spot::Ahead;
+                self.spot = LineSpot::Ahead;
                 Ok(())
             }
             Err(fault) => {
                 self.failures += 1;
-                self.spot = Spot::Broken;
+                self.spot = LineSpot::Broken;
                 Err(fault)
             }
         }
@@ -128,13 +129,14 @@ impl<O: Output> Numbered<O> {
     /// Takes bytes of one line, whose number is written.
     fn take(&mut self, line: &[u8]) -> Result<usize, DeviceFault>
         requires room { self.old.failures < 2 ^ 64 - 1 }
-        requires begun { has_number self.old.spot ≡ true }
-        requires some { 0 < length line.now }
-        requires one { (k : ℕ) → k < length line.now → is_in_text true (take k line.now) ≡ true }
+        requires start { has_number self.old.spot ≡ true }
+        requires non_empty { 0 < length line.now }
+        requires single { (k : ℕ) → k < length line.now → is_in_text true (take k line.now) ≡ true }
         ensures count { IfOk result (λ n. n ≤ length line.now) }
-        ensures bytes { IfOk result (λ n. self.new.plain.history.bytes ≡ self.old.plain.history.bytes ++ take n line.now) }
+        ensures bytes { IfOk result (λ n. self.new.plain.history.bytes ≡ self.old.plain.history.bytes
+            ++ take n line.now) }
         ensures no_bytes { OnErr result (self.new.plain.history.bytes ≡ self.old.plain.history.bytes) }
-        ensures counted { self.new.failures ≡ self.old.failures + write_failures_in result (length line.now) }
+        ensures failures { self.new.failures ≡ self.old.failures + write_failures_in result (length line.now) }
     {
         let Ok(taken) = self.inner.write(line) else {
             self.failures += 1;

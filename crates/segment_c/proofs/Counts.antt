@@ -9,18 +9,23 @@ use Rattle.segment_manager.specs.Plan.{perform}
 use Rattle.segment_manager.specs.Step.{effect, step}
 
 -- a command that changes nothing is refused in no mode
-performed-reads : (mode : Mode) (d : Directory) (c : Command) → is_changing c ≡ false → step mode d c ≡ perform d (live d) (effect d c)
+performed-reads : (mode : Mode) (d : Directory) (c : Command) → is_changing c ≡ false
+    → step mode d c ≡ perform d (live d) (effect d c)
 unfolding step
 performed-reads Write d c e = refl
 performed-reads ReadOnly d c e = rw e refl
 performed-reads CopyOnWrite d c e = refl
 
-pub named_is : (mode : Mode) (d : Directory) (n : ℕ) → Number n ≡ (step mode d NumNamed).0 → n ≡ length (named_objects d)
+pub named_is : (mode : Mode) (d : Directory) (n : ℕ) → Number n ≡ (step mode d NumNamed).0
+    → n ≡ length (named_objects d)
 named_is mode d n e =
-    let same : Number n ≡ Number (length (named_objects d)) = e ∙ ap (λ (r : Answer × Directory). r.0) (performed-reads mode d NumNamed refl) in
+    let same : Number n ≡ Number (length (named_objects d)) =
+    e ∙ ap (λ (r : Answer × Directory). r.0) (performed-reads mode d NumNamed refl) in
     cc
 
-pub unique_is : (mode : Mode) (d : Directory) (n : ℕ) → Number n ≡ (step mode d NumUnique).0 → n ≡ length (unique_objects d)
+pub unique_is : (mode : Mode) (d : Directory) (n : ℕ) → Number n ≡ (step mode d NumUnique).0
+    → n ≡ length (unique_objects d)
 unique_is mode d n e =
-    let same : Number n ≡ Number (length (unique_objects d)) = e ∙ ap (λ (r : Answer × Directory). r.0) (performed-reads mode d NumUnique refl) in
+    let same : Number n ≡ Number (length (unique_objects d)) =
+    e ∙ ap (λ (r : Answer × Directory). r.0) (performed-reads mode d NumUnique refl) in
     cc

@@ -1,14 +1,14 @@
 -- Where elements stand, as it goes out.
 use Rattle.std.proofs.Common.{◌≡◌, refl, sym, subst, ◌+◌, ◌*◌, ◌%◌, ◌≤◌, ◌∙◌, ap, length}
-use Rattle.raw_region.specs.Memory.{Has, bytes_of}
+use Rattle.raw_region.specs.Memory.{HasBytesAt, bytes_of}
 use Rattle.seg_types.specs.declared.kinds.ScalarKind.{ScalarKind}
 use Rattle.seg_types.specs.declared.kinds.ScalarKind.TheVariants.{Bool as BoolKind, U8, I32, I64, U64}
 use Rattle.seg_types.specs.Kinds.{scalar_code, size_of}
 use Rattle.seg_types.specs.Names.{Key}
 use Rattle.segment_manager.specs.declared.containers.element_runs.ElementRun.{ElementRun}
 use Rattle.segment_manager.specs.containers.ElementRuns.{IsRunOf, spelled_at}
-use Rattle.segment_manager.specs.State.{State}
-use Rattle.segment_c.specs.declared.views.View.{View}
+use Rattle.segment_manager.specs.State.{SegmentState}
+use Rattle.segment_c.specs.declared.views.CView.{CView}
 use Rattle.segment_c.specs.Passed.{scalar_kind_in, scalar_kind_of}
 use Rattle.segment_c.specs.Views.{HasView, IsView}
 
@@ -21,12 +21,13 @@ code-back I32 = refl
 code-back I64 = refl
 code-back U64 = refl
 
-pub has-view : (s : State) (key : Key) (run : ElementRun) (v : View) → IsRunOf s key run → IsView v run → HasView s key v
+pub has-view : (s : SegmentState) (key : Key) (run : ElementRun) (v : CView) → IsRunOf s key run → IsView v run
+    → HasView s key v
 has-view s key run v r e =
     let kind : scalar_kind_in v.kind ≡ run.kind = ap scalar_kind_in e.2 ∙ code-back run.kind in
     record {
       inside = subst (λ n. n ≤ length s.cut.bytes)
           (λ i. sym e.0 i + size_of (sym kind i) * sym e.1 i) r.inside;
       aligned = subst (λ n. n % 8 ≡ 0) (sym e.0) r.aligned;
-      spells = λ d l. subst (λ n. Has (bytes_of s.cut.bytes) n (spelled_at d key)) (sym e.0) (r.spells d l);
+      spells = λ d l. subst (λ n. HasBytesAt (bytes_of s.cut.bytes) n (spelled_at d key)) (sym e.0) (r.spells d l);
     }

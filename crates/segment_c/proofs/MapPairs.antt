@@ -15,13 +15,13 @@ use Rattle.segment_manager.specs.Calls.{kind_at}
 use Rattle.segment_manager.specs.Directory.{Directory, Object, kind_of}
 use Rattle.segment_manager.specs.objects.Instances.{IsMissing}
 use Rattle.segment_manager.specs.containers.Maps.{pair_above}
-use Rattle.segment_manager.specs.State.{Answers, StandsFor, State}
-use Rattle.segment_manager.specs.containers.Walks.{Item, first_of, pairs_at}
-use Rattle.segment_c.specs.declared.values.Value.{Value}
+use Rattle.segment_manager.specs.State.{AnswersWith, DenotesCurrent, SegmentState}
+use Rattle.segment_manager.specs.containers.Walks.{KindedPair, first_of, pairs_at}
+use Rattle.segment_c.specs.declared.values.CScalar.{CScalar}
 use Rattle.segment_c.specs.Reads.{TellsPair, above_in, first_at, first_in, item_in, next_at, next_in}
 
 abbrev Pair : Type 0
-Pair = Result (Option Item) Refusal
+Pair = Result (Option KindedPair) Refusal
 
 abbrev first_told : List NumberPair → Result Kind Refusal → Pair
 first_told ps r = elim r as (λ _. Pair) [ Err why ↦ Err why | Ok kind ↦ first_in ps kind ]
@@ -49,33 +49,48 @@ no_next ps l (Vector k) n = refl
 no_next ps l String n = refl
 no_next ps l Strings n = refl
 
-module _ (s : State) (key : Key) (at value : Value) where
+module _ (s : SegmentState) (key : Key) (at value : CScalar) where
   -- no object has the key
-  pub first-missing : (why : Refusal) → IsMissing s key why → (d : Directory) → StandsFor s.cut.bytes d → TellsPair at value 6 (first_at d key)
-  first-missing why m d st = subst (λ (r : Option Object). TellsPair at value 6 (first_told (pairs_at d key) (kind_in r))) (sym (m.missing d st)) refl
+  pub first-missing : (why : Refusal) → IsMissing s key why → (d : Directory) → DenotesCurrent s.cut.bytes d
+      → TellsPair at value 6 (first_at d key)
+  first-missing why m d st = subst (λ (r : Option Object).
+      TellsPair at value 6 (first_told (pairs_at d key) (kind_in r))) (sym (m.missing d st)) refl
 
-  pub next-missing : (why : Refusal) → IsMissing s key why → (l : Literal) (d : Directory) → StandsFor s.cut.bytes d → TellsPair at value 6 (next_at d key l)
-  next-missing why m l d st = subst (λ (r : Option Object). TellsPair at value 6 (next_told (pairs_at d key) l (kind_in r))) (sym (m.missing d st)) refl
+  pub next-missing : (why : Refusal) → IsMissing s key why → (l : Literal) (d : Directory)
+      → DenotesCurrent s.cut.bytes d → TellsPair at value 6 (next_at d key l)
+  next-missing why m l d st = subst (λ (r : Option Object).
+      TellsPair at value 6 (next_told (pairs_at d key) l (kind_in r))) (sym (m.missing d st)) refl
 
   -- it is no map
-  module _ (kind : Kind) (a : Answers s (λ d. kind_at d key) (Ok kind)) (n : NoMap kind) where
-    pub first-no_map : (d : Directory) → StandsFor s.cut.bytes d → TellsPair at value 7 (first_at d key)
-    first-no_map d st = subst (TellsPair at value 7) (sym (no_first (pairs_at d key) kind n) ∙ ap (first_told (pairs_at d key)) (a.answers d st)) refl
+  module _ (kind : Kind) (a : AnswersWith s (λ d. kind_at d key) (Ok kind)) (n : NoMap kind) where
+    pub first-no_map : (d : Directory) → DenotesCurrent s.cut.bytes d → TellsPair at value 7 (first_at d key)
+    first-no_map d st = subst (TellsPair at value 7) (sym (no_first (pairs_at d key) kind n)
+        ∙ ap (first_told (pairs_at d key)) (a.answers d st)) refl
 
-    pub next-no_map : (l : Literal) (d : Directory) → StandsFor s.cut.bytes d → TellsPair at value 7 (next_at d key l)
-    next-no_map l d st = subst (TellsPair at value 7) (sym (no_next (pairs_at d key) l kind n) ∙ ap (next_told (pairs_at d key) l) (a.answers d st)) refl
+    pub next-no_map : (l : Literal) (d : Directory) → DenotesCurrent s.cut.bytes d
+        → TellsPair at value 7 (next_at d key l)
+    next-no_map l d st = subst (TellsPair at value 7) (sym (no_next (pairs_at d key) l kind n)
+        ∙ ap (next_told (pairs_at d key) l) (a.answers d st)) refl
 
   -- it is a map
-  module _ (k v : ScalarKind) (a : Answers s (λ d. kind_at d key) (Ok (Map k v))) (code : ℕ) where
-    pub first-told : (p : Option Item) → Answers s (λ d. item_in k v (option_map item_of (first_of (pairs_at d key)))) p → TellsPair at value code (Ok p)
-        → (d : Directory) → StandsFor s.cut.bytes d → TellsPair at value code (first_at d key)
-    first-told p r told d st = subst (TellsPair at value code) (ap (λ (q : Option Item). let it : Pair = Ok q in it) (r.answers d st) ∙ ap (first_told (pairs_at d key)) (a.answers d st)) told
+  module _ (k v : ScalarKind) (a : AnswersWith s (λ d. kind_at d key) (Ok (Map k v))) (code : ℕ) where
+    pub first-told : (p : Option KindedPair)
+        → AnswersWith s (λ d. item_in k v (option_map item_of (first_of (pairs_at d key)))) p
+        → TellsPair at value code (Ok p)
+        → (d : Directory) → DenotesCurrent s.cut.bytes d → TellsPair at value code (first_at d key)
+    first-told p r told d st = subst (TellsPair at value code) (ap (λ (q : Option KindedPair). let it : Pair = Ok q
+        in it) (r.answers d st) ∙ ap (first_told (pairs_at d key)) (a.answers d st)) told
 
-    pub next-told : (l : Literal) (z : ℤ) (p : Option Item) → value_of_literal k l ≡ Ok z → Answers s (λ d. item_in k v (pair_above z (pairs_at d key))) p → TellsPair at value code (Ok p)
-        → (d : Directory) → StandsFor s.cut.bytes d → TellsPair at value code (next_at d key l)
+    pub next-told : (l : Literal) (z : ℤ) (p : Option KindedPair) → value_of_literal k l ≡ Ok z
+        → AnswersWith s (λ d. item_in k v (pair_above z (pairs_at d key))) p → TellsPair at value code (Ok p)
+        → (d : Directory) → DenotesCurrent s.cut.bytes d → TellsPair at value code (next_at d key l)
     next-told l z p e r told d st =
         subst (TellsPair at value code)
-        (ap (λ (q : Option Item). let it : Pair = Ok q in it) (r.answers d st) ∙ ap (above_in (pairs_at d key) k v) (sym e) ∙ ap (next_told (pairs_at d key) l) (a.answers d st)) told
+        (ap (λ (q : Option KindedPair). let it : Pair = Ok q in it) (r.answers d st)
+        ∙ ap (above_in (pairs_at d key) k v) (sym e) ∙ ap (next_told (pairs_at d key) l) (a.answers d st)) told
 
-    pub next-refused : (l : Literal) (why : Refusal) → value_of_literal k l ≡ Err why → code ≡ refusal_number why → (d : Directory) → StandsFor s.cut.bytes d → TellsPair at value code (next_at d key l)
-    next-refused l why e told d st = subst (TellsPair at value code) (ap (above_in (pairs_at d key) k v) (sym e) ∙ ap (next_told (pairs_at d key) l) (a.answers d st)) told
+    pub next-refused : (l : Literal) (why : Refusal) → value_of_literal k l ≡ Err why → code ≡ refusal_number why
+        → (d : Directory) → DenotesCurrent s.cut.bytes d → TellsPair at value code (next_at d key l)
+    next-refused l why e told d st =
+        subst (TellsPair at value code) (ap (above_in (pairs_at d key) k v) (sym e)
+        ∙ ap (next_told (pairs_at d key) l) (a.answers d st)) told

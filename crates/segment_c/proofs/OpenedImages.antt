@@ -1,28 +1,34 @@
 -- What the first bytes of an image say of its size, and which codes answer an image that is not opened.
-use Rattle.std.proofs.Common.{◌≡◌, ◌∙◌, ◌≤◌, inl, inr, ℕ, Bool, true, false, ◌&&◌, ◌+◌, ◌<◌, List, [], ◌∷◌, Some, refl, sym, ap, subst, length, IsTrue, arith}
+use Rattle.std.proofs.Common.{◌≡◌, ◌∙◌, ◌≤◌, inl, inr, ℕ, Bool, true, false, ◌&&◌, ◌+◌, ◌<◌, List, [], ◌∷◌, Some, refl}
+use Rattle.std.proofs.Common.{sym, ap, subst, length, IsTrue, arith}
 use Rattle.std.specs.Prelude.{nat_le, nat_lt, find, min, if◌then◌else◌}
 use Rattle.std.proofs.lemmas.Bool.{and_from, and_parts, cond-true, le-leb, lt-ltb, or_right}
 use Rattle.raw_region.specs.Format.{current}
 use Rattle.block_tags.specs.Format.{is_legal_size}
 use Rattle.image_check.specs.declared.classes.ImageClass.{ImageClass}
-use Rattle.image_check.specs.declared.classes.ImageClass.TheVariants.{Truncated, BadMagic, UnsupportedVersion, BadSize, BadReserved, BadTag, BadFreeTree, BadIndex, BadObject, SharedBlock, BadContainer, OrphanBlock}
+use Rattle.image_check.specs.declared.classes.ImageClass.TheVariants.{Truncated, BadMagic, UnsupportedVersion, BadSize}
+use Rattle.image_check.specs.declared.classes.ImageClass.TheVariants.{BadReserved, BadTag, BadFreeTree, BadIndex}
+use Rattle.image_check.specs.declared.classes.ImageClass.TheVariants.{BadObject, SharedBlock, BadContainer, OrphanBlock}
 use Rattle.image_check.specs.declared.errors.OpenError.{OpenError}
 use Rattle.image_check.specs.declared.errors.OpenError.TheVariants.{Image, RegionTooSmall, ReadFault}
 use Rattle.image_check.specs.declared.errors.ExamineError.{ExamineError}
-use Rattle.image_check.specs.declared.errors.ExamineError.TheVariants.{Image as Examined, RegionTooSmall as TooSmall, ReadFault as Fault}
+use Rattle.image_check.specs.declared.errors.ExamineError.TheVariants.{Image as Examined, RegionTooSmall as TooSmall}
+use Rattle.image_check.specs.declared.errors.ExamineError.TheVariants.{ReadFault as Fault}
 use Rattle.image_check.specs.declared.verdict.Verdict.{Verdict}
 use Rattle.image_check.specs.Causes.{IsShown, error_for}
 use Rattle.image_check.specs.EarlyTests.{has_front, has_magic, has_version, size_word}
 use Rattle.image_check.specs.Classes.{class_of, holds, number_of}
 use Rattle.image_check.specs.Opening.{IsTooSmallFor}
 use Rattle.image_check.specs.OpeningBytes.{IsWhyNotOf, as_given}
-use Rattle.segment_c.specs.Opening.{IsExplained, IsNoImage, IsTooLong, IsWhyNotOpened, size_said}
+use Rattle.segment_c.specs.Opening.{IsExplained, IsNoImage, IsTooLongForRegion, IsWhyNotOpened, size_said}
 
 -- ---- the size
 
 -- a front says its size word
 said_front : (image : List ℕ) → 24 ≤ length image → IsTrue (has_front current image) → size_said image ≡ size_word image
-said_front image l f = ap (λ (e : Bool). if e then size_word image else 0) (and_from (nat_le 24 (length image)) (has_front current image) (le-leb 24 (length image) l) f)
+said_front image l f = ap (λ (e : Bool).
+    if e then size_word image else 0)
+    (and_from (nat_le 24 (length image)) (has_front current image) (le-leb 24 (length image) l) f)
 
 -- and one that a segment has
 pub legal_most : (n : ℕ) → IsTrue (is_legal_size n) → n ≤ 1073741824
@@ -37,22 +43,27 @@ pub said_more : (image : List ℕ) → length image < size_said image → class_
 said_more image l =
     let parts = cut_by (nat_le 24 (length image) && has_front current image) (size_word image) (length image) l in
     let front = (and_parts (nat_le 24 (length image)) (has_front current image) parts.0).1 in
-    let cut = and_from (has_front current image) (nat_lt (length image) (size_word image)) front (lt-ltb (length image) (size_word image) parts.1) in
-    cond-true (holds current image Truncated) (Some Truncated) (find (holds current image) (BadMagic ∷ UnsupportedVersion ∷ BadSize ∷ BadReserved ∷ BadTag ∷ BadFreeTree ∷ BadIndex ∷ BadObject ∷ SharedBlock ∷ BadContainer ∷ OrphanBlock ∷ []))
+    let cut = and_from (has_front current image) (nat_lt (length image) (size_word image)) front
+    (lt-ltb (length image) (size_word image) parts.1) in
+    cond-true (holds current image Truncated) (Some Truncated)
+    (find (holds current image) (BadMagic ∷ UnsupportedVersion ∷ BadSize ∷ BadReserved ∷ BadTag ∷ BadFreeTree
+    ∷ BadIndex ∷ BadObject ∷ SharedBlock ∷ BadContainer ∷ OrphanBlock ∷ []))
     (or_right (nat_lt (length image) 144) (has_front current image && nat_lt (length image) (size_word image)) cut)
 
 -- ---- the codes
 
 module _ (image : List ℕ) (capacity : ℕ) where
-  is_given : IsTooLong image capacity → IsTooSmallFor current (as_given image) 0 capacity
+  is_given : IsTooLongForRegion image capacity → IsTooSmallFor current (as_given image) 0 capacity
   is_given t = record { read = t.read; front = t.front; small = omega (arith, t.long) }
 
   -- there was no memory
   pub why_memory : IsWhyNotOpened image capacity 26
   why_memory = record { why = inl refl; too_long = λ t. inl refl }
 
-  module _ (cause : OpenError) (why : IsWhyNotOf current image 0 capacity cause) (small : IsTooSmallFor current (as_given image) 0 capacity → cause ≡ RegionTooSmall) where
-    pub why_class : (c : ImageClass) (code : ℕ) → cause ≡ Image c → code ≡ 100 + number_of c → IsWhyNotOpened image capacity code
+  module _ (cause : OpenError) (why : IsWhyNotOf current image 0 capacity cause)
+      (small : IsTooSmallFor current (as_given image) 0 capacity → cause ≡ RegionTooSmall) where
+    pub why_class : (c : ImageClass) (code : ℕ) → cause ≡ Image c → code ≡ 100 + number_of c
+        → IsWhyNotOpened image capacity code
     why_class c code e n = record {
       why = inr (inr (c, n, subst (IsWhyNotOf current image 0 capacity) e why));
       too_long = λ t. absurd (other (sym e ∙ small (is_given t)));
@@ -64,7 +75,13 @@ module _ (image : List ℕ) (capacity : ℕ) where
     pub why_room : cause ≡ RegionTooSmall → IsWhyNotOpened image capacity 27
     why_room e =
         let told = subst (IsWhyNotOf current image 0 capacity) e why in
-        record { why = inr (inl (refl, record { read = told.read; front = told.front; long = omega (arith, told.small) })); too_long = λ t. inr refl }
+        record {
+          why = inr (inl (
+            refl,
+            record { read = told.read; front = told.front; long = omega (arith, told.small) },
+          ));
+          too_long = λ t. inr refl;
+        }
 
     pub no_fault : cause ≡ ReadFault → ⊥
     no_fault e = subst (IsWhyNotOf current image 0 capacity) e why
@@ -73,7 +90,8 @@ module _ (image : List ℕ) (capacity : ℕ) where
   has_room : min (size_said image) 1073741824 ≤ capacity → IsTooSmallFor current (as_given image) 0 capacity → ⊥
   has_room room t =
       let size = said_front image t.read t.front in
-      let most = legal_most (size_word image) (and_parts (has_magic image && has_version current image) (is_legal_size (size_word image)) t.front).1 in
+      let most = legal_most (size_word image)
+      (and_parts (has_magic image && has_version current image) (is_legal_size (size_word image)) t.front).1 in
       let small = t.small in
       omega (arith, room, size, most, small)
 

@@ -1,5 +1,6 @@
 -- A value that is put into a vector of its own kind.
-use Rattle.std.proofs.Common.{◌≡◌, refl, sym, ap, subst, ◌∙◌, Bool, true, false, ◌&&◌, Option, Some, None, Result, Ok, Err}
+use Rattle.std.proofs.Common.{◌≡◌, refl, sym, ap, subst, ◌∙◌, Bool, true, false, ◌&&◌, Option, Some, None, Result, Ok}
+use Rattle.std.proofs.Common.{Err}
 use Rattle.std.specs.Prelude.{if◌then◌else◌}
 use Rattle.seg_types.specs.Commands.{Literal, Push}
 use Rattle.seg_types.specs.Kinds.{same_kind}
@@ -10,7 +11,7 @@ use Rattle.seg_types.specs.declared.refusals.Refusal.TheVariants.{ReadOnly, Wron
 use Rattle.segment_manager.specs.Answers.{Answer, Refused}
 use Rattle.segment_manager.specs.Directory.{Directory, Object, kind_of, live, object_at}
 use Rattle.segment_manager.specs.Plan.{Plan, Refuse, perform, with}
-use Rattle.segment_manager.specs.State.{IsStep, IsStepOfKind, State, StandsFor, done_answer}
+use Rattle.segment_manager.specs.State.{TakesStep, TakesStepOfKind, SegmentState, DenotesCurrent, done_answer}
 use Rattle.segment_manager.specs.Step as plans
 use Rattle.segment_manager.specs.Step.{effect, found_at, is_read_only, step, step_of_kind}
 use Rattle.segment_manager.specs.declared.modes.Mode.{Mode}
@@ -28,7 +29,8 @@ module _ (mode : Mode) (d : Directory) (key : Key) (kind : Kind) (l : Literal) w
   -- in a segment that is read alone, or without the object, both are refused for the same reason
   same-reading : is_read_only mode ≡ true → step_of_kind mode d key kind (Push key l) ≡ step mode d (Push key l)
   unfolding step step_of_kind
-  same-reading e = ap (λ b. perform d (live d) (if b && true then Refuse ReadOnly else with (found_at d key) next_of_kind)) e
+  same-reading e = ap (λ b. perform d (live d) (if b
+      && true then Refuse ReadOnly else with (found_at d key) next_of_kind)) e
       ∙ sym (ap (λ b. perform d (live d) (if b && true then Refuse ReadOnly else effect d (Push key l))) e)
 
   same-nowhere : object_at d key ≡ None → step_of_kind mode d key kind (Push key l) ≡ step mode d (Push key l)
@@ -66,15 +68,16 @@ module _ (mode : Mode) (d : Directory) (key : Key) (kind : Kind) (l : Literal) w
       reading false w = found w (object_at d key) refl
 
 -- what was not refused by the kind is the step of the command
-pub pushed-step : (old new : State) (key : Key) (kind : Kind) (l : Literal) (r : Result (Unit {0}) Refusal)
-    → (r ≡ Err WrongKind → ⊥) → IsStepOfKind old new key kind (Push key l) (done_answer r)
-    → IsStep old new (Push key l) (done_answer r)
+pub pushed-step : (old new : SegmentState) (key : Key) (kind : Kind) (l : Literal) (r : Result (Unit {0}) Refusal)
+    → (r ≡ Err WrongKind → ⊥) → TakesStepOfKind old new key kind (Push key l) (done_answer r)
+    → TakesStep old new (Push key l) (done_answer r)
 pushed-step old new key kind l r not m =
-    let same : (d : Directory) → StandsFor old.cut.bytes d
+    let same : (d : Directory) → DenotesCurrent old.cut.bytes d
     → step_of_kind old.mode d key kind (Push key l) ≡ step old.mode d (Push key l) =
     λ d st. same-step old.mode d key kind l r not (m.answers d st) in
     record {
       stays = m.stays;
       answers = λ d st. m.answers d st ∙ ap (λ (a : Answer × Directory). a.0) (same d st);
-      denotes = λ d st. subst (λ (a : Answer × Directory). StandsFor new.cut.bytes a.1) (same d st) (m.denotes d st);
+      denotes = λ d st. subst (λ (a : Answer × Directory).
+          DenotesCurrent new.cut.bytes a.1) (same d st) (m.denotes d st);
     }

@@ -1,8 +1,9 @@
 -- The room of a region, and whether a copy is put into it.
-use Rattle.std.proofs.Common.{◌≡◌, refl, sym, ap, ◌∙◌, ℕ, ◌+◌, ◌-◌, ◌<◌, ◌≤◌, ◌++◌, Bool, true, false, IsTrue, List, length, length-append, nat_le}
+use Rattle.std.proofs.Common.{◌≡◌, refl, sym, ap, ◌∙◌, ℕ, ◌+◌, ◌-◌, ◌<◌, ◌≤◌, ◌++◌, Bool, true, false, IsTrue, List}
+use Rattle.std.proofs.Common.{length, length-append, nat_le}
 use Rattle.std.proofs.Common.{arith, if◌then◌else◌}
 use Rattle.std.proofs.lemmas.Bool.{le-leb, leb-false, leb-true, lt-leb}
-use Rattle.raw_region.specs.Memory.{Cut, whole}
+use Rattle.raw_region.specs.Memory.{WindowState, whole}
 use Rattle.raw_region.proofs.Facts.{first}
 use Rattle.block_tags.specs.Format.{is_legal_size}
 use Rattle.best_fit.specs.Extents.{is_proper, proper_from}
@@ -13,16 +14,16 @@ use Rattle.grow_shrink.specs.Resized.{room_of}
 use Rattle.segment_c.proofs.LongerSegments.{stands-size}
 use Rattle.segment_c.proofs.OpenedImages.{legal_most}
 
-region-len : (c : Cut) → length (whole c) ≡ length c.before + length c.bytes + length c.after
+region-len : (c : WindowState) → length (whole c) ≡ length c.before + length c.bytes + length c.after
 region-len c =
     length-append (c.before ++ c.bytes) c.after ∙ ap (λ n. n + length c.after) (length-append c.before c.bytes)
 
 -- what fits into the segment fits
-pub fits-within : (c : Cut) (len : ℕ) → len ≤ length c.bytes → nat_le len (room_of c) ≡ true
+pub fits-within : (c : WindowState) (len : ℕ) → len ≤ length c.bytes → nat_le len (room_of c) ≡ true
 fits-within c len h = let all = region-len c in le-leb len (room_of c) (omega (arith, all, h))
 
 -- and more does, where there is room behind it
-pub fits-beyond : (c : Cut) (len left : ℕ) → left ≡ length (whole c) - (length c.before + length c.bytes)
+pub fits-beyond : (c : WindowState) (len left : ℕ) → left ≡ length (whole c) - (length c.before + length c.bytes)
     → length c.bytes < len → nat_le (len - length c.bytes) left ≡ nat_le len (room_of c)
 fits-beyond c len left e h = same-test (nat_le (len - length c.bytes) left) refl
   where
@@ -39,7 +40,8 @@ pub segment-small : (b : List ℕ) → IsSegment b → length b ≤ 1073741824
 unfolding is_proper
 segment-small b (d, st) =
     let legal : IsTrue (is_legal_size (live d).size) =
-    first (is_legal_size (live d).size) (proper_from 128 (live d).extents ((live d).size - 16)) st.denotes.directory.proper in
+    first (is_legal_size (live d).size) (proper_from 128 (live d).extents ((live d).size - 16))
+    st.denotes.directory.proper in
     let small = legal_most (live d).size legal in let same = live-size d in let size = stands-size b d st in
     omega (arith, small, same, size)
 

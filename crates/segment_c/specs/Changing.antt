@@ -5,38 +5,40 @@ use Rattle.seg_types.specs.Commands.{Pop, Push, Quoted, Set, Shrink}
 use Rattle.seg_types.specs.Names.{Key}
 use Rattle.seg_types.specs.declared.kinds.Kind.TheVariants.{String as StringKind, Strings as StringsKind}
 use Rattle.seg_types.specs.declared.refusals.Refusal.{Refusal}
-use Rattle.segment_c.specs.Calls.{KeepsRefused as KeepsHandle}
-use Rattle.segment_c.specs.declared.changes.Change.{Change}
-use Rattle.segment_c.specs.declared.changes.Change.TheVariants.{Append, AssignText, AssignTexts, Clear, Erase}
-use Rattle.segment_c.specs.declared.changes.Change.TheVariants.{InsertText, PopText, PushText, SetText, Trim}
+use Rattle.segment_c.specs.Calls.{UnchangedOnCode as KeepsHandle}
+use Rattle.segment_c.specs.declared.changes.ObjectChange.{ObjectChange}
+use Rattle.segment_c.specs.declared.changes.ObjectChange.TheVariants.{Append, AssignText, AssignTexts, Clear, Erase}
+use Rattle.segment_c.specs.declared.changes.ObjectChange.TheVariants.{InsertText, PopText, PushText, SetText, Trim}
 use Rattle.segment_manager.specs.Answers.{Answer, refusal_of}
-use Rattle.segment_manager.specs.State.{IsStep, IsStepOfKind, KeepsRefused, State}
+use Rattle.segment_manager.specs.State.{TakesStep, TakesStepOfKind, UnchangedIfRefused, SegmentState}
 use Rattle.segment_manager.specs.containers.TextLists.{LeadsOnOfKind}
 
 -- which step of the machine it is
-abbrev pub IsChange : Change → Key → State → State → Answer → Type 0
-IsChange (Erase index) key s t answer = IsStep s t (EraseAt key index) answer
+abbrev pub IsChange : ObjectChange → Key → SegmentState → SegmentState → Answer → Type 0
+IsChange (Erase index) key s t answer = TakesStep s t (EraseAt key index) answer
 IsChange PopText key s t answer = LeadsOnOfKind s t key StringsKind (Pop key) (refusal_of answer)
-IsChange Trim key s t answer = IsStep s t (Shrink key) answer
-IsChange Clear key s t answer = IsStep s t (ClearAll key) answer
-IsChange (AssignText text) key s t answer = IsStepOfKind s t key StringKind (Assign key (Quoted text.now ∷ [])) answer
-IsChange (Append text) key s t answer = IsStepOfKind s t key StringKind (AppendTo key text.now) answer
-IsChange (SetText index text) key s t answer = IsStepOfKind s t key StringsKind (Set key index (Quoted text.now)) answer
-IsChange (PushText text) key s t answer = IsStepOfKind s t key StringsKind (Push key (Quoted text.now)) answer
+IsChange Trim key s t answer = TakesStep s t (Shrink key) answer
+IsChange Clear key s t answer = TakesStep s t (ClearAll key) answer
+IsChange (AssignText text) key s t answer =
+    TakesStepOfKind s t key StringKind (Assign key (Quoted text.now ∷ [])) answer
+IsChange (Append text) key s t answer = TakesStepOfKind s t key StringKind (AppendTo key text.now) answer
+IsChange (SetText index text) key s t answer =
+    TakesStepOfKind s t key StringsKind (Set key index (Quoted text.now)) answer
+IsChange (PushText text) key s t answer = TakesStepOfKind s t key StringsKind (Push key (Quoted text.now)) answer
 IsChange (InsertText index text) key s t answer =
-    IsStepOfKind s t key StringsKind (Insert key index (Quoted text.now)) answer
+    TakesStepOfKind s t key StringsKind (Insert key index (Quoted text.now)) answer
 IsChange (AssignTexts texts) key s t answer =
-    IsStepOfKind s t key StringsKind (Assign key (map Quoted (map (λ text. text.now) texts.now))) answer
+    TakesStepOfKind s t key StringsKind (Assign key (map Quoted (map (λ text. text.now) texts.now))) answer
 
 -- texts that find no room can leave other bytes in gaps; else what is refused changes nothing: of the states
-abbrev pub LeavesOld : Change → State → State → Result (Unit {0}) Refusal → Type 0
-LeavesOld (PushText text) old new r = KeepsRefused old new r
-LeavesOld (InsertText index text) old new r = KeepsRefused old new r
-LeavesOld (AssignTexts texts) old new r = KeepsRefused old new r
+abbrev pub LeavesOld : ObjectChange → SegmentState → SegmentState → Result (Unit {0}) Refusal → Type 0
+LeavesOld (PushText text) old new r = UnchangedIfRefused old new r
+LeavesOld (InsertText index text) old new r = UnchangedIfRefused old new r
+LeavesOld (AssignTexts texts) old new r = UnchangedIfRefused old new r
 LeavesOld what old new r = OnErr r (new ≡ old)
 
 -- and of the handle
-abbrev pub LeavesHandle : Change → ℕ → Option State → Option State → Type 0
+abbrev pub LeavesHandle : ObjectChange → ℕ → Option SegmentState → Option SegmentState → Type 0
 LeavesHandle (PushText text) code old new = KeepsHandle code old new
 LeavesHandle (InsertText index text) code old new = KeepsHandle code old new
 LeavesHandle (AssignTexts texts) code old new = KeepsHandle code old new

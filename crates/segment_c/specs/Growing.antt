@@ -3,16 +3,16 @@ use Rattle.std.specs.Prelude.{◌≡◌, ◌⊎◌, ℕ, ◌+◌, None, Some}
 use Rattle.segment_manager.specs.declared.modes.Mode.{Mode}
 use Rattle.segment_manager.specs.Directory.{Directory}
 use Rattle.segment_manager.specs.blocks.Resized.{grown}
-use Rattle.segment_manager.specs.State.{State, StandsFor}
+use Rattle.segment_manager.specs.State.{SegmentState, DenotesCurrent}
 use Rattle.grow_shrink.specs.declared.larger_region.GrowOrMoveError.{GrowOrMoveError}
 use Rattle.grow_shrink.specs.declared.larger_region.GrowOrMoveError.TheVariants.{Growth, OutOfMemory}
 use Rattle.grow_shrink.specs.Resized.{growth_refusal}
 use Rattle.segment_c.specs.Resizing.{size_code}
 
 -- open as it was, and each directory has so many bytes more; the segment may lie in another region then
-pub record IsLonger (s t : State) (extra : ℕ) : Type 0 where
+pub record GrowsSegment (s t : SegmentState) (extra : ℕ) : Type 0 where
   pub mode : t.mode ≡ s.mode
-  pub denotes : (d : Directory) → StandsFor s.cut.bytes d → StandsFor t.cut.bytes (grown d extra)
+  pub denotes : (d : Directory) → DenotesCurrent s.cut.bytes d → DenotesCurrent t.cut.bytes (grown d extra)
 
 -- the code is that of the refusal, if there is one in a region with room, or there was no memory for a larger region
 abbrev pub IsGrowthCode : Mode → ℕ → ℕ → Directory → Type 0

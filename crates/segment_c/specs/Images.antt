@@ -16,6 +16,7 @@ mode_code ReadOnly = 1
 mode_code CopyOnWrite = 2
 
 -- the bytes stand at the front of a buffer, where it has room for them
-abbrev pub Saves : List ℕ → List ℕ → List ℕ → ℕ → Type 0
-Saves bytes old new code =
-    (length bytes ≤ length old → (code ≡ 0) × (new ≡ bytes ++ drop (length bytes) old)) × (length old < length bytes → code ≡ 24)
+abbrev pub CopiesOut : List ℕ → List ℕ → List ℕ → ℕ → Type 0
+CopiesOut bytes old new code =
+    (length bytes ≤ length old → (code ≡ 0) × (new ≡ bytes ++ drop (length bytes) old))
+    × (length old < length bytes → code ≡ 24)

@@ -2,7 +2,7 @@
 use Rattle.std.specs.Prelude.{◌≡◌, ℕ, nat_le, List, if◌then◌else◌}
 use Rattle.raw_region.specs.Memory.{part, whole}
 use Rattle.segment_manager.specs.declared.modes.Mode.{Mode}
-use Rattle.segment_manager.specs.State.{IsSegment, State}
+use Rattle.segment_manager.specs.State.{IsSegment, SegmentState}
 use Rattle.segment_c.specs.Opening.{capacity_wrong}
 use Rattle.segment_c.specs.Passed.{or_else}
 
@@ -11,7 +11,7 @@ abbrev pub memory_wrong : ℕ → ℕ → ℕ
 memory_wrong n len = or_else (capacity_wrong n) (if nat_le len n then 0 else 22)
 
 -- The segment is the image that stands at the front of the memory, of which no byte has changed.
-pub record IsOpenedHere (memory : List ℕ) (len : ℕ) (mode : Mode) (s : State) : Type 0 where
+pub record IsOpenedHere (memory : List ℕ) (len : ℕ) (mode : Mode) (s : SegmentState) : Type 0 where
   pub bytes : s.cut.bytes ≡ part memory 0 len
   pub region : whole s.cut ≡ memory
   pub mode_is : s.mode ≡ mode

@@ -5,9 +5,9 @@ use Rattle.block_tags.specs.declared.tile.Role.TheVariants.{Object as ObjectRole
 use Rattle.best_fit.specs.Extents.{Span, handle}
 use Rattle.seg_types.specs.Kinds.{class_code, code_of}
 use Rattle.segment_manager.specs.Directory.{Directory, Object, count_of, kind_of}
-use Rattle.segment_manager.specs.State.{StandsFor, State}
+use Rattle.segment_manager.specs.State.{DenotesCurrent, SegmentState}
 use Rattle.segment_c.specs.declared.lists.Info.{Info}
-use Rattle.segment_c.specs.declared.lists.Block.{Block}
+use Rattle.segment_c.specs.declared.lists.CBlock.{CBlock}
 
 -- ---- objects
 
@@ -20,18 +20,19 @@ pub record IsInfo (o : Object) (i : Info) : Type 0 where
   pub at : i.handle ≡ handle o.extent
 
 -- an object is told of, and its name stands at the front of the buffer, where that has room for it
-pub record IsTold (o : Object) (i : Info) (old new : List ℕ) (code : ℕ) : Type 0 where
+pub record WritesInfo (o : Object) (i : Info) (old new : List ℕ) (code : ℕ) : Type 0 where
   pub told : length o.name ≤ length old → (code ≡ 0) × IsInfo o i × (new ≡ o.name ++ drop (length o.name) old)
   pub short : length old < length o.name → code ≡ 24
 
 -- the same of an object that may not be there
-abbrev pub Tells : ℕ → Info → List ℕ → List ℕ → ℕ → Option Object → Type 0
-Tells missing i old new code None = code ≡ missing
-Tells missing i old new code (Some o) = IsTold o i old new code
+abbrev pub WritesInfoIfFound : ℕ → Info → List ℕ → List ℕ → ℕ → Option Object → Type 0
+WritesInfoIfFound missing i old new code None = code ≡ missing
+WritesInfoIfFound missing i old new code (Some o) = WritesInfo o i old new code
 
 -- the same of an object that the directory says
-abbrev pub TellsOf : State → (Directory → Option Object) → ℕ → Info → List ℕ → List ℕ → ℕ → Type 0
-TellsOf s which missing i old new code = (d : Directory) → StandsFor s.cut.bytes d → Tells missing i old new code (which d)
+abbrev pub WritesInfoOf : SegmentState → (Directory → Option Object) → ℕ → Info → List ℕ → List ℕ → ℕ → Type 0
+WritesInfoOf s which missing i old new code = (d : Directory) → DenotesCurrent s.cut.bytes d
+    → WritesInfoIfFound missing i old new code (which d)
 
 -- the same without its name
 abbrev pub TellsAlone : Info → ℕ → Option Object → Type 0
@@ -48,6 +49,6 @@ use_code (Some Storage) = 3
 use_code (Some Node) = 4
 
 -- the block or gap is the one that is told of, or there is none
-abbrev pub TellsBlock : Block → ℕ → Option Span → Type 0
+abbrev pub TellsBlock : CBlock → ℕ → Option Span → Type 0
 TellsBlock b code None = code ≡ 8
 TellsBlock b code (Some s) = (code ≡ 0) × (b.offset ≡ s.offset) × (b.len ≡ s.len) × (b.use_of ≡ use_code s.use_of)

@@ -1,7 +1,8 @@
--- What is noted of the segment of a handle: how often it was changed, whether C lent its memory, and whether C may write
+-- What is noted of the segment of a handle: how often it was changed, whether C lent its memory, and whether C may
+-- write
 -- elements where they stand.
 use Rattle.std.specs.Prelude.{◌≡◌, ◌≤◌, ℕ, ◌+◌, ◌%◌, Bool, false, true}
-use Rattle.segment_c.specs.declared.handle.Marks.{Marks}
+use Rattle.segment_c.specs.declared.segment_slot.Marks.{Marks}
 
 -- the counter has risen, or begins anew, and no element that C was told of is where it was told
 abbrev pub raised : Marks → Marks
@@ -16,16 +17,16 @@ abbrev pub shared : Marks → Marks
 shared m = record { changes = m.changes; is_lent = m.is_lent; is_shared = true }
 
 -- A call that may have moved elements raises the counter where it is done; the memory stays whose it was.
-pub record IsMarked (code : ℕ) (old new : Marks) : Type 0 where
+pub record RaisesMoves (code : ℕ) (old new : Marks) : Type 0 where
   pub counted : code ≡ 0 → new ≡ raised old
   pub lent : new.is_lent ≡ old.is_lent
 
 -- the same of one that puts another segment into the handle, or none: the memory is C's or not then
-pub record IsPlaced (code : ℕ) (old new : Marks) (is_lent : Bool) : Type 0 where
+pub record PlacesSegment (code : ℕ) (old new : Marks) (is_lent : Bool) : Type 0 where
   pub put : code ≡ 0 → new ≡ placed old is_lent
   pub kept : 1 ≤ code → new ≡ old
 
 -- and of one that tells C where it may write
-pub record IsShared (code : ℕ) (old new : Marks) : Type 0 where
+pub record LendsRange (code : ℕ) (old new : Marks) : Type 0 where
   pub told : code ≡ 0 → new ≡ shared old
   pub kept : 1 ≤ code → new ≡ old

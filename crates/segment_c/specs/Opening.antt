@@ -1,9 +1,10 @@
 -- Images that are opened: what the calls owe.
-use Rattle.std.specs.Prelude.{◌≡◌, ◌<◌, ◌≤◌, ◌⊎◌, ℕ, ◌+◌, ◌%◌, ◌&&◌, ◌==◌, nat_le, List, length, Some, IsTrue, if◌then◌else◌}
+use Rattle.std.specs.Prelude.{◌≡◌, ◌<◌, ◌≤◌, ◌⊎◌, ℕ, ◌+◌, ◌%◌, ◌&&◌, ◌==◌, nat_le, List, length, Some, IsTrue}
+use Rattle.std.specs.Prelude.{if◌then◌else◌}
 use Rattle.raw_region.specs.Format.{current}
-use Rattle.raw_region.specs.Memory.{SamePlace, cut_at, zeros}
+use Rattle.raw_region.specs.Memory.{SameSurroundings, cut_at, zeros}
 use Rattle.segment_manager.specs.declared.modes.Mode.{Mode}
-use Rattle.segment_manager.specs.State.{IsSegment, State}
+use Rattle.segment_manager.specs.State.{IsSegment, SegmentState}
 use Rattle.image_check.specs.declared.classes.ImageClass.{ImageClass}
 use Rattle.image_check.specs.Classes.{class_of, number_of}
 use Rattle.image_check.specs.EarlyTests.{has_front, size_word}
@@ -14,14 +15,14 @@ abbrev pub capacity_wrong : ℕ → ℕ
 capacity_wrong n = if (n % 16 == 0) && nat_le 16 n && nat_le n 1099511627776 then 0 else 22
 
 -- the image is the segment's, at the front of a region of so many bytes, of which the others are 0
-pub record IsImageOpened (image : List ℕ) (capacity : ℕ) (mode : Mode) (s : State) : Type 0 where
+pub record IsImageOpened (image : List ℕ) (capacity : ℕ) (mode : Mode) (s : SegmentState) : Type 0 where
   pub bytes : s.cut.bytes ≡ image
-  pub place : SamePlace (cut_at (zeros capacity) 0 (length image)) s.cut
+  pub place : SameSurroundings (cut_at (zeros capacity) 0 (length image)) s.cut
   pub mode_is : s.mode ≡ mode
   pub denotes : IsSegment image
 
 -- the first bytes say a size for which a region of so many bytes has no room
-pub record IsTooLong (image : List ℕ) (capacity : ℕ) : Type 0 where
+pub record IsTooLongForRegion (image : List ℕ) (capacity : ℕ) : Type 0 where
   pub read : 24 ≤ length image
   pub front : IsTrue (has_front current image)
   pub long : capacity < size_word image
@@ -32,9 +33,9 @@ IsClassCode image code = (c : ImageClass) × (code ≡ 100 + number_of c) × (cl
 
 -- why the image is not opened in a region of so many bytes
 pub record IsWhyNotOpened (image : List ℕ) (capacity code : ℕ) : Type 0 where
-  pub why : (code ≡ 26) ⊎ (((code ≡ 27) × IsTooLong image capacity) ⊎ IsClassCode image code)
+  pub why : (code ≡ 26) ⊎ (((code ≡ 27) × IsTooLongForRegion image capacity) ⊎ IsClassCode image code)
   -- no class is looked for in an image that is too long
-  pub too_long : IsTooLong image capacity → (code ≡ 26) ⊎ (code ≡ 27)
+  pub too_long : IsTooLongForRegion image capacity → (code ≡ 26) ⊎ (code ≡ 27)
 
 -- why the bytes are no image: there was no memory to look, or a class of them
 abbrev pub IsNoImage : List ℕ → ℕ → Type 0

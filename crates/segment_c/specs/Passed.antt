@@ -9,8 +9,8 @@ use Rattle.segment_manager.specs.Answers.{Answer, Done, Element}
 use Rattle.seg_types.specs.Kinds.{code_of, is_value, kind_of_code, truth_number}
 use Rattle.seg_types.specs.Names.{Key, ByName, ByKind, ByHandle, NoKey, is_text_name}
 use Rattle.segment_c.specs.declared.keys.ObjectKey.{ObjectKey}
-use Rattle.segment_c.specs.declared.values.Value.{Value}
-use Rattle.segment_c.specs.declared.rows.Values.{Values}
+use Rattle.segment_c.specs.declared.values.CScalar.{CScalar}
+use Rattle.segment_c.specs.declared.rows.CScalars.{CScalars}
 
 -- ---- the first code of some that is not 0
 
@@ -78,7 +78,7 @@ abbrev pub scalar_kind_wrong : ℕ → ℕ
 scalar_kind_wrong code = elim (scalar_kind_of code) [ None ↦ 19 | Some k ↦ 0 ]
 
 -- the number of a value of a kind: the signed ones have a field of their own
-abbrev pub number_in : Value → ScalarKind → ℤ
+abbrev pub number_in : CScalar → ScalarKind → ℤ
 number_in v BoolKind = pos v.natural
 number_in v U8 = pos v.natural
 number_in v I32 = v.number
@@ -86,29 +86,29 @@ number_in v I64 = v.number
 number_in v U64 = pos v.natural
 
 -- a kind and a number in its range, if it is one
-unfoldable pub scalar_in : Value → Option (ScalarKind × ℤ)
+unfoldable pub scalar_in : CScalar → Option (ScalarKind × ℤ)
 scalar_in v = elim (scalar_kind_of v.kind) as (λ _. Option (ScalarKind × ℤ)) [
   | None ↦ None
   | Some k ↦ if is_value k (number_in v k) then Some (k, number_in v k) else None
 ]
 
-abbrev pub value_wrong : Value → ℕ
+abbrev pub value_wrong : CScalar → ℕ
 value_wrong v = elim (scalar_in v) [ None ↦ 20 | Some s ↦ 0 ]
 
 -- a value that is passed is the literal that a script writes for it
-abbrev pub literal_in : Value → Literal
+abbrev pub literal_in : CScalar → Literal
 literal_in v = elim (scalar_in v) as (λ _. Literal) [ None ↦ Whole (pos 0) | Some s ↦ literal_of s.0 s.1 ]
 
 -- a value that is given is an element; one that is no scalar is what no element is answered by
-abbrev pub element_in : Value → Answer
+abbrev pub element_in : CScalar → Answer
 element_in v = elim (scalar_in v) as (λ _. Answer) [ None ↦ Done | Some s ↦ Element s.0 s.1 ]
 
 -- the kind of scalars of a value that is passed
-abbrev pub kind_in : Value → ScalarKind
+abbrev pub kind_in : CScalar → ScalarKind
 kind_in v = elim (scalar_in v) as (λ _. ScalarKind) [ None ↦ BoolKind | Some s ↦ s.0 ]
 
 -- and its number
-abbrev pub whole_in : Value → ℤ
+abbrev pub whole_in : CScalar → ℤ
 whole_in v = elim (scalar_in v) as (λ _. ℤ) [ None ↦ pos 0 | Some s ↦ s.1 ]
 
 -- how many scalars an object has
@@ -120,7 +120,7 @@ count_wrong n = if nat_le 1 n && nat_le n 1048576 then 0 else 21
 abbrev pub row_kind_wrong : ℕ → ℕ
 row_kind_wrong code = if code == 0 then 25 else scalar_kind_wrong code
 
-abbrev pub row_wrong : Values → ℕ
+abbrev pub row_wrong : CScalars → ℕ
 row_wrong v = row_kind_wrong v.kind
 
 -- the kind of scalars that a code says, where it says one
@@ -128,25 +128,25 @@ abbrev pub scalar_kind_in : ℕ → ScalarKind
 scalar_kind_in code = elim (scalar_kind_of code) as (λ _. ScalarKind) [ None ↦ BoolKind | Some k ↦ k ]
 
 -- the whole numbers of the slice of a kind
-abbrev pub numbers_of : Values → ScalarKind → List ℤ
+abbrev pub numbers_of : CScalars → ScalarKind → List ℤ
 numbers_of v BoolKind = map truth_number v.truths.now
 numbers_of v U8 = map pos v.bytes.now
 numbers_of v I32 = map (λ x. x) v.i32s.now
 numbers_of v I64 = map (λ x. x) v.i64s.now
 numbers_of v U64 = map pos v.u64s.now
 
-abbrev pub row_of : Values → List ℤ
+abbrev pub row_of : CScalars → List ℤ
 row_of v = numbers_of v (scalar_kind_in v.kind)
 
 -- how many they are
-abbrev pub many_of : Values → ScalarKind → ℕ
+abbrev pub many_of : CScalars → ScalarKind → ℕ
 many_of v BoolKind = length v.truths.now
 many_of v U8 = length v.bytes.now
 many_of v I32 = length v.i32s.now
 many_of v I64 = length v.i64s.now
 many_of v U64 = length v.u64s.now
 
-abbrev pub row_count : Values → ℕ
+abbrev pub row_count : CScalars → ℕ
 row_count v = many_of v (scalar_kind_in v.kind)
 
 -- the kind of objects that a code says, where it says one

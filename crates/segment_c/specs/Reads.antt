@@ -16,13 +16,13 @@ use Rattle.segment_manager.specs.Answers.{Answer, TextElement, Refused}
 use Rattle.segment_manager.specs.Calls.{kind_at}
 use Rattle.segment_manager.specs.Directory.{Directory}
 use Rattle.segment_manager.specs.containers.Maps.{pair_above}
-use Rattle.segment_manager.specs.State.{StandsFor, State}
-use Rattle.segment_manager.specs.containers.Walks.{Item, first_of, item_of_kinds, item_seen, pairs_at}
+use Rattle.segment_manager.specs.State.{DenotesCurrent, SegmentState}
+use Rattle.segment_manager.specs.containers.Walks.{KindedPair, first_of, item_of_kinds, item_seen, pairs_at}
 use Rattle.segment_values.specs.Ranges.{range_at}
 use Rattle.segment_c.specs.declared.keys.ObjectKey.{ObjectKey}
-use Rattle.segment_c.specs.declared.values.Value.{Value}
-use Rattle.segment_c.specs.Calls.{IsClosed, IsStopped}
-use Rattle.segment_c.specs.Images.{Saves}
+use Rattle.segment_c.specs.declared.values.CScalar.{CScalar}
+use Rattle.segment_c.specs.Calls.{RefusesClosed, RefusesArgument}
+use Rattle.segment_c.specs.Images.{CopiesOut}
 use Rattle.segment_c.specs.Passed.{key_of, key_wrong, scalar_in}
 
 -- the code is 0 and this holds, or it is that of the refusal
@@ -37,7 +37,7 @@ AreSizes len places sizes = (len ≡ sizes.0) × (places ≡ sizes.1)
 -- bytes stand at the front of a buffer, where it has room for them, and how many they are goes out in any case
 pub record IsCopied (bytes old new : List ℕ) (len code : ℕ) : Type 0 where
   pub len_is : len ≡ length bytes
-  pub saves : Saves bytes old new code
+  pub saves : CopiesOut bytes old new code
 
 -- the same of bytes that may not be there
 abbrev pub Copies : List ℕ → List ℕ → ℕ → ℕ → Result (List ℕ) Refusal → Type 0
@@ -53,10 +53,14 @@ CopiesAnswer old new len code answer = ⊥
 -- a call reads elements of the array or vector of a key from a place on, as many as a row has: a key that is wrong and
 -- a closed handle are codes; the row has the numbers of those elements then, as they are seen, or the call is refused;
 -- and no more changes
-pub record ReadsRange {X : Type 0} (seen : X → ℤ) (kind : ScalarKind) (key : ObjectKey) (first : ℕ) (old new : List X) (code : ℕ) (before after : Option State) : Type 0 where
-  pub stopped : IsStopped (key_wrong key) code before after
-  pub closed : IsClosed (key_wrong key) code before after
-  pub told : (s : State) → key_wrong key ≡ 0 → before ≡ Some s → (d : Directory) → StandsFor s.cut.bytes d → IsCoded (λ zs. map seen new ≡ zs) code (range_at d (key_of key) kind first (length old))
+pub record ReadsRange {X : Type 0} (seen : X
+    → ℤ) (kind : ScalarKind) (key : ObjectKey) (first : ℕ) (old new : List X) (code : ℕ)
+    (before after : Option SegmentState) : Type 0 where
+  pub stopped : RefusesArgument (key_wrong key) code before after
+  pub closed : RefusesClosed (key_wrong key) code before after
+  pub told : (s : SegmentState) → key_wrong key ≡ 0 → before ≡ Some s → (d : Directory)
+      → DenotesCurrent s.cut.bytes d
+      → IsCoded (λ zs. map seen new ≡ zs) code (range_at d (key_of key) kind first (length old))
   pub same : after ≡ before
   pub results : 1 ≤ code → new ≡ old
 
@@ -76,10 +80,10 @@ vector_kind_at d key = elim (kind_at d key) as (λ _. ScalarKind) [ Err r ↦ U8
 -- ---- neighbours in a map
 
 -- a pair of a map of two kinds, or none
-abbrev pub item_in : ScalarKind → ScalarKind → Option (ℤ × ℤ) → Option Item
+abbrev pub item_in : ScalarKind → ScalarKind → Option (ℤ × ℤ) → Option KindedPair
 item_in k v p = option_map (item_of_kinds k v) p
 
-abbrev pub first_in : List NumberPair → Kind → Result (Option Item) Refusal
+abbrev pub first_in : List NumberPair → Kind → Result (Option KindedPair) Refusal
 first_in ps (Map k v) = Ok (item_in k v (option_map item_of (first_of ps)))
 first_in ps (Scalar k) = Err WrongKind
 first_in ps (Vector k) = Err WrongKind
@@ -87,14 +91,17 @@ first_in ps String = Err WrongKind
 first_in ps Strings = Err WrongKind
 
 -- the pair with the least key of the map of a key
-abbrev pub first_at : Directory → Key → Result (Option Item) Refusal
-first_at d key = elim (kind_at d key) as (λ _. Result (Option Item) Refusal) [ Err why ↦ Err why | Ok kind ↦ first_in (pairs_at d key) kind ]
+abbrev pub first_at : Directory → Key → Result (Option KindedPair) Refusal
+first_at d key = elim (kind_at d key) as (λ _. Result (Option KindedPair) Refusal) [
+  | Err why ↦ Err why
+  | Ok kind ↦ first_in (pairs_at d key) kind
+]
 
-abbrev pub above_in : List NumberPair → ScalarKind → ScalarKind → Result ℤ Refusal → Result (Option Item) Refusal
+abbrev pub above_in : List NumberPair → ScalarKind → ScalarKind → Result ℤ Refusal → Result (Option KindedPair) Refusal
 above_in ps k v (Ok z) = Ok (item_in k v (pair_above z ps))
 above_in ps k v (Err why) = Err why
 
-abbrev pub next_in : List NumberPair → Literal → Kind → Result (Option Item) Refusal
+abbrev pub next_in : List NumberPair → Literal → Kind → Result (Option KindedPair) Refusal
 next_in ps l (Map k v) = above_in ps k v (value_of_literal k l)
 next_in ps l (Scalar k) = Err WrongKind
 next_in ps l (Vector k) = Err WrongKind
@@ -102,15 +109,18 @@ next_in ps l String = Err WrongKind
 next_in ps l Strings = Err WrongKind
 
 -- the pair with the least key above the one that a literal is
-abbrev pub next_at : Directory → Key → Literal → Result (Option Item) Refusal
-next_at d key l = elim (kind_at d key) as (λ _. Result (Option Item) Refusal) [ Err why ↦ Err why | Ok kind ↦ next_in (pairs_at d key) l kind ]
+abbrev pub next_at : Directory → Key → Literal → Result (Option KindedPair) Refusal
+next_at d key l = elim (kind_at d key) as (λ _. Result (Option KindedPair) Refusal) [
+  | Err why ↦ Err why
+  | Ok kind ↦ next_in (pairs_at d key) l kind
+]
 
 -- a pair goes out, or none is there
-abbrev pub TellsPair : Value → Value → ℕ → Result (Option Item) Refusal → Type 0
+abbrev pub TellsPair : CScalar → CScalar → ℕ → Result (Option KindedPair) Refusal → Type 0
 TellsPair at value code (Ok None) = code ≡ 10
 TellsPair at value code (Ok (Some (x, y))) = (code ≡ 0) × (scalar_in at ≡ Some x) × (scalar_in value ≡ Some y)
 TellsPair at value code (Err why) = code ≡ refusal_number why
 
 -- the same of a pair as the code has it
-abbrev pub TellsPairOf : Value → Value → ℕ → Option (ScalarValue × ScalarValue) → Type 0
+abbrev pub TellsPairOf : CScalar → CScalar → ℕ → Option (ScalarValue × ScalarValue) → Type 0
 TellsPairOf at value code pair = TellsPair at value code (Ok (option_map item_seen pair))

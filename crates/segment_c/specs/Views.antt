@@ -1,6 +1,6 @@
 -- What is said of elements that stand in the image.
 use Rattle.std.specs.Prelude.{◌≡◌, ◌+◌, ◌*◌, ◌%◌, ◌≤◌, length, Result, Err, if◌then◌else◌}
-use Rattle.raw_region.specs.Memory.{Has, bytes_of}
+use Rattle.raw_region.specs.Memory.{HasBytesAt, bytes_of}
 use Rattle.seg_types.specs.declared.refusals.Refusal.{Refusal}
 use Rattle.seg_types.specs.declared.refusals.Refusal.TheVariants.{ReadOnly}
 use Rattle.seg_types.specs.Kinds.{scalar_code, size_of}
@@ -9,20 +9,21 @@ use Rattle.segment_manager.specs.containers.ElementRuns.{spelled_at}
 use Rattle.segment_manager.specs.declared.containers.element_runs.ElementRun.{ElementRun}
 use Rattle.segment_manager.specs.declared.modes.Mode.{Mode}
 use Rattle.segment_manager.specs.Directory.{Directory}
-use Rattle.segment_manager.specs.State.{StandsFor, State}
+use Rattle.segment_manager.specs.State.{DenotesCurrent, SegmentState}
 use Rattle.segment_manager.specs.Step.{is_read_only}
-use Rattle.segment_c.specs.declared.views.View.{View}
+use Rattle.segment_c.specs.declared.views.CView.{CView}
 use Rattle.segment_c.specs.Passed.{scalar_kind_in}
 
 -- where the run begins, how many elements it has, and of which kind
-abbrev pub IsView : View → ElementRun → Type 0
+abbrev pub IsView : CView → ElementRun → Type 0
 IsView v run = (v.offset ≡ run.offset) × (v.count ≡ run.count) × (v.kind ≡ scalar_code run.kind)
 
 -- The bytes of the image from there on, a multiple of 8, spell the elements of the object of a key.
-pub record HasView (s : State) (key : Key) (v : View) : Type 0 where
+pub record HasView (s : SegmentState) (key : Key) (v : CView) : Type 0 where
   pub inside : v.offset + size_of (scalar_kind_in v.kind) * v.count ≤ length s.cut.bytes
   pub aligned : v.offset % 8 ≡ 0
-  pub spells : (d : Directory) → StandsFor s.cut.bytes d → Has (bytes_of s.cut.bytes) v.offset (spelled_at d key)
+  pub spells : (d : Directory) → DenotesCurrent s.cut.bytes d
+      → HasBytesAt (bytes_of s.cut.bytes) v.offset (spelled_at d key)
 
 -- where they may be written: nowhere, in a segment that is open for reading
 abbrev pub writable : Mode → Result ElementRun Refusal → Result ElementRun Refusal

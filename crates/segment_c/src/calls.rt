@@ -3,16 +3,16 @@ ghost use Rattle.std.specs.Prelude.{◌≡◌, ◌≢◌, MatchResult};
 ghost use Rattle.std.specs.declared.option.Option.TheVariants.{None, Some};
 ghost use Rattle.seg_types.specs.Keys.{index_key_seen, key_seen, new_key_seen};
 ghost use Rattle.seg_types.specs.Names.{NoKey};
-ghost use Rattle.segment_c.specs.Calls.{IsRefused};
+ghost use Rattle.segment_c.specs.Calls.{RefusesCall};
 ghost use Rattle.segment_c.specs.Passed.{entry_of, entry_wrong, key_of, key_wrong, literal_in, new_of, new_wrong};
 ghost use Rattle.segment_c.specs.Passed.{or_else, row_wrong, scalar_kind_in, value_wrong};
 ghost use Rattle.segment_manager.specs.objects.NewObjects.{IsOfKind};
 ghost use Rattle.seg_types.specs.Written.{literal_seen};
 
-use crate::handle::{Handle, take};
 use crate::keys::ObjectKey;
-use crate::rows::Values;
-use crate::values::Value;
+use crate::rows::CScalars;
+use crate::segment_slot::{SegmentSlot, take};
+use crate::values::CScalar;
 use seg_types::{IndexKey, Key, Kind, NewKey, ScalarKind, ScalarValue};
 use segment_manager::Segment;
 use std::alloc::Global;
@@ -33,11 +33,12 @@ pub(crate) use passed;
 #[inline(always)]
 pub fn enter<'a>(
     alloc: Global,
-    h: &mut Handle,
+    h: &mut SegmentSlot,
     key: &ObjectKey<'a>,
 ) -> Result<(Key<'a>, Box<Segment>), u32>
-    ensures entered { MatchResult result (λ it. (key_wrong key.now ≡ 0) × (key_seen it.0 ≡ key_of key.now) × (key_seen it.0 ≢ NoKey) × (h.old.segment.value ≡ Some it.1.value) × (h.new.segment.value ≡ None))
-        (λ code. IsRefused (key_wrong key.now) code h.old.segment.value h.new.segment.value) }
+    ensures entry { MatchResult result (λ it. (key_wrong key.now ≡ 0) × (key_seen it.0 ≡ key_of key.now)
+        × (key_seen it.0 ≢ NoKey) × (h.old.segment.value ≡ Some it.1.value) × (h.new.segment.value ≡ None))
+        (λ code. RefusesCall (key_wrong key.now) code h.old.segment.value h.new.segment.value) }
     ensures marks { h.new.marks ≡ h.old.marks }
 {
     let which = key.key()?;
@@ -48,12 +49,15 @@ pub fn enter<'a>(
 #[inline(always)]
 pub fn enter_with<'a>(
     alloc: Global,
-    h: &mut Handle,
+    h: &mut SegmentSlot,
     key: &ObjectKey<'a>,
-    value: &Value,
+    value: &CScalar,
 ) -> Result<(Key<'a>, ScalarValue, Box<Segment>), u32>
-    ensures entered { MatchResult result (λ it. (or_else (key_wrong key.now) (value_wrong value.now) ≡ 0) × (key_seen it.0 ≡ key_of key.now) × (literal_in value.now ≡ literal_seen it.1) × (h.old.segment.value ≡ Some it.2.value) × (h.new.segment.value ≡ None))
-        (λ code. IsRefused (or_else (key_wrong key.now) (value_wrong value.now)) code h.old.segment.value h.new.segment.value) }
+    ensures entry { MatchResult result (λ it. (or_else (key_wrong key.now) (value_wrong value.now) ≡ 0)
+        × (key_seen it.0 ≡ key_of key.now) × (literal_in value.now ≡ literal_seen it.1)
+        × (h.old.segment.value ≡ Some it.2.value) × (h.new.segment.value ≡ None))
+        (λ code. RefusesCall (or_else (key_wrong key.now) (value_wrong value.now)) code h.old.segment.value
+        h.new.segment.value) }
     ensures marks { h.new.marks ≡ h.old.marks }
 {
     let which = key.key()?;
@@ -64,13 +68,18 @@ pub fn enter_with<'a>(
 /// The same, and two values.
 pub fn enter_pair<'a>(
     alloc: Global,
-    h: &mut Handle,
+    h: &mut SegmentSlot,
     key: &ObjectKey<'a>,
-    at: &Value,
-    value: &Value,
+    at: &CScalar,
+    value: &CScalar,
 ) -> Result<(Key<'a>, ScalarValue, ScalarValue, Box<Segment>), u32>
-    ensures entered { MatchResult result (λ it. (or_else (key_wrong key.now) (or_else (value_wrong at.now) (value_wrong value.now)) ≡ 0) × (key_seen it.0 ≡ key_of key.now) × (literal_in at.now ≡ literal_seen it.1) × (literal_in value.now ≡ literal_seen it.2) × (h.old.segment.value ≡ Some it.3.value) × (h.new.segment.value ≡ None))
-        (λ code. IsRefused (or_else (key_wrong key.now) (or_else (value_wrong at.now) (value_wrong value.now))) code h.old.segment.value h.new.segment.value) }
+    ensures entry { MatchResult result (λ it.
+        (or_else (key_wrong key.now) (or_else (value_wrong at.now) (value_wrong value.now)) ≡ 0)
+        × (key_seen it.0 ≡ key_of key.now) × (literal_in at.now ≡ literal_seen it.1)
+        × (literal_in value.now ≡ literal_seen it.2) × (h.old.segment.value ≡ Some it.3.value)
+        × (h.new.segment.value ≡ None))
+        (λ code. RefusesCall (or_else (key_wrong key.now) (or_else (value_wrong at.now) (value_wrong value.now)))
+        code h.old.segment.value h.new.segment.value) }
     ensures marks { h.new.marks ≡ h.old.marks }
 {
     let which = key.key()?;
@@ -81,12 +90,15 @@ pub fn enter_pair<'a>(
 /// The key, the kind of a row of values, and the segment.
 pub fn enter_row<'a>(
     alloc: Global,
-    h: &mut Handle,
+    h: &mut SegmentSlot,
     key: &ObjectKey<'a>,
-    values: &Values<'_>,
+    values: &CScalars<'_>,
 ) -> Result<(Key<'a>, ScalarKind, Box<Segment>), u32>
-    ensures entered { MatchResult result (λ it. (or_else (key_wrong key.now) (row_wrong values.now) ≡ 0) × (key_seen it.0 ≡ key_of key.now) × (it.1 ≡ scalar_kind_in values.now.kind) × (h.old.segment.value ≡ Some it.2.value) × (h.new.segment.value ≡ None))
-        (λ code. IsRefused (or_else (key_wrong key.now) (row_wrong values.now)) code h.old.segment.value h.new.segment.value) }
+    ensures entry { MatchResult result (λ it. (or_else (key_wrong key.now) (row_wrong values.now) ≡ 0)
+        × (key_seen it.0 ≡ key_of key.now) × (it.1 ≡ scalar_kind_in values.now.kind)
+        × (h.old.segment.value ≡ Some it.2.value) × (h.new.segment.value ≡ None))
+        (λ code. RefusesCall (or_else (key_wrong key.now) (row_wrong values.now)) code h.old.segment.value
+        h.new.segment.value) }
     ensures marks { h.new.marks ≡ h.old.marks }
 {
     let which = key.key()?;
@@ -97,12 +109,14 @@ pub fn enter_row<'a>(
 /// The key under which a new object of a kind is made, and the segment.
 pub fn enter_new<'a>(
     alloc: Global,
-    h: &mut Handle,
+    h: &mut SegmentSlot,
     key: &ObjectKey<'a>,
     kind: Kind,
 ) -> Result<(NewKey<'a>, Box<Segment>), u32>
-    ensures entered { MatchResult result (λ it. (new_wrong key.now kind ≡ 0) × (new_key_seen it.0 ≡ new_of key.now kind) × IsOfKind (new_key_seen it.0) kind × (h.old.segment.value ≡ Some it.1.value) × (h.new.segment.value ≡ None))
-        (λ code. IsRefused (new_wrong key.now kind) code h.old.segment.value h.new.segment.value) }
+    ensures entry { MatchResult result (λ it. (new_wrong key.now kind ≡ 0)
+        × (new_key_seen it.0 ≡ new_of key.now kind) × IsOfKind (new_key_seen it.0) kind
+        × (h.old.segment.value ≡ Some it.1.value) × (h.new.segment.value ≡ None))
+        (λ code. RefusesCall (new_wrong key.now kind) code h.old.segment.value h.new.segment.value) }
     ensures marks { h.new.marks ≡ h.old.marks }
 {
     let which = if key.how == 3 {
@@ -116,12 +130,14 @@ pub fn enter_new<'a>(
 /// The entry under which an object of a kind is found or made, and the segment.
 pub fn enter_entry<'a>(
     alloc: Global,
-    h: &mut Handle,
+    h: &mut SegmentSlot,
     key: &ObjectKey<'a>,
     kind: Kind,
 ) -> Result<(IndexKey<'a>, Box<Segment>), u32>
-    ensures entered { MatchResult result (λ it. (entry_wrong key.now kind ≡ 0) × (index_key_seen it.0 ≡ entry_of key.now kind) × IsOfKind (index_key_seen it.0) kind × (h.old.segment.value ≡ Some it.1.value) × (h.new.segment.value ≡ None))
-        (λ code. IsRefused (entry_wrong key.now kind) code h.old.segment.value h.new.segment.value) }
+    ensures entry { MatchResult result (λ it. (entry_wrong key.now kind ≡ 0)
+        × (index_key_seen it.0 ≡ entry_of key.now kind) × IsOfKind (index_key_seen it.0) kind
+        × (h.old.segment.value ≡ Some it.1.value) × (h.new.segment.value ≡ None))
+        (λ code. RefusesCall (entry_wrong key.now kind) code h.old.segment.value h.new.segment.value) }
     ensures marks { h.new.marks ≡ h.old.marks }
 {
     let which = key.entry(kind)?;

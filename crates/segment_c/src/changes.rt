@@ -1,24 +1,24 @@
 //! Calls that change the object of a key, and answer a code alone.
 ghost use Rattle.seg_types.specs.Keys.{key_seen};
-ghost use Rattle.segment_c.specs.Calls.{Owes};
+ghost use Rattle.segment_c.specs.Calls.{PerformsCall};
 ghost use Rattle.segment_c.specs.Changing.{IsChange, LeavesHandle, LeavesOld};
 ghost use Rattle.segment_c.specs.Codes.{answer_for};
 ghost use Rattle.segment_c.specs.Passed.{key_of, key_wrong};
-ghost use Rattle.segment_c.specs.Marked.{IsMarked};
+ghost use Rattle.segment_c.specs.Marked.{RaisesMoves};
 ghost use Rattle.segment_manager.specs.Answers.{Done};
 ghost use Rattle.segment_manager.specs.State.{done_answer};
 
 use crate::calls::{enter, passed};
 use crate::codes::done;
-use crate::handle::Handle;
 use crate::keys::ObjectKey;
+use crate::segment_slot::SegmentSlot;
 use seg_types::{Key, Refusal};
 use segment_manager::Segment;
 use std::alloc::Global;
 
 /// What is changed of an object.
 #[derive(Clone, Copy)]
-pub enum Change<'a> {
+pub enum ObjectChange<'a> {
     Erase(u64),
     PopText,
     Trim,
@@ -32,30 +32,36 @@ pub enum Change<'a> {
 }
 
 /// Changes the object of a key.
-pub fn make_change(alloc: Global, h: &mut Handle, key: &ObjectKey<'_>, what: Change<'_>) -> u32
-    ensures asked { Owes (key_wrong key.now) result h.old.segment.value h.new.segment.value (λ s t. IsChange what.entry (key_of key.now) s t (answer_for result Done)) }
-    ensures kept { LeavesHandle what.entry result h.old.segment.value h.new.segment.value }
-    ensures marks { IsMarked result h.old.marks h.new.marks }
+pub fn make_change(
+    alloc: Global,
+    h: &mut SegmentSlot,
+    key: &ObjectKey<'_>,
+    what: ObjectChange<'_>,
+) -> u32
+    ensures call { PerformsCall (key_wrong key.now) result h.old.segment.value h.new.segment.value (λ s t.
+        IsChange what.entry (key_of key.now) s t (answer_for result Done)) }
+    ensures unchanged_on_error { LeavesHandle what.entry result h.old.segment.value h.new.segment.value }
+    ensures marks { RaisesMoves result h.old.marks h.new.marks }
 {
     let (which, mut segment) = passed!(enter(alloc, h, key));
     done(apply(&mut segment, &which, what), h, segment)
 }
 
 /// The same of a segment.
-fn apply(segment: &mut Segment, key: &Key, what: Change<'_>) -> Result<(), Refusal>
+fn apply(segment: &mut Segment, key: &Key, what: ObjectChange<'_>) -> Result<(), Refusal>
     ensures step { IsChange what.entry (key_seen key.now) segment.old segment.new (done_answer result) }
     ensures refused { LeavesOld what.entry segment.old segment.new result }
 {
     match what {
-        Change::Erase(index) => segment_values::erase(segment, key, index),
-        Change::PopText => segment.texts_pop(key),
-        Change::Trim => segment.shrink(key),
-        Change::Clear => segment.clear(key),
-        Change::AssignText(text) => segment.string_assign(key, text),
-        Change::Append(text) => segment.string_append(key, text),
-        Change::SetText(index, text) => segment.texts_set(key, index, text),
-        Change::PushText(text) => segment.texts_push(key, text),
-        Change::InsertText(index, text) => segment.texts_insert(key, index, text),
-        Change::AssignTexts(texts) => segment.texts_assign(key, texts),
+        ObjectChange::Erase(index) => segment_values::erase(segment, key, index),
+        ObjectChange::PopText => segment.texts_pop(key),
+        ObjectChange::Trim => segment.shrink(key),
+        ObjectChange::Clear => segment.clear(key),
+        ObjectChange::AssignText(text) => segment.string_assign(key, text),
+        ObjectChange::Append(text) => segment.string_append(key, text),
+        ObjectChange::SetText(index, text) => segment.texts_set(key, index, text),
+        ObjectChange::PushText(text) => segment.texts_push(key, text),
+        ObjectChange::InsertText(index, text) => segment.texts_insert(key, index, text),
+        ObjectChange::AssignTexts(texts) => segment.texts_assign(key, texts),
     }
 }

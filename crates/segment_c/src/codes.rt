@@ -11,8 +11,8 @@ ghost use Rattle.segment_manager.specs.objects.Found.{found_answer, pair_answer}
 ghost use Rattle.segment_manager.specs.containers.Maps.{any_value_answer};
 ghost use Rattle.segment_manager.specs.State.{done_answer, handle_answer, scalar_answer, truth_answer};
 
-use crate::handle::{Handle, put, put_changed};
-use crate::values::Value;
+use crate::segment_slot::{SegmentSlot, put, put_changed};
+use crate::values::CScalar;
 use image_check::MemoryFault;
 use raw_region::RawRegion;
 use seg_types::{Refusal, ScalarValue};
@@ -71,7 +71,8 @@ pub fn no_memory(_refused: MemoryFault) -> u32
 
 /// A segment in a box, or the code of no memory for one, and its region.
 pub fn boxed_or_region(alloc: Global, segment: Segment) -> Result<Box<Segment>, (u32, RawRegion)>
-    ensures { MatchResult result (λ s. s.value ≡ segment) (λ refused. (refused.0 ≡ 26) × (refused.1 ≡ whole segment.cut)) }
+    ensures { MatchResult result (λ s. s.value ≡ segment) (λ refused. (refused.0 ≡ 26)
+        × (refused.1 ≡ whole segment.cut)) }
 {
     match Box::new(alloc, segment) {
         Ok(segment) => Ok(segment),
@@ -114,7 +115,7 @@ macro_rules! code_for {
 
 /// The code of a refusal, which is its number.
 pub fn code_of(why: Refusal) -> u32
-    ensures answers { (a : Answer) → answer_for result a ≡ Refused why }
+    ensures outcome { (a : Answer) → answer_for result a ≡ Refused why }
     ensures answer { IsTrue (is_answer result) }
     ensures number { result ≡ refusal_number why }
     ensures refused { 1 ≤ result }
@@ -131,10 +132,10 @@ pub fn code_of(why: Refusal) -> u32
 
 /// The code where a command is done, or not. This and those below put the segment back into the handle, and those whose
 /// command may change it count that.
-pub fn done(done: Result<(), Refusal>, h: &mut Handle, segment: Box<Segment>) -> u32
-    ensures answers { answer_for result Done ≡ done_answer done }
+pub fn done(done: Result<(), Refusal>, h: &mut SegmentSlot, segment: Box<Segment>) -> u32
+    ensures outcome { answer_for result Done ≡ done_answer done }
     ensures answer { IsTrue (is_answer result) }
-    ensures put { h.new.segment.value ≡ Held segment.value }
+    ensures effect { h.new.segment.value ≡ Held segment.value }
     ensures marks { h.new.marks ≡ raised h.old.marks }
 {
     put_changed(DONE, h, segment);
@@ -145,13 +146,13 @@ pub fn done(done: Result<(), Refusal>, h: &mut Handle, segment: Box<Segment>) ->
 pub fn made(
     made: Result<u64, Refusal>,
     handle: &mut u64,
-    h: &mut Handle,
+    h: &mut SegmentSlot,
     segment: Box<Segment>,
 ) -> u32
-    ensures answers { answer_for result (Made handle.new) ≡ handle_answer made }
+    ensures outcome { answer_for result (Made handle.new) ≡ handle_answer made }
     ensures answer { IsTrue (is_answer result) }
-    ensures kept { 1 ≤ result → handle.new ≡ handle.old }
-    ensures put { h.new.segment.value ≡ Held segment.value }
+    ensures unchanged_on_error { 1 ≤ result → handle.new ≡ handle.old }
+    ensures effect { h.new.segment.value ≡ Held segment.value }
     ensures marks { h.new.marks ≡ raised h.old.marks }
 {
     put_changed(DONE, h, segment);
@@ -162,13 +163,13 @@ pub fn made(
 pub fn truth(
     truth: Result<bool, Refusal>,
     holds: &mut bool,
-    h: &mut Handle,
+    h: &mut SegmentSlot,
     segment: Box<Segment>,
 ) -> u32
-    ensures answers { answer_for result (Truth holds.new) ≡ truth_answer truth }
+    ensures outcome { answer_for result (Truth holds.new) ≡ truth_answer truth }
     ensures answer { IsTrue (is_answer result) }
-    ensures kept { 1 ≤ result → holds.new ≡ holds.old }
-    ensures put { h.new.segment.value ≡ Held segment.value }
+    ensures unchanged_on_error { 1 ≤ result → holds.new ≡ holds.old }
+    ensures effect { h.new.segment.value ≡ Held segment.value }
     ensures marks { h.new.marks ≡ raised h.old.marks }
 {
     put_changed(DONE, h, segment);
@@ -178,18 +179,18 @@ pub fn truth(
 /// The code where an element was asked for, or not. It goes out.
 pub fn element(
     element: Result<ScalarValue, Refusal>,
-    value: &mut Value,
-    h: &mut Handle,
+    value: &mut CScalar,
+    h: &mut SegmentSlot,
     segment: Box<Segment>,
 ) -> u32
-    ensures answers { answer_for result (element_in value.new) ≡ scalar_answer element }
+    ensures outcome { answer_for result (element_in value.new) ≡ scalar_answer element }
     ensures answer { IsTrue (is_answer result) }
-    ensures kept { 1 ≤ result → value.new ≡ value.old }
-    ensures put { h.new.segment.value ≡ Held segment.value }
+    ensures unchanged_on_error { 1 ≤ result → value.new ≡ value.old }
+    ensures effect { h.new.segment.value ≡ Held segment.value }
     ensures marks { h.new.marks ≡ h.old.marks }
 {
     put(DONE, h, segment);
-    code_for!(element, it => *value = Value::of(it))
+    code_for!(element, it => *value = CScalar::of(it))
 }
 
 /// The code where an object was found or made, or not. Its handle and how many elements it has go out.
@@ -197,13 +198,13 @@ pub fn found(
     found: Result<(u64, u32), Refusal>,
     handle: &mut u64,
     count: &mut u32,
-    h: &mut Handle,
+    h: &mut SegmentSlot,
     segment: Box<Segment>,
 ) -> u32
-    ensures answers { answer_for result (Found handle.new count.new) ≡ pair_answer found }
+    ensures outcome { answer_for result (Found handle.new count.new) ≡ pair_answer found }
     ensures answer { IsTrue (is_answer result) }
-    ensures kept { 1 ≤ result → (handle.new ≡ handle.old) × (count.new ≡ count.old) }
-    ensures put { h.new.segment.value ≡ Held segment.value }
+    ensures unchanged_on_error { 1 ≤ result → (handle.new ≡ handle.old) × (count.new ≡ count.old) }
+    ensures effect { h.new.segment.value ≡ Held segment.value }
     ensures marks { h.new.marks ≡ raised h.old.marks }
 {
     put_changed(DONE, h, segment);
@@ -215,13 +216,13 @@ pub fn found_or_absent(
     found: Result<Option<(u64, u32)>, Refusal>,
     handle: &mut u64,
     count: &mut u32,
-    h: &mut Handle,
+    h: &mut SegmentSlot,
     segment: Box<Segment>,
 ) -> u32
-    ensures answers { answer_for result (Found handle.new count.new) ≡ found_answer found }
+    ensures outcome { answer_for result (Found handle.new count.new) ≡ found_answer found }
     ensures answer { IsTrue (is_answer result) }
-    ensures kept { 1 ≤ result → (handle.new ≡ handle.old) × (count.new ≡ count.old) }
-    ensures put { h.new.segment.value ≡ Held segment.value }
+    ensures unchanged_on_error { 1 ≤ result → (handle.new ≡ handle.old) × (count.new ≡ count.old) }
+    ensures effect { h.new.segment.value ≡ Held segment.value }
     ensures marks { h.new.marks ≡ h.old.marks }
 {
     put(DONE, h, segment);
@@ -231,16 +232,16 @@ pub fn found_or_absent(
 /// The code where a value was looked for: it goes out where it is there.
 pub fn value_found(
     found: Result<Option<ScalarValue>, Refusal>,
-    value: &mut Value,
-    h: &mut Handle,
+    value: &mut CScalar,
+    h: &mut SegmentSlot,
     segment: Box<Segment>,
 ) -> u32
-    ensures answers { answer_for result (element_in value.new) ≡ any_value_answer found }
+    ensures outcome { answer_for result (element_in value.new) ≡ any_value_answer found }
     ensures answer { IsTrue (is_answer result) }
-    ensures kept { 1 ≤ result → value.new ≡ value.old }
-    ensures put { h.new.segment.value ≡ Held segment.value }
+    ensures unchanged_on_error { 1 ≤ result → value.new ≡ value.old }
+    ensures effect { h.new.segment.value ≡ Held segment.value }
     ensures marks { h.new.marks ≡ h.old.marks }
 {
     put(DONE, h, segment);
-    code_for!(found, Some(it) => *value = Value::of(it))
+    code_for!(found, Some(it) => *value = CScalar::of(it))
 }

@@ -4,42 +4,44 @@ ghost use Rattle.seg_types.specs.Commands.{Erase, Get, Insert, Pop, Push, Set};
 ghost use Rattle.seg_types.specs.{Keys.key_seen, Written.literal_seen};
 ghost use Rattle.seg_types.specs.Values.{kind_of_scalar};
 ghost use Rattle.seg_types.specs.declared.kinds.Kind.TheVariants.{Strings as StringsKind, Vector as VectorOf};
-ghost use Rattle.segment_c.specs.Calls.{Owes};
+ghost use Rattle.segment_c.specs.Calls.{PerformsCall};
 ghost use Rattle.segment_c.specs.Codes.{answer_for};
 ghost use Rattle.segment_c.specs.Passed.{element_in, key_of, key_wrong, literal_in, or_else, value_wrong};
 ghost use Rattle.segment_c.specs.Reads.{vector_kind, vector_kind_at};
-ghost use Rattle.segment_c.specs.Marked.{IsMarked};
+ghost use Rattle.segment_c.specs.Marked.{RaisesMoves};
 ghost use Rattle.segment_manager.specs.Answers.{Done, refusal_of};
 ghost use Rattle.segment_manager.specs.Calls.{scalar_reply};
-ghost use Rattle.segment_manager.specs.State.{Answers, IsStep, IsStepOfKind, Moves, done_answer, scalar_answer};
+ghost use Rattle.segment_manager.specs.State.{AnswersWith, TakesStep, TakesStepOfKind, Transitions, done_answer};
+ghost use Rattle.segment_manager.specs.State.{scalar_answer};
 ghost use Rattle.segment_manager.specs.Step.{step_of_kind};
 ghost use Rattle.segment_manager.specs.containers.TextLists.{LeadsOnOfKind};
 ghost use Rattle.segment_values.specs.Changes.{command_at};
 
 use crate::calls::{enter, enter_with, passed};
-use crate::changes::{Change, make_change};
+use crate::changes::{ObjectChange, make_change};
 use crate::codes::{done, element};
-use crate::handle::Handle;
 use crate::keys::ObjectKey;
-use crate::values::Value;
+use crate::segment_slot::SegmentSlot;
+use crate::values::CScalar;
 use seg_types::{Key, Kind, Refusal, ScalarKind, ScalarValue, by_kind, by_value};
 use segment_manager::{Segment, locate};
-use segment_values::Spot;
+use segment_values::InsertSpot;
 use std::alloc::Global;
 
 /// The element at `index` in the object of a key: of scalars, of a vector of scalars, or of a string, which has bytes.
 #[unsafe(no_mangle)]
 pub extern "C" fn zx_get(
     alloc: Global,
-    h: &mut Handle,
+    h: &mut SegmentSlot,
     key: &ObjectKey<'_>,
     index: u64,
-    value: &mut Value,
+    value: &mut CScalar,
 ) -> u32
-    ensures asked { Owes (key_wrong key.now) result h.old.segment.value h.new.segment.value
-        (λ s t. Answers s (λ d. scalar_reply s.mode d (key_of key.now) (Get (key_of key.now) index)) (answer_for result (element_in value.new))) }
-    ensures same { h.new.segment.value ≡ h.old.segment.value }
-    ensures results { 1 ≤ result → value.new ≡ value.old }
+    ensures call { PerformsCall (key_wrong key.now) result h.old.segment.value h.new.segment.value
+        (λ s t. AnswersWith s (λ d. scalar_reply s.mode d (key_of key.now) (Get (key_of key.now) index))
+        (answer_for result (element_in value.new))) }
+    ensures unchanged { h.new.segment.value ≡ h.old.segment.value }
+    ensures outputs_on_error { 1 ≤ result → value.new ≡ value.old }
     ensures marks { h.new.marks ≡ h.old.marks }
 {
     let (which, segment) = passed!(enter(alloc, h, key));
@@ -50,15 +52,16 @@ pub extern "C" fn zx_get(
 #[unsafe(no_mangle)]
 pub extern "C" fn zx_set(
     alloc: Global,
-    h: &mut Handle,
+    h: &mut SegmentSlot,
     key: &ObjectKey<'_>,
     index: u64,
-    value: &Value,
+    value: &CScalar,
 ) -> u32
-    ensures asked { Owes (or_else (key_wrong key.now) (value_wrong value.now)) result h.old.segment.value h.new.segment.value
-        (λ s t. IsStep s t (Set (key_of key.now) index (literal_in value.now)) (answer_for result Done)) }
-    ensures kept { 1 ≤ result → h.new.segment.value ≡ h.old.segment.value }
-    ensures marks { IsMarked result h.old.marks h.new.marks }
+    ensures call { PerformsCall (or_else (key_wrong key.now) (value_wrong value.now)) result h.old.segment.value
+        h.new.segment.value
+        (λ s t. TakesStep s t (Set (key_of key.now) index (literal_in value.now)) (answer_for result Done)) }
+    ensures unchanged_on_error { 1 ≤ result → h.new.segment.value ≡ h.old.segment.value }
+    ensures marks { RaisesMoves result h.old.marks h.new.marks }
 {
     let (which, new, mut segment) = passed!(enter_with(alloc, h, key, value));
     let answer = segment_values::set(&mut segment, &which, index, &new, &mut ());
@@ -67,11 +70,17 @@ pub extern "C" fn zx_set(
 
 /// Puts a value behind the last element of the vector of a key.
 #[unsafe(no_mangle)]
-pub extern "C" fn zx_push(alloc: Global, h: &mut Handle, key: &ObjectKey<'_>, value: &Value) -> u32
-    ensures asked { Owes (or_else (key_wrong key.now) (value_wrong value.now)) result h.old.segment.value h.new.segment.value
-        (λ s t. IsStep s t (Push (key_of key.now) (literal_in value.now)) (answer_for result Done)) }
-    ensures kept { 1 ≤ result → h.new.segment.value ≡ h.old.segment.value }
-    ensures marks { IsMarked result h.old.marks h.new.marks }
+pub extern "C" fn zx_push(
+    alloc: Global,
+    h: &mut SegmentSlot,
+    key: &ObjectKey<'_>,
+    value: &CScalar,
+) -> u32
+    ensures call { PerformsCall (or_else (key_wrong key.now) (value_wrong value.now)) result h.old.segment.value
+        h.new.segment.value
+        (λ s t. TakesStep s t (Push (key_of key.now) (literal_in value.now)) (answer_for result Done)) }
+    ensures unchanged_on_error { 1 ≤ result → h.new.segment.value ≡ h.old.segment.value }
+    ensures marks { RaisesMoves result h.old.marks h.new.marks }
 {
     let (which, new, mut segment) = passed!(enter_with(alloc, h, key, value));
     done(push(&mut segment, &which, new), h, segment)
@@ -79,13 +88,14 @@ pub extern "C" fn zx_push(alloc: Global, h: &mut Handle, key: &ObjectKey<'_>, va
 
 /// The same of a segment. Where the vector is of the value's own kind, it is looked up once.
 fn push(segment: &mut Segment, key: &Key, value: ScalarValue) -> Result<(), Refusal>
-    ensures step { IsStep segment.old segment.new (Push (key_seen key.now) (literal_seen value)) (done_answer result) }
+    ensures step { TakesStep segment.old segment.new (Push (key_seen key.now) (literal_seen value))
+        (done_answer result) }
     ensures refused { OnErr result (segment.new ≡ segment.old) }
 {
     match push_of_kind(segment, key, value) {
         Ok(()) => Ok(()),
         Err(why) => match why {
-            Refusal::WrongKind => add(segment, key, Spot::End, value),
+            Refusal::WrongKind => add(segment, key, InsertSpot::End, value),
             _ => Err(why),
         },
     }
@@ -93,7 +103,7 @@ fn push(segment: &mut Segment, key: &Key, value: ScalarValue) -> Result<(), Refu
 
 /// The same of a vector of the value's own kind.
 fn push_of_kind(segment: &mut Segment, key: &Key, value: ScalarValue) -> Result<(), Refusal>
-    ensures step { IsStepOfKind segment.old segment.new (key_seen key.now) (VectorOf (kind_of_scalar value))
+    ensures step { TakesStepOfKind segment.old segment.new (key_seen key.now) (VectorOf (kind_of_scalar value))
         (Push (key_seen key.now) (literal_seen value)) (done_answer result) }
     ensures refused { OnErr result (segment.new ≡ segment.old) }
 {
@@ -104,27 +114,34 @@ fn push_of_kind(segment: &mut Segment, key: &Key, value: ScalarValue) -> Result<
 #[unsafe(no_mangle)]
 pub extern "C" fn zx_insert(
     alloc: Global,
-    h: &mut Handle,
+    h: &mut SegmentSlot,
     key: &ObjectKey<'_>,
     index: u64,
-    value: &Value,
+    value: &CScalar,
 ) -> u32
-    ensures asked { Owes (or_else (key_wrong key.now) (value_wrong value.now)) result h.old.segment.value h.new.segment.value
-        (λ s t. IsStep s t (Insert (key_of key.now) index (literal_in value.now)) (answer_for result Done)) }
-    ensures kept { 1 ≤ result → h.new.segment.value ≡ h.old.segment.value }
-    ensures marks { IsMarked result h.old.marks h.new.marks }
+    ensures call { PerformsCall (or_else (key_wrong key.now) (value_wrong value.now)) result h.old.segment.value
+        h.new.segment.value
+        (λ s t. TakesStep s t (Insert (key_of key.now) index (literal_in value.now)) (answer_for result Done)) }
+    ensures unchanged_on_error { 1 ≤ result → h.new.segment.value ≡ h.old.segment.value }
+    ensures marks { RaisesMoves result h.old.marks h.new.marks }
 {
     let (which, new, mut segment) = passed!(enter_with(alloc, h, key, value));
     done(
-        add(&mut segment, &which, Spot::Before(index), new),
+        add(&mut segment, &which, InsertSpot::Before(index), new),
         h,
         segment,
     )
 }
 
 /// Puts a value into the vector of a key, where the spot says.
-fn add(segment: &mut Segment, key: &Key, spot: Spot, value: ScalarValue) -> Result<(), Refusal>
-    ensures step { IsStep segment.old segment.new (command_at spot (key_seen key.now) (literal_seen value)) (done_answer result) }
+fn add(
+    segment: &mut Segment,
+    key: &Key,
+    spot: InsertSpot,
+    value: ScalarValue,
+) -> Result<(), Refusal>
+    ensures step { TakesStep segment.old segment.new (command_at spot (key_seen key.now) (literal_seen value))
+        (done_answer result) }
     ensures refused { OnErr result (segment.new ≡ segment.old) }
 {
     segment_values::add(segment, key, spot, &value, &mut ())
@@ -132,28 +149,34 @@ fn add(segment: &mut Segment, key: &Key, spot: Spot, value: ScalarValue) -> Resu
 
 /// Leaves out the element at `index` in the vector of a key, of scalars or of strings.
 #[unsafe(no_mangle)]
-pub extern "C" fn zx_erase(alloc: Global, h: &mut Handle, key: &ObjectKey<'_>, index: u64) -> u32
-    ensures asked { Owes (key_wrong key.now) result h.old.segment.value h.new.segment.value
-        (λ s t. IsStep s t (Erase (key_of key.now) index) (answer_for result Done)) }
-    ensures kept { 1 ≤ result → h.new.segment.value ≡ h.old.segment.value }
-    ensures marks { IsMarked result h.old.marks h.new.marks }
+pub extern "C" fn zx_erase(
+    alloc: Global,
+    h: &mut SegmentSlot,
+    key: &ObjectKey<'_>,
+    index: u64,
+) -> u32
+    ensures call { PerformsCall (key_wrong key.now) result h.old.segment.value h.new.segment.value
+        (λ s t. TakesStep s t (Erase (key_of key.now) index) (answer_for result Done)) }
+    ensures unchanged_on_error { 1 ≤ result → h.new.segment.value ≡ h.old.segment.value }
+    ensures marks { RaisesMoves result h.old.marks h.new.marks }
 {
-    make_change(alloc, h, key, Change::Erase(index))
+    make_change(alloc, h, key, ObjectChange::Erase(index))
 }
 
 /// Takes the last element out of the vector of a key, a vector of scalars.
 #[unsafe(no_mangle)]
 pub extern "C" fn zx_pop(
     alloc: Global,
-    h: &mut Handle,
+    h: &mut SegmentSlot,
     key: &ObjectKey<'_>,
-    value: &mut Value,
+    value: &mut CScalar,
 ) -> u32
-    ensures asked { Owes (key_wrong key.now) result h.old.segment.value h.new.segment.value
-        (λ s t. Moves s t (answer_for result (element_in value.new)) (λ d. step_of_kind s.mode d (key_of key.now) (VectorOf (vector_kind_at d (key_of key.now))) (Pop (key_of key.now)))) }
-    ensures kept { 1 ≤ result → h.new.segment.value ≡ h.old.segment.value }
-    ensures results { 1 ≤ result → value.new ≡ value.old }
-    ensures marks { IsMarked result h.old.marks h.new.marks }
+    ensures call { PerformsCall (key_wrong key.now) result h.old.segment.value h.new.segment.value
+        (λ s t. Transitions s t (answer_for result (element_in value.new)) (λ d.
+        step_of_kind s.mode d (key_of key.now) (VectorOf (vector_kind_at d (key_of key.now))) (Pop (key_of key.now)))) }
+    ensures unchanged_on_error { 1 ≤ result → h.new.segment.value ≡ h.old.segment.value }
+    ensures outputs_on_error { 1 ≤ result → value.new ≡ value.old }
+    ensures marks { RaisesMoves result h.old.marks h.new.marks }
 {
     let (which, mut segment) = passed!(enter(alloc, h, key));
     h.marks.raise();
@@ -162,7 +185,9 @@ pub extern "C" fn zx_pop(
 
 /// The same of a segment.
 fn pop(segment: &mut Segment, key: &Key) -> Result<ScalarValue, Refusal>
-    ensures step { Moves segment.old segment.new (scalar_answer result) (λ d. step_of_kind segment.old.mode d (key_seen key.now) (VectorOf (vector_kind_at d (key_seen key.now))) (Pop (key_seen key.now))) }
+    ensures step { Transitions segment.old segment.new (scalar_answer result) (λ d.
+        step_of_kind segment.old.mode d (key_seen key.now) (VectorOf (vector_kind_at d (key_seen key.now)))
+        (Pop (key_seen key.now))) }
     ensures refused { OnErr result (segment.new ≡ segment.old) }
 {
     let kind = kind_of_vector(segment, key);
@@ -171,7 +196,8 @@ fn pop(segment: &mut Segment, key: &Key) -> Result<ScalarValue, Refusal>
 
 /// The same of a vector of scalars of a kind.
 fn pop_of_kind(segment: &mut Segment, key: &Key, kind: ScalarKind) -> Result<ScalarValue, Refusal>
-    ensures step { IsStepOfKind segment.old segment.new (key_seen key.now) (VectorOf kind) (Pop (key_seen key.now)) (scalar_answer result) }
+    ensures step { TakesStepOfKind segment.old segment.new (key_seen key.now) (VectorOf kind)
+        (Pop (key_seen key.now)) (scalar_answer result) }
     ensures refused { OnErr result (segment.new ≡ segment.old) }
 {
     macro_rules! pop {
@@ -185,7 +211,7 @@ fn pop_of_kind(segment: &mut Segment, key: &Key, kind: ScalarKind) -> Result<Sca
 /// The kind of the elements of the vector of a key; where it has no vector of scalars, one kind or another, by which
 /// the call is refused.
 fn kind_of_vector(segment: &Segment, key: &Key) -> ScalarKind
-    ensures { Answers segment.now (λ d. vector_kind_at d (key_seen key.now)) result }
+    ensures { AnswersWith segment.now (λ d. vector_kind_at d (key_seen key.now)) result }
 {
     match locate(segment, key) {
         Ok(object) => element_kind(object.kind),
@@ -205,11 +231,12 @@ fn element_kind(kind: Kind) -> ScalarKind
 
 /// Takes the last text out of the vector of strings of a key. It is read before by `zx_read_text`.
 #[unsafe(no_mangle)]
-pub extern "C" fn zx_pop_text(alloc: Global, h: &mut Handle, key: &ObjectKey<'_>) -> u32
-    ensures asked { Owes (key_wrong key.now) result h.old.segment.value h.new.segment.value
-        (λ s t. LeadsOnOfKind s t (key_of key.now) StringsKind (Pop (key_of key.now)) (refusal_of (answer_for result Done))) }
-    ensures kept { 1 ≤ result → h.new.segment.value ≡ h.old.segment.value }
-    ensures marks { IsMarked result h.old.marks h.new.marks }
+pub extern "C" fn zx_pop_text(alloc: Global, h: &mut SegmentSlot, key: &ObjectKey<'_>) -> u32
+    ensures call { PerformsCall (key_wrong key.now) result h.old.segment.value h.new.segment.value
+        (λ s t. LeadsOnOfKind s t (key_of key.now) StringsKind (Pop (key_of key.now))
+        (refusal_of (answer_for result Done))) }
+    ensures unchanged_on_error { 1 ≤ result → h.new.segment.value ≡ h.old.segment.value }
+    ensures marks { RaisesMoves result h.old.marks h.new.marks }
 {
-    make_change(alloc, h, key, Change::PopText)
+    make_change(alloc, h, key, ObjectChange::PopText)
 }

@@ -7,29 +7,30 @@ ghost use Rattle.image_check.specs.Classes.{number_of};
 ghost use Rattle.raw_region.specs.Memory.{zeros};
 ghost use Rattle.raw_region.specs.Regions.{IsCapacity};
 ghost use Rattle.seg_types.specs.Commands.{Free, Size};
-ghost use Rattle.segment_c.specs.Calls.{IsStopped, Opened, Owes};
+ghost use Rattle.segment_c.specs.Calls.{RefusesArgument, HoldsSegment, PerformsCall};
 ghost use Rattle.segment_c.specs.Codes.{answer_for};
-ghost use Rattle.segment_c.specs.Images.{Saves, mode_code, mode_of, mode_wrong};
-ghost use Rattle.segment_c.specs.Marked.{IsPlaced, placed};
-ghost use Rattle.segment_c.specs.Opening.{IsExplained, IsImageOpened, IsNoImage, IsWhyNotOpened, capacity_wrong, size_said};
+ghost use Rattle.segment_c.specs.Images.{CopiesOut, mode_code, mode_of, mode_wrong};
+ghost use Rattle.segment_c.specs.Marked.{PlacesSegment, placed};
+ghost use Rattle.segment_c.specs.Opening.{IsExplained, IsImageOpened, IsNoImage, IsWhyNotOpened, capacity_wrong};
+ghost use Rattle.segment_c.specs.Opening.{size_said};
 ghost use Rattle.segment_c.specs.Passed.{or_else};
 ghost use Rattle.segment_manager.specs.Answers.{Number};
-ghost use Rattle.segment_manager.specs.Calls.{IsCreated};
+ghost use Rattle.segment_manager.specs.Calls.{CreatesOk};
 ghost use Rattle.segment_manager.specs.blocks.Resized.{room_behind};
-ghost use Rattle.segment_manager.specs.State.{IsReply, IsSegment, State};
+ghost use Rattle.segment_manager.specs.State.{AnswersQuery, IsSegment, SegmentState};
 ghost use Rattle.segment_manager.specs.declared.modes.Mode.TheVariants.{Write};
 
 use crate::calls::passed;
 use crate::codes::{
     BAD_IMAGE, BAD_MODE, BAD_SIZE, DONE, SHORT_BUFFER, SHORT_REGION, boxed_or_not, no_memory,
 };
-use crate::handle::{Handle, Holder, put, put_new, take};
 use crate::resizing::is_capacity;
+use crate::segment_slot::{HeldSegment, SegmentSlot, put, put_new, take};
 use block_tags::is_legal_size;
 use grow_shrink::region_for;
 use image_check::{
-    ExamineError, FRONT, ImageClass, MemoryFault, OpenError, Versions, examine_bytes, open_bytes,
-    size_in,
+    AcceptedVersions, ExamineError, FRONT, ImageClass, MemoryFault, OpenError, examine_bytes,
+    open_bytes, size_in,
 };
 use raw_region::{RawRegion, Steps};
 use segment_manager::{Mode, Segment};
@@ -38,12 +39,12 @@ use std::alloc::Global;
 /// An empty segment of `size` bytes, open for writing. What the handle had is freed. The handle is as it was unless the
 /// code is 0.
 #[unsafe(no_mangle)]
-pub extern "C" fn zx_create(alloc: Global, h: &mut Handle, size: u64) -> u32
+pub extern "C" fn zx_create(alloc: Global, h: &mut SegmentSlot, size: u64) -> u32
     ensures size { (result ≡ 22) ↔ (is_legal_size size ≡ false) }
-    ensures created { result ≡ 0 → Opened h.new.segment.value (λ t. IsCreated (zeros size) 0 size Write t) }
-    ensures otherwise { 1 ≤ result → result ≢ 22 → result ≡ 26 }
-    ensures kept { 1 ≤ result → h.new.segment.value ≡ h.old.segment.value }
-    ensures marks { IsPlaced result h.old.marks h.new.marks false }
+    ensures creation { result ≡ 0 → HoldsSegment h.new.segment.value (λ t. CreatesOk (zeros size) 0 size Write t) }
+    ensures default { 1 ≤ result → result ≢ 22 → result ≡ 26 }
+    ensures unchanged_on_error { 1 ≤ result → h.new.segment.value ≡ h.old.segment.value }
+    ensures marks { PlacesSegment result h.old.marks h.new.marks false }
 {
     let segment = passed!(new_segment(alloc, size));
     put_new(h, segment, false)
@@ -51,20 +52,21 @@ pub extern "C" fn zx_create(alloc: Global, h: &mut Handle, size: u64) -> u32
 
 /// Frees the segment. A closed handle stays closed.
 #[unsafe(no_mangle)]
-pub extern "C" fn zx_close(alloc: Global, h: &mut Handle)
+pub extern "C" fn zx_close(alloc: Global, h: &mut SegmentSlot)
     ensures closed { h.new.segment.value ≡ None }
     ensures marks { h.new.marks ≡ placed h.old.marks false }
 {
-    h.segment = Holder::closed(alloc);
+    h.segment = HeldSegment::closed(alloc);
     h.marks.place(false);
 }
 
 /// The number of bytes in the segment.
 #[unsafe(no_mangle)]
-pub extern "C" fn zx_size(alloc: Global, h: &mut Handle, size: &mut u64) -> u32
-    ensures asked { Owes 0 result h.old.segment.value h.new.segment.value (λ s t. IsReply s Size (answer_for result (Number size.new))) }
-    ensures same { h.new.segment.value ≡ h.old.segment.value }
-    ensures kept { 1 ≤ result → size.new ≡ size.old }
+pub extern "C" fn zx_size(alloc: Global, h: &mut SegmentSlot, size: &mut u64) -> u32
+    ensures call { PerformsCall 0 result h.old.segment.value h.new.segment.value (λ s t.
+        AnswersQuery s Size (answer_for result (Number size.new))) }
+    ensures unchanged { h.new.segment.value ≡ h.old.segment.value }
+    ensures unchanged_on_error { 1 ≤ result → size.new ≡ size.old }
     ensures marks { h.new.marks ≡ h.old.marks }
 {
     let segment = passed!(take(alloc, h));
@@ -74,10 +76,11 @@ pub extern "C" fn zx_size(alloc: Global, h: &mut Handle, size: &mut u64) -> u32
 
 /// The bytes of all gaps, their tags included.
 #[unsafe(no_mangle)]
-pub extern "C" fn zx_free_bytes(alloc: Global, h: &mut Handle, free_bytes: &mut u64) -> u32
-    ensures asked { Owes 0 result h.old.segment.value h.new.segment.value (λ s t. IsReply s Free (answer_for result (Number free_bytes.new))) }
-    ensures same { h.new.segment.value ≡ h.old.segment.value }
-    ensures kept { 1 ≤ result → free_bytes.new ≡ free_bytes.old }
+pub extern "C" fn zx_free_bytes(alloc: Global, h: &mut SegmentSlot, free_bytes: &mut u64) -> u32
+    ensures call { PerformsCall 0 result h.old.segment.value h.new.segment.value (λ s t.
+        AnswersQuery s Free (answer_for result (Number free_bytes.new))) }
+    ensures unchanged { h.new.segment.value ≡ h.old.segment.value }
+    ensures unchanged_on_error { 1 ≤ result → free_bytes.new ≡ free_bytes.old }
     ensures marks { h.new.marks ≡ h.old.marks }
 {
     let segment = passed!(take(alloc, h));
@@ -87,10 +90,11 @@ pub extern "C" fn zx_free_bytes(alloc: Global, h: &mut Handle, free_bytes: &mut 
 
 /// How the segment is open.
 #[unsafe(no_mangle)]
-pub extern "C" fn zx_mode(alloc: Global, h: &mut Handle, mode: &mut u32) -> u32
-    ensures asked { Owes 0 result h.old.segment.value h.new.segment.value (λ s t. (result ≡ 0) × (mode.new ≡ mode_code s.mode)) }
-    ensures same { h.new.segment.value ≡ h.old.segment.value }
-    ensures kept { 1 ≤ result → mode.new ≡ mode.old }
+pub extern "C" fn zx_mode(alloc: Global, h: &mut SegmentSlot, mode: &mut u32) -> u32
+    ensures call { PerformsCall 0 result h.old.segment.value h.new.segment.value (λ s t. (result ≡ 0)
+        × (mode.new ≡ mode_code s.mode)) }
+    ensures unchanged { h.new.segment.value ≡ h.old.segment.value }
+    ensures unchanged_on_error { 1 ≤ result → mode.new ≡ mode.old }
     ensures marks { h.new.marks ≡ h.old.marks }
 {
     let segment = passed!(take(alloc, h));
@@ -100,10 +104,11 @@ pub extern "C" fn zx_mode(alloc: Global, h: &mut Handle, mode: &mut u32) -> u32
 
 /// The number of bytes of the region behind the segment.
 #[unsafe(no_mangle)]
-pub extern "C" fn zx_region_left(alloc: Global, h: &mut Handle, left: &mut u64) -> u32
-    ensures asked { Owes 0 result h.old.segment.value h.new.segment.value (λ s t. (result ≡ 0) × (left.new ≡ room_behind s.cut)) }
-    ensures same { h.new.segment.value ≡ h.old.segment.value }
-    ensures kept { 1 ≤ result → left.new ≡ left.old }
+pub extern "C" fn zx_region_left(alloc: Global, h: &mut SegmentSlot, left: &mut u64) -> u32
+    ensures call { PerformsCall 0 result h.old.segment.value h.new.segment.value (λ s t. (result ≡ 0)
+        × (left.new ≡ room_behind s.cut)) }
+    ensures unchanged { h.new.segment.value ≡ h.old.segment.value }
+    ensures unchanged_on_error { 1 ≤ result → left.new ≡ left.old }
     ensures marks { h.new.marks ≡ h.old.marks }
 {
     let segment = passed!(take(alloc, h));
@@ -113,11 +118,12 @@ pub extern "C" fn zx_region_left(alloc: Global, h: &mut Handle, left: &mut u64) 
 
 /// Copies the image to the front of the buffer.
 #[unsafe(no_mangle)]
-pub extern "C" fn zx_save(alloc: Global, h: &mut Handle, image: &mut [u8]) -> u32
+pub extern "C" fn zx_save(alloc: Global, h: &mut SegmentSlot, image: &mut [u8]) -> u32
     ensures closed { h.old.segment.value ≡ None → result ≡ 16 }
-    ensures saved { (s : State) → h.old.segment.value ≡ Some s → Saves s.cut.bytes image.old image.new result }
-    ensures same { h.new.segment.value ≡ h.old.segment.value }
-    ensures kept { 1 ≤ result → image.new ≡ image.old }
+    ensures saved { (s : SegmentState) → h.old.segment.value ≡ Some s
+        → CopiesOut s.cut.bytes image.old image.new result }
+    ensures unchanged { h.new.segment.value ≡ h.old.segment.value }
+    ensures unchanged_on_error { 1 ≤ result → image.new ≡ image.old }
     ensures marks { h.new.marks ≡ h.old.marks }
 {
     let segment = passed!(take(alloc, h));
@@ -126,9 +132,9 @@ pub extern "C" fn zx_save(alloc: Global, h: &mut Handle, image: &mut [u8]) -> u3
 
 /// Copies bytes to the front of a buffer, where it has room for them.
 pub fn copy_out(bytes: &[u8], buffer: &mut [u8]) -> u32
-    ensures saved { Saves bytes.now buffer.old buffer.new result }
-    ensures kept { 1 ≤ result → buffer.new ≡ buffer.old }
-    ensures short { 1 ≤ result → result ≡ 24 }
+    ensures saved { CopiesOut bytes.now buffer.old buffer.new result }
+    ensures unchanged_on_error { 1 ≤ result → buffer.new ≡ buffer.old }
+    ensures max_len { 1 ≤ result → result ≡ 24 }
 {
     if buffer.len() < bytes.len() {
         return SHORT_BUFFER;
@@ -150,8 +156,9 @@ fn code_of_mode(mode: Mode) -> u32
 
 /// An empty segment of `size` bytes in a box.
 fn new_segment(alloc: Global, size: u64) -> Result<Box<Segment>, u32>
-    ensures made { IfOk result (λ s. IsTrue (is_legal_size size) × IsCreated (zeros size) 0 size Write s.value) }
-    ensures refused { IfErr result (λ code. ((code ≡ 22) × (is_legal_size size ≡ false)) ⊎ ((code ≡ 26) × IsTrue (is_legal_size size))) }
+    ensures creation { IfOk result (λ s. IsTrue (is_legal_size size) × CreatesOk (zeros size) 0 size Write s.value) }
+    ensures refused { IfErr result (λ code. ((code ≡ 22) × (is_legal_size size ≡ false))
+        ⊎ ((code ≡ 26) × IsTrue (is_legal_size size))) }
 {
     if !is_legal_size(size) {
         return Err(BAD_SIZE);
@@ -171,16 +178,19 @@ fn new_segment(alloc: Global, size: u64) -> Result<Box<Segment>, u32>
 #[unsafe(no_mangle)]
 pub extern "C" fn zx_open(
     alloc: Global,
-    h: &mut Handle,
+    h: &mut SegmentSlot,
     image: &[u8],
     capacity: u64,
     mode: u32,
 ) -> u32
-    ensures stopped { IsStopped (or_else (capacity_wrong capacity) (mode_wrong mode)) result h.old.segment.value h.new.segment.value }
-    ensures opened { result ≡ 0 → Opened h.new.segment.value (λ t. IsImageOpened image.now capacity (mode_of mode) t) }
-    ensures why { or_else (capacity_wrong capacity) (mode_wrong mode) ≡ 0 → 1 ≤ result → IsWhyNotOpened image.now capacity result }
-    ensures kept { 1 ≤ result → h.new.segment.value ≡ h.old.segment.value }
-    ensures marks { IsPlaced result h.old.marks h.new.marks false }
+    ensures stop { RefusesArgument (or_else (capacity_wrong capacity) (mode_wrong mode)) result h.old.segment.value
+        h.new.segment.value }
+    ensures opening { result ≡ 0 → HoldsSegment h.new.segment.value (λ t.
+        IsImageOpened image.now capacity (mode_of mode) t) }
+    ensures cause { or_else (capacity_wrong capacity) (mode_wrong mode) ≡ 0 → 1 ≤ result
+        → IsWhyNotOpened image.now capacity result }
+    ensures unchanged_on_error { 1 ≤ result → h.new.segment.value ≡ h.old.segment.value }
+    ensures marks { PlacesSegment result h.old.marks h.new.marks false }
 {
     if !is_capacity(capacity) {
         return BAD_SIZE;
@@ -195,8 +205,8 @@ pub extern "C" fn zx_open(
 /// Whether the bytes are the image of a segment.
 #[unsafe(no_mangle)]
 pub extern "C" fn zx_check(alloc: Global, image: &[u8]) -> u32
-    ensures holds { result ≡ 0 → IsSegment image.now }
-    ensures why { 1 ≤ result → IsNoImage image.now result }
+    ensures owner { result ≡ 0 → IsSegment image.now }
+    ensures cause { 1 ≤ result → IsNoImage image.now result }
 {
     examine(alloc, image, &mut 0)
 }
@@ -204,18 +214,18 @@ pub extern "C" fn zx_check(alloc: Global, image: &[u8]) -> u32
 /// The same; where a class says why they are none, `place` is the byte that shows it.
 #[unsafe(no_mangle)]
 pub extern "C" fn zx_explain(alloc: Global, image: &[u8], place: &mut u64) -> u32
-    ensures holds { result ≡ 0 → IsSegment image.now }
-    ensures why { 1 ≤ result → IsExplained image.now result place.old place.new }
-    ensures kept { result ≡ 0 → place.new ≡ place.old }
+    ensures owner { result ≡ 0 → IsSegment image.now }
+    ensures cause { 1 ≤ result → IsExplained image.now result place.old place.new }
+    ensures unchanged_on_error { result ≡ 0 → place.new ≡ place.old }
 {
     examine(alloc, image, place)
 }
 
 /// The same, in a region for as many bytes as the first of them say. None is made where there are fewer.
 fn examine(alloc: Global, image: &[u8], place: &mut u64) -> u32
-    ensures holds { result ≡ 0 → IsSegment image.now }
-    ensures why { 1 ≤ result → IsExplained image.now result place.old place.new }
-    ensures kept { result ≡ 0 → place.new ≡ place.old }
+    ensures owner { result ≡ 0 → IsSegment image.now }
+    ensures cause { 1 ≤ result → IsExplained image.now result place.old place.new }
+    ensures unchanged_on_error { result ≡ 0 → place.new ≡ place.old }
 {
     let size = size_said(image);
     let len = image.len() as u64;
@@ -232,12 +242,12 @@ fn examine(alloc: Global, image: &[u8], place: &mut u64) -> u32
 /// The same in a region that has room for the size that the bytes say.
 fn examine_in(alloc: Global, image: &[u8], region: RawRegion, place: &mut u64) -> u32
     requires { min (size_said image.now) 1073741824 ≤ length region }
-    ensures holds { result ≡ 0 → IsSegment image.now }
-    ensures why { 1 ≤ result → IsExplained image.now result place.old place.new }
-    ensures kept { result ≡ 0 → place.new ≡ place.old }
+    ensures owner { result ≡ 0 → IsSegment image.now }
+    ensures cause { 1 ≤ result → IsExplained image.now result place.old place.new }
+    ensures unchanged_on_error { result ≡ 0 → place.new ≡ place.old }
 {
     match examine_bytes(
-        Versions::Current,
+        AcceptedVersions::Current,
         alloc,
         image,
         region,
@@ -282,7 +292,8 @@ pub fn mode_for(code: u32) -> Option<Mode>
 /// The segment whose image the bytes are, in a box.
 fn open_boxed(alloc: Global, image: &[u8], capacity: u64, mode: Mode) -> Result<Box<Segment>, u32>
     requires { IsCapacity capacity }
-    ensures { MatchResult result (λ s. IsImageOpened image.now capacity mode s.value) (λ code. (1 ≤ code) × IsWhyNotOpened image.now capacity code) }
+    ensures { MatchResult result (λ s. IsImageOpened image.now capacity mode s.value) (λ code. (1 ≤ code)
+        × IsWhyNotOpened image.now capacity code) }
 {
     let region = match RawRegion::new(alloc, capacity) {
         Ok(region) => region,
@@ -298,7 +309,8 @@ fn open_boxed(alloc: Global, image: &[u8], capacity: u64, mode: Mode) -> Result<
 /// The code.
 fn open_in(alloc: Global, image: &[u8], region: RawRegion, mode: Mode) -> Result<Segment, u32>
     requires { region ≡ zeros (length region) }
-    ensures { MatchResult result (IsImageOpened image.now (length region) mode) (λ code. (1 ≤ code) × IsWhyNotOpened image.now (length region) code) }
+    ensures { MatchResult result (IsImageOpened image.now (length region) mode) (λ code. (1 ≤ code)
+        × IsWhyNotOpened image.now (length region) code) }
 {
     match open_bytes(alloc, image, region, 0, mode, &mut Steps::new()) {
         Ok(segment) => Ok(segment),

@@ -26,7 +26,8 @@ impl<'a> ObjectKey<'a> {
     /// The code by which it is refused.
     #[tactic(auto, unfolding(crate::specs::Passed::key_wrong, crate::specs::Passed::key_of, crate::specs::Passed::kind_wrong))]
     pub fn key(&self) -> Result<Key<'a>, u32>
-        ensures { MatchResult result (λ key. (key_wrong self.now ≡ 0) × (key_seen key ≡ key_of self.now) × (key_seen key ≢ NoKey)) (λ code. (code ≡ key_wrong self.now) × (1 ≤ code)) }
+        ensures { MatchResult result (λ key. (key_wrong self.now ≡ 0) × (key_seen key ≡ key_of self.now)
+            × (key_seen key ≢ NoKey)) (λ code. (code ≡ key_wrong self.now) × (1 ≤ code)) }
     {
         match self.how {
             0 => Ok(Key::Name(Name::new(self.name).ok_or(BAD_NAME)?)),
@@ -44,7 +45,8 @@ impl<'a> ObjectKey<'a> {
     /// The code by which it is refused.
     #[tactic(auto, unfolding(crate::specs::Passed::entry_wrong, crate::specs::Passed::entry_of))]
     pub fn entry(&self, kind: Kind) -> Result<IndexKey<'a>, u32>
-        ensures { MatchResult result (λ key. (entry_wrong self.now kind ≡ 0) × (index_key_seen key ≡ entry_of self.now kind) × IsOfKind (index_key_seen key) kind)
+        ensures { MatchResult result (λ key. (entry_wrong self.now kind ≡ 0)
+            × (index_key_seen key ≡ entry_of self.now kind) × IsOfKind (index_key_seen key) kind)
             (λ code. (code ≡ entry_wrong self.now kind) × (1 ≤ code)) }
     {
         match self.how {

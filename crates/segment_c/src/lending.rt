@@ -3,19 +3,19 @@ ghost use Rattle.std.specs.Prelude.{◌≡◌, ◌≢◌, ◌≤◌, List, [], M
 ghost use Rattle.std.specs.declared.option.Option.TheVariants.{None as NoSegment, Some as Held};
 ghost use Rattle.raw_region.specs.Memory.{part, whole};
 ghost use Rattle.raw_region.specs.Regions.{IsCapacity};
-ghost use Rattle.segment_c.specs.Calls.{IsClosed, IsStopped, Opened};
+ghost use Rattle.segment_c.specs.Calls.{RefusesClosed, RefusesArgument, HoldsSegment};
 ghost use Rattle.segment_c.specs.Images.{mode_of, mode_wrong};
 ghost use Rattle.segment_c.specs.Lending.{IsOpenedHere, memory_wrong};
-ghost use Rattle.segment_c.specs.Marked.{IsPlaced};
+ghost use Rattle.segment_c.specs.Marked.{PlacesSegment};
 ghost use Rattle.segment_c.specs.Opening.{IsWhyNotOpened};
 ghost use Rattle.segment_c.specs.Passed.{or_else};
-ghost use Rattle.segment_manager.specs.State.{State};
+ghost use Rattle.segment_manager.specs.State.{SegmentState};
 
 use crate::calls::passed;
 use crate::codes::{BAD_MODE, BAD_SIZE, DONE, SHORT_REGION, boxed_or_region, no_memory};
-use crate::handle::{Handle, put_new, take};
 use crate::images::{class_code, mode_for};
 use crate::resizing::is_capacity;
+use crate::segment_slot::{SegmentSlot, put_new, take};
 use image_check::{MemoryFault, OpenError, open_here};
 use raw_region::{LentMemory, RawRegion, Steps};
 use segment_manager::{Mode, Segment};
@@ -27,19 +27,21 @@ use std::alloc::Global;
 #[unsafe(no_mangle)]
 pub extern "C" fn zx_attach(
     alloc: Global,
-    h: &mut Handle,
+    h: &mut SegmentSlot,
     memory: &mut LentMemory,
     len: u64,
     mode: u32,
 ) -> u32
-    ensures stopped { IsStopped (or_else (memory_wrong (length memory.old.bytes.items) len) (mode_wrong mode)) result h.old.segment.value h.new.segment.value }
-    ensures opened { result ≡ 0 → Opened h.new.segment.value (λ t. IsOpenedHere memory.old.bytes.items len (mode_of mode) t) }
-    ensures why { or_else (memory_wrong (length memory.old.bytes.items) len) (mode_wrong mode) ≡ 0 → 1 ≤ result
+    ensures stop { RefusesArgument (or_else (memory_wrong (length memory.old.bytes.items) len) (mode_wrong mode))
+        result h.old.segment.value h.new.segment.value }
+    ensures opening { result ≡ 0 → HoldsSegment h.new.segment.value (λ t.
+        IsOpenedHere memory.old.bytes.items len (mode_of mode) t) }
+    ensures cause { or_else (memory_wrong (length memory.old.bytes.items) len) (mode_wrong mode) ≡ 0 → 1 ≤ result
         → IsWhyNotOpened (part memory.old.bytes.items 0 len) (length memory.old.bytes.items) result }
-    ensures kept { 1 ≤ result → h.new.segment.value ≡ h.old.segment.value }
-    ensures taken { result ≡ 0 → memory.new.bytes.items ≡ [] }
-    ensures left { 1 ≤ result → memory.new.bytes.items ≡ memory.old.bytes.items }
-    ensures marks { IsPlaced result h.old.marks h.new.marks true }
+    ensures unchanged_on_error { 1 ≤ result → h.new.segment.value ≡ h.old.segment.value }
+    ensures transfer { result ≡ 0 → memory.new.bytes.items ≡ [] }
+    ensures remainder { 1 ≤ result → memory.new.bytes.items ≡ memory.old.bytes.items }
+    ensures marks { PlacesSegment result h.old.marks h.new.marks true }
 {
     if !holds(memory, len) {
         return BAD_SIZE;
@@ -58,7 +60,7 @@ pub extern "C" fn zx_attach(
 
 /// Whether memory may be a region, and holds an image of so many bytes.
 fn holds(memory: &LentMemory, len: u64) -> bool
-    ensures wrong { memory_wrong (length memory.now.bytes.items) len ≡ (if result then 0 else 22) }
+    ensures error { memory_wrong (length memory.now.bytes.items) len ≡ (if result then 0 else 22) }
     ensures capacity { result ≡ true → IsCapacity (length memory.now.bytes.items) }
     ensures fits { result ≡ true → len ≤ length memory.now.bytes.items }
 {
@@ -69,7 +71,7 @@ fn holds(memory: &LentMemory, len: u64) -> bool
 fn region_over(memory: &mut LentMemory) -> RawRegion
     requires { IsCapacity (length memory.old.bytes.items) }
     ensures region { result ≡ memory.old.bytes.items }
-    ensures left { memory.new.bytes.items ≡ [] }
+    ensures remainder { memory.new.bytes.items ≡ [] }
 {
     RawRegion::over(std::mem::replace(memory, LentMemory::none()))
 }
@@ -87,7 +89,8 @@ fn open_over(
 ) -> Result<Box<Segment>, (u32, RawRegion)>
     requires { len ≤ length region }
     ensures { MatchResult result (λ s. IsOpenedHere region len mode s.value)
-        (λ refused. (1 ≤ refused.0) × (refused.1 ≡ region) × IsWhyNotOpened (part region 0 len) (length region) refused.0) }
+        (λ refused. (1 ≤ refused.0) × (refused.1 ≡ region)
+        × IsWhyNotOpened (part region 0 len) (length region) refused.0) }
 {
     match open_here(alloc, region, 0, len, mode, &mut Steps::new()) {
         Ok(segment) => boxed_or_region(alloc, segment),
@@ -106,12 +109,12 @@ fn open_over(
 /// Closes the segment, and gives the memory of its region back, with the bytes that it has now: what C lent, or what
 /// the library took, which C is to free then.
 #[unsafe(no_mangle)]
-pub extern "C" fn zx_detach(alloc: Global, h: &mut Handle, memory: &mut LentMemory) -> u32
-    ensures closed { IsClosed 0 result h.old.segment.value h.new.segment.value }
-    ensures given { (s : State) → h.old.segment.value ≡ Held s
+pub extern "C" fn zx_detach(alloc: Global, h: &mut SegmentSlot, memory: &mut LentMemory) -> u32
+    ensures closed { RefusesClosed 0 result h.old.segment.value h.new.segment.value }
+    ensures input { (s : SegmentState) → h.old.segment.value ≡ Held s
         → (result ≡ 0) × (h.new.segment.value ≡ NoSegment) × (memory.new.bytes.items ≡ whole s.cut) }
-    ensures left { 1 ≤ result → memory.new ≡ memory.old }
-    ensures marks { IsPlaced result h.old.marks h.new.marks false }
+    ensures remainder { 1 ≤ result → memory.new ≡ memory.old }
+    ensures marks { PlacesSegment result h.old.marks h.new.marks false }
 {
     let segment = passed!(take(alloc, h));
     h.marks.place(false);

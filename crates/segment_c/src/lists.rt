@@ -5,23 +5,23 @@ ghost use Rattle.best_fit.specs.Extents.{spans};
 ghost use Rattle.seg_types.specs.Commands.{NumNamed, NumUnique};
 ghost use Rattle.seg_types.specs.Keys.{key_seen};
 ghost use Rattle.seg_types.specs.Kinds.{class_code};
-ghost use Rattle.segment_c.specs.Calls.{Owes, Reads};
+ghost use Rattle.segment_c.specs.Calls.{PerformsCall, PerformsRead};
 ghost use Rattle.segment_c.specs.Codes.{answer_for};
-ghost use Rattle.segment_c.specs.Lists.{IsInfo, IsTold, TellsAlone, TellsBlock, TellsOf, use_code};
+ghost use Rattle.segment_c.specs.Lists.{IsInfo, WritesInfo, TellsAlone, TellsBlock, WritesInfoOf, use_code};
 ghost use Rattle.segment_c.specs.Passed.{key_of, key_wrong};
 ghost use Rattle.segment_manager.specs.Answers.{Number};
 ghost use Rattle.segment_manager.specs.Directory.{Directory, Object, live, named_objects, object_at, unique_objects};
 ghost use Rattle.segment_manager.specs.indexes.NamesFrom.{IsFirstFrom};
 ghost use Rattle.segment_manager.specs.objects.Instances.{IsInstance};
-ghost use Rattle.segment_manager.specs.State.{IsReply, StandsFor};
+ghost use Rattle.segment_manager.specs.State.{AnswersQuery, DenotesCurrent};
 
 use crate::calls::{enter, passed};
 use crate::codes::{DONE, NOT_FOUND, OUT_OF_RANGE, SHORT_BUFFER};
-use crate::handle::{Handle, put, take};
 use crate::keys::ObjectKey;
+use crate::segment_slot::{SegmentSlot, put, take};
 use block_tags::Role;
 use seg_types::{Class, Key};
-use segment_manager::conditioned::{named_instance, unique_instance};
+use segment_manager::unchecked::{named_instance, unique_instance};
 use segment_manager::{Instance, Segment};
 use std::alloc::Global;
 
@@ -42,7 +42,7 @@ pub struct Info {
 /// elements, 4 a pair).
 #[repr(C)]
 #[derive(Clone, Copy)]
-pub struct Block {
+pub struct CBlock {
     pub offset: u64,
     pub len: u64,
     pub use_of: u32,
@@ -50,8 +50,8 @@ pub struct Block {
 
 /// What an object says of itself goes out, and its name to the front of the buffer, where that has room for it.
 fn tell(said: &Instance<'_>, info: &mut Info, name: &mut [u8]) -> u32
-    ensures told { (o : Object) → IsInstance o said.now → IsTold o info.new name.old name.new result }
-    ensures kept { 1 ≤ result → (info.new ≡ info.old) × (name.new ≡ name.old) }
+    ensures read { (o : Object) → IsInstance o said.now → WritesInfo o info.new name.old name.new result }
+    ensures unchanged_on_error { 1 ≤ result → (info.new ≡ info.old) × (name.new ≡ name.old) }
 {
     if name.len() < said.name.len() {
         return SHORT_BUFFER;
@@ -78,8 +78,8 @@ impl Info {
 
 /// The same of the object of a key.
 fn tell_key(segment: &Segment, key: &Key, info: &mut Info, name: &mut [u8]) -> u32
-    ensures told { TellsOf segment.now (λ d. object_at d (key_seen key.now)) 6 info.new name.old name.new result }
-    ensures kept { 1 ≤ result → (info.new ≡ info.old) × (name.new ≡ name.old) }
+    ensures read { WritesInfoOf segment.now (λ d. object_at d (key_seen key.now)) 6 info.new name.old name.new result }
+    ensures unchanged_on_error { 1 ≤ result → (info.new ≡ info.old) × (name.new ≡ name.old) }
 {
     match segment.instance(key) {
         Ok(said) => tell(&said, info, name),
@@ -89,8 +89,9 @@ fn tell_key(segment: &Segment, key: &Key, info: &mut Info, name: &mut [u8]) -> u
 
 /// The same of the object with a name that has `index` others before it.
 fn tell_named(segment: &Segment, index: u64, info: &mut Info, name: &mut [u8]) -> u32
-    ensures told { TellsOf segment.now (λ d. slice_get (named_objects d) index) 8 info.new name.old name.new result }
-    ensures kept { 1 ≤ result → (info.new ≡ info.old) × (name.new ≡ name.old) }
+    ensures read { WritesInfoOf segment.now (λ d. slice_get (named_objects d) index) 8 info.new name.old name.new
+        result }
+    ensures unchanged_on_error { 1 ≤ result → (info.new ≡ info.old) × (name.new ≡ name.old) }
 {
     if index >= segment.num_named() {
         return OUT_OF_RANGE;
@@ -100,8 +101,9 @@ fn tell_named(segment: &Segment, index: u64, info: &mut Info, name: &mut [u8]) -
 
 /// The same of the unique object that has `index` others before it, which has no name.
 fn tell_unique(segment: &Segment, index: u64, info: &mut Info) -> u32
-    ensures told { (d : Directory) → StandsFor segment.now.cut.bytes d → TellsAlone info.new result (slice_get (unique_objects d) index) }
-    ensures kept { 1 ≤ result → info.new ≡ info.old }
+    ensures read { (d : Directory) → DenotesCurrent segment.now.cut.bytes d
+        → TellsAlone info.new result (slice_get (unique_objects d) index) }
+    ensures unchanged_on_error { 1 ≤ result → info.new ≡ info.old }
 {
     if index >= segment.num_unique() {
         return OUT_OF_RANGE;
@@ -111,14 +113,15 @@ fn tell_unique(segment: &Segment, index: u64, info: &mut Info) -> u32
 }
 
 /// The block or gap with `index` others before it.
-fn tell_tile(segment: &Segment, index: u64, block: &mut Block) -> u32
-    ensures told { (d : Directory) → StandsFor segment.now.cut.bytes d → TellsBlock block.new result (slice_get (spans (live d)) index) }
-    ensures kept { 1 ≤ result → block.new ≡ block.old }
+fn tell_tile(segment: &Segment, index: u64, block: &mut CBlock) -> u32
+    ensures read { (d : Directory) → DenotesCurrent segment.now.cut.bytes d
+        → TellsBlock block.new result (slice_get (spans (live d)) index) }
+    ensures unchanged_on_error { 1 ≤ result → block.new ≡ block.old }
 {
     let Some(span) = segment.tile(index) else {
         return OUT_OF_RANGE;
     };
-    *block = Block {
+    *block = CBlock {
         offset: span.offset,
         len: span.len,
         use_of: use_code(span.use_of),
@@ -154,14 +157,14 @@ fn use_code(use_of: Option<Role>) -> u32
 #[unsafe(no_mangle)]
 pub extern "C" fn zx_tell(
     alloc: Global,
-    h: &mut Handle,
+    h: &mut SegmentSlot,
     key: &ObjectKey<'_>,
     info: &mut Info,
     name: &mut [u8],
 ) -> u32
-    ensures told { Reads (key_wrong key.now) result h.old.segment.value h.new.segment.value
-        (λ s. TellsOf s (λ d. object_at d (key_of key.now)) 6 info.new name.old name.new result) }
-    ensures results { 1 ≤ result → (info.new ≡ info.old) × (name.new ≡ name.old) }
+    ensures read { PerformsRead (key_wrong key.now) result h.old.segment.value h.new.segment.value
+        (λ s. WritesInfoOf s (λ d. object_at d (key_of key.now)) 6 info.new name.old name.new result) }
+    ensures outputs_on_error { 1 ≤ result → (info.new ≡ info.old) × (name.new ≡ name.old) }
     ensures marks { h.new.marks ≡ h.old.marks }
 {
     let (which, segment) = passed!(enter(alloc, h, key));
@@ -172,14 +175,14 @@ pub extern "C" fn zx_tell(
 #[unsafe(no_mangle)]
 pub extern "C" fn zx_named_at(
     alloc: Global,
-    h: &mut Handle,
+    h: &mut SegmentSlot,
     index: u64,
     info: &mut Info,
     name: &mut [u8],
 ) -> u32
-    ensures told { Reads 0 result h.old.segment.value h.new.segment.value
-        (λ s. TellsOf s (λ d. slice_get (named_objects d) index) 8 info.new name.old name.new result) }
-    ensures results { 1 ≤ result → (info.new ≡ info.old) × (name.new ≡ name.old) }
+    ensures read { PerformsRead 0 result h.old.segment.value h.new.segment.value
+        (λ s. WritesInfoOf s (λ d. slice_get (named_objects d) index) 8 info.new name.old name.new result) }
+    ensures outputs_on_error { 1 ≤ result → (info.new ≡ info.old) × (name.new ≡ name.old) }
     ensures marks { h.new.marks ≡ h.old.marks }
 {
     let segment = passed!(take(alloc, h));
@@ -188,10 +191,15 @@ pub extern "C" fn zx_named_at(
 
 /// How many names stand before a text: the place, for `zx_named_at`, of the first name that does not, if there is one.
 #[unsafe(no_mangle)]
-pub extern "C" fn zx_named_from(alloc: Global, h: &mut Handle, text: &[u8], index: &mut u64) -> u32
-    ensures told { Reads 0 result h.old.segment.value h.new.segment.value
+pub extern "C" fn zx_named_from(
+    alloc: Global,
+    h: &mut SegmentSlot,
+    text: &[u8],
+    index: &mut u64,
+) -> u32
+    ensures read { PerformsRead 0 result h.old.segment.value h.new.segment.value
         (λ s. (result ≡ 0) × IsFirstFrom s text.now index.new) }
-    ensures results { 1 ≤ result → index.new ≡ index.old }
+    ensures outputs_on_error { 1 ≤ result → index.new ≡ index.old }
     ensures marks { h.new.marks ≡ h.old.marks }
 {
     let segment = passed!(take(alloc, h));
@@ -201,10 +209,16 @@ pub extern "C" fn zx_named_from(alloc: Global, h: &mut Handle, text: &[u8], inde
 
 /// What the unique object says of itself whose kind has `index` others before it, in the order of their codes.
 #[unsafe(no_mangle)]
-pub extern "C" fn zx_unique_at(alloc: Global, h: &mut Handle, index: u64, info: &mut Info) -> u32
-    ensures told { Reads 0 result h.old.segment.value h.new.segment.value
-        (λ s. (d : Directory) → StandsFor s.cut.bytes d → TellsAlone info.new result (slice_get (unique_objects d) index)) }
-    ensures results { 1 ≤ result → info.new ≡ info.old }
+pub extern "C" fn zx_unique_at(
+    alloc: Global,
+    h: &mut SegmentSlot,
+    index: u64,
+    info: &mut Info,
+) -> u32
+    ensures read { PerformsRead 0 result h.old.segment.value h.new.segment.value
+        (λ s. (d : Directory) → DenotesCurrent s.cut.bytes d
+        → TellsAlone info.new result (slice_get (unique_objects d) index)) }
+    ensures outputs_on_error { 1 ≤ result → info.new ≡ info.old }
     ensures marks { h.new.marks ≡ h.old.marks }
 {
     let segment = passed!(take(alloc, h));
@@ -213,10 +227,16 @@ pub extern "C" fn zx_unique_at(alloc: Global, h: &mut Handle, index: u64, info: 
 
 /// The block or gap with `index` others before it.
 #[unsafe(no_mangle)]
-pub extern "C" fn zx_tile_at(alloc: Global, h: &mut Handle, index: u64, block: &mut Block) -> u32
-    ensures told { Reads 0 result h.old.segment.value h.new.segment.value
-        (λ s. (d : Directory) → StandsFor s.cut.bytes d → TellsBlock block.new result (slice_get (spans (live d)) index)) }
-    ensures results { 1 ≤ result → block.new ≡ block.old }
+pub extern "C" fn zx_tile_at(
+    alloc: Global,
+    h: &mut SegmentSlot,
+    index: u64,
+    block: &mut CBlock,
+) -> u32
+    ensures read { PerformsRead 0 result h.old.segment.value h.new.segment.value
+        (λ s. (d : Directory) → DenotesCurrent s.cut.bytes d
+        → TellsBlock block.new result (slice_get (spans (live d)) index)) }
+    ensures outputs_on_error { 1 ≤ result → block.new ≡ block.old }
     ensures marks { h.new.marks ≡ h.old.marks }
 {
     let segment = passed!(take(alloc, h));
@@ -225,10 +245,11 @@ pub extern "C" fn zx_tile_at(alloc: Global, h: &mut Handle, index: u64, block: &
 
 /// The number of objects with names.
 #[unsafe(no_mangle)]
-pub extern "C" fn zx_num_named(alloc: Global, h: &mut Handle, count: &mut u64) -> u32
-    ensures asked { Owes 0 result h.old.segment.value h.new.segment.value (λ s t. IsReply s NumNamed (answer_for result (Number count.new))) }
-    ensures same { h.new.segment.value ≡ h.old.segment.value }
-    ensures results { 1 ≤ result → count.new ≡ count.old }
+pub extern "C" fn zx_num_named(alloc: Global, h: &mut SegmentSlot, count: &mut u64) -> u32
+    ensures call { PerformsCall 0 result h.old.segment.value h.new.segment.value (λ s t.
+        AnswersQuery s NumNamed (answer_for result (Number count.new))) }
+    ensures unchanged { h.new.segment.value ≡ h.old.segment.value }
+    ensures outputs_on_error { 1 ≤ result → count.new ≡ count.old }
     ensures marks { h.new.marks ≡ h.old.marks }
 {
     let segment = passed!(take(alloc, h));
@@ -238,10 +259,11 @@ pub extern "C" fn zx_num_named(alloc: Global, h: &mut Handle, count: &mut u64) -
 
 /// The number of kinds with a unique object.
 #[unsafe(no_mangle)]
-pub extern "C" fn zx_num_unique(alloc: Global, h: &mut Handle, count: &mut u64) -> u32
-    ensures asked { Owes 0 result h.old.segment.value h.new.segment.value (λ s t. IsReply s NumUnique (answer_for result (Number count.new))) }
-    ensures same { h.new.segment.value ≡ h.old.segment.value }
-    ensures results { 1 ≤ result → count.new ≡ count.old }
+pub extern "C" fn zx_num_unique(alloc: Global, h: &mut SegmentSlot, count: &mut u64) -> u32
+    ensures call { PerformsCall 0 result h.old.segment.value h.new.segment.value (λ s t.
+        AnswersQuery s NumUnique (answer_for result (Number count.new))) }
+    ensures unchanged { h.new.segment.value ≡ h.old.segment.value }
+    ensures outputs_on_error { 1 ≤ result → count.new ≡ count.old }
     ensures marks { h.new.marks ≡ h.old.marks }
 {
     let segment = passed!(take(alloc, h));

@@ -2,24 +2,24 @@
 ghost use Rattle.std.specs.Prelude.{◌≡◌, ◌≤◌, Some};
 ghost use Rattle.seg_types.specs.Commands.{Lookup, Put, Remove};
 ghost use Rattle.seg_types.specs.{Keys.key_seen, Written.literal_seen};
-ghost use Rattle.segment_c.specs.Calls.{IsAsked, Owes, Reads};
+ghost use Rattle.segment_c.specs.Calls.{ReachesSegment, PerformsCall, PerformsRead};
 ghost use Rattle.segment_c.specs.Codes.{answer_for};
 ghost use Rattle.segment_c.specs.Passed.{element_in, key_of, key_wrong, literal_in, or_else, value_wrong};
 ghost use Rattle.segment_c.specs.Reads.{TellsPair, TellsPairOf, first_at, next_at};
-ghost use Rattle.segment_c.specs.Marked.{IsMarked};
+ghost use Rattle.segment_c.specs.Marked.{RaisesMoves};
 ghost use Rattle.segment_manager.specs.Answers.{Truth};
 ghost use Rattle.segment_manager.specs.Directory.{Directory};
-ghost use Rattle.segment_manager.specs.Keeping.{KeepsWhere};
-ghost use Rattle.segment_manager.specs.State.{IsReply, IsStep, StandsFor};
+ghost use Rattle.segment_manager.specs.Keeping.{UnchangedWhere};
+ghost use Rattle.segment_manager.specs.State.{AnswersQuery, TakesStep, DenotesCurrent};
 ghost use Rattle.segment_values.specs.Absent.{LacksLiteral};
 
 use crate::calls::{enter, enter_pair, enter_with, passed};
 use crate::codes::{ABSENT, DONE, NOT_FOUND, WRONG_KIND, code_of, truth, value_found};
-use crate::handle::{Handle, put};
 use crate::keys::ObjectKey;
-use crate::values::Value;
+use crate::segment_slot::{SegmentSlot, put};
+use crate::values::CScalar;
 use seg_types::{Key, Kind, ScalarValue, Written};
-use segment_manager::conditioned::{first_pair, next_pair};
+use segment_manager::unchecked::{first_pair, next_pair};
 use segment_manager::{Segment, locate};
 use std::alloc::Global;
 
@@ -27,15 +27,17 @@ use std::alloc::Global;
 #[unsafe(no_mangle)]
 pub extern "C" fn zx_map_get(
     alloc: Global,
-    h: &mut Handle,
+    h: &mut SegmentSlot,
     key: &ObjectKey<'_>,
-    at: &Value,
-    value: &mut Value,
+    at: &CScalar,
+    value: &mut CScalar,
 ) -> u32
-    ensures asked { Owes (or_else (key_wrong key.now) (value_wrong at.now)) result h.old.segment.value h.new.segment.value
-        (λ s t. IsReply s (Lookup (key_of key.now) (literal_in at.now)) (answer_for result (element_in value.new))) }
-    ensures same { h.new.segment.value ≡ h.old.segment.value }
-    ensures results { 1 ≤ result → value.new ≡ value.old }
+    ensures call { PerformsCall (or_else (key_wrong key.now) (value_wrong at.now)) result h.old.segment.value
+        h.new.segment.value
+        (λ s t. AnswersQuery s (Lookup (key_of key.now) (literal_in at.now))
+        (answer_for result (element_in value.new))) }
+    ensures unchanged { h.new.segment.value ≡ h.old.segment.value }
+    ensures outputs_on_error { 1 ≤ result → value.new ≡ value.old }
     ensures marks { h.new.marks ≡ h.old.marks }
 {
     let (which, wanted, segment) = passed!(enter_with(alloc, h, key, at));
@@ -47,17 +49,19 @@ pub extern "C" fn zx_map_get(
 #[unsafe(no_mangle)]
 pub extern "C" fn zx_map_put(
     alloc: Global,
-    h: &mut Handle,
+    h: &mut SegmentSlot,
     key: &ObjectKey<'_>,
-    at: &Value,
-    value: &Value,
+    at: &CScalar,
+    value: &CScalar,
     is_new: &mut bool,
 ) -> u32
-    ensures asked { Owes (or_else (key_wrong key.now) (or_else (value_wrong at.now) (value_wrong value.now))) result h.old.segment.value h.new.segment.value
-        (λ s t. IsStep s t (Put (key_of key.now) (literal_in at.now) (literal_in value.now)) (answer_for result (Truth is_new.new))) }
-    ensures kept { 1 ≤ result → h.new.segment.value ≡ h.old.segment.value }
-    ensures results { 1 ≤ result → is_new.new ≡ is_new.old }
-    ensures marks { IsMarked result h.old.marks h.new.marks }
+    ensures call { PerformsCall (or_else (key_wrong key.now) (or_else (value_wrong at.now) (value_wrong value.now)))
+        result h.old.segment.value h.new.segment.value
+        (λ s t. TakesStep s t (Put (key_of key.now) (literal_in at.now) (literal_in value.now))
+        (answer_for result (Truth is_new.new))) }
+    ensures unchanged_on_error { 1 ≤ result → h.new.segment.value ≡ h.old.segment.value }
+    ensures outputs_on_error { 1 ≤ result → is_new.new ≡ is_new.old }
+    ensures marks { RaisesMoves result h.old.marks h.new.marks }
 {
     let (which, new_key, new_value, mut segment) = passed!(enter_pair(alloc, h, key, at, value));
     let answer = segment_values::put_pair(&mut segment, &which, &new_key, &new_value);
@@ -68,18 +72,20 @@ pub extern "C" fn zx_map_put(
 #[unsafe(no_mangle)]
 pub extern "C" fn zx_map_erase(
     alloc: Global,
-    h: &mut Handle,
+    h: &mut SegmentSlot,
     key: &ObjectKey<'_>,
-    at: &Value,
+    at: &CScalar,
     was_there: &mut bool,
 ) -> u32
-    ensures asked { Owes (or_else (key_wrong key.now) (value_wrong at.now)) result h.old.segment.value h.new.segment.value
-        (λ s t. IsStep s t (Remove (key_of key.now) (literal_in at.now)) (answer_for result (Truth was_there.new))) }
-    ensures absent { IsAsked (or_else (key_wrong key.now) (value_wrong at.now)) result h.old.segment.value h.new.segment.value
-        (λ s t. KeepsWhere s t (LacksLiteral (key_of key.now) (literal_in at.now))) }
-    ensures kept { 1 ≤ result → h.new.segment.value ≡ h.old.segment.value }
-    ensures results { 1 ≤ result → was_there.new ≡ was_there.old }
-    ensures marks { IsMarked result h.old.marks h.new.marks }
+    ensures call { PerformsCall (or_else (key_wrong key.now) (value_wrong at.now)) result h.old.segment.value
+        h.new.segment.value
+        (λ s t. TakesStep s t (Remove (key_of key.now) (literal_in at.now)) (answer_for result (Truth was_there.new))) }
+    ensures absent { ReachesSegment (or_else (key_wrong key.now) (value_wrong at.now)) result h.old.segment.value
+        h.new.segment.value
+        (λ s t. UnchangedWhere s t (LacksLiteral (key_of key.now) (literal_in at.now))) }
+    ensures unchanged_on_error { 1 ≤ result → h.new.segment.value ≡ h.old.segment.value }
+    ensures outputs_on_error { 1 ≤ result → was_there.new ≡ was_there.old }
+    ensures marks { RaisesMoves result h.old.marks h.new.marks }
 {
     let (which, gone, mut segment) = passed!(enter_with(alloc, h, key, at));
     let answer = segment_values::erase_pair(&mut segment, &which, &gone);
@@ -90,15 +96,15 @@ pub extern "C" fn zx_map_erase(
 #[unsafe(no_mangle)]
 pub extern "C" fn zx_map_first(
     alloc: Global,
-    h: &mut Handle,
+    h: &mut SegmentSlot,
     key: &ObjectKey<'_>,
-    at: &mut Value,
-    value: &mut Value,
+    at: &mut CScalar,
+    value: &mut CScalar,
 ) -> u32
-    ensures told { Reads (key_wrong key.now) result h.old.segment.value h.new.segment.value
-        (λ s. (d : Directory) → StandsFor s.cut.bytes d
+    ensures read { PerformsRead (key_wrong key.now) result h.old.segment.value h.new.segment.value
+        (λ s. (d : Directory) → DenotesCurrent s.cut.bytes d
         → TellsPair at.new value.new result (first_at d (key_of key.now))) }
-    ensures results { 1 ≤ result → (at.new ≡ at.old) × (value.new ≡ value.old) }
+    ensures outputs_on_error { 1 ≤ result → (at.new ≡ at.old) × (value.new ≡ value.old) }
     ensures marks { h.new.marks ≡ h.old.marks }
 {
     let (which, segment) = passed!(enter(alloc, h, key));
@@ -106,9 +112,10 @@ pub extern "C" fn zx_map_first(
 }
 
 /// The same of a segment.
-fn first(segment: &Segment, key: &Key, at: &mut Value, value: &mut Value) -> u32
-    ensures told { (d : Directory) → StandsFor segment.now.cut.bytes d → TellsPair at.new value.new result (first_at d (key_seen key.now)) }
-    ensures kept { 1 ≤ result → (at.new ≡ at.old) × (value.new ≡ value.old) }
+fn first(segment: &Segment, key: &Key, at: &mut CScalar, value: &mut CScalar) -> u32
+    ensures read { (d : Directory) → DenotesCurrent segment.now.cut.bytes d
+        → TellsPair at.new value.new result (first_at d (key_seen key.now)) }
+    ensures unchanged_on_error { 1 ≤ result → (at.new ≡ at.old) × (value.new ≡ value.old) }
 {
     match locate(segment, key) {
         Err(_) => NOT_FOUND,
@@ -123,16 +130,17 @@ fn first(segment: &Segment, key: &Key, at: &mut Value, value: &mut Value) -> u32
 #[unsafe(no_mangle)]
 pub extern "C" fn zx_map_next(
     alloc: Global,
-    h: &mut Handle,
+    h: &mut SegmentSlot,
     key: &ObjectKey<'_>,
-    after: &Value,
-    at: &mut Value,
-    value: &mut Value,
+    after: &CScalar,
+    at: &mut CScalar,
+    value: &mut CScalar,
 ) -> u32
-    ensures told { Reads (or_else (key_wrong key.now) (value_wrong after.now)) result h.old.segment.value h.new.segment.value
-        (λ s. (d : Directory) → StandsFor s.cut.bytes d
+    ensures read { PerformsRead (or_else (key_wrong key.now) (value_wrong after.now)) result h.old.segment.value
+        h.new.segment.value
+        (λ s. (d : Directory) → DenotesCurrent s.cut.bytes d
         → TellsPair at.new value.new result (next_at d (key_of key.now) (literal_in after.now))) }
-    ensures results { 1 ≤ result → (at.new ≡ at.old) × (value.new ≡ value.old) }
+    ensures outputs_on_error { 1 ≤ result → (at.new ≡ at.old) × (value.new ≡ value.old) }
     ensures marks { h.new.marks ≡ h.old.marks }
 {
     let (which, below, segment) = passed!(enter_with(alloc, h, key, after));
@@ -140,9 +148,16 @@ pub extern "C" fn zx_map_next(
 }
 
 /// The same of a segment.
-fn next(segment: &Segment, key: &Key, after: ScalarValue, at: &mut Value, value: &mut Value) -> u32
-    ensures told { (d : Directory) → StandsFor segment.now.cut.bytes d → TellsPair at.new value.new result (next_at d (key_seen key.now) (literal_seen after)) }
-    ensures kept { 1 ≤ result → (at.new ≡ at.old) × (value.new ≡ value.old) }
+fn next(
+    segment: &Segment,
+    key: &Key,
+    after: ScalarValue,
+    at: &mut CScalar,
+    value: &mut CScalar,
+) -> u32
+    ensures read { (d : Directory) → DenotesCurrent segment.now.cut.bytes d
+        → TellsPair at.new value.new result (next_at d (key_seen key.now) (literal_seen after)) }
+    ensures unchanged_on_error { 1 ≤ result → (at.new ≡ at.old) × (value.new ≡ value.old) }
 {
     match locate(segment, key) {
         Err(_) => NOT_FOUND,
@@ -157,14 +172,14 @@ fn next(segment: &Segment, key: &Key, after: ScalarValue, at: &mut Value, value:
 }
 
 /// A pair goes out, where there is one.
-fn pair_out(pair: Option<(ScalarValue, ScalarValue)>, at: &mut Value, value: &mut Value) -> u32
-    ensures told { TellsPairOf at.new value.new result pair }
-    ensures kept { 1 ≤ result → (at.new ≡ at.old) × (value.new ≡ value.old) }
+fn pair_out(pair: Option<(ScalarValue, ScalarValue)>, at: &mut CScalar, value: &mut CScalar) -> u32
+    ensures read { TellsPairOf at.new value.new result pair }
+    ensures unchanged_on_error { 1 ≤ result → (at.new ≡ at.old) × (value.new ≡ value.old) }
 {
     match pair {
         Some((its_key, its_value)) => {
-            *at = Value::of(its_key);
-            *value = Value::of(its_value);
+            *at = CScalar::of(its_key);
+            *value = CScalar::of(its_value);
             DONE
         }
         None => ABSENT,

@@ -1,25 +1,30 @@
 //! Objects made, found and destroyed.
 ghost use Rattle.std.specs.Prelude.{◌≡◌, ◌≤◌, ◌≢◌, MatchResult, OnErr, Some, map, replicate, ℕ};
-ghost use Rattle.seg_types.specs.Commands.{Bytes, Construct, Elements, Find, FindOrConstruct, NoPairs, Numbers, Strings};
+ghost use Rattle.seg_types.specs.Commands.{Bytes, Construct, Elements, Find, FindOrConstruct, NoPairs, Numbers};
+ghost use Rattle.seg_types.specs.Commands.{Strings};
 ghost use Rattle.seg_types.specs.Keys.{key_seen};
 ghost use Rattle.seg_types.specs.Names.{NoKey};
 ghost use Rattle.seg_types.specs.Values.{kind_of_scalar, value_of_scalar};
-ghost use Rattle.seg_types.specs.declared.kinds.Kind.TheVariants.{Map as MapOf, Scalar as ScalarOf, String as StringKind, Strings as StringsKind, Vector as VectorOf};
-ghost use Rattle.segment_c.specs.Calls.{IsAsked, IsClosed, IsStopped, KeepsRefused, Owes};
+ghost use Rattle.seg_types.specs.declared.kinds.Kind.TheVariants.{Map as MapOf, Scalar as ScalarOf};
+ghost use Rattle.seg_types.specs.declared.kinds.Kind.TheVariants.{String as StringKind, Strings as StringsKind};
+ghost use Rattle.seg_types.specs.declared.kinds.Kind.TheVariants.{Vector as VectorOf};
+ghost use Rattle.segment_c.specs.Calls.{ReachesSegment, RefusesClosed, RefusesArgument, UnchangedOnCode, PerformsCall};
 ghost use Rattle.segment_c.specs.Codes.{answer_for};
 ghost use Rattle.segment_c.specs.Destroying.{destroy_command};
-ghost use Rattle.segment_c.specs.Passed.{count_wrong, entry_of, entry_wrong, key_of, key_wrong, kind_in, kind_wrong, new_of, new_wrong, object_kind_in, or_else, row_of, row_wrong, scalar_in, scalar_kind_in, scalar_kind_of, scalar_kind_wrong, value_wrong, whole_in};
-ghost use Rattle.segment_c.specs.Marked.{IsMarked};
+ghost use Rattle.segment_c.specs.Passed.{count_wrong, entry_of, entry_wrong, key_of, key_wrong, kind_in, kind_wrong};
+ghost use Rattle.segment_c.specs.Passed.{new_of, new_wrong, object_kind_in, or_else, row_of, row_wrong, scalar_in};
+ghost use Rattle.segment_c.specs.Passed.{scalar_kind_in, scalar_kind_of, scalar_kind_wrong, value_wrong, whole_in};
+ghost use Rattle.segment_c.specs.Marked.{RaisesMoves};
 ghost use Rattle.segment_manager.specs.Answers.{Found, Made, Truth};
-ghost use Rattle.segment_manager.specs.Keeping.{HasKey, KeepsWhere, LacksKey};
-ghost use Rattle.segment_manager.specs.State.{IsReply, IsStep, truth_answer};
+ghost use Rattle.segment_manager.specs.Keeping.{IsBoundKey, UnchangedWhere, LacksKey};
+ghost use Rattle.segment_manager.specs.State.{AnswersQuery, TakesStep, truth_answer};
 
 use crate::calls::{enter, enter_entry, enter_new, passed};
 use crate::codes::{BAD_COUNT, BAD_KIND, found, found_or_absent, made, truth};
-use crate::handle::{Handle, take};
 use crate::keys::ObjectKey;
-use crate::rows::Values;
-use crate::values::{Value, scalar_kind};
+use crate::rows::CScalars;
+use crate::segment_slot::{SegmentSlot, take};
+use crate::values::{CScalar, scalar_kind};
 use seg_types::{IndexKey, Key, Kind, MAX_ARRAY_LEN, Refusal, ScalarKind, ScalarValue};
 use segment_manager::Segment;
 use std::alloc::Global;
@@ -28,9 +33,11 @@ use std::alloc::Global;
 pub(crate) const MOST: u32 = MAX_ARRAY_LEN as u32;
 
 /// The value of so many scalars.
-fn scalars(value: &Value, count: u32) -> Result<ScalarValue, u32>
-    ensures { MatchResult result (λ new. (scalar_in value.now ≡ Some (kind_of_scalar new, value_of_scalar new)) × (1 ≤ count) × (count ≤ 1048576))
-        (λ code. (1 ≤ code) × ((next : ℕ) → code ≡ or_else (value_wrong value.now) (or_else (count_wrong count) next))) }
+fn scalars(value: &CScalar, count: u32) -> Result<ScalarValue, u32>
+    ensures { MatchResult result (λ new. (scalar_in value.now ≡ Some (kind_of_scalar new, value_of_scalar new))
+        × (1 ≤ count) × (count ≤ 1048576))
+        (λ code. (1 ≤ code) × ((next : ℕ)
+        → code ≡ or_else (value_wrong value.now) (or_else (count_wrong count) next))) }
 {
     let new = value.scalar()?;
     if count < 1 || count > MOST {
@@ -41,8 +48,10 @@ fn scalars(value: &Value, count: u32) -> Result<ScalarValue, u32>
 
 /// The kinds of a map's keys and values.
 fn map_kinds(keys: u32, values: u32) -> Result<(ScalarKind, ScalarKind), u32>
-    ensures { MatchResult result (λ kinds. (scalar_kind_of keys ≡ Some kinds.0) × (scalar_kind_of values ≡ Some kinds.1))
-        (λ code. (1 ≤ code) × ((next : ℕ) → code ≡ or_else (scalar_kind_wrong keys) (or_else (scalar_kind_wrong values) next))) }
+    ensures { MatchResult result (λ kinds. (scalar_kind_of keys ≡ Some kinds.0)
+        × (scalar_kind_of values ≡ Some kinds.1))
+        (λ code. (1 ≤ code) × ((next : ℕ)
+        → code ≡ or_else (scalar_kind_wrong keys) (or_else (scalar_kind_wrong values) next))) }
 {
     match (scalar_kind(keys), scalar_kind(values)) {
         (Some(of_keys), Some(of_values)) => Ok((of_keys, of_values)),
@@ -53,7 +62,8 @@ fn map_kinds(keys: u32, values: u32) -> Result<(ScalarKind, ScalarKind), u32>
 /// The kind of objects that a code says.
 #[tactic(auto, unfolding(crate::specs::Passed::kind_wrong, crate::specs::Passed::object_kind_in))]
 fn object_kind(code: u32) -> Result<Kind, u32>
-    ensures { MatchResult result (λ kind. (kind_wrong code ≡ 0) × (kind ≡ object_kind_in code)) (λ wrong. (wrong ≡ kind_wrong code) × (1 ≤ wrong)) }
+    ensures { MatchResult result (λ kind. (kind_wrong code ≡ 0) × (kind ≡ object_kind_in code)) (λ wrong.
+        (wrong ≡ kind_wrong code) × (1 ≤ wrong)) }
 {
     Kind::from_code(code).ok_or(BAD_KIND)
 }
@@ -62,17 +72,20 @@ fn object_kind(code: u32) -> Result<Kind, u32>
 #[unsafe(no_mangle)]
 pub extern "C" fn zx_construct(
     alloc: Global,
-    h: &mut Handle,
+    h: &mut SegmentSlot,
     key: &ObjectKey<'_>,
     count: u32,
-    value: &Value,
+    value: &CScalar,
     handle: &mut u64,
 ) -> u32
-    ensures asked { Owes (or_else (value_wrong value.now) (or_else (count_wrong count) (new_wrong key.now (ScalarOf (kind_in value.now))))) result h.old.segment.value h.new.segment.value
-        (λ s t. IsStep s t (Construct (new_of key.now (ScalarOf (kind_in value.now))) (Numbers (kind_in value.now) (replicate count (whole_in value.now)))) (answer_for result (Made handle.new))) }
-    ensures refused { KeepsRefused result h.old.segment.value h.new.segment.value }
-    ensures results { 1 ≤ result → handle.new ≡ handle.old }
-    ensures marks { IsMarked result h.old.marks h.new.marks }
+    ensures call { PerformsCall (or_else (value_wrong value.now)
+        (or_else (count_wrong count) (new_wrong key.now (ScalarOf (kind_in value.now))))) result h.old.segment.value
+        h.new.segment.value
+        (λ s t. TakesStep s t (Construct (new_of key.now (ScalarOf (kind_in value.now)))
+        (Numbers (kind_in value.now) (replicate count (whole_in value.now)))) (answer_for result (Made handle.new))) }
+    ensures refused { UnchangedOnCode result h.old.segment.value h.new.segment.value }
+    ensures outputs_on_error { 1 ≤ result → handle.new ≡ handle.old }
+    ensures marks { RaisesMoves result h.old.marks h.new.marks }
 {
     let new = passed!(scalars(value, count));
     let (which, mut segment) = passed!(enter_new(alloc, h, key, Kind::Scalar(new.kind())));
@@ -84,20 +97,27 @@ pub extern "C" fn zx_construct(
 #[unsafe(no_mangle)]
 pub extern "C" fn zx_find_or_construct(
     alloc: Global,
-    h: &mut Handle,
+    h: &mut SegmentSlot,
     key: &ObjectKey<'_>,
     count: u32,
-    value: &Value,
+    value: &CScalar,
     handle: &mut u64,
     count_found: &mut u32,
 ) -> u32
-    ensures asked { Owes (or_else (value_wrong value.now) (or_else (count_wrong count) (entry_wrong key.now (ScalarOf (kind_in value.now))))) result h.old.segment.value h.new.segment.value
-        (λ s t. IsStep s t (FindOrConstruct (entry_of key.now (ScalarOf (kind_in value.now))) (Numbers (kind_in value.now) (replicate count (whole_in value.now)))) (answer_for result (Found handle.new count_found.new))) }
-    ensures found { IsAsked (or_else (value_wrong value.now) (or_else (count_wrong count) (entry_wrong key.now (ScalarOf (kind_in value.now))))) result h.old.segment.value h.new.segment.value
-        (λ s t. KeepsWhere s t (HasKey (entry_of key.now (ScalarOf (kind_in value.now))))) }
-    ensures refused { KeepsRefused result h.old.segment.value h.new.segment.value }
-    ensures results { 1 ≤ result → (handle.new ≡ handle.old) × (count_found.new ≡ count_found.old) }
-    ensures marks { IsMarked result h.old.marks h.new.marks }
+    ensures call { PerformsCall (or_else (value_wrong value.now)
+        (or_else (count_wrong count) (entry_wrong key.now (ScalarOf (kind_in value.now))))) result
+        h.old.segment.value h.new.segment.value
+        (λ s t. TakesStep s t (FindOrConstruct (entry_of key.now (ScalarOf (kind_in value.now)))
+        (Numbers (kind_in value.now) (replicate count (whole_in value.now))))
+        (answer_for result (Found handle.new count_found.new))) }
+    ensures search { ReachesSegment
+        (or_else (value_wrong value.now)
+        (or_else (count_wrong count) (entry_wrong key.now (ScalarOf (kind_in value.now))))) result
+        h.old.segment.value h.new.segment.value
+        (λ s t. UnchangedWhere s t (IsBoundKey (entry_of key.now (ScalarOf (kind_in value.now))))) }
+    ensures refused { UnchangedOnCode result h.old.segment.value h.new.segment.value }
+    ensures outputs_on_error { 1 ≤ result → (handle.new ≡ handle.old) × (count_found.new ≡ count_found.old) }
+    ensures marks { RaisesMoves result h.old.marks h.new.marks }
 {
     let new = passed!(scalars(value, count));
     let (which, mut segment) = passed!(enter_entry(alloc, h, key, Kind::Scalar(new.kind())));
@@ -109,16 +129,17 @@ pub extern "C" fn zx_find_or_construct(
 #[unsafe(no_mangle)]
 pub extern "C" fn zx_construct_string(
     alloc: Global,
-    h: &mut Handle,
+    h: &mut SegmentSlot,
     key: &ObjectKey<'_>,
     text: &[u8],
     handle: &mut u64,
 ) -> u32
-    ensures asked { Owes (new_wrong key.now (StringKind)) result h.old.segment.value h.new.segment.value
-        (λ s t. IsStep s t (Construct (new_of key.now (StringKind)) (Bytes text.now)) (answer_for result (Made handle.new))) }
-    ensures refused { KeepsRefused result h.old.segment.value h.new.segment.value }
-    ensures results { 1 ≤ result → handle.new ≡ handle.old }
-    ensures marks { IsMarked result h.old.marks h.new.marks }
+    ensures call { PerformsCall (new_wrong key.now (StringKind)) result h.old.segment.value h.new.segment.value
+        (λ s t. TakesStep s t (Construct (new_of key.now (StringKind)) (Bytes text.now))
+        (answer_for result (Made handle.new))) }
+    ensures refused { UnchangedOnCode result h.old.segment.value h.new.segment.value }
+    ensures outputs_on_error { 1 ≤ result → handle.new ≡ handle.old }
+    ensures marks { RaisesMoves result h.old.marks h.new.marks }
 {
     let (which, mut segment) = passed!(enter_new(alloc, h, key, Kind::String));
     made(segment.construct_string(&which, text), handle, h, segment)
@@ -128,19 +149,20 @@ pub extern "C" fn zx_construct_string(
 #[unsafe(no_mangle)]
 pub extern "C" fn zx_find_or_construct_string(
     alloc: Global,
-    h: &mut Handle,
+    h: &mut SegmentSlot,
     key: &ObjectKey<'_>,
     text: &[u8],
     handle: &mut u64,
     count_found: &mut u32,
 ) -> u32
-    ensures asked { Owes (entry_wrong key.now (StringKind)) result h.old.segment.value h.new.segment.value
-        (λ s t. IsStep s t (FindOrConstruct (entry_of key.now (StringKind)) (Bytes text.now)) (answer_for result (Found handle.new count_found.new))) }
-    ensures found { IsAsked (entry_wrong key.now (StringKind)) result h.old.segment.value h.new.segment.value
-        (λ s t. KeepsWhere s t (HasKey (entry_of key.now (StringKind)))) }
-    ensures refused { KeepsRefused result h.old.segment.value h.new.segment.value }
-    ensures results { 1 ≤ result → (handle.new ≡ handle.old) × (count_found.new ≡ count_found.old) }
-    ensures marks { IsMarked result h.old.marks h.new.marks }
+    ensures call { PerformsCall (entry_wrong key.now (StringKind)) result h.old.segment.value h.new.segment.value
+        (λ s t. TakesStep s t (FindOrConstruct (entry_of key.now (StringKind)) (Bytes text.now))
+        (answer_for result (Found handle.new count_found.new))) }
+    ensures search { ReachesSegment (entry_wrong key.now (StringKind)) result h.old.segment.value h.new.segment.value
+        (λ s t. UnchangedWhere s t (IsBoundKey (entry_of key.now (StringKind)))) }
+    ensures refused { UnchangedOnCode result h.old.segment.value h.new.segment.value }
+    ensures outputs_on_error { 1 ≤ result → (handle.new ≡ handle.old) × (count_found.new ≡ count_found.old) }
+    ensures marks { RaisesMoves result h.old.marks h.new.marks }
 {
     let (which, mut segment) = passed!(enter_entry(alloc, h, key, Kind::String));
     let answer = segment.find_or_construct_string(&which, text);
@@ -151,16 +173,17 @@ pub extern "C" fn zx_find_or_construct_string(
 #[unsafe(no_mangle)]
 pub extern "C" fn zx_construct_strings(
     alloc: Global,
-    h: &mut Handle,
+    h: &mut SegmentSlot,
     key: &ObjectKey<'_>,
     texts: &[&[u8]],
     handle: &mut u64,
 ) -> u32
-    ensures asked { Owes (new_wrong key.now (StringsKind)) result h.old.segment.value h.new.segment.value
-        (λ s t. IsStep s t (Construct (new_of key.now (StringsKind)) (Strings (map (λ text. text.now) texts.now))) (answer_for result (Made handle.new))) }
-    ensures refused { KeepsRefused result h.old.segment.value h.new.segment.value }
-    ensures results { 1 ≤ result → handle.new ≡ handle.old }
-    ensures marks { IsMarked result h.old.marks h.new.marks }
+    ensures call { PerformsCall (new_wrong key.now (StringsKind)) result h.old.segment.value h.new.segment.value
+        (λ s t. TakesStep s t (Construct (new_of key.now (StringsKind))
+        (Strings (map (λ text. text.now) texts.now))) (answer_for result (Made handle.new))) }
+    ensures refused { UnchangedOnCode result h.old.segment.value h.new.segment.value }
+    ensures outputs_on_error { 1 ≤ result → handle.new ≡ handle.old }
+    ensures marks { RaisesMoves result h.old.marks h.new.marks }
 {
     let (which, mut segment) = passed!(enter_new(alloc, h, key, Kind::Strings));
     made(segment.construct_texts(&which, texts), handle, h, segment)
@@ -170,19 +193,20 @@ pub extern "C" fn zx_construct_strings(
 #[unsafe(no_mangle)]
 pub extern "C" fn zx_find_or_construct_strings(
     alloc: Global,
-    h: &mut Handle,
+    h: &mut SegmentSlot,
     key: &ObjectKey<'_>,
     texts: &[&[u8]],
     handle: &mut u64,
     count_found: &mut u32,
 ) -> u32
-    ensures asked { Owes (entry_wrong key.now (StringsKind)) result h.old.segment.value h.new.segment.value
-        (λ s t. IsStep s t (FindOrConstruct (entry_of key.now (StringsKind)) (Strings (map (λ text. text.now) texts.now))) (answer_for result (Found handle.new count_found.new))) }
-    ensures found { IsAsked (entry_wrong key.now (StringsKind)) result h.old.segment.value h.new.segment.value
-        (λ s t. KeepsWhere s t (HasKey (entry_of key.now (StringsKind)))) }
-    ensures refused { KeepsRefused result h.old.segment.value h.new.segment.value }
-    ensures results { 1 ≤ result → (handle.new ≡ handle.old) × (count_found.new ≡ count_found.old) }
-    ensures marks { IsMarked result h.old.marks h.new.marks }
+    ensures call { PerformsCall (entry_wrong key.now (StringsKind)) result h.old.segment.value h.new.segment.value
+        (λ s t. TakesStep s t (FindOrConstruct (entry_of key.now (StringsKind))
+        (Strings (map (λ text. text.now) texts.now))) (answer_for result (Found handle.new count_found.new))) }
+    ensures search { ReachesSegment (entry_wrong key.now (StringsKind)) result h.old.segment.value h.new.segment.value
+        (λ s t. UnchangedWhere s t (IsBoundKey (entry_of key.now (StringsKind)))) }
+    ensures refused { UnchangedOnCode result h.old.segment.value h.new.segment.value }
+    ensures outputs_on_error { 1 ≤ result → (handle.new ≡ handle.old) × (count_found.new ≡ count_found.old) }
+    ensures marks { RaisesMoves result h.old.marks h.new.marks }
 {
     let (which, mut segment) = passed!(enter_entry(alloc, h, key, Kind::Strings));
     let answer = segment.find_or_construct_texts(&which, texts);
@@ -193,17 +217,21 @@ pub extern "C" fn zx_find_or_construct_strings(
 #[unsafe(no_mangle)]
 pub extern "C" fn zx_construct_map(
     alloc: Global,
-    h: &mut Handle,
+    h: &mut SegmentSlot,
     key: &ObjectKey<'_>,
     keys: u32,
     values: u32,
     handle: &mut u64,
 ) -> u32
-    ensures asked { Owes (or_else (scalar_kind_wrong keys) (or_else (scalar_kind_wrong values) (new_wrong key.now (MapOf (scalar_kind_in keys) (scalar_kind_in values))))) result h.old.segment.value h.new.segment.value
-        (λ s t. IsStep s t (Construct (new_of key.now (MapOf (scalar_kind_in keys) (scalar_kind_in values))) (NoPairs (scalar_kind_in keys) (scalar_kind_in values))) (answer_for result (Made handle.new))) }
-    ensures refused { KeepsRefused result h.old.segment.value h.new.segment.value }
-    ensures results { 1 ≤ result → handle.new ≡ handle.old }
-    ensures marks { IsMarked result h.old.marks h.new.marks }
+    ensures call { PerformsCall (or_else (scalar_kind_wrong keys)
+        (or_else (scalar_kind_wrong values)
+        (new_wrong key.now (MapOf (scalar_kind_in keys) (scalar_kind_in values))))) result h.old.segment.value
+        h.new.segment.value
+        (λ s t. TakesStep s t (Construct (new_of key.now (MapOf (scalar_kind_in keys) (scalar_kind_in values)))
+        (NoPairs (scalar_kind_in keys) (scalar_kind_in values))) (answer_for result (Made handle.new))) }
+    ensures refused { UnchangedOnCode result h.old.segment.value h.new.segment.value }
+    ensures outputs_on_error { 1 ≤ result → handle.new ≡ handle.old }
+    ensures marks { RaisesMoves result h.old.marks h.new.marks }
 {
     let (of_keys, of_values) = passed!(map_kinds(keys, values));
     let (which, mut segment) = passed!(enter_new(alloc, h, key, Kind::Map(of_keys, of_values)));
@@ -215,20 +243,31 @@ pub extern "C" fn zx_construct_map(
 #[unsafe(no_mangle)]
 pub extern "C" fn zx_find_or_construct_map(
     alloc: Global,
-    h: &mut Handle,
+    h: &mut SegmentSlot,
     key: &ObjectKey<'_>,
     keys: u32,
     values: u32,
     handle: &mut u64,
     count_found: &mut u32,
 ) -> u32
-    ensures asked { Owes (or_else (scalar_kind_wrong keys) (or_else (scalar_kind_wrong values) (entry_wrong key.now (MapOf (scalar_kind_in keys) (scalar_kind_in values))))) result h.old.segment.value h.new.segment.value
-        (λ s t. IsStep s t (FindOrConstruct (entry_of key.now (MapOf (scalar_kind_in keys) (scalar_kind_in values))) (NoPairs (scalar_kind_in keys) (scalar_kind_in values))) (answer_for result (Found handle.new count_found.new))) }
-    ensures found { IsAsked (or_else (scalar_kind_wrong keys) (or_else (scalar_kind_wrong values) (entry_wrong key.now (MapOf (scalar_kind_in keys) (scalar_kind_in values))))) result h.old.segment.value h.new.segment.value
-        (λ s t. KeepsWhere s t (HasKey (entry_of key.now (MapOf (scalar_kind_in keys) (scalar_kind_in values))))) }
-    ensures refused { KeepsRefused result h.old.segment.value h.new.segment.value }
-    ensures results { 1 ≤ result → (handle.new ≡ handle.old) × (count_found.new ≡ count_found.old) }
-    ensures marks { IsMarked result h.old.marks h.new.marks }
+    ensures call { PerformsCall (or_else (scalar_kind_wrong keys)
+        (or_else (scalar_kind_wrong values)
+        (entry_wrong key.now (MapOf (scalar_kind_in keys) (scalar_kind_in values))))) result h.old.segment.value
+        h.new.segment.value
+        (λ s t. TakesStep s t (FindOrConstruct
+        (entry_of key.now (MapOf (scalar_kind_in keys) (scalar_kind_in values)))
+        (NoPairs (scalar_kind_in keys) (scalar_kind_in values)))
+        (answer_for result (Found handle.new count_found.new))) }
+    ensures search { ReachesSegment
+        (or_else (scalar_kind_wrong keys)
+        (or_else (scalar_kind_wrong values)
+        (entry_wrong key.now (MapOf (scalar_kind_in keys) (scalar_kind_in values))))) result h.old.segment.value
+        h.new.segment.value
+        (λ s t. UnchangedWhere s t (IsBoundKey
+        (entry_of key.now (MapOf (scalar_kind_in keys) (scalar_kind_in values))))) }
+    ensures refused { UnchangedOnCode result h.old.segment.value h.new.segment.value }
+    ensures outputs_on_error { 1 ≤ result → (handle.new ≡ handle.old) × (count_found.new ≡ count_found.old) }
+    ensures marks { RaisesMoves result h.old.marks h.new.marks }
 {
     let (of_keys, of_values) = passed!(map_kinds(keys, values));
     let (which, mut segment) = passed!(enter_entry(alloc, h, key, Kind::Map(of_keys, of_values)));
@@ -240,18 +279,22 @@ pub extern "C" fn zx_find_or_construct_map(
 #[unsafe(no_mangle)]
 pub extern "C" fn zx_find(
     alloc: Global,
-    h: &mut Handle,
+    h: &mut SegmentSlot,
     key: &ObjectKey<'_>,
     kind: u32,
     handle: &mut u64,
     count: &mut u32,
 ) -> u32
-    ensures stopped { IsStopped (or_else (key_wrong key.now) (kind_wrong kind)) result h.old.segment.value h.new.segment.value }
-    ensures closed { IsClosed (or_else (key_wrong key.now) (kind_wrong kind)) result h.old.segment.value h.new.segment.value }
-    ensures asked { IsAsked (or_else (key_wrong key.now) (kind_wrong kind)) result h.old.segment.value h.new.segment.value
-        (λ s t. IsReply s (Find (key_of key.now) (object_kind_in kind)) (answer_for result (Found handle.new count.new))) }
-    ensures same { h.new.segment.value ≡ h.old.segment.value }
-    ensures results { 1 ≤ result → (handle.new ≡ handle.old) × (count.new ≡ count.old) }
+    ensures stop { RefusesArgument (or_else (key_wrong key.now) (kind_wrong kind)) result h.old.segment.value
+        h.new.segment.value }
+    ensures closed { RefusesClosed (or_else (key_wrong key.now) (kind_wrong kind)) result h.old.segment.value
+        h.new.segment.value }
+    ensures call { ReachesSegment (or_else (key_wrong key.now) (kind_wrong kind)) result h.old.segment.value
+        h.new.segment.value
+        (λ s t. AnswersQuery s (Find (key_of key.now) (object_kind_in kind))
+        (answer_for result (Found handle.new count.new))) }
+    ensures unchanged { h.new.segment.value ≡ h.old.segment.value }
+    ensures outputs_on_error { 1 ≤ result → (handle.new ≡ handle.old) × (count.new ≡ count.old) }
     ensures marks { h.new.marks ≡ h.old.marks }
 {
     let which = passed!(key.key());
@@ -266,16 +309,17 @@ pub extern "C" fn zx_find(
 #[unsafe(no_mangle)]
 pub extern "C" fn zx_destroy(
     alloc: Global,
-    h: &mut Handle,
+    h: &mut SegmentSlot,
     key: &ObjectKey<'_>,
     was_there: &mut bool,
 ) -> u32
-    ensures asked { Owes (key_wrong key.now) result h.old.segment.value h.new.segment.value
-        (λ s t. IsStep s t (destroy_command (key_of key.now)) (answer_for result (Truth was_there.new))) }
-    ensures absent { IsAsked (key_wrong key.now) result h.old.segment.value h.new.segment.value (λ s t. KeepsWhere s t (LacksKey (key_of key.now))) }
-    ensures kept { 1 ≤ result → h.new.segment.value ≡ h.old.segment.value }
-    ensures results { 1 ≤ result → was_there.new ≡ was_there.old }
-    ensures marks { IsMarked result h.old.marks h.new.marks }
+    ensures call { PerformsCall (key_wrong key.now) result h.old.segment.value h.new.segment.value
+        (λ s t. TakesStep s t (destroy_command (key_of key.now)) (answer_for result (Truth was_there.new))) }
+    ensures absent { ReachesSegment (key_wrong key.now) result h.old.segment.value h.new.segment.value (λ s t.
+        UnchangedWhere s t (LacksKey (key_of key.now))) }
+    ensures unchanged_on_error { 1 ≤ result → h.new.segment.value ≡ h.old.segment.value }
+    ensures outputs_on_error { 1 ≤ result → was_there.new ≡ was_there.old }
+    ensures marks { RaisesMoves result h.old.marks h.new.marks }
 {
     let (which, mut segment) = passed!(enter(alloc, h, key));
     truth(destroy(&mut segment, &which), was_there, h, segment)
@@ -284,9 +328,9 @@ pub extern "C" fn zx_destroy(
 /// The same of a segment.
 fn destroy(segment: &mut Segment, which: &Key) -> Result<bool, Refusal>
     requires { key_seen which.now ≢ NoKey }
-    ensures step { IsStep segment.old segment.new (destroy_command (key_seen which.now)) (truth_answer result) }
+    ensures step { TakesStep segment.old segment.new (destroy_command (key_seen which.now)) (truth_answer result) }
     ensures refused { OnErr result (segment.new ≡ segment.old) }
-    ensures absent { KeepsWhere segment.old segment.new (LacksKey (key_seen which.now)) }
+    ensures absent { UnchangedWhere segment.old segment.new (LacksKey (key_seen which.now)) }
 {
     match *which {
         Key::Name(name) => segment.destroy(&IndexKey::Name(name)),

@@ -1,31 +1,34 @@
 //! Elements of arrays and vectors of scalars, so many read or written by one call.
 ghost use Rattle.std.specs.Prelude.{◌≡◌, ◌≤◌, OnErr, length, map, pos};
-ghost use Rattle.seg_types.specs.declared.kinds.ScalarKind.TheVariants.{Bool as BoolKind, I32 as I32Kind, I64 as I64Kind, U8 as U8Kind, U64 as U64Kind};
+ghost use Rattle.seg_types.specs.declared.kinds.ScalarKind.TheVariants.{Bool as BoolKind, I32 as I32Kind};
+ghost use Rattle.seg_types.specs.declared.kinds.ScalarKind.TheVariants.{I64 as I64Kind, U8 as U8Kind, U64 as U64Kind};
 ghost use Rattle.seg_types.specs.Keys.{key_seen};
 ghost use Rattle.seg_types.specs.Kinds.{truth_number};
-ghost use Rattle.segment_c.specs.Calls.{Owes};
+ghost use Rattle.segment_c.specs.Calls.{PerformsCall};
 ghost use Rattle.segment_c.specs.Codes.{answer_for};
 ghost use Rattle.segment_c.specs.Passed.{key_of, key_wrong, numbers_of, or_else, row_of, row_wrong, scalar_kind_in};
 ghost use Rattle.segment_c.specs.Reads.{IsCoded, ReadsRange};
-ghost use Rattle.segment_c.specs.Marked.{IsMarked};
+ghost use Rattle.segment_c.specs.Marked.{RaisesMoves};
 ghost use Rattle.segment_manager.specs.Answers.{Done};
 ghost use Rattle.segment_manager.specs.Directory.{Directory};
-ghost use Rattle.segment_manager.specs.State.{StandsFor, done_answer};
+ghost use Rattle.segment_manager.specs.State.{DenotesCurrent, done_answer};
 ghost use Rattle.segment_manager.specs.containers.Ranges.{WritesRange, range_at};
 
 use crate::calls::{enter, enter_row, passed};
 use crate::codes::{DONE, code_of, done};
-use crate::handle::{Handle, put};
 use crate::keys::ObjectKey;
-use crate::rows::{Values, on_slice};
+use crate::rows::{CScalars, on_slice};
+use crate::segment_slot::{SegmentSlot, put};
 use seg_types::{Key, Refusal, Scalar, ScalarKind};
 use segment_manager::Segment;
 use std::alloc::Global;
 
 /// Copies elements of the object of a key into a row, of a type.
 fn read_row<T: Scalar>(segment: &Segment, key: &Key, first: u64, row: &mut [T]) -> u32
-    ensures told { (d : Directory) → StandsFor segment.now.cut.bytes d → IsCoded (λ zs. map T.whole row.new ≡ zs) result (range_at d (key_seen key.now) T.kind first (length row.old)) }
-    ensures kept { 1 ≤ result → row.new ≡ row.old }
+    ensures read { (d : Directory) → DenotesCurrent segment.now.cut.bytes d
+        → IsCoded (λ zs. map T.whole row.new
+        ≡ zs) result (range_at d (key_seen key.now) T.kind first (length row.old)) }
+    ensures unchanged_on_error { 1 ≤ result → row.new ≡ row.old }
 {
     match segment_values::read_elements(segment, key, first, row) {
         Ok(()) => DONE,
@@ -36,12 +39,13 @@ fn read_row<T: Scalar>(segment: &Segment, key: &Key, first: u64, row: &mut [T]) 
 /// Copies elements of the array or vector of a key into a row, of a type: as many as the row has, from `first` on.
 fn read_range<T: Scalar>(
     alloc: Global,
-    h: &mut Handle,
+    h: &mut SegmentSlot,
     key: &ObjectKey<'_>,
     first: u64,
     row: &mut [T],
 ) -> u32
-    ensures read { ReadsRange T.whole T.kind key.now first row.old row.new result h.old.segment.value h.new.segment.value }
+    ensures read { ReadsRange T.whole T.kind key.now first row.old row.new result h.old.segment.value
+        h.new.segment.value }
     ensures marks { h.new.marks ≡ h.old.marks }
 {
     let (which, segment) = passed!(enter(alloc, h, key));
@@ -52,12 +56,13 @@ fn read_range<T: Scalar>(
 #[unsafe(no_mangle)]
 pub extern "C" fn zx_read_bools(
     alloc: Global,
-    h: &mut Handle,
+    h: &mut SegmentSlot,
     key: &ObjectKey<'_>,
     first: u64,
     row: &mut [bool],
 ) -> u32
-    ensures read { ReadsRange truth_number BoolKind key.now first row.old row.new result h.old.segment.value h.new.segment.value }
+    ensures read { ReadsRange truth_number BoolKind key.now first row.old row.new result h.old.segment.value
+        h.new.segment.value }
     ensures marks { h.new.marks ≡ h.old.marks }
 {
     read_range::<bool>(alloc, h, key, first, row)
@@ -67,7 +72,7 @@ pub extern "C" fn zx_read_bools(
 #[unsafe(no_mangle)]
 pub extern "C" fn zx_read_u8s(
     alloc: Global,
-    h: &mut Handle,
+    h: &mut SegmentSlot,
     key: &ObjectKey<'_>,
     first: u64,
     row: &mut [u8],
@@ -83,12 +88,13 @@ pub extern "C" fn zx_read_u8s(
 #[unsafe(no_mangle)]
 pub extern "C" fn zx_read_i32s(
     alloc: Global,
-    h: &mut Handle,
+    h: &mut SegmentSlot,
     key: &ObjectKey<'_>,
     first: u64,
     row: &mut [i32],
 ) -> u32
-    ensures read { ReadsRange (λ x. x) I32Kind key.now first row.old row.new result h.old.segment.value h.new.segment.value }
+    ensures read { ReadsRange (λ x. x) I32Kind key.now first row.old row.new result h.old.segment.value
+        h.new.segment.value }
     ensures marks { h.new.marks ≡ h.old.marks }
 {
     read_range::<i32>(alloc, h, key, first, row)
@@ -99,12 +105,13 @@ pub extern "C" fn zx_read_i32s(
 #[unsafe(no_mangle)]
 pub extern "C" fn zx_read_i64s(
     alloc: Global,
-    h: &mut Handle,
+    h: &mut SegmentSlot,
     key: &ObjectKey<'_>,
     first: u64,
     row: &mut [i64],
 ) -> u32
-    ensures read { ReadsRange (λ x. x) I64Kind key.now first row.old row.new result h.old.segment.value h.new.segment.value }
+    ensures read { ReadsRange (λ x. x) I64Kind key.now first row.old row.new result h.old.segment.value
+        h.new.segment.value }
     ensures marks { h.new.marks ≡ h.old.marks }
 {
     read_range::<i64>(alloc, h, key, first, row)
@@ -115,7 +122,7 @@ pub extern "C" fn zx_read_i64s(
 #[unsafe(no_mangle)]
 pub extern "C" fn zx_read_u64s(
     alloc: Global,
-    h: &mut Handle,
+    h: &mut SegmentSlot,
     key: &ObjectKey<'_>,
     first: u64,
     row: &mut [u64],
@@ -132,9 +139,10 @@ fn write_row(
     key: &Key,
     first: u64,
     kind: ScalarKind,
-    row: &Values<'_>,
+    row: &CScalars<'_>,
 ) -> Result<(), Refusal>
-    ensures step { WritesRange segment.old segment.new (key_seen key.now) kind first (numbers_of row.now kind) (done_answer result) }
+    ensures step { WritesRange segment.old segment.new (key_seen key.now) kind first (numbers_of row.now kind)
+        (done_answer result) }
     ensures refused { OnErr result (segment.new ≡ segment.old) }
 {
     on_slice!(row, kind, slice => segment.write_range(key, first, slice))
@@ -144,15 +152,17 @@ fn write_row(
 #[unsafe(no_mangle)]
 pub extern "C" fn zx_write_elements(
     alloc: Global,
-    h: &mut Handle,
+    h: &mut SegmentSlot,
     key: &ObjectKey<'_>,
     first: u64,
-    values: &Values<'_>,
+    values: &CScalars<'_>,
 ) -> u32
-    ensures asked { Owes (or_else (key_wrong key.now) (row_wrong values.now)) result h.old.segment.value h.new.segment.value
-        (λ s t. WritesRange s t (key_of key.now) (scalar_kind_in values.now.kind) first (row_of values.now) (answer_for result Done)) }
-    ensures kept { 1 ≤ result → h.new.segment.value ≡ h.old.segment.value }
-    ensures marks { IsMarked result h.old.marks h.new.marks }
+    ensures call { PerformsCall (or_else (key_wrong key.now) (row_wrong values.now)) result h.old.segment.value
+        h.new.segment.value
+        (λ s t. WritesRange s t (key_of key.now) (scalar_kind_in values.now.kind) first (row_of values.now)
+        (answer_for result Done)) }
+    ensures unchanged_on_error { 1 ≤ result → h.new.segment.value ≡ h.old.segment.value }
+    ensures marks { RaisesMoves result h.old.marks h.new.marks }
 {
     let (which, kind, mut segment) = passed!(enter_row(alloc, h, key, values));
     let answer = write_row(&mut segment, &which, first, kind, values);

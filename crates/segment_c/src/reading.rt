@@ -3,19 +3,19 @@ ghost use Rattle.std.specs.Prelude.{◌≡◌, ◌≢◌, ◌≤◌};
 ghost use Rattle.seg_types.specs.declared.kinds.Kind.TheVariants.{Strings as StringsKind};
 ghost use Rattle.seg_types.specs.Commands.{Get};
 ghost use Rattle.seg_types.specs.Keys.{key_seen};
-ghost use Rattle.segment_c.specs.Calls.{Reads};
+ghost use Rattle.segment_c.specs.Calls.{PerformsRead};
 ghost use Rattle.segment_c.specs.Passed.{key_of, key_wrong};
 ghost use Rattle.segment_c.specs.Reads.{AreSizes, Copies, CopiesAnswer, IsCoded, IsCopied};
 ghost use Rattle.segment_manager.specs.containers.Contents.{bytes_at, sizes_at};
 ghost use Rattle.segment_manager.specs.Directory.{Directory};
-ghost use Rattle.segment_manager.specs.State.{StandsFor};
+ghost use Rattle.segment_manager.specs.State.{DenotesCurrent};
 ghost use Rattle.segment_manager.specs.Step.{step_of_kind};
 
 use crate::calls::{enter, passed};
 use crate::codes::{DONE, code_of};
-use crate::handle::{Handle, put};
 use crate::images::copy_out;
 use crate::keys::ObjectKey;
+use crate::segment_slot::{SegmentSlot, put};
 use seg_types::Key;
 use segment_manager::Segment;
 use std::alloc::Global;
@@ -24,15 +24,15 @@ use std::alloc::Global;
 #[unsafe(no_mangle)]
 pub extern "C" fn zx_measure(
     alloc: Global,
-    h: &mut Handle,
+    h: &mut SegmentSlot,
     key: &ObjectKey<'_>,
     len: &mut u64,
     places: &mut u64,
 ) -> u32
-    ensures told { Reads (key_wrong key.now) result h.old.segment.value h.new.segment.value
-        (λ s. (d : Directory) → StandsFor s.cut.bytes d
+    ensures read { PerformsRead (key_wrong key.now) result h.old.segment.value h.new.segment.value
+        (λ s. (d : Directory) → DenotesCurrent s.cut.bytes d
         → IsCoded (AreSizes len.new places.new) result (sizes_at d (key_of key.now))) }
-    ensures results { 1 ≤ result → (len.new ≡ len.old) × (places.new ≡ places.old) }
+    ensures outputs_on_error { 1 ≤ result → (len.new ≡ len.old) × (places.new ≡ places.old) }
     ensures marks { h.new.marks ≡ h.old.marks }
 {
     let (which, segment) = passed!(enter(alloc, h, key));
@@ -41,8 +41,9 @@ pub extern "C" fn zx_measure(
 
 /// The same of a segment.
 fn measure(segment: &Segment, key: &Key, len: &mut u64, places: &mut u64) -> u32
-    ensures told { (d : Directory) → StandsFor segment.now.cut.bytes d → IsCoded (AreSizes len.new places.new) result (sizes_at d (key_seen key.now)) }
-    ensures kept { 1 ≤ result → (len.new ≡ len.old) × (places.new ≡ places.old) }
+    ensures read { (d : Directory) → DenotesCurrent segment.now.cut.bytes d
+        → IsCoded (AreSizes len.new places.new) result (sizes_at d (key_seen key.now)) }
+    ensures unchanged_on_error { 1 ≤ result → (len.new ≡ len.old) × (places.new ≡ places.old) }
 {
     match segment.measure(key) {
         Ok((elements, capacity)) => {
@@ -59,15 +60,15 @@ fn measure(segment: &Segment, key: &Key, len: &mut u64, places: &mut u64) -> u32
 #[unsafe(no_mangle)]
 pub extern "C" fn zx_read_string(
     alloc: Global,
-    h: &mut Handle,
+    h: &mut SegmentSlot,
     key: &ObjectKey<'_>,
     text: &mut [u8],
     len: &mut u64,
 ) -> u32
-    ensures told { Reads (key_wrong key.now) result h.old.segment.value h.new.segment.value
-        (λ s. (d : Directory) → StandsFor s.cut.bytes d
+    ensures read { PerformsRead (key_wrong key.now) result h.old.segment.value h.new.segment.value
+        (λ s. (d : Directory) → DenotesCurrent s.cut.bytes d
         → Copies text.old text.new len.new result (bytes_at d (key_of key.now))) }
-    ensures results { 1 ≤ result → text.new ≡ text.old }
+    ensures outputs_on_error { 1 ≤ result → text.new ≡ text.old }
     ensures length { 1 ≤ result → result ≢ 24 → len.new ≡ len.old }
     ensures marks { h.new.marks ≡ h.old.marks }
 {
@@ -77,8 +78,9 @@ pub extern "C" fn zx_read_string(
 
 /// The same of a segment.
 fn read_string(segment: &Segment, key: &Key, text: &mut [u8], len: &mut u64) -> u32
-    ensures told { (d : Directory) → StandsFor segment.now.cut.bytes d → Copies text.old text.new len.new result (bytes_at d (key_seen key.now)) }
-    ensures kept { 1 ≤ result → text.new ≡ text.old }
+    ensures read { (d : Directory) → DenotesCurrent segment.now.cut.bytes d
+        → Copies text.old text.new len.new result (bytes_at d (key_seen key.now)) }
+    ensures unchanged_on_error { 1 ≤ result → text.new ≡ text.old }
     ensures length { 1 ≤ result → result ≢ 24 → len.new ≡ len.old }
 {
     match segment.string_bytes(key) {
@@ -92,16 +94,17 @@ fn read_string(segment: &Segment, key: &Key, text: &mut [u8], len: &mut u64) -> 
 #[unsafe(no_mangle)]
 pub extern "C" fn zx_read_text(
     alloc: Global,
-    h: &mut Handle,
+    h: &mut SegmentSlot,
     key: &ObjectKey<'_>,
     index: u64,
     text: &mut [u8],
     len: &mut u64,
 ) -> u32
-    ensures told { Reads (key_wrong key.now) result h.old.segment.value h.new.segment.value
-        (λ s. (d : Directory) → StandsFor s.cut.bytes d
-        → CopiesAnswer text.old text.new len.new result (step_of_kind s.mode d (key_of key.now) StringsKind (Get (key_of key.now) index)).0) }
-    ensures results { 1 ≤ result → text.new ≡ text.old }
+    ensures read { PerformsRead (key_wrong key.now) result h.old.segment.value h.new.segment.value
+        (λ s. (d : Directory) → DenotesCurrent s.cut.bytes d
+        → CopiesAnswer text.old text.new len.new result
+        (step_of_kind s.mode d (key_of key.now) StringsKind (Get (key_of key.now) index)).0) }
+    ensures outputs_on_error { 1 ≤ result → text.new ≡ text.old }
     ensures length { 1 ≤ result → result ≢ 24 → len.new ≡ len.old }
     ensures marks { h.new.marks ≡ h.old.marks }
 {
@@ -111,9 +114,10 @@ pub extern "C" fn zx_read_text(
 
 /// The same of a segment.
 fn read_text(segment: &Segment, key: &Key, index: u64, text: &mut [u8], len: &mut u64) -> u32
-    ensures told { (d : Directory) → StandsFor segment.now.cut.bytes d
-        → CopiesAnswer text.old text.new len.new result (step_of_kind segment.now.mode d (key_seen key.now) StringsKind (Get (key_seen key.now) index)).0 }
-    ensures kept { 1 ≤ result → text.new ≡ text.old }
+    ensures read { (d : Directory) → DenotesCurrent segment.now.cut.bytes d
+        → CopiesAnswer text.old text.new len.new result
+        (step_of_kind segment.now.mode d (key_seen key.now) StringsKind (Get (key_seen key.now) index)).0 }
+    ensures unchanged_on_error { 1 ≤ result → text.new ≡ text.old }
     ensures length { 1 ≤ result → result ≢ 24 → len.new ≡ len.old }
 {
     match segment.texts_get(key, index) {
@@ -124,9 +128,9 @@ fn read_text(segment: &Segment, key: &Key, index: u64, text: &mut [u8], len: &mu
 
 /// Copies bytes to the front of a buffer, where it has room for them. How many they are goes out.
 fn copy_text(bytes: &[u8], text: &mut [u8], len: &mut u64) -> u32
-    ensures copied { IsCopied bytes.now text.old text.new len.new result }
-    ensures kept { 1 ≤ result → text.new ≡ text.old }
-    ensures short { 1 ≤ result → result ≡ 24 }
+    ensures copy { IsCopied bytes.now text.old text.new len.new result }
+    ensures unchanged_on_error { 1 ≤ result → text.new ≡ text.old }
+    ensures max_len { 1 ≤ result → result ≡ 24 }
 {
     *len = bytes.len() as u64;
     copy_out(bytes, text)

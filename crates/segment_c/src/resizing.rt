@@ -3,18 +3,18 @@ ghost use Rattle.std.specs.Prelude.{◌≡◌, ◌<◌, ◌≤◌, ◌⊎◌, So
 ghost use Rattle.std.specs.declared.option.Option.TheVariants.{Some as Held};
 ghost use Rattle.grow_shrink.specs.Resized.{growth_refusal, room_of, shrink_refusal};
 ghost use Rattle.raw_region.specs.Regions.{IsCapacity};
-ghost use Rattle.segment_c.specs.Calls.{IsClosed, IsStopped, Opened};
-ghost use Rattle.segment_c.specs.Growing.{IsGrowthCode, IsLonger, growing_code};
+ghost use Rattle.segment_c.specs.Calls.{RefusesClosed, RefusesArgument, HoldsSegment};
+ghost use Rattle.segment_c.specs.Growing.{IsGrowthCode, GrowsSegment, growing_code};
 ghost use Rattle.segment_c.specs.Opening.{capacity_wrong};
 ghost use Rattle.segment_c.specs.Resizing.{IsMoved, size_code};
-ghost use Rattle.segment_c.specs.Marked.{IsMarked};
+ghost use Rattle.segment_c.specs.Marked.{RaisesMoves};
 ghost use Rattle.segment_manager.specs.Directory.{Directory};
 ghost use Rattle.segment_manager.specs.blocks.Resized.{Resizes, grown, shrunk};
-ghost use Rattle.segment_manager.specs.State.{StandsFor, State};
+ghost use Rattle.segment_manager.specs.State.{DenotesCurrent, SegmentState};
 
 use crate::calls::passed;
 use crate::codes::{BAD_GROWTH, BAD_SIZE, DONE, READ_ONLY, SHORT_REGION, TOO_LARGE, no_memory};
-use crate::handle::{Handle, put_changed, take};
+use crate::segment_slot::{SegmentSlot, put_changed, take};
 use grow_shrink::{GrowError, GrowOrMoveError, copy_into, grow_or_move};
 use image_check::MemoryFault;
 use raw_region::RawRegion;
@@ -26,7 +26,7 @@ const LARGEST_REGION: u64 = 1 << 40;
 
 /// Whether a region may have so many bytes: a multiple of 16, from 16 to 1099511627776.
 pub fn is_capacity(bytes: u64) -> bool
-    ensures wrong { capacity_wrong bytes ≡ (if result then 0 else 22) }
+    ensures error { capacity_wrong bytes ≡ (if result then 0 else 22) }
     ensures capacity { result ≡ true → IsCapacity bytes }
 {
     16 <= bytes && bytes <= LARGEST_REGION && bytes % 16 == 0
@@ -34,12 +34,14 @@ pub fn is_capacity(bytes: u64) -> bool
 
 /// Makes the segment as short as its last block lets it be.
 #[unsafe(no_mangle)]
-pub extern "C" fn zx_shrink(alloc: Global, h: &mut Handle) -> u32
-    ensures closed { IsClosed 0 result h.old.segment.value h.new.segment.value }
-    ensures code { (s : State) → h.old.segment.value ≡ Held s → (d : Directory) → StandsFor s.cut.bytes d → result ≡ size_code (shrink_refusal s.mode) }
-    ensures shrunk { (s : State) → h.old.segment.value ≡ Held s → result ≡ 0 → Opened h.new.segment.value (λ t. Resizes s t (λ d. shrunk d)) }
-    ensures kept { 1 ≤ result → h.new.segment.value ≡ h.old.segment.value }
-    ensures marks { IsMarked result h.old.marks h.new.marks }
+pub extern "C" fn zx_shrink(alloc: Global, h: &mut SegmentSlot) -> u32
+    ensures closed { RefusesClosed 0 result h.old.segment.value h.new.segment.value }
+    ensures code { (s : SegmentState) → h.old.segment.value ≡ Held s → (d : Directory)
+        → DenotesCurrent s.cut.bytes d → result ≡ size_code (shrink_refusal s.mode) }
+    ensures shrinking { (s : SegmentState) → h.old.segment.value ≡ Held s → result ≡ 0
+        → HoldsSegment h.new.segment.value (λ t. Resizes s t (λ d. shrunk d)) }
+    ensures unchanged_on_error { 1 ≤ result → h.new.segment.value ≡ h.old.segment.value }
+    ensures marks { RaisesMoves result h.old.marks h.new.marks }
 {
     let mut segment = passed!(take(alloc, h));
     put_changed(shrink(&mut segment), h, segment)
@@ -47,9 +49,10 @@ pub extern "C" fn zx_shrink(alloc: Global, h: &mut Handle) -> u32
 
 /// The same of a segment.
 fn shrink(segment: &mut Segment) -> u32
-    ensures code { (d : Directory) → StandsFor segment.old.cut.bytes d → result ≡ size_code (shrink_refusal segment.old.mode) }
-    ensures shrunk { result ≡ 0 → Resizes segment.old segment.new (λ d. shrunk d) }
-    ensures kept { 1 ≤ result → segment.new ≡ segment.old }
+    ensures code { (d : Directory) → DenotesCurrent segment.old.cut.bytes d
+        → result ≡ size_code (shrink_refusal segment.old.mode) }
+    ensures shrinking { result ≡ 0 → Resizes segment.old segment.new (λ d. shrunk d) }
+    ensures unchanged_on_error { 1 ≤ result → segment.new ≡ segment.old }
 {
     match grow_shrink::shrink_to_fit(segment) {
         Ok(()) => DONE,
@@ -70,17 +73,22 @@ fn code_of_growth(why: GrowError) -> u32
     }
 }
 
-/// Moves the segment to the front of a region of `capacity` bytes. Keys and handles stay good. One in memory that C lent
+/// Moves the segment to the front of a region of `capacity` bytes. Keys and handles stay good. One in memory that C
+/// lent
 /// stays there, with the code 27.
 #[unsafe(no_mangle)]
-pub extern "C" fn zx_relocate(alloc: Global, h: &mut Handle, capacity: u64) -> u32
-    ensures stopped { IsStopped (capacity_wrong capacity) result h.old.segment.value h.new.segment.value }
-    ensures closed { IsClosed (capacity_wrong capacity) result h.old.segment.value h.new.segment.value }
-    ensures moved { (s : State) → h.old.segment.value ≡ Held s → result ≡ 0 → Opened h.new.segment.value (λ t. IsMoved s t capacity) }
-    ensures why { (s : State) → capacity_wrong capacity ≡ 0 → h.old.segment.value ≡ Held s → h.old.marks.is_lent ≡ false → 1 ≤ result → ((result ≡ 27) × (capacity < length s.cut.bytes)) ⊎ ((result ≡ 26) × (length s.cut.bytes ≤ capacity)) }
-    ensures lent { (s : State) → capacity_wrong capacity ≡ 0 → h.old.segment.value ≡ Held s → h.old.marks.is_lent ≡ true → result ≡ 27 }
-    ensures kept { 1 ≤ result → h.new.segment.value ≡ h.old.segment.value }
-    ensures marks { IsMarked result h.old.marks h.new.marks }
+pub extern "C" fn zx_relocate(alloc: Global, h: &mut SegmentSlot, capacity: u64) -> u32
+    ensures stop { RefusesArgument (capacity_wrong capacity) result h.old.segment.value h.new.segment.value }
+    ensures closed { RefusesClosed (capacity_wrong capacity) result h.old.segment.value h.new.segment.value }
+    ensures changes { (s : SegmentState) → h.old.segment.value ≡ Held s → result ≡ 0
+        → HoldsSegment h.new.segment.value (λ t. IsMoved s t capacity) }
+    ensures cause { (s : SegmentState) → capacity_wrong capacity ≡ 0 → h.old.segment.value ≡ Held s
+        → h.old.marks.is_lent ≡ false → 1 ≤ result → ((result ≡ 27) × (capacity < length s.cut.bytes))
+        ⊎ ((result ≡ 26) × (length s.cut.bytes ≤ capacity)) }
+    ensures loan { (s : SegmentState) → capacity_wrong capacity ≡ 0 → h.old.segment.value ≡ Held s
+        → h.old.marks.is_lent ≡ true → result ≡ 27 }
+    ensures unchanged_on_error { 1 ≤ result → h.new.segment.value ≡ h.old.segment.value }
+    ensures marks { RaisesMoves result h.old.marks h.new.marks }
 {
     if !is_capacity(capacity) {
         return BAD_SIZE;
@@ -97,9 +105,10 @@ pub extern "C" fn zx_relocate(alloc: Global, h: &mut Handle, capacity: u64) -> u
 /// The same of a segment.
 fn relocate(alloc: Global, segment: &mut Segment, capacity: u64) -> u32
     requires { IsCapacity capacity }
-    ensures moved { result ≡ 0 → IsMoved segment.old segment.new capacity }
-    ensures why { 1 ≤ result → ((result ≡ 27) × (capacity < length segment.old.cut.bytes)) ⊎ ((result ≡ 26) × (length segment.old.cut.bytes ≤ capacity)) }
-    ensures kept { 1 ≤ result → segment.new ≡ segment.old }
+    ensures changes { result ≡ 0 → IsMoved segment.old segment.new capacity }
+    ensures cause { 1 ≤ result → ((result ≡ 27) × (capacity < length segment.old.cut.bytes))
+        ⊎ ((result ≡ 26) × (length segment.old.cut.bytes ≤ capacity)) }
+    ensures unchanged_on_error { 1 ≤ result → segment.new ≡ segment.old }
 {
     if capacity < segment.as_bytes().len() as u64 {
         return SHORT_REGION;
@@ -113,17 +122,23 @@ fn relocate(alloc: Global, segment: &mut Segment, capacity: u64) -> u32
     DONE
 }
 
-/// Makes the segment longer by `extra` bytes, which are free, in a larger region where its own has no room. One in memory
+/// Makes the segment longer by `extra` bytes, which are free, in a larger region where its own has no room. One in
+/// memory
 /// that C lent stays there, with the code 27 where that has no room.
 #[unsafe(no_mangle)]
-pub extern "C" fn zx_grow(alloc: Global, h: &mut Handle, extra: u64) -> u32
-    ensures closed { IsClosed 0 result h.old.segment.value h.new.segment.value }
-    ensures code { (s : State) → h.old.segment.value ≡ Held s → h.old.marks.is_lent ≡ false → (d : Directory) → StandsFor s.cut.bytes d → IsGrowthCode s.mode extra result d }
-    ensures grown { (s : State) → h.old.segment.value ≡ Held s → h.old.marks.is_lent ≡ false → result ≡ 0 → Opened h.new.segment.value (λ t. IsLonger s t extra) }
-    ensures lent_code { (s : State) → h.old.segment.value ≡ Held s → h.old.marks.is_lent ≡ true → (d : Directory) → StandsFor s.cut.bytes d → result ≡ size_code (growth_refusal s.mode d.size extra (room_of s.cut)) }
-    ensures lent_grown { (s : State) → h.old.segment.value ≡ Held s → h.old.marks.is_lent ≡ true → result ≡ 0 → Opened h.new.segment.value (λ t. Resizes s t (λ d. grown d extra)) }
-    ensures kept { 1 ≤ result → h.new.segment.value ≡ h.old.segment.value }
-    ensures marks { IsMarked result h.old.marks h.new.marks }
+pub extern "C" fn zx_grow(alloc: Global, h: &mut SegmentSlot, extra: u64) -> u32
+    ensures closed { RefusesClosed 0 result h.old.segment.value h.new.segment.value }
+    ensures code { (s : SegmentState) → h.old.segment.value ≡ Held s → h.old.marks.is_lent ≡ false → (d : Directory)
+        → DenotesCurrent s.cut.bytes d → IsGrowthCode s.mode extra result d }
+    ensures growth { (s : SegmentState) → h.old.segment.value ≡ Held s → h.old.marks.is_lent ≡ false → result ≡ 0
+        → HoldsSegment h.new.segment.value (λ t. GrowsSegment s t extra) }
+    ensures loan_code { (s : SegmentState) → h.old.segment.value ≡ Held s → h.old.marks.is_lent ≡ true
+        → (d : Directory) → DenotesCurrent s.cut.bytes d
+        → result ≡ size_code (growth_refusal s.mode d.size extra (room_of s.cut)) }
+    ensures loan_growth { (s : SegmentState) → h.old.segment.value ≡ Held s → h.old.marks.is_lent ≡ true
+        → result ≡ 0 → HoldsSegment h.new.segment.value (λ t. Resizes s t (λ d. grown d extra)) }
+    ensures unchanged_on_error { 1 ≤ result → h.new.segment.value ≡ h.old.segment.value }
+    ensures marks { RaisesMoves result h.old.marks h.new.marks }
 {
     let mut segment = passed!(take(alloc, h));
     let code = if h.marks.is_lent {
@@ -136,9 +151,10 @@ pub extern "C" fn zx_grow(alloc: Global, h: &mut Handle, extra: u64) -> u32
 
 /// The same of a segment.
 fn grow(alloc: Global, segment: &mut Segment, extra: u64) -> u32
-    ensures code { (d : Directory) → StandsFor segment.old.cut.bytes d → IsGrowthCode segment.old.mode extra result d }
-    ensures grown { result ≡ 0 → IsLonger segment.old segment.new extra }
-    ensures kept { 1 ≤ result → segment.new ≡ segment.old }
+    ensures code { (d : Directory) → DenotesCurrent segment.old.cut.bytes d
+        → IsGrowthCode segment.old.mode extra result d }
+    ensures growth { result ≡ 0 → GrowsSegment segment.old segment.new extra }
+    ensures unchanged_on_error { 1 ≤ result → segment.new ≡ segment.old }
 {
     match grow_or_move(alloc, segment, extra) {
         Ok(()) => DONE,
@@ -158,9 +174,10 @@ fn code_of_growing(why: GrowOrMoveError) -> u32
 
 /// The same of a segment whose region C lent: it stays there.
 fn grow_here(segment: &mut Segment, extra: u64) -> u32
-    ensures code { (d : Directory) → StandsFor segment.old.cut.bytes d → result ≡ size_code (growth_refusal segment.old.mode d.size extra (room_of segment.old.cut)) }
-    ensures grown { result ≡ 0 → Resizes segment.old segment.new (λ d. grown d extra) }
-    ensures kept { 1 ≤ result → segment.new ≡ segment.old }
+    ensures code { (d : Directory) → DenotesCurrent segment.old.cut.bytes d
+        → result ≡ size_code (growth_refusal segment.old.mode d.size extra (room_of segment.old.cut)) }
+    ensures growth { result ≡ 0 → Resizes segment.old segment.new (λ d. grown d extra) }
+    ensures unchanged_on_error { 1 ≤ result → segment.new ≡ segment.old }
 {
     match grow_shrink::grow(segment, extra) {
         Ok(()) => DONE,

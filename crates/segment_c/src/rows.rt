@@ -9,7 +9,7 @@ use seg_types::ScalarKind;
 /// Scalars for an array, a vector or a range of one: those of the slice of the kind, 1 to 5. The other slices are
 /// empty. Kind 0 stands for a null slice.
 #[repr(C)]
-pub struct Values<'a> {
+pub struct CScalars<'a> {
     pub kind: u32,
     pub truths: &'a [bool],
     pub bytes: &'a [u8],
@@ -48,14 +48,15 @@ macro_rules! on_slice {
 
 pub(crate) use on_slice;
 
-impl Values<'_> {
+impl CScalars<'_> {
     /// Which slice is meant.
     ///
     /// # Errors
     ///
     /// The code by which the row is refused.
     pub fn scalar_kind(&self) -> Result<ScalarKind, u32>
-        ensures { MatchResult result (λ kind. (row_wrong self.now ≡ 0) × (kind ≡ scalar_kind_in self.now.kind)) (λ code. (code ≡ row_wrong self.now) × (1 ≤ code)) }
+        ensures { MatchResult result (λ kind. (row_wrong self.now ≡ 0)
+            × (kind ≡ scalar_kind_in self.now.kind)) (λ code. (code ≡ row_wrong self.now) × (1 ≤ code)) }
     {
         if self.kind == 0 {
             return Err(NULL_SLICE);

@@ -2,107 +2,118 @@
 ghost use Rattle.std.specs.Prelude.{◌≡◌, ◌≤◌, ◌∷◌, [], map};
 ghost use Rattle.seg_types.specs.declared.kinds.Kind.TheVariants.{String as StringKind, Strings as StringsKind};
 ghost use Rattle.seg_types.specs.Commands.{Append, Assign, Insert, Push, Quoted, Set};
-ghost use Rattle.segment_c.specs.Calls.{KeepsRefused, Owes};
+ghost use Rattle.segment_c.specs.Calls.{UnchangedOnCode, PerformsCall};
 ghost use Rattle.segment_c.specs.Codes.{answer_for};
 ghost use Rattle.segment_c.specs.Passed.{key_of, key_wrong};
-ghost use Rattle.segment_c.specs.Marked.{IsMarked};
+ghost use Rattle.segment_c.specs.Marked.{RaisesMoves};
 ghost use Rattle.segment_manager.specs.Answers.{Done};
-ghost use Rattle.segment_manager.specs.State.{IsStepOfKind};
+ghost use Rattle.segment_manager.specs.State.{TakesStepOfKind};
 
-use crate::changes::{Change, make_change};
-use crate::handle::Handle;
+use crate::changes::{ObjectChange, make_change};
 use crate::keys::ObjectKey;
+use crate::segment_slot::SegmentSlot;
 use std::alloc::Global;
 
 /// Makes bytes those of the string of a key.
 #[unsafe(no_mangle)]
 pub extern "C" fn zx_assign_string(
     alloc: Global,
-    h: &mut Handle,
+    h: &mut SegmentSlot,
     key: &ObjectKey<'_>,
     text: &[u8],
 ) -> u32
-    ensures asked { Owes (key_wrong key.now) result h.old.segment.value h.new.segment.value
-        (λ s t. IsStepOfKind s t (key_of key.now) StringKind (Assign (key_of key.now) (Quoted text.now ∷ [])) (answer_for result Done)) }
-    ensures kept { 1 ≤ result → h.new.segment.value ≡ h.old.segment.value }
-    ensures marks { IsMarked result h.old.marks h.new.marks }
+    ensures call { PerformsCall (key_wrong key.now) result h.old.segment.value h.new.segment.value
+        (λ s t. TakesStepOfKind s t (key_of key.now) StringKind (Assign (key_of key.now) (Quoted text.now ∷ []))
+        (answer_for result Done)) }
+    ensures unchanged_on_error { 1 ≤ result → h.new.segment.value ≡ h.old.segment.value }
+    ensures marks { RaisesMoves result h.old.marks h.new.marks }
 {
-    make_change(alloc, h, key, Change::AssignText(text))
+    make_change(alloc, h, key, ObjectChange::AssignText(text))
 }
 
 /// Puts bytes behind those of the string of a key.
 #[unsafe(no_mangle)]
-pub extern "C" fn zx_append(alloc: Global, h: &mut Handle, key: &ObjectKey<'_>, text: &[u8]) -> u32
-    ensures asked { Owes (key_wrong key.now) result h.old.segment.value h.new.segment.value
-        (λ s t. IsStepOfKind s t (key_of key.now) StringKind (Append (key_of key.now) text.now) (answer_for result Done)) }
-    ensures kept { 1 ≤ result → h.new.segment.value ≡ h.old.segment.value }
-    ensures marks { IsMarked result h.old.marks h.new.marks }
+pub extern "C" fn zx_append(
+    alloc: Global,
+    h: &mut SegmentSlot,
+    key: &ObjectKey<'_>,
+    text: &[u8],
+) -> u32
+    ensures call { PerformsCall (key_wrong key.now) result h.old.segment.value h.new.segment.value
+        (λ s t. TakesStepOfKind s t (key_of key.now) StringKind (Append (key_of key.now) text.now)
+        (answer_for result Done)) }
+    ensures unchanged_on_error { 1 ≤ result → h.new.segment.value ≡ h.old.segment.value }
+    ensures marks { RaisesMoves result h.old.marks h.new.marks }
 {
-    make_change(alloc, h, key, Change::Append(text))
+    make_change(alloc, h, key, ObjectChange::Append(text))
 }
 
 /// Makes a text the one at `index` in the vector of strings of a key.
 #[unsafe(no_mangle)]
 pub extern "C" fn zx_set_text(
     alloc: Global,
-    h: &mut Handle,
+    h: &mut SegmentSlot,
     key: &ObjectKey<'_>,
     index: u64,
     text: &[u8],
 ) -> u32
-    ensures asked { Owes (key_wrong key.now) result h.old.segment.value h.new.segment.value
-        (λ s t. IsStepOfKind s t (key_of key.now) StringsKind (Set (key_of key.now) index (Quoted text.now)) (answer_for result Done)) }
-    ensures kept { 1 ≤ result → h.new.segment.value ≡ h.old.segment.value }
-    ensures marks { IsMarked result h.old.marks h.new.marks }
+    ensures call { PerformsCall (key_wrong key.now) result h.old.segment.value h.new.segment.value
+        (λ s t. TakesStepOfKind s t (key_of key.now) StringsKind (Set (key_of key.now) index (Quoted text.now))
+        (answer_for result Done)) }
+    ensures unchanged_on_error { 1 ≤ result → h.new.segment.value ≡ h.old.segment.value }
+    ensures marks { RaisesMoves result h.old.marks h.new.marks }
 {
-    make_change(alloc, h, key, Change::SetText(index, text))
+    make_change(alloc, h, key, ObjectChange::SetText(index, text))
 }
 
 /// Puts a text behind the last one of the vector of strings of a key.
 #[unsafe(no_mangle)]
 pub extern "C" fn zx_push_text(
     alloc: Global,
-    h: &mut Handle,
+    h: &mut SegmentSlot,
     key: &ObjectKey<'_>,
     text: &[u8],
 ) -> u32
-    ensures asked { Owes (key_wrong key.now) result h.old.segment.value h.new.segment.value
-        (λ s t. IsStepOfKind s t (key_of key.now) StringsKind (Push (key_of key.now) (Quoted text.now)) (answer_for result Done)) }
-    ensures refused { KeepsRefused result h.old.segment.value h.new.segment.value }
-    ensures marks { IsMarked result h.old.marks h.new.marks }
+    ensures call { PerformsCall (key_wrong key.now) result h.old.segment.value h.new.segment.value
+        (λ s t. TakesStepOfKind s t (key_of key.now) StringsKind (Push (key_of key.now) (Quoted text.now))
+        (answer_for result Done)) }
+    ensures refused { UnchangedOnCode result h.old.segment.value h.new.segment.value }
+    ensures marks { RaisesMoves result h.old.marks h.new.marks }
 {
-    make_change(alloc, h, key, Change::PushText(text))
+    make_change(alloc, h, key, ObjectChange::PushText(text))
 }
 
 /// Puts a text where `index` others stand before it in the vector of strings of a key.
 #[unsafe(no_mangle)]
 pub extern "C" fn zx_insert_text(
     alloc: Global,
-    h: &mut Handle,
+    h: &mut SegmentSlot,
     key: &ObjectKey<'_>,
     index: u64,
     text: &[u8],
 ) -> u32
-    ensures asked { Owes (key_wrong key.now) result h.old.segment.value h.new.segment.value
-        (λ s t. IsStepOfKind s t (key_of key.now) StringsKind (Insert (key_of key.now) index (Quoted text.now)) (answer_for result Done)) }
-    ensures refused { KeepsRefused result h.old.segment.value h.new.segment.value }
-    ensures marks { IsMarked result h.old.marks h.new.marks }
+    ensures call { PerformsCall (key_wrong key.now) result h.old.segment.value h.new.segment.value
+        (λ s t. TakesStepOfKind s t (key_of key.now) StringsKind (Insert (key_of key.now) index (Quoted text.now))
+        (answer_for result Done)) }
+    ensures refused { UnchangedOnCode result h.old.segment.value h.new.segment.value }
+    ensures marks { RaisesMoves result h.old.marks h.new.marks }
 {
-    make_change(alloc, h, key, Change::InsertText(index, text))
+    make_change(alloc, h, key, ObjectChange::InsertText(index, text))
 }
 
 /// Makes texts those of the vector of strings of a key.
 #[unsafe(no_mangle)]
 pub extern "C" fn zx_assign_texts(
     alloc: Global,
-    h: &mut Handle,
+    h: &mut SegmentSlot,
     key: &ObjectKey<'_>,
     texts: &[&[u8]],
 ) -> u32
-    ensures asked { Owes (key_wrong key.now) result h.old.segment.value h.new.segment.value
-        (λ s t. IsStepOfKind s t (key_of key.now) StringsKind (Assign (key_of key.now) (map Quoted (map (λ text. text.now) texts.now))) (answer_for result Done)) }
-    ensures refused { KeepsRefused result h.old.segment.value h.new.segment.value }
-    ensures marks { IsMarked result h.old.marks h.new.marks }
+    ensures call { PerformsCall (key_wrong key.now) result h.old.segment.value h.new.segment.value
+        (λ s t. TakesStepOfKind s t (key_of key.now) StringsKind
+        (Assign (key_of key.now) (map Quoted (map (λ text. text.now) texts.now))) (answer_for result Done)) }
+    ensures refused { UnchangedOnCode result h.old.segment.value h.new.segment.value }
+    ensures marks { RaisesMoves result h.old.marks h.new.marks }
 {
-    make_change(alloc, h, key, Change::AssignTexts(texts))
+    make_change(alloc, h, key, ObjectChange::AssignTexts(texts))
 }

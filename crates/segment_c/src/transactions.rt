@@ -2,34 +2,35 @@
 ghost use Rattle.std.specs.Prelude.{◌≡◌, ◌≤◌, MatchResult, false, length, nat_le};
 ghost use Rattle.std.specs.declared.option.Option.TheVariants.{None as NoSegment, Some as Held};
 ghost use Rattle.grow_shrink.specs.Resized.{room_of};
-ghost use Rattle.raw_region.specs.Memory.{SamePlace, cut_at, whole};
-ghost use Rattle.segment_c.specs.Calls.{IsClosed, Opened};
-ghost use Rattle.segment_c.specs.Marked.{IsMarked, IsPlaced};
+ghost use Rattle.raw_region.specs.Memory.{SameSurroundings, cut_at, whole};
+ghost use Rattle.segment_c.specs.Calls.{RefusesClosed, HoldsSegment};
+ghost use Rattle.segment_c.specs.Marked.{RaisesMoves, PlacesSegment};
 ghost use Rattle.segment_c.specs.Transactions.{IsBeginCode, IsCopy, IsPutBack, rollback_code};
-ghost use Rattle.segment_manager.specs.State.{IsSegment, State};
+ghost use Rattle.segment_manager.specs.State.{IsSegment, SegmentState};
 ghost use Rattle.segment_manager.specs.Step.{is_read_only};
 
 use crate::calls::passed;
 use crate::codes::{DONE, READ_ONLY, SHORT_REGION, boxed_or_not, no_memory};
-use crate::handle::{Handle, put, put_changed, put_new, take};
+use crate::segment_slot::{SegmentSlot, put, put_changed, put_new, take};
 use grow_shrink::{copy_into, region_for, size_of};
 use image_check::MemoryFault;
 use raw_region::Window;
-use segment_manager::conditioned::adopt;
+use segment_manager::unchecked::adopt;
 use segment_manager::{Mode, Segment};
 use std::alloc::Global;
 
 /// Copies the segment to another handle, from which `zx_rollback` puts it back. What that had is freed. It is as it was
 /// unless the code is 0.
 #[unsafe(no_mangle)]
-pub extern "C" fn zx_begin(alloc: Global, h: &mut Handle, before: &mut Handle) -> u32
-    ensures closed { IsClosed 0 result h.old.segment.value h.new.segment.value }
-    ensures code { (s : State) → h.old.segment.value ≡ Held s → IsBeginCode s.mode result }
-    ensures copied { (s : State) → h.old.segment.value ≡ Held s → result ≡ 0 → Opened before.new.segment.value (λ t. IsCopy s t) }
-    ensures same { h.new.segment.value ≡ h.old.segment.value }
-    ensures kept { 1 ≤ result → before.new.segment.value ≡ before.old.segment.value }
+pub extern "C" fn zx_begin(alloc: Global, h: &mut SegmentSlot, before: &mut SegmentSlot) -> u32
+    ensures closed { RefusesClosed 0 result h.old.segment.value h.new.segment.value }
+    ensures code { (s : SegmentState) → h.old.segment.value ≡ Held s → IsBeginCode s.mode result }
+    ensures copy { (s : SegmentState) → h.old.segment.value ≡ Held s → result ≡ 0
+        → HoldsSegment before.new.segment.value (λ t. IsCopy s t) }
+    ensures unchanged { h.new.segment.value ≡ h.old.segment.value }
+    ensures unchanged_on_error { 1 ≤ result → before.new.segment.value ≡ before.old.segment.value }
     ensures marks { h.new.marks ≡ h.old.marks }
-    ensures placed { IsPlaced result before.old.marks before.new.marks false }
+    ensures placement { PlacesSegment result before.old.marks before.new.marks false }
 {
     let segment = passed!(take(alloc, h));
     let code = match copy_of(alloc, &segment) {
@@ -45,7 +46,8 @@ pub extern "C" fn zx_begin(alloc: Global, h: &mut Handle, before: &mut Handle) -
 ///
 /// The code.
 fn copy_of(alloc: Global, segment: &Segment) -> Result<Box<Segment>, u32>
-    ensures { MatchResult result (λ copy. IsCopy segment.now copy.value × IsBeginCode segment.now.mode 0) (λ code. (1 ≤ code) × IsBeginCode segment.now.mode code) }
+    ensures { MatchResult result (λ copy. IsCopy segment.now copy.value × IsBeginCode segment.now.mode 0) (λ code.
+        (1 ≤ code) × IsBeginCode segment.now.mode code) }
 {
     if is_read_only(segment) {
         return Err(READ_ONLY);
@@ -59,15 +61,18 @@ fn copy_of(alloc: Global, segment: &Segment) -> Result<Box<Segment>, u32>
 /// Makes the segment again what `zx_begin` copied, where it lies now, and closes the copy. Both are as they were unless
 /// the code is 0.
 #[unsafe(no_mangle)]
-pub extern "C" fn zx_rollback(alloc: Global, h: &mut Handle, before: &mut Handle) -> u32
-    ensures closed { IsClosed 0 result h.old.segment.value h.new.segment.value }
-    ensures none { before.old.segment.value ≡ NoSegment → result ≡ 16 }
-    ensures code { (s t : State) → h.old.segment.value ≡ Held s → before.old.segment.value ≡ Held t → result ≡ rollback_code s t }
-    ensures back { (s t : State) → h.old.segment.value ≡ Held s → before.old.segment.value ≡ Held t → result ≡ 0
-        → Opened h.new.segment.value (λ u. IsPutBack s t u) × (before.new.segment.value ≡ NoSegment) }
-    ensures kept { 1 ≤ result → (h.new.segment.value ≡ h.old.segment.value) × (before.new.segment.value ≡ before.old.segment.value) }
-    ensures marks { IsMarked result h.old.marks h.new.marks }
-    ensures placed { IsPlaced result before.old.marks before.new.marks false }
+pub extern "C" fn zx_rollback(alloc: Global, h: &mut SegmentSlot, before: &mut SegmentSlot) -> u32
+    ensures closed { RefusesClosed 0 result h.old.segment.value h.new.segment.value }
+    ensures absent { before.old.segment.value ≡ NoSegment → result ≡ 16 }
+    ensures code { (s t : SegmentState) → h.old.segment.value ≡ Held s → before.old.segment.value ≡ Held t
+        → result ≡ rollback_code s t }
+    ensures return_path { (s t : SegmentState) → h.old.segment.value ≡ Held s → before.old.segment.value ≡ Held t
+        → result ≡ 0
+        → HoldsSegment h.new.segment.value (λ u. IsPutBack s t u) × (before.new.segment.value ≡ NoSegment) }
+    ensures unchanged_on_error { 1 ≤ result → (h.new.segment.value ≡ h.old.segment.value)
+        × (before.new.segment.value ≡ before.old.segment.value) }
+    ensures marks { RaisesMoves result h.old.marks h.new.marks }
+    ensures placement { PlacesSegment result before.old.marks before.new.marks false }
 {
     let segment = passed!(take(alloc, h));
     let mut copy = match take(alloc, before) {
@@ -116,10 +121,10 @@ fn has_room(segment: &Segment, len: u64) -> bool
 
 /// The segment whose image the bytes are, at the front of the region of another, and open as that is.
 fn put_back(segment: Segment, image: &[u8]) -> Segment
-    requires denotes { IsSegment image.now }
+    requires denotation { IsSegment image.now }
     requires room { length image.now ≤ room_of segment.cut }
     ensures bytes { result.cut.bytes ≡ image.now }
-    ensures place { SamePlace (cut_at (whole segment.cut) 0 (length image.now)) result.cut }
+    ensures place { SameSurroundings (cut_at (whole segment.cut) 0 (length image.now)) result.cut }
     ensures mode { result.mode ≡ segment.mode }
 {
     let mode = segment.mode();

@@ -10,7 +10,7 @@ use seg_types::{ScalarKind, ScalarValue};
 /// others in `natural`, where 0 is false.
 #[repr(C)]
 #[derive(Clone, Copy)]
-pub struct Value {
+pub struct CScalar {
     pub kind: u32,
     pub number: i64,
     pub natural: u64,
@@ -31,14 +31,16 @@ pub fn scalar_kind(code: u32) -> Option<ScalarKind>
     }
 }
 
-impl Value {
+impl CScalar {
     /// The scalar that is passed.
     ///
     /// # Errors
     ///
     /// The code by which it is refused.
     pub fn scalar(&self) -> Result<ScalarValue, u32>
-        ensures { MatchResult result (λ value. scalar_in self.now ≡ Some (kind_of_scalar value, value_of_scalar value)) (λ code. (code ≡ 20) × (scalar_in self.now ≡ None)) }
+        ensures { MatchResult result (λ value.
+            scalar_in self.now ≡ Some (kind_of_scalar value, value_of_scalar value)) (λ code. (code ≡ 20)
+            × (scalar_in self.now ≡ None)) }
     {
         self.read().ok_or(BAD_VALUE)
     }
@@ -48,7 +50,7 @@ impl Value {
     fn read(&self) -> Option<ScalarValue>
         ensures { option_map (λ value. (kind_of_scalar value, value_of_scalar value)) result ≡ scalar_in self.now }
     {
-        let Value {
+        let CScalar {
             kind,
             number,
             natural,
@@ -69,24 +71,24 @@ impl Value {
 
     /// The scalar as it is given.
     #[tactic(auto, unfolding(crate::specs::Passed::scalar_in, crate::specs::Passed::scalar_kind_of))]
-    pub fn of(value: ScalarValue) -> Value
+    pub fn of(value: ScalarValue) -> CScalar
         ensures { scalar_in result ≡ Some (kind_of_scalar value, value_of_scalar value) }
     {
         match value {
-            ScalarValue::Bool(truth) => Value::natural(1, u64::from(truth)),
-            ScalarValue::U8(number) => Value::natural(2, u64::from(number)),
-            ScalarValue::I32(number) => Value::number(3, i64::from(number)),
-            ScalarValue::I64(number) => Value::number(4, number),
-            ScalarValue::U64(number) => Value::natural(5, number),
+            ScalarValue::Bool(truth) => CScalar::natural(1, u64::from(truth)),
+            ScalarValue::U8(number) => CScalar::natural(2, u64::from(number)),
+            ScalarValue::I32(number) => CScalar::number(3, i64::from(number)),
+            ScalarValue::I64(number) => CScalar::number(4, number),
+            ScalarValue::U64(number) => CScalar::natural(5, number),
         }
     }
 
     /// One of a kind without a sign.
-    fn natural(kind: u32, natural: u64) -> Value
+    fn natural(kind: u32, natural: u64) -> CScalar
         ensures kind { result.kind ≡ kind }
         ensures natural { result.natural ≡ natural }
     {
-        Value {
+        CScalar {
             kind,
             number: 0,
             natural,
@@ -94,11 +96,11 @@ impl Value {
     }
 
     /// One of a signed kind.
-    fn number(kind: u32, number: i64) -> Value
+    fn number(kind: u32, number: i64) -> CScalar
         ensures kind { result.kind ≡ kind }
         ensures number { result.number ≡ number }
     {
-        Value {
+        CScalar {
             kind,
             number,
             natural: 0,

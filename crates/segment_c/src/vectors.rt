@@ -3,25 +3,25 @@ ghost use Rattle.std.specs.Prelude.{◌≡◌, ◌≤◌, ℕ, MatchResult, OnEr
 ghost use Rattle.seg_types.specs.Commands.{Assign, Construct, ConstructIt, Elements, FindOrConstruct, literal_of};
 ghost use Rattle.seg_types.specs.Keys.{index_key_seen, key_seen, new_key_seen};
 ghost use Rattle.seg_types.specs.declared.kinds.Kind.TheVariants.{Scalar as ScalarOf, Vector as VectorOf};
-ghost use Rattle.segment_c.specs.Calls.{IsAsked, KeepsRefused, Owes};
+ghost use Rattle.segment_c.specs.Calls.{ReachesSegment, UnchangedOnCode, PerformsCall};
 ghost use Rattle.segment_c.specs.Codes.{answer_for};
 ghost use Rattle.segment_c.specs.Passed.{count_wrong, entry_of, entry_wrong, key_of, key_wrong, many_of, new_of};
 ghost use Rattle.segment_c.specs.Passed.{new_wrong, numbers_of, or_else, row_count, row_of, row_wrong, scalar_kind_in};
-ghost use Rattle.segment_c.specs.Marked.{IsMarked};
+ghost use Rattle.segment_c.specs.Marked.{RaisesMoves};
 ghost use Rattle.segment_manager.specs.Answers.{Done, Found, Made};
 ghost use Rattle.segment_manager.specs.containers.Ranges.{ExtendsVector};
 ghost use Rattle.segment_manager.specs.objects.Found.{pair_answer};
-ghost use Rattle.segment_manager.specs.Keeping.{HasKey, KeepsWhere};
+ghost use Rattle.segment_manager.specs.Keeping.{IsBoundKey, UnchangedWhere};
 ghost use Rattle.segment_manager.specs.objects.NewObjects.{IsOfKind};
-ghost use Rattle.segment_manager.specs.State.{IsStep, IsStepOfKind, KeepsRefused as KeepsOld, done_answer};
+ghost use Rattle.segment_manager.specs.State.{TakesStep, TakesStepOfKind, UnchangedIfRefused as KeepsOld, done_answer};
 ghost use Rattle.segment_manager.specs.State.{handle_answer};
 
 use crate::calls::{enter_entry, enter_new, enter_row, passed};
 use crate::codes::{BAD_COUNT, done, found, made};
-use crate::handle::Handle;
 use crate::keys::ObjectKey;
 use crate::objects::MOST;
-use crate::rows::{Values, on_slice};
+use crate::rows::{CScalars, on_slice};
+use crate::segment_slot::SegmentSlot;
 use seg_types::{IndexKey, Key, Kind, NewKey, Refusal, ScalarKind};
 use segment_manager::Segment;
 use std::alloc::Global;
@@ -31,10 +31,11 @@ fn construct_row(
     segment: &mut Segment,
     key: &NewKey,
     kind: ScalarKind,
-    row: &Values<'_>,
+    row: &CScalars<'_>,
 ) -> Result<u64, Refusal>
     requires { IsOfKind (new_key_seen key.now) (VectorOf kind) }
-    ensures step { IsStep segment.old segment.new (Construct (new_key_seen key.now) (Elements kind (numbers_of row.now kind))) (handle_answer result) }
+    ensures step { TakesStep segment.old segment.new
+        (Construct (new_key_seen key.now) (Elements kind (numbers_of row.now kind))) (handle_answer result) }
     ensures refused { KeepsOld segment.old segment.new result }
 {
     on_slice!(row, kind, slice => segment.construct_vec(key, slice))
@@ -45,12 +46,13 @@ fn find_or_construct_row(
     segment: &mut Segment,
     key: &IndexKey,
     kind: ScalarKind,
-    row: &Values<'_>,
+    row: &CScalars<'_>,
 ) -> Result<(u64, u32), Refusal>
     requires { IsOfKind (index_key_seen key.now) (VectorOf kind) }
-    ensures step { IsStep segment.old segment.new (FindOrConstruct (index_key_seen key.now) (Elements kind (numbers_of row.now kind))) (pair_answer result) }
+    ensures step { TakesStep segment.old segment.new
+        (FindOrConstruct (index_key_seen key.now) (Elements kind (numbers_of row.now kind))) (pair_answer result) }
     ensures refused { KeepsOld segment.old segment.new result }
-    ensures found { KeepsWhere segment.old segment.new (HasKey (index_key_seen key.now)) }
+    ensures search { UnchangedWhere segment.old segment.new (IsBoundKey (index_key_seen key.now)) }
 {
     on_slice!(row, kind, slice => segment.find_or_construct_vec(key, slice))
 }
@@ -60,9 +62,10 @@ fn assign_row(
     segment: &mut Segment,
     key: &Key,
     kind: ScalarKind,
-    row: &Values<'_>,
+    row: &CScalars<'_>,
 ) -> Result<(), Refusal>
-    ensures step { IsStepOfKind segment.old segment.new (key_seen key.now) (VectorOf kind) (Assign (key_seen key.now) (map (literal_of kind) (numbers_of row.now kind))) (done_answer result) }
+    ensures step { TakesStepOfKind segment.old segment.new (key_seen key.now) (VectorOf kind)
+        (Assign (key_seen key.now) (map (literal_of kind) (numbers_of row.now kind))) (done_answer result) }
     ensures refused { OnErr result (segment.new ≡ segment.old) }
 {
     on_slice!(row, kind, slice => segment.vec_assign(key, slice))
@@ -73,9 +76,10 @@ fn extend_row(
     segment: &mut Segment,
     key: &Key,
     kind: ScalarKind,
-    row: &Values<'_>,
+    row: &CScalars<'_>,
 ) -> Result<(), Refusal>
-    ensures step { ExtendsVector segment.old segment.new (key_seen key.now) kind (numbers_of row.now kind) (done_answer result) }
+    ensures step { ExtendsVector segment.old segment.new (key_seen key.now) kind (numbers_of row.now kind)
+        (done_answer result) }
     ensures refused { OnErr result (segment.new ≡ segment.old) }
 {
     on_slice!(row, kind, slice => segment.vec_extend(key, slice))
@@ -85,16 +89,18 @@ fn extend_row(
 #[unsafe(no_mangle)]
 pub extern "C" fn zx_construct_vector(
     alloc: Global,
-    h: &mut Handle,
+    h: &mut SegmentSlot,
     key: &ObjectKey<'_>,
-    values: &Values<'_>,
+    values: &CScalars<'_>,
     handle: &mut u64,
 ) -> u32
-    ensures asked { Owes (or_else (row_wrong values.now) (new_wrong key.now (VectorOf (scalar_kind_in values.now.kind)))) result h.old.segment.value h.new.segment.value
-        (λ s t. IsStep s t (Construct (new_of key.now (VectorOf (scalar_kind_in values.now.kind))) (Elements (scalar_kind_in values.now.kind) (row_of values.now))) (answer_for result (Made handle.new))) }
-    ensures refused { KeepsRefused result h.old.segment.value h.new.segment.value }
-    ensures results { 1 ≤ result → handle.new ≡ handle.old }
-    ensures marks { IsMarked result h.old.marks h.new.marks }
+    ensures call { PerformsCall (or_else (row_wrong values.now)
+        (new_wrong key.now (VectorOf (scalar_kind_in values.now.kind)))) result h.old.segment.value h.new.segment.value
+        (λ s t. TakesStep s t (Construct (new_of key.now (VectorOf (scalar_kind_in values.now.kind)))
+        (Elements (scalar_kind_in values.now.kind) (row_of values.now))) (answer_for result (Made handle.new))) }
+    ensures refused { UnchangedOnCode result h.old.segment.value h.new.segment.value }
+    ensures outputs_on_error { 1 ≤ result → handle.new ≡ handle.old }
+    ensures marks { RaisesMoves result h.old.marks h.new.marks }
 {
     let kind = passed!(values.scalar_kind());
     let (which, mut segment) = passed!(enter_new(alloc, h, key, Kind::Vector(kind)));
@@ -106,19 +112,25 @@ pub extern "C" fn zx_construct_vector(
 #[unsafe(no_mangle)]
 pub extern "C" fn zx_find_or_construct_vector(
     alloc: Global,
-    h: &mut Handle,
+    h: &mut SegmentSlot,
     key: &ObjectKey<'_>,
-    values: &Values<'_>,
+    values: &CScalars<'_>,
     handle: &mut u64,
     count_found: &mut u32,
 ) -> u32
-    ensures asked { Owes (or_else (row_wrong values.now) (entry_wrong key.now (VectorOf (scalar_kind_in values.now.kind)))) result h.old.segment.value h.new.segment.value
-        (λ s t. IsStep s t (FindOrConstruct (entry_of key.now (VectorOf (scalar_kind_in values.now.kind))) (Elements (scalar_kind_in values.now.kind) (row_of values.now))) (answer_for result (Found handle.new count_found.new))) }
-    ensures found { IsAsked (or_else (row_wrong values.now) (entry_wrong key.now (VectorOf (scalar_kind_in values.now.kind)))) result h.old.segment.value h.new.segment.value
-        (λ s t. KeepsWhere s t (HasKey (entry_of key.now (VectorOf (scalar_kind_in values.now.kind))))) }
-    ensures refused { KeepsRefused result h.old.segment.value h.new.segment.value }
-    ensures results { 1 ≤ result → (handle.new ≡ handle.old) × (count_found.new ≡ count_found.old) }
-    ensures marks { IsMarked result h.old.marks h.new.marks }
+    ensures call { PerformsCall (or_else (row_wrong values.now)
+        (entry_wrong key.now (VectorOf (scalar_kind_in values.now.kind)))) result h.old.segment.value
+        h.new.segment.value
+        (λ s t. TakesStep s t (FindOrConstruct (entry_of key.now (VectorOf (scalar_kind_in values.now.kind)))
+        (Elements (scalar_kind_in values.now.kind) (row_of values.now)))
+        (answer_for result (Found handle.new count_found.new))) }
+    ensures search { ReachesSegment
+        (or_else (row_wrong values.now) (entry_wrong key.now (VectorOf (scalar_kind_in values.now.kind)))) result
+        h.old.segment.value h.new.segment.value
+        (λ s t. UnchangedWhere s t (IsBoundKey (entry_of key.now (VectorOf (scalar_kind_in values.now.kind))))) }
+    ensures refused { UnchangedOnCode result h.old.segment.value h.new.segment.value }
+    ensures outputs_on_error { 1 ≤ result → (handle.new ≡ handle.old) × (count_found.new ≡ count_found.old) }
+    ensures marks { RaisesMoves result h.old.marks h.new.marks }
 {
     let kind = passed!(values.scalar_kind());
     let (which, mut segment) = passed!(enter_entry(alloc, h, key, Kind::Vector(kind)));
@@ -130,14 +142,17 @@ pub extern "C" fn zx_find_or_construct_vector(
 #[unsafe(no_mangle)]
 pub extern "C" fn zx_assign(
     alloc: Global,
-    h: &mut Handle,
+    h: &mut SegmentSlot,
     key: &ObjectKey<'_>,
-    values: &Values<'_>,
+    values: &CScalars<'_>,
 ) -> u32
-    ensures asked { Owes (or_else (key_wrong key.now) (row_wrong values.now)) result h.old.segment.value h.new.segment.value
-        (λ s t. IsStepOfKind s t (key_of key.now) (VectorOf (scalar_kind_in values.now.kind)) (Assign (key_of key.now) (map (literal_of (scalar_kind_in values.now.kind)) (row_of values.now))) (answer_for result Done)) }
-    ensures kept { 1 ≤ result → h.new.segment.value ≡ h.old.segment.value }
-    ensures marks { IsMarked result h.old.marks h.new.marks }
+    ensures call { PerformsCall (or_else (key_wrong key.now) (row_wrong values.now)) result h.old.segment.value
+        h.new.segment.value
+        (λ s t. TakesStepOfKind s t (key_of key.now) (VectorOf (scalar_kind_in values.now.kind))
+        (Assign (key_of key.now) (map (literal_of (scalar_kind_in values.now.kind)) (row_of values.now)))
+        (answer_for result Done)) }
+    ensures unchanged_on_error { 1 ≤ result → h.new.segment.value ≡ h.old.segment.value }
+    ensures marks { RaisesMoves result h.old.marks h.new.marks }
 {
     let (which, kind, mut segment) = passed!(enter_row(alloc, h, key, values));
     done(assign_row(&mut segment, &which, kind, values), h, segment)
@@ -147,14 +162,16 @@ pub extern "C" fn zx_assign(
 #[unsafe(no_mangle)]
 pub extern "C" fn zx_extend(
     alloc: Global,
-    h: &mut Handle,
+    h: &mut SegmentSlot,
     key: &ObjectKey<'_>,
-    values: &Values<'_>,
+    values: &CScalars<'_>,
 ) -> u32
-    ensures asked { Owes (or_else (key_wrong key.now) (row_wrong values.now)) result h.old.segment.value h.new.segment.value
-        (λ s t. ExtendsVector s t (key_of key.now) (scalar_kind_in values.now.kind) (row_of values.now) (answer_for result Done)) }
-    ensures kept { 1 ≤ result → h.new.segment.value ≡ h.old.segment.value }
-    ensures marks { IsMarked result h.old.marks h.new.marks }
+    ensures call { PerformsCall (or_else (key_wrong key.now) (row_wrong values.now)) result h.old.segment.value
+        h.new.segment.value
+        (λ s t. ExtendsVector s t (key_of key.now) (scalar_kind_in values.now.kind) (row_of values.now)
+        (answer_for result Done)) }
+    ensures unchanged_on_error { 1 ≤ result → h.new.segment.value ≡ h.old.segment.value }
+    ensures marks { RaisesMoves result h.old.marks h.new.marks }
 {
     let (which, kind, mut segment) = passed!(enter_row(alloc, h, key, values));
     done(extend_row(&mut segment, &which, kind, values), h, segment)
@@ -165,21 +182,26 @@ fn construct_array_row(
     segment: &mut Segment,
     key: &NewKey,
     kind: ScalarKind,
-    row: &Values<'_>,
+    row: &CScalars<'_>,
 ) -> Result<u64, Refusal>
     requires kind { IsOfKind (new_key_seen key.now) (ScalarOf kind) }
-    requires some { 1 ≤ many_of row.now kind }
-    requires few { many_of row.now kind ≤ 1048576 }
-    ensures step { IsStep segment.old segment.new (ConstructIt (new_key_seen key.now) kind (many_of row.now kind) (numbers_of row.now kind)) (handle_answer result) }
+    requires non_empty { 1 ≤ many_of row.now kind }
+    requires max_count { many_of row.now kind ≤ 1048576 }
+    ensures step { TakesStep segment.old segment.new
+        (ConstructIt (new_key_seen key.now) kind (many_of row.now kind) (numbers_of row.now kind))
+        (handle_answer result) }
     ensures refused { KeepsOld segment.old segment.new result }
 {
     on_slice!(row, kind, slice => segment_values::construct_array(segment, key, slice))
 }
 
 /// The kind of a row of which an array is made.
-fn array_kind(values: &Values<'_>) -> Result<ScalarKind, u32>
-    ensures { MatchResult result (λ kind. (row_wrong values.now ≡ 0) × (kind ≡ scalar_kind_in values.now.kind) × (count_wrong (row_count values.now) ≡ 0) × (1 ≤ many_of values.now kind) × (many_of values.now kind ≤ 1048576))
-        (λ code. (1 ≤ code) × ((next : ℕ) → code ≡ or_else (row_wrong values.now) (or_else (count_wrong (row_count values.now)) next))) }
+fn array_kind(values: &CScalars<'_>) -> Result<ScalarKind, u32>
+    ensures { MatchResult result (λ kind. (row_wrong values.now ≡ 0) × (kind ≡ scalar_kind_in values.now.kind)
+        × (count_wrong (row_count values.now) ≡ 0) × (1 ≤ many_of values.now kind)
+        × (many_of values.now kind ≤ 1048576))
+        (λ code. (1 ≤ code) × ((next : ℕ)
+        → code ≡ or_else (row_wrong values.now) (or_else (count_wrong (row_count values.now)) next))) }
 {
     let kind = values.scalar_kind()?;
     let count = values.count(kind);
@@ -193,16 +215,20 @@ fn array_kind(values: &Values<'_>) -> Result<ScalarKind, u32>
 #[unsafe(no_mangle)]
 pub extern "C" fn zx_construct_array(
     alloc: Global,
-    h: &mut Handle,
+    h: &mut SegmentSlot,
     key: &ObjectKey<'_>,
-    values: &Values<'_>,
+    values: &CScalars<'_>,
     handle: &mut u64,
 ) -> u32
-    ensures asked { Owes (or_else (row_wrong values.now) (or_else (count_wrong (row_count values.now)) (new_wrong key.now (ScalarOf (scalar_kind_in values.now.kind))))) result h.old.segment.value h.new.segment.value
-        (λ s t. IsStep s t (ConstructIt (new_of key.now (ScalarOf (scalar_kind_in values.now.kind))) (scalar_kind_in values.now.kind) (row_count values.now) (row_of values.now)) (answer_for result (Made handle.new))) }
-    ensures refused { KeepsRefused result h.old.segment.value h.new.segment.value }
-    ensures results { 1 ≤ result → handle.new ≡ handle.old }
-    ensures marks { IsMarked result h.old.marks h.new.marks }
+    ensures call { PerformsCall (or_else (row_wrong values.now)
+        (or_else (count_wrong (row_count values.now))
+        (new_wrong key.now (ScalarOf (scalar_kind_in values.now.kind))))) result h.old.segment.value h.new.segment.value
+        (λ s t. TakesStep s t (ConstructIt (new_of key.now (ScalarOf (scalar_kind_in values.now.kind)))
+        (scalar_kind_in values.now.kind) (row_count values.now) (row_of values.now))
+        (answer_for result (Made handle.new))) }
+    ensures refused { UnchangedOnCode result h.old.segment.value h.new.segment.value }
+    ensures outputs_on_error { 1 ≤ result → handle.new ≡ handle.old }
+    ensures marks { RaisesMoves result h.old.marks h.new.marks }
 {
     let kind = passed!(array_kind(values));
     let (which, mut segment) = passed!(enter_new(alloc, h, key, Kind::Scalar(kind)));

@@ -2,19 +2,19 @@
 ghost use denote.RawPtr.{block_ptr};
 ghost use Rattle.std.specs.Prelude.{◌≡◌, ◌≤◌};
 ghost use Rattle.seg_types.specs.Keys.{key_seen};
-ghost use Rattle.segment_c.specs.Calls.{Opened, Reads};
-ghost use Rattle.segment_c.specs.Marked.{IsShared};
+ghost use Rattle.segment_c.specs.Calls.{HoldsSegment, PerformsRead};
+ghost use Rattle.segment_c.specs.Marked.{LendsRange};
 ghost use Rattle.segment_c.specs.Passed.{key_of, key_wrong};
 ghost use Rattle.segment_c.specs.Reads.{IsCoded};
 ghost use Rattle.segment_c.specs.Views.{HasView, IsView, writable};
 ghost use Rattle.segment_manager.specs.Directory.{Directory};
-ghost use Rattle.segment_manager.specs.State.{StandsFor};
+ghost use Rattle.segment_manager.specs.State.{DenotesCurrent};
 ghost use Rattle.segment_manager.specs.containers.ElementRuns.{run_at};
 
 use crate::calls::{enter, passed};
 use crate::codes::{DONE, READ_ONLY, code_of};
-use crate::handle::{Handle, put};
 use crate::keys::ObjectKey;
+use crate::segment_slot::{SegmentSlot, put};
 use seg_types::Key;
 use segment_manager::{Mode, Segment};
 use std::alloc::Global;
@@ -23,7 +23,7 @@ use std::alloc::Global;
 /// segment on, how many they are, the handle's counter of changes, and the code of their kind.
 #[repr(C)]
 #[derive(Clone, Copy)]
-pub struct View {
+pub struct CView {
     pub at: *const u8,
     pub offset: u64,
     pub count: u64,
@@ -36,15 +36,16 @@ pub struct View {
 #[unsafe(no_mangle)]
 pub extern "C" fn zx_view(
     alloc: Global,
-    h: &mut Handle,
+    h: &mut SegmentSlot,
     key: &ObjectKey<'_>,
-    view: &mut View,
+    view: &mut CView,
 ) -> u32
-    ensures told { Reads (key_wrong key.now) result h.old.segment.value h.new.segment.value
-        (λ s. (d : Directory) → StandsFor s.cut.bytes d → IsCoded (IsView view.new) result (run_at d (key_of key.now))) }
-    ensures bytes { result ≡ 0 → Opened h.old.segment.value (λ s. HasView s (key_of key.now) view.new) }
+    ensures read { PerformsRead (key_wrong key.now) result h.old.segment.value h.new.segment.value
+        (λ s. (d : Directory) → DenotesCurrent s.cut.bytes d
+        → IsCoded (IsView view.new) result (run_at d (key_of key.now))) }
+    ensures bytes { result ≡ 0 → HoldsSegment h.old.segment.value (λ s. HasView s (key_of key.now) view.new) }
     ensures current { result ≡ 0 → view.new.changes ≡ h.old.marks.changes }
-    ensures results { 1 ≤ result → view.new ≡ view.old }
+    ensures outputs_on_error { 1 ≤ result → view.new ≡ view.old }
     ensures marks { h.new.marks ≡ h.old.marks }
 {
     let (which, segment) = passed!(enter(alloc, h, key));
@@ -55,16 +56,17 @@ pub extern "C" fn zx_view(
 #[unsafe(no_mangle)]
 pub extern "C" fn zx_view_mut(
     alloc: Global,
-    h: &mut Handle,
+    h: &mut SegmentSlot,
     key: &ObjectKey<'_>,
-    view: &mut View,
+    view: &mut CView,
 ) -> u32
-    ensures told { Reads (key_wrong key.now) result h.old.segment.value h.new.segment.value
-        (λ s. (d : Directory) → StandsFor s.cut.bytes d → IsCoded (IsView view.new) result (writable s.mode (run_at d (key_of key.now)))) }
-    ensures bytes { result ≡ 0 → Opened h.old.segment.value (λ s. HasView s (key_of key.now) view.new) }
+    ensures read { PerformsRead (key_wrong key.now) result h.old.segment.value h.new.segment.value
+        (λ s. (d : Directory) → DenotesCurrent s.cut.bytes d
+        → IsCoded (IsView view.new) result (writable s.mode (run_at d (key_of key.now)))) }
+    ensures bytes { result ≡ 0 → HoldsSegment h.old.segment.value (λ s. HasView s (key_of key.now) view.new) }
     ensures current { result ≡ 0 → view.new.changes ≡ h.old.marks.changes }
-    ensures results { 1 ≤ result → view.new ≡ view.old }
-    ensures marks { IsShared result h.old.marks h.new.marks }
+    ensures outputs_on_error { 1 ≤ result → view.new ≡ view.old }
+    ensures marks { LendsRange result h.old.marks h.new.marks }
 {
     let (which, segment) = passed!(enter(alloc, h, key));
     let code = look_mut(&segment, &which, h.marks.changes, view);
@@ -75,12 +77,12 @@ pub extern "C" fn zx_view_mut(
 }
 
 /// The same of a segment.
-fn look_mut(segment: &Segment, key: &Key, changes: u64, view: &mut View) -> u32
-    ensures told { (d : Directory) → StandsFor segment.now.cut.bytes d
+fn look_mut(segment: &Segment, key: &Key, changes: u64, view: &mut CView) -> u32
+    ensures read { (d : Directory) → DenotesCurrent segment.now.cut.bytes d
         → IsCoded (IsView view.new) result (writable segment.now.mode (run_at d (key_seen key.now))) }
     ensures bytes { result ≡ 0 → HasView segment.now (key_seen key.now) view.new }
     ensures current { result ≡ 0 → view.new.changes ≡ changes }
-    ensures kept { 1 ≤ result → view.new ≡ view.old }
+    ensures unchanged_on_error { 1 ≤ result → view.new ≡ view.old }
 {
     if segment.mode() == Mode::ReadOnly {
         return READ_ONLY;
@@ -89,15 +91,16 @@ fn look_mut(segment: &Segment, key: &Key, changes: u64, view: &mut View) -> u32
 }
 
 /// Where the elements of an object of a segment stand.
-fn look(segment: &Segment, key: &Key, changes: u64, view: &mut View) -> u32
-    ensures told { (d : Directory) → StandsFor segment.now.cut.bytes d → IsCoded (IsView view.new) result (run_at d (key_seen key.now)) }
+fn look(segment: &Segment, key: &Key, changes: u64, view: &mut CView) -> u32
+    ensures read { (d : Directory) → DenotesCurrent segment.now.cut.bytes d
+        → IsCoded (IsView view.new) result (run_at d (key_seen key.now)) }
     ensures bytes { result ≡ 0 → HasView segment.now (key_seen key.now) view.new }
     ensures current { result ≡ 0 → view.new.changes ≡ changes }
-    ensures kept { 1 ≤ result → view.new ≡ view.old }
+    ensures unchanged_on_error { 1 ≤ result → view.new ≡ view.old }
 {
     match segment.element_run(key) {
         Ok(run) => {
-            *view = View {
+            *view = CView {
                 at: start_of(&segment.as_bytes()[run.offset as usize..]),
                 offset: run.offset,
                 count: run.count,

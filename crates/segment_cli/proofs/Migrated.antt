@@ -1,7 +1,8 @@
 -- What a migration answers, from what opening the image answered.
 use Rattle.std.proofs.Common.{◌≡◌, ℕ, false, true, List, length, Ok, Err, sym, ap, subst}
-use Rattle.raw_region.specs.Device.{Given, Taken, IsProperPrefix}
-use Rattle.segment_manager.specs.{declared.modes.Mode.Mode, Directory.Directory, State.State, State.StandsFor}
+use Rattle.raw_region.specs.Device.{ReadDelta, WriteDelta, IsProperPrefix}
+use Rattle.segment_manager.specs.{declared.modes.Mode.Mode, Directory.Directory, State.SegmentState}
+use Rattle.segment_manager.specs.{State.DenotesCurrent}
 use Rattle.image_check.specs.declared.errors.OpenError.TheVariants.{Image as NoImage, RegionTooSmall as NoRoomForImage}
 use Rattle.image_check.specs.declared.errors.OpenError.TheVariants.{OutOfMemory as NoMemory, ReadFault as NotRead}
 use Rattle.image_check.specs.{declared.errors.OpenError.OpenError, declared.errors.OpenRefused.OpenRefused}
@@ -12,14 +13,15 @@ use Rattle.segment_cli.proofs.Endings.{IsUnwritten, failed}
 
 -- ---- no segment
 
-fault-why : (base capacity : ℕ) (image : Given) (saved : Taken) (cause : OpenError) → IsUnwritten saved
+fault-why : (base capacity : ℕ) (image : ReadDelta) (saved : WriteDelta) (cause : OpenError) → IsUnwritten saved
     → IsWhyNotAny image base capacity cause → IsMigrationFault base capacity image saved (opened_fault cause)
 fault-why base capacity image saved (NoImage c) u why = record { why = why; bytes = u.bytes; failed = u.failed }
 fault-why base capacity image saved NoRoomForImage u why = record { why = why; bytes = u.bytes; failed = u.failed }
 fault-why base capacity image saved (NoMemory refusal) u why = record { why = why; bytes = u.bytes; failed = u.failed }
 fault-why base capacity image saved NotRead u why = record { why = why; bytes = u.bytes; failed = u.failed }
 
-pub not-migrated : (region : List ℕ) (base : ℕ) (mode : Mode) (image : Given) (saved : Taken) (refused : OpenRefused)
+pub not-migrated : (region : List ℕ) (base : ℕ) (mode : Mode) (image : ReadDelta) (saved : WriteDelta)
+    (refused : OpenRefused)
     → OpensAny image region base mode (Err refused) → IsUnwritten saved
     → IsMigration base (length region) image saved (Err (opened_fault refused.cause))
 not-migrated region base mode image saved refused o u = record {
@@ -29,9 +31,9 @@ not-migrated region base mode image saved refused o u = record {
 
 -- ---- a segment
 
-module _ (region : List ℕ) (base : ℕ) (mode : Mode) (image : Given) (saved : Taken) (s : State)
+module _ (region : List ℕ) (base : ℕ) (mode : Mode) (image : ReadDelta) (saved : WriteDelta) (s : SegmentState)
     (o : OpensAny image region base mode (Ok s))
-    (again : (d : Directory) → StandsFor s.cut.bytes d → IsSaved s.cut.bytes d) where
+    (again : (d : Directory) → DenotesCurrent s.cut.bytes d → IsSaved s.cut.bytes d) where
   new-image : IsNewImage image s.cut.bytes
   new-image =
       let there = o.answers.denotes in let stands = o.answers.renewed.denotes there.0 there.1 in

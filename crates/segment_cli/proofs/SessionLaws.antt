@@ -4,20 +4,23 @@ use Rattle.std.proofs.lemmas.List.{take_all}
 use Rattle.raw_region.specs.{Device.IsProperPrefix, Format.current}
 use Rattle.segment_lang.specs.{Language.whole, Reading.reading}
 use Rattle.segment_manager.specs.{declared.modes.Mode.Mode, declared.modes.Mode.TheVariants.Write, Directory.Directory}
-use Rattle.segment_cli.specs.Session.{Traffic, Begins, KeepsZeros, Saves, IsDone, IsCut, IsScriptUnread}
+use Rattle.segment_cli.specs.Session.{SessionIo, StartsFrom, KeepsZeros, SavesImage, IsDone, AnswersEndedLines}
+use Rattle.segment_cli.specs.Session.{IsScriptUnread}
 use Rattle.segment_cli.specs.{declared.faults.Start.Start, Session.IsAnswerUnwritten, Session.IsScriptTooLong}
 use Rattle.segment_scripts.specs.ZeroGaps.{zeros_after, zeros_after_lines, zeros_after_run}
-use Rattle.segment_scripts.specs.Leaves.{answer_all, Answers, RunsWhole, IsCutByReader, IsCutByWriter, IsCutAtLimit}
+use Rattle.segment_scripts.specs.RunOutcome.{answer_all, AnswersLines, RunsWhole, IsCutByReader, IsCutByWriter}
+use Rattle.segment_scripts.specs.RunOutcome.{IsCutAtLimit}
 use Rattle.segment_scripts.specs.Lines.{ended_lines, script_limit, whole_lines}
-use Rattle.segment_scripts.specs.{Run.lines, Run.respond, Run.run, Run.run_lines, Segments.Place, Segments.answer_line}
+use Rattle.segment_scripts.specs.{Run.lines, Run.respond, Run.run, Run.run_lines, Segments.MachineState}
+use Rattle.segment_scripts.specs.{Segments.answer_line}
 
 -- ---- a run of lines
 
-abbrev pub place : Mode → Directory → Bool → Place
+abbrev pub place : Mode → Directory → Bool → MachineState
 place mode d known = record { mode = mode; directory = d; zeros = known }
 
 -- where lines lead
-abbrev behind : Mode → Directory → Bool → List (List ℕ) → Place
+abbrev behind : Mode → Directory → Bool → List (List ℕ) → MachineState
 behind mode d known ls = place mode (run_lines (whole current) mode d ls).1
     (zeros_after_lines (whole current) mode d ls known)
 
@@ -27,16 +30,16 @@ pub answer_all-segment : (mode : Mode) (d : Directory) (known : Bool) (ls : List
 answer_all-segment mode d known [] = refl
 answer_all-segment mode d known (l ∷ ls) =
     let asked = reading (whole current) l in let first = respond mode d asked in
-    ap (λ (r : List ℕ × Place). (first.0 ++ r.0, r.1))
+    ap (λ (r : List ℕ × MachineState). (first.0 ++ r.0, r.1))
     (answer_all-segment mode first.1 (zeros_after mode d asked known) ls)
 
 printed-segment : (mode : Mode) (d : Directory) (known : Bool) (ls : List (List ℕ))
     → (answer_all answer_line (place mode d known) ls).0 ≡ (run_lines (whole current) mode d ls).0
-printed-segment mode d known ls = ap (λ (r : List ℕ × Place). r.0) (answer_all-segment mode d known ls)
+printed-segment mode d known ls = ap (λ (r : List ℕ × MachineState). r.0) (answer_all-segment mode d known ls)
 
 place-segment : (mode : Mode) (d : Directory) (known : Bool) (ls : List (List ℕ))
     → (answer_all answer_line (place mode d known) ls).1 ≡ behind mode d known ls
-place-segment mode d known ls = ap (λ (r : List ℕ × Place). r.1) (answer_all-segment mode d known ls)
+place-segment mode d known ls = ap (λ (r : List ℕ × MachineState). r.1) (answer_all-segment mode d known ls)
 
 run-lines : (mode : Mode) (d : Directory) (script : List ℕ)
     → run (whole current) mode d script ≡ run_lines (whole current) mode d (lines script)
@@ -56,7 +59,7 @@ zeros-lines mode d script known = refl
 -- ---- a script that was run whole, from a directory
 
 -- where it leads
-abbrev pub end_of : Mode → Directory → Bool → List ℕ → Place
+abbrev pub end_of : Mode → Directory → Bool → List ℕ → MachineState
 end_of mode from known script = place mode (run (whole current) mode from script).1
     (zeros_after_run (whole current) mode from script known)
 
@@ -64,7 +67,7 @@ end-behind : (mode : Mode) (from : Directory) (known : Bool) (script : List ℕ)
     → end_of mode from known script ≡ behind mode from known (lines script)
 end-behind mode from known script = rw (run-lines mode from script, zeros-lines mode from script known) refl
 
-module _ (mode : Mode) (from : Directory) (known : Bool) (t : Traffic) (Stands : Place → Type 0) where
+module _ (mode : Mode) (from : Directory) (known : Bool) (t : SessionIo) (Stands : MachineState → Type 0) where
   -- its last place
   pub stands_done : RunsWhole answer_line (place mode from known) t.script t.out Stands
       → Stands (end_of mode from known t.script.bytes)
@@ -79,11 +82,11 @@ module _ (mode : Mode) (from : Directory) (known : Bool) (t : Traffic) (Stands :
 
 -- ---- what a session owes, where it began at this directory
 
-module _ (start : Start) (mode : Mode) (t : Traffic) (from : Directory) (known : Bool)
-    (begins : Begins start t.image from) (Stands : Place → Type 0) (image : t.image.failed ≡ false)
+module _ (start : Start) (mode : Mode) (t : SessionIo) (from : Directory) (known : Bool)
+    (begins : StartsFrom start t.image from) (Stands : MachineState → Type 0) (image : t.image.failed ≡ false)
     (saved : t.saved.failed ≡ false) where
   pub done : RunsWhole answer_line (place mode from known) t.script t.out Stands
-      → Saves mode t.saved.bytes (run (whole current) mode from t.script.bytes).1
+      → SavesImage mode t.saved.bytes (run (whole current) mode from t.script.bytes).1
       → (mode ≡ Write → KeepsZeros start mode t.image from t.script.bytes t.saved.bytes) → IsDone start mode t
   done h saves zeros = record {
     from = from;
@@ -96,8 +99,9 @@ module _ (start : Start) (mode : Mode) (t : Traffic) (from : Directory) (known :
     failed = rw (image, h.read, h.written, saved) refl;
   }
 
-  cut : Answers answer_line (place mode from known) (ended_lines (take script_limit t.script.bytes)) t.out.bytes Stands
-      → t.saved.bytes ≡ [] → IsCut start mode t
+  cut : AnswersLines answer_line (place mode from known) (ended_lines (take script_limit t.script.bytes))
+      t.out.bytes Stands
+      → t.saved.bytes ≡ [] → AnswersEndedLines start mode t
   cut h nothing = record {
     from = from;
     begins = begins;
@@ -112,7 +116,7 @@ module _ (start : Start) (mode : Mode) (t : Traffic) (from : Directory) (known :
       let all = take_all script_limit t.script.bytes h.within in
       record {
         within = h.within;
-        cut = cut (subst (λ (l : List ℕ). Answers answer_line (place mode from known)
+        cut = cut (subst (λ (l : List ℕ). AnswersLines answer_line (place mode from known)
             (ended_lines l) t.out.bytes Stands) (sym all) h.answers) nothing;
         failed = rw (image, h.read, h.written, saved) refl;
       }
@@ -139,7 +143,7 @@ module _ (start : Start) (mode : Mode) (t : Traffic) (from : Directory) (known :
           script = a.parts;
           front = a.front;
           prints = a.prints ∙ ap (λ (l : List ℕ). l ++ a.front) (printed-segment mode from known a.answered);
-          part = subst (λ (at : Place). IsProperPrefix a.front (answer_line at a.next).0) led a.part;
+          part = subst (λ (at : MachineState). IsProperPrefix a.front (answer_line at a.next).0) led a.part;
           saves = nothing;
         };
         failed = rw (image, h.read, h.written, saved) refl;

@@ -1,12 +1,12 @@
 -- How a session begins: with a segment for its script, or with the fault that it ends with.
 use Rattle.std.specs.Prelude.{◌≡◌, ℕ, false, Result, Err, MatchResult}
-use Rattle.raw_region.specs.Device.{Given}
+use Rattle.raw_region.specs.Device.{ReadDelta}
 use Rattle.raw_region.specs.Format.{current}
 use Rattle.segment_manager.specs.declared.modes.Mode.{Mode}
 use Rattle.segment_manager.specs.declared.errors.CreateError.{CreateError}
 use Rattle.segment_manager.specs.declared.errors.CreateError.TheVariants.{BadSize as NoSize, RegionTooSmall as NoRoom}
 use Rattle.segment_manager.specs.Directory.{Directory}
-use Rattle.segment_manager.specs.State.{State, StandsFor}
+use Rattle.segment_manager.specs.State.{SegmentState, DenotesCurrent}
 use Rattle.segment_manager.specs.Calls.{HasZeroGaps}
 use Rattle.image_check.specs.declared.errors.MemoryFault.TheVariants.{BlockMap}
 use Rattle.image_check.specs.declared.errors.OpenError.{OpenError}
@@ -24,7 +24,7 @@ use Rattle.segment_cli.specs.declared.faults.SessionFault.{SessionFault}
 use Rattle.segment_cli.specs.declared.faults.SessionFault.TheVariants.{Image as Refused, BadSize, RegionTooSmall}
 use Rattle.segment_cli.specs.declared.faults.SessionFault.TheVariants.{OutOfMemory, ReadFault, WriteFault}
 use Rattle.segment_cli.specs.declared.faults.SessionFault.TheVariants.{ScriptTooLong}
-use Rattle.segment_cli.specs.Session.{Begins, BeginsWithZeros, IsImageLeft, IsSizeRefused, IsTooSmall}
+use Rattle.segment_cli.specs.Session.{StartsFrom, BeginsWithZeros, IsImageLeft, IsSizeRefused, IsTooSmall}
 
 -- the faults that a session hands on under names of its own
 abbrev pub created_fault : CreateError → SessionFault
@@ -43,16 +43,16 @@ run_fault AnswerNotWritten = WriteFault
 run_fault TooLong = ScriptTooLong
 
 -- a segment that stands for the directory with which the session begins
-pub record IsBegun (start : Start) (how : Mode) (image : Given) (s : State) : Type 0 where
+pub record BeginsSessionOk (start : Start) (how : Mode) (image : ReadDelta) (s : SegmentState) : Type 0 where
   pub from : Directory
-  pub begins : Begins start image from
+  pub begins : StartsFrom start image from
   pub mode : s.mode ≡ how
-  pub stands : StandsFor s.cut.bytes from
+  pub stands : DenotesCurrent s.cut.bytes from
   pub zeros : BeginsWithZeros start image → HasZeroGaps s
   pub read : image.failed ≡ false
 
 -- why there is no segment
-abbrev pub IsWhyNotBegun : Start → Given → ℕ → ℕ → SessionFault → Type 0
+abbrev pub IsWhyNotBegun : Start → ReadDelta → ℕ → ℕ → SessionFault → Type 0
 IsWhyNotBegun start image base capacity (Refused c) = (start ≡ Image) × IsRefusedAs current image c
 IsWhyNotBegun start image base capacity BadSize = IsSizeRefused start
 IsWhyNotBegun start image base capacity RegionTooSmall = IsTooSmall start image base capacity
@@ -62,9 +62,9 @@ IsWhyNotBegun start image base capacity ReadFault = (start ≡ Image) × IsUndec
 IsWhyNotBegun start image base capacity WriteFault = ⊥
 IsWhyNotBegun start image base capacity ScriptTooLong = ⊥
 
-pub record Starts (start : Start) (mode : Mode) (base capacity : ℕ) (image : Given)
-    (result : Result State SessionFault) : Type 0 where
-  pub answers : MatchResult result (IsBegun start mode image) (IsWhyNotBegun start image base capacity)
+pub record BeginsSession (start : Start) (mode : Mode) (base capacity : ℕ) (image : ReadDelta)
+    (result : Result SegmentState SessionFault) : Type 0 where
+  pub answers : MatchResult result (BeginsSessionOk start mode image) (IsWhyNotBegun start image base capacity)
   pub left : IsImageLeft start image
   -- these two are answered wherever they apply
   pub bad_size : IsSizeRefused start → result ≡ Err BadSize

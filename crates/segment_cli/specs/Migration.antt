@@ -1,11 +1,11 @@
 -- What a migration owes: the image that it writes, and what each fault leaves.
 use Rattle.std.specs.Prelude.{◌≡◌, ℕ, true, false, List, [], None, Result, Err, MatchResult}
-use Rattle.raw_region.specs.Device.{Given, Taken, IsProperPrefix}
+use Rattle.raw_region.specs.Device.{ReadDelta, WriteDelta, IsProperPrefix}
 use Rattle.raw_region.specs.Format.{current}
 use Rattle.image_check.specs.Classes.{class_of}
 use Rattle.image_check.specs.Formats.{format_of}
 use Rattle.image_check.specs.Opening.{IsImage, IsOutOfMemory, IsReadToEnd, IsTooSmallFor}
-use Rattle.image_check.specs.OpeningAny.{IsRefusedAsAny, IsRenewed, IsUndecidedAny}
+use Rattle.image_check.specs.OpeningAny.{IsRefusedAsAny, UpgradesFormat, IsUndecidedAny}
 use Rattle.image_check.specs.Passes.{IsMapRefused}
 use Rattle.segment_cli.specs.declared.faults.SessionFault.{SessionFault}
 use Rattle.segment_cli.specs.declared.faults.SessionFault.TheVariants.{Image as Refused, BadSize, RegionTooSmall}
@@ -14,32 +14,32 @@ use Rattle.segment_cli.specs.declared.faults.SessionFault.TheVariants.{ScriptToo
 
 -- the image was read to its end and denotes a directory by its format, and the new image is that of this directory by
 -- the current one
-pub record IsNewImage (image : Given) (new : List ℕ) : Type 0 where
+pub record IsNewImage (image : ReadDelta) (new : List ℕ) : Type 0 where
   pub read : IsReadToEnd image
   pub denotes : IsImage (format_of image.bytes) image.bytes
-  pub renewed : IsRenewed (format_of image.bytes) image.bytes new
+  pub renewed : UpgradesFormat (format_of image.bytes) image.bytes new
   -- which is accepted again
   pub accepted : class_of current new ≡ None
 
 -- the new image went out
-pub record IsMigrated (image : Given) (saved : Taken) : Type 0 where
+pub record IsMigrated (image : ReadDelta) (saved : WriteDelta) : Type 0 where
   pub new : IsNewImage image saved.bytes
   pub failed : saved.failed ≡ false
 
 -- the writer failed, and of the new image a proper prefix went out
-pub record IsUnmigrated (image : Given) (saved : Taken) : Type 0 where
+pub record MigrateWriteFails (image : ReadDelta) (saved : WriteDelta) : Type 0 where
   pub image_of : List ℕ
   pub new : IsNewImage image image_of
   pub part : IsProperPrefix saved.bytes image_of
   pub failed : saved.failed ≡ true
 
 -- nothing went out
-pub record IsNothingSaved (saved : Taken) (cause : Type 0) : Type 0 where
+pub record IsNothingSaved (saved : WriteDelta) (cause : Type 0) : Type 0 where
   pub why : cause
   pub bytes : saved.bytes ≡ []
   pub failed : saved.failed ≡ false
 
-abbrev pub IsMigrationFault : ℕ → ℕ → Given → Taken → SessionFault → Type 0
+abbrev pub IsMigrationFault : ℕ → ℕ → ReadDelta → WriteDelta → SessionFault → Type 0
 IsMigrationFault base capacity image saved (Refused c) = IsNothingSaved saved (IsRefusedAsAny image c)
 IsMigrationFault base capacity image saved BadSize = ⊥
 IsMigrationFault base capacity image saved RegionTooSmall = IsNothingSaved saved
@@ -47,11 +47,11 @@ IsMigrationFault base capacity image saved RegionTooSmall = IsNothingSaved saved
 IsMigrationFault base capacity image saved (OutOfMemory refusal) = IsNothingSaved saved
     (IsOutOfMemory (format_of image.bytes) image × IsMapRefused image.bytes refusal)
 IsMigrationFault base capacity image saved ReadFault = IsNothingSaved saved (IsUndecidedAny image)
-IsMigrationFault base capacity image saved WriteFault = IsUnmigrated image saved
+IsMigrationFault base capacity image saved WriteFault = MigrateWriteFails image saved
 IsMigrationFault base capacity image saved ScriptTooLong = ⊥
 
 -- the answer of a migration in a region of this capacity
-pub record IsMigration (base capacity : ℕ) (image : Given) (saved : Taken)
+pub record IsMigration (base capacity : ℕ) (image : ReadDelta) (saved : WriteDelta)
     (result : Result (Unit {0}) SessionFault) : Type 0 where
   pub answers : MatchResult result (λ u. IsMigrated image saved) (IsMigrationFault base capacity image saved)
   -- this one is answered wherever it applies

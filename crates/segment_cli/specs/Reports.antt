@@ -1,7 +1,7 @@
 -- What the program says of a fault, and the status that it ends with.
 use Rattle.std.specs.Prelude.{◌≡◌, ◌⊎◌, ◌∷◌, ◌+◌, ◌++◌, ℕ, List, [], codes}
-use Rattle.raw_region.specs.Answers.{AddsFront}
-use Rattle.raw_region.specs.Device.{Took}
+use Rattle.raw_region.specs.Answers.{AppendsProperPrefix}
+use Rattle.raw_region.specs.Device.{WriterHistory}
 use Rattle.image_check.specs.declared.classes.ImageClass.{ImageClass}
 use Rattle.image_check.specs.declared.classes.ImageClass.TheVariants as class
 use Rattle.grow_shrink.specs.declared.refusals.GrowError.{GrowError}
@@ -76,6 +76,6 @@ status_of (Session f) = session_status f
 
 -- all of the text went out and no write failed, or one failed and some of the text went out, from the first byte on,
 -- but not all
-abbrev pub Puts : Took → Took → List ℕ → Type 0
+abbrev pub Puts : WriterHistory → WriterHistory → List ℕ → Type 0
 Puts old new text = ((new.failures ≡ old.failures) × (new.bytes ≡ old.bytes ++ text))
-    ⊎ ((new.failures ≡ old.failures + 1) × AddsFront old.bytes new.bytes text)
+    ⊎ ((new.failures ≡ old.failures + 1) × AppendsProperPrefix old.bytes new.bytes text)

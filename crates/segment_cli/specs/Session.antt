@@ -1,13 +1,13 @@
 -- What a session owes: what it prints and saves, and what each fault leaves.
 use Rattle.std.specs.Prelude.{◌≡◌, ◌⊎◌, ◌<◌, ◌≤◌, ℕ, ◌+◌, Bool, true, false, ⊤, List, [], ◌∷◌, ◌++◌, length, take}
 use Rattle.std.specs.Prelude.{IsTrue, None, Result, Err, MatchResult}
-use Rattle.raw_region.specs.Device.{Given, Taken, IsProperPrefix}
+use Rattle.raw_region.specs.Device.{ReadDelta, WriteDelta, IsProperPrefix}
 use Rattle.raw_region.specs.Format.{current}
 use Rattle.block_tags.specs.Format.{is_legal_size}
 use Rattle.segment_manager.specs.declared.modes.Mode.{Mode}
 use Rattle.segment_manager.specs.declared.modes.Mode.TheVariants.{Write, ReadOnly as ReadOnlyMode, CopyOnWrite}
 use Rattle.segment_manager.specs.Directory.{Directory, empty}
-use Rattle.segment_manager.specs.State.{StandsFor}
+use Rattle.segment_manager.specs.State.{DenotesCurrent}
 use Rattle.segment_manager.specs.Calls.{HasZeroGaps}
 use Rattle.image_check.specs.Opening.{IsOutOfMemory, IsRefusedAs, IsTooSmallFor, IsUndecided, IsUntouched}
 use Rattle.image_check.specs.Passes.{IsMapRefused}
@@ -25,16 +25,16 @@ use Rattle.segment_scripts.specs.Lines.{executable, script_limit, whole_lines}
 use Rattle.segment_scripts.specs.ZeroGaps.{zeros_after_run}
 
 -- what four devices gave and took
-pub record Traffic : Type 0 where
-  pub image : Given
-  pub script : Given
-  pub out : Taken
-  pub saved : Taken
+pub record SessionIo : Type 0 where
+  pub image : ReadDelta
+  pub script : ReadDelta
+  pub out : WriteDelta
+  pub saved : WriteDelta
 
 -- ---- where a session begins
 
 -- where a segment is made fresh, the image's reader is not asked
-abbrev pub IsImageLeft : Start → Given → Type 0
+abbrev pub IsImageLeft : Start → ReadDelta → Type 0
 IsImageLeft (Fresh size) image = IsUntouched image
 IsImageLeft Image image = ⊤
 
@@ -43,12 +43,12 @@ abbrev pub HasZeroGapsIn : List ℕ → Type 0
 HasZeroGapsIn image = HasZeroGaps (record { cut = record { before = []; bytes = image; after = [] }; mode = Write })
 
 -- an empty directory of a fresh size, or the one that the image denotes, which was read to its end
-abbrev pub Begins : Start → Given → Directory → Type 0
-Begins (Fresh size) image d = IsTrue (is_legal_size size) × (d ≡ empty size)
-Begins Image image d = (image.ended ≡ true) × StandsFor image.bytes d
+abbrev pub StartsFrom : Start → ReadDelta → Directory → Type 0
+StartsFrom (Fresh size) image d = IsTrue (is_legal_size size) × (d ≡ empty size)
+StartsFrom Image image d = (image.ended ≡ true) × DenotesCurrent image.bytes d
 
 -- the gaps are zero with which a session begins: those of a fresh segment are, those of an image may be
-abbrev pub BeginsWithZeros : Start → Given → Type 0
+abbrev pub BeginsWithZeros : Start → ReadDelta → Type 0
 BeginsWithZeros (Fresh size) image = ⊤
 BeginsWithZeros Image image = HasZeroGapsIn image.bytes
 
@@ -57,27 +57,27 @@ IsSizeRefused (Fresh size) = is_legal_size size ≡ false
 IsSizeRefused Image = ⊥
 
 -- the region does not hold the fresh size, or the legal size in the first 24 bytes of the image
-abbrev pub IsTooSmall : Start → Given → ℕ → ℕ → Type 0
+abbrev pub IsTooSmall : Start → ReadDelta → ℕ → ℕ → Type 0
 IsTooSmall (Fresh size) image base capacity = IsTrue (is_legal_size size) × (capacity < base + size)
 IsTooSmall Image image base capacity = IsTooSmallFor current image base capacity
 
 -- ---- what a session prints and saves
 
 -- in mode Write an image of the directory that is accepted again, and else nothing
-abbrev pub Saves : Mode → List ℕ → Directory → Type 0
-Saves Write saved d = IsSaved saved d
-Saves ReadOnlyMode saved d = saved ≡ []
-Saves CopyOnWrite saved d = saved ≡ []
+abbrev pub SavesImage : Mode → List ℕ → Directory → Type 0
+SavesImage Write saved d = IsSaved saved d
+SavesImage ReadOnlyMode saved d = saved ≡ []
+SavesImage CopyOnWrite saved d = saved ≡ []
 
 -- Behind a script that began at the directory the gaps of an image are zero, if the script leaves them so: where it
 -- made them zero, or they were zero before it, and nothing may have undone it since.
-abbrev pub KeepsZeros : Start → Mode → Given → Directory → List ℕ → List ℕ → Type 0
+abbrev pub KeepsZeros : Start → Mode → ReadDelta → Directory → List ℕ → List ℕ → Type 0
 KeepsZeros start mode began from script image =
     (known : Bool) → (known ≡ true → BeginsWithZeros start began)
     → zeros_after_run (whole_language current) mode from script known ≡ true → HasZeroGapsIn image
 
 -- nothing went out
-pub record IsSilent (t : Traffic) : Type 0 where
+pub record IsSilent (t : SessionIo) : Type 0 where
   pub prints : t.out.bytes ≡ []
   pub saves : t.saved.bytes ≡ []
 
@@ -88,34 +88,34 @@ pub record Failures : Type 0 where
   pub out : Bool
   pub saved : Bool
 
-abbrev pub failures : Traffic → Failures
+abbrev pub failures : SessionIo → Failures
 failures t = record { image = t.image.failed; script = t.script.failed; out = t.out.failed; saved = t.saved.failed }
 
 abbrev pub none_failed : Failures
 none_failed = record { image = false; script = false; out = false; saved = false }
 
 -- done: the answers of the directory machine, and its last directory
-pub record IsDone (start : Start) (mode : Mode) (t : Traffic) : Type 0 where
+pub record IsDone (start : Start) (mode : Mode) (t : SessionIo) : Type 0 where
   pub from : Directory
-  pub begins : Begins start t.image from
+  pub begins : StartsFrom start t.image from
   pub whole : t.script.ended ≡ true
   pub within : length t.script.bytes ≤ script_limit
   pub prints : t.out.bytes ≡ (run (whole_language current) mode from t.script.bytes).0
-  pub saves : Saves mode t.saved.bytes (run (whole_language current) mode from t.script.bytes).1
+  pub saves : SavesImage mode t.saved.bytes (run (whole_language current) mode from t.script.bytes).1
   pub zeros : mode ≡ Write → KeepsZeros start mode t.image from t.script.bytes t.saved.bytes
   pub failed : failures t ≡ none_failed
 
 -- all lines that ended in the script, within its limit, were answered, and nothing is saved
-pub record IsCut (start : Start) (mode : Mode) (t : Traffic) : Type 0 where
+pub record AnswersEndedLines (start : Start) (mode : Mode) (t : SessionIo) : Type 0 where
   pub from : Directory
-  pub begins : Begins start t.image from
+  pub begins : StartsFrom start t.image from
   pub prints : t.out.bytes ≡ (run (whole_language current) mode from (whole_lines (take script_limit t.script.bytes))).0
   pub saves : t.saved.bytes ≡ []
 
 -- lines were answered, and of the answer to the next a proper prefix went out; nothing is saved
-pub record IsCutInAnswer (start : Start) (mode : Mode) (t : Traffic) : Type 0 where
+pub record IsCutInAnswer (start : Start) (mode : Mode) (t : SessionIo) : Type 0 where
   pub from : Directory
-  pub begins : Begins start t.image from
+  pub begins : StartsFrom start t.image from
   pub answered : List (List ℕ)
   pub next : List ℕ
   pub rest : List (List ℕ)
@@ -127,20 +127,20 @@ pub record IsCutInAnswer (start : Start) (mode : Mode) (t : Traffic) : Type 0 wh
   pub saves : t.saved.bytes ≡ []
 
 -- all was answered, and of an image of the last directory a proper prefix was written
-pub record IsCutInImage (start : Start) (mode : Mode) (t : Traffic) : Type 0 where
+pub record IsCutInImage (start : Start) (mode : Mode) (t : SessionIo) : Type 0 where
   pub writes : mode ≡ Write
   pub from : Directory
-  pub begins : Begins start t.image from
+  pub begins : StartsFrom start t.image from
   pub whole : t.script.ended ≡ true
   pub within : length t.script.bytes ≤ script_limit
   pub prints : t.out.bytes ≡ (run (whole_language current) mode from t.script.bytes).0
   pub image : List ℕ
-  pub denotes : StandsFor image (run (whole_language current) mode from t.script.bytes).1
+  pub denotes : DenotesCurrent image (run (whole_language current) mode from t.script.bytes).1
   pub zeros : KeepsZeros start mode t.image from t.script.bytes image
   pub part : IsProperPrefix t.saved.bytes image
 
 -- the image's reader failed, and what it gave before leaves the class open
-pub record IsImageUnread (start : Start) (t : Traffic) : Type 0 where
+pub record IsImageUnread (start : Start) (t : SessionIo) : Type 0 where
   pub image : start ≡ Image
   pub undecided : IsUndecided current t.image
   pub silent : IsSilent t
@@ -148,29 +148,29 @@ pub record IsImageUnread (start : Start) (t : Traffic) : Type 0 where
   pub failed : failures t ≡ record none_failed { image = true }
 
 -- the script's reader failed
-pub record IsScriptUnread (start : Start) (mode : Mode) (t : Traffic) : Type 0 where
+pub record IsScriptUnread (start : Start) (mode : Mode) (t : SessionIo) : Type 0 where
   pub within : length t.script.bytes ≤ script_limit
-  pub cut : IsCut start mode t
+  pub cut : AnswersEndedLines start mode t
   pub failed : failures t ≡ record none_failed { script = true }
 
 -- the writer of the answers failed
-pub record IsAnswerUnwritten (start : Start) (mode : Mode) (t : Traffic) : Type 0 where
+pub record IsAnswerUnwritten (start : Start) (mode : Mode) (t : SessionIo) : Type 0 where
   pub cut : IsCutInAnswer start mode t
   pub failed : failures t ≡ record none_failed { out = true }
 
 -- the writer of the image failed
-pub record IsImageUnwritten (start : Start) (mode : Mode) (t : Traffic) : Type 0 where
+pub record IsImageUnwritten (start : Start) (mode : Mode) (t : SessionIo) : Type 0 where
   pub cut : IsCutInImage start mode t
   pub failed : failures t ≡ record none_failed { saved = true }
 
 -- more of the script was read than it may have
-pub record IsScriptTooLong (start : Start) (mode : Mode) (t : Traffic) : Type 0 where
+pub record IsScriptTooLong (start : Start) (mode : Mode) (t : SessionIo) : Type 0 where
   pub long : script_limit < length t.script.bytes
-  pub cut : IsCut start mode t
+  pub cut : AnswersEndedLines start mode t
   pub failed : failures t ≡ none_failed
 
 -- the session ended before the script was asked for; the image's reader may have failed behind what decides the answer
-pub record IsRefusedBefore (t : Traffic) (cause : Type 0) : Type 0 where
+pub record IsRefusedBefore (t : SessionIo) (cause : Type 0) : Type 0 where
   pub why : cause
   pub silent : IsSilent t
   pub script : t.script.bytes ≡ []
@@ -178,7 +178,7 @@ pub record IsRefusedBefore (t : Traffic) (cause : Type 0) : Type 0 where
 
 -- ---- what a session answers, in a region of this capacity; the check of an image alone takes memory
 
-abbrev pub AnswersFault : Start → Mode → ℕ → ℕ → Traffic → SessionFault → Type 0
+abbrev pub AnswersFault : Start → Mode → ℕ → ℕ → SessionIo → SessionFault → Type 0
 AnswersFault start mode base capacity t (Refused c) = IsRefusedBefore t
     ((start ≡ Image) × IsRefusedAs current t.image c)
 AnswersFault start mode base capacity t BadSize = IsRefusedBefore t (IsSizeRefused start)
@@ -190,7 +190,7 @@ AnswersFault start mode base capacity t WriteFault = IsAnswerUnwritten start mod
 AnswersFault start mode base capacity t ScriptTooLong = IsScriptTooLong start mode t
 
 -- The headline, for one session.
-pub record IsSession (start : Start) (mode : Mode) (base capacity : ℕ) (t : Traffic)
+pub record RunsSession (start : Start) (mode : Mode) (base capacity : ℕ) (t : SessionIo)
     (result : Result (Unit {0}) SessionFault) : Type 0 where
   pub answers : MatchResult result (λ u. IsDone start mode t) (AnswersFault start mode base capacity t)
   pub left : IsImageLeft start t.image

@@ -15,11 +15,11 @@ pub use migrations::migrate;
 pub use program_faults::ProgramFault;
 pub use reports::{report, session_line, session_status};
 pub use segment_invocation::{
-    Answering, Change, Invocation, InvocationFault, Keeping, ModeName, Report, Running, Saving,
-    Script, UsageError, invocation,
+    Answering, FileChange, Invocation, InvocationFault, Keeping, ModeName, Report, Running,
+    SaveMode, Script, UsageError, invocation,
 };
 pub use segment_scripts::{
-    Answered, End, Follower, Machine, Nobody, RunFault, Scratch, Until, run, run_until,
+    Answered, End, Machine, NoObserver, RunFault, RunObserver, Scratch, Until, run, run_until,
 };
 pub use serving::serve;
 pub use sessions::{begin, session};

@@ -1,6 +1,6 @@
 //! The migration of an image of an older format.
 ghost use Rattle.std.specs.Prelude.{◌-◌, ◌%◌, ◌^◌, ◌<◌, ◌≡◌, length};
-ghost use Rattle.raw_region.specs.Device.{EndsAtMostOnce, Grows, given_since, taken_since};
+ghost use Rattle.raw_region.specs.Device.{EndsAtMostOnce, AppendsBytes, read_delta, write_delta};
 ghost use Rattle.segment_cli.specs.Migration.{IsMigration};
 
 use crate::faults::SessionFault;
@@ -29,13 +29,13 @@ pub fn migrate<I: Source, W: Sink>(
     requires aligned { base % 16 ≡ 0 }
     requires image_reader { (I.history image.old).failures < 2 ^ 64 - 1 }
     requires image_writer { (W.history image_out.old).failures < 2 ^ 64 - 1 }
-    ensures migrates { IsMigration base (length region)
-        (given_since (I.history image.old) (I.history image.new))
-        (taken_since (W.history image_out.old) (W.history image_out.new))
+    ensures migration { IsMigration base (length region)
+        (read_delta (I.history image.old) (I.history image.new))
+        (write_delta (W.history image_out.old) (W.history image_out.new))
         result }
-    ensures image_grows { Grows (I.history image.old).bytes (I.history image.new).bytes }
-    ensures image_ends { EndsAtMostOnce (I.history image.old) (I.history image.new) }
-    ensures saved_grows { Grows (W.history image_out.old).bytes (W.history image_out.new).bytes }
+    ensures image_history { AppendsBytes (I.history image.old).bytes (I.history image.new).bytes }
+    ensures image_end { EndsAtMostOnce (I.history image.old) (I.history image.new) }
+    ensures saved_history { AppendsBytes (W.history image_out.old).bytes (W.history image_out.new).bytes }
 {
     let segment = open_any(alloc, image, region, base, Mode::Write, &mut Steps::new())?;
     match save(&segment, image_out) {

@@ -1,6 +1,7 @@
 //! What the program says of a fault, and the status that it ends with.
 ghost use Rattle.std.specs.Prelude.{◌≡◌, ◌++◌, ◌-◌, ◌^◌, ◌<◌, codes};
-ghost use Rattle.segment_cli.specs.Reports.{Puts, fault_text, growth_name, line, session_status, session_words, status_of};
+ghost use Rattle.segment_cli.specs.Reports.{Puts, fault_text, growth_name, line, session_status, session_words};
+ghost use Rattle.segment_cli.specs.Reports.{status_of};
 ghost use Rattle.segment_cli.specs.declared.faults.SessionFault.TheVariants.{Image};
 
 use crate::faults::SessionFault;
@@ -78,7 +79,8 @@ pub fn session_status(fault: SessionFault) -> u8
     }
 }
 
-/// The status that the program ends with: 1 where an image, a size or a growth is refused, 2 for a wrong command line, 3
+/// The status that the program ends with: 1 where an image, a size or a growth is refused, 2 for a wrong command line,
+/// 3
 /// for a file that exists and for faults, 4 for want of memory.
 fn status_of(fault: ProgramFault) -> u8
     ensures { result ≡ status_of fault }

@@ -1,9 +1,10 @@
 //! A session: a segment is made or opened, a script is run on it, and its image is saved.
 ghost use Rattle.std.specs.Prelude.{◌≡◌, ◌+◌, ◌-◌, ◌%◌, ◌^◌, ◌<◌, ◌≤◌, ◌++◌, length, drop, OnOk, OnErr};
-ghost use Rattle.raw_region.specs.Device.{given_since, taken_since, EndsAtMostOnce, Grows, IsProperPrefix};
+ghost use Rattle.raw_region.specs.Device.{read_delta, write_delta, EndsAtMostOnce, AppendsBytes, IsProperPrefix};
 ghost use Rattle.raw_region.specs.Answers.{failures_in};
-ghost use Rattle.segment_manager.specs.{declared.modes.Mode.TheVariants.Write, Directory.Directory, State.StandsFor};
-ghost use Rattle.segment_cli.specs.{Session.IsSession, Session.Saves, Beginning.Starts};
+ghost use Rattle.segment_manager.specs.{declared.modes.Mode.TheVariants.Write, Directory.Directory};
+ghost use Rattle.segment_manager.specs.{State.DenotesCurrent};
+ghost use Rattle.segment_cli.specs.{Session.RunsSession, Session.SavesImage, Beginning.BeginsSession};
 ghost use Rattle.segment_scripts.specs.Lines.{script_limit};
 
 use crate::faults::{SessionFault, Start};
@@ -11,7 +12,7 @@ use crate::serving::serve;
 use image_check::{open, save};
 use raw_region::{DeviceFault, RawRegion, Sink, Source, Steps};
 use segment_manager::{Mode, Segment};
-use segment_scripts::{Nobody, Until};
+use segment_scripts::{NoObserver, Until};
 use std::alloc::Global;
 
 /// The segment that a session runs its script on: an empty one of the fresh size, or the one of the image, whose reader
@@ -30,11 +31,11 @@ pub fn begin<I: Source>(
 ) -> Result<Segment, SessionFault>
     requires aligned { base % 16 ≡ 0 }
     requires image_reader { (I.history image.old).failures < 2 ^ 64 - 1 }
-    ensures starts { Starts start mode base (length region)
-        (given_since (I.history image.old) (I.history image.new))
+    ensures start { BeginsSession start mode base (length region)
+        (read_delta (I.history image.old) (I.history image.new))
         result }
-    ensures image_grows { Grows (I.history image.old).bytes (I.history image.new).bytes }
-    ensures image_ends { EndsAtMostOnce (I.history image.old) (I.history image.new) }
+    ensures image_history { AppendsBytes (I.history image.old).bytes (I.history image.new).bytes }
+    ensures image_end { EndsAtMostOnce (I.history image.old) (I.history image.new) }
 {
     match start {
         Start::Fresh(size) => {
@@ -52,16 +53,16 @@ pub fn begin<I: Source>(
 /// that a check accepts. A fault leaves a proper prefix of it written.
 fn save_segment<W: Sink>(segment: &Segment, image_out: &mut W) -> Result<(), DeviceFault>
     requires { (W.history image_out.old).failures < 2 ^ 64 - 1 }
-    ensures ok { OnOk result ((d : Directory) → StandsFor segment.now.cut.bytes d
-        → Saves segment.now.mode
+    ensures on_ok { OnOk result ((d : Directory) → DenotesCurrent segment.now.cut.bytes d
+        → SavesImage segment.now.mode
         (drop (length (W.history image_out.old).bytes) (W.history image_out.new).bytes) d) }
     ensures bytes { OnOk result (segment.now.mode ≡ Write
         → (W.history image_out.new).bytes ≡ (W.history image_out.old).bytes ++ segment.now.cut.bytes) }
-    ensures err { OnErr result ((segment.now.mode ≡ Write) × IsProperPrefix
+    ensures on_error { OnErr result ((segment.now.mode ≡ Write) × IsProperPrefix
         (drop (length (W.history image_out.old).bytes) (W.history image_out.new).bytes)
         segment.now.cut.bytes) }
-    ensures grows { Grows (W.history image_out.old).bytes (W.history image_out.new).bytes }
-    ensures counted { (W.history image_out.new).failures
+    ensures history { AppendsBytes (W.history image_out.old).bytes (W.history image_out.new).bytes }
+    ensures failures { (W.history image_out.new).failures
         ≡ (W.history image_out.old).failures + failures_in result }
 {
     if segment.mode() == Mode::Write {
@@ -98,25 +99,25 @@ pub fn session<I: Source, S: Source, O: Sink, W: Sink>(
     requires script_reader { (S.history script.old).failures < 2 ^ 64 - 1 }
     requires answer_writer { (O.history out.old).failures < 2 ^ 64 - 1 }
     requires image_writer { (W.history image_out.old).failures < 2 ^ 64 - 1 }
-    ensures session { IsSession start mode base (length region)
+    ensures session { RunsSession start mode base (length region)
         (record {
-          image = given_since (I.history image.old) (I.history image.new);
-          script = given_since (S.history script.old) (S.history script.new);
-          out = taken_since (O.history out.old) (O.history out.new);
-          saved = taken_since (W.history image_out.old) (W.history image_out.new);
+          image = read_delta (I.history image.old) (I.history image.new);
+          script = read_delta (S.history script.old) (S.history script.new);
+          out = write_delta (O.history out.old) (O.history out.new);
+          saved = write_delta (W.history image_out.old) (W.history image_out.new);
         })
         result }
-    ensures image_grows { Grows (I.history image.old).bytes (I.history image.new).bytes }
-    ensures image_ends { EndsAtMostOnce (I.history image.old) (I.history image.new) }
-    ensures script_grows { Grows (S.history script.old).bytes (S.history script.new).bytes }
-    ensures script_ends { EndsAtMostOnce (S.history script.old) (S.history script.new) }
-    ensures reads_no_further { length (S.history script.new).bytes
+    ensures image_history { AppendsBytes (I.history image.old).bytes (I.history image.new).bytes }
+    ensures image_end { EndsAtMostOnce (I.history image.old) (I.history image.new) }
+    ensures script_history { AppendsBytes (S.history script.old).bytes (S.history script.new).bytes }
+    ensures script_end { EndsAtMostOnce (S.history script.old) (S.history script.new) }
+    ensures read_limit { length (S.history script.new).bytes
         ≤ length (S.history script.old).bytes + script_limit + 1 }
-    ensures out_grows { Grows (O.history out.old).bytes (O.history out.new).bytes }
-    ensures saved_grows { Grows (W.history image_out.old).bytes (W.history image_out.new).bytes }
+    ensures output_history { AppendsBytes (O.history out.old).bytes (O.history out.new).bytes }
+    ensures saved_history { AppendsBytes (W.history image_out.old).bytes (W.history image_out.new).bytes }
 {
     let mut segment = begin(alloc, start, mode, image, region, base)?;
-    serve(&mut segment, script, out, &mut Nobody, Until::End)?;
+    serve(&mut segment, script, out, &mut NoObserver, Until::End)?;
     match save_segment(&segment, image_out) {
         Ok(()) => Ok(()),
         Err(_) => Err(SessionFault::WriteFault),

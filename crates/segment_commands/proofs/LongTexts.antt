@@ -1,15 +1,19 @@
 -- A dump has as many bytes as the longest text of its vectors of strings, and a segment of it has room for as many.
-use Rattle.std.proofs.Common.{◌≡◌, ℕ, zero, suc, ◌+◌, ◌-◌, ◌*◌, ◌/◌, ◌≤◌, Bool, true, false, ◌==◌, ◌||◌, List, [], ◌∷◌, ◌++◌, length, drop, refl, ap, arith, if◌then◌else◌}
+use Rattle.std.proofs.Common.{◌≡◌, ℕ, zero, suc, ◌+◌, ◌-◌, ◌*◌, ◌/◌, ◌≤◌, Bool, true, false, ◌==◌, ◌||◌, List, [], ◌∷◌}
+use Rattle.std.proofs.Common.{◌++◌, length, drop, refl, ap, arith, if◌then◌else◌}
 use Rattle.std.specs.Prelude.{codes, max, min}
 use Rattle.std.specs.List.{flat_map}
 use Rattle.std.proofs.lemmas.List.{length-append, length-drop, length-take}
 use Rattle.seg_types.specs.Texts.{between, escape_text, item_text, quoted_text}
-use Rattle.segment_dump.specs.Items.{Content, Scalars, Vector, String, Map, Strings, Item, Items, kind_of_content, count_of_content}
+use Rattle.segment_dump.specs.Items.{ValueContent, Scalars, Vector, String, Map, Strings, DumpItem, Items}
+use Rattle.segment_dump.specs.Items.{kind_of_content, count_of_content}
 use Rattle.segment_dump.specs.declared.needs.Needs.{Needs}
 use Rattle.segment_dump.specs.Need.{all_needs, block_room, both, item_needs, items_needs, text_needs, texts_needs}
 use Rattle.segment_dump.specs.Notes.{are_notes, before_notes, without_notes}
 use Rattle.segment_manager.specs.Parts.{parts_until}
-use Rattle.segment_dump.specs.Texts.{content_text, dump_text, end_text, front_text, head_line, item_text as object_text, items_text, length_text, piece_lead, piece_line, piece_of, pieces_in, pieces_text, text_lines}
+use Rattle.segment_dump.specs.Texts.{content_text, dump_text, end_text, front_text, head_line, item_text as object_text}
+use Rattle.segment_dump.specs.Texts.{items_text, length_text, piece_lead, piece_line, piece_of, pieces_in, pieces_text}
+use Rattle.segment_dump.specs.Texts.{text_lines}
 
 -- ---- a text in a dump
 
@@ -21,7 +25,12 @@ item-if c false false = omega arith
 bytes-long : (bs : List ℕ) → length bs ≤ length (flat_map item_text bs)
 bytes-long [] = omega arith
 bytes-long (b ∷ bs) =
-    omega (arith, item-if b ((b == 0x22) || (b == 0x5C)) (between 0x20 0x7E b), bytes-long bs, length-append (item_text b) (flat_map item_text bs))
+    omega (
+      arith,
+      item-if b ((b == 0x22) || (b == 0x5C)) (between 0x20 0x7E b),
+      bytes-long bs,
+      length-append (item_text b) (flat_map item_text bs),
+    )
 
 quoted-long : (bs : List ℕ) → length bs ≤ length (quoted_text bs)
 quoted-long bs = omega (arith, bytes-long bs, length-append (flat_map item_text bs) (0x22 ∷ []))
@@ -51,19 +60,22 @@ text-long bs =
 all-long : {X : Type 0} (needs : X → Needs) (text : X → List ℕ) → ((x : X) → (needs x).longest ≤ length (text x))
     → (xs : List X) → (all_needs needs xs).longest ≤ length (flat_map text xs)
 all-long needs text each [] = omega arith
-all-long needs text each (x ∷ xs) = omega (arith, each x, all-long needs text each xs, length-append (text x) (flat_map text xs))
+all-long needs text each (x ∷ xs) =
+    omega (arith, each x, all-long needs text each xs, length-append (text x) (flat_map text xs))
 
-content-long : (c : Content) → (texts_needs c).longest ≤ length (content_text c)
+content-long : (c : ValueContent) → (texts_needs c).longest ≤ length (content_text c)
 content-long (Scalars k zs) = omega arith
 content-long (Vector k zs) = omega arith
 content-long (String bs) = omega arith
 content-long (Map k v ps) = omega arith
 content-long (Strings ts) = all-long text_needs text_lines text-long ts
 
-item-long : (i : Item) → (item_needs i).longest ≤ length (object_text i)
-item-long i = long (head_line i.class i.name (kind_of_content i.content) (count_of_content i.content)) (content_text i.content) (content-long i.content)
+item-long : (i : DumpItem) → (item_needs i).longest ≤ length (object_text i)
+item-long i = long (head_line i.class i.name (kind_of_content i.content) (count_of_content i.content))
+    (content_text i.content) (content-long i.content)
   where
-    long : (head content : List ℕ) → (texts_needs i.content).longest ≤ length content → max 0 (texts_needs i.content).longest ≤ length (head ++ content)
+    long : (head content : List ℕ) → (texts_needs i.content).longest ≤ length content
+        → max 0 (texts_needs i.content).longest ≤ length (head ++ content)
     long head content h = omega (arith, h, length-append head content)
 
 dump-long : (n : ℕ) (items : Items) → (items_needs items).longest ≤ length (dump_text n items)
@@ -76,7 +88,8 @@ dump-long n items =
       all-long item_needs object_text item-long items.named,
       all-long item_needs object_text item-long items.unique,
       all-long item_needs object_text item-long items.anonymous,
-      length-append (front_text n (length items.named) (length items.unique)) (named ++ (unique ++ (anonymous ++ end_text))),
+      length-append (front_text n (length items.named) (length items.unique)) (named
+          ++ (unique ++ (anonymous ++ end_text))),
       length-append named (unique ++ (anonymous ++ end_text)),
       length-append unique (anonymous ++ end_text),
       length-append anonymous end_text,
@@ -97,14 +110,14 @@ all-roomy : {X : Type 0} (needs : X → Needs) → ((x : X) → (needs x).longes
 all-roomy needs each [] = omega arith
 all-roomy needs each (x ∷ xs) = omega (arith, each x, all-roomy needs each xs)
 
-content-roomy : (c : Content) → (texts_needs c).longest ≤ (texts_needs c).room
+content-roomy : (c : ValueContent) → (texts_needs c).longest ≤ (texts_needs c).room
 content-roomy (Scalars k zs) = omega arith
 content-roomy (Vector k zs) = omega arith
 content-roomy (String bs) = omega arith
 content-roomy (Map k v ps) = omega arith
 content-roomy (Strings ts) = all-roomy text_needs (λ bs. block-long (length bs)) ts
 
-item-roomy : (i : Item) → (item_needs i).longest ≤ (item_needs i).room
+item-roomy : (i : DumpItem) → (item_needs i).longest ≤ (item_needs i).room
 item-roomy i = omega (arith, content-roomy i.content)
 
 items-roomy : (items : Items) → (items_needs items).longest ≤ (items_needs items).room
@@ -118,14 +131,16 @@ items-roomy items =
 
 -- ---- a text without its notes is no longer
 
-kept-by : (b : Bool) (c : ℕ) (kept cs : List ℕ) → length kept ≤ length cs → length (if b then [] else c ∷ kept) ≤ suc (length cs)
+kept-by : (b : Bool) (c : ℕ) (kept cs : List ℕ) → length kept ≤ length cs
+    → length (if b then [] else c ∷ kept) ≤ suc (length cs)
 kept-by true c kept cs h = omega arith
 kept-by false c kept cs h = omega (arith, h)
 
 kept-short : (start : Bool) (cs : List ℕ) → length (before_notes start cs) ≤ length cs
 kept-short start [] = omega arith
 kept-short false (c ∷ cs) = omega (arith, kept-short (c == 0x0A) cs)
-kept-short true (c ∷ cs) = kept-by (are_notes true (c ∷ cs)) c (before_notes (c == 0x0A) cs) cs (kept-short (c == 0x0A) cs)
+kept-short true (c ∷ cs) = kept-by (are_notes true (c ∷ cs)) c (before_notes (c == 0x0A) cs) cs
+    (kept-short (c == 0x0A) cs)
 
 -- so a room of as many bytes as the text has, or as the largest segment, is one for each text of its vectors of strings
 pub fits-room : (text : List ℕ) (n asked room : ℕ) (items : Items) → without_notes text ≡ dump_text n items

@@ -1,8 +1,9 @@
 -- What a check of several files finds, says and answers.
-use Rattle.std.specs.Prelude.{◌≡◌, ◌⊎◌, ℕ, Bool, true, false, List, [], ◌++◌, Option, Result, Ok, Err, MatchResult, codes, flat_map, fold, map}
+use Rattle.std.specs.Prelude.{◌≡◌, ◌⊎◌, ℕ, Bool, true, false, List, [], ◌++◌, Option, Result, Ok, Err, MatchResult}
+use Rattle.std.specs.Prelude.{codes, flat_map, fold, map}
 use Rattle.std.specs.List.{FoldsTo}
 use Rattle.std.specs.Ordering.{nat_cmp, ord_max}
-use Rattle.raw_region.specs.Device.{Took, Writes}
+use Rattle.raw_region.specs.Device.{WriterHistory, Writes}
 use Rattle.segment_cli.specs.Reports.{Puts, line, session_status, session_words}
 use Rattle.segment_cli.specs.declared.faults.SessionFault.{SessionFault}
 use Rattle.segment_cli.specs.declared.faults.SessionFault.TheVariants.{WriteFault}
@@ -10,8 +11,8 @@ use Rattle.segment_commands.specs.declared.command_faults.CommandFault.{CommandF
 use Rattle.segment_commands.specs.Faults.{Session}
 use Rattle.segment_commands.specs.Opening.{VerifiesFile}
 use Rattle.segment_commands.specs.Reports.{trouble_line}
-use Rattle.segment_commands.specs.Telling.{IsBrokenOff, IsTold}
-use Rattle.segment_disk.specs.declared.presence.Trouble.{Trouble}
+use Rattle.segment_commands.specs.Telling.{FailsOutput, FlushesText}
+use Rattle.segment_disk.specs.declared.presence.FileProblem.{FileProblem}
 use Rattle.segment_disk.specs.Events.{Event}
 use Rattle.segment_lang.specs.Texts.{quoted_text}
 
@@ -20,7 +21,7 @@ use Rattle.segment_lang.specs.Texts.{quoted_text}
 pub record Checked : Type 0 where
   pub path : List ℕ
   pub found : Result (Unit {0}) SessionFault
-  pub trouble : Option Trouble
+  pub trouble : Option FileProblem
 
 -- its line on standard output, unless the check is quiet
 abbrev pub fit_line : Bool → List ℕ → Result (Unit {0}) SessionFault → List ℕ
@@ -29,10 +30,11 @@ fit_line false path (Ok u) = quoted_text path ++ (codes ": ok\n" ++ [])
 fit_line false path (Err fault) = []
 
 -- its lines on standard error
-abbrev pub reason_lines : List ℕ → SessionFault → Option Trouble → List ℕ
-reason_lines path fault trouble = (quoted_text path ++ (codes ": " ++ (line (session_words fault) ++ []))) ++ trouble_line path trouble
+abbrev pub reason_lines : List ℕ → SessionFault → Option FileProblem → List ℕ
+reason_lines path fault trouble =
+    (quoted_text path ++ (codes ": " ++ (line (session_words fault) ++ []))) ++ trouble_line path trouble
 
-abbrev pub unfit_lines : List ℕ → Result (Unit {0}) SessionFault → Option Trouble → List ℕ
+abbrev pub unfit_lines : List ℕ → Result (Unit {0}) SessionFault → Option FileProblem → List ℕ
 unfit_lines path (Ok u) trouble = []
 unfit_lines path (Err fault) trouble = reason_lines path fault trouble
 
@@ -42,10 +44,12 @@ status_in (Ok u) = 0
 status_in (Err fault) = session_status fault
 
 -- the line of a file that holds a segment was said, or the output failed
-abbrev pub TellsFit : {O E : Type 0} → (O → Took) → (O → Bool → O → Type 0) → O → O → Bool → List ℕ → Result (Unit {0}) SessionFault → Result (Unit {0}) E → Type 0
+abbrev pub TellsFit : {O E : Type 0} → (O → WriterHistory) → (O → Bool → O → Type 0) → O → O → Bool → List ℕ
+    → Result (Unit {0}) SessionFault → Result (Unit {0}) E → Type 0
 TellsFit {O} {E} history flushes old new quiet path found result = MatchResult result
     (λ u. Writes {A = Unit {0}} {E = E} (history old) (history new) (Ok tt) (fit_line quiet path found))
-    (λ e. IsBrokenOff history old new (fit_line quiet path found) ⊎ IsTold history flushes old new (fit_line quiet path found) false)
+    (λ e. FailsOutput history old new (fit_line quiet path found)
+    ⊎ FlushesText history flushes old new (fit_line quiet path found) false)
 
 -- ---- all of them
 
@@ -64,12 +68,15 @@ worst_status = fold (λ worst c. worse worst (status_in c.found)) 0
 
 -- The files of these paths were checked one after another. Where the output took what was to be said, these are all of
 -- them, and the answer is the worst status; else they are the first ones, and the answer is that the output failed.
-pub record ChecksAll {D O : Type 0} (step : D → Event → D → Type 0) (disk disk' : D) (history : O → Took) (flushes : O → Bool → O → Type 0) (out out' : O) (err err' : Took)
+pub record ChecksAll {D O : Type 0} (step : D → Event → D → Type 0) (disk disk' : D) (history : O
+    → WriterHistory) (flushes : O → Bool → O → Type 0) (out out' : O) (err err' : WriterHistory)
     (quiet : Bool) (paths : List (List ℕ)) (result : Result ℕ CommandFault) : Type 0 where
   pub checked : List Checked
   pub asked : FoldsTo (λ d c d'. VerifiesFile step d d' c.path c.found) disk checked disk'
   pub unfit : Puts err err' (all_unfit_lines checked)
   pub answer : MatchResult result
-      (λ status. (map (λ c. c.path) checked ≡ paths) × (status ≡ worst_status checked) × IsTold history flushes out out' (fit_lines quiet checked) true)
+      (λ status. (map (λ c. c.path) checked ≡ paths) × (status ≡ worst_status checked)
+      × FlushesText history flushes out out' (fit_lines quiet checked) true)
       (λ fault. (fault ≡ Session WriteFault) × ((rest : List (List ℕ)) × (paths ≡ map (λ c. c.path) checked ++ rest))
-      × (IsBrokenOff history out out' (fit_lines quiet checked) ⊎ IsTold history flushes out out' (fit_lines quiet checked) false))
+      × (FailsOutput history out out' (fit_lines quiet checked)
+      ⊎ FlushesText history flushes out out' (fit_lines quiet checked) false))

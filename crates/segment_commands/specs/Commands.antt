@@ -2,22 +2,22 @@
 -- each ends.
 use Rattle.std.specs.Prelude.{◌≡◌, ◌≢◌, ◌⊎◌, ℕ, Bool, false, List, [], ◌∷◌, Result, Ok, Err, MatchResult, IsTrue, codes}
 use Rattle.block_tags.specs.Format.{is_legal_size}
-use Rattle.raw_region.specs.Device.{Given, Took}
+use Rattle.raw_region.specs.Device.{ReadDelta, WriterHistory}
 use Rattle.segment_manager.specs.declared.modes.Mode.TheVariants.{Write, ReadOnly}
-use Rattle.segment_manager.specs.State.{State}
+use Rattle.segment_manager.specs.State.{SegmentState}
 use Rattle.segment_cli.specs.declared.faults.SessionFault.{SessionFault}
 use Rattle.segment_cli.specs.declared.faults.SessionFault.TheVariants.{BadSize, WriteFault}
 use Rattle.segment_cli.specs.declared.faults.Start.TheVariants.{Fresh}
-use Rattle.segment_cli.specs.Beginning.{Starts}
+use Rattle.segment_cli.specs.Beginning.{BeginsSession}
 use Rattle.segment_commands.specs.declared.command_faults.CommandFault.{CommandFault}
 use Rattle.segment_commands.specs.Faults.{Exists, Session, region_refused}
 use Rattle.segment_disk.specs.declared.presence.Presence.{Presence}
 use Rattle.segment_disk.specs.declared.presence.Presence.TheVariants.{There}
-use Rattle.segment_disk.specs.declared.presence.Making.TheVariants.{New}
+use Rattle.segment_disk.specs.declared.presence.CreateMode.TheVariants.{New}
 use Rattle.segment_disk.specs.Events.{Event, Looked, After}
 use Rattle.segment_file.specs.Files.{WritesImage}
 use Rattle.segment_commands.specs.Opening.{OpensFile, VerifiesFile}
-use Rattle.segment_commands.specs.Telling.{Tells}
+use Rattle.segment_commands.specs.Telling.{WritesAndFlushes}
 
 -- a fault of the file's writer, or of the output, as the program answers it
 abbrev pub written_as : {E : Type 0} → Result (Unit {0}) E → Result (Unit {0}) CommandFault
@@ -27,32 +27,32 @@ written_as (Err e) = Err (Session WriteFault)
 -- ---- a segment that is made
 
 -- no segment has the size, and no memory was asked for
-pub record IsSizeless (size : ℕ) (result : Result State SessionFault) : Type 0 where
+pub record IsSizeless (size : ℕ) (result : Result SegmentState SessionFault) : Type 0 where
   pub illegal : is_legal_size size ≡ false
   pub refused : result ≡ Err BadSize
 
 -- a session begins with an empty segment of the size, in a region of some capacity
-pub record IsFreshSegment (size : ℕ) (segment : State) : Type 0 where
-  pub image : Given
+pub record IsFreshSegment (size : ℕ) (segment : SegmentState) : Type 0 where
+  pub image : ReadDelta
   pub capacity : ℕ
-  pub starts : Starts (Fresh size) Write 0 capacity image (Ok segment)
+  pub starts : BeginsSession (Fresh size) Write 0 capacity image (Ok segment)
 
 -- one is made, or a region with room for it was refused
-pub record IsFresh (size : ℕ) (result : Result State SessionFault) : Type 0 where
+pub record MakesFreshSegment (size : ℕ) (result : Result SegmentState SessionFault) : Type 0 where
   pub legal : IsTrue (is_legal_size size)
   pub answers : MatchResult result (IsFreshSegment size) (λ fault. fault ≡ region_refused size)
 
-abbrev pub MakesSegment : ℕ → Result State SessionFault → Type 0
-MakesSegment size result = IsSizeless size result ⊎ IsFresh size result
+abbrev pub MakesSegment : ℕ → Result SegmentState SessionFault → Type 0
+MakesSegment size result = IsSizeless size result ⊎ MakesFreshSegment size result
 
 module _ {D : Type 0} (step : D → Event → D → Type 0) (old new : D) (path : List ℕ) where
   -- something is there under the path, and nothing else was asked
-  pub record IsTaken (result : Result (Unit {0}) CommandFault) : Type 0 where
+  pub record RefusesExisting (result : Result (Unit {0}) CommandFault) : Type 0 where
     pub asked : After step old (Looked path There ∷ []) new
     pub refused : result ≡ Err Exists
 
   -- nothing is there, and no segment was made: nothing else was asked
-  pub record IsNotCreated (size : ℕ) (result : Result (Unit {0}) CommandFault) : Type 0 where
+  pub record CreatesFileErr (size : ℕ) (result : Result (Unit {0}) CommandFault) : Type 0 where
     pub found : Presence
     pub free : found ≢ There
     pub asked : After step old (Looked path found ∷ []) new
@@ -61,19 +61,19 @@ module _ {D : Type 0} (step : D → Event → D → Type 0) (old new : D) (path 
     pub refused : result ≡ Err (Session fault)
 
   -- nothing is there, and the image of an empty segment was written to a new file
-  pub record IsCreated (size : ℕ) (result : Result (Unit {0}) CommandFault) : Type 0 where
+  pub record CreatesFileOk (size : ℕ) (result : Result (Unit {0}) CommandFault) : Type 0 where
     pub found : Presence
     pub free : found ≢ There
     pub looked : D
     pub asked : step old (Looked path found) looked
-    pub segment : State
+    pub segment : SegmentState
     pub made : MakesSegment size (Ok segment)
     pub writes : WritesImage step looked new New path segment.cut.bytes result
     pub answer : (fault : CommandFault) → result ≡ Err fault → fault ≡ Session WriteFault
 
   -- `create`
   abbrev pub IsCreate : ℕ → Result (Unit {0}) CommandFault → Type 0
-  IsCreate size result = IsTaken result ⊎ (IsNotCreated size result ⊎ IsCreated size result)
+  IsCreate size result = RefusesExisting result ⊎ (CreatesFileErr size result ⊎ CreatesFileOk size result)
 
   -- ---- a file that is looked at
 
@@ -92,18 +92,21 @@ module _ {D : Type 0} (step : D → Event → D → Type 0) (old new : D) (path 
     pub refused : result ≡ Err (Session fault)
 
   -- the file has a segment, and `ok` was said
-  pub record IsFit {O : Type 0} (history : O → Took) (flushes : O → Bool → O → Type 0) (out out' : O) (result : Result (Unit {0}) CommandFault) : Type 0 where
+  pub record IsFit {O : Type 0} (history : O → WriterHistory) (flushes : O → Bool → O
+      → Type 0) (out out' : O) (result : Result (Unit {0}) CommandFault) : Type 0 where
     pub verifies : VerifiesFile step old new path (Ok tt)
-    pub tells : Tells history flushes out out' (codes "ok\n") result
+    pub tells : WritesAndFlushes history flushes out out' (codes "ok\n") result
     pub answer : (fault : CommandFault) → result ≡ Err fault → fault ≡ Session WriteFault
 
   -- `check`: nothing is opened for writing
-  abbrev pub IsCheck : {O : Type 0} → (O → Took) → (O → Bool → O → Type 0) → O → O → Result (Unit {0}) CommandFault → Type 0
+  abbrev pub IsCheck : {O : Type 0} → (O → WriterHistory) → (O → Bool → O → Type 0) → O → O
+      → Result (Unit {0}) CommandFault → Type 0
   IsCheck history flushes out out' result = IsRefused out out' result ⊎ IsFit history flushes out out' result
 
 -- ---- what the program says of itself
 
 -- the text was said
-pub record Prints {O : Type 0} (history : O → Took) (flushes : O → Bool → O → Type 0) (out out' : O) (text : List ℕ) (result : Result (Unit {0}) CommandFault) : Type 0 where
-  pub tells : Tells history flushes out out' text result
+pub record Prints {O : Type 0} (history : O → WriterHistory) (flushes : O → Bool → O
+    → Type 0) (out out' : O) (text : List ℕ) (result : Result (Unit {0}) CommandFault) : Type 0 where
+  pub tells : WritesAndFlushes history flushes out out' text result
   pub answer : (fault : CommandFault) → result ≡ Err fault → fault ≡ Session WriteFault

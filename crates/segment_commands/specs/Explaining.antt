@@ -1,8 +1,10 @@
 -- What is said of a file whose image is refused: why, and the place in it that shows it.
 use Rattle.std.specs.Prelude.{◌≡◌, ◌≢◌, ◌⊎◌, ◌++◌, ℕ, Bool, List, [], Result, Ok, Err, codes, decimal}
-use Rattle.raw_region.specs.Device.{Took}
+use Rattle.raw_region.specs.Device.{WriterHistory}
 use Rattle.image_check.specs.declared.classes.ImageClass.{ImageClass}
-use Rattle.image_check.specs.declared.classes.ImageClass.TheVariants.{Truncated, BadMagic, UnsupportedVersion, BadSize, BadReserved, BadTag, BadFreeTree, BadIndex, BadObject, SharedBlock, BadContainer, OrphanBlock}
+use Rattle.image_check.specs.declared.classes.ImageClass.TheVariants.{Truncated, BadMagic, UnsupportedVersion, BadSize}
+use Rattle.image_check.specs.declared.classes.ImageClass.TheVariants.{BadReserved, BadTag, BadFreeTree, BadIndex}
+use Rattle.image_check.specs.declared.classes.ImageClass.TheVariants.{BadObject, SharedBlock, BadContainer, OrphanBlock}
 use Rattle.image_check.specs.declared.verdict.Verdict.{Verdict}
 use Rattle.segment_cli.specs.declared.faults.SessionFault.TheVariants.{Image as Refused, WriteFault}
 use Rattle.segment_disk.specs.Events.{Event}
@@ -13,7 +15,7 @@ use Rattle.segment_commands.specs.declared.command_faults.CommandFault.{CommandF
 use Rattle.segment_commands.specs.Commands.{IsFit}
 use Rattle.segment_commands.specs.Faults.{Session}
 use Rattle.segment_commands.specs.Opening.{session_fault}
-use Rattle.segment_commands.specs.Telling.{Tells}
+use Rattle.segment_commands.specs.Telling.{WritesAndFlushes}
 
 -- ---- the line of a verdict
 
@@ -41,7 +43,8 @@ abbrev pub explained_as : {E : Type 0} → ImageClass → Result (Unit {0}) E �
 explained_as class (Ok u) = Err (Session (Refused class))
 explained_as class (Err e) = Err (Session WriteFault)
 
-module _ {D O : Type 0} (step : D → Event → D → Type 0) (old new : D) (path : List ℕ) (history : O → Took) (flushes : O → Bool → O → Type 0) (out out' : O) (result : Result (Unit {0}) CommandFault) where
+module _ {D O : Type 0} (step : D → Event → D → Type 0) (old new : D) (path : List ℕ) (history : O
+    → WriterHistory) (flushes : O → Bool → O → Type 0) (out out' : O) (result : Result (Unit {0}) CommandFault) where
   -- the file has no segment, for a reason that is no class, and nothing was said
   pub record IsUnexplained : Type 0 where
     pub unfit : Unfit
@@ -55,7 +58,7 @@ module _ {D O : Type 0} (step : D → Event → D → Type 0) (old new : D) (pat
     pub verdict : Verdict
     pub why : ExaminesFile step old new path (Err (Image verdict))
     pub said : Result (Unit {0}) CommandFault
-    pub tells : Tells history flushes out out' (verdict_text verdict) said
+    pub tells : WritesAndFlushes history flushes out out' (verdict_text verdict) said
     pub answer : result ≡ explained_as verdict.class said
 
   -- nothing is opened for writing

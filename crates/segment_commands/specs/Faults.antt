@@ -10,14 +10,14 @@ use Rattle.segment_cli.specs.declared.program_faults.ProgramFault.TheVariants as
 use Rattle.segment_commands.specs.declared.command_faults.CommandFault.{CommandFault}
 use Rattle.segment_commands.specs.declared.command_faults.CommandFault.TheVariants.{Program}
 
-abbrev pub Usage : CommandFault
-Usage = Program program.Usage
+abbrev pub UsageFault : CommandFault
+UsageFault = Program program.Usage
 
 abbrev pub Exists : CommandFault
 Exists = Program program.Exists
 
-abbrev pub Growth : GrowError → CommandFault
-Growth e = Program (program.Growth e)
+abbrev pub GrowthFault : GrowError → CommandFault
+GrowthFault e = Program (program.Growth e)
 
 abbrev pub Session : SessionFault → CommandFault
 Session f = Program (program.Session f)

@@ -3,7 +3,7 @@ use Rattle.std.specs.Prelude.{◌≡◌, ◌⊎◌, ℕ, false, List, [], ◌∷
 use Rattle.segment_commands.specs.declared.command_faults.CommandFault.{CommandFault}
 use Rattle.segment_commands.specs.declared.command_faults.CommandFault.TheVariants.{InUse}
 use Rattle.segment_disk.specs.Events.{Event, Held, After}
-use Rattle.segment_file.specs.Holding.{IsHolding}
+use Rattle.segment_file.specs.Holding.{RunsLocked}
 
 module _ {D : Type 0} (step : D → Event → D → Type 0) (old new : D) (path : List ℕ) where
   -- another has it: nothing else was asked of the disk, and nothing else was done
@@ -12,5 +12,5 @@ module _ {D : Type 0} (step : D → Event → D → Type 0) (old new : D) (path 
     pub idle : is_idle
     pub refused : result ≡ Err InUse
 
-  abbrev pub Holds : Type 0 → (D → D → Type 0) → Result (Unit {0}) CommandFault → Type 0
-  Holds is_idle does result = IsInUse is_idle result ⊎ IsHolding step old new path does
+  abbrev pub HoldsLock : Type 0 → (D → D → Type 0) → Result (Unit {0}) CommandFault → Type 0
+  HoldsLock is_idle does result = IsInUse is_idle result ⊎ RunsLocked step old new path does

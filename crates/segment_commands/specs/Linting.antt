@@ -1,7 +1,7 @@
 -- What the command `lint` answers.
 use Rattle.std.specs.Prelude.{◌≡◌, ℕ, Bool, true, false, List, Result, Ok, Err}
-use Rattle.raw_region.specs.Device.{Gave, Took, given_since, taken_since}
-use Rattle.segment_scripts.specs.Leaves.{Leaves}
+use Rattle.raw_region.specs.Device.{ReaderHistory, WriterHistory, read_delta, write_delta}
+use Rattle.segment_scripts.specs.RunOutcome.{ExecutesScript}
 use Rattle.segment_scripts.specs.Linting.{is_at, lint_line, start}
 use Rattle.segment_scripts.specs.declared.faults.RunFault.{RunFault}
 use Rattle.segment_scripts.specs.declared.language.CommandRow.{CommandRow}
@@ -20,12 +20,15 @@ answer_of (Ok u) true true = Err Misspelled
 answer_of (Ok u) true false = Ok tt
 
 -- the findings of the script's lines went out, and the answer says whether there is one
-pub record Lints {O : Type 0} (rows : List CommandRow) (script script' : Gave) (history : O → Took) (flushes : O → Bool → O → Type 0) (out out' : O) (result : Result (Unit {0}) CommandFault) : Type 0 where
+pub record Lints {O : Type 0} (rows : List CommandRow) (script script' : ReaderHistory) (history : O
+    → WriterHistory) (flushes : O → Bool → O
+    → Type 0) (out out' : O) (result : Result (Unit {0}) CommandFault) : Type 0 where
   pub ran : Result (Unit {0}) RunFault
   pub last : ℕ
   pub found : Bool
   pub known : List CommandRow
-  pub leaves : Leaves lint_line (start rows) (given_since script script') (taken_since (history out) (history out')) ran (is_at last found known)
+  pub leaves : ExecutesScript lint_line (start rows) (read_delta script script')
+      (write_delta (history out) (history out')) ran (is_at last found known)
   pub went_out : Bool
   pub flushed : IsFlushed history flushes out' went_out
   pub result_is : result ≡ answer_of ran went_out found

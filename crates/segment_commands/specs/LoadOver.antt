@@ -1,19 +1,21 @@
 -- How a segment is made of a dump, in the place of a file that is there.
 use Rattle.std.specs.Prelude.{◌≡◌, ◌≢◌, ◌⊎◌, ℕ, List, Option, Result, Ok, Err}
-use Rattle.raw_region.specs.Device.{Gave}
-use Rattle.segment_manager.specs.State.{State}
+use Rattle.raw_region.specs.Device.{ReaderHistory}
+use Rattle.segment_manager.specs.State.{SegmentState}
 use Rattle.segment_cli.specs.declared.faults.SessionFault.TheVariants.{WriteFault}
 use Rattle.segment_commands.specs.declared.command_faults.CommandFault.{CommandFault}
 use Rattle.segment_commands.specs.Faults.{Session}
 use Rattle.segment_disk.specs.declared.presence.Presence.{Presence}
 use Rattle.segment_disk.specs.declared.presence.Presence.TheVariants.{There}
-use Rattle.segment_disk.specs.declared.presence.Making.TheVariants.{Beside}
+use Rattle.segment_disk.specs.declared.presence.CreateMode.TheVariants.{Replacement}
 use Rattle.segment_disk.specs.Events.{Event, Looked}
 use Rattle.segment_file.specs.Files.{WritesImage}
-use Rattle.segment_commands.specs.Holding.{Holds}
+use Rattle.segment_commands.specs.Holding.{HoldsLock}
 use Rattle.segment_commands.specs.Loading.{IsLoad, LoadsDump}
 
-module _ {D : Type 0} (step : D → Event → D → Type 0) (old new : D) (path : List ℕ) (size : Option ℕ) (script script' : Gave) (result : Result (Unit {0}) CommandFault) where
+module _ {D : Type 0} (step : D → Event → D
+    → Type 0) (old new : D) (path : List ℕ) (size : Option ℕ) (script script' : ReaderHistory)
+    (result : Result (Unit {0}) CommandFault) where
   -- no segment was made, and the disk was not asked for anything
   pub record IsNotLoadedOver : Type 0 where
     pub asked : new ≡ old
@@ -23,15 +25,17 @@ module _ {D : Type 0} (step : D → Event → D → Type 0) (old new : D) (path 
 
   -- the image of the segment was written beside the file, and took its place
   pub record IsLoadedOver : Type 0 where
-    pub segment : State
+    pub segment : SegmentState
     pub made : LoadsDump size script script' (Ok segment)
-    pub writes : WritesImage step old new Beside path segment.cut.bytes result
+    pub writes : WritesImage step old new Replacement path segment.cut.bytes result
     pub answer : (fault : CommandFault) → result ≡ Err fault → fault ≡ Session WriteFault
 
   abbrev pub LoadsOver : Type 0
   LoadsOver = IsNotLoadedOver ⊎ IsLoadedOver
 
-module _ {D : Type 0} (step : D → Event → D → Type 0) (old new : D) (path : List ℕ) (size : Option ℕ) (script script' : Gave) (result : Result (Unit {0}) CommandFault) where
+module _ {D : Type 0} (step : D → Event → D
+    → Type 0) (old new : D) (path : List ℕ) (size : Option ℕ) (script script' : ReaderHistory)
+    (result : Result (Unit {0}) CommandFault) where
   -- nothing is there, or that can't be known: a new file is made
   pub record IsLoadedAnew : Type 0 where
     pub found : Presence
@@ -44,7 +48,8 @@ module _ {D : Type 0} (step : D → Event → D → Type 0) (old new : D) (path 
   pub record IsLoadedInPlace : Type 0 where
     pub looked : D
     pub asked : step old (Looked path There) looked
-    pub holds : Holds step looked new path (script' ≡ script) (λ held done. LoadsOver step held done path size script script' result) result
+    pub holds : HoldsLock step looked new path (script' ≡ script) (λ held done.
+        LoadsOver step held done path size script script' result) result
 
   -- `load --replace`
   abbrev pub IsLoadOver : Type 0

@@ -1,13 +1,14 @@
 -- How a segment is made of a dump, in a file that is not there: what the disk is asked, in order, and how it ends.
-use Rattle.std.specs.Prelude.{◌≡◌, ◌≢◌, ◌⊎◌, ◌^◌, ◌<◌, ◌≤◌, ⊤, ℕ, true, false, List, [], ◌∷◌, Option, Some, None, Result, Ok, Err, MatchResult, length, min}
-use Rattle.raw_region.specs.Device.{Gave, Given, given_since}
+use Rattle.std.specs.Prelude.{◌≡◌, ◌≢◌, ◌⊎◌, ◌^◌, ◌<◌, ◌≤◌, ⊤, ℕ, true, false, List, [], ◌∷◌, Option, Some, None}
+use Rattle.std.specs.Prelude.{Result, Ok, Err, MatchResult, length, min}
+use Rattle.raw_region.specs.Device.{ReaderHistory, ReadDelta, read_delta}
 use Rattle.raw_region.specs.Refusals.{refusal_of}
 use Rattle.block_tags.specs.Format.{is_legal_size}
 use Rattle.segment_manager.specs.Directory.{Directory}
-use Rattle.segment_manager.specs.State.{State, StandsFor}
+use Rattle.segment_manager.specs.State.{SegmentState, DenotesCurrent}
 use Rattle.segment_dump.specs.Counting.{AreCountable}
 use Rattle.segment_dump.specs.Items.{Items, portable}
-use Rattle.segment_dump.specs.Loading.{IsLoaded, IsWhyNot, asked_of}
+use Rattle.segment_dump.specs.Loading.{IsLoaded, IsLoadCause, asked_of}
 use Rattle.segment_dump.specs.Need.{items_needs}
 use Rattle.segment_dump.specs.Notes.{without_notes}
 use Rattle.segment_dump.specs.Texts.{dump_text}
@@ -15,13 +16,15 @@ use Rattle.segment_dump.specs.declared.faults.LoadError.{LoadError}
 use Rattle.segment_dump.specs.declared.faults.LoadError.TheVariants as load
 use Rattle.image_check.specs.declared.errors.MemoryFault.TheVariants.{BlockMap, Bytes}
 use Rattle.segment_cli.specs.declared.faults.SessionFault.{SessionFault}
-use Rattle.segment_cli.specs.declared.faults.SessionFault.TheVariants.{Image as Refused, BadSize, RegionTooSmall, OutOfMemory, ReadFault, WriteFault, ScriptTooLong}
+use Rattle.segment_cli.specs.declared.faults.SessionFault.TheVariants.{Image as Refused, BadSize, RegionTooSmall}
+use Rattle.segment_cli.specs.declared.faults.SessionFault.TheVariants.{OutOfMemory, ReadFault, WriteFault}
+use Rattle.segment_cli.specs.declared.faults.SessionFault.TheVariants.{ScriptTooLong}
 use Rattle.segment_commands.specs.declared.command_faults.CommandFault.{CommandFault}
 use Rattle.segment_commands.specs.declared.command_faults.CommandFault.TheVariants.{BadDump, NoSpace}
 use Rattle.segment_commands.specs.Faults.{Exists, IsNoMemory, Session}
 use Rattle.segment_disk.specs.declared.presence.Presence.{Presence}
 use Rattle.segment_disk.specs.declared.presence.Presence.TheVariants.{There}
-use Rattle.segment_disk.specs.declared.presence.Making.TheVariants.{New}
+use Rattle.segment_disk.specs.declared.presence.CreateMode.TheVariants.{New}
 use Rattle.segment_disk.specs.Events.{Event, Looked, After}
 use Rattle.segment_file.specs.Files.{WritesImage}
 
@@ -32,19 +35,19 @@ abbrev pub dump_limit : ℕ
 dump_limit = 17179869184
 
 -- the text is all that was given, to the end, no more than a dump may have, and no read failed
-pub record IsReadWhole (given : Given) (text : List ℕ) : Type 0 where
+pub record IsReadWhole (given : ReadDelta) (text : List ℕ) : Type 0 where
   pub bytes : given.bytes ≡ text
   pub within : length text ≤ dump_limit
   pub ended : given.ended ≡ true
   pub sound : given.failed ≡ false
 
 -- more was given than a dump may have
-pub record IsTooLong (given : Given) : Type 0 where
+pub record IsAboveDumpLimit (given : ReadDelta) : Type 0 where
   pub long : dump_limit < length given.bytes
   pub sound : given.failed ≡ false
 
 -- why it was not read whole
-abbrev pub IsWhyUnread : Given → SessionFault → Type 0
+abbrev pub IsWhyUnread : ReadDelta → SessionFault → Type 0
 IsWhyUnread given (Refused c) = ⊥
 IsWhyUnread given BadSize = ⊥
 IsWhyUnread given RegionTooSmall = ⊥
@@ -52,7 +55,7 @@ IsWhyUnread given (OutOfMemory (Bytes refusal)) = (given.failed ≡ false) × (r
 IsWhyUnread given (OutOfMemory (BlockMap refusal)) = ⊥
 IsWhyUnread given ReadFault = given.failed ≡ true
 IsWhyUnread given WriteFault = ⊥
-IsWhyUnread given ScriptTooLong = IsTooLong given
+IsWhyUnread given ScriptTooLong = IsAboveDumpLimit given
 
 -- ---- a segment that is made of it, but for the notes at its end
 
@@ -66,38 +69,41 @@ load_fault needed load.LongText = NoSpace needed
 
 -- whatever objects the text is the dump of, they need so many bytes
 pub record NeedsRoom (text : List ℕ) (needed : ℕ) : Type 0 where
-  pub needs : (n : ℕ) (items : Items) → n < 2 ^ 64 → AreCountable items → without_notes text ≡ dump_text n items → needed ≡ (items_needs items).room
+  pub needs : (n : ℕ) (items : Items) → n < 2 ^ 64 → AreCountable items → without_notes text ≡ dump_text n items
+      → needed ≡ (items_needs items).room
 
 -- the region has room for a segment of the size that was asked for
-abbrev pub HasRoomFor : Option ℕ → List ℕ → Type 0
-HasRoomFor None region = ⊤
-HasRoomFor (Some size) region = min size 1073741824 ≤ length region
+abbrev pub HasRoomForSize : Option ℕ → List ℕ → Type 0
+HasRoomForSize None region = ⊤
+HasRoomForSize (Some size) region = min size 1073741824 ≤ length region
 
 -- a load in a region with room for the size, and with room for each text, was refused
 pub record IsLoadRefused (text : List ℕ) (size : Option ℕ) (fault : CommandFault) : Type 0 where
   pub region : List ℕ
-  pub roomy : HasRoomFor size region
+  pub roomy : HasRoomForSize size region
   pub room : ℕ
   pub wide : min (length text) 1073741824 ≤ room
   pub cause : LoadError
-  pub why : IsWhyNot (without_notes text) region 0 size room cause
+  pub why : IsLoadCause (without_notes text) region 0 size room cause
   pub needed : ℕ
   pub needs : NeedsRoom text needed
   pub fault_is : fault ≡ load_fault needed cause
 
 -- the text is the dump of the segment, or there is none: for a reason of the load, or since memory was refused
-abbrev pub LoadsSegment : List ℕ → Option ℕ → Result State CommandFault → Type 0
-LoadsSegment text size result = MatchResult result (IsLoaded (without_notes text) size) (λ fault. IsLoadRefused text size fault ⊎ IsNoMemory fault)
+abbrev pub LoadsSegment : List ℕ → Option ℕ → Result SegmentState CommandFault → Type 0
+LoadsSegment text size result =
+    MatchResult result (IsLoaded (without_notes text) size) (λ fault. IsLoadRefused text size fault ⊎ IsNoMemory fault)
 
 -- as many bytes as are asked for, or else as the text says
-abbrev pub IsWanted : List ℕ → Option ℕ → ℕ → Type 0
-IsWanted text size wanted = (n : ℕ) (items : Items) → n < 2 ^ 64 → without_notes text ≡ dump_text n items → wanted ≡ asked_of size n
+abbrev pub IsWantedSize : List ℕ → Option ℕ → ℕ → Type 0
+IsWantedSize text size wanted = (n : ℕ) (items : Items) → n < 2 ^ 64 → without_notes text ≡ dump_text n items
+    → wanted ≡ asked_of size n
 
 -- the text is the dump of a segment, and a segment of the size that is wanted can have its objects
 pub record IsFitting (text : List ℕ) (size : Option ℕ) : Type 0 where
   pub bytes : List ℕ
   pub directory : Directory
-  pub stands : StandsFor bytes directory
+  pub stands : DenotesCurrent bytes directory
   pub said : ℕ
   pub small : said < 2 ^ 64
   pub dump : without_notes text ≡ dump_text said (portable directory)
@@ -105,7 +111,7 @@ pub record IsFitting (text : List ℕ) (size : Option ℕ) : Type 0 where
   pub room : (items_needs (portable directory)).room ≤ asked_of size said
 
 -- a segment is made, if memory is given
-abbrev pub IsMadeIfGiven : Result State CommandFault → Type 0
+abbrev pub IsMadeIfGiven : Result SegmentState CommandFault → Type 0
 IsMadeIfGiven result = MatchResult result (λ segment. ⊤) IsNoMemory
 
 -- a segment may have the size that was asked for, if one was
@@ -113,7 +119,7 @@ abbrev pub IsSizeFit : Option ℕ → Type 0
 IsSizeFit None = ⊤
 IsSizeFit (Some size) = is_legal_size size ≡ true
 
-module _ (size : Option ℕ) (script script' : Gave) (result : Result State CommandFault) where
+module _ (size : Option ℕ) (script script' : ReaderHistory) (result : Result SegmentState CommandFault) where
   -- no segment has the size that was asked for, and nothing was read
   pub record IsSizeUnfit : Type 0 where
     pub asked : ℕ
@@ -126,14 +132,14 @@ module _ (size : Option ℕ) (script script' : Gave) (result : Result State Comm
   pub record IsDumpUnread : Type 0 where
     pub fit : IsSizeFit size
     pub fault : SessionFault
-    pub why : IsWhyUnread (given_since script script') fault
+    pub why : IsWhyUnread (read_delta script script') fault
     pub refused : result ≡ Err (Session fault)
 
   -- it was read whole, and a segment was made of it or not
   pub record IsDumpRead : Type 0 where
     pub fit : IsSizeFit size
     pub text : List ℕ
-    pub read : IsReadWhole (given_since script script') text
+    pub read : IsReadWhole (read_delta script script') text
     pub loads : LoadsSegment text size result
     pub makes : IsFitting text size → IsMadeIfGiven result
 
@@ -142,7 +148,9 @@ module _ (size : Option ℕ) (script script' : Gave) (result : Result State Comm
 
 -- ---- `load`
 
-module _ {D : Type 0} (step : D → Event → D → Type 0) (old new : D) (path : List ℕ) (size : Option ℕ) (script script' : Gave) (result : Result (Unit {0}) CommandFault) where
+module _ {D : Type 0} (step : D → Event → D
+    → Type 0) (old new : D) (path : List ℕ) (size : Option ℕ) (script script' : ReaderHistory)
+    (result : Result (Unit {0}) CommandFault) where
   -- something is there under the path, and nothing else was asked for
   pub record IsTakenLoad : Type 0 where
     pub asked : After step old (Looked path There ∷ []) new
@@ -164,7 +172,7 @@ module _ {D : Type 0} (step : D → Event → D → Type 0) (old new : D) (path 
     pub free : found ≢ There
     pub looked : D
     pub asked : step old (Looked path found) looked
-    pub segment : State
+    pub segment : SegmentState
     pub made : LoadsDump size script script' (Ok segment)
     pub writes : WritesImage step looked new New path segment.cut.bytes result
     pub answer : (fault : CommandFault) → result ≡ Err fault → fault ≡ Session WriteFault
@@ -175,4 +183,5 @@ module _ {D : Type 0} (step : D → Event → D → Type 0) (old new : D) (path 
   -- Where a dump was read that fits, of whatever segment, and with whatever notes, its segment is in the file, but for
   -- something that is there, memory that is not given, or a file that cannot be written.
   pub record LoadsWhatFits : Type 0 where
-    pub loads : (text : List ℕ) → IsReadWhole (given_since script script') text → IsFitting text size → IsTakenLoad ⊎ (((fault : CommandFault) × IsNoMemory fault × (result ≡ Err fault)) ⊎ IsLoadedTo)
+    pub loads : (text : List ℕ) → IsReadWhole (read_delta script script') text → IsFitting text size
+        → IsTakenLoad ⊎ (((fault : CommandFault) × IsNoMemory fault × (result ≡ Err fault)) ⊎ IsLoadedTo)

@@ -1,18 +1,18 @@
 -- How an image of an older format is written anew in its file: what the disk is asked, in order, and what is said.
 use Rattle.std.specs.Prelude.{◌≡◌, ◌⊎◌, Bool, List, ℕ, Result, Ok, Err, codes}
-use Rattle.raw_region.specs.Device.{Took}
+use Rattle.raw_region.specs.Device.{WriterHistory}
 use Rattle.segment_manager.specs.declared.modes.Mode.TheVariants.{Write}
-use Rattle.segment_manager.specs.State.{State}
-use Rattle.image_check.specs.declared.versions.Versions.TheVariants.{All}
+use Rattle.segment_manager.specs.State.{SegmentState}
+use Rattle.image_check.specs.declared.versions.AcceptedVersions.TheVariants.{All}
 use Rattle.segment_cli.specs.declared.faults.SessionFault.{SessionFault}
 use Rattle.segment_cli.specs.declared.faults.SessionFault.TheVariants.{WriteFault}
 use Rattle.segment_commands.specs.declared.command_faults.CommandFault.{CommandFault}
 use Rattle.segment_commands.specs.Faults.{Session}
-use Rattle.segment_disk.specs.declared.presence.Making.{Making}
+use Rattle.segment_disk.specs.declared.presence.CreateMode.{CreateMode}
 use Rattle.segment_disk.specs.Events.{Event}
 use Rattle.segment_file.specs.Files.{WritesImage}
 use Rattle.segment_commands.specs.Opening.{OpensWith}
-use Rattle.segment_commands.specs.Telling.{Tells}
+use Rattle.segment_commands.specs.Telling.{WritesAndFlushes}
 
 -- a writing that answers Ok
 abbrev pub written : (E : Type 0) → Result (Unit {0}) E
@@ -20,7 +20,7 @@ written E = Ok tt
 
 module _ {D : Type 0} (step : D → Event → D → Type 0) (old new : D) (path : List ℕ) where
   -- the segment of a file of any of the three formats
-  abbrev pub OpensAnyFile : Result State SessionFault → Type 0
+  abbrev pub OpensAnyFile : Result SegmentState SessionFault → Type 0
   OpensAnyFile result = OpensWith step old new path All Write 0 result
 
   -- the file has no segment of any format, for this reason
@@ -31,8 +31,10 @@ module _ {D : Type 0} (step : D → Event → D → Type 0) (old new : D) (path 
     pub refused : result ≡ Err (Session fault)
 
 -- the file was read, and its image could not be written
-pub record IsUnwrittenMigration {D O : Type 0} (step : D → Event → D → Type 0) (old new : D) (path : List ℕ) (how : Making) (out out' : O) (result : Result (Unit {0}) CommandFault) : Type 0 where
-  pub segment : State
+pub record MigratesFileErr {D O : Type 0} (step : D → Event → D
+    → Type 0) (old new : D) (path : List ℕ) (how : CreateMode) (out out' : O)
+    (result : Result (Unit {0}) CommandFault) : Type 0 where
+  pub segment : SegmentState
   pub read : D
   pub opens_file : OpensAnyFile step old read path (Ok segment)
   pub writes : WritesImage step read new how path segment.cut.bytes result
@@ -40,16 +42,20 @@ pub record IsUnwrittenMigration {D O : Type 0} (step : D → Event → D → Typ
   pub refused : result ≡ Err (Session WriteFault)
 
 -- the file was read, its image was written whole, and then `ok` was said
-pub record IsMigratedFile {D O : Type 0} (step : D → Event → D → Type 0) (old new : D) (path : List ℕ) (how : Making) (history : O → Took) (flushes : O → Bool → O → Type 0) (out out' : O) (result : Result (Unit {0}) CommandFault) : Type 0 where
-  pub segment : State
+pub record MigratesFileOk {D O : Type 0} (step : D → Event → D
+    → Type 0) (old new : D) (path : List ℕ) (how : CreateMode) (history : O → WriterHistory) (flushes : O → Bool → O
+    → Type 0) (out out' : O) (result : Result (Unit {0}) CommandFault) : Type 0 where
+  pub segment : SegmentState
   pub read : D
   pub opens_file : OpensAnyFile step old read path (Ok segment)
   pub writes : WritesImage step read new how path segment.cut.bytes (written CommandFault)
-  pub tells : Tells history flushes out out' (codes "ok\n") result
+  pub tells : WritesAndFlushes history flushes out out' (codes "ok\n") result
   pub answer : (fault : CommandFault) → result ≡ Err fault → fault ≡ Session WriteFault
 
 -- `migrate`
-abbrev pub IsMigrate : {D O : Type 0} → (D → Event → D → Type 0) → D → D → List ℕ → Making → (O → Took) → (O → Bool → O → Type 0) → O → O → Result (Unit {0}) CommandFault → Type 0
+abbrev pub IsMigrate : {D O : Type 0} → (D → Event → D → Type 0) → D → D → List ℕ → CreateMode → (O → WriterHistory)
+    → (O → Bool → O → Type 0) → O → O → Result (Unit {0}) CommandFault → Type 0
 IsMigrate step old new path how history flushes out out' result =
     IsUnopenedMigration step old new path out out' result
-    ⊎ (IsUnwrittenMigration step old new path how out out' result ⊎ IsMigratedFile step old new path how history flushes out out' result)
+    ⊎ (MigratesFileErr step old new path how out out' result
+    ⊎ MigratesFileOk step old new path how history flushes out out' result)

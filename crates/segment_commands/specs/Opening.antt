@@ -1,9 +1,9 @@
 -- How the segment of a file is opened, or only its image checked, as a session answers it.
 use Rattle.std.specs.Prelude.{◌≡◌, ℕ, List, Result, Ok, Err}
 use Rattle.segment_manager.specs.declared.modes.Mode.{Mode}
-use Rattle.segment_manager.specs.State.{State}
-use Rattle.image_check.specs.declared.versions.Versions.{Versions}
-use Rattle.image_check.specs.declared.versions.Versions.TheVariants.{Current}
+use Rattle.segment_manager.specs.State.{SegmentState}
+use Rattle.image_check.specs.declared.versions.AcceptedVersions.{AcceptedVersions}
+use Rattle.image_check.specs.declared.versions.AcceptedVersions.TheVariants.{Current}
 use Rattle.segment_cli.specs.declared.faults.SessionFault.{SessionFault}
 use Rattle.segment_cli.specs.declared.faults.SessionFault.TheVariants.{Image as Refused, OutOfMemory, ReadFault}
 use Rattle.segment_disk.specs.Events.{Event}
@@ -18,7 +18,7 @@ session_fault (Image c) = Refused c
 session_fault (NoMemory refusal) = OutOfMemory refusal
 session_fault other = ReadFault
 
-abbrev pub as_session : Result State FileError → Result State SessionFault
+abbrev pub as_session : Result SegmentState FileError → Result SegmentState SessionFault
 as_session (Ok s) = Ok s
 as_session (Err error) = Err (session_fault error)
 
@@ -27,14 +27,16 @@ as_checked (Ok done) = Ok done
 as_checked (Err unfit) = Err (session_fault (unfit_error unfit))
 
 module _ {D : Type 0} (step : D → Event → D → Type 0) (old new : D) (path : List ℕ) where
-  -- the file was read as images of these versions are, to a region with room for so many bytes more, and nothing else was
+  -- the file was read as images of these versions are, to a region with room for so many bytes more, and nothing else
+  -- was
   -- asked
-  pub record OpensWith (versions : Versions) (mode : Mode) (more : ℕ) (result : Result State SessionFault) : Type 0 where
-    pub read : Result State FileError
+  pub record OpensWith (versions : AcceptedVersions) (mode : Mode) (more : ℕ)
+      (result : Result SegmentState SessionFault) : Type 0 where
+    pub read : Result SegmentState FileError
     pub reads : ReadsFile step old new path versions mode more read
     pub answer : result ≡ as_session read
 
-  abbrev pub OpensFile : Mode → Result State SessionFault → Type 0
+  abbrev pub OpensFile : Mode → Result SegmentState SessionFault → Type 0
   OpensFile mode result = OpensWith Current mode 0 result
 
   -- its image was checked: it has a segment, or this is why it has none

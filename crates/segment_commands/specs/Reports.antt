@@ -5,10 +5,12 @@ use Rattle.segment_dump.specs.declared.faults.DumpFault.{DumpFault}
 use Rattle.segment_dump.specs.declared.faults.DumpFault.TheVariants as dump
 use Rattle.segment_cli.specs.Reports.{fault_text, line, status_of}
 use Rattle.segment_commands.specs.declared.command_faults.CommandFault.{CommandFault}
-use Rattle.segment_commands.specs.declared.command_faults.CommandFault.TheVariants.{Program, InUse, Stopped, Misspelled, BadDump, NoSpace}
+use Rattle.segment_commands.specs.declared.command_faults.CommandFault.TheVariants.{Program, InUse, Stopped, Misspelled}
+use Rattle.segment_commands.specs.declared.command_faults.CommandFault.TheVariants.{BadDump, NoSpace}
 use Rattle.segment_lang.specs.Texts.{quoted_text}
-use Rattle.segment_disk.specs.declared.presence.Trouble.{Trouble}
-use Rattle.segment_disk.specs.declared.presence.Trouble.TheVariants.{Missing, Homeless, Unnamed, Folder, Denied, Taken}
+use Rattle.segment_disk.specs.declared.presence.FileProblem.{FileProblem}
+use Rattle.segment_disk.specs.declared.presence.FileProblem.TheVariants.{Missing, NoParentFolder, Unnamed, Folder}
+use Rattle.segment_disk.specs.declared.presence.FileProblem.TheVariants.{Denied, Taken}
 
 -- ---- the line of a fault
 
@@ -26,7 +28,9 @@ dump_words dump.Exists = codes "already exists"
 dump_words dump.Unlike = codes "not as a dump has it"
 
 abbrev pub bad_dump_line : Bad → List ℕ
-bad_dump_line bad = codes "segment: dump refused: line " ++ (decimal bad.line ++ (codes ", column " ++ (decimal bad.column ++ (codes ": " ++ (dump_words bad.cause ++ (codes "\n" ++ []))))))
+bad_dump_line bad = codes "segment: dump refused: line "
+    ++ (decimal bad.line ++ (codes ", column "
+    ++ (decimal bad.column ++ (codes ": " ++ (dump_words bad.cause ++ (codes "\n" ++ []))))))
 
 abbrev pub no_space_line : ℕ → List ℕ
 no_space_line needed = codes "segment: no space: the objects need " ++ (decimal needed ++ (codes " bytes\n" ++ []))
@@ -41,19 +45,19 @@ command_text (BadDump bad) = bad_dump_line bad
 command_text (NoSpace needed) = no_space_line needed
 
 -- what a second line says of the file of a path, which stands there as a text of the language
-abbrev pub trouble_words : Trouble → List ℕ
+abbrev pub trouble_words : FileProblem → List ℕ
 trouble_words Missing = codes ": no such file\n"
-trouble_words Homeless = codes ": no such folder\n"
+trouble_words NoParentFolder = codes ": no such folder\n"
 trouble_words Unnamed = codes ": is no name of a file\n"
 trouble_words Folder = codes ": is a folder\n"
 trouble_words Denied = codes ": permission denied\n"
 trouble_words Taken = codes ": another file is there\n"
 
-abbrev pub trouble_text : List ℕ → Trouble → List ℕ
+abbrev pub trouble_text : List ℕ → FileProblem → List ℕ
 trouble_text path trouble = codes "segment: " ++ (quoted_text path ++ (trouble_words trouble ++ []))
 
 -- the same of a trouble that may be none
-abbrev pub trouble_line : List ℕ → Option Trouble → List ℕ
+abbrev pub trouble_line : List ℕ → Option FileProblem → List ℕ
 trouble_line path None = []
 trouble_line path (Some trouble) = trouble_text path trouble
 

@@ -1,10 +1,10 @@
 -- How the segment of a file becomes larger or smaller: what the disk is asked, in order, and what is said.
 use Rattle.std.specs.Prelude.{◌≡◌, ◌≢◌, ◌⊎◌, ◌++◌, ◌∷◌, [], ℕ, Bool, Option, List, Result, Ok, Err, codes, decimal}
-use Rattle.raw_region.specs.Device.{Took}
+use Rattle.raw_region.specs.Device.{WriterHistory}
 use Rattle.segment_manager.specs.declared.modes.Mode.TheVariants.{Write}
 use Rattle.segment_manager.specs.Directory.{Directory}
 use Rattle.segment_manager.specs.blocks.Resized.{Resizes}
-use Rattle.segment_manager.specs.State.{State, IsReply}
+use Rattle.segment_manager.specs.State.{SegmentState, AnswersQuery}
 use Rattle.segment_manager.specs.Answers.{Number}
 use Rattle.seg_types.specs.Commands.{Size}
 use Rattle.grow_shrink.specs.declared.refusals.GrowError.{GrowError}
@@ -13,18 +13,18 @@ use Rattle.grow_shrink.specs.Resized.{IsRefusedBy, growth_refusal, grown, room_o
 use Rattle.segment_cli.specs.declared.faults.SessionFault.{SessionFault}
 use Rattle.segment_cli.specs.declared.faults.SessionFault.TheVariants.{WriteFault}
 use Rattle.segment_commands.specs.declared.command_faults.CommandFault.{CommandFault}
-use Rattle.segment_commands.specs.Faults.{Growth, Session}
+use Rattle.segment_commands.specs.Faults.{GrowthFault, Session}
 use Rattle.segment_commands.specs.declared.resizing.Resize.{Resize}
 use Rattle.segment_commands.specs.declared.resizing.Resize.TheVariants.{Grow, Shrink}
-use Rattle.segment_disk.specs.declared.presence.Making.{Making}
+use Rattle.segment_disk.specs.declared.presence.CreateMode.{CreateMode}
 use Rattle.segment_disk.specs.Events.{Event}
 use Rattle.segment_file.specs.Files.{WritesImage}
 use Rattle.segment_commands.specs.Opening.{OpensWith}
-use Rattle.image_check.specs.declared.versions.Versions.TheVariants.{Current}
-use Rattle.segment_commands.specs.Telling.{Tells}
+use Rattle.image_check.specs.declared.versions.AcceptedVersions.TheVariants.{Current}
+use Rattle.segment_commands.specs.Telling.{WritesAndFlushes}
 
 -- why a segment of a directory does not become larger or smaller
-abbrev pub refusal_by : Resize → State → Directory → Option GrowError
+abbrev pub refusal_by : Resize → SegmentState → Directory → Option GrowError
 refusal_by (Grow extra) s d = growth_refusal s.mode d.size extra (room_of s.cut)
 refusal_by Shrink s d = shrink_refusal s.mode
 
@@ -47,26 +47,29 @@ abbrev pub told : (E : Type 0) → Result (Unit {0}) E
 told E = Ok tt
 
 -- what the command `size` answers of a segment was said
-pub record TellsSize {O E : Type 0} (history : O → Took) (flushes : O → Bool → O → Type 0) (out out' : O) (s : State) (result : Result (Unit {0}) E) : Type 0 where
+pub record TellsSize {O E : Type 0} (history : O → WriterHistory) (flushes : O → Bool → O
+    → Type 0) (out out' : O) (s : SegmentState) (result : Result (Unit {0}) E) : Type 0 where
   pub size : ℕ
-  pub reply : IsReply s Size (Number size)
-  pub tells : Tells history flushes out out' (size_line size) result
+  pub reply : AnswersQuery s Size (Number size)
+  pub tells : WritesAndFlushes history flushes out out' (size_line size) result
 
-module _ {D O : Type 0} (step : D → Event → D → Type 0) (old new : D) (path : List ℕ) (how : Making) (history : O → Took) (flushes : O → Bool → O → Type 0) (out out' : O) where
+module _ {D O : Type 0} (step : D → Event → D
+    → Type 0) (old new : D) (path : List ℕ) (how : CreateMode) (history : O → WriterHistory) (flushes : O → Bool → O
+    → Type 0) (out out' : O) where
   -- the size did not go out, and the disk was not asked for anything
-  pub record IsUntold {E : Type 0} (s : State) (result : Result (Unit {0}) E) : Type 0 where
+  pub record IsUntold {E : Type 0} (s : SegmentState) (result : Result (Unit {0}) E) : Type 0 where
     pub fault : E
     pub refused : result ≡ Err fault
     pub tells : TellsSize history flushes out out' s result
     pub asked : new ≡ old
 
   -- the size went out, and then the image was written
-  pub record IsTold {E : Type 0} (s : State) (result : Result (Unit {0}) E) : Type 0 where
+  pub record TellsSizeAndWrites {E : Type 0} (s : SegmentState) (result : Result (Unit {0}) E) : Type 0 where
     pub tells : TellsSize history flushes out out' s (told E)
     pub writes : WritesImage step old new how path s.cut.bytes result
 
-  abbrev pub TellsAndWrites : {E : Type 0} → State → Result (Unit {0}) E → Type 0
-  TellsAndWrites s result = IsUntold s result ⊎ IsTold s result
+  abbrev pub TellsAndWrites : {E : Type 0} → SegmentState → Result (Unit {0}) E → Type 0
+  TellsAndWrites s result = IsUntold s result ⊎ TellsSizeAndWrites s result
 
   -- the file has no segment, for this reason
   pub record IsUnopenedResize (more : ℕ) (result : Result (Unit {0}) CommandFault) : Type 0 where
@@ -76,29 +79,35 @@ module _ {D O : Type 0} (step : D → Event → D → Type 0) (old new : D) (pat
     pub refused : result ≡ Err (Session fault)
 
   -- the segment does not become larger or smaller, for this reason, which is none of its region
-  pub record IsUnresized (more : ℕ) (why : State → Directory → Option GrowError) (result : Result (Unit {0}) CommandFault) : Type 0 where
-    pub segment : State
+  pub record IsUnresized (more : ℕ) (why : SegmentState → Directory
+      → Option GrowError) (result : Result (Unit {0}) CommandFault) : Type 0 where
+    pub segment : SegmentState
     pub opens : OpensWith step old new path Current Write more (Ok segment)
     pub error : GrowError
     pub roomy : error ≢ RegionTooSmall
     pub refused_by : IsRefusedBy segment (Err error) (why segment)
     pub silent : out' ≡ out
-    pub refused : result ≡ Err (Growth error)
+    pub refused : result ≡ Err (GrowthFault error)
 
 -- the segment was read, and the one that it becomes was written
-pub record IsResized {D O : Type 0} (step : D → Event → D → Type 0) (old new : D) (path : List ℕ) (how : Making) (history : O → Took) (flushes : O → Bool → O → Type 0) (out out' : O)
+pub record ResizesFile {D O : Type 0} (step : D → Event → D
+    → Type 0) (old new : D) (path : List ℕ) (how : CreateMode) (history : O → WriterHistory) (flushes : O → Bool → O
+    → Type 0) (out out' : O)
     (more : ℕ) (next : Directory → Directory) (result : Result (Unit {0}) CommandFault) : Type 0 where
-  pub segment : State
+  pub segment : SegmentState
   pub read : D
   pub opens : OpensWith step old read path Current Write more (Ok segment)
-  pub resized : State
+  pub resized : SegmentState
   pub becomes : Resizes segment resized next
   pub goes : TellsAndWrites step read new path how history flushes out out' resized result
   pub answer : (fault : CommandFault) → result ≡ Err fault → fault ≡ Session WriteFault
 
 -- `grow` and `shrink`
-abbrev pub IsResize : {D O : Type 0} → (D → Event → D → Type 0) → D → D → List ℕ → Making → (O → Took) → (O → Bool → O → Type 0) → O → O
-    → ℕ → (State → Directory → Option GrowError) → (Directory → Directory) → Result (Unit {0}) CommandFault → Type 0
+abbrev pub IsResize : {D O : Type 0} → (D → Event → D → Type 0) → D → D → List ℕ → CreateMode → (O → WriterHistory)
+    → (O → Bool → O → Type 0) → O → O
+    → ℕ → (SegmentState → Directory → Option GrowError) → (Directory → Directory) → Result (Unit {0}) CommandFault
+    → Type 0
 IsResize step old new path how history flushes out out' more why next result =
     IsUnopenedResize step old new path how history flushes out out' more result
-    ⊎ (IsUnresized step old new path how history flushes out out' more why result ⊎ IsResized step old new path how history flushes out out' more next result)
+    ⊎ (IsUnresized step old new path how history flushes out out' more why result
+    ⊎ ResizesFile step old new path how history flushes out out' more next result)

@@ -1,18 +1,19 @@
 -- How a script is run on the segment of a file: what the disk is asked, in order, and how the run ends.
-use Rattle.std.specs.Prelude.{◌≡◌, ◌≢◌, ◌⊎◌, ◌≤◌, ℕ, ◌+◌, Bool, true, false, List, [], ◌∷◌, length, Result, Ok, Err, MatchResult}
-use Rattle.raw_region.specs.Device.{Gave, Given, Took, Taken, given_since, taken_since}
+use Rattle.std.specs.Prelude.{◌≡◌, ◌≢◌, ◌⊎◌, ◌≤◌, ℕ, ◌+◌, Bool, true, false, List, [], ◌∷◌, length, Result, Ok, Err}
+use Rattle.std.specs.Prelude.{MatchResult}
+use Rattle.raw_region.specs.Device.{ReaderHistory, ReadDelta, WriterHistory, WriteDelta, read_delta, write_delta}
 use Rattle.raw_region.specs.Format.{current}
 use Rattle.segment_manager.specs.declared.modes.Mode.{Mode}
 use Rattle.segment_manager.specs.declared.modes.Mode.TheVariants.{Write, ReadOnly, CopyOnWrite}
 use Rattle.segment_manager.specs.Directory.{Directory}
-use Rattle.segment_manager.specs.State.{State}
+use Rattle.segment_manager.specs.State.{SegmentState}
 use Rattle.segment_lang.specs.Language.{whole as whole_language}
 use Rattle.segment_scripts.specs.declared.ends.End.{End}
 use Rattle.segment_scripts.specs.declared.ends.End.TheVariants.{Whole, Refused}
 use Rattle.segment_scripts.specs.declared.ends.Until.{Until}
 use Rattle.segment_scripts.specs.Lines.{script_limit}
 use Rattle.segment_scripts.specs.Run.{lines, run}
-use Rattle.segment_scripts.specs.Segments.{Place, IsAt, answer_line, refuses_line}
+use Rattle.segment_scripts.specs.Segments.{MachineState, IsMachineAt, answer_line, refuses_line}
 use Rattle.segment_scripts.specs.Stopping.{IsStoppedAt, goes_on, stops_at}
 use Rattle.segment_cli.specs.declared.faults.Start.{Start}
 use Rattle.segment_cli.specs.declared.faults.Start.TheVariants.{Fresh, Image}
@@ -22,14 +23,14 @@ use Rattle.segment_commands.specs.declared.command_faults.CommandFault.{CommandF
 use Rattle.segment_commands.specs.declared.command_faults.CommandFault.TheVariants.{Stopped}
 use Rattle.segment_commands.specs.Faults.{Exists, Session}
 use Rattle.segment_cli.specs.Serving.{IsServed, IsUnserved}
-use Rattle.segment_cli.specs.Session.{Begins, IsSession}
-use Rattle.segment_disk.specs.declared.presence.Making.{Making}
-use Rattle.segment_disk.specs.declared.presence.Making.TheVariants.{New, Beside}
+use Rattle.segment_cli.specs.Session.{StartsFrom, RunsSession}
+use Rattle.segment_disk.specs.declared.presence.CreateMode.{CreateMode}
+use Rattle.segment_disk.specs.declared.presence.CreateMode.TheVariants.{New, Replacement}
 use Rattle.segment_disk.specs.declared.presence.Presence.{Presence}
 use Rattle.segment_disk.specs.declared.presence.Presence.TheVariants.{Absent, There}
 use Rattle.segment_disk.specs.Events.{Event, Looked, After}
-use Rattle.segment_file.specs.Files.{Written, Overtaken, NotMade, Closed, Offered, writes, whole, all_of, opens}
-use Rattle.segment_commands.specs.Holding.{Holds}
+use Rattle.segment_file.specs.Files.{WriteOutcome, Overtaken, NotMade, Closed, Offered, writes, whole, all_of, opens}
+use Rattle.segment_commands.specs.Holding.{HoldsLock}
 use Rattle.segment_file.specs.Opening.{file_region}
 use Rattle.segment_commands.specs.Opening.{OpensFile}
 use Rattle.segment_commands.specs.Commands.{MakesSegment}
@@ -37,14 +38,15 @@ use Rattle.segment_commands.specs.Commands.{MakesSegment}
 -- ---- a script
 
 -- what it was given and gave out, where Flushed says what the last flush answered
-module _ (until : Until) (old new : State) (script : Given) (out : Taken) (Flushed : Bool → Type 0) where
+module _ (until : Until) (old new : SegmentState) (script : ReadDelta) (out : WriteDelta) (Flushed : Bool
+    → Type 0) where
   -- it was answered up to this end, and ok says whether all answers went out
   pub record IsAnswered (end : End) (ok : Bool) : Type 0 where
     pub served : IsServed until old new script out end
     pub flushed : Flushed ok
 
   -- it failed; what was answered was given out, if the output let it
-  pub record IsStopped (fault : SessionFault) : Type 0 where
+  pub record StopsWithFault (fault : SessionFault) : Type 0 where
     pub unserved : IsUnserved until old new script out fault
     pub ok : Bool
     pub flushed : Flushed ok
@@ -56,7 +58,7 @@ module _ (until : Until) (old new : State) (script : Given) (out : Taken) (Flush
     pub answered : IsAnswered end false
 
   abbrev pub RunsScript : Result End SessionFault → Type 0
-  RunsScript result = MatchResult result (λ end. IsAnswered end true) (λ fault. IsStopped fault ⊎ IsLost fault)
+  RunsScript result = MatchResult result (λ end. IsAnswered end true) (λ fault. StopsWithFault fault ⊎ IsLost fault)
 
 -- ---- a run, from the segment that it begins with
 
@@ -64,19 +66,24 @@ pub record Act : Type 0 where
   pub start : Start
   pub mode : Mode
   pub capacity : ℕ
-  pub image : Given
+  pub image : ReadDelta
   pub until : Until
-  pub script : Given
-  pub out : Taken
+  pub script : ReadDelta
+  pub out : WriteDelta
 
 -- the run is a session that saved this
-abbrev pub Ran : Act → Taken → Result (Unit {0}) SessionFault → Type 0
-Ran act saved result = IsSession act.start act.mode 0 act.capacity (record { image = act.image; script = act.script; out = act.out; saved = saved }) result
+abbrev pub Ran : Act → WriteDelta → Result (Unit {0}) SessionFault → Type 0
+Ran act saved result = RunsSession act.start act.mode 0 act.capacity (record {
+  image = act.image;
+  script = act.script;
+  out = act.out;
+  saved = saved;
+}) result
 
 -- the script was read to its end, and the output took every answer, from a directory that the run begins with
 pub record IsAnsweredAct (act : Act) : Type 0 where
   pub from : Directory
-  pub begins : Begins act.start act.image from
+  pub begins : StartsFrom act.start act.image from
   pub whole : act.script.ended ≡ true
   pub read : act.script.failed ≡ false
   pub within : length act.script.bytes ≤ script_limit
@@ -84,21 +91,22 @@ pub record IsAnsweredAct (act : Act) : Type 0 where
   pub written : act.out.failed ≡ false
 
 -- where a run begins that begins with this directory; nothing need be known of its gaps
-abbrev pub first_place : Act → Directory → Place
+abbrev pub first_place : Act → Directory → MachineState
 first_place act from = record { mode = act.mode; directory = from; zeros = false }
 
 -- the run was to end behind none of the lines, from a directory that it begins with
 pub record IsUnrefusedAct (act : Act) : Type 0 where
   pub from : Directory
-  pub begins : Begins act.start act.image from
+  pub begins : StartsFrom act.start act.image from
   pub on : goes_on answer_line (stops_at act.until refuses_line) (first_place act from) (lines act.script.bytes) ≡ true
 
 -- the run ended behind the first line that was refused, and the output took its answer and all before
 pub record IsRefusedAct (act : Act) : Type 0 where
   pub from : Directory
-  pub begins : Begins act.start act.image from
-  pub last : State
-  pub stopped : IsStoppedAt answer_line (stops_at act.until refuses_line) (first_place act from) act.script act.out (IsAt last)
+  pub begins : StartsFrom act.start act.image from
+  pub last : SegmentState
+  pub stopped : IsStoppedAt answer_line (stops_at act.until refuses_line) (first_place act from) act.script act.out
+      (IsMachineAt last)
 
 -- the output took all answers up to this end
 abbrev pub IsAnsweredTo : Act → End → Type 0
@@ -107,12 +115,13 @@ IsAnsweredTo act Refused = IsRefusedAct act
 
 -- what a run asks of the disk that saved this: in mode Write its file is made, emptied or replaced and takes it, and
 -- else nothing
-abbrev pub saving : Mode → Making → List ℕ → List ℕ → List Event
+abbrev pub saving : Mode → CreateMode → List ℕ → List ℕ → List Event
 saving Write how path image = writes how path (whole how image)
 saving ReadOnly how path image = []
 saving CopyOnWrite how path image = []
 
-module _ {D : Type 0} (step : D → Event → D → Type 0) (old new : D) (how : Making) (path : List ℕ) (act : Act) (Flushed : Bool → Type 0) where
+module _ {D : Type 0} (step : D → Event → D
+    → Type 0) (old new : D) (how : CreateMode) (path : List ℕ) (act : Act) (Flushed : Bool → Type 0) where
   -- all answers went out, and then, in mode Write, the image of the last directory was written
   pub record IsSavedRun : Type 0 where
     pub image : List ℕ
@@ -146,20 +155,21 @@ module _ {D : Type 0} (step : D → Event → D → Type 0) (old new : D) (how :
     pub answered : IsAnsweredTo act end
     pub flushed : Flushed false
 
-  -- why the image is not in the file or need not last: another has its name, it could not be made or emptied, writing it failed, or all of it
+  -- why the image is not in the file or need not last: another has its name, it could not be made or emptied, writing
+  -- it failed, or all of it
   -- was written and need not last, or did not take the place of the old one
-  abbrev pub IsUnsavedFor : Written → Type 0
+  abbrev pub IsUnsavedFor : WriteOutcome → Type 0
   IsUnsavedFor Overtaken = IsAnsweredAct act
   IsUnsavedFor NotMade = IsAnsweredAct act
   IsUnsavedFor (Closed taken lasts) = Ran act taken (Err WriteFault) ⊎ ((lasts ≡ false) × Ran act taken (Ok tt))
-  IsUnsavedFor (Offered image placed) = (how ≡ Beside) × (placed ≡ false) × Ran act (all_of image) (Ok tt)
+  IsUnsavedFor (Offered image placed) = (how ≡ Replacement) × (placed ≡ false) × Ran act (all_of image) (Ok tt)
 
   -- all answers went out, and then the image did not reach its file, or need not last
   pub record IsUnsavedRun (fault : SessionFault) : Type 0 where
     pub why : fault ≡ WriteFault
     pub mode : act.mode ≡ Write
     pub flushed : Flushed true
-    pub written : Written
+    pub written : WriteOutcome
     pub asked : After step old (writes how path written) new
     pub unsaved : IsUnsavedFor written
 
@@ -181,13 +191,16 @@ pub record IsAnswerOf (runs : Result End SessionFault → Type 0) (result : Resu
 -- ---- the segment of a file
 
 -- the script can't be read at all, and the disk was not asked for anything
-pub record IsScriptless {D O : Type 0} (old new : D) (script script' : Gave) (out out' : O) (result : Result (Unit {0}) CommandFault) : Type 0 where
+pub record FailsScript {D O : Type 0} (old new : D) (script script' : ReaderHistory) (out out' : O)
+    (result : Result (Unit {0}) CommandFault) : Type 0 where
   pub asked : new ≡ old
   pub failed : script'.failures ≡ script.failures + 1
   pub silent : out' ≡ out
   pub refused : result ≡ Err (Session ReadFault)
 
-module _ {D : Type 0} (step : D → Event → D → Type 0) (old new : D) (path : List ℕ) (mode : Mode) (how : Making) (until : Until) (script script' : Gave) where
+module _ {D : Type 0} (step : D → Event → D
+    → Type 0) (old new : D) (path : List ℕ) (mode : Mode) (how : CreateMode) (until : Until)
+    (script script' : ReaderHistory) where
   -- the file has no segment, for this reason; the script was not asked for
   pub record IsUnopenedRun {O : Type 0} (out out' : O) (result : Result End SessionFault) : Type 0 where
     pub fault : SessionFault
@@ -198,30 +211,46 @@ module _ {D : Type 0} (step : D → Event → D → Type 0) (old new : D) (path 
 
   -- the file was opened, read and closed, and the script ran on its segment, in a region with room for what the disk
   -- told of the file's length, and for what the image says
-  pub record IsOpenedRun {O : Type 0} (history : O → Took) (flushes : Bool → Type 0) (out out' : O) (result : Result End SessionFault) : Type 0 where
+  pub record IsOpenedRun {O : Type 0} (history : O → WriterHistory) (flushes : Bool
+      → Type 0) (out out' : O) (result : Result End SessionFault) : Type 0 where
     pub len : ℕ
-    pub image : Given
+    pub image : ReadDelta
     pub capacity : ℕ
     pub room : capacity ≡ file_region len 0 image.bytes
     pub read : D
     pub asked : After step old (opens path len image) read
     pub ends : EndsRun step read new how path
-        (record { start = Image; mode = mode; capacity = capacity; image = image; until = until; script = given_since script script'; out = taken_since (history out) (history out') })
+        (record {
+          start = Image;
+          mode = mode;
+          capacity = capacity;
+          image = image;
+          until = until;
+          script = read_delta script script';
+          out = write_delta (history out) (history out');
+        })
         flushes result
 
-  abbrev pub RunsOpened : {O : Type 0} → (O → Took) → (Bool → Type 0) → O → O → Result End SessionFault → Type 0
-  RunsOpened history flushes out out' result = IsUnopenedRun out out' result ⊎ IsOpenedRun history flushes out out' result
+  abbrev pub RunsOpened : {O : Type 0} → (O → WriterHistory) → (Bool → Type 0) → O → O → Result End SessionFault
+      → Type 0
+  RunsOpened history flushes out out' result =
+      IsUnopenedRun out out' result ⊎ IsOpenedRun history flushes out out' result
 
-module _ {D O : Type 0} (step : D → Event → D → Type 0) (old new : D) (path : List ℕ) (how : Making) (until : Until) (script script' : Gave) (history : O → Took) (flushes : Bool → Type 0) (out out' : O) (result : Result (Unit {0}) CommandFault) where
+module _ {D O : Type 0} (step : D → Event → D
+    → Type 0) (old new : D) (path : List ℕ) (how : CreateMode) (until : Until) (script script' : ReaderHistory)
+    (history : O → WriterHistory) (flushes : Bool
+    → Type 0) (out out' : O) (result : Result (Unit {0}) CommandFault) where
   -- a run that saves nothing
   abbrev pub RunsFree : Mode → Type 0
-  RunsFree mode = IsAnswerOf (RunsOpened step old new path mode how until script script' history flushes out out') result
+  RunsFree mode = IsAnswerOf (RunsOpened step old new path mode how until script script' history flushes out out')
+      result
 
   -- a run that saves has the right to write the file from before it is read until it is written; where another has it,
   -- nothing was read or said
   abbrev pub RunsHeld : Type 0
-  RunsHeld = Holds step old new path ((script' ≡ script) × (out' ≡ out))
-      (λ held done. IsAnswerOf (RunsOpened step held done path Write how until script script' history flushes out out') result) result
+  RunsHeld = HoldsLock step old new path ((script' ≡ script) × (out' ≡ out))
+      (λ held done. IsAnswerOf (RunsOpened step held done path Write how until script script' history flushes out
+      out') result) result
 
   abbrev pub RunsReadable : Mode → Type 0
   RunsReadable Write = RunsHeld
@@ -229,11 +258,12 @@ module _ {D O : Type 0} (step : D → Event → D → Type 0) (old new : D) (pat
   RunsReadable CopyOnWrite = RunsFree CopyOnWrite
 
   abbrev pub RunsFile : Mode → Type 0
-  RunsFile mode = IsScriptless old new script script' out out' result ⊎ RunsReadable mode
+  RunsFile mode = FailsScript old new script script' out out' result ⊎ RunsReadable mode
 
 -- ---- a segment that is made
 
-module _ {D : Type 0} (step : D → Event → D → Type 0) (old new : D) (path : List ℕ) (size : ℕ) (until : Until) (script script' : Gave) where
+module _ {D : Type 0} (step : D → Event → D
+    → Type 0) (old new : D) (path : List ℕ) (size : ℕ) (until : Until) (script script' : ReaderHistory) where
   -- no segment was made, for this reason: nothing was asked for
   pub record IsUnmadeRun {O : Type 0} (out out' : O) (result : Result End SessionFault) : Type 0 where
     pub fault : SessionFault
@@ -244,14 +274,23 @@ module _ {D : Type 0} (step : D → Event → D → Type 0) (old new : D) (path 
     pub refused : result ≡ Err fault
 
   -- an empty segment was made, and the script ran on it; it is saved to a new file
-  pub record IsMadeRun {O : Type 0} (history : O → Took) (flushes : Bool → Type 0) (out out' : O) (result : Result End SessionFault) : Type 0 where
-    pub image : Given
+  pub record IsMadeRun {O : Type 0} (history : O → WriterHistory) (flushes : Bool
+      → Type 0) (out out' : O) (result : Result End SessionFault) : Type 0 where
+    pub image : ReadDelta
     pub capacity : ℕ
     pub ends : EndsRun step old new New path
-        (record { start = Fresh size; mode = Write; capacity = capacity; image = image; until = until; script = given_since script script'; out = taken_since (history out) (history out') })
+        (record {
+          start = Fresh size;
+          mode = Write;
+          capacity = capacity;
+          image = image;
+          until = until;
+          script = read_delta script script';
+          out = write_delta (history out) (history out');
+        })
         flushes result
 
-  abbrev pub MakesRun : {O : Type 0} → (O → Took) → (Bool → Type 0) → O → O → Result End SessionFault → Type 0
+  abbrev pub MakesRun : {O : Type 0} → (O → WriterHistory) → (Bool → Type 0) → O → O → Result End SessionFault → Type 0
   MakesRun history flushes out out' result = IsUnmadeRun out out' result ⊎ IsMadeRun history flushes out out' result
 
   -- something is there already, and nothing else was asked for
@@ -262,7 +301,8 @@ module _ {D : Type 0} (step : D → Event → D → Type 0) (old new : D) (path 
     pub refused : result ≡ Err Exists
 
 -- the path was looked at, where this was found, and then a run went on from there
-pub record IsRunBehind {D : Type 0} (step : D → Event → D → Type 0) (old : D) (path : List ℕ) (IsWhere : Presence → Type 0) (goes_on : D → Type 0) : Type 0 where
+pub record IsRunBehind {D : Type 0} (step : D → Event → D → Type 0) (old : D) (path : List ℕ) (IsWhere : Presence
+    → Type 0) (goes_on : D → Type 0) : Type 0 where
   pub found : Presence
   pub is : IsWhere found
   pub looked : D
@@ -270,13 +310,19 @@ pub record IsRunBehind {D : Type 0} (step : D → Event → D → Type 0) (old :
   pub goes : goes_on looked
 
 -- a run on a segment that is made, in a file that is not there
-abbrev pub RunsNewFile : {D O : Type 0} → (D → Event → D → Type 0) → D → D → List ℕ → ℕ → Until → Gave → Gave → (O → Took) → (Bool → Type 0) → O → O → Result (Unit {0}) CommandFault → Type 0
+abbrev pub RunsNewFile : {D O : Type 0} → (D → Event → D → Type 0) → D → D → List ℕ → ℕ → Until → ReaderHistory
+    → ReaderHistory → (O → WriterHistory) → (Bool → Type 0) → O → O → Result (Unit {0}) CommandFault → Type 0
 RunsNewFile step old new path size until script script' history flushes out out' result =
     IsTakenRun step old new path size until script script' out out' result
-    ⊎ IsRunBehind step old path (λ found. found ≢ There) (λ looked. IsAnswerOf (MakesRun step looked new path size until script script' history flushes out out') result)
+    ⊎ IsRunBehind step old path (λ found. found ≢ There) (λ looked.
+    IsAnswerOf (MakesRun step looked new path size until script script' history flushes out out') result)
 
 -- the same, or on the segment in the file where something is there
-abbrev pub RunsAnyFile : {D O : Type 0} → (D → Event → D → Type 0) → D → D → List ℕ → ℕ → Making → Until → Gave → Gave → (O → Took) → (Bool → Type 0) → O → O → Result (Unit {0}) CommandFault → Type 0
+abbrev pub RunsAnyFile : {D O : Type 0} → (D → Event → D → Type 0) → D → D → List ℕ → ℕ → CreateMode → Until
+    → ReaderHistory → ReaderHistory → (O → WriterHistory) → (Bool → Type 0) → O → O → Result (Unit {0}) CommandFault
+    → Type 0
 RunsAnyFile step old new path size how until script script' history flushes out out' result =
-    IsRunBehind step old path (λ found. found ≡ Absent) (λ looked. IsAnswerOf (MakesRun step looked new path size until script script' history flushes out out') result)
-    ⊎ IsRunBehind step old path (λ found. found ≢ Absent) (λ looked. RunsFile step looked new path how until script script' history flushes out out' result Write)
+    IsRunBehind step old path (λ found. found ≡ Absent) (λ looked.
+    IsAnswerOf (MakesRun step looked new path size until script script' history flushes out out') result)
+    ⊎ IsRunBehind step old path (λ found. found ≢ Absent) (λ looked.
+    RunsFile step looked new path how until script script' history flushes out out' result Write)

@@ -1,26 +1,26 @@
 //! The running of a script on a segment, whose image is saved behind it.
 ghost use Rattle.std.specs.Prelude.{◌^◌, ◌-◌, ◌<◌, ℕ, Ok};
-ghost use Rattle.raw_region.specs.Device.{Given, given_since, taken_since};
+ghost use Rattle.raw_region.specs.Device.{ReadDelta, read_delta, write_delta};
 ghost use Rattle.segment_manager.specs.declared.modes.Mode.{Mode as OpenMode};
 ghost use Rattle.segment_cli.specs.declared.faults.Start.{Start};
-ghost use Rattle.segment_cli.specs.Beginning.{Starts};
+ghost use Rattle.segment_cli.specs.Beginning.{BeginsSession};
 ghost use Rattle.segment_disk.specs.Events.{IsFlushed};
 ghost use Rattle.segment_commands.specs.Running.{EndsRun, RunsScript};
 
 use raw_region::Source;
 use segment_answers::Lined;
 use segment_cli::{SessionFault, serve};
-use segment_disk::{Disk, Making};
+use segment_disk::{CreateMode, Disk};
 use segment_file::write_image;
 use segment_manager::{Mode, Segment};
-use segment_scripts::{End, Follower, Until};
+use segment_scripts::{End, RunObserver, Until};
 
 /// Lets answers go out before more of a script is read, and tells the output where an answer begins. An output that
 /// fails then fails again at the end.
 #[derive(Drop)]
 pub(crate) struct Flushing;
 
-impl<O: Lined> Follower<O> for Flushing {
+impl<O: Lined> RunObserver<O> for Flushing {
     fn before_read(&mut self, out: &mut O) {
         let _ = out.flush();
     }
@@ -40,8 +40,8 @@ pub(crate) fn run_script<S: Source, O: Lined>(
 ) -> Result<End, SessionFault>
     requires script { (S.history script.old).failures < 2 ^ 64 - 1 }
     requires out { (O.history out.old).failures < 2 ^ 64 - 1 }
-    ensures { RunsScript until segment.old segment.new (given_since (S.history script.old) (S.history script.new))
-        (taken_since (O.history out.old) (O.history out.new)) (IsFlushed O.history O.flushes out.new) result }
+    ensures { RunsScript until segment.old segment.new (read_delta (S.history script.old) (S.history script.new))
+        (write_delta (O.history out.old) (O.history out.new)) (IsFlushed O.history O.flushes out.new) result }
 {
     let served = serve(segment, script, out, &mut Flushing, until);
     let flushed = out.flush();
@@ -59,7 +59,7 @@ pub(crate) fn run_script<S: Source, O: Lined>(
 pub(crate) fn answer_and_save<D: Disk, S: Source, O: Lined>(
     disk: &mut D,
     path: &str,
-    how: Making,
+    how: CreateMode,
     hold: &mut D::Hold,
     segment: &mut Segment,
     until: Until,
@@ -68,9 +68,18 @@ pub(crate) fn answer_and_save<D: Disk, S: Source, O: Lined>(
 ) -> Result<End, SessionFault>
     requires script { (S.history script.old).failures < 2 ^ 64 - 1 }
     requires out { (O.history out.old).failures < 2 ^ 64 - 1 }
-    ensures { (start : Start) (mode : OpenMode) (capacity : ℕ) (image : Given) → Starts start mode 0 capacity image (Ok segment.old)
+    ensures { (start : Start) (mode : OpenMode) (capacity : ℕ) (image : ReadDelta)
+        → BeginsSession start mode 0 capacity image (Ok segment.old)
         → EndsRun D.step disk.old disk.new how path.now
-        (record { start = start; mode = mode; capacity = capacity; image = image; until = until; script = given_since (S.history script.old) (S.history script.new); out = taken_since (O.history out.old) (O.history out.new) })
+        (record {
+          start = start;
+          mode = mode;
+          capacity = capacity;
+          image = image;
+          until = until;
+          script = read_delta (S.history script.old) (S.history script.new);
+          out = write_delta (O.history out.old) (O.history out.new);
+        })
         (IsFlushed O.history O.flushes out.new) result }
 {
     match run_script(segment, until, script, out)? {

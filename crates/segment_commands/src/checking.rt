@@ -7,10 +7,10 @@ ghost use Rattle.segment_commands.specs.Commands.{IsCheck};
 use crate::command_faults::{CommandFault, WRITE_FAULT};
 use crate::examining::verify_segment;
 use crate::reports::put_trouble;
-use crate::telling::tell;
+use crate::telling::write_and_flush;
 use raw_region::{DeviceFault, Sink};
 use segment_cli::{SessionFault, session_line, session_status};
-use segment_disk::{Disk, Output, Trouble};
+use segment_disk::{Disk, FileProblem, Output};
 use segment_lang::{Piece, put_pieces};
 use std::alloc::Global;
 
@@ -30,13 +30,14 @@ pub fn check<D: Disk, O: Output>(
     ensures { IsCheck D.step disk.old disk.new path.now O.history O.flushes out.old out.new result }
 {
     verify_segment(alloc, disk, path)?;
-    match tell(out, b"ok\n") {
+    match write_and_flush(out, b"ok\n") {
         Ok(()) => Ok(()),
         Err(_) => Err(WRITE_FAULT),
     }
 }
 
-/// Says on standard output, behind its path, that a file holds a segment, unless it holds none or nothing is to be said.
+/// Says on standard output, behind its path, that a file holds a segment, unless it holds none or nothing is to be
+/// said.
 fn tell_fit<O: Output>(
     path: &str,
     found: Result<(), SessionFault>,
@@ -61,7 +62,7 @@ fn tell_fit<O: Output>(
 fn put_reason<S: Sink>(
     path: &str,
     fault: SessionFault,
-    trouble: Option<Trouble>,
+    trouble: Option<FileProblem>,
     err: &mut S,
 ) -> Result<(), DeviceFault>
     requires { (S.history err.old).failures < 2 ^ 64 - 1 }
@@ -82,12 +83,13 @@ fn put_reason<S: Sink>(
 fn put_unfit<S: Sink>(
     path: &str,
     found: Result<(), SessionFault>,
-    trouble: Option<Trouble>,
+    trouble: Option<FileProblem>,
     said: Result<(), DeviceFault>,
     err: &mut S,
 ) -> Result<(), DeviceFault>
     requires { IsOk said → (S.history err.old).failures < 2 ^ 64 - 1 }
-    ensures { MatchResult said (λ _. Writes (S.history err.old) (S.history err.new) result (unfit_lines path.now found trouble))
+    ensures { MatchResult said (λ _.
+        Writes (S.history err.old) (S.history err.new) result (unfit_lines path.now found trouble))
         (λ _. (err.new ≡ err.old) × IsErr result) }
 {
     said?;
@@ -115,7 +117,7 @@ fn status_in(found: Result<(), SessionFault>) -> u8
 ///
 /// `WriteFault` where the output fails: the files behind are not checked then. Where standard error fails, nothing more
 /// is said there, and the status is the same.
-pub fn check_all<D: Disk, O: Output, E: Sink, F: Fn(&D) -> Option<Trouble>>(
+pub fn check_all<D: Disk, O: Output, E: Sink, F: Fn(&D) -> Option<FileProblem>>(
     alloc: Global,
     disk: &mut D,
     files: &[&str],
@@ -124,10 +126,11 @@ pub fn check_all<D: Disk, O: Output, E: Sink, F: Fn(&D) -> Option<Trouble>>(
     out: &mut O,
     err: &mut E,
 ) -> Result<u8, CommandFault>
-    requires tells { F.IsAlwaysCallable trouble_of }
+    requires report { F.IsAlwaysCallable trouble_of }
     requires out { (O.history out.old).failures < 2 ^ 64 - 1 }
-    requires err { (E.history err.old).failures < 2 ^ 64 - 1 }
-    ensures { ChecksAll D.step disk.old disk.new O.history O.flushes out.old out.new (E.history err.old) (E.history err.new)
+    requires on_error { (E.history err.old).failures < 2 ^ 64 - 1 }
+    ensures { ChecksAll D.step disk.old disk.new O.history O.flushes out.old out.new (E.history err.old)
+        (E.history err.new)
         is_quiet (map (λ file. file.now) files.now) result }
 {
     let mut worst = 0;

@@ -2,7 +2,7 @@
 ghost use Rattle.std.specs.Prelude.{◌≡◌};
 ghost use Rattle.image_check.specs.declared.errors.MemoryFault.TheVariants.{Bytes};
 ghost use Rattle.segment_cli.specs.declared.faults.SessionFault.TheVariants.{OutOfMemory as NoMemory};
-ghost use Rattle.segment_commands.specs.Faults.{Growth, Session};
+ghost use Rattle.segment_commands.specs.Faults.{GrowthFault, Session};
 
 use grow_shrink::GrowError;
 use raw_region::OutOfMemory;
@@ -39,7 +39,7 @@ pub const WRITE_FAULT: CommandFault = CommandFault::Program(ProgramFault::Sessio
 ));
 
 impl From<GrowError> for CommandFault {
-    ghost from_gives = { λ error fault. fault ≡ Growth error };
+    ghost from_gives = { λ error fault. fault ≡ GrowthFault error };
 
     fn from(error: GrowError) -> CommandFault {
         CommandFault::Program(ProgramFault::Growth(error))

@@ -4,9 +4,9 @@ ghost use Rattle.segment_commands.specs.Commands.{IsCreate, MakesSegment};
 use crate::command_faults::{CommandFault, WRITE_FAULT};
 use block_tags::is_legal_size;
 use grow_shrink::region_for;
-use raw_region::stream::Reading;
+use raw_region::std_io::StdSource;
 use segment_cli::{ProgramFault, SessionFault, Start, begin};
-use segment_disk::{Disk, Making, Presence};
+use segment_disk::{CreateMode, Disk, Presence};
 use segment_file::write_image;
 use segment_manager::{Mode, Segment};
 use std::alloc::Global;
@@ -20,7 +20,7 @@ pub(crate) fn new_segment(alloc: Global, size: u64) -> Result<Segment, SessionFa
         return Err(SessionFault::BadSize);
     }
     let region = region_for(alloc, size)?;
-    let mut nothing = Reading::new(io::empty());
+    let mut nothing = StdSource::new(io::empty());
     begin(
         alloc,
         Start::Fresh(size),
@@ -46,11 +46,11 @@ pub fn create<D: Disk>(
 ) -> Result<(), CommandFault>
     ensures { IsCreate D.step disk.old disk.new path.now size result }
 {
-    if disk.look(path) == Presence::There {
+    if disk.path_status(path) == Presence::There {
         return Err(CommandFault::Program(ProgramFault::Exists));
     }
     let segment = new_segment(alloc, size)?;
-    match write_image(disk, path, Making::New, &mut D::hold_none(), &segment) {
+    match write_image(disk, path, CreateMode::New, &mut D::hold_none(), &segment) {
         Ok(()) => Ok(()),
         Err(_) => Err(WRITE_FAULT),
     }

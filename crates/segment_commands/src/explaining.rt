@@ -2,10 +2,10 @@
 ghost use Rattle.std.specs.Prelude.{◌≡◌, ◌^◌, ◌-◌, ◌<◌};
 ghost use Rattle.raw_region.specs.Device.{Writes};
 ghost use Rattle.segment_commands.specs.Explaining.{IsExplain, verdict_text, words_of as words_for};
-ghost use Rattle.segment_commands.specs.Telling.{Tells};
+ghost use Rattle.segment_commands.specs.Telling.{WritesAndFlushes};
 
 use crate::command_faults::{CommandFault, WRITE_FAULT};
-use crate::telling::tell;
+use crate::telling::write_and_flush;
 use image_check::{ImageClass, Verdict};
 use raw_region::{DeviceFault, Sink};
 use segment_cli::{ProgramFault, SessionFault};
@@ -57,7 +57,7 @@ fn put_verdict<W: Sink>(out: &mut W, verdict: Verdict) -> Result<(), DeviceFault
 /// Writes a verdict, and gives out all that was written.
 fn tell_verdict<O: Output>(out: &mut O, verdict: Verdict) -> Result<(), DeviceFault>
     requires { (O.history out.old).failures < 2 ^ 64 - 1 }
-    ensures { Tells O.history O.flushes out.old out.new (verdict_text verdict) result }
+    ensures { WritesAndFlushes O.history O.flushes out.old out.new (verdict_text verdict) result }
 {
     put_verdict(out, verdict)?;
     Output::flush(out)
@@ -79,7 +79,7 @@ pub fn explain<D: Disk, O: Output>(
     ensures { IsExplain D.step disk.old disk.new path.now O.history O.flushes out.old out.new result }
 {
     match examine_file(alloc, disk, path) {
-        Ok(()) => match tell(out, b"ok\n") {
+        Ok(()) => match write_and_flush(out, b"ok\n") {
             Ok(()) => Ok(()),
             Err(_) => Err(WRITE_FAULT),
         },

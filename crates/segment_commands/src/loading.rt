@@ -1,29 +1,30 @@
 //! The command that makes a segment of a dump, in a new file.
 ghost use Rattle.std.specs.Prelude.{◌≡◌, ◌^◌, ◌-◌, ◌<◌, ℕ, true, false, Some};
 ghost use Rattle.block_tags.specs.Format.{is_legal_size};
-ghost use Rattle.segment_dump.specs.Loading.{IsAsked};
-ghost use Rattle.segment_commands.specs.Loading.{IsFitting, IsLoad, IsMadeIfGiven, IsSizeFit, IsWanted, LoadsDump, LoadsSegment, LoadsWhatFits, NeedsRoom, load_fault};
+ghost use Rattle.segment_dump.specs.Loading.{IsRequestedSize};
+ghost use Rattle.segment_commands.specs.Loading.{IsFitting, IsLoad, IsMadeIfGiven, IsSizeFit, IsWantedSize, LoadsDump};
+ghost use Rattle.segment_commands.specs.Loading.{LoadsSegment, LoadsWhatFits, NeedsRoom, load_fault};
 
 use crate::command_faults::{CommandFault, WRITE_FAULT};
-use crate::gathering::read_text;
+use crate::read_all::read_text;
 use block_tags::is_legal_size;
 use grow_shrink::region_for;
 use raw_region::Source;
 use segment_cli::{ProgramFault, SessionFault};
-use segment_disk::{Disk, Making, Presence};
-use segment_dump::{LoadError, count_dump, said_size, without_notes};
+use segment_disk::{CreateMode, Disk, Presence};
+use segment_dump::{LoadError, count_dump, declared_size, without_notes};
 use segment_file::write_image;
 use segment_manager::Segment;
 use std::alloc::Global;
 
 /// How many bytes the segment of a dump is to have: as many as are asked for, or else as the dump says.
 fn wanted_size(text: &[u8], size: Option<u64>) -> u64
-    ensures asked { IsAsked size result }
-    ensures wanted { IsWanted text.now size result }
+    ensures request { IsRequestedSize size result }
+    ensures size_request { IsWantedSize text.now size result }
 {
     match size {
         Some(size) => size,
-        None => said_size(text).unwrap_or(0),
+        None => declared_size(text).unwrap_or(0),
     }
 }
 
@@ -54,8 +55,8 @@ fn needed_by(text: &[u8]) -> u64
 
 /// A segment of a dump, of the size that is asked for, or else with nothing free.
 fn segment_of(alloc: Global, text: &[u8], size: Option<u64>) -> Result<Segment, CommandFault>
-    ensures loads { LoadsSegment text.now size result }
-    ensures makes { IsFitting text.now size → IsMadeIfGiven result }
+    ensures load { LoadsSegment text.now size result }
+    ensures creation { IsFitting text.now size → IsMadeIfGiven result }
 {
     let region = region_for(alloc, wanted_size(text, size))?;
     let mut room = region_for(alloc, text.len() as u64)?;
@@ -68,7 +69,7 @@ fn segment_of(alloc: Global, text: &[u8], size: Option<u64>) -> Result<Segment, 
 
 /// Whether a size is asked for that no segment has.
 fn is_unfit(size: Option<u64>) -> bool
-    ensures unfit { result ≡ true → (asked : ℕ) × (size ≡ Some asked) × (is_legal_size asked ≡ false) }
+    ensures no_fit { result ≡ true → (asked : ℕ) × (size ≡ Some asked) × (is_legal_size asked ≡ false) }
     ensures fit { result ≡ false → IsSizeFit size }
 {
     match size {
@@ -113,14 +114,22 @@ pub fn load<D: Disk, S: Source>(
     script: &mut S,
 ) -> Result<(), CommandFault>
     requires { (S.history script.old).failures < 2 ^ 64 - 1 }
-    ensures does { IsLoad D.step disk.old disk.new path.now size (S.history script.old) (S.history script.new) result }
-    ensures succeeds { LoadsWhatFits D.step disk.old disk.new path.now size (S.history script.old) (S.history script.new) result }
+    ensures effect { IsLoad D.step disk.old disk.new path.now size (S.history script.old) (S.history script.new)
+        result }
+    ensures success { LoadsWhatFits D.step disk.old disk.new path.now size (S.history script.old)
+        (S.history script.new) result }
 {
-    if disk.look(path) == Presence::There {
+    if disk.path_status(path) == Presence::There {
         return Err(CommandFault::Program(ProgramFault::Exists));
     }
     match load_dump(alloc, size, script) {
-        Ok(segment) => match write_image(disk, path, Making::New, &mut D::hold_none(), &segment) {
+        Ok(segment) => match write_image(
+            disk,
+            path,
+            CreateMode::New,
+            &mut D::hold_none(),
+            &segment,
+        ) {
             Ok(()) => Ok(()),
             Err(_) => Err(WRITE_FAULT),
         },

@@ -5,7 +5,7 @@ ghost use Rattle.segment_commands.specs.LoadOver.{IsLoadOver, LoadsOver};
 use crate::command_faults::{CommandFault, WRITE_FAULT};
 use crate::loading::{load, load_dump};
 use raw_region::Source;
-use segment_disk::{Disk, Making, Presence};
+use segment_disk::{CreateMode, Disk, Presence};
 use segment_file::write_image;
 use std::alloc::Global;
 
@@ -22,7 +22,7 @@ fn load_held<D: Disk, S: Source>(
     ensures { LoadsOver D.step disk.old disk.new path.now size (S.history script.old) (S.history script.new) result }
 {
     match load_dump(alloc, size, script) {
-        Ok(segment) => match write_image(disk, path, Making::Beside, hold, &segment) {
+        Ok(segment) => match write_image(disk, path, CreateMode::Replacement, hold, &segment) {
             Ok(()) => Ok(()),
             Err(_) => Err(WRITE_FAULT),
         },
@@ -35,7 +35,8 @@ fn load_held<D: Disk, S: Source>(
 ///
 /// # Errors
 ///
-/// Those of [`load`], but for `Exists`, and `InUse` where another has the right to write the file; the dump is not read
+/// Those of [`load`], but for `Exists`, and `AlreadyLocked` where another has the right to write the file; the dump is
+/// not read
 /// then.
 pub fn load_over<D: Disk, S: Source>(
     alloc: Global,
@@ -47,13 +48,13 @@ pub fn load_over<D: Disk, S: Source>(
     requires { (S.history script.old).failures < 2 ^ 64 - 1 }
     ensures { IsLoadOver D.step disk.old disk.new path.now size (S.history script.old) (S.history script.new) result }
 {
-    if disk.look(path) != Presence::There {
+    if disk.path_status(path) != Presence::There {
         return load(alloc, disk, path, size, script);
     }
-    let Ok(mut hold) = disk.hold(path) else {
+    let Ok(mut hold) = disk.lock(path) else {
         return Err(CommandFault::InUse);
     };
     let answer = load_held(alloc, disk, path, size, &mut hold, script);
-    disk.release(hold);
+    disk.unlock(hold);
     answer
 }

@@ -8,19 +8,19 @@ use crate::running::{run_in_new_file, run_on_file, run_on_file_or_new};
 use raw_region::Source;
 use segment_answers::Lined;
 use segment_cli::ProgramFault;
-use segment_disk::{Disk, Making};
-use segment_invocation::{ModeName, Saving};
+use segment_disk::{CreateMode, Disk};
+use segment_invocation::{ModeName, SaveMode};
 use segment_manager::Mode;
 use segment_scripts::Until;
 use std::alloc::Global;
 
 /// How a file that is there comes to take the image that is saved.
-pub(crate) fn making_for(saving: Saving) -> Making
+pub(crate) fn making_for(saving: SaveMode) -> CreateMode
     ensures { result ≡ making_of saving }
 {
     match saving {
-        Saving::InPlace => Making::Emptied,
-        Saving::Replacing => Making::Beside,
+        SaveMode::InPlace => CreateMode::Truncate,
+        SaveMode::Replacing => CreateMode::Replacement,
     }
 }
 
@@ -30,7 +30,7 @@ pub(crate) fn making_for(saving: Saving) -> Making
 ///
 /// # Errors
 ///
-/// `Usage` where a size is wanted and not given, and else those of [`run_on_file`], [`run_in_new_file`] and
+/// `UsageFault` where a size is wanted and not given, and else those of [`run_on_file`], [`run_in_new_file`] and
 /// [`run_on_file_or_new`].
 pub fn run<D: Disk, S: Source, O: Lined>(
     alloc: Global,
@@ -38,7 +38,7 @@ pub fn run<D: Disk, S: Source, O: Lined>(
     path: &str,
     mode: ModeName,
     size: Option<u64>,
-    saving: Saving,
+    saving: SaveMode,
     until: Until,
     script: &mut S,
     out: &mut O,

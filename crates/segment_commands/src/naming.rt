@@ -1,7 +1,7 @@
 //! The command that tells names.
 ghost use Rattle.std.specs.Prelude.{◌≡◌, ◌^◌, ◌-◌, ◌<◌};
 ghost use Rattle.segment_report.specs.Names.{names_text};
-ghost use Rattle.segment_commands.specs.Reporting.{IsReport, TellsOf};
+ghost use Rattle.segment_commands.specs.Reporting.{IsReport, WritesTextOf};
 
 use crate::command_faults::{CommandFault, WRITE_FAULT};
 use crate::opening::open_segment;
@@ -19,7 +19,7 @@ fn tell_names<O: Output>(
     most: u64,
 ) -> Result<(), DeviceFault>
     requires { (O.history out.old).failures < 2 ^ 64 - 1 }
-    ensures { TellsOf O.history O.flushes out.old out.new segment.now (names_text prefix.now most) result }
+    ensures { WritesTextOf O.history O.flushes out.old out.new segment.now (names_text prefix.now most) result }
 {
     put_names(segment, prefix, most, out)?;
     Output::flush(out)
@@ -40,7 +40,8 @@ pub fn names<D: Disk, O: Output>(
     out: &mut O,
 ) -> Result<(), CommandFault>
     requires { (O.history out.old).failures < 2 ^ 64 - 1 }
-    ensures { IsReport D.step disk.old disk.new path.now O.history O.flushes out.old out.new (names_text prefix.now most) result }
+    ensures { IsReport D.step disk.old disk.new path.now O.history O.flushes out.old out.new
+        (names_text prefix.now most) result }
 {
     let segment = open_segment(alloc, disk, path, Mode::ReadOnly, 0)?;
     match tell_names(out, &segment, prefix.as_bytes(), most) {

@@ -1,9 +1,9 @@
 //! The opening of the segment in a file, as a session answers it.
 ghost use Rattle.std.specs.Prelude.{◌≡◌};
-ghost use Rattle.image_check.specs.declared.versions.Versions.TheVariants.{Current};
+ghost use Rattle.image_check.specs.declared.versions.AcceptedVersions.TheVariants.{Current};
 ghost use Rattle.segment_commands.specs.Opening.{OpensWith, session_fault};
 
-use image_check::Versions;
+use image_check::AcceptedVersions;
 use segment_cli::SessionFault;
 use segment_disk::Disk;
 use segment_file::{FileError, open_file};
@@ -26,7 +26,7 @@ pub(crate) fn open_any_segment<D: Disk>(
     alloc: Global,
     disk: &mut D,
     path: &str,
-    versions: Versions,
+    versions: AcceptedVersions,
     mode: Mode,
     more: u64,
 ) -> Result<Segment, SessionFault>
@@ -48,5 +48,5 @@ pub(crate) fn open_segment<D: Disk>(
 ) -> Result<Segment, SessionFault>
     ensures { OpensWith D.step disk.old disk.new path.now Current mode more result }
 {
-    open_any_segment(alloc, disk, path, Versions::Current, mode, more)
+    open_any_segment(alloc, disk, path, AcceptedVersions::Current, mode, more)
 }

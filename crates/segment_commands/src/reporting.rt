@@ -1,9 +1,9 @@
 //! The commands that tell what people want to see of the segment in a file: figures, a picture, or all of it as text.
 ghost use Rattle.std.specs.Prelude.{◌≡◌, ◌^◌, ◌-◌, ◌<◌};
 ghost use Rattle.segment_manager.specs.Directory.{Directory};
-ghost use Rattle.segment_manager.specs.State.{StandsFor};
+ghost use Rattle.segment_manager.specs.State.{DenotesCurrent};
 ghost use Rattle.raw_region.specs.Device.{Writes};
-ghost use Rattle.segment_commands.specs.Reporting.{IsReport, TellsOf, text_of};
+ghost use Rattle.segment_commands.specs.Reporting.{IsReport, WritesTextOf, text_of};
 
 use crate::command_faults::{CommandFault, WRITE_FAULT};
 use crate::opening::open_segment;
@@ -16,7 +16,7 @@ use std::alloc::Global;
 /// Writes what is told of a segment.
 fn write_report<O: Output>(out: &mut O, segment: &Segment, what: Report) -> Result<(), DeviceFault>
     requires { (O.history out.old).failures < 2 ^ 64 - 1 }
-    ensures { (d : Directory) → StandsFor segment.now.cut.bytes d
+    ensures { (d : Directory) → DenotesCurrent segment.now.cut.bytes d
         → Writes (O.history out.old) (O.history out.new) result (text_of what d) }
 {
     match what {
@@ -32,7 +32,7 @@ fn write_report<O: Output>(out: &mut O, segment: &Segment, what: Report) -> Resu
 /// Writes what is told of a segment, and gives out all that was written.
 fn tell_report<O: Output>(out: &mut O, segment: &Segment, what: Report) -> Result<(), DeviceFault>
     requires { (O.history out.old).failures < 2 ^ 64 - 1 }
-    ensures { TellsOf O.history O.flushes out.old out.new segment.now (text_of what) result }
+    ensures { WritesTextOf O.history O.flushes out.old out.new segment.now (text_of what) result }
 {
     write_report(out, segment, what)?;
     Output::flush(out)

@@ -2,11 +2,12 @@
 ghost use Rattle.std.specs.Prelude.{◌≡◌, ◌-◌, ◌^◌, ◌<◌, codes};
 ghost use Rattle.raw_region.specs.Device.{Writes};
 ghost use Rattle.segment_cli.specs.Reports.{Puts, line};
-ghost use Rattle.segment_commands.specs.Reports.{bad_dump_line, command_status, command_text, dump_words, no_space_line, trouble_line, trouble_words};
+ghost use Rattle.segment_commands.specs.Reports.{bad_dump_line, command_status, command_text, dump_words};
+ghost use Rattle.segment_commands.specs.Reports.{no_space_line, trouble_line, trouble_words};
 
 use crate::command_faults::CommandFault;
 use raw_region::{DeviceFault, Sink, write_all};
-use segment_disk::Trouble;
+use segment_disk::FileProblem;
 use segment_dump::{BadDump, DumpFault};
 use segment_lang::{Piece, put_pieces};
 
@@ -113,21 +114,22 @@ pub fn report_no_memory<S: Sink>(err: &mut S) -> u8
 }
 
 /// What is said of a file.
-fn trouble_words(trouble: Trouble) -> &'static [u8]
+fn trouble_words(trouble: FileProblem) -> &'static [u8]
     ensures { result.now ≡ trouble_words trouble }
 {
     match trouble {
-        Trouble::Missing => b": no such file\n",
-        Trouble::Homeless => b": no such folder\n",
-        Trouble::Unnamed => b": is no name of a file\n",
-        Trouble::Folder => b": is a folder\n",
-        Trouble::Denied => b": permission denied\n",
-        Trouble::Taken => b": another file is there\n",
+        FileProblem::Missing => b": no such file\n",
+        FileProblem::NoParentFolder => b": no such folder\n",
+        FileProblem::Unnamed => b": is no name of a file\n",
+        FileProblem::Folder => b": is a folder\n",
+        FileProblem::Denied => b": permission denied\n",
+        FileProblem::Taken => b": another file is there\n",
     }
 }
 
 /// Writes a line that says why the file of a path can't be read or written, behind the line of the fault, where that is
-/// known. The path stands there as a text of the language, so that none of its bytes ends the line or means something to
+/// known. The path stands there as a text of the language, so that none of its bytes ends the line or means something
+/// to
 /// a terminal.
 ///
 /// # Errors
@@ -135,7 +137,7 @@ fn trouble_words(trouble: Trouble) -> &'static [u8]
 /// The writer failed; what it took is a part of the line, from the first byte on.
 pub fn put_trouble<S: Sink>(
     path: &str,
-    trouble: Option<Trouble>,
+    trouble: Option<FileProblem>,
     err: &mut S,
 ) -> Result<(), DeviceFault>
     requires { (S.history err.old).failures < 2 ^ 64 - 1 }

@@ -2,10 +2,11 @@
 ghost use Rattle.std.specs.Prelude.{◌≡◌, ◌^◌, ◌-◌, ◌<◌, OnOk};
 ghost use Rattle.grow_shrink.specs.Resized.{IsRefusedBy, growth_refusal, grown, room_of, shrink_refusal, shrunk};
 ghost use Rattle.segment_manager.specs.blocks.Resized.{Resizes};
-ghost use Rattle.segment_commands.specs.Holding.{Holds};
+ghost use Rattle.segment_commands.specs.Holding.{HoldsLock};
 ghost use Rattle.segment_commands.specs.Modes.{making_of};
-ghost use Rattle.segment_commands.specs.Resizing.{IsResize, TellsAndWrites, TellsSize, more_by, next_by, refusal_by, size_line};
-ghost use Rattle.segment_commands.specs.Telling.{Tells};
+ghost use Rattle.segment_commands.specs.Resizing.{IsResize, TellsAndWrites, TellsSize, more_by, next_by, refusal_by};
+ghost use Rattle.segment_commands.specs.Resizing.{size_line};
+ghost use Rattle.segment_commands.specs.Telling.{WritesAndFlushes};
 
 use crate::command_faults::{CommandFault, WRITE_FAULT};
 use crate::modes::making_for;
@@ -13,9 +14,9 @@ use crate::opening::open_segment;
 use grow_shrink::{GrowError, shrink_to_fit};
 use raw_region::DeviceFault;
 use segment_cli::ProgramFault;
-use segment_disk::{Disk, Making, Output};
+use segment_disk::{CreateMode, Disk, Output};
 use segment_file::write_image;
-use segment_invocation::Saving;
+use segment_invocation::SaveMode;
 use segment_lang::put_number_line;
 use segment_manager::{Mode, Segment};
 use std::alloc::Global;
@@ -32,7 +33,7 @@ enum Resize {
 /// Writes a size as a line, and gives it out.
 fn tell_number<O: Output>(out: &mut O, size: u64) -> Result<(), DeviceFault>
     requires { (O.history out.old).failures < 2 ^ 64 - 1 }
-    ensures { Tells O.history O.flushes out.old out.new (size_line size) result }
+    ensures { WritesAndFlushes O.history O.flushes out.old out.new (size_line size) result }
 {
     put_number_line(out, b"size ", size)?;
     out.flush()
@@ -51,13 +52,14 @@ fn tell_size<O: Output>(segment: &Segment, out: &mut O) -> Result<(), DeviceFaul
 fn tell_and_write<D: Disk, O: Output>(
     disk: &mut D,
     path: &str,
-    making: Making,
+    making: CreateMode,
     hold: &mut D::Hold,
     segment: &Segment,
     out: &mut O,
 ) -> Result<(), DeviceFault>
     requires { (O.history out.old).failures < 2 ^ 64 - 1 }
-    ensures { TellsAndWrites D.step disk.old disk.new path.now making O.history O.flushes out.old out.new segment.now result }
+    ensures { TellsAndWrites D.step disk.old disk.new path.now making O.history O.flushes out.old out.new
+        segment.now result }
 {
     match tell_size(segment, out) {
         Ok(()) => write_image(disk, path, making, hold, segment),
@@ -68,7 +70,7 @@ fn tell_and_write<D: Disk, O: Output>(
 /// Makes a segment larger or smaller.
 fn resize_segment(segment: &mut Segment, how: Resize) -> Result<(), GrowError>
     ensures refused { IsRefusedBy segment.old result (refusal_by how segment.old) }
-    ensures resized { OnOk result (Resizes segment.old segment.new (next_by how)) }
+    ensures changes { OnOk result (Resizes segment.old segment.new (next_by how)) }
 {
     match how {
         Resize::Grow(extra) => grow_shrink::grow(segment, extra),
@@ -92,7 +94,7 @@ fn resize_held<D: Disk, O: Output>(
     disk: &mut D,
     path: &str,
     how: Resize,
-    making: Making,
+    making: CreateMode,
     hold: &mut D::Hold,
     out: &mut O,
 ) -> Result<(), CommandFault>
@@ -116,19 +118,19 @@ fn resize_file<D: Disk, O: Output>(
     disk: &mut D,
     path: &str,
     how: Resize,
-    making: Making,
+    making: CreateMode,
     out: &mut O,
 ) -> Result<(), CommandFault>
     requires { (O.history out.old).failures < 2 ^ 64 - 1 }
-    ensures { Holds D.step disk.old disk.new path.now (out.new ≡ out.old)
+    ensures { HoldsLock D.step disk.old disk.new path.now (out.new ≡ out.old)
         (λ held done. IsResize D.step held done path.now making O.history O.flushes out.old out.new
         (more_by how) (refusal_by how) (next_by how) result) result }
 {
-    let Ok(mut hold) = disk.hold(path) else {
+    let Ok(mut hold) = disk.lock(path) else {
         return Err(CommandFault::InUse);
     };
     let answer = resize_held(alloc, disk, path, how, making, &mut hold, out);
-    disk.release(hold);
+    disk.unlock(hold);
     answer
 }
 
@@ -137,19 +139,20 @@ fn resize_file<D: Disk, O: Output>(
 ///
 /// # Errors
 ///
-/// Those of opening it; `Growth` where it does not grow; `WriteFault` where the size does not go out, or the file can't
-/// be emptied or replaced, takes not the whole image, or need not last. `InUse` where another has the right to
+/// Those of opening it; `GrowthFault` where it does not grow; `WriteFault` where the size does not go out, or the file
+/// can't
+/// be emptied or replaced, takes not the whole image, or need not last. `AlreadyLocked` where another has the right to
 /// write it.
 pub fn grow<D: Disk, O: Output>(
     alloc: Global,
     disk: &mut D,
     path: &str,
     extra: u64,
-    saving: Saving,
+    saving: SaveMode,
     out: &mut O,
 ) -> Result<(), CommandFault>
     requires { (O.history out.old).failures < 2 ^ 64 - 1 }
-    ensures { Holds D.step disk.old disk.new path.now (out.new ≡ out.old)
+    ensures { HoldsLock D.step disk.old disk.new path.now (out.new ≡ out.old)
         (λ held done. IsResize D.step held done path.now (making_of saving) O.history O.flushes out.old out.new
         extra (λ s d. growth_refusal s.mode d.size extra (room_of s.cut)) (λ d. grown d extra) result) result }
 {
@@ -162,16 +165,16 @@ pub fn grow<D: Disk, O: Output>(
 ///
 /// # Errors
 ///
-/// Those of [`grow`], but for `Growth`.
+/// Those of [`grow`], but for `GrowthFault`.
 pub fn shrink<D: Disk, O: Output>(
     alloc: Global,
     disk: &mut D,
     path: &str,
-    saving: Saving,
+    saving: SaveMode,
     out: &mut O,
 ) -> Result<(), CommandFault>
     requires { (O.history out.old).failures < 2 ^ 64 - 1 }
-    ensures { Holds D.step disk.old disk.new path.now (out.new ≡ out.old)
+    ensures { HoldsLock D.step disk.old disk.new path.now (out.new ≡ out.old)
         (λ held done. IsResize D.step held done path.now (making_of saving) O.history O.flushes out.old out.new
         0 (λ s d. shrink_refusal s.mode) (λ d. shrunk d) result) result }
 {

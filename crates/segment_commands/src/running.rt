@@ -1,7 +1,8 @@
 //! The command that runs a script on the segment in a file.
 ghost use Rattle.std.specs.Prelude.{◌≡◌, ◌+◌, ◌^◌, ◌-◌, ◌<◌, true, false};
 ghost use Rattle.segment_disk.specs.Events.{IsFlushed};
-ghost use Rattle.segment_commands.specs.Running.{MakesRun, RunsAnyFile, RunsFile, RunsHeld, RunsNewFile, RunsOpened, as_program};
+ghost use Rattle.segment_commands.specs.Running.{MakesRun, RunsAnyFile, RunsFile, RunsHeld, RunsNewFile, RunsOpened};
+ghost use Rattle.segment_commands.specs.Running.{as_program};
 
 use crate::answering::answer_and_save;
 use crate::command_faults::CommandFault;
@@ -10,7 +11,7 @@ use crate::opening::open_segment;
 use raw_region::Source;
 use segment_answers::Lined;
 use segment_cli::{ProgramFault, SessionFault};
-use segment_disk::{Disk, Making, Presence};
+use segment_disk::{CreateMode, Disk, Presence};
 use segment_manager::Mode;
 use segment_scripts::{End, Until};
 use std::alloc::Global;
@@ -19,8 +20,8 @@ use std::alloc::Global;
 /// place.
 fn can_be_read<S: Source>(script: &mut S) -> bool
     requires { (S.history script.old).failures < 2 ^ 64 - 1 }
-    ensures can { result ≡ true → S.history script.new ≡ S.history script.old }
-    ensures cannot { result ≡ false → (S.history script.new).failures ≡ (S.history script.old).failures + 1 }
+    ensures possible { result ≡ true → S.history script.new ≡ S.history script.old }
+    ensures impossible { result ≡ false → (S.history script.new).failures ≡ (S.history script.old).failures + 1 }
 {
     script.read(&mut []).is_ok()
 }
@@ -32,7 +33,7 @@ fn run_opened<D: Disk, S: Source, O: Lined>(
     disk: &mut D,
     path: &str,
     mode: Mode,
-    how: Making,
+    how: CreateMode,
     hold: &mut D::Hold,
     until: Until,
     script: &mut S,
@@ -54,7 +55,7 @@ fn run_held<D: Disk, S: Source, O: Lined>(
     alloc: Global,
     disk: &mut D,
     path: &str,
-    how: Making,
+    how: CreateMode,
     until: Until,
     script: &mut S,
     out: &mut O,
@@ -64,7 +65,7 @@ fn run_held<D: Disk, S: Source, O: Lined>(
     ensures { RunsHeld D.step disk.old disk.new path.now how until (S.history script.old) (S.history script.new)
         O.history (IsFlushed O.history O.flushes out.new) out.old out.new result }
 {
-    let Ok(mut hold) = disk.hold(path) else {
+    let Ok(mut hold) = disk.lock(path) else {
         return Err(CommandFault::InUse);
     };
     let answer = run_opened(
@@ -78,7 +79,7 @@ fn run_held<D: Disk, S: Source, O: Lined>(
         script,
         out,
     );
-    disk.release(hold);
+    disk.unlock(hold);
     answered(answer)
 }
 
@@ -91,13 +92,13 @@ fn run_held<D: Disk, S: Source, O: Lined>(
 /// answers don't go out, or the file can't be emptied or replaced, takes not the whole image, or need not last. It is
 /// neither emptied nor changed before all answers went out. `Stopped` where the run is to end with the first line that
 /// is refused, and did: its answer and all before went out, no line behind it was executed, and nothing is saved.
-/// `InUse` where another has the right to write the file, in mode `Write` alone; the script is not read then.
+/// `AlreadyLocked` where another has the right to write the file, in mode `Write` alone; the script is not read then.
 pub fn run_on_file<D: Disk, S: Source, O: Lined>(
     alloc: Global,
     disk: &mut D,
     path: &str,
     mode: Mode,
-    how: Making,
+    how: CreateMode,
     until: Until,
     script: &mut S,
     out: &mut O,
@@ -137,7 +138,7 @@ fn run_made<D: Disk, S: Source, O: Lined>(
         Ok(mut segment) => answer_and_save(
             disk,
             path,
-            Making::New,
+            CreateMode::New,
             &mut D::hold_none(),
             &mut segment,
             until,
@@ -169,7 +170,7 @@ pub fn run_in_new_file<D: Disk, S: Source, O: Lined>(
     ensures { RunsNewFile D.step disk.old disk.new path.now size until (S.history script.old) (S.history script.new)
         O.history (IsFlushed O.history O.flushes out.new) out.old out.new result }
 {
-    if disk.look(path) == Presence::There {
+    if disk.path_status(path) == Presence::There {
         return Err(CommandFault::Program(ProgramFault::Exists));
     }
     answered(run_made(alloc, disk, path, size, until, script, out))
@@ -186,7 +187,7 @@ pub fn run_on_file_or_new<D: Disk, S: Source, O: Lined>(
     disk: &mut D,
     path: &str,
     size: u64,
-    how: Making,
+    how: CreateMode,
     until: Until,
     script: &mut S,
     out: &mut O,
@@ -196,7 +197,7 @@ pub fn run_on_file_or_new<D: Disk, S: Source, O: Lined>(
     ensures { RunsAnyFile D.step disk.old disk.new path.now size how until (S.history script.old) (S.history script.new)
         O.history (IsFlushed O.history O.flushes out.new) out.old out.new result }
 {
-    if disk.look(path) == Presence::Absent {
+    if disk.path_status(path) == Presence::Absent {
         return answered(run_made(alloc, disk, path, size, until, script, out));
     }
     run_on_file(alloc, disk, path, Mode::Write, how, until, script, out)

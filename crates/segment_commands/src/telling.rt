@@ -2,7 +2,7 @@
 ghost use Rattle.std.specs.Prelude.{◌≡◌, ◌^◌, ◌-◌, ◌<◌, flat_map};
 ghost use Rattle.segment_scripts.specs.CommandRows.{row_text};
 ghost use Rattle.segment_commands.specs.Commands.{Prints};
-ghost use Rattle.segment_commands.specs.Telling.{Tells};
+ghost use Rattle.segment_commands.specs.Telling.{WritesAndFlushes};
 
 use crate::command_faults::{CommandFault, WRITE_FAULT};
 use raw_region::{DeviceFault, write_all};
@@ -10,9 +10,9 @@ use segment_disk::Output;
 use segment_scripts::{CommandRow, put_language};
 
 /// Writes a text, and gives out all that was written.
-pub(crate) fn tell<O: Output>(out: &mut O, text: &[u8]) -> Result<(), DeviceFault>
+pub(crate) fn write_and_flush<O: Output>(out: &mut O, text: &[u8]) -> Result<(), DeviceFault>
     requires { (O.history out.old).failures < 2 ^ 64 - 1 }
-    ensures { Tells O.history O.flushes out.old out.new text.now result }
+    ensures { WritesAndFlushes O.history O.flushes out.old out.new text.now result }
 {
     write_all(out, text)?;
     out.flush()
@@ -27,7 +27,7 @@ pub fn print<O: Output>(out: &mut O, text: &str) -> Result<(), CommandFault>
     requires { (O.history out.old).failures < 2 ^ 64 - 1 }
     ensures { Prints O.history O.flushes out.old out.new text.now result }
 {
-    match tell(out, text.as_bytes()) {
+    match write_and_flush(out, text.as_bytes()) {
         Ok(()) => Ok(()),
         Err(_) => Err(WRITE_FAULT),
     }
@@ -36,7 +36,7 @@ pub fn print<O: Output>(out: &mut O, text: &str) -> Result<(), CommandFault>
 /// Writes the commands of the language, and gives out all that was written.
 fn tell_language<O: Output>(out: &mut O, rows: &[CommandRow]) -> Result<(), DeviceFault>
     requires { (O.history out.old).failures < 2 ^ 64 - 1 }
-    ensures { Tells O.history O.flushes out.old out.new (flat_map row_text rows.now) result }
+    ensures { WritesAndFlushes O.history O.flushes out.old out.new (flat_map row_text rows.now) result }
 {
     put_language(out, rows)?;
     Output::flush(out)

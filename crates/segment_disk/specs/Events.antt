@@ -1,8 +1,8 @@
 -- What a disk was asked, and what it answered.
 use Rattle.std.specs.Prelude.{◌≡◌, ℕ, Bool, false, List, [], ◌∷◌, Option}
-use Rattle.raw_region.specs.Device.{Gave, Given, Took, Taken}
+use Rattle.raw_region.specs.Device.{ReaderHistory, ReadDelta, WriterHistory, WriteDelta}
 use Rattle.segment_disk.specs.declared.presence.Presence.{Presence}
-use Rattle.segment_disk.specs.declared.presence.Making.{Making}
+use Rattle.segment_disk.specs.declared.presence.CreateMode.{CreateMode}
 
 -- one question with its answer; paths are texts
 pub data Event : Type 0 where
@@ -15,14 +15,15 @@ pub data Event : Type 0 where
   -- a file was to be opened for reading; it was, and has so many bytes, as far as that is known, or it was not
   Opened : List ℕ → Option ℕ → Event
   -- the file that was opened last was closed, which had given this
-  Read : Given → Event
-  -- the file of this path was compared with the one that the right to write was given for last; it is that one, as far as
+  Read : ReadDelta → Event
+  -- the file of this path was compared with the one that the right to write was given for last; it is that one, as far
+  -- as
   -- that is known, or another has taken its name
   Compared : List ℕ → Bool → Event
   -- a file was to be made or emptied for writing, or made beside the one of this path, and was or was not
-  Made : Making → List ℕ → Bool → Event
+  Made : CreateMode → List ℕ → Bool → Event
   -- the file that was made or emptied last was closed, which had taken this, and all that it took lasts, or need not
-  Wrote : Taken → Bool → Event
+  Wrote : WriteDelta → Bool → Event
   -- the file that was made beside the one of this path was to be put in its place, and was, or need not have been
   Placed : List ℕ → Bool → Event
   -- it was to be removed
@@ -34,14 +35,15 @@ After step old [] new = new ≡ old
 After {D} step old (e ∷ es) new = (next : D) × step old e next × After step next es new
 
 -- a reader that gave nothing yet, and a writer that took nothing
-abbrev pub nothing_given : Gave
+abbrev pub nothing_given : ReaderHistory
 nothing_given = record { bytes = []; ended = false; ends = 0; failures = 0 }
 
-abbrev pub nothing_taken : Took
+abbrev pub nothing_taken : WriterHistory
 nothing_taken = record { bytes = []; failures = 0 }
 
 -- Of an output: it was flushed last, and took nothing since; ok says whether all that it took went out.
-pub record IsFlushed {O : Type 0} (history : O → Took) (flushes : O → Bool → O → Type 0) (out : O) (ok : Bool) : Type 0 where
+pub record IsFlushed {O : Type 0} (history : O → WriterHistory) (flushes : O → Bool → O
+    → Type 0) (out : O) (ok : Bool) : Type 0 where
   pub before : O
   pub flush : flushes before ok out
   pub same : history out ≡ history before

@@ -1,6 +1,6 @@
 -- A writer of std, as contracts see it.
-use Rattle.raw_region.specs.Device.{Took}
+use Rattle.raw_region.specs.Device.{WriterHistory}
 
 -- what it took
 pub record OutletState : Type 0 where
-  pub history : Took
+  pub history : WriterHistory

@@ -1,14 +1,15 @@
 //! Disks and outputs as the crates above are given them: contracts see what a disk was asked, in order, and what it
 //! answered.
 ghost use Rattle.std.specs.Prelude.{◌≡◌, Bool, IfOk, MatchResult, None, Some, is_ok};
-ghost use Rattle.raw_region.specs.Device.{given_since, taken_since};
-ghost use Rattle.segment_disk.specs.Events.{Event, Looked, Held, Released, Opened as WasOpened, Read, Compared, Made, Wrote, Placed, Discarded, nothing_given, nothing_taken};
+ghost use Rattle.raw_region.specs.Device.{read_delta, write_delta};
+ghost use Rattle.segment_disk.specs.Events.{Event, Looked, Held, Released, Opened as WasOpened, Read, Compared, Made};
+ghost use Rattle.segment_disk.specs.Events.{Wrote, Placed, Discarded, nothing_given, nothing_taken};
 
-use crate::presence::{InUse, Making, Presence};
+use crate::presence::{AlreadyLocked, CreateMode, Presence};
 use raw_region::{DeviceFault, Sink, Source};
 
 /// A file that was opened for reading.
-pub struct Opened<R> {
+pub struct OpenedFile<R> {
     /// Gives its bytes, from the first on.
     pub reader: R,
     /// How many bytes it has, as far as that is known; 0 also where it is not.
@@ -28,33 +29,35 @@ pub trait Disk {
     type Hold: Drop;
 
     /// Tells what is there under a path.
-    fn look(&mut self, path: &str) -> Presence
+    fn path_status(&mut self, path: &str) -> Presence
         ensures { step self.old (Looked path.now result) self.new };
 
     /// Takes the right to write a file, which no other has until it is given back. Where another has it, the answer is
-    /// `InUse`, at once or after a wait that ends. A file that can't be held, or is not there, is nobody's, and the
+    /// `AlreadyLocked`, at once or after a wait that ends. A file that can't be held, or is not there, is nobody's, and
+    /// the
     /// answer is Ok.
-    fn hold(&mut self, path: &str) -> Result<Self::Hold, InUse>
+    fn lock(&mut self, path: &str) -> Result<Self::Hold, AlreadyLocked>
         ensures { step self.old (Held path.now (is_ok result)) self.new };
 
     /// Gives the right to write a file back.
-    fn release(&mut self, hold: Self::Hold)
+    fn unlock(&mut self, hold: Self::Hold)
         ensures { step self.old Released self.new };
 
-    /// What is passed in place of the right to write a file that is not there yet. The file that is made with it is held
+    /// What is passed in place of the right to write a file that is not there yet. The file that is made with it is
+    /// held
     /// by it.
     fn hold_none() -> Self::Hold;
 
     /// Opens a file for reading.
-    fn open(&mut self, path: &str) -> Result<Opened<Self::Reader>, DeviceFault>
-        ensures asked { MatchResult result
+    fn open(&mut self, path: &str) -> Result<OpenedFile<Self::Reader>, DeviceFault>
+        ensures request { MatchResult result
             (λ opened. step self.old (WasOpened path.now (Some opened.len)) self.new)
             (λ fault. step self.old (WasOpened path.now None) self.new) }
         ensures fresh { IfOk result (λ opened. Self.Reader.history opened.reader ≡ nothing_given) };
 
     /// Closes a file that was open for reading.
     fn close(&mut self, reader: Self::Reader)
-        ensures { step self.old (Read (given_since nothing_given (Self.Reader.history reader))) self.new };
+        ensures { step self.old (Read (read_delta nothing_given (Self.Reader.history reader))) self.new };
 
     /// Compares the file of a path with the one that the right to write was given for. An error where another file has
     /// taken its name; Ok also where that one can't be held, and where nothing is there.
@@ -64,28 +67,29 @@ pub trait Disk {
     /// Makes a file, or empties it, and opens it for writing. One that is made beside another is put in its place or
     /// discarded when it is closed. Where another file has taken the name of the one that is held, that one is neither
     /// emptied nor replaced, and the answer is an error. A file that is made under the path is held from then on.
-    fn make(
+    fn create(
         &mut self,
         path: &str,
-        how: Making,
+        how: CreateMode,
         hold: &mut Self::Hold,
     ) -> Result<Self::Writer, DeviceFault>
-        ensures asked { step self.old (Made how path.now (is_ok result)) self.new }
+        ensures request { step self.old (Made how path.now (is_ok result)) self.new }
         ensures fresh { IfOk result (λ writer. Self.Writer.history writer ≡ nothing_taken) };
 
     /// Closes a file that was open for writing. Ok says that all that it took lasts.
-    fn finish(&mut self, writer: Self::Writer) -> Result<(), DeviceFault>
+    fn sync_and_close(&mut self, writer: Self::Writer) -> Result<(), DeviceFault>
         ensures { step self.old
-            (Wrote (taken_since nothing_taken (Self.Writer.history writer)) (is_ok result)) self.new };
+            (Wrote (write_delta nothing_taken (Self.Writer.history writer)) (is_ok result)) self.new };
 
     /// Puts the file that was made beside this one, and is closed, in its place. At each moment the name leads to one
-    /// of the two. Ok says that it leads to the new one, which is held from then on, and that this lasts. An error where
+    /// of the two. Ok says that it leads to the new one, which is held from then on, and that this lasts. An error
+    /// where
     /// another file has taken the name of the one that is held.
-    fn place(&mut self, path: &str, hold: &mut Self::Hold) -> Result<(), DeviceFault>
+    fn commit_replacement(&mut self, path: &str, hold: &mut Self::Hold) -> Result<(), DeviceFault>
         ensures { step self.old (Placed path.now (is_ok result)) self.new };
 
     /// Removes the file that was made beside this one, and is closed, if it is still there and can be removed.
-    fn discard(&mut self, path: &str, hold: &mut Self::Hold)
+    fn discard_replacement(&mut self, path: &str, hold: &mut Self::Hold)
         ensures { step self.old (Discarded path.now) self.new };
 }
 
@@ -96,6 +100,6 @@ pub trait Output: Sink {
 
     /// Gives out all that it took.
     fn flush(&mut self) -> Result<(), DeviceFault>
-        ensures same { Self.history self.new ≡ Self.history self.old }
-        ensures flushes { flushes self.old (is_ok result) self.new };
+        ensures unchanged { Self.history self.new ≡ Self.history self.old }
+        ensures flush { flushes self.old (is_ok result) self.new };
 }

@@ -1,17 +1,17 @@
 //! The files of the system as a `Disk`.
 ghost use Rattle.std.specs.Prelude.{⊤};
 
-use crate::beside::Beside;
-use crate::disk::{Disk, Opened};
-use crate::durable::write_through;
+use crate::disk::{Disk, OpenedFile};
+use crate::durable::sync_file;
 use crate::limits::longest_file;
 use crate::locks::{Identity, PAUSE, lock, lock_made};
-use crate::outlet::Outlet;
-use crate::presence::{InUse, Making, Presence, Trouble};
+use crate::presence::{AlreadyLocked, CreateMode, FileProblem, Presence};
+use crate::replacement_file::ReplacementFile;
 use crate::sparse::SparseFile;
+use crate::std_output::StdOutput;
 use crate::troubles::{making_trouble, trouble_of};
 use raw_region::DeviceFault;
-use raw_region::stream::Reading;
+use raw_region::std_io::StdSource;
 use std::fs::{self, File, OpenFile, OpenOptions};
 use std::io::{self, ErrorKind};
 use std::rt::Files;
@@ -28,22 +28,22 @@ pub struct HostDisk<'a, R: Files> {
     /// For how many seconds it waits for the right to write a file.
     wait: u64,
     /// What the system said last of a file that was to be opened or made.
-    trouble: Option<Trouble>,
+    trouble: Option<FileProblem>,
 }
 
 /// The right to write a file, which the system takes back where this is dropped.
 #[derive(Drop)]
-pub struct HostHold {
+pub struct HostLock {
     /// The lock of the file, if it has one.
     lock: Option<File>,
     /// The file that was made beside it last, while its fate is open.
-    beside: Option<Beside>,
+    beside: Option<ReplacementFile>,
 }
 
-impl HostHold {
+impl HostLock {
     /// With a lock, if there is one.
-    fn new(lock: Option<File>) -> HostHold {
-        HostHold { lock, beside: None }
+    fn new(lock: Option<File>) -> HostLock {
+        HostLock { lock, beside: None }
     }
 
     /// The file that is locked, if one is.
@@ -69,19 +69,19 @@ impl<'a, R: Files> HostDisk<'a, R> {
 
     /// What the system said last of a file that was to be opened or made, where that says why it can't be read or
     /// written.
-    pub fn trouble(&self) -> Option<Trouble> {
+    pub fn trouble(&self) -> Option<FileProblem> {
         self.trouble
     }
 }
 
 impl<'a, R: Files<File = File> + AllocGlobal + Clock> HostDisk<'a, R> {
     /// Makes a file, as it is wanted.
-    fn file_for(&mut self, path: &str, how: Making, hold: &mut HostHold) -> io::Result<File> {
+    fn file_for(&mut self, path: &str, how: CreateMode, hold: &mut HostLock) -> io::Result<File> {
         match how {
-            Making::New => made(self.files, path, hold),
-            Making::Emptied => emptied(self.files, path, hold),
-            Making::Beside => {
-                let (file, beside) = Beside::make(self.files, path, hold.identity())?;
+            CreateMode::New => made(self.files, path, hold),
+            CreateMode::Truncate => emptied(self.files, path, hold),
+            CreateMode::Replacement => {
+                let (file, beside) = ReplacementFile::make(self.files, path, hold.identity())?;
                 hold.beside = Some(beside);
                 Ok(file)
             }
@@ -89,7 +89,7 @@ impl<'a, R: Files<File = File> + AllocGlobal + Clock> HostDisk<'a, R> {
     }
 
     /// Whether another file has taken the name of the one that is locked.
-    fn is_taken(&self, path: &str, hold: &HostHold) -> bool {
+    fn is_taken(&self, path: &str, hold: &HostLock) -> bool {
         match (hold.identity(), Identity::at(self.files, path)) {
             (Some(held), Ok(named)) => held != named,
             _ => false,
@@ -101,7 +101,7 @@ impl<'a, R: Files<File = File> + AllocGlobal + Clock> HostDisk<'a, R> {
 fn made<R: Files<File = File> + Clock>(
     files: &R,
     path: &str,
-    hold: &mut HostHold,
+    hold: &mut HostLock,
 ) -> io::Result<File> {
     let file = File::create_new(files, path)?;
     hold.lock = lock_made(files, &file)?;
@@ -113,7 +113,7 @@ fn made<R: Files<File = File> + Clock>(
 fn emptied<R: Files<File = File> + Clock>(
     files: &R,
     path: &str,
-    hold: &mut HostHold,
+    hold: &mut HostLock,
 ) -> io::Result<File> {
     let held = hold.identity();
     if held.is_none() {
@@ -154,13 +154,13 @@ fn open_file<R: Files>(files: &R, path: &str) -> io::Result<Found<R::File>> {
 impl<'a, R: Files<File = File> + AllocGlobal + Clock> Disk for HostDisk<'a, R> {
     ghost step = { λ old event new. ⊤ };
 
-    type Reader = Reading<File>;
+    type Reader = StdSource<File>;
 
-    type Writer = Outlet<SparseFile>;
+    type Writer = StdOutput<SparseFile>;
 
-    type Hold = HostHold;
+    type Hold = HostLock;
 
-    fn look(&mut self, path: &str) -> Presence {
+    fn path_status(&mut self, path: &str) -> Presence {
         match fs::symlink_metadata(self.files, path) {
             Ok(_) => Presence::There,
             Err(error) if error.kind() == ErrorKind::NotFound => Presence::Absent,
@@ -168,7 +168,7 @@ impl<'a, R: Files<File = File> + AllocGlobal + Clock> Disk for HostDisk<'a, R> {
         }
     }
 
-    fn hold(&mut self, path: &str) -> Result<HostHold, InUse> {
+    fn lock(&mut self, path: &str) -> Result<HostLock, AlreadyLocked> {
         let mut found = lock(self.files, path);
         for _ in 0..self.wait.saturating_mul(TRIES) {
             if found.is_ok() {
@@ -177,16 +177,16 @@ impl<'a, R: Files<File = File> + AllocGlobal + Clock> Disk for HostDisk<'a, R> {
             sleep(self.files, Duration::from_millis(PAUSE));
             found = lock(self.files, path);
         }
-        Ok(HostHold::new(found?))
+        Ok(HostLock::new(found?))
     }
 
-    fn release(&mut self, _hold: HostHold) {}
+    fn unlock(&mut self, _hold: HostLock) {}
 
-    fn hold_none() -> HostHold {
-        HostHold::new(None)
+    fn hold_none() -> HostLock {
+        HostLock::new(None)
     }
 
-    fn open(&mut self, path: &str) -> Result<Opened<Reading<File>>, DeviceFault> {
+    fn open(&mut self, path: &str) -> Result<OpenedFile<StdSource<File>>, DeviceFault> {
         match open_file(self.files, path) {
             Ok(
                 Found {
@@ -195,9 +195,9 @@ impl<'a, R: Files<File = File> + AllocGlobal + Clock> Disk for HostDisk<'a, R> {
                     is_folder,
                 },
             ) => {
-                self.trouble = is_folder.then_some(Trouble::Folder);
-                let reader = Reading::new(file);
-                Ok(Opened { reader, len })
+                self.trouble = is_folder.then_some(FileProblem::Folder);
+                let reader = StdSource::new(file);
+                Ok(OpenedFile { reader, len })
             }
             Err(error) => {
                 self.trouble = trouble_of(error.kind());
@@ -206,27 +206,27 @@ impl<'a, R: Files<File = File> + AllocGlobal + Clock> Disk for HostDisk<'a, R> {
         }
     }
 
-    fn close(&mut self, _reader: Reading<File>) {}
+    fn close(&mut self, _reader: StdSource<File>) {}
 
-    fn compare(&mut self, path: &str, hold: &HostHold) -> Result<(), DeviceFault> {
+    fn compare(&mut self, path: &str, hold: &HostLock) -> Result<(), DeviceFault> {
         if self.is_taken(path, hold) {
-            self.trouble = Some(Trouble::Taken);
+            self.trouble = Some(FileProblem::Taken);
             return Err(DeviceFault);
         }
         Ok(())
     }
 
-    fn make(
+    fn create(
         &mut self,
         path: &str,
-        how: Making,
-        hold: &mut HostHold,
-    ) -> Result<Outlet<SparseFile>, DeviceFault> {
+        how: CreateMode,
+        hold: &mut HostLock,
+    ) -> Result<StdOutput<SparseFile>, DeviceFault> {
         match self.file_for(path, how, hold) {
             Ok(file) => {
                 self.trouble = None;
                 let longest = longest_file(self.files);
-                Ok(Outlet::new(SparseFile::new(file, longest)))
+                Ok(StdOutput::new(SparseFile::new(file, longest)))
             }
             Err(error) => {
                 self.trouble = making_trouble(error.kind(), path, how);
@@ -235,16 +235,16 @@ impl<'a, R: Files<File = File> + AllocGlobal + Clock> Disk for HostDisk<'a, R> {
         }
     }
 
-    fn finish(&mut self, writer: Outlet<SparseFile>) -> Result<(), DeviceFault> {
+    fn sync_and_close(&mut self, writer: StdOutput<SparseFile>) -> Result<(), DeviceFault> {
         let written = writer.inner();
-        if written.end().is_ok() && write_through(written.file()) {
+        if written.end().is_ok() && sync_file(written.file()) {
             Ok(())
         } else {
             Err(DeviceFault)
         }
     }
 
-    fn place(&mut self, path: &str, hold: &mut HostHold) -> Result<(), DeviceFault> {
+    fn commit_replacement(&mut self, path: &str, hold: &mut HostLock) -> Result<(), DeviceFault> {
         let Some(beside) = hold.beside.take() else {
             return Err(DeviceFault);
         };
@@ -252,12 +252,12 @@ impl<'a, R: Files<File = File> + AllocGlobal + Clock> Disk for HostDisk<'a, R> {
             hold.beside = Some(beside);
             return Err(DeviceFault);
         }
-        let lasts = beside.name_lasts(self.files);
+        let lasts = beside.sync_folder(self.files);
         hold.lock = beside.into_lock();
         if lasts { Ok(()) } else { Err(DeviceFault) }
     }
 
-    fn discard(&mut self, _path: &str, hold: &mut HostHold) {
+    fn discard_replacement(&mut self, _path: &str, hold: &mut HostLock) {
         if let Some(beside) = hold.beside.take() {
             beside.discard(self.files);
         }

@@ -2,18 +2,18 @@
 //! system.
 #![tactic(auto)]
 
-mod beside;
 mod disk;
 mod durable;
 mod host;
 mod limits;
 mod locks;
-mod outlet;
 mod presence;
+mod replacement_file;
 mod sparse;
+mod std_output;
 mod troubles;
 
-pub use disk::{Disk, Opened, Output};
-pub use host::{HostDisk, HostHold};
-pub use outlet::{Outlet, Passing};
-pub use presence::{InUse, Making, Presence, Trouble};
+pub use disk::{Disk, OpenedFile, Output};
+pub use host::{HostDisk, HostLock};
+pub use presence::{AlreadyLocked, CreateMode, FileProblem, Presence};
+pub use std_output::{PassThrough, StdOutput};

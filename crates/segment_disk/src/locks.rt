@@ -1,6 +1,6 @@
 //! The right to write a file of the system: a lock on it, which the system takes away where its holder ends.
 
-use crate::presence::InUse;
+use crate::presence::AlreadyLocked;
 use std::fs::{self, File, TryLockError};
 use std::io::{self, ErrorKind};
 use std::os::unix::fs::MetadataExt;
@@ -52,7 +52,10 @@ fn leads_to<R: Files<File = File>>(files: &R, path: &str, file: &File) -> bool {
 }
 
 /// Locks the file that a path leads to. `None` is one that can't be locked, and what is no file on a disk, as a pipe.
-pub(crate) fn lock<R: Files<File = File>>(files: &R, path: &str) -> Result<Option<File>, InUse> {
+pub(crate) fn lock<R: Files<File = File>>(
+    files: &R,
+    path: &str,
+) -> Result<Option<File>, AlreadyLocked> {
     for _ in 0..TRIES {
         if !fs::metadata(files, path).is_ok_and(|found| found.is_file()) {
             return Ok(None);
@@ -64,11 +67,11 @@ pub(crate) fn lock<R: Files<File = File>>(files: &R, path: &str) -> Result<Optio
             Ok(()) if leads_to(files, path, &file) => return Ok(Some(file)),
             // it was replaced in between, and the lock is that of the file that was there before
             Ok(()) => {}
-            Err(TryLockError::WouldBlock) => return Err(InUse),
+            Err(TryLockError::WouldBlock) => return Err(AlreadyLocked),
             Err(TryLockError::Error(_)) => return Ok(None),
         }
     }
-    Err(InUse)
+    Err(AlreadyLocked)
 }
 
 /// Locks a file that was just made. Another may have opened it since, and has the lock until it finds no segment there.

@@ -15,27 +15,27 @@ pub enum Presence {
 
 /// How a file comes to be open for writing with no byte in it.
 #[derive(Clone, Copy, Debug, PartialEq, Eq)]
-pub enum Making {
+pub enum CreateMode {
     /// It is made, and must not be there.
     New,
     /// It is emptied, or made where nothing is there.
-    Emptied,
+    Truncate,
     /// It is made beside the file of this path, which stays as it is until the new one is put in its place.
-    Beside,
+    Replacement,
 }
 
 /// Another has the right to write a file.
 #[derive(Clone, Copy, Debug, Drop, PartialEq, Eq, Error)]
 #[error("file in use")]
-pub struct InUse;
+pub struct AlreadyLocked;
 
 /// Why a file can't be opened, read or made, as far as the system tells.
 #[derive(Clone, Copy, Debug, PartialEq, Eq)]
-pub enum Trouble {
+pub enum FileProblem {
     /// No file is there.
     Missing,
     /// No folder is there in which the file is to be made.
-    Homeless,
+    NoParentFolder,
     /// The path is none that a file can be made by: it is empty, or ends as that of a folder does.
     Unnamed,
     /// It is a folder.

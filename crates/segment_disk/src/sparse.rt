@@ -52,9 +52,9 @@ impl SparseFile {
 
 /// The first piece of some bytes, or all of them.
 fn front_piece(bytes: &[u8]) -> &[u8]
-    ensures within { length result.now ≤ length bytes.now }
+    ensures in_bounds { length result.now ≤ length bytes.now }
     ensures front { result.now ≡ take (length result.now) bytes.now }
-    ensures some { 0 < length bytes.now → 0 < length result.now }
+    ensures non_empty { 0 < length bytes.now → 0 < length result.now }
 {
     &bytes[..bytes.len().min(PIECE)]
 }
@@ -62,7 +62,7 @@ fn front_piece(bytes: &[u8]) -> &[u8]
 /// Whether all bytes are 0.
 fn are_zeros(bytes: &[u8]) -> bool
     ensures zeros { result ≡ true → AreZero (bytes_of bytes.now) 0 (length bytes.now) }
-    ensures other { result ≡ false → AreZero (bytes_of bytes.now) 0 (length bytes.now) → ⊥ }
+    ensures peer { result ≡ false → AreZero (bytes_of bytes.now) 0 (length bytes.now) → ⊥ }
 {
     let mut largest = 0;
     'bytes: for at in 0..bytes.len() {

@@ -2,18 +2,18 @@
 ghost use Rattle.std.specs.Prelude.{◌≡◌};
 ghost use Rattle.segment_disk.specs.Troubles.{making_trouble, names_none, trouble_of};
 
-use crate::presence::{Making, Trouble};
+use crate::presence::{CreateMode, FileProblem};
 use std::io::ErrorKind;
 
 /// What an error says of a file that was to be opened.
-pub(crate) fn trouble_of(kind: ErrorKind) -> Option<Trouble>
+pub(crate) fn trouble_of(kind: ErrorKind) -> Option<FileProblem>
     ensures { result ≡ trouble_of kind }
 {
     match kind {
-        ErrorKind::NotFound => Some(Trouble::Missing),
-        ErrorKind::IsADirectory => Some(Trouble::Folder),
-        ErrorKind::PermissionDenied => Some(Trouble::Denied),
-        ErrorKind::AlreadyExists => Some(Trouble::Taken),
+        ErrorKind::NotFound => Some(FileProblem::Missing),
+        ErrorKind::IsADirectory => Some(FileProblem::Folder),
+        ErrorKind::PermissionDenied => Some(FileProblem::Denied),
+        ErrorKind::AlreadyExists => Some(FileProblem::Taken),
         _ => None,
     }
 }
@@ -29,16 +29,18 @@ fn names_none(path: &str) -> bool
 }
 
 /// What an error says of a file that was to be made.
-pub(crate) fn making_trouble(kind: ErrorKind, path: &str, how: Making) -> Option<Trouble>
+pub(crate) fn making_trouble(kind: ErrorKind, path: &str, how: CreateMode) -> Option<FileProblem>
     ensures { result ≡ making_trouble kind path.now how }
 {
     let trouble = trouble_of(kind);
-    if how == Making::Beside {
+    if how == CreateMode::Replacement {
         return trouble;
     }
     match trouble {
-        Some(Trouble::Missing | Trouble::Folder) if names_none(path) => Some(Trouble::Unnamed),
-        Some(Trouble::Missing) => Some(Trouble::Homeless),
+        Some(FileProblem::Missing | FileProblem::Folder) if names_none(path) => Some(
+            FileProblem::Unnamed,
+        ),
+        Some(FileProblem::Missing) => Some(FileProblem::NoParentFolder),
         _ => trouble,
     }
 }

@@ -1,9 +1,13 @@
 -- What the lines of a text ask for, put together from part to part.
-use Rattle.segment_dump.proofs.Common.{◌≡◌, ℕ, ◌+◌, ◌-◌, ◌≤◌, List, [], ◌∷◌, ◌++◌, length, take, drop, get_or, refl, sym, ap}
-use Rattle.segment_dump.proofs.Common.{◌∙◌, arith, append_assoc, append-nil, length-append, flat_map-append, length-drop, length-take, take-append-drop, take_all}
-use Rattle.segment_dump.proofs.Common.{AllByRecursion, flat_map, Kind, Needs, number_text, all_needs, both, nothing, object_room, only_room, subst, ◌≢◌}
+use Rattle.segment_dump.proofs.Common.{◌≡◌, ℕ, ◌+◌, ◌-◌, ◌≤◌, List, [], ◌∷◌, ◌++◌, length, take, drop, get_or, refl}
+use Rattle.segment_dump.proofs.Common.{sym, ap}
+use Rattle.segment_dump.proofs.Common.{◌∙◌, arith, append_assoc, append-nil, length-append, flat_map-append}
+use Rattle.segment_dump.proofs.Common.{length-drop, length-take, take-append-drop, take_all}
+use Rattle.segment_dump.proofs.Common.{AllByRecursion, flat_map, Kind, Needs, number_text, all_needs, both, nothing}
+use Rattle.segment_dump.proofs.Common.{object_room, only_room, subst, ◌≢◌}
 use Rattle.segment_dump.proofs.Common.{HasNoEnd, Skips, Some, ended, lines_text}
-use Rattle.segment_dump.specs.Asked.{AreAtMost, AskTogether, Asking, AsksContent, AsksObject, Begins, CanName, IsLined, IsMeasured, IsText, NamesKind}
+use Rattle.segment_dump.specs.Asked.{AreAtMost, AskTogether, Asking, AsksContent, AsksObject, Begins, CanName, IsLined}
+use Rattle.segment_dump.specs.Asked.{IsMeasured, IsDumpText, NamesKind}
 use Rattle.segment_dump.specs.Texts.{length_text, pieces_in}
 use Rattle.segment_dump.proofs.Lists.{AllByRecursion-append}
 use Rattle.segment_dump.proofs.Readers.{InLine, line-ends, line-goes}
@@ -14,7 +18,8 @@ use Rattle.segment_dump.proofs.Sums.{all-append}
 pub joined : (text a b mid rest : List ℕ) → text ≡ a ++ mid → mid ≡ b ++ rest → text ≡ (a ++ b) ++ rest
 joined text a b mid rest e f = e ∙ ap (λ l. a ++ l) f ∙ sym (append_assoc a b rest)
 
-pub can-name-more : (text mid rest : List ℕ) (m n : ℕ) → Begins CanName text m mid → Begins CanName mid n rest → Begins CanName text (m + n) rest
+pub can-name-more : (text mid rest : List ℕ) (m n : ℕ) → Begins CanName text m mid → Begins CanName mid n rest
+    → Begins CanName text (m + n) rest
 can-name-more text mid rest m n f g = record {
   bytes = f.bytes ++ g.bytes;
   is = joined text f.bytes g.bytes mid rest f.is g.is;
@@ -30,7 +35,8 @@ pub can-name-here : (text lead rest : List ℕ) → text ≡ lead ++ rest → Be
 can-name-here text lead rest e = record { bytes = lead; is = e; says = omega arith }
 
 -- between other bytes
-pub can-name-between : (text lead end r0 r1 rest : List ℕ) (len : ℕ) → text ≡ lead ++ r0 → Begins CanName r0 len r1 → r1 ≡ end ++ rest → Begins CanName text len rest
+pub can-name-between : (text lead end r0 r1 rest : List ℕ) (len : ℕ) → text ≡ lead ++ r0 → Begins CanName r0 len r1
+    → r1 ≡ end ++ rest → Begins CanName text len rest
 can-name-between text lead end r0 r1 rest len e f g = record {
   bytes = lead ++ (f.bytes ++ end);
   is = joined text lead (f.bytes ++ end) r0 rest e (joined r0 f.bytes end r1 rest f.is g);
@@ -41,9 +47,11 @@ pub can-name-none : (text : List ℕ) → Begins CanName text 0 text
 can-name-none text = record { bytes = []; is = refl; says = omega arith }
 
 -- the first bytes of a text, as many as there are at the least
-pub can-name-first : (k : ℕ) (text : List ℕ) → 1 ≤ k → k ≤ length text → Begins CanName text 1 (take (length text - k) (drop k text))
+pub can-name-first : (k : ℕ) (text : List ℕ) → 1 ≤ k → k ≤ length text
+    → Begins CanName text 1 (take (length text - k) (drop k text))
 can-name-first k text l h =
-    let whole : take (length text - k) (drop k text) ≡ drop k text = take_all (length text - k) (drop k text) (omega (arith, length-drop k text)) in
+    let whole : take (length text - k) (drop k text) ≡ drop k text =
+    take_all (length text - k) (drop k text) (omega (arith, length-drop k text)) in
     record {
       bytes = take k text;
       is = sym (take-append-drop k text) ∙ ap (λ r. take k text ++ r) (sym whole);
@@ -55,11 +63,16 @@ can-name-first k text l h =
 lined-both : (a b : List ℕ) (m n : ℕ) → IsLined a m → IsLined b n → IsLined (a ++ b) (m + n)
 lined-both a b m n f g = record {
   lines = f.lines ++ g.lines;
-  are = (AllByRecursion-append HasNoEnd f.lines g.lines f.are.0 g.are.0, length-append f.lines g.lines ∙ ap (λ k. k + length g.lines) f.are.1 ∙ ap (λ k. m + k) g.are.1);
+  are = (
+    AllByRecursion-append HasNoEnd f.lines g.lines f.are.0 g.are.0,
+    length-append f.lines g.lines
+        ∙ ap (λ k. k + length g.lines) f.are.1 ∙ ap (λ k. m + k) g.are.1,
+  );
   is = ap (λ l. l ++ b) f.is ∙ ap (λ l. lines_text f.lines ++ l) g.is ∙ sym (flat_map-append ended f.lines g.lines);
 }
 
-pub lined-more : (text mid rest : List ℕ) (m n : ℕ) → Begins IsLined text m mid → Begins IsLined mid n rest → Begins IsLined text (m + n) rest
+pub lined-more : (text mid rest : List ℕ) (m n : ℕ) → Begins IsLined text m mid → Begins IsLined mid n rest
+    → Begins IsLined text (m + n) rest
 lined-more text mid rest m n f g = record {
   bytes = f.bytes ++ g.bytes;
   is = joined text f.bytes g.bytes mid rest f.is g.is;
@@ -82,28 +95,33 @@ first-of : (rest : List ℕ) → 1 ≤ length rest → rest ≡ get_or rest 0 0 
 first-of [] l = absurd (omega arith)
 first-of (c ∷ cs) l = ap (λ t. c ∷ t) (sym (take_all (length (c ∷ cs) - 1) cs (omega arith)))
 
-pub skip-goes : (text rest : List ℕ) → 1 ≤ length rest → get_or rest 0 0 ≢ 0x0A → InLine text rest → InLine text (take (length rest - 1) (drop 1 rest))
+pub skip-goes : (text rest : List ℕ) → 1 ≤ length rest → get_or rest 0 0 ≢ 0x0A → InLine text rest
+    → InLine text (take (length rest - 1) (drop 1 rest))
 skip-goes text rest l n h = record {
   left = λ line a g e.
       let k = h.left line a g e in
       line-goes (get_or rest 0 0) (take (length rest - 1) (drop 1 rest)) k.0 a n k.1 (sym (first-of rest l) ∙ k.2);
 }
 
-pub skip-ends : (text rest : List ℕ) → 1 ≤ length rest → get_or rest 0 0 ≡ 0x0A → InLine text rest → Skips ended HasNoEnd text (Some (take (length rest - 1) (drop 1 rest)))
+pub skip-ends : (text rest : List ℕ) → 1 ≤ length rest → get_or rest 0 0 ≡ 0x0A → InLine text rest
+    → Skips ended HasNoEnd text (Some (take (length rest - 1) (drop 1 rest)))
 skip-ends text rest l n h = record {
   skips = λ line a g e.
       let k = h.left line a g e in
-      ap Some (line-ends (get_or rest 0 0) (take (length rest - 1) (drop 1 rest)) k.0 a n k.1 (sym (first-of rest l) ∙ k.2));
+      ap Some (line-ends (get_or rest 0 0) (take (length rest - 1) (drop 1 rest)) k.0 a n k.1 (sym (first-of rest l)
+      ∙ k.2));
 }
 
-pub first-goes : (text rest : List ℕ) → 1 ≤ length rest → get_or rest 0 0 ≢ 0x0A → InFirst text rest → InFirst text (take (length rest - 1) (drop 1 rest))
+pub first-goes : (text rest : List ℕ) → 1 ≤ length rest → get_or rest 0 0 ≢ 0x0A → InFirst text rest
+    → InFirst text (take (length rest - 1) (drop 1 rest))
 first-goes text rest l n h = record {
   line = h.line ++ get_or rest 0 0 ∷ [];
   good = AllByRecursion-append (λ c. c ≢ 0x0A) h.line (get_or rest 0 0 ∷ []) h.good (n, tt);
   is = joined text h.line (get_or rest 0 0 ∷ []) rest (take (length rest - 1) (drop 1 rest)) h.is (first-of rest l);
 }
 
-pub first-ends : (text rest : List ℕ) → 1 ≤ length rest → get_or rest 0 0 ≡ 0x0A → InFirst text rest → Begins IsLined text 1 (take (length rest - 1) (drop 1 rest))
+pub first-ends : (text rest : List ℕ) → 1 ≤ length rest → get_or rest 0 0 ≡ 0x0A → InFirst text rest
+    → Begins IsLined text 1 (take (length rest - 1) (drop 1 rest))
 first-ends text rest l e h =
     let tail = take (length rest - 1) (drop 1 rest) in
     record {
@@ -114,18 +132,21 @@ first-ends text rest l e h =
 
 -- ---- a kind and a count
 
-pub measured-by : (text r0 r1 r2 rest : List ℕ) (kind : Kind) (count : ℕ) → Begins NamesKind text kind r0 → r0 ≡ 0x20 ∷ r1 → r1 ≡ number_text count ++ r2 → r2 ≡ 0x0A ∷ rest
+pub measured-by : (text r0 r1 r2 rest : List ℕ) (kind : Kind) (count : ℕ) → Begins NamesKind text kind r0
+    → r0 ≡ 0x20 ∷ r1 → r1 ≡ number_text count ++ r2 → r2 ≡ 0x0A ∷ rest
     → Begins IsMeasured text (kind, count) rest
 measured-by text r0 r1 r2 rest kind count k e f g = record {
   bytes = k.bytes ++ 0x20 ∷ (number_text count ++ 0x0A ∷ []);
   is = joined text k.bytes (0x20 ∷ (number_text count ++ 0x0A ∷ [])) r0 rest k.is
-      (e ∙ ap (λ l. 0x20 ∷ l) (f ∙ ap (λ l. number_text count ++ l) g ∙ sym (append_assoc (number_text count) (0x0A ∷ []) rest)));
+      (e ∙ ap (λ l. 0x20 ∷ l) (f ∙ ap (λ l. number_text count ++ l) g
+      ∙ sym (append_assoc (number_text count) (0x0A ∷ []) rest)));
   says = record { word = k.bytes; kind_is = k.says; is = refl };
 }
 
 -- ---- a text
 
-pub text-by : (text r0 r1 rest : List ℕ) (len count : ℕ) → text ≡ 0x20 ∷ 0x20 ∷ r0 → r0 ≡ number_text len ++ r1 → count ≡ pieces_in len → Begins IsLined r1 count rest → Begins IsText text len rest
+pub text-by : (text r0 r1 rest : List ℕ) (len count : ℕ) → text ≡ 0x20 ∷ 0x20 ∷ r0 → r0 ≡ number_text len ++ r1
+    → count ≡ pieces_in len → Begins IsLined r1 count rest → Begins IsDumpText text len rest
 text-by text r0 r1 rest len count e f m l = record {
   bytes = length_text len ++ l.bytes;
   is = joined text (length_text len) l.bytes r1 rest (e ∙ ap (λ t. 0x20 ∷ 0x20 ∷ t) f) l.is;
@@ -135,13 +156,21 @@ text-by text r0 r1 rest len count e f m l = record {
 -- ---- what asks, one behind another
 
 pub at-most : (n m : Needs) → n ≡ m → AreAtMost n m
-at-most n m e = record { room = omega (arith, ap (λ (k : Needs). k.room) e); longest = omega (arith, ap (λ (k : Needs). k.longest) e) }
+at-most n m e = record {
+  room = omega (arith, ap (λ (k : Needs). k.room) e);
+  longest = omega (arith, ap (λ (k : Needs). k.longest) e);
+}
 
 module _ (Asks : List ℕ → Needs → Type 0) where
   pub none-asks : (text : List ℕ) (needs : Needs) → needs ≡ nothing → Begins (AskTogether Asks 0) text needs text
-  none-asks text needs e = record { bytes = []; is = refl; says = record { parts = []; many = refl; each = tt; is = refl; most = at-most needs nothing e } }
+  none-asks text needs e = record {
+    bytes = [];
+    is = refl;
+    says = record { parts = []; many = refl; each = tt; is = refl; most = at-most needs nothing e };
+  }
 
-  more-together : (count : ℕ) (bytes one : List ℕ) (needs more sum : Needs) → AskTogether Asks count bytes needs → Asks one more → AreAtMost sum (both needs more)
+  more-together : (count : ℕ) (bytes one : List ℕ) (needs more sum : Needs) → AskTogether Asks count bytes needs
+      → Asks one more → AreAtMost sum (both needs more)
       → AskTogether Asks (count + 1) (bytes ++ one) sum
   more-together count bytes one needs more sum t a s =
       let p : Asking = record { bytes = one; needs = more } in
@@ -153,14 +182,16 @@ module _ (Asks : List ℕ → Needs → Type 0) where
         parts = t.parts ++ p ∷ [];
         many = omega (arith, length-append t.parts (p ∷ []), t.many);
         each = AllByRecursion-append (λ (q : Asking). Asks q.bytes q.needs) t.parts (p ∷ []) t.each (a, tt);
-        is = ap (λ l. l ++ one) t.is ∙ ap (λ l. flat_map spelled t.parts ++ l) (sym (append-nil one)) ∙ sym (flat_map-append spelled t.parts (p ∷ []));
+        is = ap (λ l. l ++ one) t.is ∙ ap (λ l. flat_map spelled t.parts ++ l) (sym (append-nil one))
+            ∙ sym (flat_map-append spelled t.parts (p ∷ []));
         most = record {
           room = omega (arith, s.room, least.room, ap (λ (k : Needs). k.room) all);
           longest = omega (arith, s.longest, least.longest, ap (λ (k : Needs). k.longest) all);
         };
       }
 
-  pub more-asks : (text mid rest : List ℕ) (count : ℕ) (needs more sum : Needs) → Begins (AskTogether Asks count) text needs mid → Begins Asks mid more rest → AreAtMost sum (both needs more)
+  pub more-asks : (text mid rest : List ℕ) (count : ℕ) (needs more sum : Needs)
+      → Begins (AskTogether Asks count) text needs mid → Begins Asks mid more rest → AreAtMost sum (both needs more)
       → Begins (AskTogether Asks (count + 1)) text sum rest
   more-asks text mid rest count needs more sum f g s = record {
     bytes = f.bytes ++ g.bytes;
@@ -170,7 +201,9 @@ module _ (Asks : List ℕ → Needs → Type 0) where
 
 -- ---- an object
 
-pub object-asks : (text r0 r1 rest : List ℕ) (len : ℕ) (kind : Kind) (count : ℕ) (elements needs : Needs) → Begins CanName text len r0 → Begins IsMeasured r0 (kind, count) r1 → Begins (AsksContent kind count) r1 elements rest
+pub object-asks : (text r0 r1 rest : List ℕ) (len : ℕ) (kind : Kind) (count : ℕ) (elements needs : Needs)
+    → Begins CanName text len r0 → Begins IsMeasured r0 (kind, count) r1
+    → Begins (AsksContent kind count) r1 elements rest
     → AreAtMost needs (both (only_room (object_room len kind count)) elements) → Begins AsksObject text needs rest
 object-asks text r0 r1 rest len kind count elements needs f g h m = record {
   bytes = f.bytes ++ (g.bytes ++ h.bytes);

@@ -1,6 +1,7 @@
 -- Base64 that is written a group after another.
 use Rattle.segment_dump.proofs.Common.{◌≡◌, ℕ, List, [], ◌∷◌, ◌++◌, Result, Ok, Err, IsErr, sym, ap, subst, ◌∙◌}
-use Rattle.segment_dump.proofs.Common.{◌≤◌, ◌-◌, arith, drop, get_or, length, take, take_all, append_assoc, Took, Writes, writes-cut, writes-then}
+use Rattle.segment_dump.proofs.Common.{◌≤◌, ◌-◌, arith, drop, get_or, length, take, take_all, append_assoc}
+use Rattle.segment_dump.proofs.Common.{WriterHistory, Writes, writes-cut, writes-then}
 use Rattle.segment_dump.specs.Json.{base64_text}
 use Rattle.segment_dump.proofs.PartLines.{well}
 
@@ -14,13 +15,13 @@ group-front (a ∷ b ∷ c ∷ bs) h =
     ap (λ l. a ∷ b ∷ c ∷ l) (sym (take_all (length (a ∷ b ∷ c ∷ bs) - 3) bs (omega arith)))
 
 -- so much has gone out, and this is left
-pub record IsLeft (old new : Took) (bytes rest : List ℕ) : Type 0 where
+pub record IsLeft (old new : WriterHistory) (bytes rest : List ℕ) : Type 0 where
   pub taken : List ℕ
   pub told : Writes old new well taken
   pub all : base64_text bytes ≡ taken ++ base64_text rest
 
 -- a group more
-pub left-more : {B F : Type 0} (old mid new : Took) (bytes rest behind : List ℕ) (a b c : ℕ) (y : B)
+pub left-more : {B F : Type 0} (old mid new : WriterHistory) (bytes rest behind : List ℕ) (a b c : ℕ) (y : B)
     → IsLeft old mid bytes rest → rest ≡ a ∷ b ∷ c ∷ behind
     → Writes {E = F} mid new (Ok y) (base64_text (a ∷ b ∷ c ∷ [])) → IsLeft old new bytes behind
 left-more old mid new bytes rest behind a b c y was e w = record {
@@ -32,7 +33,7 @@ left-more old mid new bytes rest behind a b c y was e w = record {
 }
 
 -- the writer failed in a group
-pub left-cut : {A B E F : Type 0} (old mid new : Took) (bytes rest behind : List ℕ) (a b c : ℕ) (x : E)
+pub left-cut : {A B E F : Type 0} (old mid new : WriterHistory) (bytes rest behind : List ℕ) (a b c : ℕ) (x : E)
     (result : Result B F) → IsLeft old mid bytes rest → rest ≡ a ∷ b ∷ c ∷ behind → IsErr result
     → Writes {A = A} mid new (Err x) (base64_text (a ∷ b ∷ c ∷ [])) → Writes old new result (base64_text bytes)
 left-cut old mid new bytes rest behind a b c x result was e is_err w =
@@ -41,7 +42,7 @@ left-cut old mid new bytes rest behind a b c x result was e is_err w =
     (writes-cut mid new x result (base64_text (a ∷ b ∷ c ∷ [])) (base64_text behind) is_err w))
 
 -- and what is left
-pub left-last : {B F : Type 0} (old mid new : Took) (bytes rest : List ℕ) (result : Result B F)
+pub left-last : {B F : Type 0} (old mid new : WriterHistory) (bytes rest : List ℕ) (result : Result B F)
     → IsLeft old mid bytes rest → Writes mid new result (base64_text rest) → Writes old new result (base64_text bytes)
 left-last old mid new bytes rest result was w =
     subst (Writes old new result) (sym was.all)

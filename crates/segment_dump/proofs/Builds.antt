@@ -3,13 +3,16 @@
 use Rattle.segment_dump.proofs.Common.{◌≡◌, ℕ, ◌+◌, ◌*◌, ◌<◌, ◌≤◌, ◌==◌, ℤ, Bool, true, false, nat_lt, List, [], ◌∷◌}
 use Rattle.segment_dump.proofs.Common.{◌++◌, length, map, Option, Some, None, if◌then◌else◌, refl, sym, ap, subst, ◌∙◌}
 use Rattle.segment_dump.proofs.Common.{arith, append_assoc, flat_map, ⊤, AllByRecursion, nat_tests, flat_map-append}
-use Rattle.segment_dump.proofs.Common.{append-nil, map-append, Index, Extent, end_of, handle, room, Table, no_table}
+use Rattle.segment_dump.proofs.Common.{append-nil, map-append, Index, Extent, end_of, handle, room, BackingArray}
+use Rattle.segment_dump.proofs.Common.{no_backing}
 use Rattle.segment_dump.proofs.Common.{current, Class, Anonymous, Named, Unique, ScalarKind, Key, Write, Answer, Done}
 use Rattle.segment_dump.proofs.Common.{Made, Directory, IsDirectory, Object, Value, empty, extents_of, live}
 use Rattle.segment_dump.proofs.Common.{named_objects, object_at, object_len, table_extents, unique_objects}
 use Rattle.segment_dump.proofs.Common.{value_extents, Plan, Reply, Request, New, bare, class_of, name_of, perform}
-use Rattle.segment_dump.proofs.Common.{effect, step, AllByRecursion-behind, AllByRecursion-front, EndBy, HasRoom, Head}
-use Rattle.segment_dump.proofs.Common.{IsBuilt, IsFilling, Site, all_extents, total, Item, content_of, item_of_object}
+use Rattle.segment_dump.proofs.Common.{effect, step, AllByRecursion-behind, AllByRecursion-front, EndBy, HasExactRoom}
+use Rattle.segment_dump.proofs.Common.{Head}
+use Rattle.segment_dump.proofs.Common.{HasBuiltItems, IsFilling, Site, all_extents, total, DumpItem, content_of}
+use Rattle.segment_dump.proofs.Common.{item_of_object}
 use Rattle.segment_dump.proofs.Common.{block_room, le-leb, lt-leb, lt-ltb}
 use Rattle.block_tags.specs.declared.tile.Role.TheVariants.{Object as ObjectRole}
 use Rattle.seg_types.specs.declared.refusals.Refusal.TheVariants.{Exists}
@@ -58,20 +61,28 @@ entry-there d Named next h = if-true (nat_lt (length (named_objects d)) d.named.
 entry-there d Unique next h = if-true (nat_lt (length (unique_objects d)) d.unique.capacity) (next d) _
     (lt-ltb (length (unique_objects d)) d.unique.capacity h)
 
-all-by : (e : ℕ) (os : List Object) → EndBy e (flat_map extents_of os) → AllByRecursion (λ (p : Object). p.extent.offset ≤ e) os
+all-by : (e : ℕ) (os : List Object) → EndBy e (flat_map extents_of os)
+    → AllByRecursion (λ (p : Object). p.extent.offset ≤ e) os
 all-by e [] h = tt
 all-by e (p ∷ os) h =
-    let own = AllByRecursion-front (λ (x : Extent). end_of x ≤ e) (extents_of p) (flat_map extents_of os) h in
-    (omega (arith, own.0), all-by e os (AllByRecursion-behind (λ (x : Extent). end_of x ≤ e) (extents_of p) (flat_map extents_of os) h))
+    let own = AllByRecursion-front (λ (x : Extent). end_of x ≤ e) (extents_of p) (flat_map extents_of os) h in (
+      omega (arith, own.0),
+      all-by e os (AllByRecursion-behind (λ (x : Extent).
+          end_of x ≤ e) (extents_of p) (flat_map extents_of os) h),
+    )
 
 -- a handle is answered, and the object of it is there, with nothing in it
-pub record IsMade (outcome : Answer × Directory) (site : Site) (done : List Item) (class : Class) (name : List ℕ) (v : Value) (rest : ℕ) : Type 0 where
+pub record IsMade (outcome : Answer
+    × Directory) (site : Site) (done : List DumpItem) (class : Class) (name : List ℕ) (v : Value) (rest : ℕ) : Type
+    0 where
   pub handle : ℕ
   pub next : Directory
   pub is : outcome ≡ (Made handle, next)
   pub filling : IsFilling next site done (record { class = class; name = name; handle = handle }) v rest
 
-module _ (d : Directory) (site : Site) (done : List Item) (key : Key) (content : asked.Content) (rest : ℕ) (i : IsDirectory current d) (none : object_at d key ≡ None) (entry : HasEntry d (class_of key)) (p : IsPlain content) where
+module _ (d : Directory) (site : Site) (done : List DumpItem) (key : Key) (content : asked.Content) (rest : ℕ)
+    (i : IsDirectory current d) (none : object_at d key ≡ None) (entry : HasEntry d (class_of key))
+    (p : IsPlain content) where
   abbrev len : ℕ
   len = object_len (name_of key) (bare content)
 
@@ -82,35 +93,65 @@ module _ (d : Directory) (site : Site) (done : List Item) (key : Key) (content :
   reply_with o e = Reply (Made (handle o.extent)) e
 
   abbrev object_plan : Directory → Plan
-  object_plan e = Request (New ObjectRole len) (λ x. with_value content (λ v. let o : Object = record { class = class_of key; name = name_of key; value = v; extent = x } in reply_with o (with_object e o)))
+  object_plan e = Request (New ObjectRole len) (λ x.
+      with_value content (λ v. let o : Object = record {
+        class = class_of key;
+        name = name_of key;
+        value = v;
+        extent = x;
+      } in reply_with o (with_object e o)))
 
   asks : effect d (asked.Construct key content) ≡ object_plan d
   asks =
-      ap (λ (r : Option Object). elim r as (λ _. Plan) [ Some o ↦ Plan.Refuse Exists | None ↦ with_new_object d key content reply_with ]) none
+      ap (λ (r : Option Object). elim r as (λ _. Plan) [
+        | Some o ↦ Plan.Refuse Exists
+        | None ↦ with_new_object d key content reply_with
+      ]) none
       ∙ entry-there d (class_of key) object_plan entry
 
-  pub made : 0 < len → IsBuilt d site done (block_room len + rest) → IsRest rest → IsMade (step Write d (asked.Construct key content)) site done (class_of key) (name_of key) (bare content) rest
+  pub made : 0 < len → HasBuiltItems d site done (block_room len + rest) → IsRest rest
+      → IsMade (step Write d (asked.Construct key content)) site done (class_of key) (name_of key) (bare content) rest
   made long b r =
       let h = b.room in
-      let h' : HasRoom (all_extents d) d.size (room len + rest) =
-      record { end = h.end; start = h.start; below = h.below; full = h.full; room = subst (λ m. h.end + 16 + (m + rest) ≤ d.size) (block-some len long) h.room } in
+      let h' : HasExactRoom (all_extents d) d.size (room len + rest) =
+      record {
+        end = h.end;
+        start = h.start;
+        below = h.below;
+        full = h.full;
+        room = subst (λ m. h.end + 16 + (m + rest) ≤ d.size) (block-some len long) h.room;
+      } in
       let taken = room-taken d len ObjectRole rest i.proper h' r in
       let x = taken.extent in
       let o : Object = object_in x in
       let fronts : List Extent = flat_map extents_of d.objects in
       let tables : List Extent = table_extents d.named ++ table_extents d.unique in
       let before : AllByRecursion (λ (p : Object). p.extent.offset ≤ o.extent.offset) d.objects =
-      subst (λ n. AllByRecursion (λ (p : Object). p.extent.offset ≤ n) d.objects) (sym taken.front) (all-by h.end d.objects (AllByRecursion-front (λ (y : Extent). end_of y ≤ h.end) fronts tables h.below)) in
+      subst (λ n. AllByRecursion (λ (p : Object). p.extent.offset ≤ n) d.objects) (sym taken.front)
+      (all-by h.end d.objects (AllByRecursion-front (λ (y : Extent). end_of y ≤ h.end) fronts tables h.below)) in
       let objects : (with_object d o).objects ≡ d.objects ++ o ∷ [] = put-last o d.objects before in
       let alone : extents_of o ++ [] ≡ x ∷ [] = append-nil (extents_of o) ∙ ap (λ l. x ∷ l) p.alone in
       let all : fronts ++ x ∷ tables ≡ all_extents (with_object d o) =
-      sym (ap (λ os. flat_map extents_of os ++ tables) objects ∙ ap (λ l. l ++ tables) (flat_map-append extents_of d.objects (o ∷ []) ∙ ap (λ l. fronts ++ l) alone) ∙ append_assoc fronts (x ∷ []) tables) in
+      sym (ap (λ os. flat_map extents_of os ++ tables) objects
+      ∙ ap (λ l. l ++ tables) (flat_map-append extents_of d.objects (o ∷ []) ∙ ap (λ l. fronts ++ l) alone)
+      ∙ append_assoc fronts (x ∷ []) tables) in
       record {
         handle = handle x;
         next = with_object d o;
         is = writes d (asked.Construct key content) ∙ ap (perform d (live d)) asks
-            ∙ met-perform d len ObjectRole x (λ x. with_value content (λ v. let o : Object = record { class = class_of key; name = name_of key; value = v; extent = x } in reply_with o (with_object d o))) (Made (handle x)) (with_object d o) taken.is
-            (p.plain (λ v. let o : Object = record { class = class_of key; name = name_of key; value = v; extent = x } in reply_with o (with_object d o)));
+            ∙ met-perform d len ObjectRole x (λ x.
+            with_value content (λ v. let o : Object = record {
+              class = class_of key;
+              name = name_of key;
+              value = v;
+              extent = x;
+            } in reply_with o (with_object d o))) (Made (handle x)) (with_object d o) taken.is
+            (p.plain (λ v. let o : Object = record {
+              class = class_of key;
+              name = name_of key;
+              value = v;
+              extent = x;
+            } in reply_with o (with_object d o)));
         filling = record {
           size_is = b.size_is;
           named = b.named;
@@ -123,26 +164,30 @@ module _ (d : Directory) (site : Site) (done : List Item) (key : Key) (content :
           name_is = refl;
           handle_is = refl;
           value_is = refl;
-          room = subst (λ xs. HasRoom xs d.size rest) all (room-with fronts tables x d.size (room len + rest) rest h' taken.front taken.fits);
+          room = subst (λ xs. HasExactRoom xs d.size rest) all
+              (room-with fronts tables x d.size (room len + rest) rest h' taken.front taken.fits);
         };
       }
 
 -- ---- an object is done
 
-pub built : (d : Directory) (site : Site) (done : List Item) (head : Head) (v : Value) (rest : ℕ) → IsFilling d site done head v rest
-    → IsBuilt d site (done ++ record { class = head.class; name = head.name; content = content_of v } ∷ []) rest
+pub built : (d : Directory) (site : Site) (done : List DumpItem) (head : Head) (v : Value) (rest : ℕ)
+    → IsFilling d site done head v rest
+    → HasBuiltItems d site (done ++ record { class = head.class; name = head.name; content = content_of v } ∷ []) rest
 built d site done head v rest f = record {
   size_is = f.size_is;
   named = f.named;
   unique = f.unique;
   items = ap (map item_of_object) f.objects ∙ map-append item_of_object f.before (f.object ∷ [])
-      ∙ (λ i. f.items i ++ record { class = f.class_is i; name = f.name_is i; content = content_of (f.value_is i) } ∷ []);
+      ∙ (λ i. f.items i ++ record { class = f.class_is i; name = f.name_is i; content = content_of (f.value_is i) }
+      ∷ []);
   room = f.room;
 }
 
 -- ---- the indexes
 
-pub empty-built : (size rest : ℕ) → 144 + rest ≤ size → IsBuilt (empty size) (record { named = 0; unique = 0; size = size }) [] rest
+pub empty-built : (size rest : ℕ) → 144 + rest ≤ size
+    → HasBuiltItems (empty size) (record { named = 0; unique = 0; size = size }) [] rest
 unfolding total
 empty-built size rest h = record {
   size_is = refl;
@@ -153,27 +198,38 @@ empty-built size rest h = record {
 }
 
 -- no objects, and an index of names
-abbrev pub fronted : ℕ → Table → Directory
-fronted size t = record { size = size; objects = []; named = t; unique = no_table }
+abbrev pub fronted : ℕ → BackingArray → Directory
+fronted size t = record { size = size; objects = []; named = t; unique = no_backing }
 
-abbrev table_of : ℕ → Extent → Table
+abbrev table_of : ℕ → Extent → BackingArray
 table_of n x = record { capacity = n; extent = Some x }
 
 pub record IsFronted (size n rest : ℕ) (e : Directory) : Type 0 where
-  pub table : Table
+  pub table : BackingArray
   pub is : e ≡ fronted size table
-  pub built : IsBuilt (fronted size table) (record { named = n; unique = 0; size = size }) [] rest
+  pub built : HasBuiltItems (fronted size table) (record { named = n; unique = 0; size = size }) [] rest
 
 -- the same room, for what is left of it
-abbrev room_for : (d : Directory) (n rest : ℕ) → 0 < n → (h : HasRoom (all_extents d) d.size (block_room (8 * n) + rest)) → HasRoom (all_extents d) d.size (room (8 * n) + rest)
-room_for d n rest l h = record { end = h.end; start = h.start; below = h.below; full = h.full; room = subst (λ m. h.end + 16 + (m + rest) ≤ d.size) (block-some (8 * n) (omega arith)) h.room }
+abbrev room_for : (d : Directory) (n rest : ℕ) → 0 < n
+    → (h : HasExactRoom (all_extents d) d.size (block_room (8 * n) + rest))
+    → HasExactRoom (all_extents d) d.size (room (8 * n) + rest)
+room_for d n rest l h = record {
+  end = h.end;
+  start = h.start;
+  below = h.below;
+  full = h.full;
+  room = subst (λ m. h.end + 16 + (m + rest) ≤ d.size) (block-some (8 * n) (omega arith)) h.room;
+}
 
-module _ (size n rest : ℕ) (i : IsDirectory current (empty size)) (b : IsBuilt (empty size) (record { named = 0; unique = 0; size = size }) [] (block_room (8 * n) + rest)) (r : IsRest rest) where
+module _ (size n rest : ℕ) (i : IsDirectory current (empty size))
+    (b : HasBuiltItems (empty size) (record { named = 0; unique = 0; size = size }) [] (block_room (8 * n) + rest))
+    (r : IsRest rest) where
   abbrev NamedReserved : Type 0
   NamedReserved = StepsTo (step Write (empty size) (asked.ReserveNamed n)) Done (IsFronted size n rest)
 
   abbrev named_plan : Bool → Plan
-  named_plan x = if x then Reply Done (empty size) else Request (New Index (8 * n)) (λ x. Reply Done (fronted size (table_of n x)))
+  named_plan x = if x then Reply Done (empty size) else Request (New Index (8 * n)) (λ x.
+      Reply Done (fronted size (table_of n x)))
 
   named-by : (x : Bool) → (n == 0) ≡ x → NamedReserved
   named-by true e =
@@ -183,7 +239,7 @@ module _ (size n rest : ℕ) (i : IsDirectory current (empty size)) (b : IsBuilt
         is = writes (empty size) (asked.ReserveNamed n) ∙ ap
             (λ x. perform (empty size) (live (empty size)) (named_plan x)) (le-leb n 0 (omega (arith, z)));
         holds = record {
-          table = no_table;
+          table = no_backing;
           is = refl;
           built = record {
             size_is = refl;
@@ -191,7 +247,7 @@ module _ (size n rest : ℕ) (i : IsDirectory current (empty size)) (b : IsBuilt
             unique = omega arith;
             items = refl;
             room = subst
-                (λ m. HasRoom [] size m) (no-bytes (8 * n) rest (omega (arith, z))) b.room;
+                (λ m. HasExactRoom [] size m) (no-bytes (8 * n) rest (omega (arith, z))) b.room;
           };
         };
       }
@@ -203,26 +259,37 @@ module _ (size n rest : ℕ) (i : IsDirectory current (empty size)) (b : IsBuilt
         next = fronted size (table_of n taken.extent);
         is = writes (empty size) (asked.ReserveNamed n) ∙ ap
             (λ x. perform (empty size) (live (empty size)) (named_plan x)) (lt-leb n 0 l)
-            ∙ met-perform (empty size) (8 * n) Index taken.extent (λ x. Reply Done (fronted size (table_of n x))) Done (fronted size (table_of n taken.extent)) taken.is refl;
+            ∙ met-perform (empty size) (8 * n) Index taken.extent (λ x.
+            Reply Done (fronted size (table_of n x))) Done (fronted size (table_of n taken.extent)) taken.is refl;
         holds = record {
           table = table_of n taken.extent;
           is = refl;
-          built = record { size_is = refl; named = omega arith; unique = omega arith; items = refl; room = room-with [] [] taken.extent size (room (8 * n) + rest) rest h taken.front taken.fits };
+          built = record {
+            size_is = refl;
+            named = omega arith;
+            unique = omega arith;
+            items = refl;
+            room = room-with [] [] taken.extent size (room (8 * n) + rest) rest h taken.front taken.fits;
+          };
         };
       }
 
   pub named-reserved : NamedReserved
   named-reserved = named-by (n == 0) refl
 
-module _ (size named n rest : ℕ) (t : Table) (i : IsDirectory current (fronted size t)) (b : IsBuilt (fronted size t) (record { named = named; unique = 0; size = size }) [] (block_room (8 * n) + rest)) (r : IsRest rest) where
+module _ (size named n rest : ℕ) (t : BackingArray) (i : IsDirectory current (fronted size t))
+    (b : HasBuiltItems (fronted size t) (record { named = named; unique = 0; size = size }) []
+    (block_room (8 * n) + rest)) (r : IsRest rest) where
   abbrev UniqueReserved : Type 0
-  UniqueReserved = StepsTo (step Write (fronted size t) (asked.ReserveUnique n)) Done (λ e. IsBuilt e (record { named = named; unique = n; size = size }) [] rest)
+  UniqueReserved = StepsTo (step Write (fronted size t) (asked.ReserveUnique n)) Done (λ e.
+      HasBuiltItems e (record { named = named; unique = n; size = size }) [] rest)
 
-  abbrev with_unique : Table → Directory
+  abbrev with_unique : BackingArray → Directory
   with_unique u = record { size = size; objects = []; named = t; unique = u }
 
   abbrev unique_plan : Bool → Plan
-  unique_plan x = if x then Reply Done (fronted size t) else Request (New Index (8 * n)) (λ x. Reply Done (with_unique (table_of n x)))
+  unique_plan x = if x then Reply Done (fronted size t) else Request (New Index (8 * n)) (λ x.
+      Reply Done (with_unique (table_of n x)))
 
   unique-by : (x : Bool) → (n == 0) ≡ x → UniqueReserved
   unique-by true e =
@@ -237,7 +304,8 @@ module _ (size named n rest : ℕ) (t : Table) (i : IsDirectory current (fronted
           unique = omega (arith, z);
           items = refl;
           room = subst
-              (λ m. HasRoom (all_extents (fronted size t)) size m) (no-bytes (8 * n) rest (omega (arith, z))) b.room;
+              (λ m. HasExactRoom (all_extents (fronted size t)) size m) (no-bytes (8 * n) rest (omega (arith, z)))
+              b.room;
         };
       }
   unique-by false e =
@@ -248,8 +316,15 @@ module _ (size named n rest : ℕ) (t : Table) (i : IsDirectory current (fronted
         next = with_unique (table_of n taken.extent);
         is = writes (fronted size t) (asked.ReserveUnique n) ∙ ap
             (λ x. perform (fronted size t) (live (fronted size t)) (unique_plan x)) (lt-leb n 0 l)
-            ∙ met-perform (fronted size t) (8 * n) Index taken.extent (λ x. Reply Done (with_unique (table_of n x))) Done (with_unique (table_of n taken.extent)) taken.is refl;
-        holds = record { size_is = refl; named = b.named; unique = omega arith; items = refl; room = room-with (table_extents t) [] taken.extent size (room (8 * n) + rest) rest h taken.front taken.fits };
+            ∙ met-perform (fronted size t) (8 * n) Index taken.extent (λ x.
+            Reply Done (with_unique (table_of n x))) Done (with_unique (table_of n taken.extent)) taken.is refl;
+        holds = record {
+          size_is = refl;
+          named = b.named;
+          unique = omega arith;
+          items = refl;
+          room = room-with (table_extents t) [] taken.extent size (room (8 * n) + rest) rest h taken.front taken.fits;
+        };
       }
 
   pub unique-reserved : UniqueReserved

@@ -16,7 +16,8 @@ tails e = ap (drop 1) e
 -- of two texts, each of a thing that may be said and of what may follow it, both are of one thing, and what follows is
 -- the same
 pub record IsCode {X : Type 0} (say : X → List ℕ) (IsSaid : X → Type 0) (Follows : List ℕ → Type 0) : Type 0 where
-  pub reads : (x y : X) (a b : List ℕ) → IsSaid x → IsSaid y → Follows a → Follows b → say x ++ a ≡ say y ++ b → (x ≡ y) × (a ≡ b)
+  pub reads : (x y : X) (a b : List ℕ) → IsSaid x → IsSaid y → Follows a → Follows b → say x ++ a ≡ say y ++ b
+      → (x ≡ y) × (a ≡ b)
 
 -- ---- one behind another
 
@@ -31,20 +32,26 @@ pub record Stops (Follows Begins : List ℕ → Type 0) (a : List ℕ) : Type 0 
   pub follows : Follows a
   pub none : Begins a → ⊥
 
-module _ {X : Type 0} (say : X → List ℕ) (IsSaid : X → Type 0) (Follows Begins : List ℕ → Type 0) (row : IsRow say IsSaid Follows Begins) where
+module _ {X : Type 0} (say : X → List ℕ) (IsSaid : X → Type 0) (Follows Begins : List ℕ
+    → Type 0) (row : IsRow say IsSaid Follows Begins) where
   follows-all : (xs : List X) (a : List ℕ) → AllByRecursion IsSaid xs → Follows a → Follows (flat_map say xs ++ a)
   follows-all [] a p f = f
-  follows-all (x ∷ xs) a p f = subst Follows (sym (append_assoc (say x) (flat_map say xs) a)) (row.follows x (flat_map say xs ++ a) p.0)
+  follows-all (x ∷ xs) a p f = subst Follows (sym (append_assoc (say x) (flat_map say xs) a))
+      (row.follows x (flat_map say xs ++ a) p.0)
 
-  pub row-reads : (xs ys : List X) (a b : List ℕ) → AllByRecursion IsSaid xs → AllByRecursion IsSaid ys → Stops Follows Begins a → Stops Follows Begins b
+  pub row-reads : (xs ys : List X) (a b : List ℕ) → AllByRecursion IsSaid xs → AllByRecursion IsSaid ys
+      → Stops Follows Begins a → Stops Follows Begins b
       → flat_map say xs ++ a ≡ flat_map say ys ++ b → (xs ≡ ys) × (a ≡ b)
   row-reads [] [] a b p q f g e = (refl, e)
   row-reads [] (y ∷ ys) a b p q f g e =
-      absurd (f.none (subst Begins (sym (e ∙ append_assoc (say y) (flat_map say ys) b)) (row.begins y (flat_map say ys ++ b) q.0)))
+      absurd (f.none (subst Begins (sym (e ∙ append_assoc (say y) (flat_map say ys) b))
+      (row.begins y (flat_map say ys ++ b) q.0)))
   row-reads (x ∷ xs) [] a b p q f g e =
-      absurd (g.none (subst Begins (sym (sym e ∙ append_assoc (say x) (flat_map say xs) a)) (row.begins x (flat_map say xs ++ a) p.0)))
+      absurd (g.none (subst Begins (sym (sym e ∙ append_assoc (say x) (flat_map say xs) a))
+      (row.begins x (flat_map say xs ++ a) p.0)))
   row-reads (x ∷ xs) (y ∷ ys) a b p q f g e =
-      let one = row.code.reads x y (flat_map say xs ++ a) (flat_map say ys ++ b) p.0 q.0 (follows-all xs a p.1 f.follows) (follows-all ys b q.1 g.follows)
+      let one = row.code.reads x y (flat_map say xs ++ a) (flat_map say ys ++ b) p.0 q.0
+      (follows-all xs a p.1 f.follows) (follows-all ys b q.1 g.follows)
       (sym (append_assoc (say x) (flat_map say xs) a) ∙ e ∙ append_assoc (say y) (flat_map say ys) b) in
       let others = row-reads xs ys a b p.1 q.1 f g one.1 in
       (λ i. one.0 i ∷ others.0 i, others.1)

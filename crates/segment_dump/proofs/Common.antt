@@ -27,12 +27,12 @@ pub use Rattle.best_fit.specs.Extents.{Extent, Gap, end_of, gap_between, handle,
 unfoldable pub use Rattle.best_fit.specs.Extents.{free_bytes, is_proper}
 pub use Rattle.best_fit.specs.Fit.{room}
 unfoldable pub use Rattle.best_fit.specs.Fit.{place}
-pub use Rattle.best_fit.specs.Table.{Table, is_table, no_table, serves}
+pub use Rattle.best_fit.specs.Table.{BackingArray, has_backing, no_backing, serves}
 pub use Rattle.block_tags.specs.Format.{is_legal_size}
 pub use Rattle.block_tags.specs.declared.tile.Role.{Role}
 pub use Rattle.block_tags.specs.declared.tile.Role.TheVariants.{Index, Node, Storage}
 pub use Rattle.raw_region.proofs.Laws.{writes-cut, writes-then}
-pub use Rattle.raw_region.specs.Device.{Took, Writes}
+pub use Rattle.raw_region.specs.Device.{WriterHistory, Writes}
 unfoldable pub use Rattle.raw_region.specs.Format.{current}
 pub use Rattle.raw_region.specs.Memory.{bytes_of}
 unfoldable pub use Rattle.raw_region.specs.Memory.{word_at}
@@ -81,56 +81,64 @@ pub use Rattle.segment_manager.specs.Layout.{head_len}
 pub use Rattle.segment_manager.specs.objects.Located.{IsLocated}
 pub use Rattle.segment_manager.specs.Plan.{New, Plan, Reply, Request, bare, class_of, name_of, perform, with}
 pub use Rattle.segment_manager.specs.blocks.Resized.{shrunk}
-pub use Rattle.segment_manager.specs.State.{Answers, IsStep, IsStepOfKind, StandsFor, State, done_answer}
+pub use Rattle.segment_manager.specs.State.{AnswersWith, TakesStep, TakesStepOfKind, DenotesCurrent, SegmentState}
+pub use Rattle.segment_manager.specs.State.{done_answer}
 pub use Rattle.segment_manager.specs.Step.{changed, effect, found_at}
 unfoldable pub use Rattle.segment_manager.specs.Step.{step, step_of_kind}
 pub use Rattle.segment_manager.specs.containers.Walks.{item_seen, pairs_at}
 pub use Rattle.segment_manager.specs.declared.errors.CreateError.{CreateError}
 pub use Rattle.segment_manager.specs.declared.errors.CreateRefused.{CreateRefused}
 pub use Rattle.segment_manager.specs.declared.modes.Mode.TheVariants.{Write}
-pub use Rattle.segment_manager.specs.declared.objects.telling.Instance.{Instance}
-pub use Rattle.segment_dump.specs.Builders.{AddsElement, AreLeft, Builds, Collects, FillsNew, HasPlace, IsBegun}
-pub use Rattle.segment_dump.specs.Builders.{IsFillable, IsNext, IsVectorKind, PiecesLeft, ReadsElement, ReadsLength}
+pub use Rattle.segment_manager.specs.declared.objects.instance_info.Instance.{Instance}
+pub use Rattle.segment_dump.specs.Builders.{AddsElement, AreLeft, BuildsAllObjects, Collects, FillsNew, HasIndexSlot}
+pub use Rattle.segment_dump.specs.Builders.{IsEmptyObject}
+pub use Rattle.segment_dump.specs.Builders.{IsFillable, CanBuildItem, IsVectorKind, PiecesLeft, ReadsElement}
+pub use Rattle.segment_dump.specs.Builders.{ReadsLength}
 pub use Rattle.segment_dump.specs.Builders.{ReadsPair, ReadsPiece, ReadsShape, StartsNext, StartsUnder, content_need}
 pub use Rattle.segment_dump.specs.Builders.{first_content}
-pub use Rattle.segment_dump.specs.Building.{AreInOrder, EndBy, HasRoom, Head, IsBuilt, IsFilling, Site, all_extents}
+pub use Rattle.segment_dump.specs.Building.{AreSortedItems, EndBy, HasExactRoom, Head, HasBuiltItems, IsFilling, Site}
+pub use Rattle.segment_dump.specs.Building.{all_extents}
 pub use Rattle.segment_dump.specs.Building.{class_words, count_class, has_item_key, item_key, key_in, kind_less}
 pub use Rattle.segment_dump.specs.Building.{measure_words, name_less, of_class}
 unfoldable pub use Rattle.segment_dump.specs.Building.{total}
 pub use Rattle.segment_dump.specs.Capacities.{Capacity, Holds, Kinds, Names, all_notes, capacities, capacities_text}
 pub use Rattle.segment_dump.specs.Capacities.{capacity_note, index_notes, measured_places, places_at}
 pub use Rattle.segment_dump.specs.Comparing.{compared}
-pub use Rattle.segment_dump.specs.Counting.{AreCountable, AreTexts, CountsDump, IsContent, IsCountable, IsFront}
+pub use Rattle.segment_dump.specs.Counting.{AreCountable, AreTexts, CountsDump, HasContentShape, IsCountable, IsFront}
 pub use Rattle.segment_dump.specs.Counting.{IsNameless, fronted}
-pub use Rattle.segment_dump.specs.Filling.{AreBytes, AreRising, AreValues, Fill, FillsAt, IsBuildableContent, IsNameIn}
-pub use Rattle.segment_dump.specs.Filling.{IsPairOf, IsPart, StandsBuilt, StandsFilling, StringsPart, VectorPart}
+pub use Rattle.segment_dump.specs.Filling.{IsByteList, AreRising, AreValues, FillState, FillsAt, IsBuildableContent}
+pub use Rattle.segment_dump.specs.Filling.{IsNameIn}
+pub use Rattle.segment_dump.specs.Filling.{IsTypedPair, IsPartialValue, StandsBuilt, StandsFilling, StringsPart}
+pub use Rattle.segment_dump.specs.Filling.{VectorPart}
 pub use Rattle.segment_dump.specs.Filling.{head_of}
-pub use Rattle.segment_dump.specs.Items.{Content, Item, Items, Map, Scalars, String, Strings, Vector, anonymous_objects}
+pub use Rattle.segment_dump.specs.Items.{ValueContent, DumpItem, Items, Map, Scalars, String, Strings, Vector}
+pub use Rattle.segment_dump.specs.Items.{anonymous_objects}
 pub use Rattle.segment_dump.specs.Items.{bytes_in, content_of, count_of_content, item_of_object, kind_of_content}
 pub use Rattle.segment_dump.specs.Items.{portable}
 pub use Rattle.segment_dump.specs.Layouts.{Spelling, in_lines, laid_at, laid_from, laid_object, laid_out}
 pub use Rattle.segment_dump.specs.Leads.{IsSmall, closed_text, entries_text}
 pub use Rattle.segment_dump.specs.Lines.{IsShortLine, IsWordOf, ReadsEnd, ReadsLine, ReadsThis, ReadsWord, any_word}
 pub use Rattle.segment_dump.specs.Lines.{bare_word, quoted_word, text, value_word}
-pub use Rattle.segment_dump.specs.Loading.{IsAsked, IsExact, IsLoaded, IsNotLoaded, IsRefusalOf, IsWrong, asked_of}
+pub use Rattle.segment_dump.specs.Loading.{IsRequestedSize, IsExact, IsLoaded, IsNotLoaded, IsRefusalOf, IsWrong}
+pub use Rattle.segment_dump.specs.Loading.{asked_of}
 pub use Rattle.segment_dump.specs.Loading.{cause_in, refusal_for}
 pub use Rattle.segment_dump.specs.Need.{all_needs, body_len, both, elements_room, item_needs, items_needs, nothing}
 pub use Rattle.segment_dump.specs.Need.{only_room, text_needs, texts_needs}
 unfoldable pub use Rattle.segment_dump.specs.Need.{block_room, front_room, object_room}
 pub use Rattle.segment_dump.specs.Notes.{are_notes, before_notes, ends_line, is_line, without_notes}
 pub use Rattle.segment_dump.specs.Order.{all_items}
-pub use Rattle.segment_dump.specs.Owed.{WritesOf, all_text, where_anonymous}
+pub use Rattle.segment_dump.specs.DumpWrites.{WritesOf, all_text, where_anonymous}
 pub use Rattle.segment_manager.specs.Parts.{part_of, parts_until}
 pub use Rattle.segment_values.specs.Asked.{length_in}
 pub use Rattle.segment_values.specs.Layouts.{count_at, object_count}
 pub use Rattle.segment_dump.specs.Places.{place_behind}
-pub use Rattle.segment_dump.specs.Reads.{Any, AreLines, Breaks, HasNoEnd, IsWord, Reads, Skips, ended, itself}
+pub use Rattle.segment_dump.specs.Reads.{Any, AreLines, Breaks, HasNoEnd, IsWord, ParsesPrefix, Skips, ended, itself}
 pub use Rattle.segment_dump.specs.Reads.{lines_text, seen, seen_rest}
 pub use Rattle.segment_dump.specs.Succeeding.{AreOf, Succeeds, Takes}
 pub use Rattle.segment_dump.specs.Texts.{content_text, dump_text, element_line, end_text, front_text, head_line}
 pub use Rattle.segment_dump.specs.Texts.{item_text, items_text, length_text, measure_text, pair_line, piece_lead}
 pub use Rattle.segment_dump.specs.Texts.{piece_line, piece_of, pieces_in, pieces_text, text_lines}
-pub use Rattle.segment_dump.specs.declared.building.Shape.{Shape}
+pub use Rattle.segment_dump.specs.declared.building.ObjectLine.{ObjectLine}
 pub use Rattle.segment_dump.specs.declared.counting.Count.{Count}
 pub use Rattle.segment_dump.specs.declared.counting.Front.{Front}
 pub use Rattle.segment_dump.specs.declared.faults.LoadError.{LoadError}

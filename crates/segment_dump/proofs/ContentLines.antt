@@ -33,17 +33,25 @@ plain-no_end c e f = grind (arith, nat_tests)
 digit-no_end : (d : ℕ) → digit_text d ≢ 0x0A
 digit-no_end d f = grind (arith, nat_tests)
 
-byte-by : (c : ℕ) (q p : Bool) → ((c == 0x22) || (c == 0x5C)) ≡ q → between 0x20 0x7E c ≡ p → HasNoEnd (cond q (0x5C ∷ c ∷ []) (cond p (c ∷ []) (escape_text c)))
+byte-by : (c : ℕ) (q p : Bool) → ((c == 0x22) || (c == 0x5C)) ≡ q → between 0x20 0x7E c ≡ p
+    → HasNoEnd (cond q (0x5C ∷ c ∷ []) (cond p (c ∷ []) (escape_text c)))
 byte-by c true p e f = ((λ g. omega arith), (quote-no_end c e, tt))
 byte-by c false true e f = (plain-no_end c f, tt)
-byte-by c false false e f = ((λ g. omega arith), ((λ g. omega arith), (digit-no_end (c / 16), (digit-no_end (c % 16), tt))))
+byte-by c false false e f = (
+  (λ g. omega arith),
+  ((λ g. omega arith), (digit-no_end (c / 16), (digit-no_end (c % 16), tt))),
+)
 
 bytes-no_end : (bs : List ℕ) → HasNoEnd (flat_map item_text bs)
 bytes-no_end [] = tt
-bytes-no_end (b ∷ bs) = no_end-both (item_text b) (flat_map item_text bs) (byte-by b ((b == 0x22) || (b == 0x5C)) (between 0x20 0x7E b) refl refl) (bytes-no_end bs)
+bytes-no_end (b ∷ bs) = no_end-both (item_text b) (flat_map item_text bs)
+    (byte-by b ((b == 0x22) || (b == 0x5C)) (between 0x20 0x7E b) refl refl) (bytes-no_end bs)
 
 pub quoted-no_end : (bs : List ℕ) → HasNoEnd (quoted_text bs)
-quoted-no_end bs = ((λ e. omega arith), no_end-both (flat_map item_text bs) (0x22 ∷ []) (bytes-no_end bs) ((λ e. omega arith), tt))
+quoted-no_end bs = (
+  (λ e. omega arith),
+  no_end-both (flat_map item_text bs) (0x22 ∷ []) (bytes-no_end bs) ((λ e. omega arith), tt),
+)
 
 pub blanks-no_end : (l : List ℕ) → HasNoEnd l → HasNoEnd (0x20 ∷ 0x20 ∷ l)
 blanks-no_end l h = ((λ e. omega arith), ((λ e. omega arith), h))
@@ -56,7 +64,8 @@ pub record IsLines (n : ℕ) (text : List ℕ) : Type 0 where
   pub are : AreLines n lines
   pub whole : text ≡ lines_text lines
 
-module _ {X : Type 0} (say line : X → List ℕ) (good : (x : X) → HasNoEnd (line x)) (is : (x : X) → say x ≡ line x ++ 0x0A ∷ []) where
+module _ {X : Type 0} (say line : X → List ℕ) (good : (x : X) → HasNoEnd (line x)) (is : (x : X)
+    → say x ≡ line x ++ 0x0A ∷ []) where
   all-are : (xs : List X) → flat_map say xs ≡ lines_text (map line xs)
   all-are [] = refl
   all-are (x ∷ xs) = ap (λ l. l ++ flat_map say xs) (is x) ∙ ap (λ l. (line x ++ 0x0A ∷ []) ++ l) (all-are xs)
@@ -74,14 +83,16 @@ module _ {X : Type 0} (say line : X → List ℕ) (good : (x : X) → HasNoEnd (
 
 pub element-lines : (k : ScalarKind) (zs : List ℤ) → IsLines (length zs) (flat_map (element_line k) zs)
 element-lines k zs =
-    each-line (element_line k) (λ z. 0x20 ∷ 0x20 ∷ value_text k z) (λ z. blanks-no_end (value_text k z) (word-no_end (value_text k z) (value-word k z))) (λ z. refl) zs
+    each-line (element_line k) (λ z. 0x20 ∷ 0x20 ∷ value_text k z) (λ z.
+    blanks-no_end (value_text k z) (word-no_end (value_text k z) (value-word k z))) (λ z. refl) zs
 
 abbrev pub pair_front : ScalarKind → ScalarKind → ℤ × ℤ → List ℕ
 pair_front k v p = 0x20 ∷ 0x20 ∷ value_text k p.0 ++ 0x20 ∷ value_text v p.1
 
 pub pair-no_end : (k v : ScalarKind) (p : ℤ × ℤ) → HasNoEnd (pair_front k v p)
 pair-no_end k v p =
-    no_end-both (0x20 ∷ 0x20 ∷ value_text k p.0) (0x20 ∷ value_text v p.1) (blanks-no_end (value_text k p.0) (word-no_end (value_text k p.0) (value-word k p.0)))
+    no_end-both (0x20 ∷ 0x20 ∷ value_text k p.0) (0x20 ∷ value_text v p.1)
+    (blanks-no_end (value_text k p.0) (word-no_end (value_text k p.0) (value-word k p.0)))
     ((λ e. omega arith), word-no_end (value_text v p.1) (value-word v p.1))
 
 pub pair-lines : (k v : ScalarKind) (ps : List (ℤ × ℤ)) → IsLines (length ps) (flat_map (pair_line k v) ps)
@@ -116,7 +127,9 @@ last-line l = append-nil (l ++ 0x0A ∷ [])
 fronts-whole : (bs : List ℕ) (n : ℕ) → parts_until (piece_line bs) n ≡ lines_text (piece_fronts bs n)
 fronts-whole bs zero = refl
 fronts-whole bs (suc n) =
-    ap (λ l. l ++ piece_line bs n) (fronts-whole bs n) ∙ ap (λ l. lines_text (piece_fronts bs n) ++ l) (sym (append_assoc (piece_lead n) (quoted_text (piece_of bs n)) (0x0A ∷ [])) ∙ sym (last-line (piece_front bs n)))
+    ap (λ l. l ++ piece_line bs n) (fronts-whole bs n)
+    ∙ ap (λ l. lines_text (piece_fronts bs n) ++ l)
+    (sym (append_assoc (piece_lead n) (quoted_text (piece_of bs n)) (0x0A ∷ [])) ∙ sym (last-line (piece_front bs n)))
     ∙ sym (flat_map-append (λ l. l ++ 0x0A ∷ []) (piece_fronts bs n) (piece_front bs n ∷ []))
 
 pub piece-lines : (bs : List ℕ) → IsLines (pieces_in (length bs)) (pieces_text bs)

@@ -1,11 +1,11 @@
 -- What the calls answer of a segment, and what an object says of itself.
 use Rattle.segment_dump.proofs.Common.{◌≡◌, ℕ, List, [], ◌∷◌, ◌++◌, length, map, Some, refl, sym, ap, ◌∙◌, option_map}
 use Rattle.segment_dump.proofs.Common.{flat_map, free_bytes, Instance, Number, Directory, live, named_objects, ByHandle}
-use Rattle.segment_dump.proofs.Common.{unique_objects, SaysOf, State, StandsFor, step, true}
+use Rattle.segment_dump.proofs.Common.{unique_objects, SaysOf, SegmentState, DenotesCurrent, step, true}
 use Rattle.std.specs.Prelude.{is_some}
 use Rattle.segment_manager.specs.declared.modes.Mode.{Mode}
 use Rattle.segment_manager.specs.objects.Found.{is_object_at}
-use Rattle.segment_manager.specs.State.{Answers}
+use Rattle.segment_manager.specs.State.{AnswersWith}
 use Rattle.seg_types.specs.Commands as asked
 pub use Rattle.segment_manager.proofs.CommandLaws.{answered-reads}
 pub use Rattle.segment_values.proofs.LaidElements.{count_of_object, length-made, sizes_of_object}
@@ -15,20 +15,26 @@ pub size-is : (mode : Mode) (d : Directory) (n : ℕ) → Number n ≡ (step mod
 size-is mode d n e = let same : Number n ≡ Number d.size = e ∙ answered-reads mode d asked.Size refl in cc
 
 pub free-is : (mode : Mode) (d : Directory) (n : ℕ) → Number n ≡ (step mode d asked.Free).0 → n ≡ free_bytes (live d)
-free-is mode d n e = let same : Number n ≡ Number (free_bytes (live d)) = e ∙ answered-reads mode d asked.Free refl in cc
+free-is mode d n e = let same : Number n ≡ Number (free_bytes (live d)) = e ∙ answered-reads mode d asked.Free refl
+    in cc
 
-pub named-is : (mode : Mode) (d : Directory) (n : ℕ) → Number n ≡ (step mode d asked.NumNamed).0 → n ≡ length (named_objects d)
-named-is mode d n e = let same : Number n ≡ Number (length (named_objects d)) = e ∙ answered-reads mode d asked.NumNamed refl in cc
+pub named-is : (mode : Mode) (d : Directory) (n : ℕ) → Number n ≡ (step mode d asked.NumNamed).0
+    → n ≡ length (named_objects d)
+named-is mode d n e = let same : Number n ≡ Number (length (named_objects d)) =
+    e ∙ answered-reads mode d asked.NumNamed refl in cc
 
-pub unique-is : (mode : Mode) (d : Directory) (n : ℕ) → Number n ≡ (step mode d asked.NumUnique).0 → n ≡ length (unique_objects d)
-unique-is mode d n e = let same : Number n ≡ Number (length (unique_objects d)) = e ∙ answered-reads mode d asked.NumUnique refl in cc
+pub unique-is : (mode : Mode) (d : Directory) (n : ℕ) → Number n ≡ (step mode d asked.NumUnique).0
+    → n ≡ length (unique_objects d)
+unique-is mode d n e = let same : Number n ≡ Number (length (unique_objects d)) =
+    e ∙ answered-reads mode d asked.NumUnique refl in cc
 
 -- the texts of what is made of each element
-pub flat_map-made : {X Y : Type 0} (f : Y → List ℕ) (g : X → Y) (xs : List X) → flat_map f (map g xs) ≡ flat_map (λ x. f (g x)) xs
+pub flat_map-made : {X Y : Type 0} (f : Y → List ℕ) (g : X → Y) (xs : List X)
+    → flat_map f (map g xs) ≡ flat_map (λ x. f (g x)) xs
 flat_map-made f g [] = refl
 flat_map-made f g (x ∷ xs) = ap (λ l. f (g x) ++ l) (flat_map-made f g xs)
 
 -- an object that says something of itself has the handle
-pub said-here : (s : State) (said : Instance) → SaysOf s (ByHandle said.handle) said
-    → Answers s (λ d. is_object_at d said.handle) true
+pub said-here : (s : SegmentState) (said : Instance) → SaysOf s (ByHandle said.handle) said
+    → AnswersWith s (λ d. is_object_at d said.handle) true
 said-here s said h = record { answers = λ d st. sym (ap is_some (h.says d st).1) }

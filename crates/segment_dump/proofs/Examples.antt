@@ -1,6 +1,7 @@
 -- Worked examples: elements and texts, as a dump has them.
 use Rattle.segment_dump.proofs.Common.{◌≡◌, [], ◌∷◌, ◌++◌, List, ℕ, map, None, refl, digits, pos, negsuc, codes}
-use Rattle.segment_dump.proofs.Common.{replicate, Table, no_table, I32, I64, Anonymous, Named, Unique, Directory}
+use Rattle.segment_dump.proofs.Common.{replicate, BackingArray, no_backing, I32, I64, Anonymous, Named, Unique}
+use Rattle.segment_dump.proofs.Common.{Directory}
 use Rattle.segment_dump.proofs.Common.{Object, Value, Class, capacities, capacities_text, Items, Scalars, Vector, Map}
 use Rattle.segment_dump.proofs.Common.{Strings}
 use Rattle.segment_dump.proofs.Common.{block_room, front_room, items_needs, object_room, without_notes, place_behind}
@@ -16,7 +17,8 @@ line l = l ++ 0x0A ∷ []
 truths : content_text (Vector Bool (pos 0 ∷ pos 1 ∷ [])) ≡ line (codes "  false") ++ line (codes "  true")
 truths = refl
 
-pairs : content_text (Map Bool Bool ((pos 0, pos 1) ∷ (pos 1, pos 0) ∷ [])) ≡ line (codes "  false true") ++ line (codes "  true false")
+pairs : content_text (Map Bool Bool ((pos 0, pos 1) ∷ (pos 1, pos 0) ∷ [])) ≡ line (codes "  false true")
+    ++ line (codes "  true false")
 pairs = refl
 
 -- an empty text is one piece
@@ -27,7 +29,8 @@ escapes : pieces_text (0x61 ∷ 0 ∷ 0x22 ∷ 0x5C ∷ []) ≡ line (codes " \"
 escapes = refl
 
 -- a text of 1001 bytes has two pieces
-two-pieces : pieces_text (replicate 1001 0x61) ≡ line (codes " \"" ++ replicate 1000 0x61 ++ codes "\"") ++ line (codes "    \"a\"")
+two-pieces : pieces_text (replicate 1001 0x61) ≡ line (codes " \"" ++ replicate 1000 0x61 ++ codes "\"")
+    ++ line (codes "    \"a\"")
 two-pieces = refl
 
 -- behind a line end and two bytes
@@ -44,7 +47,11 @@ blocks = refl
 -- each object's own block, 64 for the array, 32 and 48 for the texts that are not empty, and 48 for each pair
 abbrev some_items : Items
 some_items = record {
-  named = record { class = Named; name = codes "b"; content = Strings (codes "hello" ∷ [] ∷ replicate 20 0x61 ∷ []) } ∷ [];
+  named = record {
+    class = Named;
+    name = codes "b";
+    content = Strings (codes "hello" ∷ [] ∷ replicate 20 0x61 ∷ []);
+  } ∷ [];
   unique = record { class = Unique; name = []; content = Map I32 Bool ((negsuc 6, pos 0) ∷ (pos 7, pos 1) ∷ []) } ∷ [];
   anonymous = [];
 }
@@ -70,23 +77,28 @@ unended = refl
 
 -- ---- capacities: an array and a map have none
 
-abbrev places : ℕ → Table
+abbrev places : ℕ → BackingArray
 places n = record { capacity = n; extent = None }
 
 abbrev some_object : Class → List ℕ → ℕ → Value → Object
-some_object class name at value = record { class = class; name = name; value = value; extent = record { offset = at; len = 48; role = ObjectRole } }
+some_object class name at value =
+    record { class = class; name = name; value = value; extent = record { offset = at; len = 48; role = ObjectRole } }
 
 abbrev some_directory : Directory
 some_directory = record {
   size = 1024;
-  objects = some_object Anonymous [] 192 (directory.Bytes (codes "four") (places 16)) ∷ some_object Named (codes "b") 256 (directory.Elements I64 (pos 5 ∷ []) (places 10))
-      ∷ some_object Unique [] 320 (directory.Pairs I32 Bool []) ∷ some_object Named (codes "a b") 384 (directory.Texts [] no_table) ∷ some_object Named (codes "c") 448 (directory.Numbers I64 (pos 1 ∷ [])) ∷ [];
+  objects = some_object Anonymous [] 192 (directory.Bytes (codes "four") (places 16))
+      ∷ some_object Named (codes "b") 256 (directory.Elements I64 (pos 5 ∷ []) (places 10))
+      ∷ some_object Unique [] 320 (directory.Pairs I32 Bool [])
+      ∷ some_object Named (codes "a b") 384 (directory.Texts [] no_backing)
+      ∷ some_object Named (codes "c") 448 (directory.Numbers I64 (pos 1 ∷ [])) ∷ [];
   named = places 4;
   unique = places 3;
 }
 
 told : capacities_text (capacities some_directory)
-    ≡ line (codes "# capacity of names: 4") ++ line (codes "# capacity of kinds: 3") ++ line (codes "# capacity of named \"a b\" vec<string>: 0") ++ line (codes "# capacity of named b vec<i64>: 10")
+    ≡ line (codes "# capacity of names: 4") ++ line (codes "# capacity of kinds: 3")
+    ++ line (codes "# capacity of named \"a b\" vec<string>: 0") ++ line (codes "# capacity of named b vec<i64>: 10")
     ++ line (codes "# capacity of anonymous string: 16")
 unfolding digits
 told = refl
@@ -108,11 +120,13 @@ unfolding digits
 in-json = refl
 
 -- the words of RFC 4648, section 10
-base64 : map base64_text (codes "f" ∷ codes "fo" ∷ codes "foo" ∷ codes "foobar" ∷ []) ≡ codes "Zg==" ∷ codes "Zm8=" ∷ codes "Zm9v" ∷ codes "Zm9vYmFy" ∷ []
+base64 : map base64_text (codes "f" ∷ codes "fo" ∷ codes "foo" ∷ codes "foobar" ∷ [])
+    ≡ codes "Zg==" ∷ codes "Zm8=" ∷ codes "Zm9v" ∷ codes "Zm9vYmFy" ∷ []
 base64 = refl
 
 base64-all : base64_text (0 ∷ 0x10 ∷ 0x83 ∷ 0xFB ∷ 0xFF ∷ 0xBF ∷ []) ≡ codes "ABCD+/+/"
 base64-all = refl
 
-in-quotes : json_string (0x61 ∷ 0x0A ∷ 0x22 ∷ 0x5C ∷ 0x7F ∷ 0xC3 ∷ 0xA4 ∷ []) ≡ codes "\"a\\u000a\\\"\\\\" ++ 0x7F ∷ 0xC3 ∷ 0xA4 ∷ 0x22 ∷ []
+in-quotes : json_string (0x61 ∷ 0x0A ∷ 0x22 ∷ 0x5C ∷ 0x7F ∷ 0xC3 ∷ 0xA4 ∷ [])
+    ≡ codes "\"a\\u000a\\\"\\\\" ++ 0x7F ∷ 0xC3 ∷ 0xA4 ∷ 0x22 ∷ []
 in-quotes = refl

@@ -8,5 +8,6 @@ never-ok e x q = cc
 pub ok-same : {X E : Type 0} (x y : X) → ◌≡◌ {A = Result X E} (Ok x) (Ok y) → x ≡ y
 ok-same x y q = cc
 
-pub some-pair : {A B : Type 0} (a b : A) (x y : B) → ◌≡◌ {A = Option (A × B)} (Some (a, x)) (Some (b, y)) → (a ≡ b) × (x ≡ y)
+pub some-pair : {A B : Type 0} (a b : A) (x y : B) → ◌≡◌ {A = Option (A × B)} (Some (a, x)) (Some (b, y))
+    → (a ≡ b) × (x ≡ y)
 some-pair a b x y e = let q = same_Some (a, x) (b, y) e in (λ i. (q i).0, λ i. (q i).1)

@@ -1,8 +1,8 @@
 -- The first lines of a dump are read.
 use Rattle.segment_dump.proofs.Common.{◌≡◌, ℕ, ◌<◌, ◌^◌, List, [], ◌∷◌, ◌++◌, Option, Some, None, sym, ap, ◌∙◌}
 use Rattle.segment_dump.proofs.Common.{append_assoc, codes, decimal, drop, number_text, Front, IsFront, fronted}
-use Rattle.segment_dump.proofs.Common.{entries_text, Any, Breaks, Reads, itself, front_text}
-use Rattle.segment_dump.specs.Leads.{AreEntries}
+use Rattle.segment_dump.proofs.Common.{entries_text, Any, Breaks, ParsesPrefix, itself, front_text}
+use Rattle.segment_dump.specs.Leads.{AreEntryCounts}
 use Rattle.segment_dump.proofs.ItemLines.{ends-line}
 use Rattle.segment_dump.proofs.Found.{none-some, some-pair}
 
@@ -18,40 +18,54 @@ front-apart s i p q l x = simp append_assoc
 entries-apart : (p q x : List ℕ) → p ++ 0x20 ∷ (q ++ 0x0A ∷ x) ≡ (p ++ 0x20 ∷ q ++ 0x0A ∷ []) ++ x
 entries-apart p q x = simp append_assoc
 
-front-behind : (text x : List ℕ) (s n u : ℕ) (a : List ℕ) → text ≡ before_size ++ x → text ≡ front_text s n u ++ a → x ≡ number_text s ++ (before_entries ++ (entries_text (n, u) ++ a))
-front-behind text x s n u a e f = ap (drop 20) (sym e ∙ f) ∙ front-apart (decimal s) before_entries (decimal n) (0x20 ∷ decimal u) (0x0A ∷ []) a
+front-behind : (text x : List ℕ) (s n u : ℕ) (a : List ℕ) → text ≡ before_size ++ x → text ≡ front_text s n u ++ a
+    → x ≡ number_text s ++ (before_entries ++ (entries_text (n, u) ++ a))
+front-behind text x s n u a e f =
+    ap (drop 20) (sym e ∙ f) ∙ front-apart (decimal s) before_entries (decimal n) (0x20 ∷ decimal u) (0x0A ∷ []) a
 
 abbrev pub NumberReads : List ℕ → Option (ℕ × List ℕ) → Type 0
-NumberReads = Reads number_text (λ n. n < 2 ^ 64) Breaks itself
+NumberReads = ParsesPrefix number_text (λ n. n < 2 ^ 64) Breaks itself
 
 abbrev pub EntriesRead : List ℕ → Option ((ℕ × ℕ) × List ℕ) → Type 0
-EntriesRead = Reads entries_text AreEntries Any itself
+EntriesRead = ParsesPrefix entries_text AreEntryCounts Any itself
 
 abbrev pub FrontReads : List ℕ → Option (Front × List ℕ) → Type 0
-FrontReads = Reads fronted IsFront Any itself
+FrontReads = ParsesPrefix fronted IsFront Any itself
 
-pub number-said : (text x : List ℕ) (o : Option (ℕ × List ℕ)) (s n u : ℕ) (a : List ℕ) → text ≡ before_size ++ x → NumberReads x o → s < 2 ^ 64 → text ≡ front_text s n u ++ a → o ≡ Some (s, before_entries ++ (entries_text (n, u) ++ a))
-number-said text x o s n u a e h l w = h.reads s (before_entries ++ (entries_text (n, u) ++ a)) l (ends-line (codes "indexes " ++ (entries_text (n, u) ++ a))) (front-behind text x s n u a e w)
+pub number-said : (text x : List ℕ) (o : Option (ℕ × List ℕ)) (s n u : ℕ) (a : List ℕ) → text ≡ before_size ++ x
+    → NumberReads x o → s < 2 ^ 64 → text ≡ front_text s n u ++ a
+    → o ≡ Some (s, before_entries ++ (entries_text (n, u) ++ a))
+number-said text x o s n u a e h l w =
+    h.reads s (before_entries ++ (entries_text (n, u) ++ a)) l
+    (ends-line (codes "indexes " ++ (entries_text (n, u) ++ a))) (front-behind text x s n u a e w)
 
-number-front : (text x : List ℕ) (o : Option (ℕ × List ℕ)) (f : Front) (a : List ℕ) → text ≡ before_size ++ x → NumberReads x o → IsFront f → text ≡ fronted f ++ a → o ≡ Some (f.size, before_entries ++ (entries_text (f.named, f.unique) ++ a))
+number-front : (text x : List ℕ) (o : Option (ℕ × List ℕ)) (f : Front) (a : List ℕ) → text ≡ before_size ++ x
+    → NumberReads x o → IsFront f → text ≡ fronted f ++ a
+    → o ≡ Some (f.size, before_entries ++ (entries_text (f.named, f.unique) ++ a))
 number-front text x o f a e h g w = number-said text x o f.size f.named f.unique a e h g.size w
 
 pub front-none : (text : List ℕ) → ((y : List ℕ) → text ≡ before_size ++ y → ⊥) → FrontReads text None
 front-none text n = record { reads = λ f a g w k. absurd (n (drop 20 (fronted f ++ a)) k) }
 
-front-entries : (text x : List ℕ) (n : ℕ) (rest y : List ℕ) (o : Option ((ℕ × ℕ) × List ℕ)) (f : Front) (a : List ℕ) → text ≡ before_size ++ x → NumberReads x (Some (n, rest)) → rest ≡ before_entries ++ y → EntriesRead y o → IsFront f
+front-entries : (text x : List ℕ) (n : ℕ) (rest y : List ℕ) (o : Option ((ℕ × ℕ) × List ℕ)) (f : Front) (a : List ℕ)
+    → text ≡ before_size ++ x → NumberReads x (Some (n, rest)) → rest ≡ before_entries ++ y → EntriesRead y o
+    → IsFront f
     → text ≡ fronted f ++ a → (n ≡ f.size) × (o ≡ Some ((f.named, f.unique), a))
 front-entries text x n rest y o f a e h z k g w =
-    let r = some-pair n f.size rest (before_entries ++ (entries_text (f.named, f.unique) ++ a)) (number-front text x (Some (n, rest)) f a e h g w) in
+    let r = some-pair n f.size rest (before_entries ++ (entries_text (f.named, f.unique) ++ a))
+    (number-front text x (Some (n, rest)) f a e h g w) in
     (r.0, k.reads (f.named, f.unique) a (g.named, g.unique) tt (ap (drop 9) (sym z ∙ r.1)))
 
-pub front-no_entries : (text x : List ℕ) (n : ℕ) (rest y : List ℕ) → text ≡ before_size ++ x → NumberReads x (Some (n, rest)) → rest ≡ before_entries ++ y → EntriesRead y None → FrontReads text None
+pub front-no_entries : (text x : List ℕ) (n : ℕ) (rest y : List ℕ) → text ≡ before_size ++ x
+    → NumberReads x (Some (n, rest)) → rest ≡ before_entries ++ y → EntriesRead y None → FrontReads text None
 front-no_entries text x n rest y e h z k = record {
   reads = λ f a g w m. absurd (none-some ((f.named, f.unique), a)
       (front-entries text x n rest y None f a e h z k g m).1);
 }
 
-pub front-some : (text x : List ℕ) (n : ℕ) (rest y : List ℕ) (named unique : ℕ) (last : List ℕ) → text ≡ before_size ++ x → NumberReads x (Some (n, rest)) → rest ≡ before_entries ++ y → EntriesRead y (Some ((named, unique), last))
+pub front-some : (text x : List ℕ) (n : ℕ) (rest y : List ℕ) (named unique : ℕ) (last : List ℕ)
+    → text ≡ before_size ++ x → NumberReads x (Some (n, rest)) → rest ≡ before_entries ++ y
+    → EntriesRead y (Some ((named, unique), last))
     → FrontReads text (Some (record { size = n; named = named; unique = unique }, last))
 front-some text x n rest y named unique last e h z k = record {
   reads = λ f a g w m.

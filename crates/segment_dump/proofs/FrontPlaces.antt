@@ -18,7 +18,10 @@ size-none text none = record { skips = λ n a g w. absurd (none (drop 5 (size_sa
 pub size-no_number : (text x : List ℕ) → text ≡ codes "size " ++ x → NumberReads x None
     → Skips size_said IsNumber text None
 size-no_number text x e h = record {
-  skips = λ n a g w. absurd (none-some (n, 0x0A ∷ a) (h.reads n (0x0A ∷ a) g (ends-line a) (size-behind text x n a e w)));
+  skips = λ n a g w. absurd (none-some (
+    n,
+    0x0A ∷ a,
+  ) (h.reads n (0x0A ∷ a) g (ends-line a) (size-behind text x n a e w)));
 }
 
 line-left : (rest : List ℕ) (o : Option (Bor (List ℕ))) (a : List ℕ) → rest ≡ 0x0A ∷ a
@@ -27,7 +30,8 @@ line-left rest None a e k = absurd (k a e)
 line-left rest (Some y) a e k = ap Some (ap (drop 1) (sym k ∙ e))
 
 pub size-skipped : (text x rest : List ℕ) (n : ℕ) (o : Option (Bor (List ℕ))) → text ≡ codes "size " ++ x
-    → NumberReads x (Some (n, rest)) → MatchOption o ((y : List ℕ) → rest ≢ codes "\n" ++ y) (λ y. rest ≡ codes "\n" ++ y.now)
+    → NumberReads x (Some (n, rest))
+    → MatchOption o ((y : List ℕ) → rest ≢ codes "\n" ++ y) (λ y. rest ≡ codes "\n" ++ y.now)
     → Skips size_said IsNumber text (seen_rest o)
 size-skipped text x rest n o e h ended = record {
   skips = λ m a g w.

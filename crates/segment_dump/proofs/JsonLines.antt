@@ -1,8 +1,9 @@
 -- The parts of a line of JSON, one behind another, are the line of the object.
 use Rattle.segment_dump.proofs.Common.{◌≡◌, ℕ, List, [], ◌∷◌, ◌++◌, refl, sym, ap, ◌∙◌, append_assoc, codes, map}
 use Rattle.segment_dump.proofs.Common.{ByHandle, Instance, Directory, Object, named_objects, unique_objects, SaysOf}
-use Rattle.segment_dump.proofs.Common.{State, StandsFor, anonymous_objects, content_of, item_of_object, kind_of_content}
-use Rattle.segment_dump.proofs.Common.{portable, part_of, Content, Scalars, Vector, String, Map, Strings, flat_map}
+use Rattle.segment_dump.proofs.Common.{SegmentState, DenotesCurrent, anonymous_objects, content_of, item_of_object}
+use Rattle.segment_dump.proofs.Common.{kind_of_content}
+use Rattle.segment_dump.proofs.Common.{portable, part_of, ValueContent, Scalars, Vector, String, Map, Strings, flat_map}
 use Rattle.segment_dump.proofs.Common.{laid_at, laid_from, laid_object, laid_out}
 use Rattle.segment_dump.specs.Json.{closing, comma_before, in_json, json_at, json_bytes, json_dump, json_key}
 use Rattle.segment_dump.specs.Json.{json_kind, json_line, json_list, json_object, json_pair, json_value, opening}
@@ -10,7 +11,7 @@ use Rattle.segment_dump.proofs.Common.{option_map}
 use Rattle.std.specs.Prelude.{Option, Some, None}
 use Rattle.seg_types.specs.declared.kinds.Kind.{Kind}
 use Rattle.segment_lang.specs.Texts.{value_text}
-use Rattle.segment_manager.specs.declared.objects.targets.Object.{Object as Located}
+use Rattle.segment_manager.specs.declared.objects.object_ref.Object.{Object as Located}
 use Rattle.segment_manager.specs.objects.Located.{IsLocated, located, located_at}
 use Rattle.segment_dump.proofs.Elements.{flat_map-made}
 use Rattle.segment_dump.proofs.Orders.{kind-made}
@@ -21,7 +22,7 @@ list-around : {X : Type 0} (f : X → List ℕ) (xs : List X)
 list-around f xs =
     sym (ap (λ l. 0x5B ∷ l) (append_assoc (laid_from (λ i x. comma_before i ++ f x) 0 xs) (0x5D ∷ []) (codes "}\n")))
 
-pub value-around : (c : Content)
+pub value-around : (c : ValueContent)
     → opening (kind_of_content c) ++ (laid_out in_json c ++ closing (kind_of_content c)) ≡ json_value c ++ codes "}\n"
 value-around (Scalars k zs) = list-around (value_text k) zs
 value-around (Vector k zs) = list-around (value_text k) zs
@@ -34,8 +35,8 @@ abbrev kind_or : Kind → Option Located → Kind
 kind_or kind None = kind
 kind_or kind (Some o) = o.kind
 
-pub kind-said : (s : State) (said : Instance) (o : Located) → SaysOf s (ByHandle said.handle) said
-    → o.handle ≡ said.handle → IsLocated s (ByHandle o.handle) o → (d : Directory) → StandsFor s.cut.bytes d
+pub kind-said : (s : SegmentState) (said : Instance) (o : Located) → SaysOf s (ByHandle said.handle) said
+    → o.handle ≡ said.handle → IsLocated s (ByHandle o.handle) o → (d : Directory) → DenotesCurrent s.cut.bytes d
     → o.kind ≡ said.kind
 kind-said s said o h e is d st =
     let f = h.says d st in
@@ -44,8 +45,8 @@ kind-said s said o h e is d st =
     ap (kind_or said.kind) (same ∙ ap (option_map located) f.1) ∙ sym f.2.kind
 
 -- the line of what said this of itself
-pub line-said : (s : State) (said : Instance) → SaysOf s (ByHandle said.handle) said → (d : Directory)
-    → StandsFor s.cut.bytes d
+pub line-said : (s : SegmentState) (said : Instance) → SaysOf s (ByHandle said.handle) said → (d : Directory)
+    → DenotesCurrent s.cut.bytes d
     → json_key said.class said.name.now
     ++ (json_kind said.kind ++ (opening said.kind ++ (laid_at in_json d (ByHandle said.handle) ++ closing said.kind)))
     ≡ json_at d (ByHandle said.handle)

@@ -3,17 +3,18 @@ use Rattle.segment_dump.proofs.Common.{◌≡◌, ◌<◌, ◌^◌, ℕ, Bool, t
 use Rattle.segment_dump.proofs.Common.{Ok, Err, refl, sym, ap, subst, ◌∙◌, arith, ◌+◌, nat_lt, length, if◌then◌else◌}
 use Rattle.segment_dump.proofs.Common.{IfOk, MatchResult, not, OnTrue, AllByRecursion, eqb-true}
 use Rattle.segment_dump.proofs.Common.{ltb-true, is_legal_size, Class, Anonymous, Named, Unique, Number}
-use Rattle.segment_dump.proofs.Common.{CreateRefused, Directory, State, StandsFor, step, Count, LoadError}
+use Rattle.segment_dump.proofs.Common.{CreateRefused, Directory, SegmentState, DenotesCurrent, step, Count, LoadError}
 use Rattle.segment_dump.proofs.Common.{BadSize, RegionTooSmall, NoSpace, LongText, LoadRefused, AreCountable}
-use Rattle.segment_dump.proofs.Common.{CountsDump, IsNameless, Item, portable, items_needs, dump_text, IsAsked, IsExact}
+use Rattle.segment_dump.proofs.Common.{CountsDump, IsNameless, DumpItem, portable, items_needs, dump_text}
+use Rattle.segment_dump.proofs.Common.{IsRequestedSize, IsExact}
 use Rattle.segment_dump.proofs.Common.{IsLoaded, IsNotLoaded, IsRefusalOf, IsWrong, asked_of, cause_in, refusal_for}
 use Rattle.std.specs.Prelude.{IfSome}
-use Rattle.segment_manager.specs.Calls.{IsNotCreated}
+use Rattle.segment_manager.specs.Calls.{CreatesErr}
 use Rattle.segment_dump.specs.declared.faults.LoadError.TheVariants.{BadDump as Bad}
 use Rattle.segment_dump.specs.Comparing.{IsDumpOf}
 use Rattle.segment_dump.specs.Loading.{HasLongText, HasNoSpace, HasObjectsOf, HasSize, IsBack, IsJudged, IsLetGo}
 use Rattle.segment_dump.specs.Counting.{IsCounted}
-use Rattle.segment_dump.specs.Loading.{IsLacking, IsMade, IsWhyNot, cause_but_bad}
+use Rattle.segment_dump.specs.Loading.{IsLacking, LoadsUnlessLacking, IsLoadCause, cause_but_bad}
 use Rattle.segment_dump.proofs.Elements.{free-is, size-is}
 use Rattle.segment_dump.proofs.ItemLines.{IsGoodItem}
 use Rattle.segment_dump.proofs.ObjectRooms.{segments-have-room}
@@ -22,7 +23,8 @@ use Rattle.segment_dump.proofs.Told.{dumps-tell-objects, portable-told, size-mos
 use Rattle.segment_dump.proofs.Lists.{all-by}
 use Rattle.seg_types.specs.Commands as asked
 
-module _ (s : State) (n m : ℕ) (says : (d : Directory) → StandsFor s.cut.bytes d → Number n ≡ (step s.mode d asked.Size).0) where
+module _ (s : SegmentState) (n m : ℕ) (says : (d : Directory) → DenotesCurrent s.cut.bytes d
+    → Number n ≡ (step s.mode d asked.Size).0) where
   size-if : (b : Bool) → nat_eq n m ≡ b → OnTrue b (HasSize s (Some m))
   size-if true e = λ d st. sym (size-is s.mode d n (says d st)) ∙ eqb-true n m e
   size-if false e = tt
@@ -31,7 +33,8 @@ module _ (s : State) (n m : ℕ) (says : (d : Directory) → StandsFor s.cut.byt
   has-size o e = subst (λ p. OnTrue (nat_eq n m) (HasSize s p)) (sym e) (size-if (nat_eq n m) refl)
 
 -- nothing is free, where no size was asked for
-module _ (s : State) (n : ℕ) (says : (d : Directory) → StandsFor s.cut.bytes d → Number n ≡ (step s.mode d asked.Free).0) where
+module _ (s : SegmentState) (n : ℕ) (says : (d : Directory) → DenotesCurrent s.cut.bytes d
+    → Number n ≡ (step s.mode d asked.Free).0) where
   full-if : (b : Bool) → nat_eq n 0 ≡ b → OnTrue b (HasSize s None)
   full-if true e = λ d st. sym (free-is s.mode d n (says d st)) ∙ eqb-true n 0 e
   full-if false e = tt
@@ -41,16 +44,20 @@ module _ (s : State) (n : ℕ) (says : (d : Directory) → StandsFor s.cut.bytes
 
 -- ---- the objects are those of each directory that the text is the dump of
 
-objects-of : (text : List ℕ) (n : ℕ) (s : State) → IsDumpOf s n text → HasObjectsOf text s
-objects-of text n s h = record { same = λ b d m st is e te. dumps-tell-objects s.cut.bytes b e d n m te st (sym (h.is e te) ∙ is) }
+objects-of : (text : List ℕ) (n : ℕ) (s : SegmentState) → IsDumpOf s n text → HasObjectsOf text s
+objects-of text n s h = record {
+  same = λ b d m st is e te.
+      dumps-tell-objects s.cut.bytes b e d n m te st (sym (h.is e te) ∙ is);
+}
 
-loaded : (text : List ℕ) (size : Option ℕ) (s : State) → IsJudged text size s → IsLoaded text size s
+loaded : (text : List ℕ) (size : Option ℕ) (s : SegmentState) → IsJudged text size s → IsLoaded text size s
 loaded text size s h = record { judged = h; objects = objects-of text h.said s h.is }
 
 -- ---- no segment is made
 
 -- the text is wrong, and so it is that
-pub wrong-why : (text region : List ℕ) (base : ℕ) (size : Option ℕ) (room : ℕ) (cause : LoadError) → IsWrong text cause → IsWhyNot text region base size room cause
+pub wrong-why : (text region : List ℕ) (base : ℕ) (size : Option ℕ) (room : ℕ) (cause : LoadError)
+    → IsWrong text cause → IsLoadCause text region base size room cause
 wrong-why text region base size room (Bad bad) h = h
 wrong-why text region base size room cause h = absurd h
 
@@ -65,20 +72,22 @@ back-wrong text region (Bad bad) h back e = subst (IsBack (Bad bad) region) (sym
 back-wrong text region cause h back e = absurd h
 
 -- one that was begun is let go
-pub let-go : (text region : List ℕ) (base : ℕ) (size : Option ℕ) (room : ℕ) (refused : LoadRefused) → IsLetGo text refused → IsNotLoaded text region base size room refused
+pub let-go : (text region : List ℕ) (base : ℕ) (size : Option ℕ) (room : ℕ) (refused : LoadRefused)
+    → IsLetGo text refused → IsNotLoaded text region base size room refused
 let-go text region base size room refused h = record {
   why = wrong-why text region base size room refused.cause h.why;
   back = back-wrong text region refused.cause h.why refused.region h.gone;
 }
 
-pub judged : (text region : List ℕ) (base : ℕ) (size : Option ℕ) (room : ℕ) (r : Result State LoadRefused) → MatchResult r (IsJudged text size) (IsLetGo text)
+pub judged : (text region : List ℕ) (base : ℕ) (size : Option ℕ) (room : ℕ) (r : Result SegmentState LoadRefused)
+    → MatchResult r (IsJudged text size) (IsLetGo text)
     → MatchResult r (IsLoaded text size) (IsNotLoaded text region base size room)
 judged text region base size room (Ok s) h = loaded text size s h
 judged text region base size room (Err refused) h = let-go text region base size room refused h
 
 -- no segment was created: the region is handed back
 pub not-created : (text region : List ℕ) (base : ℕ) (size : Option ℕ) (room n : ℕ) (refused : CreateRefused)
-    (said : LoadRefused) → IsNotCreated region base n refused → said.region ≡ Some refused.region
+    (said : LoadRefused) → CreatesErr region base n refused → said.region ≡ Some refused.region
     → IsWrong text said.cause → IsNotLoaded text region base size room said
 not-created text region base size room n refused said h e w = record {
   why = wrong-why text region base size room said.cause w;
@@ -87,11 +96,11 @@ not-created text region base size room n refused said h e w = record {
 
 -- ---- too little of something for the objects of a segment
 
-nameless-items : (c : Class) (is : List Item) → AllByRecursion (IsGoodItem c) is → AllByRecursion IsNameless is
+nameless-items : (c : Class) (is : List DumpItem) → AllByRecursion (IsGoodItem c) is → AllByRecursion IsNameless is
 nameless-items c is a = all-by (IsGoodItem c) IsNameless is a (λ i h n. h.nameless (λ e. n (h.class ∙ e)))
 
 -- what is portable of a directory can be counted
-pub portable-countable : (b : List ℕ) (d : Directory) → StandsFor b d → AreCountable (portable d)
+pub portable-countable : (b : List ℕ) (d : Directory) → DenotesCurrent b d → AreCountable (portable d)
 portable-countable b d s =
     let told = portable-told b d s in
     record {
@@ -102,35 +111,52 @@ portable-countable b d s =
     }
 
 -- what was counted is what the directory needs
-counted-is : (text : List ℕ) (count : Count) (b : List ℕ) (d : Directory) (n : ℕ) → CountsDump text (Ok count) → StandsFor b d → n < 2 ^ 64 → text ≡ dump_text n (portable d) → count ≡ record { size = n; needs = items_needs (portable d) }
-counted-is text count b d n h s l e = ok-same count (record { size = n; needs = items_needs (portable d) }) (h.counts n (portable d) l (portable-countable b d s) e)
+counted-is : (text : List ℕ) (count : Count) (b : List ℕ) (d : Directory) (n : ℕ) → CountsDump text (Ok count)
+    → DenotesCurrent b d → n < 2 ^ 64 → text ≡ dump_text n (portable d)
+    → count ≡ record { size = n; needs = items_needs (portable d) }
+counted-is text count b d n h s l e =
+    ok-same count (record { size = n; needs = items_needs (portable d) })
+    (h.counts n (portable d) l (portable-countable b d s) e)
 
-no-space : (text : List ℕ) (size : Option ℕ) (count : Count) → CountsDump text (Ok count) → asked_of size count.size < count.needs.room → HasNoSpace text size
+no-space : (text : List ℕ) (size : Option ℕ) (count : Count) → CountsDump text (Ok count)
+    → asked_of size count.size < count.needs.room → HasNoSpace text size
 no-space text size count h lack =
-    let needed : (b : List ℕ) (d : Directory) (n : ℕ) → StandsFor b d → n < 2 ^ 64 → text ≡ dump_text n (portable d) → asked_of size n < (items_needs (portable d)).room =
-    λ b d n s l e. subst (λ (c : Count). asked_of size c.size < c.needs.room) (counted-is text count b d n h s l e) lack in
+    let needed : (b : List ℕ) (d : Directory) (n : ℕ) → DenotesCurrent b d → n < 2 ^ 64
+    → text ≡ dump_text n (portable d) → asked_of size n < (items_needs (portable d)).room =
+    λ b d n s l e. subst (λ (c : Count). asked_of size c.size < c.needs.room) (counted-is text count b d n h s l e)
+    lack in
     record { needed = needed; longer = λ b d n s l e. omega (arith, needed b d n s l e, segments-have-room b d s) }
 
-long-text : (text : List ℕ) (room : ℕ) (count : Count) → CountsDump text (Ok count) → room < count.needs.longest → HasLongText text room
-long-text text room count h lack = record { longer = λ b d n s l e. subst (λ (c : Count). room < c.needs.longest) (counted-is text count b d n h s l e) lack }
+long-text : (text : List ℕ) (room : ℕ) (count : Count) → CountsDump text (Ok count) → room < count.needs.longest
+    → HasLongText text room
+long-text text room count h lack =
+    record {
+      longer = λ b d n s l e.
+          subst (λ (c : Count). room < c.needs.longest) (counted-is text count b d n h s l e) lack;
+    }
 
-asked-is : (size : Option ℕ) (said : ℕ) → IsAsked size (asked_of size said)
+asked-is : (size : Option ℕ) (said : ℕ) → IsRequestedSize size (asked_of size said)
 asked-is None said = tt
 asked-is (Some size) said = refl
 
 -- a size of segments, and a region that is long enough
 abbrev Lacks : List ℕ → List ℕ → ℕ → Option ℕ → ℕ → Count → Bool → Bool → Bool → Bool → LoadError → Type 0
 Lacks text region base size room count legal short full long cause =
-    (if not legal then Some BadSize else if short then Some RegionTooSmall else if full then Some NoSpace else if long then Some LongText else None) ≡ Some cause
+    (if not legal then Some BadSize else if short then Some RegionTooSmall else if full then Some NoSpace else if
+    long then Some LongText else None) ≡ Some cause
 
-lacks-by : (text region : List ℕ) (base : ℕ) (size : Option ℕ) (room : ℕ) (count : Count) (legal short full long : Bool) (cause : LoadError) → CountsDump text (Ok count) → is_legal_size (asked_of size count.size) ≡ legal
-    → nat_lt (length region) (base + asked_of size count.size) ≡ short → nat_lt (asked_of size count.size) count.needs.room ≡ full → nat_lt room count.needs.longest ≡ long → Lacks text region base size room count legal short full long cause
-    → IsWhyNot text region base size room cause
+lacks-by : (text region : List ℕ) (base : ℕ) (size : Option ℕ) (room : ℕ) (count : Count)
+    (legal short full long : Bool) (cause : LoadError) → CountsDump text (Ok count)
+    → is_legal_size (asked_of size count.size) ≡ legal
+    → nat_lt (length region) (base + asked_of size count.size) ≡ short
+    → nat_lt (asked_of size count.size) count.needs.room ≡ full → nat_lt room count.needs.longest ≡ long
+    → Lacks text region base size room count legal short full long cause
+    → IsLoadCause text region base size room cause
 lacks-by text region base size room count false short full long cause h e f g k l =
-    subst (IsWhyNot text region base size room) (same_Some BadSize cause l)
+    subst (IsLoadCause text region base size room) (same_Some BadSize cause l)
     (asked_of size count.size, asked-is size count.size, e)
 lacks-by text region base size room count true true full long cause h e f g k l =
-    subst (IsWhyNot text region base size room) (same_Some RegionTooSmall cause l) (
+    subst (IsLoadCause text region base size room) (same_Some RegionTooSmall cause l) (
       asked_of size count.size,
       asked-is size count.size,
       e,
@@ -138,21 +164,27 @@ lacks-by text region base size room count true true full long cause h e f g k l 
           (base + asked_of size count.size) f,
     )
 lacks-by text region base size room count true false true long cause h e f g k l =
-    subst (IsWhyNot text region base size room) (same_Some NoSpace cause l)
+    subst (IsLoadCause text region base size room) (same_Some NoSpace cause l)
     (no-space text size count h (ltb-true (asked_of size count.size) count.needs.room g))
 lacks-by text region base size room count true false false true cause h e f g k l =
-    subst (IsWhyNot text region base size room) (same_Some LongText cause l)
+    subst (IsLoadCause text region base size room) (same_Some LongText cause l)
     (long-text text room count h (ltb-true room count.needs.longest k))
 lacks-by text region base size room count true false false false cause h e f g k l = absurd (none-some cause l)
 
-lacks-count : (text region : List ℕ) (base : ℕ) (size : Option ℕ) (room : ℕ) (count : Count) (cause : LoadError) → CountsDump text (Ok count) → refusal_for (length region) base size room count ≡ Some cause → IsWhyNot text region base size room cause
+lacks-count : (text region : List ℕ) (base : ℕ) (size : Option ℕ) (room : ℕ) (count : Count) (cause : LoadError)
+    → CountsDump text (Ok count) → refusal_for (length region) base size room count ≡ Some cause
+    → IsLoadCause text region base size room cause
 lacks-count text region base size room count cause h e =
     let wanted = asked_of size count.size in
-    lacks-by text region base size room count (is_legal_size wanted) (nat_lt (length region) (base + wanted)) (nat_lt wanted count.needs.room) (nat_lt room count.needs.longest) cause h refl refl refl refl e
+    lacks-by text region base size room count (is_legal_size wanted) (nat_lt (length region) (base + wanted))
+    (nat_lt wanted count.needs.room) (nat_lt room count.needs.longest) cause h refl refl refl refl e
 
-pub lacks : (text region : List ℕ) (base : ℕ) (size : Option ℕ) (room : ℕ) (counted : Result Count ℕ) (o : Option LoadError) (cause : LoadError) → CountsDump text counted → IsRefusalOf (length region) base size room counted o → o ≡ Some cause
-    → IsWhyNot text region base size room cause
-lacks text region base size room (Ok count) o cause h r e = lacks-count text region base size room count cause h (sym r ∙ e)
+pub lacks : (text region : List ℕ) (base : ℕ) (size : Option ℕ) (room : ℕ) (counted : Result Count ℕ)
+    (o : Option LoadError) (cause : LoadError) → CountsDump text counted
+    → IsRefusalOf (length region) base size room counted o → o ≡ Some cause
+    → IsLoadCause text region base size room cause
+lacks text region base size room (Ok count) o cause h r e =
+    lacks-count text region base size room count cause h (sym r ∙ e)
 lacks text region base size room (Err left) o cause h r e = absurd (none-some cause (sym r ∙ e))
 
 -- ---- exactly
@@ -162,18 +194,23 @@ pub wrong-bad : (text : List ℕ) (cause : LoadError) → IsWrong text cause →
 wrong-bad text (Bad bad) h = refl
 wrong-bad text cause h = absurd h
 
-pub made-wrong : (text : List ℕ) (capacity base : ℕ) (size : Option ℕ) (room : ℕ) (counted : Result Count ℕ) (cause : LoadError) → IsWrong text cause → IsMade capacity base size room counted (cause_but_bad cause)
+pub made-wrong : (text : List ℕ) (capacity base : ℕ) (size : Option ℕ) (room : ℕ) (counted : Result Count ℕ)
+    (cause : LoadError) → IsWrong text cause → LoadsUnlessLacking capacity base size room counted (cause_but_bad cause)
 made-wrong text capacity base size room (Ok count) cause h = λ e. wrong-bad text cause h
 made-wrong text capacity base size room (Err left) cause h = wrong-bad text cause h
 
-pub made-judged : (text : List ℕ) (capacity base : ℕ) (size : Option ℕ) (room : ℕ) (counted : Result Count ℕ) (r : Result State LoadRefused) → MatchResult r (IsJudged text size) (IsLetGo text) → IsMade capacity base size room counted (cause_in r)
+pub made-judged : (text : List ℕ) (capacity base : ℕ) (size : Option ℕ) (room : ℕ) (counted : Result Count ℕ)
+    (r : Result SegmentState LoadRefused) → MatchResult r (IsJudged text size) (IsLetGo text)
+    → LoadsUnlessLacking capacity base size room counted (cause_in r)
 made-judged text capacity base size room (Ok count) (Ok s) h = λ e. refl
 made-judged text capacity base size room (Ok count) (Err refused) h = λ e. wrong-bad text refused.cause h.why
 made-judged text capacity base size room (Err left) (Ok s) h = refl
 made-judged text capacity base size room (Err left) (Err refused) h = wrong-bad text refused.cause h.why
 
 -- a reason that is none of the text
-but-bad : (legal short full long : Bool) (cause : LoadError) → (if not legal then Some BadSize else if short then Some RegionTooSmall else if full then Some NoSpace else if long then Some LongText else None) ≡ Some cause → cause_but_bad cause ≡ Some cause
+but-bad : (legal short full long : Bool) (cause : LoadError)
+    → (if not legal then Some BadSize else if short then Some RegionTooSmall else if full then Some NoSpace else if
+    long then Some LongText else None) ≡ Some cause → cause_but_bad cause ≡ Some cause
 but-bad false short full long cause e = subst (λ c. cause_but_bad c ≡ Some c) (same_Some BadSize cause e) refl
 but-bad true true full long cause e = subst (λ c. cause_but_bad c ≡ Some c) (same_Some RegionTooSmall cause e) refl
 but-bad true false true long cause e = subst (λ c. cause_but_bad c ≡ Some c) (same_Some NoSpace cause e) refl
@@ -183,35 +220,54 @@ but-bad true false false false cause e = absurd (none-some cause e)
 never-counted : (left : ℕ) (count : Count) → ◌≡◌ {A = Result Count ℕ} (Err left) (Ok count) → ⊥
 never-counted left count e = cc
 
-exact-count : (text : List ℕ) (capacity base : ℕ) (size : Option ℕ) (room : ℕ) (count : Count) (cause : LoadError) → CountsDump text (Ok count) → refusal_for capacity base size room count ≡ Some cause
+exact-count : (text : List ℕ) (capacity base : ℕ) (size : Option ℕ) (room : ℕ) (count : Count) (cause : LoadError)
+    → CountsDump text (Ok count) → refusal_for capacity base size room count ≡ Some cause
     → IsExact text capacity base size room (cause_but_bad cause)
 exact-count text capacity base size room count cause h e = record {
   exact = λ b d n s l w.
       let wanted = asked_of size count.size in
-      but-bad (is_legal_size wanted) (nat_lt capacity (base + wanted)) (nat_lt wanted count.needs.room) (nat_lt room count.needs.longest) cause e ∙ sym e ∙ ap (refusal_for capacity base size room) (counted-is text count b d n h s l w);
+      but-bad (is_legal_size wanted) (nat_lt capacity (base + wanted)) (nat_lt wanted count.needs.room)
+      (nat_lt room count.needs.longest) cause e ∙ sym e
+      ∙ ap (refusal_for capacity base size room) (counted-is text count b d n h s l w);
 }
 
-exact-counted : (text : List ℕ) (capacity base : ℕ) (size : Option ℕ) (room : ℕ) (counted : Result Count ℕ) (cause : Option LoadError) → CountsDump text counted → IfOk counted (λ (count : Count). refusal_for capacity base size room count ≡ None)
-    → IsMade capacity base size room counted cause → (b : List ℕ) (d : Directory) (n : ℕ) → StandsFor b d → n < 2 ^ 64 → text ≡ dump_text n (portable d) → cause ≡ refusal_for capacity base size room (record { size = n; needs = items_needs (portable d) })
-exact-counted text capacity base size room (Ok count) cause h z m b d n s l w = m z ∙ sym z ∙ ap (refusal_for capacity base size room) (counted-is text count b d n h s l w)
-exact-counted text capacity base size room (Err left) cause h z m b d n s l w = absurd (never-counted left _ (h.counts n (portable d) l (portable-countable b d s) w))
+exact-counted : (text : List ℕ) (capacity base : ℕ) (size : Option ℕ) (room : ℕ) (counted : Result Count ℕ)
+    (cause : Option LoadError) → CountsDump text counted
+    → IfOk counted (λ (count : Count). refusal_for capacity base size room count ≡ None)
+    → LoadsUnlessLacking capacity base size room counted cause → (b : List ℕ) (d : Directory) (n : ℕ)
+    → DenotesCurrent b d → n < 2 ^ 64 → text ≡ dump_text n (portable d)
+    → cause ≡ refusal_for capacity base size room (record { size = n; needs = items_needs (portable d) })
+exact-counted text capacity base size room (Ok count) cause h z m b d n s l w =
+    m z ∙ sym z ∙ ap (refusal_for capacity base size room) (counted-is text count b d n h s l w)
+exact-counted text capacity base size room (Err left) cause h z m b d n s l w =
+    absurd (never-counted left _ (h.counts n (portable d) l (portable-countable b d s) w))
 
-exact-made : (text : List ℕ) (capacity base : ℕ) (size : Option ℕ) (room : ℕ) (counted : Result Count ℕ) (cause : Option LoadError) → CountsDump text counted → IfOk counted (λ (count : Count). refusal_for capacity base size room count ≡ None)
-    → IsMade capacity base size room counted cause → IsExact text capacity base size room cause
-exact-made text capacity base size room counted cause h z m = record { exact = exact-counted text capacity base size room counted cause h z m }
+exact-made : (text : List ℕ) (capacity base : ℕ) (size : Option ℕ) (room : ℕ) (counted : Result Count ℕ)
+    (cause : Option LoadError) → CountsDump text counted
+    → IfOk counted (λ (count : Count). refusal_for capacity base size room count ≡ None)
+    → LoadsUnlessLacking capacity base size room counted cause → IsExact text capacity base size room cause
+exact-made text capacity base size room counted cause h z m =
+    record { exact = exact-counted text capacity base size room counted cause h z m }
 
-pub exact-refused : (text : List ℕ) (capacity base : ℕ) (size : Option ℕ) (room : ℕ) (counted : Result Count ℕ) (o : Option LoadError) (cause : LoadError) → CountsDump text counted → IsRefusalOf capacity base size room counted o → o ≡ Some cause
+pub exact-refused : (text : List ℕ) (capacity base : ℕ) (size : Option ℕ) (room : ℕ) (counted : Result Count ℕ)
+    (o : Option LoadError) (cause : LoadError) → CountsDump text counted
+    → IsRefusalOf capacity base size room counted o → o ≡ Some cause
     → IsExact text capacity base size room (cause_but_bad cause)
-exact-refused text capacity base size room (Ok count) o cause h r e = exact-count text capacity base size room count cause h (sym r ∙ e)
+exact-refused text capacity base size room (Ok count) o cause h r e =
+    exact-count text capacity base size room count cause h (sym r ∙ e)
 exact-refused text capacity base size room (Err left) o cause h r e = absurd (none-some cause (sym r ∙ e))
 
-none-lacking : (capacity base : ℕ) (size : Option ℕ) (room : ℕ) (counted : Result Count ℕ) (o : Option LoadError) → IsRefusalOf capacity base size room counted o → o ≡ None → IfOk counted (λ (count : Count). refusal_for capacity base size room count ≡ None)
+none-lacking : (capacity base : ℕ) (size : Option ℕ) (room : ℕ) (counted : Result Count ℕ) (o : Option LoadError)
+    → IsRefusalOf capacity base size room counted o → o ≡ None
+    → IfOk counted (λ (count : Count). refusal_for capacity base size room count ≡ None)
 none-lacking capacity base size room (Ok count) o r e = sym r ∙ e
 none-lacking capacity base size room (Err left) o r e = tt
 
-pub exact-done : (text : List ℕ) (capacity base : ℕ) (size : Option ℕ) (room : ℕ) (counted : Result Count ℕ) (o cause : Option LoadError) → CountsDump text counted → IsRefusalOf capacity base size room counted o → o ≡ None
-    → IsMade capacity base size room counted cause → IsExact text capacity base size room cause
-exact-done text capacity base size room counted o cause h r e m = exact-made text capacity base size room counted cause h (none-lacking capacity base size room counted o r e) m
+pub exact-done : (text : List ℕ) (capacity base : ℕ) (size : Option ℕ) (room : ℕ) (counted : Result Count ℕ)
+    (o cause : Option LoadError) → CountsDump text counted → IsRefusalOf capacity base size room counted o → o ≡ None
+    → LoadsUnlessLacking capacity base size room counted cause → IsExact text capacity base size room cause
+exact-done text capacity base size room counted o cause h r e m =
+    exact-made text capacity base size room counted cause h (none-lacking capacity base size room counted o r e) m
 
 -- ---- of any text
 
@@ -230,12 +286,13 @@ module _ (text : List ℕ) (capacity base : ℕ) (size : Option ℕ) (room : ℕ
 
   made-none : (counted : Result Count ℕ) (cause : Option LoadError)
       → IfOk counted (λ (count : Count). refusal_for capacity base size room count ≡ None)
-      → IsMade capacity base size room counted cause → cause ≡ None
+      → LoadsUnlessLacking capacity base size room counted cause → cause ≡ None
   made-none (Ok count) cause z m = m z
   made-none (Err left) cause z m = m
 
   pub lacking-made : (counted : Result Count ℕ) (o cause : Option LoadError)
-      → IsRefusalOf capacity base size room counted o → o ≡ None → IsMade capacity base size room counted cause
+      → IsRefusalOf capacity base size room counted o → o ≡ None
+      → LoadsUnlessLacking capacity base size room counted cause
       → IfSome cause (IsLacking text capacity base size room)
   lacking-made counted o cause r e m =
       let none = made-none counted cause (none-lacking capacity base size room counted o r e) m in

@@ -15,7 +15,8 @@ scalar-bare : (k : ScalarKind) → AreBare (scalar_text k)
 scalar-bare BoolKind = bare-test (scalar_text BoolKind) refl
 scalar-bare k = bare-test (scalar_text k) refl
 
-led-bare : (lead : List ℕ) (k : ScalarKind) (end : List ℕ) → list_all is_bare lead ≡ true → list_all is_bare end ≡ true → AreBare (lead ++ scalar_text k ++ end)
+led-bare : (lead : List ℕ) (k : ScalarKind) (end : List ℕ) → list_all is_bare lead ≡ true
+    → list_all is_bare end ≡ true → AreBare (lead ++ scalar_text k ++ end)
 led-bare lead k end e f = AllByRecursion-append (λ c. is_bare c ≡ true) (lead ++ scalar_text k) end
     (AllByRecursion-append (λ c. is_bare c ≡ true) lead (scalar_text k) (bare-test lead e) (scalar-bare k))
     (bare-test end f)

@@ -16,14 +16,16 @@ use Rattle.seg_types.specs.declared.kinds.Kind.TheVariants as kinds
 
 -- ---- how long
 
-short-if : (b : Bool) (d k : ℕ) (acc more : List ℕ) → length more ≤ k + suc (length acc) → length (if b then digit_glyph false d ∷ acc else more) ≤ suc k + length acc
+short-if : (b : Bool) (d k : ℕ) (acc more : List ℕ) → length more ≤ k + suc (length acc)
+    → length (if b then digit_glyph false d ∷ acc else more) ≤ suc k + length acc
 short-if true d k acc more h = omega arith
 short-if false d k acc more h = omega (arith, h)
 
 digits-short : (k n : ℕ) (acc : List ℕ) → length (digits_onto k 10 false n acc) ≤ k + length acc
 digits-short zero n acc = omega arith
 digits-short (suc k) n acc =
-    short-if (n / 10 == 0) (n % 10) k acc (digits_onto k 10 false (n / 10) (digit_glyph false (n % 10) ∷ acc)) (digits-short k (n / 10) (digit_glyph false (n % 10) ∷ acc))
+    short-if (n / 10 == 0) (n % 10) k acc (digits_onto k 10 false (n / 10) (digit_glyph false (n % 10) ∷ acc))
+    (digits-short k (n / 10) (digit_glyph false (n % 10) ∷ acc))
 
 pub decimal-short : (n : ℕ) → length (decimal n) ≤ 64
 unfolding digits
@@ -48,7 +50,12 @@ scalar-short k = omega arith
 pub kind-short : (k : Kind) → length (kind_text k) ≤ 20
 kind-short (kinds.Scalar k) = omega (arith, scalar-short k)
 kind-short kinds.String = omega arith
-kind-short (kinds.Vector k) = omega (arith, scalar-short k, length-append (codes "vec<" ++ scalar_text k) (codes ">"), length-append (codes "vec<") (scalar_text k))
+kind-short (kinds.Vector k) = omega (
+  arith,
+  scalar-short k,
+  length-append (codes "vec<" ++ scalar_text k) (codes ">"),
+  length-append (codes "vec<") (scalar_text k),
+)
 kind-short kinds.Strings = omega arith
 kind-short (kinds.Map k v) =
     omega (
@@ -68,7 +75,12 @@ item-if c false false = omega arith
 
 items-short : (bs : List ℕ) → length (flat_map item_text bs) ≤ 4 * length bs
 items-short [] = omega arith
-items-short (b ∷ bs) = omega (arith, item-if b ((b == 0x22) || (b == 0x5C)) (between 0x20 0x7E b), items-short bs, length-append (item_text b) (flat_map item_text bs))
+items-short (b ∷ bs) = omega (
+  arith,
+  item-if b ((b == 0x22) || (b == 0x5C)) (between 0x20 0x7E b),
+  items-short bs,
+  length-append (item_text b) (flat_map item_text bs),
+)
 
 pub quoted-short : (bs : List ℕ) → length (quoted_text bs) ≤ 4 * length bs + 2
 quoted-short bs = omega (arith, items-short bs, length-append (flat_map item_text bs) (0x22 ∷ []))
@@ -92,7 +104,12 @@ pub element-short : (k : ScalarKind) (z : ℤ) → IsShortLine (element_front k 
 element-short k z = omega (arith, value-short k z)
 
 pub pair-short : (k v : ScalarKind) (p : ℤ × ℤ) → IsShortLine (pair_front k v p)
-pair-short k v p = omega (arith, value-short k p.0, value-short v p.1, length-append (0x20 ∷ 0x20 ∷ value_text k p.0) (0x20 ∷ value_text v p.1))
+pair-short k v p = omega (
+  arith,
+  value-short k p.0,
+  value-short v p.1,
+  length-append (0x20 ∷ 0x20 ∷ value_text k p.0) (0x20 ∷ value_text v p.1),
+)
 
 -- ---- pieces
 
@@ -104,10 +121,17 @@ lead-short zero = omega arith
 lead-short (suc i) = omega arith
 
 pub piece-no_end : (bs : List ℕ) (i : ℕ) → HasNoEnd (piece_front bs i)
-piece-no_end bs i = no_end-both (piece_lead i) (quoted_text (piece_of bs i)) (lead-no_end i) (quoted-no_end (piece_of bs i))
+piece-no_end bs i = no_end-both (piece_lead i) (quoted_text (piece_of bs i)) (lead-no_end i)
+    (quoted-no_end (piece_of bs i))
 
 pub piece-short : (bs : List ℕ) (i : ℕ) → IsShortLine (piece_front bs i)
-piece-short bs i = omega (arith, lead-short i, quoted-short (piece_of bs i), piece-few bs i, length-append (piece_lead i) (quoted_text (piece_of bs i)))
+piece-short bs i = omega (
+  arith,
+  lead-short i,
+  quoted-short (piece_of bs i),
+  piece-few bs i,
+  length-append (piece_lead i) (quoted_text (piece_of bs i)),
+)
 
 pub piece-ended : (bs : List ℕ) (i : ℕ) (a : List ℕ) → piece_line bs i ++ a ≡ ended (piece_front bs i) ++ a
 piece-ended bs i a = ap (λ l. l ++ a) (sym (append_assoc (piece_lead i) (quoted_text (piece_of bs i)) (0x0A ∷ [])))
@@ -117,15 +141,29 @@ abbrev pub first_front : List ℕ → List ℕ
 first_front bs = length_text (length bs) ++ piece_front bs 0
 
 pub first-no_end : (bs : List ℕ) → HasNoEnd (first_front bs)
-first-no_end bs = no_end-both (length_text (length bs)) (piece_front bs 0) (blanks-no_end (decimal (length bs)) (word-no_end (decimal (length bs)) (decimal-word (length bs)))) (piece-no_end bs 0)
+first-no_end bs = no_end-both (length_text (length bs)) (piece_front bs 0)
+    (blanks-no_end (decimal (length bs)) (word-no_end (decimal (length bs)) (decimal-word (length bs))))
+    (piece-no_end bs 0)
 
 pub first-short : (bs : List ℕ) → IsShortLine (first_front bs)
-first-short bs = omega (arith, decimal-short (length bs), quoted-short (piece_of bs 0), piece-few bs 0, length-append (length_text (length bs)) (piece_front bs 0))
+first-short bs = omega (
+  arith,
+  decimal-short (length bs),
+  quoted-short (piece_of bs 0),
+  piece-few bs 0,
+  length-append (length_text (length bs)) (piece_front bs 0),
+)
 
 -- ---- the line of an object
 
 pub measure-no_end : (kind : Kind) (n : ℕ) → HasNoEnd (measure_words kind n)
-measure-no_end kind n = no_end-both (kind_text kind) (0x20 ∷ decimal n) (word-no_end (kind_text kind) (kind-word kind)) ((λ e. omega arith), word-no_end (decimal n) (decimal-word n))
+measure-no_end kind n = no_end-both (kind_text kind) (0x20 ∷ decimal n)
+    (word-no_end (kind_text kind) (kind-word kind)) ((λ e. omega arith), word-no_end (decimal n) (decimal-word n))
 
 pub measure-short : (kind : Kind) (n : ℕ) → length (measure_words kind n) ≤ 85
-measure-short kind n = omega (arith, kind-short kind, decimal-short n, length-append (kind_text kind) (0x20 ∷ decimal n))
+measure-short kind n = omega (
+  arith,
+  kind-short kind,
+  decimal-short n,
+  length-append (kind_text kind) (0x20 ∷ decimal n),
+)

@@ -3,7 +3,8 @@ use Rattle.segment_dump.proofs.Common.{◌≡◌, refl, sym, ap, subst, ◌∙�
 use Rattle.segment_dump.proofs.Common.{[], ◌∷◌, cond, arith, IsTrue, filter, find, nat_le, slice_get, AllByRecursion}
 use Rattle.segment_dump.proofs.Common.{and_parts, eq-eqb, leb-true, ne_eqb, handle, Class, Named, Unique, ByHandle}
 use Rattle.segment_dump.proofs.Common.{Instance, Object, Directory, by_kind, by_name, has_key, is_class, named_objects}
-use Rattle.segment_dump.proofs.Common.{object_at, rises_from, unique_objects, SaysAt, SaysOf, State, StandsFor}
+use Rattle.segment_dump.proofs.Common.{object_at, rises_from, unique_objects, SaysAt, SaysOf, SegmentState}
+use Rattle.segment_dump.proofs.Common.{DenotesCurrent}
 use Rattle.segment_dump.proofs.Common.{all-ordered, part_of}
 use Rattle.std.proofs.lemmas.Option.{same_Some}
 use Rattle.segment_manager.specs.objects.Instances.{IsInstance}
@@ -14,12 +15,15 @@ use Rattle.segment_dump.proofs.Found.{none-some}
 
 -- the first stands at n or behind it, and the others behind the first
 rises-front : (n : ℕ) (o : Object) (os : List Object) → IsTrue (rises_from n (o ∷ os)) → n ≤ o.extent.offset
-rises-front n o os h = leb-true n o.extent.offset (and_parts (nat_le n o.extent.offset) (rises_from (o.extent.offset + 1) os) h).0
+rises-front n o os h = leb-true n o.extent.offset
+    (and_parts (nat_le n o.extent.offset) (rises_from (o.extent.offset + 1) os) h).0
 
-rises-rest : (n : ℕ) (o : Object) (os : List Object) → IsTrue (rises_from n (o ∷ os)) → IsTrue (rises_from (o.extent.offset + 1) os)
+rises-rest : (n : ℕ) (o : Object) (os : List Object) → IsTrue (rises_from n (o ∷ os))
+    → IsTrue (rises_from (o.extent.offset + 1) os)
 rises-rest n o os h = (and_parts (nat_le n o.extent.offset) (rises_from (o.extent.offset + 1) os) h).1
 
-rises-at : (n : ℕ) (os : List Object) (j : ℕ) (o : Object) → IsTrue (rises_from n os) → slice_get os j ≡ Some o → n ≤ o.extent.offset
+rises-at : (n : ℕ) (os : List Object) (j : ℕ) (o : Object) → IsTrue (rises_from n os) → slice_get os j ≡ Some o
+    → n ≤ o.extent.offset
 rises-at n [] j o h e = absurd (none-some o e)
 rises-at n (p ∷ ps) zero o h e = subst (λ (q : Object). n ≤ q.extent.offset) (same_Some p o e) (rises-front n p ps h)
 rises-at n (p ∷ ps) (suc j) o h e =
@@ -28,26 +32,32 @@ rises-at n (p ∷ ps) (suc j) o h e =
     omega arith
 
 -- the object at a place is found by its handle
-found-at : (n : ℕ) (os : List Object) (j : ℕ) (o : Object) → IsTrue (rises_from n os) → slice_get os j ≡ Some o → find (has_key (ByHandle (handle o.extent))) os ≡ Some o
+found-at : (n : ℕ) (os : List Object) (j : ℕ) (o : Object) → IsTrue (rises_from n os) → slice_get os j ≡ Some o
+    → find (has_key (ByHandle (handle o.extent))) os ≡ Some o
 found-at n [] j o h e = absurd (none-some o e)
 found-at n (p ∷ ps) zero o h e =
     let same : p ≡ o = same_Some p o e in
-    let test : has_key (ByHandle (handle o.extent)) p ≡ true = eq-eqb (handle o.extent) (handle p.extent) (ap (λ (q : Object). handle q.extent) (sym same)) in
+    let test : has_key (ByHandle (handle o.extent)) p ≡ true =
+    eq-eqb (handle o.extent) (handle p.extent) (ap (λ (q : Object). handle q.extent) (sym same)) in
     ap (λ b. cond b (Some p) (find (has_key (ByHandle (handle o.extent))) ps)) test ∙ e
 found-at n (p ∷ ps) (suc j) o h e =
     let rest : IsTrue (rises_from (p.extent.offset + 1) ps) = rises-rest n p ps h in
     let more : p.extent.offset + 1 ≤ o.extent.offset = rises-at (p.extent.offset + 1) ps j o rest e in
-    let test : has_key (ByHandle (handle o.extent)) p ≡ false = ne_eqb (handle o.extent) (handle p.extent) (λ same. omega arith) in
-    ap (λ b. cond b (Some p) (find (has_key (ByHandle (handle o.extent))) ps)) test ∙ found-at (p.extent.offset + 1) ps j o rest e
+    let test : has_key (ByHandle (handle o.extent)) p ≡ false =
+    ne_eqb (handle o.extent) (handle p.extent) (λ same. omega arith) in
+    ap (λ b. cond b (Some p) (find (has_key (ByHandle (handle o.extent))) ps)) test
+    ∙ found-at (p.extent.offset + 1) ps j o rest e
 
 -- ---- what holds of each object
 
-pub at-place : (P : Object → Type 0) (os : List Object) (j : ℕ) (o : Object) → AllByRecursion P os → slice_get os j ≡ Some o → P o
+pub at-place : (P : Object → Type 0) (os : List Object) (j : ℕ) (o : Object) → AllByRecursion P os
+    → slice_get os j ≡ Some o → P o
 at-place P [] j o a e = absurd (none-some o e)
 at-place P (p ∷ ps) zero o a e = subst P (same_Some p o e) a.0
 at-place P (p ∷ ps) (suc j) o a e = at-place P ps j o a.1 e
 
-from-places : (P : Object → Type 0) (os : List Object) → ((j : ℕ) (o : Object) → slice_get os j ≡ Some o → P o) → AllByRecursion P os
+from-places : (P : Object → Type 0) (os : List Object) → ((j : ℕ) (o : Object) → slice_get os j ≡ Some o → P o)
+    → AllByRecursion P os
 from-places P [] h = tt
 from-places P (p ∷ ps) h = (h zero p refl, from-places P ps (λ j o e. h (suc j) o e))
 
@@ -57,7 +67,7 @@ from-places P (p ∷ ps) h = (h zero p refl, from-places P ps (λ j o e. h (suc 
 abbrev pub IsFoundIn : Directory → Object → Type 0
 IsFoundIn d o = object_at d (ByHandle (handle o.extent)) ≡ Some o
 
-module _ (b : List ℕ) (d : Directory) (st : StandsFor b d) where
+module _ (b : List ℕ) (d : Directory) (st : DenotesCurrent b d) where
   pub all-objects : AllByRecursion (IsFoundIn d) d.objects
   all-objects = from-places (IsFoundIn d) d.objects (λ j o e. found-at 0 d.objects j o st.denotes.directory.by_offset e)
 
@@ -79,9 +89,9 @@ record IsSaidOf (d : Directory) (said : Instance) (o : Object) : Type 0 where
 said-if : (d : Directory) (said : Instance) (o : Object) → IsFoundIn d o → IsInstance o said → IsSaidOf d said o
 said-if d said o f is = record { found = ap (λ h. object_at d (ByHandle h)) is.at ∙ f; is = is }
 
-module _ (s : State) (objects : Directory → List Object) (i : ℕ) (said : Instance) (at : SaysAt s objects i said)
-    (each : (d : Directory) → StandsFor s.cut.bytes d → AllByRecursion (IsFoundIn d) (objects d)) where
-  member : (d : Directory) (st : StandsFor s.cut.bytes d) → IsSaidOf d said (at.says d st).0
+module _ (s : SegmentState) (objects : Directory → List Object) (i : ℕ) (said : Instance) (at : SaysAt s objects i said)
+    (each : (d : Directory) → DenotesCurrent s.cut.bytes d → AllByRecursion (IsFoundIn d) (objects d)) where
+  member : (d : Directory) (st : DenotesCurrent s.cut.bytes d) → IsSaidOf d said (at.says d st).0
   member d st =
       let o = at.says d st in
       said-if d said o.0 (at-place (IsFoundIn d) (objects d) i o.0 (each d st) o.1) o.2
@@ -90,7 +100,8 @@ module _ (s : State) (objects : Directory → List Object) (i : ℕ) (said : Ins
   said-of = record { says = λ d st. let o = at.says d st in let m = member d st in (o.0, m.found, o.2) }
 
   -- its text is the part of the list's text
-  pub text-of : (text : Object → List ℕ) (d : Directory) → StandsFor s.cut.bytes d → part_of text (object_at d (ByHandle said.handle)) ≡ part_of text (slice_get (objects d) i)
+  pub text-of : (text : Object → List ℕ) (d : Directory) → DenotesCurrent s.cut.bytes d
+      → part_of text (object_at d (ByHandle said.handle)) ≡ part_of text (slice_get (objects d) i)
   text-of text d st =
       let o = at.says d st in
       let m = member d st in

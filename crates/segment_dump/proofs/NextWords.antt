@@ -44,7 +44,8 @@ word-len : (w a : List ℕ) → AreBare w → ends_word a ≡ true → prefix_le
 word-len [] a h e = ends-here a e
 word-len (c ∷ w) a h e =
     let more : prefix_len is_inside (w ++ a) ≡ length w = word-len w a h.1 e in
-    let one : prefix_len is_inside ((c ∷ w) ++ a) ≡ 1 + prefix_len is_inside (w ++ a) = ap (λ b. if not b then 1 + prefix_len is_inside (w ++ a) else 0) (bare-no_blank c h.0) in
+    let one : prefix_len is_inside ((c ∷ w) ++ a) ≡ 1 + prefix_len is_inside (w ++ a) =
+    ap (λ b. if not b then 1 + prefix_len is_inside (w ++ a) else 0) (bare-no_blank c h.0) in
     omega (arith, one, more)
 
 up-to : (w a : List ℕ) → AreBare w → ends_word a ≡ true → up_to_blank (w ++ a) ≡ w
@@ -60,14 +61,19 @@ bare-here w a h e =
     let front : up_to_blank (w ++ a) ≡ w = up-to w a h e in
     let test : list_all is_bare (up_to_blank (w ++ a)) ≡ true = ap (list_all is_bare) front ∙ all-bare w h in
     let behind : behind_word (w ++ a) ≡ a = ap (λ l. drop (length l) (w ++ a)) front ∙ drop_at w a (length w) refl in
-    ap (λ b. if b then Some (up_to_blank (w ++ a), behind_word (w ++ a)) else None) test ∙ (λ i. Some (front i, behind i))
+    ap (λ b. if b then Some (up_to_blank (w ++ a), behind_word (w ++ a)) else None) test
+    ∙ (λ i. Some (front i, behind i))
 
-pub bare-next : (c : ℕ) (w a : List ℕ) → AreBare (c ∷ w) → ends_word a ≡ true → next_word ((c ∷ w) ++ a) ≡ Some (Bare (c ∷ w), a)
+pub bare-next : (c : ℕ) (w a : List ℕ) → AreBare (c ∷ w) → ends_word a ≡ true
+    → next_word ((c ∷ w) ++ a) ≡ Some (Bare (c ∷ w), a)
 unfolding next_word word_at
 bare-next c w a h e =
-    let skip : skip_blanks ((c ∷ w) ++ a) ≡ (c ∷ w) ++ a = ap (λ b. if b then skip_blanks (w ++ a) else c ∷ (w ++ a)) (bare-no_blank c h.0) in
+    let skip : skip_blanks ((c ∷ w) ++ a) ≡ (c ∷ w) ++ a =
+    ap (λ b. if b then skip_blanks (w ++ a) else c ∷ (w ++ a)) (bare-no_blank c h.0) in
     ap word_at skip
-    ∙ ap (λ b. if b then option_map (λ (bs, rest). (Text bs, rest)) (text_at (w ++ a)) else option_map (λ (bs, rest). (Bare bs, rest)) (bare_at (c ∷ (w ++ a)))) (bare-no_quote c h.0)
+    ∙ ap (λ b. if b then option_map (λ (bs, rest).
+    (Text bs, rest)) (text_at (w ++ a)) else option_map (λ (bs, rest). (Bare bs, rest)) (bare_at (c ∷ (w ++ a))))
+    (bare-no_quote c h.0)
     ∙ ap (option_map (λ (bs, rest). (Bare bs, rest))) (bare-here (c ∷ w) a h e)
 
 pub bare-long : (w a : List ℕ) → 0 < length w → AreBare w → ends_word a ≡ true → next_word (w ++ a) ≡ Some (Bare w, a)
@@ -82,13 +88,16 @@ blank-next bytes = refl
 -- ---- a text in quotes
 
 digit-small : (d : ℕ) → d < 10 → digit_of (0x30 + d) ≡ Some d
-digit-small d h = let e : between 0x30 0x39 (0x30 + d) ≡ true = grind (arith, nat_tests) in ap (λ b. if b then Some ((0x30 + d) - 0x30) else if between 0x61 0x66 (0x30 + d) then Some ((0x30 + d) - 0x57) else None) e ∙ ap Some (omega arith)
+digit-small d h = let e : between 0x30 0x39 (0x30 + d) ≡ true = grind (arith, nat_tests)
+    in ap (λ b. if b then Some ((0x30 + d) - 0x30) else if between 0x61 0x66 (0x30 + d) then Some
+    ((0x30 + d) - 0x57) else None) e ∙ ap Some (omega arith)
 
 digit-great : (d : ℕ) → 10 ≤ d → d < 16 → digit_of (0x57 + d) ≡ Some d
 digit-great d h l =
     let e : between 0x30 0x39 (0x57 + d) ≡ false = grind (arith, nat_tests) in
     let f : between 0x61 0x66 (0x57 + d) ≡ true = grind (arith, nat_tests) in
-    ap (λ b. if b then Some ((0x57 + d) - 0x30) else if between 0x61 0x66 (0x57 + d) then Some ((0x57 + d) - 0x57) else None) e
+    ap (λ b. if b then Some ((0x57 + d) - 0x30) else if between 0x61 0x66 (0x57 + d) then Some ((0x57 + d) - 0x57)
+    else None) e
     ∙ ap (λ b. if b then Some ((0x57 + d) - 0x57) else None) f ∙ ap Some (omega arith)
 
 quote-or : (c : ℕ) → ((c == 0x22) || (c == 0x5C)) ≡ true → (c ≡ 0x22) ⊎ (c ≡ 0x5C)
@@ -109,24 +118,34 @@ digits-byte c h =
     let high : c / 16 < 16 = omega arith in
     let low : c % 16 < 16 = omega arith in
     let whole : 16 * (c / 16) + c % 16 ≡ c = omega arith in
-    ap (λ o. option_and_then (λ x. option_map (λ y. 16 * x + y) (digit_of (digit_text (c % 16)))) o) (digit-back (c / 16) high)
+    ap (λ o. option_and_then (λ x. option_map (λ y. 16 * x + y) (digit_of (digit_text (c % 16)))) o)
+    (digit-back (c / 16) high)
     ∙ ap (λ o. option_map (λ y. 16 * (c / 16) + y) o) (digit-back (c % 16) low) ∙ ap Some whole
 
-is-item : (c : ℕ) (q p : Bool) → ((c == 0x22) || (c == 0x5C)) ≡ q → between 0x20 0x7E c ≡ p → c < 256 → IsItem (if q then 0x5C ∷ c ∷ [] else if p then c ∷ [] else escape_text c) c
+is-item : (c : ℕ) (q p : Bool) → ((c == 0x22) || (c == 0x5C)) ≡ q → between 0x20 0x7E c ≡ p → c < 256
+    → IsItem (if q then 0x5C ∷ c ∷ [] else if p then c ∷ [] else escape_text c) c
 is-item c true p e f l = let either : (c ≡ 0x22) ⊎ (c ≡ 0x5C) = quote-or c e in inr (inl (either, refl))
 is-item c false true e f l = inl (plain-is c e f, refl)
 is-item c false false e f l = inr (inr (digit_text (c / 16), digit_text (c % 16), digits-byte c l, refl))
 
 pub are-spelled : (bs : List ℕ) → AllByRecursion (λ b. b < 256) bs → Spells (flat_map item_text bs) bs
 are-spelled [] h = refl
-are-spelled (b ∷ bs) h =
-    (item_text b, flat_map item_text bs, is-item b ((b == 0x22) || (b == 0x5C)) (between 0x20 0x7E b) refl refl h.0, are-spelled bs h.1, refl)
+are-spelled (b ∷ bs) h = (
+  item_text b,
+  flat_map item_text bs,
+  is-item b ((b == 0x22) || (b == 0x5C)) (between 0x20 0x7E b) refl refl h.0,
+  are-spelled bs h.1,
+  refl,
+)
 
-pub text-next : TextsAreSpelled → (bs a : List ℕ) → AllByRecursion (λ b. b < 256) bs → ends_word a ≡ true → next_word (quoted_text bs ++ a) ≡ Some (Text bs, a)
+pub text-next : TextsAreSpelled → (bs a : List ℕ) → AllByRecursion (λ b. b < 256) bs → ends_word a ≡ true
+    → next_word (quoted_text bs ++ a) ≡ Some (Text bs, a)
 unfolding next_word word_at
 text-next law bs a h e =
-    let same : (flat_map item_text bs ++ 0x22 ∷ []) ++ a ≡ flat_map item_text bs ++ 0x22 ∷ a = append_assoc (flat_map item_text bs) (0x22 ∷ []) a in
-    ap (option_map (λ (bs, rest). (Text bs, rest))) ((law ((flat_map item_text bs ++ 0x22 ∷ []) ++ a) bs a).1 (flat_map item_text bs, are-spelled bs h, same, e))
+    let same : (flat_map item_text bs ++ 0x22 ∷ []) ++ a ≡ flat_map item_text bs ++ 0x22 ∷ a =
+    append_assoc (flat_map item_text bs) (0x22 ∷ []) a in
+    ap (option_map (λ (bs, rest). (Text bs, rest)))
+    ((law ((flat_map item_text bs ++ 0x22 ∷ []) ++ a) bs a).1 (flat_map item_text bs, are-spelled bs h, same, e))
 
 -- ---- numbers
 
@@ -138,7 +157,8 @@ number-next n a e = bare-long (decimal n) a (omega (arith, ap length (decimal-so
 
 -- ---- kinds
 
-pub kind-next : (k : Kind) (a : List ℕ) → ends_word a ≡ true → next_word (kind_text k ++ a) ≡ Some (Bare (kind_text k), a)
+pub kind-next : (k : Kind) (a : List ℕ) → ends_word a ≡ true
+    → next_word (kind_text k ++ a) ≡ Some (Bare (kind_text k), a)
 kind-next k a e = bare-long (kind_text k) a (kind-long k) (kind-bare k) e
 
 -- ---- values
@@ -154,19 +174,23 @@ is-same (c ∷ w) (d ∷ v) e =
     λ i. one i ∷ more i
 
 -- neither word is a number
-no-truth : (z : ℤ) (word : List ℕ) (b : Bool) → is (signed_decimal z) word ≡ b → whole_of (signed_decimal z) ≡ Some z → whole_of word ≡ None → b ≡ false
+no-truth : (z : ℤ) (word : List ℕ) (b : Bool) → is (signed_decimal z) word ≡ b
+    → whole_of (signed_decimal z) ≡ Some z → whole_of word ≡ None → b ≡ false
 no-truth z word true e f g = let same : signed_decimal z ≡ word = is-same (signed_decimal z) word e in absurd
     (none-some z (sym g ∙ ap whole_of (sym same) ∙ f))
 no-truth z word false e f g = refl
 
-whole-literal : WholesAreDecimals → (z : ℤ) → IsWhole z → literal_of_word (Bare (signed_decimal z)) ≡ Some (asked.Whole z)
+whole-literal : WholesAreDecimals → (z : ℤ) → IsWhole z
+    → literal_of_word (Bare (signed_decimal z)) ≡ Some (asked.Whole z)
 whole-literal law z h =
     let w = signed_decimal z in
     let found : whole_of w ≡ Some z = (law w z).1 (h.0, h.1, refl) in
     let yes : is w (codes "true") ≡ false = no-truth z (codes "true") (is w (codes "true")) refl found refl in
     let no : is w (codes "false") ≡ false = no-truth z (codes "false") (is w (codes "false")) refl found refl in
-    ap (λ b. if b then Some (asked.Truth true) else if is w (codes "false") then Some (asked.Truth false) else option_map asked.Whole (whole_of w)) yes
-    ∙ ap (λ b. if b then Some (asked.Truth false) else option_map asked.Whole (whole_of w)) no ∙ ap (option_map asked.Whole) found
+    ap (λ b. if b then Some (asked.Truth true) else if is w (codes "false") then Some (asked.Truth false) else
+    option_map asked.Whole (whole_of w)) yes
+    ∙ ap (λ b. if b then Some (asked.Truth false) else option_map asked.Whole (whole_of w)) no
+    ∙ ap (option_map asked.Whole) found
 
 abbrev value_in : ScalarKind → Option asked.Literal → Option ℤ
 value_in k o = option_and_then (λ l. result_ok (asked.value_of_literal k l)) o
@@ -174,15 +198,18 @@ value_in k o = option_and_then (λ l. result_ok (asked.value_of_literal k l)) o
 abbrev in_kind : ScalarKind → ℤ → Result ℤ Refusal
 in_kind k z = if is_value k z then Ok z else Err OutOfRange
 
-value-read : WholesAreDecimals → (k : ScalarKind) (z : ℤ) → is_value k z ≡ true → asked.value_of_literal k (asked.Whole z) ≡ in_kind k z → value_for k (Bare (signed_decimal z)) ≡ Some z
+value-read : WholesAreDecimals → (k : ScalarKind) (z : ℤ) → is_value k z ≡ true
+    → asked.value_of_literal k (asked.Whole z) ≡ in_kind k z → value_for k (Bare (signed_decimal z)) ≡ Some z
 value-read law k z h e =
-    ap (value_in k) (whole-literal law z (in-range k z h)) ∙ ap result_ok e ∙ ap (λ b. result_ok (if b then Ok z else Err OutOfRange)) h
+    ap (value_in k) (whole-literal law z (in-range k z h)) ∙ ap result_ok e
+    ∙ ap (λ b. result_ok (if b then Ok z else Err OutOfRange)) h
 
 truth-read : (z : ℤ) → (z ≡ pos 0) ⊎ (z ≡ pos 1) → value_for BoolKind (Bare (value_text BoolKind z)) ≡ Some z
 truth-read z (inl e) = subst (λ y. value_for BoolKind (Bare (value_text BoolKind y)) ≡ Some y) (sym e) refl
 truth-read z (inr e) = subst (λ y. value_for BoolKind (Bare (value_text BoolKind y)) ≡ Some y) (sym e) refl
 
-pub value-said : WholesAreDecimals → (k : ScalarKind) (z : ℤ) → is_value k z ≡ true → value_for k (Bare (value_text k z)) ≡ Some z
+pub value-said : WholesAreDecimals → (k : ScalarKind) (z : ℤ) → is_value k z ≡ true
+    → value_for k (Bare (value_text k z)) ≡ Some z
 value-said law BoolKind z h = truth-read z (bool-near z h)
 value-said law k z h = value-read law k z h refl
 
@@ -203,7 +230,9 @@ name-byte-bare c e = grind (arith, nat_tests)
 letter-bare : (c : ℕ) → (is_letter c || (c == 0x5F)) ≡ true → is_bare c ≡ true
 letter-bare c e = grind (arith, nat_tests)
 
-name-by : TextsAreSpelled → (name a : List ℕ) (b : Bool) → is_bare_name name ≡ b → AllByRecursion (λ b. b < 256) name → ends_word a ≡ true → NamesWord name ((if b then name else quoted_text name) ++ a) a
+name-by : TextsAreSpelled → (name a : List ℕ) (b : Bool) → is_bare_name name ≡ b
+    → AllByRecursion (λ b. b < 256) name → ends_word a ≡ true
+    → NamesWord name ((if b then name else quoted_text name) ++ a) a
 name-by law [] a true f h e = absurd (cc)
 name-by law (c ∷ cs) a true f h e =
     let p = and_parts (is_letter c || (c == 0x5F)) (list_all is_name_byte cs) f in
@@ -215,5 +244,6 @@ name-by law (c ∷ cs) a true f h e =
     }
 name-by law name a false f h e = record { word = Text name; is = text-next law name a h e; of = text }
 
-pub name-next : TextsAreSpelled → (name a : List ℕ) → AllByRecursion (λ b. b < 256) name → ends_word a ≡ true → NamesWord name (name_text name ++ a) a
+pub name-next : TextsAreSpelled → (name a : List ℕ) → AllByRecursion (λ b. b < 256) name → ends_word a ≡ true
+    → NamesWord name (name_text name ++ a) a
 name-next law name a h e = name-by law name a (is_bare_name name) refl h e

@@ -11,13 +11,15 @@ use Rattle.segment_dump.specs.Notes.{IsLastLine}
 no-start : (c : ℕ) (b : Bool) → (c == 0x23) ≡ true → (c == 0x0A) ≡ b → b ≡ false
 no-start c b e f = grind (arith, nat_tests)
 
-behind-if : (c : ℕ) (cs l : List ℕ) (b : Bool) → (c == 0x23) ≡ b → ends_line (c == 0x0A) cs ≡ true → (ends_line false cs ≡ true → are_notes false (cs ++ l) ≡ (are_notes false cs && are_notes true l))
+behind-if : (c : ℕ) (cs l : List ℕ) (b : Bool) → (c == 0x23) ≡ b → ends_line (c == 0x0A) cs ≡ true
+    → (ends_line false cs ≡ true → are_notes false (cs ++ l) ≡ (are_notes false cs && are_notes true l))
     → (b && are_notes false (cs ++ l)) ≡ ((b && are_notes false cs) && are_notes true l)
 behind-if c cs l true e h f = f (ap (λ b. ends_line b cs) (sym (no-start c (c == 0x0A) e refl)) ∙ h)
 behind-if c cs l false e h f = refl
 
 -- lines, and what follows, are notes where both are
-pub notes-behind : (start : Bool) (lines l : List ℕ) → ends_line start lines ≡ true → are_notes start (lines ++ l) ≡ (are_notes start lines && are_notes true l)
+pub notes-behind : (start : Bool) (lines l : List ℕ) → ends_line start lines ≡ true
+    → are_notes start (lines ++ l) ≡ (are_notes start lines && are_notes true l)
 notes-behind true [] l h = refl
 notes-behind false [] l h = absurd (cc)
 notes-behind true (c ∷ cs) l h = behind-if c cs l (c == 0x23) refl h (notes-behind false cs l)
@@ -37,11 +39,13 @@ all-cut : (notes : List ℕ) → are_notes true notes ≡ true → before_notes 
 all-cut [] h = refl
 all-cut (c ∷ cs) h = ap (λ b. cond b [] (c ∷ before_notes (c == 0x0A) cs)) h
 
-pub cut-notes : (start : Bool) (lines notes : List ℕ) → ends_line start lines ≡ true → are_notes true notes ≡ true → before_notes start (lines ++ notes) ≡ before_notes start lines
+pub cut-notes : (start : Bool) (lines notes : List ℕ) → ends_line start lines ≡ true → are_notes true notes ≡ true
+    → before_notes start (lines ++ notes) ≡ before_notes start lines
 cut-notes true [] notes h n = all-cut notes n
 cut-notes false [] notes h n = absurd (cc)
 cut-notes true (c ∷ cs) notes h n =
-    let same : are_notes true ((c ∷ cs) ++ notes) ≡ are_notes true (c ∷ cs) = notes-behind true (c ∷ cs) notes h ∙ and-true (are_notes true (c ∷ cs)) (are_notes true notes) n in
+    let same : are_notes true ((c ∷ cs) ++ notes) ≡ are_notes true (c ∷ cs) =
+    notes-behind true (c ∷ cs) notes h ∙ and-true (are_notes true (c ∷ cs)) (are_notes true notes) n in
     ap₂ (λ b l. cond b [] (c ∷ l)) same (cut-notes (c == 0x0A) cs notes h n)
 cut-notes false (c ∷ cs) notes h n = ap (λ l. c ∷ l) (cut-notes (c == 0x0A) cs notes h n)
 
@@ -61,27 +65,32 @@ last-kept : (last : List ℕ) → is_line last ≡ true → are_notes true last 
 last-kept [] l h = refl
 last-kept (c ∷ cs) l h = ap (λ b. cond b [] (c ∷ before_notes (c == 0x0A) cs)) h ∙ ap (λ l. c ∷ l) (line-kept c cs l)
 
-pub kept : (start : Bool) (lines last : List ℕ) → ends_line start lines ≡ true → is_line last ≡ true → are_notes true last ≡ false → before_notes start (lines ++ last) ≡ lines ++ last
+pub kept : (start : Bool) (lines last : List ℕ) → ends_line start lines ≡ true → is_line last ≡ true
+    → are_notes true last ≡ false → before_notes start (lines ++ last) ≡ lines ++ last
 kept true [] last h l n = last-kept last l n
 kept false [] last h l n = absurd (cc)
 kept true (c ∷ cs) last h l n =
-    let none : are_notes true ((c ∷ cs) ++ last) ≡ false = notes-behind true (c ∷ cs) last h ∙ and-false (are_notes true (c ∷ cs)) (are_notes true last) n in
+    let none : are_notes true ((c ∷ cs) ++ last) ≡ false =
+    notes-behind true (c ∷ cs) last h ∙ and-false (are_notes true (c ∷ cs)) (are_notes true last) n in
     ap₂ (λ b l. cond b [] (c ∷ l)) none (kept (c == 0x0A) cs last h l n)
 kept false (c ∷ cs) last h l n = ap (λ l. c ∷ l) (kept (c == 0x0A) cs last h l n)
 
 -- ---- whether a line is a note
 
-line-ends : (c : ℕ) (cs : List ℕ) → is_line (c ∷ cs) ≡ true → are_notes false (c ∷ cs) ≡ (get_or (c ∷ cs) (length cs) 0 == 0x0A)
+line-ends : (c : ℕ) (cs : List ℕ) → is_line (c ∷ cs) ≡ true
+    → are_notes false (c ∷ cs) ≡ (get_or (c ∷ cs) (length cs) 0 == 0x0A)
 line-ends c [] h = refl
 line-ends c (d ∷ ds) h =
     let p = and_parts (not (c == 0x0A)) (is_line (d ∷ ds)) h in
     ap (λ b. are_notes b (d ∷ ds)) (not-true (c == 0x0A) p.0) ∙ line-ends d ds p.1
 
-note-ends : (c : ℕ) (cs : List ℕ) → is_line (c ∷ cs) ≡ true → (c == 0x23) ≡ true → are_notes false cs ≡ (get_or (c ∷ cs) (length cs) 0 == 0x0A)
+note-ends : (c : ℕ) (cs : List ℕ) → is_line (c ∷ cs) ≡ true → (c == 0x23) ≡ true
+    → are_notes false cs ≡ (get_or (c ∷ cs) (length cs) 0 == 0x0A)
 note-ends c [] h e = sym (no-start c (c == 0x0A) e refl)
 note-ends c (d ∷ ds) h e = line-ends d ds (and_parts (not (c == 0x0A)) (is_line (d ∷ ds)) h).1
 
-pub note-told : (l : List ℕ) (b : Bool) → is_line l ≡ true → (get_or l 0 0 == 0x23) ≡ true → (get_or l (length l - 1) 0 == 0x0A) ≡ b → are_notes true l ≡ b
+pub note-told : (l : List ℕ) (b : Bool) → is_line l ≡ true → (get_or l 0 0 == 0x23) ≡ true
+    → (get_or l (length l - 1) 0 == 0x0A) ≡ b → are_notes true l ≡ b
 note-told [] b h e f = absurd (cc)
 note-told (c ∷ cs) b h e f =
     let at : length (c ∷ cs) - 1 ≡ length cs = omega arith in
@@ -107,14 +116,17 @@ last-byte text at e = one-line (drop at text) (omega (arith, length-drop at text
 byte-is : (c : ℕ) → (c == 0x0A) ≡ true → c ≡ 0x0A
 byte-is c e = grind (arith, nat_tests)
 
-pub starts-at : (text : List ℕ) (at : ℕ) → at ≤ length text → (0 < at → (get_or text (at - 1) 0 == 0x0A) ≡ true) → ends_line true (take at text) ≡ true
+pub starts-at : (text : List ℕ) (at : ℕ) → at ≤ length text → (0 < at → (get_or text (at - 1) 0 == 0x0A) ≡ true)
+    → ends_line true (take at text) ≡ true
 starts-at text zero h e = refl
 starts-at text (suc at) h e =
     let before : suc at - 1 ≡ at = omega arith in
-    let byte : get_or text at 0 ≡ 0x0A = byte-is (get_or text at 0) (ap (λ i. get_or text i 0 == 0x0A) (sym before) ∙ e (omega arith)) in
+    let byte : get_or text at 0 ≡ 0x0A =
+    byte-is (get_or text at 0) (ap (λ i. get_or text i 0 == 0x0A) (sym before) ∙ e (omega arith)) in
     let one : take (at + 1) text ≡ take at text ++ get_or text at 0 ∷ [] = take_more text at 0 (omega arith) in
     let more : suc at ≡ at + 1 = omega arith in
-    ap (λ i. ends_line true (take i text)) more ∙ ap (ends_line true) (one ∙ ap (λ b. take at text ++ b ∷ []) byte) ∙ ends-last true (take at text)
+    ap (λ i. ends_line true (take i text)) more ∙ ap (ends_line true) (one ∙ ap (λ b. take at text ++ b ∷ []) byte)
+    ∙ ends-last true (take at text)
 
 -- ---- one step
 
@@ -122,7 +134,8 @@ module _ (text : List ℕ) (at : ℕ) (h : IsLastLine text at) where
   whole : take at text ++ drop at text ≡ text
   whole = take-append-drop at text
 
-  kept-if : (l : List ℕ) → l ≡ text → (0 < length text → are_notes true (drop at text) ≡ false) → without_notes text ≡ text
+  kept-if : (l : List ℕ) → l ≡ text → (0 < length text → are_notes true (drop at text) ≡ false)
+      → without_notes text ≡ text
   kept-if [] e n = ap without_notes (sym e) ∙ e
   kept-if (c ∷ cs) e n =
       let some : 0 < length text = omega (arith, ap length e) in
@@ -133,6 +146,8 @@ module _ (text : List ℕ) (at : ℕ) (h : IsLastLine text at) where
   kept-whole n = kept-if text refl n
 
   -- the last line is one
-  pub cut-last : (front last : List ℕ) → front ≡ take at text → last ≡ drop at text → are_notes true last ≡ true → without_notes front ≡ without_notes text
+  pub cut-last : (front last : List ℕ) → front ≡ take at text → last ≡ drop at text → are_notes true last ≡ true
+      → without_notes front ≡ without_notes text
   cut-last front last e f n =
-      ap without_notes e ∙ sym (cut-notes true (take at text) (drop at text) h.starts (ap (are_notes true) (sym f) ∙ n)) ∙ ap without_notes whole
+      ap without_notes e ∙ sym (cut-notes true (take at text) (drop at text) h.starts (ap (are_notes true) (sym f)
+      ∙ n)) ∙ ap without_notes whole

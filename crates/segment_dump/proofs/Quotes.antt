@@ -24,7 +24,8 @@ quote-no_x c e f = grind (arith, nat_tests)
 no-quote : (c : ℕ) → ((c == 0x22) || (c == 0x5C)) ≡ false → (c ≢ 0x22) × (c ≢ 0x5C)
 no-quote c e = (λ f. grind (arith, nat_tests), λ f. grind (arith, nat_tests))
 
-item-by : (c : ℕ) (q p : Bool) → ((c == 0x22) || (c == 0x5C)) ≡ q → IsItem c (cond q (0x5C ∷ c ∷ []) (cond p (c ∷ []) (escape_text c)))
+item-by : (c : ℕ) (q p : Bool) → ((c == 0x22) || (c == 0x5C)) ≡ q
+    → IsItem c (cond q (0x5C ∷ c ∷ []) (cond p (c ∷ []) (escape_text c)))
 item-by c true p e = escaped (quote-no_x c e) refl
 item-by c false true e = let n = no-quote c e in plain n.0 n.1 refl
 item-by c false false e = coded refl
@@ -46,14 +47,22 @@ as-is : (s s' t t' a b : List ℕ) → s ≡ s' → t ≡ t' → Behind s t a b 
 as-is s s' t t' a b f g e = ap (λ l. l ++ a) (sym f) ∙ e ∙ ap (λ l. l ++ b) g
 
 items-read : (c d : ℕ) (s t a b : List ℕ) → IsItem c s → IsItem d t → Behind s t a b → (c ≡ d) × (a ≡ b)
-items-read c d s t a b (escaped n f) (escaped m g) e = let h = as-is s (0x5C ∷ c ∷ []) t (0x5C ∷ d ∷ []) a b f g e in (heads (tails h), tails (tails h))
-items-read c d s t a b (escaped n f) (plain m k g) e = let h = as-is s (0x5C ∷ c ∷ []) t (d ∷ []) a b f g e in absurd (k (sym (heads h)))
-items-read c d s t a b (escaped n f) (coded g) e = let h = as-is s (0x5C ∷ c ∷ []) t (code_text d) a b f g e in absurd (n (heads (tails h)))
-items-read c d s t a b (plain n k f) (escaped m g) e = let h = as-is s (c ∷ []) t (0x5C ∷ d ∷ []) a b f g e in absurd (k (heads h))
-items-read c d s t a b (plain n k f) (plain m l g) e = let h = as-is s (c ∷ []) t (d ∷ []) a b f g e in (heads h, tails h)
-items-read c d s t a b (plain n k f) (coded g) e = let h = as-is s (c ∷ []) t (code_text d) a b f g e in absurd (k (heads h))
-items-read c d s t a b (coded f) (escaped m g) e = let h = as-is s (code_text c) t (0x5C ∷ d ∷ []) a b f g e in absurd (m (sym (heads (tails h))))
-items-read c d s t a b (coded f) (plain m k g) e = let h = as-is s (code_text c) t (d ∷ []) a b f g e in absurd (k (sym (heads h)))
+items-read c d s t a b (escaped n f) (escaped m g) e = let h = as-is s (0x5C ∷ c ∷ []) t (0x5C ∷ d ∷ []) a b f g e
+    in (heads (tails h), tails (tails h))
+items-read c d s t a b (escaped n f) (plain m k g) e = let h = as-is s (0x5C ∷ c ∷ []) t (d ∷ []) a b f g e
+    in absurd (k (sym (heads h)))
+items-read c d s t a b (escaped n f) (coded g) e = let h = as-is s (0x5C ∷ c ∷ []) t (code_text d) a b f g e
+    in absurd (n (heads (tails h)))
+items-read c d s t a b (plain n k f) (escaped m g) e = let h = as-is s (c ∷ []) t (0x5C ∷ d ∷ []) a b f g e
+    in absurd (k (heads h))
+items-read c d s t a b (plain n k f) (plain m l g) e = let h = as-is s (c ∷ []) t (d ∷ []) a b f g e
+    in (heads h, tails h)
+items-read c d s t a b (plain n k f) (coded g) e = let h = as-is s (c ∷ []) t (code_text d) a b f g e
+    in absurd (k (heads h))
+items-read c d s t a b (coded f) (escaped m g) e = let h = as-is s (code_text c) t (0x5C ∷ d ∷ []) a b f g e
+    in absurd (m (sym (heads (tails h))))
+items-read c d s t a b (coded f) (plain m k g) e = let h = as-is s (code_text c) t (d ∷ []) a b f g e
+    in absurd (k (sym (heads h)))
 items-read c d s t a b (coded f) (coded g) e =
     let h = as-is s (code_text c) t (code_text d) a b f g e in
     (coded-same c d (heads (tails (tails h))) (heads (tails (tails (tails h)))), tails (tails (tails (tails h))))
@@ -77,7 +86,10 @@ record IsOpen (l : List ℕ) : Type 0 where
 
 items-row : IsRow item_text AnyByte Any IsOpen
 items-row = record {
-  code = record { reads = λ c d a b p q f g e. items-read c d (item_text c) (item_text d) a b (item-is c) (item-is d) e };
+  code = record {
+    reads = λ c d a b p q f g e.
+        items-read c d (item_text c) (item_text d) a b (item-is c) (item-is d) e;
+  };
   begins = λ c a p. record { not_closed = λ y e. item-opens c (item_text c) a y (item-is c) e };
   follows = λ c a p. tt;
 }
@@ -88,7 +100,8 @@ closes a = record { follows = tt; none = λ o. o.not_closed a refl }
 pub quoted-read : (bs cs a b : List ℕ) → quoted_text bs ++ a ≡ quoted_text cs ++ b → (bs ≡ cs) × (a ≡ b)
 quoted-read bs cs a b e =
     let same : flat_map item_text bs ++ 0x22 ∷ a ≡ flat_map item_text cs ++ 0x22 ∷ b =
-    sym (append_assoc (flat_map item_text bs) (0x22 ∷ []) a) ∙ tails e ∙ append_assoc (flat_map item_text cs) (0x22 ∷ []) b in
+    sym (append_assoc (flat_map item_text bs) (0x22 ∷ []) a) ∙ tails e
+    ∙ append_assoc (flat_map item_text cs) (0x22 ∷ []) b in
     let r = row-reads item_text AnyByte Any IsOpen items-row bs cs (0x22 ∷ a) (0x22 ∷ b) (all-any AnyByte (λ c. tt) bs)
     (all-any AnyByte (λ c. tt) cs) (closes a) (closes b) same in
     (r.0, tails r.1)
@@ -116,13 +129,16 @@ name-by name false e = quoted refl
 pub name-is : (name : List ℕ) → IsName name (name_text name)
 name-is name = name-by name (is_bare_name name) refl
 
-names-read-by : (n m s t a b : List ℕ) → IsName n s → IsName m t → Breaks a → Breaks b → s ++ a ≡ t ++ b → (n ≡ m) × (a ≡ b)
-names-read-by n m s t a b (bare c cs h k w f) (bare d ds i l v g) p q e = words-read n m a b w v p q (ap (λ u. u ++ a) (sym f) ∙ e ∙ ap (λ u. u ++ b) g)
+names-read-by : (n m s t a b : List ℕ) → IsName n s → IsName m t → Breaks a → Breaks b → s ++ a ≡ t ++ b
+    → (n ≡ m) × (a ≡ b)
+names-read-by n m s t a b (bare c cs h k w f) (bare d ds i l v g) p q e =
+    words-read n m a b w v p q (ap (λ u. u ++ a) (sym f) ∙ e ∙ ap (λ u. u ++ b) g)
 names-read-by n m s t a b (bare c cs h k w f) (quoted g) p q e =
     absurd (k (heads (ap (λ u. u ++ a) (sym (f ∙ h)) ∙ e ∙ ap (λ u. u ++ b) g)))
 names-read-by n m s t a b (quoted f) (bare d ds i l v g) p q e =
     absurd (l (sym (heads (ap (λ u. u ++ a) (sym f) ∙ e ∙ ap (λ u. u ++ b) (g ∙ i)))))
-names-read-by n m s t a b (quoted f) (quoted g) p q e = quoted-read n m a b (ap (λ u. u ++ a) (sym f) ∙ e ∙ ap (λ u. u ++ b) g)
+names-read-by n m s t a b (quoted f) (quoted g) p q e =
+    quoted-read n m a b (ap (λ u. u ++ a) (sym f) ∙ e ∙ ap (λ u. u ++ b) g)
 
 pub names-read : (n m a b : List ℕ) → Breaks a → Breaks b → name_text n ++ a ≡ name_text m ++ b → (n ≡ m) × (a ≡ b)
 names-read n m a b p q e = names-read-by n m (name_text n) (name_text m) a b (name-is n) (name-is m) p q e

@@ -2,7 +2,8 @@
 use Rattle.segment_dump.proofs.Common.{◌≡◌, ◌≢◌, ℕ, suc, ◌+◌, ◌-◌, ◌<◌, ◌≤◌, List, [], ◌∷◌, ◌++◌, length, take, drop}
 use Rattle.segment_dump.proofs.Common.{get_or, refl, sym, ap, subst, ◌∙◌, arith, append_assoc, ◌^◌, Option, Some, None}
 use Rattle.segment_dump.proofs.Common.{decimal, flat_map, option_map, take_all, AllByRecursion, kind_text, name_text}
-use Rattle.segment_dump.proofs.Common.{IsSmall, closed_text, Any, AreLines, Breaks, HasNoEnd, IsWord, Reads, Skips}
+use Rattle.segment_dump.proofs.Common.{IsSmall, closed_text, Any, AreLines, Breaks, HasNoEnd, IsWord, ParsesPrefix}
+use Rattle.segment_dump.proofs.Common.{Skips}
 use Rattle.segment_dump.proofs.Common.{ended, itself, lines_text, seen, seen_rest, current, Kind, whole}
 use Rattle.segment_dump.proofs.Common.{NumbersAreDecimals, kind_named, number_text, number_of}
 use Rattle.std.specs.Borrow.{Bor}
@@ -14,9 +15,11 @@ use Rattle.segment_dump.proofs.Words.{decimal-word}
 
 -- ---- where nothing is found
 
-module _ {X Y : Type 0} (say : X → List ℕ) (IsSaid : X → Type 0) (Follows : List ℕ → Type 0) (value : X → Y) (text : List ℕ) where
-  pub as-seen : (o p : Option (Y × Bor (List ℕ))) → o ≡ p → Reads say IsSaid Follows value text (seen o) → Reads say IsSaid Follows value text (seen p)
-  as-seen o p e h = subst (λ (q : Option (Y × Bor (List ℕ))). Reads say IsSaid Follows value text (seen q)) e h
+module _ {X Y : Type 0} (say : X → List ℕ) (IsSaid : X → Type 0) (Follows : List ℕ → Type 0) (value : X
+    → Y) (text : List ℕ) where
+  pub as-seen : (o p : Option (Y × Bor (List ℕ))) → o ≡ p → ParsesPrefix say IsSaid Follows value text (seen o)
+      → ParsesPrefix say IsSaid Follows value text (seen p)
+  as-seen o p e h = subst (λ (q : Option (Y × Bor (List ℕ))). ParsesPrefix say IsSaid Follows value text (seen q)) e h
 
 -- ---- a line
 
@@ -55,11 +58,16 @@ word-starts text = record { word = []; high = tt; whole = refl }
 pub tail-all : (c : ℕ) (tail : List ℕ) → take (length (c ∷ tail) - 1) tail ≡ tail
 tail-all c tail = take_all (length (c ∷ tail) - 1) tail (omega arith)
 
-pub word-goes : (text rest : List ℕ) → 1 ≤ length rest → 0x20 < get_or rest 0 0 → InWord text rest → InWord text (take (length rest - 1) (drop 1 rest))
+pub word-goes : (text rest : List ℕ) → 1 ≤ length rest → 0x20 < get_or rest 0 0 → InWord text rest
+    → InWord text (take (length rest - 1) (drop 1 rest))
 word-goes text [] l g h = absurd (omega arith)
 word-goes text (c ∷ tail) l g h =
     subst (InWord text) (sym (tail-all c tail))
-    (record { word = h.word ++ c ∷ []; high = word-append h.word c h.high g; whole = h.whole ∙ sym (append_assoc h.word (c ∷ []) tail) })
+    (record {
+      word = h.word ++ c ∷ [];
+      high = word-append h.word c h.high g;
+      whole = h.whole ∙ sym (append_assoc h.word (c ∷ []) tail);
+    })
 
 -- ---- numbers
 
@@ -69,13 +77,15 @@ pub record IsSplit (text word rest : List ℕ) : Type 0 where
   pub high : IsWord word
   pub breaks : Breaks rest
 
-pub split-read : (text w rest v a : List ℕ) → IsSplit text w rest → IsWord v → Breaks a → text ≡ v ++ a → (w ≡ v) × (rest ≡ a)
+pub split-read : (text w rest v a : List ℕ) → IsSplit text w rest → IsWord v → Breaks a → text ≡ v ++ a
+    → (w ≡ v) × (rest ≡ a)
 split-read text w rest v a s h b e = words-read w v rest a s.high h s.breaks b (sym s.whole ∙ e)
 
 abbrev pub NumberReads : List ℕ → Option (ℕ × List ℕ) → Type 0
-NumberReads = Reads number_text (λ n. n < 2 ^ 64) Breaks itself
+NumberReads = ParsesPrefix number_text (λ n. n < 2 ^ 64) Breaks itself
 
-pub number-reads : NumbersAreDecimals → (text w rest : List ℕ) (o : Option ℕ) → o ≡ number_of w → IsSplit text w rest → NumberReads text (option_map (λ n. (n, rest)) o)
+pub number-reads : NumbersAreDecimals → (text w rest : List ℕ) (o : Option ℕ) → o ≡ number_of w
+    → IsSplit text w rest → NumberReads text (option_map (λ n. (n, rest)) o)
 number-reads law text w rest o f s = record {
   reads = λ n a small b e.
       let r = split-read text w rest (decimal n) a s (decimal-word n) b e in
@@ -92,9 +102,10 @@ number-whole law text w rest n e s = s ∙ ap (λ v. v ++ rest) ((law w n).0 e).
 -- ---- kinds
 
 abbrev pub KindReads : List ℕ → Option (Kind × List ℕ) → Type 0
-KindReads = Reads kind_text Any Breaks itself
+KindReads = ParsesPrefix kind_text Any Breaks itself
 
-pub kind-reads : (text w rest : List ℕ) (o : Option Kind) → o ≡ kind_named (whole current) w → IsSplit text w rest → KindReads text (option_map (λ k. (k, rest)) o)
+pub kind-reads : (text w rest : List ℕ) (o : Option Kind) → o ≡ kind_named (whole current) w → IsSplit text w rest
+    → KindReads text (option_map (λ k. (k, rest)) o)
 kind-reads text w rest o f s = record {
   reads = λ k a said b e.
       let r = split-read text w rest (kind_text k) a s (kind-word k) b e in
@@ -112,44 +123,58 @@ pub record LinesLeft (rest : List ℕ) (n : ℕ) (a : List ℕ) : Type 0 where
   pub whole : rest ≡ lines_text lines ++ a
 
 pub record InLines (text rest : List ℕ) (count counter : ℕ) : Type 0 where
-  pub left : (lines : List (List ℕ)) (a : List ℕ) → AreLines count lines → text ≡ lines_text lines ++ a → LinesLeft rest (count - counter) a
+  pub left : (lines : List (List ℕ)) (a : List ℕ) → AreLines count lines → text ≡ lines_text lines ++ a
+      → LinesLeft rest (count - counter) a
 
 pub lines-start : (text : List ℕ) (count : ℕ) → InLines text text count 0
-lines-start text count = record { left = λ lines a h e. record { lines = lines; good = h.0; many = omega arith; whole = e } }
+lines-start text count = record {
+  left = λ lines a h e.
+      record { lines = lines; good = h.0; many = omega arith; whole = e };
+}
 
 no-lines : (rest a : List ℕ) (lines : List (List ℕ)) → rest ≡ lines_text lines ++ a → length lines ≡ 0 → rest ≡ a
 no-lines rest a [] e f = e
 no-lines rest a (l ∷ ls) e f = absurd (omega arith)
 
-pub lines-end : (text rest : List ℕ) (count counter : ℕ) → count ≤ counter → InLines text rest count counter → Skips lines_text (AreLines count) text (Some rest)
+pub lines-end : (text rest : List ℕ) (count counter : ℕ) → count ≤ counter → InLines text rest count counter
+    → Skips lines_text (AreLines count) text (Some rest)
 lines-end text rest count counter l h = record {
-  skips = λ lines a g e. let f = h.left lines a g e in ap Some (no-lines rest a f.lines f.whole (omega (arith, f.many)));
+  skips = λ lines a g e. let f = h.left lines a g e
+      in ap Some (no-lines rest a f.lines f.whole (omega (arith, f.many)));
 }
 
 -- one line less
-first-line : (rest : List ℕ) (n : ℕ) (a : List ℕ) (lines : List (List ℕ)) (o : Option (List ℕ)) → AllByRecursion HasNoEnd lines → length lines ≡ suc n → rest ≡ lines_text lines ++ a → Skips ended HasNoEnd rest o
+first-line : (rest : List ℕ) (n : ℕ) (a : List ℕ) (lines : List (List ℕ)) (o : Option (List ℕ))
+    → AllByRecursion HasNoEnd lines → length lines ≡ suc n → rest ≡ lines_text lines ++ a → Skips ended HasNoEnd rest o
     → (new : List ℕ) × (o ≡ Some new) × LinesLeft new n a
 first-line rest n a [] o g m e h = absurd (omega arith)
-first-line rest n a (l ∷ ls) o g m e h =
-    (lines_text ls ++ a, h.skips l (lines_text ls ++ a) g.0 (e ∙ append_assoc (ended l) (lines_text ls) a), record { lines = ls; good = g.1; many = omega arith; whole = refl })
+first-line rest n a (l ∷ ls) o g m e h = (
+  lines_text ls ++ a,
+  h.skips l (lines_text ls ++ a) g.0 (e ∙ append_assoc (ended l) (lines_text ls) a),
+  record { lines = ls; good = g.1; many = omega arith; whole = refl },
+)
 
-pub lines-more : (text rest : List ℕ) (count counter : ℕ) (o : Option (Bor (List ℕ))) (new : Bor (List ℕ)) → counter < count → InLines text rest count counter → Skips ended HasNoEnd rest (seen_rest o) → o ≡ Some new
+pub lines-more : (text rest : List ℕ) (count counter : ℕ) (o : Option (Bor (List ℕ))) (new : Bor (List ℕ))
+    → counter < count → InLines text rest count counter → Skips ended HasNoEnd rest (seen_rest o) → o ≡ Some new
     → InLines text new.now count (counter + 1)
 lines-more text rest count counter o new l h s f = record {
   left = λ lines a g e.
       let k = h.left lines a g e in
-      let r = first-line rest (count - (counter + 1)) a k.lines (seen_rest o) k.good (omega (arith, k.many)) k.whole s in
+      let r = first-line rest (count - (counter + 1)) a k.lines (seen_rest o) k.good (omega (arith, k.many)) k.whole
+      s in
       let same : Some new.now ≡ Some r.0 = sym (ap seen_rest f) ∙ r.1 in
       let is : new.now ≡ r.0 = cc in
       subst (λ t. LinesLeft t (count - (counter + 1)) a) (sym is) r.2;
 }
 
-pub lines-cut : (text rest : List ℕ) (count counter : ℕ) (o : Option (Bor (List ℕ))) → counter < count → InLines text rest count counter → Skips ended HasNoEnd rest (seen_rest o) → o ≡ None
+pub lines-cut : (text rest : List ℕ) (count counter : ℕ) (o : Option (Bor (List ℕ))) → counter < count
+    → InLines text rest count counter → Skips ended HasNoEnd rest (seen_rest o) → o ≡ None
     → Skips lines_text (AreLines count) text None
 lines-cut text rest count counter o l h s f = record {
   skips = λ lines a g e.
       let k = h.left lines a g e in
-      let r = first-line rest (count - (counter + 1)) a k.lines (seen_rest o) k.good (omega (arith, k.many)) k.whole s in
+      let r = first-line rest (count - (counter + 1)) a k.lines (seen_rest o) k.good (omega (arith, k.many)) k.whole
+      s in
       let none : None ≡ Some r.0 = sym (ap seen_rest f) ∙ r.1 in
       absurd (cc);
 }
@@ -168,19 +193,23 @@ pub record InQuotes (text rest : List ℕ) (len : ℕ) : Type 0 where
   pub left : (bs a : List ℕ) → IsShort bs → text ≡ closed_text bs ++ a → QuotesLeft rest len (length bs) a
 
 abbrev pub QuotedReads : List ℕ → Option (ℕ × List ℕ) → Type 0
-QuotedReads = Reads closed_text IsShort Any length
+QuotedReads = ParsesPrefix closed_text IsShort Any length
 
 pub quotes-start : (text : List ℕ) → InQuotes text text 0
 quotes-start text = record { left = λ bs a s e. record { bytes = bs; many = omega arith; whole = e } }
 
 closed-first : (c : ℕ) (cs a : List ℕ) → closed_text (c ∷ cs) ++ a ≡ item_text c ++ (closed_text cs ++ a)
-closed-first c cs a = ap (λ l. l ++ a) (append_assoc (item_text c) (flat_map item_text cs) (0x22 ∷ [])) ∙ append_assoc (item_text c) (closed_text cs) a
+closed-first c cs a = ap (λ l. l ++ a) (append_assoc (item_text c) (flat_map item_text cs) (0x22 ∷ []))
+    ∙ append_assoc (item_text c) (closed_text cs) a
 
-quote-here : (rest x : List ℕ) (len n : ℕ) (a bytes : List ℕ) → rest ≡ 0x22 ∷ x → len + length bytes ≡ n → rest ≡ closed_text bytes ++ a → (len ≡ n) × (x ≡ a)
+quote-here : (rest x : List ℕ) (len n : ℕ) (a bytes : List ℕ) → rest ≡ 0x22 ∷ x → len + length bytes ≡ n
+    → rest ≡ closed_text bytes ++ a → (len ≡ n) × (x ≡ a)
 quote-here rest x len n a [] q m e = (omega arith, tails (sym q ∙ e))
-quote-here rest x len n a (c ∷ cs) q m e = absurd (item-opens c (item_text c) (closed_text cs ++ a) x (item-is c) (sym (closed-first c cs a) ∙ sym e ∙ q))
+quote-here rest x len n a (c ∷ cs) q m e =
+    absurd (item-opens c (item_text c) (closed_text cs ++ a) x (item-is c) (sym (closed-first c cs a) ∙ sym e ∙ q))
 
-pub quotes-end : (text rest x : List ℕ) (len : ℕ) → rest ≡ 0x22 ∷ x → InQuotes text rest len → QuotedReads text (Some (len, x))
+pub quotes-end : (text rest x : List ℕ) (len : ℕ) → rest ≡ 0x22 ∷ x → InQuotes text rest len
+    → QuotedReads text (Some (len, x))
 quotes-end text rest x len q h = record {
   reads = λ bs a s f e.
       let k = h.left bs a s e in
@@ -188,13 +217,19 @@ quotes-end text rest x len q h = record {
       λ i. Some (r.0 i, r.1 i);
 }
 
-first-byte : (rest : List ℕ) (len n : ℕ) (a bytes : List ℕ) (o : Option (List ℕ)) → ((x : List ℕ) → rest ≢ 0x22 ∷ x) → len + length bytes ≡ n → rest ≡ closed_text bytes ++ a → Skips item_text Any rest o
+first-byte : (rest : List ℕ) (len n : ℕ) (a bytes : List ℕ) (o : Option (List ℕ)) → ((x : List ℕ) → rest ≢ 0x22 ∷ x)
+    → len + length bytes ≡ n → rest ≡ closed_text bytes ++ a → Skips item_text Any rest o
     → (new : List ℕ) × (o ≡ Some new) × QuotesLeft new (len + 1) n a
 first-byte rest len n a [] o q m e h = absurd (q a e)
-first-byte rest len n a (c ∷ cs) o q m e h =
-    (closed_text cs ++ a, h.skips c (closed_text cs ++ a) tt (e ∙ closed-first c cs a), record { bytes = cs; many = omega arith; whole = refl })
+first-byte rest len n a (c ∷ cs) o q m e h = (
+  closed_text cs ++ a,
+  h.skips c (closed_text cs ++ a) tt (e ∙ closed-first c cs a),
+  record { bytes = cs; many = omega arith; whole = refl },
+)
 
-pub quotes-more : (text rest : List ℕ) (len : ℕ) (o : Option (Bor (List ℕ))) (new : Bor (List ℕ)) → ((x : List ℕ) → rest ≢ 0x22 ∷ x) → InQuotes text rest len → Skips item_text Any rest (seen_rest o) → o ≡ Some new → InQuotes text new.now (len + 1)
+pub quotes-more : (text rest : List ℕ) (len : ℕ) (o : Option (Bor (List ℕ))) (new : Bor (List ℕ))
+    → ((x : List ℕ) → rest ≢ 0x22 ∷ x) → InQuotes text rest len → Skips item_text Any rest (seen_rest o)
+    → o ≡ Some new → InQuotes text new.now (len + 1)
 quotes-more text rest len o new q h s f = record {
   left = λ bs a g e.
       let k = h.left bs a g e in
@@ -204,7 +239,8 @@ quotes-more text rest len o new q h s f = record {
       subst (λ t. QuotesLeft t (len + 1) (length bs) a) (sym is) r.2;
 }
 
-pub quotes-cut : (text rest : List ℕ) (len : ℕ) (o : Option (Bor (List ℕ))) → ((x : List ℕ) → rest ≢ 0x22 ∷ x) → InQuotes text rest len → Skips item_text Any rest (seen_rest o) → o ≡ None → QuotedReads text None
+pub quotes-cut : (text rest : List ℕ) (len : ℕ) (o : Option (Bor (List ℕ))) → ((x : List ℕ) → rest ≢ 0x22 ∷ x)
+    → InQuotes text rest len → Skips item_text Any rest (seen_rest o) → o ≡ None → QuotedReads text None
 quotes-cut text rest len o q h s f = record {
   reads = λ bs a g w e.
       let k = h.left bs a g e in
@@ -216,18 +252,24 @@ quotes-cut text rest len o q h s f = record {
 -- ---- names
 
 abbrev pub NameReads : List ℕ → Option (ℕ × List ℕ) → Type 0
-NameReads = Reads name_text IsShort Breaks length
+NameReads = ParsesPrefix name_text IsShort Breaks length
 
-name-word : (text w rest name a t : List ℕ) → ((x : List ℕ) → text ≢ 0x22 ∷ x) → IsSplit text w rest → Breaks a → IsName name t → text ≡ t ++ a → (w ≡ name) × (rest ≡ a)
-name-word text w rest name a t q s b (bare c cs f n h g) e = split-read text w rest name a s h b (e ∙ ap (λ l. l ++ a) g)
+name-word : (text w rest name a t : List ℕ) → ((x : List ℕ) → text ≢ 0x22 ∷ x) → IsSplit text w rest → Breaks a
+    → IsName name t → text ≡ t ++ a → (w ≡ name) × (rest ≡ a)
+name-word text w rest name a t q s b (bare c cs f n h g) e =
+    split-read text w rest name a s h b (e ∙ ap (λ l. l ++ a) g)
 name-word text w rest name a t q s b (quoted g) e = absurd (q (closed_text name ++ a) (e ∙ ap (λ l. l ++ a) g))
 
-pub name-bare : (text w rest : List ℕ) → ((x : List ℕ) → text ≢ 0x22 ∷ x) → IsSplit text w rest → NameReads text (Some (length w, rest))
+pub name-bare : (text w rest : List ℕ) → ((x : List ℕ) → text ≢ 0x22 ∷ x) → IsSplit text w rest
+    → NameReads text (Some (length w, rest))
 name-bare text w rest q s = record {
-  reads = λ name a g b e. let r = name-word text w rest name a (name_text name) q s b (name-is name) e in λ i. Some (length (r.0 i), r.1 i);
+  reads = λ name a g b e. let r = name-word text w rest name a (name_text name) q s b (name-is name) e
+      in λ i. Some (length (r.0 i), r.1 i);
 }
 
-pub name-long : (text w rest : List ℕ) → ((x : List ℕ) → text ≢ 0x22 ∷ x) → IsSplit text w rest → 1073741824 < length w → NameReads text None
+pub name-long : (text w rest : List ℕ) → ((x : List ℕ) → text ≢ 0x22 ∷ x) → IsSplit text w rest
+    → 1073741824 < length w → NameReads text None
 name-long text w rest q s l = record {
-  reads = λ name a g b e. let r = name-word text w rest name a (name_text name) q s b (name-is name) e in absurd (omega (arith, ap length r.0));
+  reads = λ name a g b e. let r = name-word text w rest name a (name_text name) q s b (name-is name) e
+      in absurd (omega (arith, ap length r.0));
 }

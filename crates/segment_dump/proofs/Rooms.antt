@@ -39,7 +39,8 @@ unfolding total
 total-append [] ys = omega arith
 total-append (x ∷ xs) ys = omega (arith, total-append xs ys)
 
-insert-if : (b : Bool) (x y : Extent) (ys zs : List Extent) → total zs ≡ x.len + total ys → total (if b then x ∷ y ∷ ys else y ∷ zs) ≡ x.len + total (y ∷ ys)
+insert-if : (b : Bool) (x y : Extent) (ys zs : List Extent) → total zs ≡ x.len + total ys
+    → total (if b then x ∷ y ∷ ys else y ∷ zs) ≡ x.len + total (y ∷ ys)
 unfolding total
 insert-if true x y ys zs e = refl
 insert-if false x y ys zs e = omega arith

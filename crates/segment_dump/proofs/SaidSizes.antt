@@ -16,9 +16,11 @@ fronted : (text : List ℕ) (n : ℕ) (items : Items) → without_notes text ≡
     → text ≡ front_text n (length items.named) (length items.unique) ++ (objects_of items ++ (notes-are-cut text).notes)
 fronted text n items e =
     let cut = notes-are-cut text in
-    cut.whole ∙ ap (λ l. l ++ cut.notes) e ∙ append_assoc (front_text n (length items.named) (length items.unique)) (objects_of items) cut.notes
+    cut.whole ∙ ap (λ l. l ++ cut.notes) e
+    ∙ append_assoc (front_text n (length items.named) (length items.unique)) (objects_of items) cut.notes
 
-pub no-lead : (text : List ℕ) (o : Option ℕ) → ((rest : List ℕ) → text ≢ before_size ++ rest) → SaysSize (without_notes text) o
+pub no-lead : (text : List ℕ) (o : Option ℕ) → ((rest : List ℕ) → text ≢ before_size ++ rest)
+    → SaysSize (without_notes text) o
 no-lead text o h = record {
   says = λ n items l e.
       let behind = objects_of items ++ (notes-are-cut text).notes in
@@ -26,12 +28,21 @@ no-lead text o h = record {
 }
 
 module _ (text x : List ℕ) (lead : text ≡ before_size ++ x) where
-  read : (o : Option (ℕ × List ℕ)) → NumberReads x o → (n : ℕ) (items : Items) → n < 2 ^ 64 → without_notes text ≡ dump_text n items
-      → o ≡ Some (n, before_entries ++ (entries_text (length items.named, length items.unique) ++ (objects_of items ++ (notes-are-cut text).notes)))
-  read o h n items l e = number-said text x o n (length items.named) (length items.unique) (objects_of items ++ (notes-are-cut text).notes) lead h l (fronted text n items e)
+  read : (o : Option (ℕ × List ℕ)) → NumberReads x o → (n : ℕ) (items : Items) → n < 2 ^ 64
+      → without_notes text ≡ dump_text n items
+      → o ≡ Some (
+        n,
+        before_entries ++ (entries_text (length items.named, length items.unique)
+            ++ (objects_of items ++ (notes-are-cut text).notes)),
+      )
+  read o h n items l e = number-said text x o n (length items.named) (length items.unique) (objects_of items
+      ++ (notes-are-cut text).notes) lead h l (fronted text n items e)
 
   pub no-number : (o : Option ℕ) → NumberReads x None → SaysSize (without_notes text) o
   no-number o h = record { says = λ n items l e. absurd (none-some _ (read None h n items l e)) }
 
   pub said : (size : ℕ) (rest : List ℕ) → NumberReads x (Some (size, rest)) → SaysSize (without_notes text) (Some size)
-  said size rest h = record { says = λ n items l e. ap Some (some-pair size n rest _ (read (Some (size, rest)) h n items l e)).0 }
+  said size rest h = record {
+    says = λ n items l e.
+        ap Some (some-pair size n rest _ (read (Some (size, rest)) h n items l e)).0;
+  }

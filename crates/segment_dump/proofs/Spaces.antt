@@ -4,7 +4,8 @@ use Rattle.segment_dump.proofs.Common.{nat_lt, List, [], ◌∷◌, ◌++◌, Op
 use Rattle.segment_dump.proofs.Common.{◌∙◌, arith, IsTrue, filter, option_map, and_parts, ltb-true, ne_eqb, nat_tests}
 use Rattle.segment_dump.proofs.Common.{Role, is_legal_size, Extent, Gap, end_of, gap_between, is_block, is_hole}
 use Rattle.segment_dump.proofs.Common.{is_proper, proper_from, place, room, Directory, live, all-sorted, live-extents}
-use Rattle.segment_dump.proofs.Common.{live-size, EndBy, HasRoom, all_extents, total, block_room, all_needs, last_end}
+use Rattle.segment_dump.proofs.Common.{live-size, EndBy, HasExactRoom, all_extents, total, block_room, all_needs}
+use Rattle.segment_dump.proofs.Common.{last_end}
 use Rattle.segment_dump.proofs.Common.{Needs}
 use Rattle.best_fit.specs.Extents.{LiveSet, gaps, gaps_from}
 use Rattle.best_fit.specs.Fit.{fit, least, share}
@@ -29,14 +30,16 @@ last-most from e [] a l = l
 last-most from e (x ∷ xs) a l = last-most (end_of x) e xs a.1 a.0
 
 -- they have no more bytes than there are up to there
-ended-total : (from : ℕ) (xs : List Extent) (to e : ℕ) → proper_from from xs to ≡ true → EndBy e xs → from ≤ e → from + total xs ≤ e
+ended-total : (from : ℕ) (xs : List Extent) (to e : ℕ) → proper_from from xs to ≡ true → EndBy e xs → from ≤ e
+    → from + total xs ≤ e
 ended-total from xs to e p a l = omega (arith, last-long from xs to p, last-most from e xs a l)
 
 gap-none : (a b : ℕ) → a ≡ b → gap_between a b ≡ []
 gap-none a b e = grind (arith, nat_tests)
 
 -- where they have as many, nothing is left between them
-filled-gaps : (from : ℕ) (xs : List Extent) (to e : ℕ) → proper_from from xs to ≡ true → EndBy e xs → from ≤ e → e ≤ from + total xs → gaps_from from xs to ≡ gap_between e to
+filled-gaps : (from : ℕ) (xs : List Extent) (to e : ℕ) → proper_from from xs to ≡ true → EndBy e xs → from ≤ e
+    → e ≤ from + total xs → gaps_from from xs to ≡ gap_between e to
 unfolding total
 filled-gaps from [] to e p a l h = let same : from ≡ e = omega arith in ap (λ n. gap_between n to) same
 filled-gaps from (x ∷ xs) to e p a l h =
@@ -45,30 +48,35 @@ filled-gaps from (x ∷ xs) to e p a l h =
     let rises = hole-rises from x.offset r.0 in
     let fits = ended-total (end_of x) xs to e q.1 a.1 a.0 in
     let same : from ≡ x.offset = omega (arith, fits, rises) in
-    ap (λ l. l ++ gaps_from (end_of x) xs to) (gap-none from x.offset same) ∙ filled-gaps (end_of x) xs to e q.1 a.1 a.0 (omega (arith, same))
+    ap (λ l. l ++ gaps_from (end_of x) xs to) (gap-none from x.offset same)
+    ∙ filled-gaps (end_of x) xs to e q.1 a.1 a.0 (omega (arith, same))
 
 -- ---- what is taken of the gap
 
-share-if : (b : Bool) (available wanted rest : ℕ) → nat_lt available (wanted + 32) ≡ b → wanted + rest ≤ available → IsRest rest → (if b then available else wanted) + rest ≤ available
+share-if : (b : Bool) (available wanted rest : ℕ) → nat_lt available (wanted + 32) ≡ b → wanted + rest ≤ available
+    → IsRest rest → (if b then available else wanted) + rest ≤ available
 share-if true available wanted rest e h (inl z) = omega (arith, z)
 share-if true available wanted rest e h (inr l) = absurd (omega (arith, ltb-true available (wanted + 32) e, l))
 share-if false available wanted rest e h r = h
 
-share-fits : (available wanted rest : ℕ) → wanted + rest ≤ available → IsRest rest → share available wanted + rest ≤ available
+share-fits : (available wanted rest : ℕ) → wanted + rest ≤ available → IsRest rest
+    → share available wanted + rest ≤ available
 share-fits available wanted rest h r = share-if (nat_lt available (wanted + 32)) available wanted rest refl h r
 
 share-least : (available wanted : ℕ) → wanted ≤ available → wanted ≤ share available wanted
 share-least available wanted h = grind (arith, nat_tests)
 
 one-fit : (g : Gap) (n : ℕ) → room n ≤ g.len → least (filter (λ (g : Gap). nat_le (room n) g.len) (g ∷ [])) ≡ Some g
-one-fit g n h = let e : nat_le (room n) g.len ≡ true = grind (arith, nat_tests) in ap (λ b. least (if b then g ∷ [] else [])) e
+one-fit g n h = let e : nat_le (room n) g.len ≡ true = grind (arith, nat_tests)
+    in ap (λ b. least (if b then g ∷ [] else [])) e
 
 -- the gap behind all blocks
 abbrev last_gap : ℕ → ℕ → Gap
 last_gap e to = record { offset = e; len = to - e }
 
 gap-some : (e to : ℕ) → e < to → gap_between e to ≡ last_gap e to ∷ []
-gap-some e to h = let t : nat_lt e to ≡ true = grind (arith, nat_tests) in ap (λ b. if b then last_gap e to ∷ [] else []) t
+gap-some e to h = let t : nat_lt e to ≡ true = grind (arith, nat_tests)
+    in ap (λ b. if b then last_gap e to ∷ [] else []) t
 
 -- the front of it is taken, and there is still room for the rest
 pub record IsTaken (o : Option Extent) (e rest size : ℕ) : Type 0 where
@@ -77,29 +85,34 @@ pub record IsTaken (o : Option Extent) (e rest size : ℕ) : Type 0 where
   pub front : extent.offset ≡ e
   pub fits : end_of extent + 16 + rest ≤ size
 
-place-front : (l : LiveSet) (n : ℕ) (role : Role) (e rest : ℕ) → gaps l ≡ gap_between e (l.size - 16) → e + 16 + (room n + rest) ≤ l.size → IsRest rest → 0 < room n → IsTaken (place l n role) e rest l.size
+place-front : (l : LiveSet) (n : ℕ) (role : Role) (e rest : ℕ) → gaps l ≡ gap_between e (l.size - 16)
+    → e + 16 + (room n + rest) ≤ l.size → IsRest rest → 0 < room n → IsTaken (place l n role) e rest l.size
 unfolding place fit gaps
 place-front l n role e rest g h r p =
     let to = l.size - 16 in
     let one : gaps l ≡ last_gap e to ∷ [] = g ∙ gap-some e to (omega arith) in
-    let found : fit l n ≡ Some (last_gap e to) = ap (λ gs. least (filter (λ (g : Gap). nat_le (room n) g.len) gs)) one ∙ one-fit (last_gap e to) n (omega arith) in
+    let found : fit l n ≡ Some (last_gap e to) =
+    ap (λ gs. least (filter (λ (g : Gap). nat_le (room n) g.len) gs)) one ∙ one-fit (last_gap e to) n (omega arith) in
     let len = share (to - e) (room n) in
     let fits : len + rest ≤ to - e = share-fits (to - e) (room n) rest (omega arith) r in
     record {
       extent = record { offset = e; len = len; role = role };
-      is = ap (λ o. option_map (λ (g : Gap). record { offset = g.offset; len = share g.len (room n); role = role }) o) found;
+      is = ap (λ o. option_map (λ (g : Gap). record { offset = g.offset; len = share g.len (room n); role = role })
+          o) found;
       front = refl;
       fits = omega (arith, fits);
     }
 
 -- ---- a directory
 
-proper-tiles : (d : Directory) → IsTrue (is_proper (live d)) → proper_from 128 (live d).extents ((live d).size - 16) ≡ true
+proper-tiles : (d : Directory) → IsTrue (is_proper (live d))
+    → proper_from 128 (live d).extents ((live d).size - 16) ≡ true
 unfolding is_proper
 proper-tiles d h = (and_parts (is_legal_size (live d).size) (proper_from 128 (live d).extents ((live d).size - 16)) h).1
 
 -- its one gap
-pub room-gaps : (d : Directory) (rest : ℕ) → IsTrue (is_proper (live d)) → (h : HasRoom (all_extents d) d.size rest) → gaps (live d) ≡ gap_between h.end ((live d).size - 16)
+pub room-gaps : (d : Directory) (rest : ℕ) → IsTrue (is_proper (live d))
+    → (h : HasExactRoom (all_extents d) d.size rest) → gaps (live d) ≡ gap_between h.end ((live d).size - 16)
 unfolding gaps
 room-gaps d rest p h =
     filled-gaps 128 (live d).extents ((live d).size - 16) h.end (proper-tiles d p)
@@ -110,10 +123,13 @@ room-long : (n : ℕ) → 0 < room n
 room-long n = omega arith
 
 -- a request is met in front of it
-pub room-taken : (d : Directory) (n : ℕ) (role : Role) (rest : ℕ) → IsTrue (is_proper (live d)) → (h : HasRoom (all_extents d) d.size (room n + rest)) → IsRest rest → IsTaken (place (live d) n role) h.end rest d.size
+pub room-taken : (d : Directory) (n : ℕ) (role : Role) (rest : ℕ) → IsTrue (is_proper (live d))
+    → (h : HasExactRoom (all_extents d) d.size (room n + rest)) → IsRest rest
+    → IsTaken (place (live d) n role) h.end rest d.size
 room-taken d n role rest p h r =
     let gap = room-gaps d (room n + rest) p h in
-    subst (IsTaken (place (live d) n role) h.end rest) (live-size d) (place-front (live d) n role h.end rest gap (omega (arith, h.room, live-size d)) r (room-long n))
+    subst (IsTaken (place (live d) n role) h.end rest) (live-size d)
+    (place-front (live d) n role h.end rest gap (omega (arith, h.room, live-size d)) r (room-long n))
 
 -- ---- one block more
 
@@ -127,7 +143,8 @@ total-between [] ys x = refl
 total-between (y ∷ xs) ys x = omega (arith, total-between xs ys x)
 
 -- the front of the gap is a block now
-pub room-with : (xs ys : List Extent) (x : Extent) (size more rest : ℕ) → (h : HasRoom (xs ++ ys) size more) → x.offset ≡ h.end → end_of x + 16 + rest ≤ size → HasRoom (xs ++ x ∷ ys) size rest
+pub room-with : (xs ys : List Extent) (x : Extent) (size more rest : ℕ) → (h : HasExactRoom (xs ++ ys) size more)
+    → x.offset ≡ h.end → end_of x + 16 + rest ≤ size → HasExactRoom (xs ++ x ∷ ys) size rest
 room-with xs ys x size more rest h e f = record {
   end = end_of x;
   start = omega (arith, h.start, e);
@@ -138,8 +155,10 @@ room-with xs ys x size more rest h e f = record {
 }
 
 -- less is to come
-pub room-less : (xs : List Extent) (size more rest : ℕ) → rest ≤ more → HasRoom xs size more → HasRoom xs size rest
-room-less xs size more rest l h = record { end = h.end; start = h.start; below = h.below; full = h.full; room = omega (arith, h.room, l) }
+pub room-less : (xs : List Extent) (size more rest : ℕ) → rest ≤ more → HasExactRoom xs size more
+    → HasExactRoom xs size rest
+room-less xs size more rest l h =
+    record { end = h.end; start = h.start; below = h.below; full = h.full; room = omega (arith, h.room, l) }
 
 -- ---- what blocks need
 

@@ -1,10 +1,14 @@
 -- A string is filled, piece by piece.
 use Rattle.segment_dump.proofs.Common.{◌≡◌, ℕ, suc, ◌+◌, ◌-◌, ◌*◌, ◌/◌, ◌^◌, ◌<◌, ◌≤◌, List, [], ◌∷◌, ◌++◌, length}
-use Rattle.segment_dump.proofs.Common.{Result, Ok, Err, refl, sym, ap, subst, ◌∙◌, arith, Table, no_table, Refusal}
-use Rattle.segment_dump.proofs.Common.{ByHandle, Done, Bytes, Value, bare, IsStep, IsStepOfKind, State, done_answer}
-use Rattle.segment_dump.proofs.Common.{step, FillsNew, IsBegun, IsFillable, PiecesLeft, ReadsLength, ReadsPiece}
-use Rattle.segment_dump.proofs.Common.{content_need, first_content, Head, IsBuilt, IsFilling, AreBytes, Fill}
-use Rattle.segment_dump.proofs.Common.{IsBuildableContent, StandsFilling, head_of, Content, String, count_of_content}
+use Rattle.segment_dump.proofs.Common.{Result, Ok, Err, refl, sym, ap, subst, ◌∙◌, arith, BackingArray, no_backing}
+use Rattle.segment_dump.proofs.Common.{Refusal}
+use Rattle.segment_dump.proofs.Common.{ByHandle, Done, Bytes, Value, bare, TakesStep, TakesStepOfKind, SegmentState}
+use Rattle.segment_dump.proofs.Common.{done_answer}
+use Rattle.segment_dump.proofs.Common.{step, FillsNew, IsEmptyObject, IsFillable, PiecesLeft, ReadsLength, ReadsPiece}
+use Rattle.segment_dump.proofs.Common.{content_need, first_content, Head, HasBuiltItems, IsFilling, IsByteList}
+use Rattle.segment_dump.proofs.Common.{FillState}
+use Rattle.segment_dump.proofs.Common.{IsBuildableContent, StandsFilling, head_of, ValueContent, String}
+use Rattle.segment_dump.proofs.Common.{count_of_content}
 use Rattle.segment_dump.proofs.Common.{kind_of_content, ReadsLine, block_room, content_text, piece_of, pieces_in}
 use Rattle.segment_dump.proofs.Common.{text_lines}
 use Rattle.segment_dump.specs.Builders.{AppendsPiece}
@@ -21,89 +25,115 @@ use Rattle.seg_types.specs.Commands as asked
 
 -- ---- one piece
 
-pub piece-unappended : {E F : Type 0} (old new : State) (h : ℕ) (words : List ℕ) (e : E) (result : Result (Unit {0}) F) → ReadsPiece words (Err e) → AppendsPiece old new h words result
-piece-unappended old new h words e result r = record { appends = λ site done class name front t rest i bs s a w l. absurd (never-ok e bs (r.reads i bs a w)) }
+pub piece-unappended : {E F : Type 0} (old new : SegmentState) (h : ℕ) (words : List ℕ) (e : E)
+    (result : Result (Unit {0}) F) → ReadsPiece words (Err e) → AppendsPiece old new h words result
+piece-unappended old new h words e result r =
+    record { appends = λ site done class name front t rest i bs s a w l. absurd (never-ok e bs (r.reads i bs a w)) }
 
-pub piece-appended : {E F : Type 0} (old new : State) (h : ℕ) (words p bytes : List ℕ) (called : Result (Unit {0}) Refusal) (result : Result (Unit {0}) F) → ReadsPiece {E = E} words (Ok p) → bytes ≡ p
-    → IsStepOfKind old new (ByHandle h) kinds.String (asked.Append (ByHandle h) bytes) (done_answer called) → (called ≡ Ok tt → result ≡ Ok tt) → AppendsPiece old new h words result
+pub piece-appended : {E F : Type 0} (old new : SegmentState) (h : ℕ) (words p bytes : List ℕ)
+    (called : Result (Unit {0}) Refusal) (result : Result (Unit {0}) F) → ReadsPiece {E = E} words (Ok p) → bytes ≡ p
+    → TakesStepOfKind old new (ByHandle h) kinds.String (asked.Append (ByHandle h) bytes) (done_answer called)
+    → (called ≡ Ok tt → result ≡ Ok tt) → AppendsPiece old new h words result
 piece-appended {E} {F} old new h words p bytes called result r e step ok = record {
   appends = λ site done class name front t rest i bs s a w l.
       let head : Head = record { class = class; name = name; handle = h } in
       let is : bytes ≡ bs = e ∙ ok-same {E = E} p bs (r.reads i bs a w) in
-      let step' : IsStepOfKind old new (ByHandle h) kinds.String (asked.Append (ByHandle h) bs) (done_answer called) = subst (λ b. IsStepOfKind old new (ByHandle h) kinds.String (asked.Append (ByHandle h) b) (done_answer called)) is step in
+      let step' : TakesStepOfKind old new (ByHandle h) kinds.String (asked.Append (ByHandle h) bs)
+      (done_answer called) = subst (λ b.
+      TakesStepOfKind old new (ByHandle h) kinds.String (asked.Append (ByHandle h) b) (done_answer called)) is step in
       let done' = appended s.directory site done head front t rest bs s.stands.denotes.directory s.filling l in
-      let u = led-of_kind s.stands s.mode _ _ _ step' done' in
-      (ok (was-done called u.given_is), record { directory = u.directory; stands = u.stands; mode = u.mode; filling = u.holds });
+      let u = led-of_kind s.stands s.mode _ _ _ step' done' in (
+        ok (was-done called u.given_is),
+        record { directory = u.directory; stands = u.stands; mode = u.mode; filling = u.holds },
+      );
 }
 
 -- ---- all of them
 
 -- so many pieces are there
-pub record StringAt (s : State) (text : List ℕ) (p : Fill) (h n : ℕ) (bs : List ℕ) : Type 0 where
-  pub table : Table
+pub record StringAt (s : SegmentState) (text : List ℕ) (p : FillState) (h n : ℕ) (bs : List ℕ) : Type 0 where
+  pub table : BackingArray
   pub places : length bs ≤ table.capacity
   pub stands : StandsFilling s p.site p.done (head_of p h) (Bytes (front_bytes bs n) table) p.more
   pub left : PiecesLeft bs p.after n text
   pub inside : n ≤ pieces_in (length bs)
 
-pub record InString (old now : State) (h : ℕ) (text rest : List ℕ) (room len counter : ℕ) : Type 0 where
-  pub at : (p : Fill) → IsFillable p kinds.String room → IsBegun old text p h → (bs : List ℕ) × (p.content ≡ String bs) × (len ≡ length bs) × AreBytes bs × StringAt now rest p h (suc counter) bs
+pub record InString (old now : SegmentState) (h : ℕ) (text rest : List ℕ) (room len counter : ℕ) : Type 0 where
+  pub at : (p : FillState) → IsFillable p kinds.String room → IsEmptyObject old text p h
+      → (bs : List ℕ) × (p.content ≡ String bs) × (len ≡ length bs) × IsByteList bs
+      × StringAt now rest p h (suc counter) bs
 
 no-front : (bs : List ℕ) → front_bytes bs 0 ≡ []
 no-front bs = refl
 
-table-string : (bs : List ℕ) (w : Value) → HasTable (Bytes [] no_table) (length bs) w → (t : Table) × (w ≡ Bytes [] t) × (length bs ≤ t.capacity)
-table-string bs w (none e) = (no_table, refl, omega (arith, e))
+table-string : (bs : List ℕ) (w : Value) → HasTable (Bytes [] no_backing) (length bs) w
+    → (t : BackingArray) × (w ≡ Bytes [] t) × (length bs ≤ t.capacity)
+table-string bs w (none e) = (no_backing, refl, omega (arith, e))
 table-string bs w (some x) = (table_of (length bs) x, refl, omega arith)
 
 -- the bytes of a begun string, and its lines
-record Begun (old : State) (text : List ℕ) (p : Fill) (h : ℕ) : Type 0 where
+record Begun (old : SegmentState) (text : List ℕ) (p : FillState) (h : ℕ) : Type 0 where
   bytes : List ℕ
   is : p.content ≡ String bytes
   counted : length bytes < 2 ^ 64
-  good : AreBytes bytes
-  stands : StandsFilling old p.site p.done (head_of p h) (Bytes [] no_table) (block_room (1 * length bytes) + p.more)
+  good : IsByteList bytes
+  stands : StandsFilling old p.site p.done (head_of p h) (Bytes [] no_backing) (block_room (1 * length bytes) + p.more)
   lines : text ≡ text_lines bytes ++ p.after
 
-begun : (old : State) (text : List ℕ) (p : Fill) (h room : ℕ) → IsFillable p kinds.String room → IsBegun old text p h → Begun old text p h
+begun : (old : SegmentState) (text : List ℕ) (p : FillState) (h room : ℕ) → IsFillable p kinds.String room
+    → IsEmptyObject old text p h → Begun old text p h
 begun old text p h room f b =
     let q = string-of p.content f.kind_is in
     let good = subst IsBuildableContent q.1 f.good in
-    let s = subst (λ (c : Content). StandsFilling old p.site p.done (head_of p h) (bare (first_content (kind_of_content c) (count_of_content c))) (content_need c + p.more)) q.1 b.stands in
+    let s = subst (λ (c : ValueContent).
+    StandsFilling old p.site p.done (head_of p h) (bare (first_content (kind_of_content c) (count_of_content c)))
+    (content_need c + p.more)) q.1 b.stands in
     let one : 1 * length q.0 ≡ length q.0 = omega arith in
-    let needs : content_need (String q.0) + p.more ≡ block_room (1 * length q.0) + p.more = omega (arith, ap block_room one) in
+    let needs : content_need (String q.0) + p.more ≡ block_room (1 * length q.0) + p.more =
+    omega (arith, ap block_room one) in
     record {
       bytes = q.0;
       is = q.1;
       counted = good.0;
       good = good.1;
-      stands = record { directory = s.directory; stands = s.stands; mode = s.mode; filling = subst (IsFilling s.directory p.site p.done (head_of p h) (Bytes [] no_table)) needs s.filling };
-      lines = b.text_is ∙ ap (λ (c : Content). content_text c ++ p.after) q.1;
+      stands = record {
+        directory = s.directory;
+        stands = s.stands;
+        mode = s.mode;
+        filling = subst (IsFilling s.directory p.site p.done (head_of p h) (Bytes [] no_backing)) needs s.filling;
+      };
+      lines = b.text_is ∙ ap (λ (c : ValueContent). content_text c ++ p.after) q.1;
     }
 
-module _ (old mid : State) (h room : ℕ) (text rest words : List ℕ) (len : ℕ) (called : Result (Unit {0}) Refusal) (moved : IsStep old mid (asked.Reserve (ByHandle h) len) (done_answer called)) where
+module _ (old mid : SegmentState) (h room : ℕ) (text rest words : List ℕ) (len : ℕ)
+    (called : Result (Unit {0}) Refusal)
+    (moved : TakesStep old mid (asked.Reserve (ByHandle h) len) (done_answer called)) where
   -- the places are there
-  record Placed (p : Fill) : Type 0 where
+  record Placed (p : FillState) : Type 0 where
     bytes : List ℕ
     is : p.content ≡ String bytes
     many : len ≡ length bytes
-    good : AreBytes bytes
+    good : IsByteList bytes
     was : done_answer called ≡ Done
-    table : Table
+    table : BackingArray
     places : length bytes ≤ table.capacity
     stands : StandsFilling mid p.site p.done (head_of p h) (Bytes [] table) p.more
     words_are : words ≡ piece_front bytes 0
     left : PiecesLeft bytes p.after 1 rest
 
-  placed : {E : Type 0} → ReadsLength {E = E} text rest (Ok (words, len)) → (p : Fill) → IsFillable p kinds.String room → IsBegun old text p h → Placed p
+  placed : {E : Type 0} → ReadsLength {E = E} text rest (Ok (words, len)) → (p : FillState)
+      → IsFillable p kinds.String room → IsEmptyObject old text p h → Placed p
   placed {E} r p f b =
       let g = begun old text p h room f b in
       let bs = g.bytes in
       let q = r.reads bs p.after g.counted g.lines in
-      let both : ◌≡◌ {A = List ℕ × ℕ} (words, len) (piece_front bs 0, length bs) = ok-same {E = E} (words, len) (piece_front bs 0, length bs) q.0 in
+      let both : ◌≡◌ {A = List ℕ × ℕ} (words, len) (piece_front bs 0, length bs) =
+      ok-same {E = E} (words, len) (piece_front bs 0, length bs) q.0 in
       let many : len ≡ length bs = ap (λ (b : List ℕ × ℕ). b.1) both in
-      let moved' : IsStep old mid (asked.Reserve (ByHandle h) (length bs)) (done_answer called) = subst (λ n. IsStep old mid (asked.Reserve (ByHandle h) n) (done_answer called)) many moved in
-      let done' = reserved g.stands.directory p.site p.done (head_of p h) (Bytes [] no_table) 1 (length bs) p.more g.stands.stands.denotes.directory string-stored (omega arith) g.stands.filling f.rest in
+      let moved' : TakesStep old mid (asked.Reserve (ByHandle h) (length bs)) (done_answer called) =
+      subst (λ n. TakesStep old mid (asked.Reserve (ByHandle h) n) (done_answer called)) many moved in
+      let done' = reserved g.stands.directory p.site p.done (head_of p h) (Bytes [] no_backing) 1 (length bs) p.more
+      g.stands.stands.denotes.directory string-stored (omega arith) g.stands.filling f.rest in
       let u = led g.stands.stands g.stands.mode _ moved' done' in
       let t = table-string bs u.holds.value u.holds.table in
       record {
@@ -114,20 +144,32 @@ module _ (old mid : State) (h room : ℕ) (text rest words : List ℕ) (len : �
         was = u.given_is;
         table = t.0;
         places = t.2;
-        stands = record { directory = u.directory; stands = u.stands; mode = u.mode; filling = subst (λ w. IsFilling u.directory p.site p.done (head_of p h) w p.more) t.1 u.holds.filling };
+        stands = record {
+          directory = u.directory;
+          stands = u.stands;
+          mode = u.mode;
+          filling = subst (λ w. IsFilling u.directory p.site p.done (head_of p h) w p.more) t.1 u.holds.filling;
+        };
         words_are = ap (λ (b : List ℕ × ℕ). b.0) both;
         left = q.1;
       }
 
-  pub string-refused : {E F : Type 0} (new : State) (rest' : List ℕ) (why : Refusal) (result : Result (Unit {0}) F) → ReadsLength {E = E} text rest (Ok (words, len)) → called ≡ Err why → FillsNew old new h kinds.String 1 text rest' room result
-  string-refused new rest' why result r e = record { fills = λ p f c b. let ok : called ≡ Ok tt = was-done called (placed r p f b).was in absurd (cc) }
+  pub string-refused : {E F : Type 0} (new : SegmentState) (rest' : List ℕ) (why : Refusal)
+      (result : Result (Unit {0}) F) → ReadsLength {E = E} text rest (Ok (words, len)) → called ≡ Err why
+      → FillsNew old new h kinds.String 1 text rest' room result
+  string-refused new rest' why result r e =
+      record { fills = λ p f c b. let ok : called ≡ Ok tt = was-done called (placed r p f b).was in absurd (cc) }
 
-  first-appended : {E F : Type 0} (new : State) (r' : Result (Unit {0}) F) → ReadsLength {E = E} text rest (Ok (words, len)) → AppendsPiece mid new h words r' → (p : Fill) (f : IsFillable p kinds.String room) (b : IsBegun old text p h)
-      → (r' ≡ Ok tt) × ((bs : List ℕ) × (p.content ≡ String bs) × (len ≡ length bs) × AreBytes bs × StringAt new rest p h 1 bs)
+  first-appended : {E F : Type 0} (new : SegmentState) (r' : Result (Unit {0}) F)
+      → ReadsLength {E = E} text rest (Ok (words, len)) → AppendsPiece mid new h words r'
+      → (p : FillState) (f : IsFillable p kinds.String room) (b : IsEmptyObject old text p h)
+      → (r' ≡ Ok tt) × ((bs : List ℕ) × (p.content ≡ String bs) × (len ≡ length bs) × IsByteList bs
+      × StringAt new rest p h 1 bs)
   first-appended {E} {F} new r' r a p f b =
       let g = placed r p f b in
       let bs = g.bytes in
-      let one = a.appends p.site p.done p.class p.name [] g.table p.more 0 (piece_of bs 0) g.stands (piece-bytes bs 0 g.good) g.words_are (omega (arith, first-fits bs, g.places)) in
+      let one = a.appends p.site p.done p.class p.name [] g.table p.more 0 (piece_of bs 0) g.stands
+      (piece-bytes bs 0 g.good) g.words_are (omega (arith, first-fits bs, g.places)) in
       let front : piece_of bs 0 ≡ front_bytes bs 1 = sym (front-more bs 0) in (
         one.0,
         (
@@ -138,34 +180,63 @@ module _ (old mid : State) (h room : ℕ) (text rest words : List ℕ) (len : �
           record {
             table = g.table;
             places = g.places;
-            stands = record { directory = one.1.directory; stands = one.1.stands; mode = one.1.mode; filling = subst (λ w. IsFilling one.1.directory p.site p.done (head_of p h) (Bytes w g.table) p.more) front one.1.filling };
+            stands = record {
+              directory = one.1.directory;
+              stands = one.1.stands;
+              mode = one.1.mode;
+              filling = subst (λ w. IsFilling one.1.directory p.site p.done (head_of p h) (Bytes w g.table) p.more)
+                  front one.1.filling;
+            };
             left = g.left;
             inside = omega arith;
           },
         ),
       )
 
-  pub string-no_piece : {E F : Type 0} (new : State) (rest' : List ℕ) (e : F) (result : Result (Unit {0}) F) → ReadsLength {E = E} text rest (Ok (words, len)) → AppendsPiece mid new h words (Err e) → FillsNew old new h kinds.String 1 text rest' room result
-  string-no_piece {E} {F} new rest' e result r a = record { fills = λ p f c b. absurd (never-ok {X = Unit {0}} {E = F} e tt (first-appended {E = E} {F = F} new (Err e) r a p f b).0) }
+  pub string-no_piece : {E F : Type 0} (new : SegmentState) (rest' : List ℕ) (e : F) (result : Result (Unit {0}) F)
+      → ReadsLength {E = E} text rest (Ok (words, len)) → AppendsPiece mid new h words (Err e)
+      → FillsNew old new h kinds.String 1 text rest' room result
+  string-no_piece {E} {F} new rest' e result r a =
+      record {
+        fills = λ p f c b. absurd
+            (never-ok {X = Unit {0}} {E = F} e tt (first-appended {E = E} {F = F} new (Err e) r a p f b).0);
+      }
 
-  pub string-start : {E F : Type 0} (new : State) (u : Unit {0}) → ReadsLength {E = E} text rest (Ok (words, len)) → AppendsPiece {E = F} mid new h words (Ok u) → InString old new h text rest room len 0
+  pub string-start : {E F : Type 0} (new : SegmentState) (u : Unit {0})
+      → ReadsLength {E = E} text rest (Ok (words, len)) → AppendsPiece {E = F} mid new h words (Ok u)
+      → InString old new h text rest room len 0
   string-start {E} {F} new u r a = record { at = λ p f b. (first-appended {E = E} {F = F} new (Ok u) r a p f b).1 }
 
-pub string-no_first : {E F : Type 0} (old new : State) (h room : ℕ) (text rest rest' : List ℕ) (e : E) (result : Result (Unit {0}) F) → ReadsLength text rest (Err e) → FillsNew old new h kinds.String 1 text rest' room result
+pub string-no_first : {E F : Type 0} (old new : SegmentState) (h room : ℕ) (text rest rest' : List ℕ) (e : E)
+    (result : Result (Unit {0}) F) → ReadsLength text rest (Err e)
+    → FillsNew old new h kinds.String 1 text rest' room result
 string-no_first old new h room text rest rest' e result r = record {
-  fills = λ p f c b. let g = begun old text p h room f b in absurd (never-ok e (piece_front g.bytes 0, length g.bytes) (r.reads g.bytes p.after g.counted g.lines).0);
+  fills = λ p f c b. let g = begun old text p h room f b
+      in absurd (never-ok e (piece_front g.bytes 0, length g.bytes) (r.reads g.bytes p.after g.counted g.lines).0);
 }
 
 -- one piece more
-module _ (old now : State) (h room : ℕ) (text rest : List ℕ) (len counter : ℕ) (i : InString old now h text rest room len counter) (l : counter < (len - 1) / 1000) where
-  line-there : {E : Type 0} (rest' : List ℕ) (r : Result (List ℕ) E) → ReadsLine rest rest' r → (p : Fill) (f : IsFillable p kinds.String room) (b : IsBegun old text p h)
-      → (r ≡ Ok (piece_front (i.at p f b).0 (suc counter))) × PiecesLeft (i.at p f b).0 p.after (suc (suc counter)) rest'
-  line-there rest' r k p f b = let q = i.at p f b in piece-line q.0 p.after (suc counter) rest rest' r (omega (arith, l, q.2)) q.4.left k
+module _ (old now : SegmentState) (h room : ℕ) (text rest : List ℕ) (len counter : ℕ)
+    (i : InString old now h text rest room len counter) (l : counter < (len - 1) / 1000) where
+  line-there : {E : Type 0} (rest' : List ℕ) (r : Result (List ℕ) E) → ReadsLine rest rest' r
+      → (p : FillState) (f : IsFillable p kinds.String room) (b : IsEmptyObject old text p h)
+      → (r ≡ Ok (piece_front (i.at p f b).0 (suc counter)))
+      × PiecesLeft (i.at p f b).0 p.after (suc (suc counter)) rest'
+  line-there rest' r k p f b = let q = i.at p f b
+      in piece-line q.0 p.after (suc counter) rest rest' r (omega (arith, l, q.2)) q.4.left k
 
-  pub string-no_line : {E F : Type 0} (new : State) (rest' final : List ℕ) (e : E) (result : Result (Unit {0}) F) → ReadsLine rest rest' (Err e) → FillsNew old new h kinds.String 1 text final room result
-  string-no_line new rest' final e result k = record { fills = λ p f c b. absurd (never-ok e (piece_front (i.at p f b).0 (suc counter)) (line-there rest' (Err e) k p f b).0) }
+  pub string-no_line : {E F : Type 0} (new : SegmentState) (rest' final : List ℕ) (e : E)
+      (result : Result (Unit {0}) F) → ReadsLine rest rest' (Err e)
+      → FillsNew old new h kinds.String 1 text final room result
+  string-no_line new rest' final e result k =
+      record {
+        fills = λ p f c b. absurd
+            (never-ok e (piece_front (i.at p f b).0 (suc counter)) (line-there rest' (Err e) k p f b).0);
+      }
 
-  more-appended : {E F : Type 0} (new : State) (rest' words : List ℕ) (r : Result (Unit {0}) F) → ReadsLine {E = E} rest rest' (Ok words) → AppendsPiece now new h words r → (p : Fill) (f : IsFillable p kinds.String room) (b : IsBegun old text p h)
+  more-appended : {E F : Type 0} (new : SegmentState) (rest' words : List ℕ) (r : Result (Unit {0}) F)
+      → ReadsLine {E = E} rest rest' (Ok words) → AppendsPiece now new h words r
+      → (p : FillState) (f : IsFillable p kinds.String room) (b : IsEmptyObject old text p h)
       → (r ≡ Ok tt) × StringAt new rest' p h (suc (suc counter)) (i.at p f b).0
   more-appended {E} {F} new rest' words r k a p f b =
       let q = i.at p f b in
@@ -174,30 +245,54 @@ module _ (old now : State) (h room : ℕ) (text rest : List ℕ) (len counter : 
       let at = q.4 in
       let read = line-there {E = E} rest' (Ok words) k p f b in
       let is : words ≡ piece_front bs n = ok-same {E = E} words (piece_front bs n) read.0 in
-      let fits : length (front_bytes bs n ++ piece_of bs n) ≤ at.table.capacity = omega (arith, ap length (front-more bs n), front-few bs (suc n), at.places) in
-      let one = a.appends p.site p.done p.class p.name (front_bytes bs n) at.table p.more n (piece_of bs n) at.stands (piece-bytes bs n q.3) is fits in (
+      let fits : length (front_bytes bs n ++ piece_of bs n) ≤ at.table.capacity =
+      omega (arith, ap length (front-more bs n), front-few bs (suc n), at.places) in
+      let one = a.appends p.site p.done p.class p.name (front_bytes bs n) at.table p.more n (piece_of bs n)
+      at.stands (piece-bytes bs n q.3) is fits in (
         one.0,
         record {
           table = at.table;
           places = at.places;
-          stands = record { directory = one.1.directory; stands = one.1.stands; mode = one.1.mode; filling = subst (λ w. IsFilling one.1.directory p.site p.done (head_of p h) (Bytes w at.table) p.more) (sym (front-more bs n)) one.1.filling };
+          stands = record {
+            directory = one.1.directory;
+            stands = one.1.stands;
+            mode = one.1.mode;
+            filling = subst (λ w. IsFilling one.1.directory p.site p.done (head_of p h) (Bytes w at.table) p.more)
+                (sym (front-more bs n)) one.1.filling;
+          };
           left = read.1;
           inside = omega (arith, l, q.2);
         },
       )
 
-  pub string-no_more : {E F : Type 0} (new : State) (rest' words final : List ℕ) (e : F) (result : Result (Unit {0}) F) → ReadsLine {E = E} rest rest' (Ok words) → AppendsPiece now new h words (Err e) → FillsNew old new h kinds.String 1 text final room result
-  string-no_more {E} {F} new rest' words final e result k a = record { fills = λ p f c b. absurd (never-ok {X = Unit {0}} {E = F} e tt (more-appended {E = E} {F = F} new rest' words (Err e) k a p f b).0) }
+  pub string-no_more : {E F : Type 0} (new : SegmentState) (rest' words final : List ℕ) (e : F)
+      (result : Result (Unit {0}) F) → ReadsLine {E = E} rest rest' (Ok words)
+      → AppendsPiece now new h words (Err e) → FillsNew old new h kinds.String 1 text final room result
+  string-no_more {E} {F} new rest' words final e result k a =
+      record {
+        fills = λ p f c b. absurd
+            (never-ok {X = Unit {0}} {E = F} e tt (more-appended {E = E} {F = F} new rest' words (Err e) k a p f b).0);
+      }
 
-  pub string-more : {E F : Type 0} (new : State) (rest' words : List ℕ) (u : Unit {0}) → ReadsLine {E = E} rest rest' (Ok words) → AppendsPiece {E = F} now new h words (Ok u) → InString old new h text rest' room len (counter + 1)
+  pub string-more : {E F : Type 0} (new : SegmentState) (rest' words : List ℕ) (u : Unit {0})
+      → ReadsLine {E = E} rest rest' (Ok words) → AppendsPiece {E = F} now new h words (Ok u)
+      → InString old new h text rest' room len (counter + 1)
   string-more {E} {F} new rest' words u k a = record {
     at = λ p f b.
         let q = i.at p f b in
-        let next : suc (suc counter) ≡ suc (counter + 1) = omega arith in
-        (q.0, q.1, q.2, q.3, subst (λ n. StringAt new rest' p h n q.0) next (more-appended {E = E} {F = F} new rest' words (Ok u) k a p f b).1);
+        let next : suc (suc counter) ≡ suc (counter + 1) = omega arith in (
+          q.0,
+          q.1,
+          q.2,
+          q.3,
+          subst (λ n.
+              StringAt new rest' p h n q.0) next (more-appended {E = E} {F = F} new rest' words (Ok u) k a p f b).1,
+        );
   }
 
-pub string-end : {F : Type 0} (old now : State) (h room : ℕ) (text rest : List ℕ) (len counter : ℕ) → InString old now h text rest room len counter → (len - 1) / 1000 ≤ counter → FillsNew {E = F} old now h kinds.String 1 text rest room (Ok tt)
+pub string-end : {F : Type 0} (old now : SegmentState) (h room : ℕ) (text rest : List ℕ) (len counter : ℕ)
+    → InString old now h text rest room len counter → (len - 1) / 1000 ≤ counter
+    → FillsNew {E = F} old now h kinds.String 1 text rest room (Ok tt)
 string-end {F} old now h room text rest len counter i l = record {
   fills = λ p f c b.
       let q = i.at p f b in
@@ -205,7 +300,9 @@ string-end {F} old now h room text rest len counter i l = record {
       let at = q.4 in
       let n : suc counter ≡ pieces_in (length bs) = omega (arith, at.inside, q.2, l) in
       let all : front_bytes bs (suc counter) ≡ bs = front-all bs (suc counter) n in
-      let filling : IsFilling at.stands.directory p.site p.done (head_of p h) (Bytes bs at.table) p.more = subst (λ w. IsFilling at.stands.directory p.site p.done (head_of p h) (Bytes w at.table) p.more) all at.stands.filling in
+      let filling : IsFilling at.stands.directory p.site p.done (head_of p h) (Bytes bs at.table) p.more =
+      subst (λ w. IsFilling at.stands.directory p.site p.done (head_of p h) (Bytes w at.table) p.more) all
+      at.stands.filling in
       let done = built at.stands.directory p.site p.done (head_of p h) (Bytes bs at.table) p.more filling in (
         refl,
         record {
@@ -213,7 +310,12 @@ string-end {F} old now h room text rest len counter i l = record {
             directory = at.stands.directory;
             stands = at.stands.stands;
             mode = at.stands.mode;
-            built = subst (λ (c : Content). IsBuilt at.stands.directory p.site (p.done ++ record { class = p.class; name = p.name; content = c } ∷ []) p.more) (sym q.1) done;
+            built = subst (λ (c : ValueContent).
+                HasBuiltItems at.stands.directory p.site (p.done ++ record {
+                  class = p.class;
+                  name = p.name;
+                  content = c;
+                } ∷ []) p.more) (sym q.1) done;
           };
           text_is = none-left bs p.after (suc counter) rest n at.left;
         },

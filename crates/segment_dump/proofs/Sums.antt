@@ -12,7 +12,10 @@ max-apart : (a b c : ℕ) → max (max a b) c ≡ max a (max b c)
 max-apart a b c = omega arith
 
 pub both-apart : (a b c : Needs) → both (both a b) c ≡ both a (both b c)
-both-apart a b c = λ i. record { room = add_assoc a.room b.room c.room i; longest = max-apart a.longest b.longest c.longest i }
+both-apart a b c = λ i. record {
+  room = add_assoc a.room b.room c.room i;
+  longest = max-apart a.longest b.longest c.longest i;
+}
 
 pub both-nothing : (a : Needs) → both nothing a ≡ a
 both-nothing a = λ i. record { room = zero-add a.room i; longest = zero-max a.longest i }
@@ -26,9 +29,11 @@ add-none a = omega arith
 pub both-no_more : (a : Needs) → both a nothing ≡ a
 both-no_more a = λ i. record { room = add-none a.room i; longest = max-none a.longest i }
 
-pub all-append : {X : Type 0} (needs : X → Needs) (xs ys : List X) → all_needs needs (xs ++ ys) ≡ both (all_needs needs xs) (all_needs needs ys)
+pub all-append : {X : Type 0} (needs : X → Needs) (xs ys : List X)
+    → all_needs needs (xs ++ ys) ≡ both (all_needs needs xs) (all_needs needs ys)
 all-append needs [] ys = sym (both-nothing (all_needs needs ys))
-all-append needs (x ∷ xs) ys = ap (both (needs x)) (all-append needs xs ys) ∙ sym (both-apart (needs x) (all_needs needs xs) (all_needs needs ys))
+all-append needs (x ∷ xs) ys =
+    ap (both (needs x)) (all-append needs xs ys) ∙ sym (both-apart (needs x) (all_needs needs xs) (all_needs needs ys))
 
 -- ---- what is counted one by one
 
@@ -43,7 +48,8 @@ pub part-end : (counted whole : Needs) → IsPart counted nothing whole → coun
 part-end counted whole h = sym (both-no_more counted) ∙ h.sum
 
 -- one more is counted: nothing overflows, since the whole is small
-pub part-more : (counted one left whole sum : Needs) → IsSmall whole.room → IsPart counted (both one left) whole → (counted.room + one.room < 18446744073709551616 → sum ≡ both counted one) → IsPart sum left whole
+pub part-more : (counted one left whole sum : Needs) → IsSmall whole.room → IsPart counted (both one left) whole
+    → (counted.room + one.room < 18446744073709551616 → sum ≡ both counted one) → IsPart sum left whole
 part-more counted one left whole sum s h f =
     let rooms : counted.room + (one.room + left.room) ≡ whole.room = ap (λ (n : Needs). n.room) h.sum in
     let is : sum ≡ both counted one = f (omega arith) in
@@ -51,7 +57,8 @@ part-more counted one left whole sum s h f =
 
 -- what is left needs no more than all
 pub part-small : (counted left whole : Needs) → IsPart counted left whole → left.room ≤ whole.room
-part-small counted left whole h = let rooms : counted.room + left.room ≡ whole.room = ap (λ (n : Needs). n.room) h.sum in omega arith
+part-small counted left whole h = let rooms : counted.room + left.room ≡ whole.room =
+    ap (λ (n : Needs). n.room) h.sum in omega arith
 
 -- ---- blocks
 

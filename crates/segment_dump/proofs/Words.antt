@@ -123,7 +123,8 @@ near : (z : ℤ) → IsWhole z → IsNear z
 near (pos n) h = omega (arith, ints, h.1)
 near (negsuc n) h = omega (arith, ints, h.0)
 
-truth-bare : (b : Bool) → AreBare (if b then codes "true" else codes "false") × (0 < length (if b then codes "true" else codes "false"))
+truth-bare : (b : Bool) → AreBare (if b then codes "true" else codes "false")
+    × (0 < length (if b then codes "true" else codes "false"))
 truth-bare true = (bare-test (codes "true") refl, omega arith)
 truth-bare false = (bare-test (codes "false") refl, omega arith)
 
@@ -137,17 +138,22 @@ value-word k z = bare-word (value_text k z) (value-bare k z).0
 differ : codes "false" ≡ codes "true" → ⊥
 differ e = omega (arith, heads e)
 
-truth-same : (y z : ℤ) → (y ≡ pos 0) ⊎ (y ≡ pos 1) → (z ≡ pos 0) ⊎ (z ≡ pos 1) → value_text BoolKind y ≡ value_text BoolKind z → y ≡ z
+truth-same : (y z : ℤ) → (y ≡ pos 0) ⊎ (y ≡ pos 1) → (z ≡ pos 0) ⊎ (z ≡ pos 1)
+    → value_text BoolKind y ≡ value_text BoolKind z → y ≡ z
 truth-same y z (inl p) (inl q) e = p ∙ sym q
-truth-same y z (inl p) (inr q) e = let same : codes "false" ≡ codes "true" = ap (value_text BoolKind) (sym p) ∙ e ∙ ap (value_text BoolKind) q in absurd (differ same)
-truth-same y z (inr p) (inl q) e = let same : codes "true" ≡ codes "false" = ap (value_text BoolKind) (sym p) ∙ e ∙ ap (value_text BoolKind) q in absurd (differ (sym same))
+truth-same y z (inl p) (inr q) e = let same : codes "false" ≡ codes "true" =
+    ap (value_text BoolKind) (sym p) ∙ e ∙ ap (value_text BoolKind) q in absurd (differ same)
+truth-same y z (inr p) (inl q) e = let same : codes "true" ≡ codes "false" =
+    ap (value_text BoolKind) (sym p) ∙ e ∙ ap (value_text BoolKind) q in absurd (differ (sym same))
 truth-same y z (inr p) (inr q) e = p ∙ sym q
 
-value-same : (k : ScalarKind) (y z : ℤ) → is_value k y ≡ true → is_value k z ≡ true → value_text k y ≡ value_text k z → y ≡ z
+value-same : (k : ScalarKind) (y z : ℤ) → is_value k y ≡ true → is_value k z ≡ true
+    → value_text k y ≡ value_text k z → y ≡ z
 value-same BoolKind y z p q e = truth-same y z (bool-near y p) (bool-near z q) e
 value-same k y z p q e = signed-same y z (near y (in-range k y p)) (near z (in-range k z q)) e
 
-pub values-read : (k : ScalarKind) (y z : ℤ) (a b : List ℕ) → is_value k y ≡ true → is_value k z ≡ true → Breaks a → Breaks b → value_text k y ++ a ≡ value_text k z ++ b → (y ≡ z) × (a ≡ b)
+pub values-read : (k : ScalarKind) (y z : ℤ) (a b : List ℕ) → is_value k y ≡ true → is_value k z ≡ true → Breaks a
+    → Breaks b → value_text k y ++ a ≡ value_text k z ++ b → (y ≡ z) × (a ≡ b)
 values-read k y z a b p q f g e =
     let r = words-read (value_text k y) (value_text k z) a b (value-word k y) (value-word k z) f g e in
     (value-same k y z p q r.0, r.1)

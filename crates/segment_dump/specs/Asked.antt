@@ -46,7 +46,7 @@ pub record IsLined (bytes : List ℕ) (count : ℕ) : Type 0 where
   pub is : bytes ≡ lines_text lines
 
 -- the lines of a text of so many bytes
-pub record IsText (bytes : List ℕ) (len : ℕ) : Type 0 where
+pub record IsDumpText (bytes : List ℕ) (len : ℕ) : Type 0 where
   pub behind : List ℕ
   pub is : bytes ≡ length_text len ++ behind
   pub lined : IsLined behind (pieces_in len)
@@ -68,10 +68,10 @@ pub record AskTogether (Asks : List ℕ → Needs → Type 0) (count : ℕ) (byt
 
 -- a text in a vector of strings, and as a string
 abbrev pub AsksText : List ℕ → Needs → Type 0
-AsksText bytes needs = (len : ℕ) × IsText bytes len × (needs ≡ record { room = block_room len; longest = len })
+AsksText bytes needs = (len : ℕ) × IsDumpText bytes len × (needs ≡ record { room = block_room len; longest = len })
 
 abbrev pub AsksString : List ℕ → Needs → Type 0
-AsksString bytes needs = (len : ℕ) × IsText bytes len × (needs ≡ only_room (block_room len))
+AsksString bytes needs = (len : ℕ) × IsDumpText bytes len × (needs ≡ only_room (block_room len))
 
 -- so many lines, which ask for nothing
 abbrev pub AsksNothing : ℕ → List ℕ → Needs → Type 0

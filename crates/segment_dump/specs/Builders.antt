@@ -1,5 +1,6 @@
 -- What the calls promise that build a segment of a text.
-use Rattle.std.specs.Prelude.{◌≡◌, ℕ, ◌+◌, ◌<◌, ◌≤◌, ℤ, pos, true, false, List, [], ◌∷◌, ◌++◌, Some, Result, Ok, length, replicate, take}
+use Rattle.std.specs.Prelude.{◌≡◌, ℕ, ◌+◌, ◌<◌, ◌≤◌, ℤ, pos, true, false, List, [], ◌∷◌, ◌++◌, Some, Result, Ok, length}
+use Rattle.std.specs.Prelude.{replicate, take}
 use Rattle.std.specs.List.{AllByRecursion}
 use Rattle.seg_types.specs.declared.kinds.Class.{Class}
 use Rattle.seg_types.specs.declared.kinds.Class.TheVariants.{Anonymous, Named, Unique}
@@ -12,62 +13,73 @@ use Rattle.seg_types.specs.Commands.{Command, Content as Asked, literal_of}
 use Rattle.seg_types.specs.Kinds.{is_value}
 use Rattle.seg_types.specs.Names.{Key}
 use Rattle.seg_types.specs.Values.{scalar_of}
-use Rattle.best_fit.specs.Table.{Table}
+use Rattle.best_fit.specs.Table.{BackingArray}
 use Rattle.segment_manager.specs.Directory.{Bytes}
 use Rattle.segment_manager.specs.Plan.{bare}
-use Rattle.segment_manager.specs.declared.objects.targets.Object.{Object as Located}
+use Rattle.segment_manager.specs.declared.objects.object_ref.Object.{Object as Located}
 use Rattle.segment_manager.specs.objects.{Found.is_object_at, Located.IsObject}
-use Rattle.segment_manager.specs.State.{Answers, IsSegment, State}
+use Rattle.segment_manager.specs.State.{AnswersWith, IsSegment, SegmentState}
 use Rattle.seg_types.specs.Texts.{class_text, name_text, quoted_text}
 use Rattle.segment_lang.specs.Tokens.{next_word}
 use Rattle.segment_lang.specs.Words.{Bare}
-use Rattle.segment_dump.specs.declared.building.Shape.{Shape}
-use Rattle.segment_dump.specs.Building.{AreNew, IsRest, Site, count_class, has_item_key, head_words, item_key, measure_words}
-use Rattle.segment_dump.specs.Filling.{AreBytes, Fill, FillsAt, IsBuildable, IsBuildableContent, IsCounted, IsPairOf, StandsBuilt, StandsFilling, filled_item, head_of}
-use Rattle.segment_dump.specs.Items.{Content, Item, count_of_content, kind_of_content}
+use Rattle.segment_dump.specs.declared.building.ObjectLine.{ObjectLine}
+use Rattle.segment_dump.specs.Building.{AreNew, IsRest, Site, count_class, has_item_key, head_words, item_key}
+use Rattle.segment_dump.specs.Building.{measure_words}
+use Rattle.segment_dump.specs.Filling.{IsByteList, FillState, FillsAt, IsBuildable, IsBuildableContent, IsCounted}
+use Rattle.segment_dump.specs.Filling.{IsTypedPair, StandsBuilt, StandsFilling, filled_item, head_of}
+use Rattle.segment_dump.specs.Items.{ValueContent, DumpItem, count_of_content, kind_of_content}
 use Rattle.segment_dump.specs.Need.{all_needs, elements_room, item_needs, texts_needs}
 use Rattle.segment_manager.specs.Parts.{parts_until}
-use Rattle.segment_dump.specs.Texts.{content_text, element_line, end_text, items_text, pair_line, piece_lead, piece_line, piece_of, pieces_text, text_lines}
+use Rattle.segment_dump.specs.Texts.{content_text, element_line, end_text, items_text, pair_line, piece_lead}
+use Rattle.segment_dump.specs.Texts.{piece_line, piece_of, pieces_text, text_lines}
 
 -- ---- lines of elements
 
-pub record ReadsElement {E : Type 0} (kind : ScalarKind) (text rest : List ℕ) (result : Result ScalarValue E) : Type 0 where
-  pub reads : (z : ℤ) (a : List ℕ) → is_value kind z ≡ true → text ≡ element_line kind z ++ a → (result ≡ Ok (scalar_of kind z)) × (rest ≡ a)
+pub record ReadsElement {E : Type 0} (kind : ScalarKind) (text rest : List ℕ) (result : Result ScalarValue E) : Type
+    0 where
+  pub reads : (z : ℤ) (a : List ℕ) → is_value kind z ≡ true → text ≡ element_line kind z ++ a
+      → (result ≡ Ok (scalar_of kind z)) × (rest ≡ a)
 
-pub record ReadsPair {E : Type 0} (k w : ScalarKind) (text rest : List ℕ) (result : Result (ScalarValue × ScalarValue) E) : Type 0 where
-  pub reads : (p : ℤ × ℤ) (a : List ℕ) → IsPairOf k w p → text ≡ pair_line k w p ++ a → (result ≡ Ok (scalar_of k p.0, scalar_of w p.1)) × (rest ≡ a)
+pub record ReadsPair {E : Type 0} (k w : ScalarKind) (text rest : List ℕ) (result : Result (ScalarValue
+    × ScalarValue) E) : Type 0 where
+  pub reads : (p : ℤ × ℤ) (a : List ℕ) → IsTypedPair k w p → text ≡ pair_line k w p ++ a
+      → (result ≡ Ok (scalar_of k p.0, scalar_of w p.1)) × (rest ≡ a)
 
 -- ---- objects that are filled
 
 -- in a segment, an object has the handle
-pub record IsHere (s : State) (h : ℕ) : Type 0 where
+pub record IsHere (s : SegmentState) (h : ℕ) : Type 0 where
   pub segment : IsSegment s.cut.bytes
-  pub object : Answers s (λ d. is_object_at d h) true
+  pub object : AnswersWith s (λ d. is_object_at d h) true
 
 -- an object that was located is there
-pub record HasObject (s : State) (o : Located) : Type 0 where
+pub record HasLocatedObject (s : SegmentState) (o : Located) : Type 0 where
   pub segment : IsSegment s.cut.bytes
   pub object : IsObject o s
 
 -- all elements are there
-pub record IsFilled (s : State) (text : List ℕ) (p : Fill) : Type 0 where
+pub record IsFilled (s : SegmentState) (text : List ℕ) (p : FillState) : Type 0 where
   pub stands : StandsBuilt s p.site (p.done ++ filled_item p ∷ []) p.more
   pub text_is : text ≡ p.after
 
 -- a content that can be made, of a kind, with room for its texts
-pub record IsFillable (p : Fill) (kind : Kind) (room : ℕ) : Type 0 where
+pub record IsFillable (p : FillState) (kind : Kind) (room : ℕ) : Type 0 where
   pub kind_is : kind_of_content p.content ≡ kind
   pub good : IsBuildableContent p.content
   pub rest : IsRest p.more
   pub longest : (texts_needs p.content).longest ≤ room
 
 -- an element more
-pub record AddsElement {E : Type 0} (old new : State) (h : ℕ) (kind : Kind) (n : ℕ) (text rest : List ℕ) (room : ℕ) (result : Result (Unit {0}) E) : Type 0 where
-  pub adds : (p : Fill) → IsFillable p kind room → n < count_of_content p.content → FillsAt old text p h n → (result ≡ Ok tt) × FillsAt new rest p h (n + 1)
+pub record AddsElement {E : Type 0} (old new : SegmentState) (h : ℕ) (kind : Kind) (n : ℕ) (text rest : List ℕ)
+    (room : ℕ) (result : Result (Unit {0}) E) : Type 0 where
+  pub adds : (p : FillState) → IsFillable p kind room → n < count_of_content p.content → FillsAt old text p h n
+      → (result ≡ Ok tt) × FillsAt new rest p h (n + 1)
 
 -- all of them
-pub record FillsElements {E : Type 0} (old new : State) (h : ℕ) (kind : Kind) (count : ℕ) (text rest : List ℕ) (room : ℕ) (result : Result (Unit {0}) E) : Type 0 where
-  pub fills : (p : Fill) → IsFillable p kind room → count ≡ count_of_content p.content → FillsAt old text p h 0 → (result ≡ Ok tt) × IsFilled new rest p
+pub record FillsElements {E : Type 0} (old new : SegmentState) (h : ℕ) (kind : Kind) (count : ℕ)
+    (text rest : List ℕ) (room : ℕ) (result : Result (Unit {0}) E) : Type 0 where
+  pub fills : (p : FillState) → IsFillable p kind room → count ≡ count_of_content p.content → FillsAt old text p h 0
+      → (result ≡ Ok tt) × IsFilled new rest p
 
 -- what an object is made with: zeros, or nothing yet
 abbrev pub first_content : Kind → ℕ → Asked
@@ -78,40 +90,53 @@ first_content (kinds.Map k v) n = asked.NoPairs k v
 first_content kinds.Strings n = asked.Strings []
 
 -- the bytes that its elements need
-abbrev pub content_need : Content → ℕ
+abbrev pub content_need : ValueContent → ℕ
 content_need c = elements_room (kind_of_content c) (count_of_content c) + (texts_needs c).room
 
 -- an object is there with nothing in it, and its lines follow
-pub record IsBegun (s : State) (text : List ℕ) (p : Fill) (h : ℕ) : Type 0 where
-  pub stands : StandsFilling s p.site p.done (head_of p h) (bare (first_content (kind_of_content p.content) (count_of_content p.content))) (content_need p.content + p.more)
+pub record IsEmptyObject (s : SegmentState) (text : List ℕ) (p : FillState) (h : ℕ) : Type 0 where
+  pub stands : StandsFilling s p.site p.done (head_of p h)
+      (bare (first_content (kind_of_content p.content) (count_of_content p.content))) (content_need p.content + p.more)
   pub text_is : text ≡ content_text p.content ++ p.after
 
-pub record FillsNew {E : Type 0} (old new : State) (h : ℕ) (kind : Kind) (count : ℕ) (text rest : List ℕ) (room : ℕ) (result : Result (Unit {0}) E) : Type 0 where
-  pub fills : (p : Fill) → IsFillable p kind room → count ≡ count_of_content p.content → IsBegun old text p h → (result ≡ Ok tt) × IsFilled new rest p
+pub record FillsNew {E : Type 0} (old new : SegmentState) (h : ℕ) (kind : Kind) (count : ℕ) (text rest : List ℕ)
+    (room : ℕ) (result : Result (Unit {0}) E) : Type 0 where
+  pub fills : (p : FillState) → IsFillable p kind room → count ≡ count_of_content p.content
+      → IsEmptyObject old text p h → (result ≡ Ok tt) × IsFilled new rest p
 
 -- ---- objects that are made
 
 -- an index has a place for one more
-abbrev pub HasPlace : Site → List Item → Class → Type 0
-HasPlace site done Named = count_class Named done < site.named
-HasPlace site done Unique = count_class Unique done < site.unique
-HasPlace site done Anonymous = Unit {0}
+abbrev pub HasIndexSlot : Site → List DumpItem → Class → Type 0
+HasIndexSlot site done Named = count_class Named done < site.named
+HasIndexSlot site done Unique = count_class Unique done < site.unique
+HasIndexSlot site done Anonymous = Unit {0}
 
 -- the next item can be made
-pub record IsNext (s : State) (site : Site) (done : List Item) (i : Item) (more room : ℕ) : Type 0 where
+pub record CanBuildItem (s : SegmentState) (site : Site) (done : List DumpItem) (i : DumpItem) (more room : ℕ) :
+    Type 0 where
   pub stands : StandsBuilt s site done ((item_needs i).room + more)
   pub rest : IsRest more
   pub good : IsBuildable i
   pub new : AllByRecursion (λ j. has_item_key (item_key i) j ≡ false) done
-  pub place : HasPlace site done i.class
+  pub place : HasIndexSlot site done i.class
   pub longest : (texts_needs i.content).longest ≤ room
 
 -- it is made, with nothing in it
-pub record IsStarted {E : Type 0} (s : State) (site : Site) (done : List Item) (i : Item) (more : ℕ) (result : Result (ℕ × Shape) E) : Type 0 where
+pub record IsStarted {E : Type 0} (s : SegmentState) (site : Site) (done : List DumpItem) (i : DumpItem) (more : ℕ)
+    (result : Result (ℕ × ObjectLine) E) : Type 0 where
   pub handle : ℕ
   pub at : ℕ
-  pub is : result ≡ Ok (handle, record { kind = kind_of_content i.content; count = count_of_content i.content; at = at })
-  pub stands : StandsFilling s site done (record { class = i.class; name = i.name; handle = handle }) (bare (first_content (kind_of_content i.content) (count_of_content i.content))) (content_need i.content + more)
+  pub is : result ≡ Ok (
+    handle,
+    record {
+      kind = kind_of_content i.content;
+      count = count_of_content i.content;
+      at = at;
+    },
+  )
+  pub stands : StandsFilling s site done (record { class = i.class; name = i.name; handle = handle })
+      (bare (first_content (kind_of_content i.content) (count_of_content i.content))) (content_need i.content + more)
 
 -- so many elements an object can have
 abbrev pub IsCountOf : Kind → ℕ → Type 0
@@ -134,36 +159,48 @@ pub record ReadsClass {E : Type 0} (text rest : List ℕ) (result : Result Class
   pub reads : (c : Class) (a : List ℕ) → next_word text ≡ Some (Bare (class_text c), a) → (result ≡ Ok c) × (rest ≡ a)
 
 -- a kind and a count come next, and no more
-pub record ReadsShape {E : Type 0} (text : List ℕ) (result : Result Shape E) : Type 0 where
-  pub reads : (kind : Kind) (n : ℕ) → IsCounted n → text ≡ 0x20 ∷ measure_words kind n → (at : ℕ) × (result ≡ Ok (record { kind = kind; count = n; at = at }))
+pub record ReadsShape {E : Type 0} (text : List ℕ) (result : Result ObjectLine E) : Type 0 where
+  pub reads : (kind : Kind) (n : ℕ) → IsCounted n → text ≡ 0x20 ∷ measure_words kind n
+      → (at : ℕ) × (result ≡ Ok (record { kind = kind; count = n; at = at }))
 
 -- nothing is left
 pub record IsGone {E : Type 0} (text : List ℕ) (result : Result (Unit {0}) E) : Type 0 where
   pub gone : text ≡ [] → result ≡ Ok tt
 
 -- behind the words in front of its kind
-pub record StartsUnder {E : Type 0} (old new : State) (key : Kind → Key) (words : List ℕ) (result : Result (ℕ × Shape) E) : Type 0 where
-  pub starts : (site : Site) (done : List Item) (i : Item) (more room : ℕ) → IsNext old site done i more room → key (kind_of_content i.content) ≡ item_key i → words ≡ 0x20 ∷ measure_words (kind_of_content i.content) (count_of_content i.content)
+pub record StartsUnder {E : Type 0} (old new : SegmentState) (key : Kind
+    → Key) (words : List ℕ) (result : Result (ℕ × ObjectLine) E) : Type 0 where
+  pub starts : (site : Site) (done : List DumpItem) (i : DumpItem) (more room : ℕ)
+      → CanBuildItem old site done i more room → key (kind_of_content i.content) ≡ item_key i
+      → words ≡ 0x20 ∷ measure_words (kind_of_content i.content) (count_of_content i.content)
       → IsStarted new site done i more result
 
 -- behind the word of its class
-pub record StartsNamed {E : Type 0} (old new : State) (words : List ℕ) (result : Result (ℕ × Shape) E) : Type 0 where
-  pub starts : (site : Site) (done : List Item) (i : Item) (more room : ℕ) → IsNext old site done i more room → i.class ≡ Named → words ≡ 0x20 ∷ (name_text i.name ++ 0x20 ∷ measure_words (kind_of_content i.content) (count_of_content i.content))
+pub record StartsNamed {E : Type 0} (old new : SegmentState) (words : List ℕ) (result : Result (ℕ × ObjectLine) E) :
+    Type 0 where
+  pub starts : (site : Site) (done : List DumpItem) (i : DumpItem) (more room : ℕ)
+      → CanBuildItem old site done i more room → i.class ≡ Named
+      → words ≡ 0x20 ∷ (name_text i.name
+      ++ 0x20 ∷ measure_words (kind_of_content i.content) (count_of_content i.content))
       → IsStarted new site done i more result
 
 -- by all words of its line
-pub record StartsNext {E : Type 0} (old new : State) (words : List ℕ) (result : Result (ℕ × Shape) E) : Type 0 where
-  pub starts : (site : Site) (done : List Item) (i : Item) (more room : ℕ) → IsNext old site done i more room → words ≡ head_words i → IsStarted new site done i more result
+pub record StartsNext {E : Type 0} (old new : SegmentState) (words : List ℕ) (result : Result (ℕ × ObjectLine) E) :
+    Type 0 where
+  pub starts : (site : Site) (done : List DumpItem) (i : DumpItem) (more room : ℕ)
+      → CanBuildItem old site done i more room → words ≡ head_words i → IsStarted new site done i more result
 
 -- an object is made of its lines
-pub record BuildsObject {E : Type 0} (old new : State) (words text rest : List ℕ) (room : ℕ) (result : Result (Unit {0}) E) : Type 0 where
-  pub builds : (site : Site) (done : List Item) (i : Item) (more : ℕ) (a : List ℕ) → IsNext old site done i more room → words ≡ head_words i → text ≡ content_text i.content ++ a
+pub record BuildsObject {E : Type 0} (old new : SegmentState) (words text rest : List ℕ) (room : ℕ)
+    (result : Result (Unit {0}) E) : Type 0 where
+  pub builds : (site : Site) (done : List DumpItem) (i : DumpItem) (more : ℕ) (a : List ℕ)
+      → CanBuildItem old site done i more room → words ≡ head_words i → text ≡ content_text i.content ++ a
       → (result ≡ Ok tt) × StandsBuilt new site (done ++ i ∷ []) more × (rest ≡ a)
 
 -- ---- all objects
 
 -- these are still to be made
-pub record AreLeft (site : Site) (room : ℕ) (done items : List Item) : Type 0 where
+pub record AreLeft (site : Site) (room : ℕ) (done items : List DumpItem) : Type 0 where
   pub good : AllByRecursion IsBuildable items
   pub new : AreNew done items
   pub named : count_class Named (done ++ items) ≤ site.named
@@ -171,12 +208,14 @@ pub record AreLeft (site : Site) (room : ℕ) (done items : List Item) : Type 0 
   pub longest : (all_needs item_needs items).longest ≤ room
 
 -- their lines follow, and the line `end`
-pub record IsAt (s : State) (text : List ℕ) (site : Site) (done items : List Item) : Type 0 where
+pub record IsAtItems (s : SegmentState) (text : List ℕ) (site : Site) (done items : List DumpItem) : Type 0 where
   pub stands : StandsBuilt s site done (all_needs item_needs items).room
   pub text_is : text ≡ items_text items ++ end_text
 
-pub record Builds {E : Type 0} (old new : State) (text : List ℕ) (most room : ℕ) (result : Result (Unit {0}) E) : Type 0 where
-  pub builds : (site : Site) (items : List Item) → IsAt old text site [] items → AreLeft site room [] items → length text ≤ most → (result ≡ Ok tt) × StandsBuilt new site items 0
+pub record BuildsAllObjects {E : Type 0} (old new : SegmentState) (text : List ℕ) (most room : ℕ)
+    (result : Result (Unit {0}) E) : Type 0 where
+  pub builds : (site : Site) (items : List DumpItem) → IsAtItems old text site [] items → AreLeft site room [] items
+      → length text ≤ most → (result ≡ Ok tt) × StandsBuilt new site items 0
 
 -- ---- texts
 
@@ -186,21 +225,30 @@ PiecesLeft bs a n rest = parts_until (piece_line bs) n ++ rest ≡ pieces_text b
 
 -- the piece that is alone in a line, behind what leads it
 pub record ReadsPiece {E : Type 0} (words : List ℕ) (result : Result (List ℕ) E) : Type 0 where
-  pub reads : (i : ℕ) (bs : List ℕ) → AreBytes bs → words ≡ piece_lead i ++ quoted_text bs → result ≡ Ok bs
+  pub reads : (i : ℕ) (bs : List ℕ) → IsByteList bs → words ≡ piece_lead i ++ quoted_text bs → result ≡ Ok bs
 
 -- the length of a text; its first piece follows
 pub record ReadsLength {E : Type 0} (text rest : List ℕ) (result : Result (List ℕ × ℕ) E) : Type 0 where
-  pub reads : (bs a : List ℕ) → IsCounted (length bs) → text ≡ text_lines bs ++ a → (result ≡ Ok (piece_lead 0 ++ quoted_text (piece_of bs 0), length bs)) × PiecesLeft bs a 1 rest
+  pub reads : (bs a : List ℕ) → IsCounted (length bs) → text ≡ text_lines bs ++ a
+      → (result ≡ Ok (piece_lead 0 ++ quoted_text (piece_of bs 0), length bs)) × PiecesLeft bs a 1 rest
 
 -- a piece goes behind so many bytes of the room
 pub record CopiesPiece {E : Type 0} (words old new : List ℕ) (from : ℕ) (result : Result ℕ E) : Type 0 where
-  pub copies : (i : ℕ) (bs : List ℕ) → AreBytes bs → words ≡ piece_lead i ++ quoted_text bs → from + length bs ≤ length old → (result ≡ Ok (from + length bs)) × (take (from + length bs) new ≡ take from old ++ bs)
+  pub copies : (i : ℕ) (bs : List ℕ) → IsByteList bs → words ≡ piece_lead i ++ quoted_text bs
+      → from + length bs ≤ length old → (result ≡ Ok (from + length bs))
+      × (take (from + length bs) new ≡ take from old ++ bs)
 
 -- a text is collected in the front of the room
 pub record Collects {E : Type 0} (text rest old new : List ℕ) (result : Result ℕ E) : Type 0 where
-  pub collects : (bs a : List ℕ) → AreBytes bs → IsCounted (length bs) → length bs ≤ length old → text ≡ text_lines bs ++ a → (result ≡ Ok (length bs)) × (take (length bs) new ≡ bs) × (rest ≡ a)
+  pub collects : (bs a : List ℕ) → IsByteList bs → IsCounted (length bs) → length bs ≤ length old
+      → text ≡ text_lines bs ++ a → (result ≡ Ok (length bs)) × (take (length bs) new ≡ bs) × (rest ≡ a)
 
 -- a piece goes behind the bytes of a string, which has places for it
-pub record AppendsPiece {E : Type 0} (old new : State) (h : ℕ) (words : List ℕ) (result : Result (Unit {0}) E) : Type 0 where
-  pub appends : (site : Site) (done : List Item) (class : Class) (name front : List ℕ) (t : Table) (rest i : ℕ) (bs : List ℕ) → StandsFilling old site done (record { class = class; name = name; handle = h }) (Bytes front t) rest → AreBytes bs
-      → words ≡ piece_lead i ++ quoted_text bs → length (front ++ bs) ≤ t.capacity → (result ≡ Ok tt) × StandsFilling new site done (record { class = class; name = name; handle = h }) (Bytes (front ++ bs) t) rest
+pub record AppendsPiece {E : Type 0} (old new : SegmentState) (h : ℕ) (words : List ℕ)
+    (result : Result (Unit {0}) E) : Type 0 where
+  pub appends : (site : Site) (done : List DumpItem) (class : Class) (name front : List ℕ) (t : BackingArray)
+      (rest i : ℕ) (bs : List ℕ) → StandsFilling old site done (record { class = class; name = name; handle = h })
+      (Bytes front t) rest → IsByteList bs
+      → words ≡ piece_lead i ++ quoted_text bs → length (front ++ bs) ≤ t.capacity
+      → (result ≡ Ok tt) × StandsFilling new site done (record { class = class; name = name; handle = h })
+      (Bytes (front ++ bs) t) rest

@@ -1,5 +1,6 @@
 -- A segment that is being built: its objects so far, and room for the rest behind all its blocks.
-use Rattle.std.specs.Prelude.{◌≡◌, ◌⊎◌, ℕ, ◌+◌, ◌≤◌, ⊤, Bool, true, false, ◌&&◌, ◌==◌, nat_lt, List, [], ◌∷◌, ◌++◌, codes, length, map, filter, flat_map}
+use Rattle.std.specs.Prelude.{◌≡◌, ◌⊎◌, ℕ, ◌+◌, ◌≤◌, ⊤, Bool, true, false, ◌&&◌, ◌==◌, nat_lt, List, [], ◌∷◌, ◌++◌}
+use Rattle.std.specs.Prelude.{codes, length, map, filter, flat_map}
 use Rattle.std.specs.List.{AllByRecursion}
 use Rattle.best_fit.specs.Extents.{Extent, end_of, handle}
 use Rattle.std.specs.Cmp.Lexicographic.{slice_cmp}
@@ -10,7 +11,7 @@ use Rattle.seg_types.specs.declared.kinds.Kind.{Kind}
 use Rattle.seg_types.specs.Kinds.{class_code, code_of, same_kind}
 use Rattle.seg_types.specs.Names.{Key, ByHandle, ByKind, ByName, NoKey}
 use Rattle.segment_manager.specs.Directory.{Directory, Object, Value, extents_of, same_bytes, table_extents}
-use Rattle.segment_dump.specs.Items.{Item, count_of_content, item_of_object, kind_of_content}
+use Rattle.segment_dump.specs.Items.{DumpItem, count_of_content, item_of_object, kind_of_content}
 use Rattle.segment_lang.specs.Texts.{kind_text, name_text, number_text}
 
 -- ---- blocks one behind another
@@ -26,7 +27,7 @@ EndBy e = AllByRecursion (λ (x : Extent). end_of x ≤ e)
 
 -- Extents fill all from 128 on up to where the last one ends, since they have as many bytes as there are; and behind
 -- it, up to the end tag, is room for the rest.
-pub record HasRoom (xs : List Extent) (size rest : ℕ) : Type 0 where
+pub record HasExactRoom (xs : List Extent) (size rest : ℕ) : Type 0 where
   pub end : ℕ
   pub start : 128 ≤ end
   pub below : EndBy end xs
@@ -50,12 +51,12 @@ pub record Site : Type 0 where
   pub size : ℕ
 
 -- there are these objects, by their places, and room for the rest
-pub record IsBuilt (d : Directory) (site : Site) (done : List Item) (rest : ℕ) : Type 0 where
+pub record HasBuiltItems (d : Directory) (site : Site) (done : List DumpItem) (rest : ℕ) : Type 0 where
   pub size_is : d.size ≡ site.size
   pub named : site.named ≤ d.named.capacity
   pub unique : site.unique ≤ d.unique.capacity
   pub items : map item_of_object d.objects ≡ done
-  pub room : HasRoom (all_extents d) d.size rest
+  pub room : HasExactRoom (all_extents d) d.size rest
 
 -- the class, the name and the handle of the object that is being filled
 pub record Head : Type 0 where
@@ -64,7 +65,8 @@ pub record Head : Type 0 where
   pub handle : ℕ
 
 -- the last of its objects is one with this value so far
-pub record IsFilling (d : Directory) (site : Site) (done : List Item) (head : Head) (v : Value) (rest : ℕ) : Type 0 where
+pub record IsFilling (d : Directory) (site : Site) (done : List DumpItem) (head : Head) (v : Value) (rest : ℕ) :
+    Type 0 where
   pub size_is : d.size ≡ site.size
   pub named : site.named ≤ d.named.capacity
   pub unique : site.unique ≤ d.unique.capacity
@@ -76,7 +78,7 @@ pub record IsFilling (d : Directory) (site : Site) (done : List Item) (head : He
   pub name_is : object.name ≡ head.name
   pub handle_is : head.handle ≡ handle object.extent
   pub value_is : object.value ≡ v
-  pub room : HasRoom (all_extents d) d.size rest
+  pub room : HasExactRoom (all_extents d) d.size rest
 
 -- ---- the items that are to be made
 
@@ -86,38 +88,38 @@ key_in Named name kind = ByName name
 key_in Unique name kind = ByKind kind
 key_in Anonymous name kind = NoKey
 
-abbrev pub item_key : Item → Key
+abbrev pub item_key : DumpItem → Key
 item_key i = key_in i.class i.name (kind_of_content i.content)
 
 -- an item has the key
-abbrev pub has_item_key : Key → Item → Bool
+abbrev pub has_item_key : Key → DumpItem → Bool
 has_item_key (ByName name) i = (class_code Named == class_code i.class) && same_bytes name i.name
 has_item_key (ByKind k) i = (class_code Unique == class_code i.class) && same_kind k (kind_of_content i.content)
 has_item_key (ByHandle h) i = false
 has_item_key NoKey i = false
 
 -- none of those that are done has the key of one that is to come
-abbrev pub AreNew : List Item → List Item → Type 0
+abbrev pub AreNew : List DumpItem → List DumpItem → Type 0
 AreNew done [] = ⊤
 AreNew done (i ∷ is) = AllByRecursion (λ j. has_item_key (item_key i) j ≡ false) done × AreNew (done ++ i ∷ []) is
 
-abbrev pub of_class : Class → List Item → List Item
-of_class c is = filter (λ (i : Item). class_code c == class_code i.class) is
+abbrev pub of_class : Class → List DumpItem → List DumpItem
+of_class c is = filter (λ (i : DumpItem). class_code c == class_code i.class) is
 
-abbrev pub count_class : Class → List Item → ℕ
+abbrev pub count_class : Class → List DumpItem → ℕ
 count_class c is = length (of_class c is)
 
 -- by name, and by kind
-abbrev pub name_less : Item → Item → Bool
+abbrev pub name_less : DumpItem → DumpItem → Bool
 name_less i j = is_lt (slice_cmp nat_cmp i.name j.name)
 
-abbrev pub kind_less : Item → Item → Bool
+abbrev pub kind_less : DumpItem → DumpItem → Bool
 kind_less i j = nat_lt (code_of (kind_of_content i.content)) (code_of (kind_of_content j.content))
 
 -- each comes before all behind it
-abbrev pub AreInOrder : (Item → Item → Bool) → List Item → Type 0
-AreInOrder lt [] = ⊤
-AreInOrder lt (i ∷ is) = AllByRecursion (λ j. lt i j ≡ true) is × AreInOrder lt is
+abbrev pub AreSortedItems : (DumpItem → DumpItem → Bool) → List DumpItem → Type 0
+AreSortedItems lt [] = ⊤
+AreSortedItems lt (i ∷ is) = AllByRecursion (λ j. lt i j ≡ true) is × AreSortedItems lt is
 
 -- ---- the words of an object's line
 
@@ -130,5 +132,5 @@ class_words Named name = codes "named " ++ name_text name ++ 0x20 ∷ []
 class_words Unique name = codes "unique "
 class_words Anonymous name = codes "anonymous "
 
-abbrev pub head_words : Item → List ℕ
+abbrev pub head_words : DumpItem → List ℕ
 head_words i = class_words i.class i.name ++ measure_words (kind_of_content i.content) (count_of_content i.content)

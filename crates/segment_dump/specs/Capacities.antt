@@ -6,23 +6,24 @@ use Rattle.seg_types.specs.declared.kinds.Kind.{Kind}
 use Rattle.seg_types.specs.declared.refusals.Refusal.{Refusal}
 use Rattle.seg_types.specs.Names.{Key}
 use Rattle.segment_lang.specs.Texts.{kind_text, number_text}
-use Rattle.segment_manager.specs.Directory.{Value, Numbers, Elements, Bytes, Pairs, Texts, Directory, Object, kind_of, named_objects, object_at, unique_objects}
+use Rattle.segment_manager.specs.Directory.{Value, Numbers, Elements, Bytes, Pairs, Texts, Directory, Object, kind_of}
+use Rattle.segment_manager.specs.Directory.{named_objects, object_at, unique_objects}
 use Rattle.segment_dump.specs.Building.{class_words}
 use Rattle.segment_dump.specs.Items.{anonymous_objects}
-use Rattle.segment_dump.specs.Owed.{where_anonymous}
+use Rattle.segment_dump.specs.DumpWrites.{where_anonymous}
 use Rattle.segment_manager.specs.Parts.{part_of}
 
 -- ---- which there are
 
 -- what has a capacity: the index of names, that of kinds, or an object, by its class, its name and its kind
-pub data Holder : Type 0 where
-  Names : Holder
-  Kinds : Holder
-  Holds : Class → List ℕ → Kind → Holder
+pub data CapacityHolder : Type 0 where
+  Names : CapacityHolder
+  Kinds : CapacityHolder
+  Holds : Class → List ℕ → Kind → CapacityHolder
 
 -- for how many entries, elements or bytes it has places
 pub record Capacity : Type 0 where
-  pub holder : Holder
+  pub holder : CapacityHolder
   pub places : ℕ
 
 -- the places of a vector, of a string or of a vector of strings
@@ -33,7 +34,7 @@ places_of (Bytes bs t) = Some t.capacity
 places_of (Pairs k v ps) = None
 places_of (Texts ps t) = Some t.capacity
 
-abbrev pub holder_of : Object → Holder
+abbrev pub holder_of : Object → CapacityHolder
 holder_of o = Holds o.class o.name (kind_of o.value)
 
 -- the capacity of an object, if it has one
@@ -44,12 +45,13 @@ object_capacities o = map (λ n. record { holder = holder_of o; places = n }) (o
 abbrev pub capacities : Directory → List Capacity
 capacities d =
     record { holder = Names; places = d.named.capacity } ∷ record { holder = Kinds; places = d.unique.capacity }
-    ∷ (flat_map object_capacities (named_objects d) ++ (flat_map object_capacities (unique_objects d) ++ flat_map object_capacities (anonymous_objects d)))
+    ∷ (flat_map object_capacities (named_objects d)
+    ++ (flat_map object_capacities (unique_objects d) ++ flat_map object_capacities (anonymous_objects d)))
 
 -- ---- how they are told
 
 -- an object as its line in the dump begins
-abbrev pub holder_text : Holder → List ℕ
+abbrev pub holder_text : CapacityHolder → List ℕ
 holder_text Names = codes "names"
 holder_text Kinds = codes "kinds"
 holder_text (Holds class name kind) = class_words class name ++ kind_text kind
@@ -101,4 +103,5 @@ all_notes d = notes_of (named_objects d) ++ (notes_of (unique_objects d) ++ note
 
 -- those of the indexes
 abbrev pub index_notes : ℕ → ℕ → List ℕ
-index_notes named unique = capacity_note (record { holder = Names; places = named }) ++ capacity_note (record { holder = Kinds; places = unique })
+index_notes named unique = capacity_note (record { holder = Names; places = named })
+    ++ capacity_note (record { holder = Kinds; places = unique })

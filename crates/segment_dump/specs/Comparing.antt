@@ -1,8 +1,9 @@
 -- How far a text was written that is known before.
-use Rattle.std.specs.Prelude.{◌≡◌, ◌≢◌, ◌≤◌, ⊤, ℕ, Option, Some, None, List, ◌∷◌, ◌++◌, length, take, drop, option_to_list}
-use Rattle.raw_region.specs.Device.{Took}
+use Rattle.std.specs.Prelude.{◌≡◌, ◌≢◌, ◌≤◌, ⊤, ℕ, Option, Some, None, List, ◌∷◌, ◌++◌, length, take, drop}
+use Rattle.std.specs.Prelude.{option_to_list}
+use Rattle.raw_region.specs.Device.{WriterHistory}
 use Rattle.segment_manager.specs.Directory.{Directory}
-use Rattle.segment_manager.specs.State.{State, StandsFor}
+use Rattle.segment_manager.specs.State.{SegmentState, DenotesCurrent}
 use Rattle.segment_dump.specs.Items.{portable}
 use Rattle.segment_dump.specs.Texts.{dump_text}
 
@@ -18,7 +19,7 @@ abbrev pub taken : Compared → List ℕ
 taken a = take a.at a.text ++ option_to_list a.other
 
 -- What it did so far, said behind its text: so whoever writes to it leaves it its text.
-abbrev pub compared : Compared → Took
+abbrev pub compared : Compared → WriterHistory
 compared a = record { bytes = length a.text ∷ a.text ++ taken a; failures = a.failures }
 
 -- these bytes do not go on with the byte, if there is one
@@ -33,9 +34,9 @@ pub record IsComparing (a : Compared) : Type 0 where
   pub failed : a.other ≡ None → a.failures ≡ 0
 
 -- of each directory that the segment's bytes denote the text is the dump, with this size in it
-pub record IsDumpOf (s : State) (size : ℕ) (text : List ℕ) : Type 0 where
-  pub is : (d : Directory) → StandsFor s.cut.bytes d → text ≡ dump_text size (portable d)
+pub record IsDumpOf (s : SegmentState) (size : ℕ) (text : List ℕ) : Type 0 where
+  pub is : (d : Directory) → DenotesCurrent s.cut.bytes d → text ≡ dump_text size (portable d)
 
 -- of none is it the dump
-pub record IsNoDumpOf (s : State) (size : ℕ) (text : List ℕ) : Type 0 where
-  pub is_not : (d : Directory) → StandsFor s.cut.bytes d → text ≢ dump_text size (portable d)
+pub record IsNoDumpOf (s : SegmentState) (size : ℕ) (text : List ℕ) : Type 0 where
+  pub is_not : (d : Directory) → DenotesCurrent s.cut.bytes d → text ≢ dump_text size (portable d)

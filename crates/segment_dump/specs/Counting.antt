@@ -6,10 +6,11 @@ use Rattle.seg_types.specs.declared.kinds.Kind.{Kind}
 use Rattle.segment_dump.specs.declared.counting.Count.{Count}
 use Rattle.segment_dump.specs.declared.counting.Front.{Front}
 use Rattle.segment_dump.specs.declared.needs.Needs.{Needs}
-use Rattle.segment_dump.specs.Items.{Content, Item, Items, kind_of_content, count_of_content}
+use Rattle.segment_dump.specs.Items.{ValueContent, DumpItem, Items, kind_of_content, count_of_content}
 use Rattle.segment_dump.specs.Leads.{IsSmall}
 use Rattle.segment_dump.specs.Asked.{AreAtMost, HasObjects}
-use Rattle.segment_dump.specs.Need.{all_needs, both, front_room, item_needs, items_needs, only_room, text_needs, texts_needs}
+use Rattle.segment_dump.specs.Need.{all_needs, both, front_room, item_needs, items_needs, only_room, text_needs}
+use Rattle.segment_dump.specs.Need.{texts_needs}
 use Rattle.segment_dump.specs.Texts.{dump_text, end_text, front_text, items_text}
 
 -- ---- what it has
@@ -20,16 +21,16 @@ pub record AreTexts (count : ℕ) (ts : List (List ℕ)) : Type 0 where
   pub small : IsSmall (all_needs text_needs ts).room
 
 -- so many elements of a kind, whose texts fit
-pub record IsContent (kind : Kind) (count : ℕ) (c : Content) : Type 0 where
+pub record HasContentShape (kind : Kind) (count : ℕ) (c : ValueContent) : Type 0 where
   pub kind_is : kind_of_content c ≡ kind
   pub many : count_of_content c ≡ count
   pub small : IsSmall (texts_needs c).room
 
-abbrev pub IsNameless : Item → Type 0
+abbrev pub IsNameless : DumpItem → Type 0
 IsNameless i = i.class ≢ Named → i.name ≡ []
 
 -- an object that fits
-pub record IsCountable (i : Item) : Type 0 where
+pub record IsCountable (i : DumpItem) : Type 0 where
   pub nameless : IsNameless i
   pub small : IsSmall (item_needs i).room
 
@@ -52,11 +53,13 @@ pub record AreCountable (items : Items) : Type 0 where
 
 -- the needs of objects whose lines, and the line `end`, are the text
 pub record CountsObjects (text : List ℕ) (result : Result Needs ℕ) : Type 0 where
-  pub counts : (items : List Item) → AllByRecursion IsNameless items → IsSmall (all_needs item_needs items).room → text ≡ items_text items ++ end_text → result ≡ Ok (all_needs item_needs items)
+  pub counts : (items : List DumpItem) → AllByRecursion IsNameless items → IsSmall (all_needs item_needs items).room
+      → text ≡ items_text items ++ end_text → result ≡ Ok (all_needs item_needs items)
 
 -- the needs of all objects of which the text is the dump, and the size that it says
 pub record CountsDump (text : List ℕ) (result : Result Count ℕ) : Type 0 where
-  pub counts : (n : ℕ) (items : Items) → n < 2 ^ 64 → AreCountable items → text ≡ dump_text n items → result ≡ Ok (record { size = n; needs = items_needs items })
+  pub counts : (n : ℕ) (items : Items) → n < 2 ^ 64 → AreCountable items → text ≡ dump_text n items
+      → result ≡ Ok (record { size = n; needs = items_needs items })
 
 -- whatever the text is, it begins with the three first lines of a dump, where this size was read, and with objects in
 -- front of the line `end`, and these ask for at least what was counted

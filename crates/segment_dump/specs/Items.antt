@@ -7,22 +7,22 @@ use Rattle.seg_types.specs.declared.kinds.Kind.{Kind}
 use Rattle.seg_types.specs.declared.kinds.Kind.TheVariants as kinds
 use Rattle.segment_manager.specs.Directory.{Directory, Object, is_class, named_objects, unique_objects}
 -- the value of an object
-pub use Rattle.segment_values.specs.Contents.{Content, Scalars, Vector, String, Map, Strings}
+pub use Rattle.segment_values.specs.Contents.{ValueContent, Scalars, Vector, String, Map, Strings}
 pub use Rattle.segment_values.specs.Contents.{bytes_in, content_of, count_of_content}
 
 -- an object as a dump has it
-pub record Item : Type 0 where
+pub record DumpItem : Type 0 where
   pub class : Class
   pub name : List ℕ
-  pub content : Content
+  pub content : ValueContent
 
 -- all objects: those with names by their names, the unique ones by their kinds, and the others by their handles
 pub record Items : Type 0 where
-  pub named : List Item
-  pub unique : List Item
-  pub anonymous : List Item
+  pub named : List DumpItem
+  pub unique : List DumpItem
+  pub anonymous : List DumpItem
 
-abbrev pub item_of_object : Object → Item
+abbrev pub item_of_object : Object → DumpItem
 item_of_object o = record { class = o.class; name = o.name; content = content_of o.value }
 
 abbrev pub anonymous_objects : Directory → List Object
@@ -36,7 +36,7 @@ portable d = record {
   anonymous = map item_of_object (anonymous_objects d);
 }
 
-abbrev pub kind_of_content : Content → Kind
+abbrev pub kind_of_content : ValueContent → Kind
 kind_of_content (Scalars k zs) = kinds.Scalar k
 kind_of_content (Vector k zs) = kinds.Vector k
 kind_of_content (String bs) = kinds.String

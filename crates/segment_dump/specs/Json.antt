@@ -1,5 +1,6 @@
 -- A segment as lines of JSON: an object a line, with its class, name, kind and value.
-use Rattle.std.specs.Prelude.{ℕ, zero, suc, ℤ, ◌+◌, ◌-◌, ◌*◌, ◌/◌, ◌%◌, ◌==◌, ◌||◌, nat_lt, if◌then◌else◌, List, [], ◌∷◌, ◌++◌, codes}
+use Rattle.std.specs.Prelude.{ℕ, zero, suc, ℤ, ◌+◌, ◌-◌, ◌*◌, ◌/◌, ◌%◌, ◌==◌, ◌||◌, nat_lt, if◌then◌else◌, List, []}
+use Rattle.std.specs.Prelude.{◌∷◌, ◌++◌, codes}
 use Rattle.std.specs.List.{flat_map}
 use Rattle.std.specs.Str.{is_utf8}
 use Rattle.seg_types.specs.declared.kinds.Class.{Class}
@@ -11,7 +12,8 @@ use Rattle.seg_types.specs.Names.{Key}
 use Rattle.seg_types.specs.Texts.{digit_text}
 use Rattle.segment_lang.specs.Texts.{kind_text, value_text}
 use Rattle.segment_manager.specs.Directory.{Directory, Object, object_at}
-use Rattle.segment_dump.specs.Items.{Content, Scalars, Vector, String, Map, Strings, Item, Items, item_of_object, kind_of_content}
+use Rattle.segment_dump.specs.Items.{ValueContent, Scalars, Vector, String, Map, Strings, DumpItem, Items}
+use Rattle.segment_dump.specs.Items.{item_of_object, kind_of_content}
 use Rattle.segment_dump.specs.Layouts.{Spelling, laid_from}
 use Rattle.segment_manager.specs.Parts.{part_of}
 
@@ -40,9 +42,11 @@ base64_letter n =
 abbrev pub base64_text : List ℕ → List ℕ
 base64_text [] = []
 base64_text (a ∷ []) = base64_letter (a / 4) ∷ base64_letter (a % 4 * 16) ∷ 0x3D ∷ 0x3D ∷ []
-base64_text (a ∷ b ∷ []) = base64_letter (a / 4) ∷ base64_letter (a % 4 * 16 + b / 16) ∷ base64_letter (b % 16 * 4) ∷ 0x3D ∷ []
+base64_text (a ∷ b ∷ []) = base64_letter (a / 4) ∷ base64_letter (a % 4 * 16 + b / 16) ∷ base64_letter (b % 16 * 4)
+    ∷ 0x3D ∷ []
 base64_text (a ∷ b ∷ c ∷ rest) =
-    base64_letter (a / 4) ∷ base64_letter (a % 4 * 16 + b / 16) ∷ base64_letter (b % 16 * 4 + c / 64) ∷ base64_letter (c % 64) ∷ base64_text rest
+    base64_letter (a / 4) ∷ base64_letter (a % 4 * 16 + b / 16) ∷ base64_letter (b % 16 * 4 + c / 64)
+    ∷ base64_letter (c % 64) ∷ base64_text rest
 
 abbrev pub json_coded : List ℕ → List ℕ
 json_coded bs = codes "{\"base64\":\"" ++ (base64_text bs ++ codes "\"}")
@@ -71,7 +75,7 @@ abbrev pub json_list : {X : Type 0} → (X → List ℕ) → List X → List ℕ
 json_list f xs = 0x5B ∷ laid_from (λ i x. comma_before i ++ f x) 0 xs ++ 0x5D ∷ []
 
 -- a string is its text, and of all others there is a list of the elements
-abbrev pub json_value : Content → List ℕ
+abbrev pub json_value : ValueContent → List ℕ
 json_value (Scalars k zs) = json_list (value_text k) zs
 json_value (Vector k zs) = json_list (value_text k) zs
 json_value (String bs) = json_bytes bs
@@ -89,12 +93,14 @@ json_key Anonymous name = codes "{\"class\":\"anonymous\",\"name\":null"
 abbrev pub json_kind : Kind → List ℕ
 json_kind kind = codes ",\"kind\":\"" ++ (kind_text kind ++ codes "\",\"value\":")
 
-abbrev pub json_line : Item → List ℕ
-json_line i = json_key i.class i.name ++ (json_kind (kind_of_content i.content) ++ (json_value i.content ++ codes "}\n"))
+abbrev pub json_line : DumpItem → List ℕ
+json_line i = json_key i.class i.name
+    ++ (json_kind (kind_of_content i.content) ++ (json_value i.content ++ codes "}\n"))
 
 -- all objects, in the order of a dump
 abbrev pub json_dump : Items → List ℕ
-json_dump items = flat_map json_line items.named ++ (flat_map json_line items.unique ++ flat_map json_line items.anonymous)
+json_dump items = flat_map json_line items.named
+    ++ (flat_map json_line items.unique ++ flat_map json_line items.anonymous)
 
 -- ---- parts of it
 

@@ -2,7 +2,7 @@
 use Rattle.std.specs.Prelude.{◌≡◌, ◌≤◌, ℕ, true, List, ◌∷◌, ◌++◌}
 use Rattle.std.specs.List.{AllByRecursion}
 use Rattle.segment_manager.specs.Directory.{Directory}
-use Rattle.segment_manager.specs.State.{StandsFor}
+use Rattle.segment_manager.specs.State.{DenotesCurrent}
 use Rattle.segment_dump.specs.Capacities.{capacities, capacities_text}
 use Rattle.segment_dump.specs.Items.{Items, portable}
 use Rattle.segment_dump.specs.Need.{items_needs}
@@ -13,15 +13,17 @@ use Rattle.segment_dump.specs.Texts.{dump_text}
 -- Two segments that have one dump have the same objects, whatever sizes are said in it: the same names, classes, kinds
 -- and values, and the anonymous objects in the same order.
 abbrev pub DumpsTellObjects : Type 0
-DumpsTellObjects = (b c : List ℕ) (d e : Directory) (m n : ℕ) → StandsFor b d → StandsFor c e → dump_text m (portable d) ≡ dump_text n (portable e) → portable d ≡ portable e
+DumpsTellObjects = (b c : List ℕ) (d e : Directory) (m n : ℕ) → DenotesCurrent b d → DenotesCurrent c e
+    → dump_text m (portable d) ≡ dump_text n (portable e) → portable d ≡ portable e
 
 -- where each dump says the size of its own segment, the segments have one size
 abbrev pub DumpsTellSizes : Type 0
-DumpsTellSizes = (b c : List ℕ) (d e : Directory) → StandsFor b d → StandsFor c e → dump_text d.size (portable d) ≡ dump_text e.size (portable e) → d.size ≡ e.size
+DumpsTellSizes = (b c : List ℕ) (d e : Directory) → DenotesCurrent b d → DenotesCurrent c e
+    → dump_text d.size (portable d) ≡ dump_text e.size (portable e) → d.size ≡ e.size
 
 -- a segment has at least as many bytes as its objects need
 abbrev pub SegmentsHaveRoom : Type 0
-SegmentsHaveRoom = (b : List ℕ) (d : Directory) → StandsFor b d → (items_needs (portable d)).room ≤ d.size
+SegmentsHaveRoom = (b : List ℕ) (d : Directory) → DenotesCurrent b d → (items_needs (portable d)).room ≤ d.size
 
 -- ---- notes behind a dump
 
@@ -33,21 +35,23 @@ pub record IsNote (line : List ℕ) : Type 0 where
 
 -- whatever notes stand behind a dump, the dump is what is left without them
 abbrev pub NotesAreLeftOut : Type 0
-NotesAreLeftOut = (n : ℕ) (items : Items) (notes : List (List ℕ)) → AllByRecursion IsNote notes → without_notes (dump_text n items ++ lines_text notes) ≡ dump_text n items
+NotesAreLeftOut = (n : ℕ) (items : Items) (notes : List (List ℕ)) → AllByRecursion IsNote notes
+    → without_notes (dump_text n items ++ lines_text notes) ≡ dump_text n items
 
 -- and so it is of the capacities of a segment
 abbrev pub CapacitiesAreLeftOut : Type 0
-CapacitiesAreLeftOut = (n : ℕ) (d : Directory) → without_notes (dump_text n (portable d) ++ capacities_text (capacities d)) ≡ dump_text n (portable d)
+CapacitiesAreLeftOut = (n : ℕ) (d : Directory)
+    → without_notes (dump_text n (portable d) ++ capacities_text (capacities d)) ≡ dump_text n (portable d)
 
 -- of a dump alone nothing is left out
 abbrev pub DumpsHaveNoNotes : Type 0
 DumpsHaveNoNotes = (n : ℕ) (items : Items) → without_notes (dump_text n items) ≡ dump_text n items
 
 -- what is left out of a text are notes, at its end
-pub record IsCut (text : List ℕ) : Type 0 where
+pub record HasTrailingNotes (text : List ℕ) : Type 0 where
   pub notes : List ℕ
   pub whole : text ≡ without_notes text ++ notes
   pub are : are_notes true notes ≡ true
 
 abbrev pub NotesAreCut : Type 0
-NotesAreCut = (text : List ℕ) → IsCut text
+NotesAreCut = (text : List ℕ) → HasTrailingNotes text

@@ -35,5 +35,5 @@ IsMeasure (kind, n) = IsSmall n
 abbrev pub entries_text : ℕ × ℕ → List ℕ
 entries_text (named, unique) = number_text named ++ 0x20 ∷ number_text unique ++ 0x0A ∷ []
 
-abbrev pub AreEntries : ℕ × ℕ → Type 0
-AreEntries (named, unique) = IsSmall named × IsSmall unique
+abbrev pub AreEntryCounts : ℕ × ℕ → Type 0
+AreEntryCounts (named, unique) = IsSmall named × IsSmall unique

@@ -1,6 +1,6 @@
 pub mod Items
 pub mod Texts
-pub mod Owed
+pub mod DumpWrites
 pub mod Comparing
 pub mod Places
 pub mod Loading

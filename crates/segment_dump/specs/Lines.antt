@@ -17,11 +17,13 @@ IsShortLine line = length line ≤ 4096
 
 -- a line in front is read, and what is behind its end is left
 pub record ReadsLine {E : Type 0} (text rest : List ℕ) (result : Result (List ℕ) E) : Type 0 where
-  pub reads : (line a : List ℕ) → HasNoEnd line → IsShortLine line → text ≡ ended line ++ a → (result ≡ Ok line) × (rest ≡ a)
+  pub reads : (line a : List ℕ) → HasNoEnd line → IsShortLine line → text ≡ ended line ++ a
+      → (result ≡ Ok line) × (rest ≡ a)
 
 -- what the next word is the spelling of is read, and what is behind the word is left
 pub record ReadsWord {X E : Type 0} (value : Word → Option X) (text rest : List ℕ) (result : Result X E) : Type 0 where
-  pub reads : (w : Word) (a : List ℕ) (x : X) → next_word text ≡ Some (w, a) → value w ≡ Some x → (result ≡ Ok x) × (rest ≡ a)
+  pub reads : (w : Word) (a : List ℕ) (x : X) → next_word text ≡ Some (w, a) → value w ≡ Some x
+      → (result ≡ Ok x) × (rest ≡ a)
 
 -- ---- what a word is
 

@@ -1,10 +1,11 @@
 -- What loading a dump owes.
-use Rattle.std.specs.Prelude.{◌≡◌, ◌+◌, ◌^◌, ◌<◌, ◌≤◌, ⊤, ℕ, false, Option, Some, None, Result, Ok, Err, List, length, take, IsTrue, not, nat_lt, if◌then◌else◌}
+use Rattle.std.specs.Prelude.{◌≡◌, ◌+◌, ◌^◌, ◌<◌, ◌≤◌, ⊤, ℕ, false, Option, Some, None, Result, Ok, Err, List, length}
+use Rattle.std.specs.Prelude.{take, IsTrue, not, nat_lt, if◌then◌else◌}
 use Rattle.block_tags.specs.Format.{is_legal_size}
 use Rattle.best_fit.specs.Extents.{free_bytes}
 use Rattle.segment_manager.specs.declared.modes.Mode.TheVariants.{Write}
 use Rattle.segment_manager.specs.Directory.{Directory, live}
-use Rattle.segment_manager.specs.State.{State, StandsFor}
+use Rattle.segment_manager.specs.State.{SegmentState, DenotesCurrent}
 use Rattle.segment_dump.specs.Comparing.{IsDumpOf}
 use Rattle.segment_dump.specs.Counting.{CountsDump, IsCounted}
 use Rattle.segment_dump.specs.Items.{portable}
@@ -13,17 +14,18 @@ use Rattle.segment_dump.specs.Texts.{dump_text}
 use Rattle.segment_dump.specs.declared.counting.Count.{Count}
 use Rattle.segment_dump.specs.declared.faults.BadDump.{BadDump}
 use Rattle.segment_dump.specs.declared.faults.LoadError.{LoadError}
-use Rattle.segment_dump.specs.declared.faults.LoadError.TheVariants.{BadDump as Bad, BadSize, RegionTooSmall, NoSpace, LongText}
+use Rattle.segment_dump.specs.declared.faults.LoadError.TheVariants.{BadDump as Bad, BadSize, RegionTooSmall, NoSpace}
+use Rattle.segment_dump.specs.declared.faults.LoadError.TheVariants.{LongText}
 use Rattle.segment_dump.specs.declared.faults.LoadRefused.{LoadRefused}
 use Rattle.segment_dump.specs.Places.{place_behind}
 
 -- the segment has the size that was asked for, or, where none was, nothing in it is free
-abbrev pub HasSize : State → Option ℕ → Type 0
-HasSize s None = (d : Directory) → StandsFor s.cut.bytes d → free_bytes (live d) ≡ 0
-HasSize s (Some size) = (d : Directory) → StandsFor s.cut.bytes d → d.size ≡ size
+abbrev pub HasSize : SegmentState → Option ℕ → Type 0
+HasSize s None = (d : Directory) → DenotesCurrent s.cut.bytes d → free_bytes (live d) ≡ 0
+HasSize s (Some size) = (d : Directory) → DenotesCurrent s.cut.bytes d → d.size ≡ size
 
 -- a segment was made of which the text is the dump, for a size that it says itself, open for writing
-pub record IsJudged (text : List ℕ) (size : Option ℕ) (s : State) : Type 0 where
+pub record IsJudged (text : List ℕ) (size : Option ℕ) (s : SegmentState) : Type 0 where
   pub said : ℕ
   pub is : IsDumpOf s said text
   pub mode : s.mode ≡ Write
@@ -31,26 +33,27 @@ pub record IsJudged (text : List ℕ) (size : Option ℕ) (s : State) : Type 0 w
 
 -- whatever directory the text is the dump of, that of the segment has the same objects: names, classes, kinds and
 -- values
-pub record HasObjectsOf (text : List ℕ) (s : State) : Type 0 where
-  pub same : (b : List ℕ) (d : Directory) (n : ℕ) → StandsFor b d → text ≡ dump_text n (portable d) → (e : Directory) → StandsFor s.cut.bytes e → portable e ≡ portable d
+pub record HasObjectsOf (text : List ℕ) (s : SegmentState) : Type 0 where
+  pub same : (b : List ℕ) (d : Directory) (n : ℕ) → DenotesCurrent b d → text ≡ dump_text n (portable d)
+      → (e : Directory) → DenotesCurrent s.cut.bytes e → portable e ≡ portable d
 
 -- both
-pub record IsLoaded (text : List ℕ) (size : Option ℕ) (s : State) : Type 0 where
+pub record IsLoaded (text : List ℕ) (size : Option ℕ) (s : SegmentState) : Type 0 where
   pub judged : IsJudged text size s
   pub objects : HasObjectsOf text s
 
 -- ---- no segment is made
 
 -- some place of the text
-pub record IsPlace (text : List ℕ) (bad : BadDump) : Type 0 where
+pub record IsTextPosition (text : List ℕ) (bad : BadDump) : Type 0 where
   pub at : ℕ
   pub inside : at ≤ length text
   pub place : (bad.line, bad.column) ≡ place_behind (take at text)
 
 -- the size that was asked for, or else that of the text
-abbrev pub IsAsked : Option ℕ → ℕ → Type 0
-IsAsked None n = ⊤
-IsAsked (Some size) n = n ≡ size
+abbrev pub IsRequestedSize : Option ℕ → ℕ → Type 0
+IsRequestedSize None n = ⊤
+IsRequestedSize (Some size) n = n ≡ size
 
 abbrev pub asked_of : Option ℕ → ℕ → ℕ
 asked_of None said = said
@@ -59,24 +62,28 @@ asked_of (Some size) said = size
 -- Whatever segment the text is the dump of, its objects need more bytes than the size, and it has more itself. So there
 -- is none of at most this size.
 pub record HasNoSpace (text : List ℕ) (size : Option ℕ) : Type 0 where
-  pub needed : (b : List ℕ) (d : Directory) (n : ℕ) → StandsFor b d → n < 2 ^ 64 → text ≡ dump_text n (portable d) → asked_of size n < (items_needs (portable d)).room
-  pub longer : (b : List ℕ) (d : Directory) (n : ℕ) → StandsFor b d → n < 2 ^ 64 → text ≡ dump_text n (portable d) → asked_of size n < d.size
+  pub needed : (b : List ℕ) (d : Directory) (n : ℕ) → DenotesCurrent b d → n < 2 ^ 64
+      → text ≡ dump_text n (portable d) → asked_of size n < (items_needs (portable d)).room
+  pub longer : (b : List ℕ) (d : Directory) (n : ℕ) → DenotesCurrent b d → n < 2 ^ 64
+      → text ≡ dump_text n (portable d) → asked_of size n < d.size
 
 -- whatever segment the text is the dump of, it has a vector of strings with a text of more bytes than the room
 pub record HasLongText (text : List ℕ) (room : ℕ) : Type 0 where
-  pub longer : (b : List ℕ) (d : Directory) (n : ℕ) → StandsFor b d → n < 2 ^ 64 → text ≡ dump_text n (portable d) → room < (items_needs (portable d)).longest
+  pub longer : (b : List ℕ) (d : Directory) (n : ℕ) → DenotesCurrent b d → n < 2 ^ 64
+      → text ≡ dump_text n (portable d) → room < (items_needs (portable d)).longest
 
 -- why not: where the text is wrong, or what is wrong with the size or the room
-abbrev pub IsWhyNot : List ℕ → List ℕ → ℕ → Option ℕ → ℕ → LoadError → Type 0
-IsWhyNot text region base size room (Bad bad) = IsPlace text bad
-IsWhyNot text region base size room BadSize = (n : ℕ) × IsAsked size n × (is_legal_size n ≡ false)
-IsWhyNot text region base size room RegionTooSmall = (n : ℕ) × IsAsked size n × IsTrue (is_legal_size n) × (length region < base + n)
-IsWhyNot text region base size room NoSpace = HasNoSpace text size
-IsWhyNot text region base size room LongText = HasLongText text room
+abbrev pub IsLoadCause : List ℕ → List ℕ → ℕ → Option ℕ → ℕ → LoadError → Type 0
+IsLoadCause text region base size room (Bad bad) = IsTextPosition text bad
+IsLoadCause text region base size room BadSize = (n : ℕ) × IsRequestedSize size n × (is_legal_size n ≡ false)
+IsLoadCause text region base size room RegionTooSmall = (n : ℕ) × IsRequestedSize size n × IsTrue (is_legal_size n)
+    × (length region < base + n)
+IsLoadCause text region base size room NoSpace = HasNoSpace text size
+IsLoadCause text region base size room LongText = HasLongText text room
 
 -- the text is wrong, at some place
 abbrev pub IsWrong : List ℕ → LoadError → Type 0
-IsWrong text (Bad bad) = IsPlace text bad
+IsWrong text (Bad bad) = IsTextPosition text bad
 IsWrong text BadSize = ⊥
 IsWrong text RegionTooSmall = ⊥
 IsWrong text NoSpace = ⊥
@@ -105,19 +112,23 @@ cause_but_bad RegionTooSmall = Some RegionTooSmall
 cause_but_bad NoSpace = Some NoSpace
 cause_but_bad LongText = Some LongText
 
-abbrev pub cause_in : Result State LoadRefused → Option LoadError
+abbrev pub cause_in : Result SegmentState LoadRefused → Option LoadError
 cause_in (Ok s) = None
 cause_in (Err refused) = cause_but_bad refused.cause
 
 -- Whatever segment the text is the dump of, but for a place of the text a load is refused exactly where something is
 -- lacking for its objects, and for that.
-pub record IsExact (text : List ℕ) (capacity base : ℕ) (size : Option ℕ) (room : ℕ) (cause : Option LoadError) : Type 0 where
-  pub exact : (b : List ℕ) (d : Directory) (n : ℕ) → StandsFor b d → n < 2 ^ 64 → text ≡ dump_text n (portable d) → cause ≡ refusal_for capacity base size room (record { size = n; needs = items_needs (portable d) })
+pub record IsExact (text : List ℕ) (capacity base : ℕ) (size : Option ℕ) (room : ℕ) (cause : Option LoadError) :
+    Type 0 where
+  pub exact : (b : List ℕ) (d : Directory) (n : ℕ) → DenotesCurrent b d → n < 2 ^ 64
+      → text ≡ dump_text n (portable d)
+      → cause ≡ refusal_for capacity base size room (record { size = n; needs = items_needs (portable d) })
 
 -- where nothing is lacking, or the objects were not counted, only a place of the text is a reason
-abbrev pub IsMade : ℕ → ℕ → Option ℕ → ℕ → Result Count ℕ → Option LoadError → Type 0
-IsMade capacity base size room (Ok count) cause = refusal_for capacity base size room count ≡ None → cause ≡ None
-IsMade capacity base size room (Err left) cause = cause ≡ None
+abbrev pub LoadsUnlessLacking : ℕ → ℕ → Option ℕ → ℕ → Result Count ℕ → Option LoadError → Type 0
+LoadsUnlessLacking capacity base size room (Ok count) cause = refusal_for capacity base size room count ≡ None
+    → cause ≡ None
+LoadsUnlessLacking capacity base size room (Err left) cause = cause ≡ None
 
 -- Of any text, a cause that is no place of it is what is lacking for objects that were counted: the text begins as a
 -- dump does, and whatever segment it is the dump of, these are its needs.
@@ -136,8 +147,9 @@ IsBack RegionTooSmall region back = back ≡ Some region
 IsBack NoSpace region back = back ≡ Some region
 IsBack LongText region back = back ≡ Some region
 
-pub record IsNotLoaded (text region : List ℕ) (base : ℕ) (size : Option ℕ) (room : ℕ) (refused : LoadRefused) : Type 0 where
-  pub why : IsWhyNot text region base size room refused.cause
+pub record IsNotLoaded (text region : List ℕ) (base : ℕ) (size : Option ℕ) (room : ℕ) (refused : LoadRefused) : Type
+    0 where
+  pub why : IsLoadCause text region base size room refused.cause
   pub back : IsBack refused.cause region refused.region
 
 -- a segment was begun, and its region is let go: the text is wrong

@@ -8,7 +8,8 @@ use Rattle.seg_map.specs.Map.{node_len}
 use Rattle.segment_manager.specs.Layout.{head_len}
 use Rattle.segment_manager.specs.Directory.{padded}
 use Rattle.segment_dump.specs.declared.needs.Needs.{Needs}
-use Rattle.segment_dump.specs.Items.{Content, Scalars, Vector, String, Map, Strings, Item, Items, kind_of_content, count_of_content}
+use Rattle.segment_dump.specs.Items.{ValueContent, Scalars, Vector, String, Map, Strings, DumpItem, Items}
+use Rattle.segment_dump.specs.Items.{kind_of_content, count_of_content}
 
 -- ---- blocks
 
@@ -56,15 +57,17 @@ abbrev pub text_needs : List ℕ → Needs
 text_needs bs = record { room = block_room (length bs); longest = length bs }
 
 -- the texts of an object; a string is made from its lines, without room for all of it
-abbrev pub texts_needs : Content → Needs
+abbrev pub texts_needs : ValueContent → Needs
 texts_needs (Scalars k zs) = nothing
 texts_needs (Vector k zs) = nothing
 texts_needs (String bs) = only_room (block_room (length bs))
 texts_needs (Map k v ps) = nothing
 texts_needs (Strings ts) = all_needs text_needs ts
 
-abbrev pub item_needs : Item → Needs
-item_needs i = both (only_room (object_room (length i.name) (kind_of_content i.content) (count_of_content i.content))) (texts_needs i.content)
+abbrev pub item_needs : DumpItem → Needs
+item_needs i =
+    both (only_room (object_room (length i.name) (kind_of_content i.content) (count_of_content i.content)))
+    (texts_needs i.content)
 
 -- the header and the end tag, and the blocks of the two indexes, of so many entries
 unfoldable pub front_room : ℕ → ℕ → ℕ
@@ -74,4 +77,5 @@ front_room named unique = 144 + block_room (8 * named) + block_room (8 * unique)
 abbrev pub items_needs : Items → Needs
 items_needs items =
     both (only_room (front_room (length items.named) (length items.unique)))
-    (both (all_needs item_needs items.named) (both (all_needs item_needs items.unique) (all_needs item_needs items.anonymous)))
+    (both (all_needs item_needs items.named)
+    (both (all_needs item_needs items.unique) (all_needs item_needs items.anonymous)))

@@ -1,5 +1,6 @@
 -- Notes behind a dump, which a load leaves out: lines that begin with '#', at the end of a text.
-use Rattle.std.specs.Prelude.{◌≡◌, ◌<◌, ◌≤◌, ℕ, Bool, true, false, ◌&&◌, not, List, [], ◌∷◌, ◌==◌, length, take, drop, if◌then◌else◌}
+use Rattle.std.specs.Prelude.{◌≡◌, ◌<◌, ◌≤◌, ℕ, Bool, true, false, ◌&&◌, not, List, [], ◌∷◌, ◌==◌, length, take, drop}
+use Rattle.std.specs.Prelude.{if◌then◌else◌}
 
 -- these bytes are notes and nothing else: from the start of a line on, or else from the midst of a note on
 abbrev pub are_notes : Bool → List ℕ → Bool

@@ -26,11 +26,13 @@ abbrev pub AreLines : ℕ → List (List ℕ) → Type 0
 AreLines n lines = AllByRecursion HasNoEnd lines × (length lines ≡ n)
 
 -- whatever is said of this stands in front, the value is read and the rest is left
-pub record Reads {X Y : Type 0} (say : X → List ℕ) (IsSaid : X → Type 0) (Follows : List ℕ → Type 0) (value : X → Y) (text : List ℕ) (result : Option (Y × List ℕ)) : Type 0 where
+pub record ParsesPrefix {X Y : Type 0} (say : X → List ℕ) (IsSaid : X → Type 0) (Follows : List ℕ
+    → Type 0) (value : X → Y) (text : List ℕ) (result : Option (Y × List ℕ)) : Type 0 where
   pub reads : (x : X) (rest : List ℕ) → IsSaid x → Follows rest → text ≡ say x ++ rest → result ≡ Some (value x, rest)
 
 -- the same where no value is asked for
-pub record Skips {X : Type 0} (say : X → List ℕ) (IsSaid : X → Type 0) (text : List ℕ) (result : Option (List ℕ)) : Type 0 where
+pub record Skips {X : Type 0} (say : X → List ℕ) (IsSaid : X
+    → Type 0) (text : List ℕ) (result : Option (List ℕ)) : Type 0 where
   pub skips : (x : X) (rest : List ℕ) → IsSaid x → text ≡ say x ++ rest → result ≡ Some rest
 
 -- anything may be said, and may follow

@@ -10,16 +10,16 @@ use Rattle.segment_lang.specs.Words.{Bare}
 use Rattle.segment_manager.specs.declared.modes.Mode.TheVariants.{Write}
 use Rattle.segment_manager.specs.Directory.{Directory, empty, live}
 use Rattle.segment_manager.specs.blocks.Resized.{shrunk}
-use Rattle.segment_manager.specs.State.{State, StandsFor}
+use Rattle.segment_manager.specs.State.{SegmentState, DenotesCurrent}
 use Rattle.segment_dump.specs.declared.counting.Count.{Count}
 use Rattle.segment_dump.specs.declared.counting.Front.{Front}
 use Rattle.segment_dump.specs.declared.faults.LoadRefused.{LoadRefused}
 use Rattle.segment_dump.specs.Builders.{AreLeft}
-use Rattle.segment_dump.specs.Building.{AreInOrder, Site, kind_less, name_less}
+use Rattle.segment_dump.specs.Building.{AreSortedItems, Site, kind_less, name_less}
 use Rattle.segment_dump.specs.Filling.{StandsBuilt}
-use Rattle.segment_dump.specs.Items.{Item, Items, portable}
+use Rattle.segment_dump.specs.Items.{DumpItem, Items, portable}
 use Rattle.segment_dump.specs.Lines.{IsShortLine}
-use Rattle.segment_dump.specs.Loading.{IsAsked, refusal_for}
+use Rattle.segment_dump.specs.Loading.{IsRequestedSize, refusal_for}
 use Rattle.segment_dump.specs.Need.{all_needs, front_room, item_needs, items_needs}
 use Rattle.segment_dump.specs.Order.{all_items}
 use Rattle.segment_dump.specs.Reads.{HasNoEnd, ended}
@@ -29,10 +29,12 @@ use Rattle.segment_dump.specs.Texts.{dump_text, end_text, items_text}
 
 -- a line that begins with the word is read up to behind it
 pub record ReadsLead {E : Type 0} (word text rest : List ℕ) (result : Result (List ℕ) E) : Type 0 where
-  pub reads : (line tail a : List ℕ) → HasNoEnd line → IsShortLine line → next_word line ≡ Some (Bare word, tail) → text ≡ ended line ++ a → (result ≡ Ok tail) × (rest ≡ a)
+  pub reads : (line tail a : List ℕ) → HasNoEnd line → IsShortLine line → next_word line ≡ Some (Bare word, tail)
+      → text ≡ ended line ++ a → (result ≡ Ok tail) × (rest ≡ a)
 
 -- whatever is said of this in front is read, and what follows is left
-pub record Takes {X E : Type 0} (say : X → List ℕ) (IsSaid : X → Type 0) (text rest : List ℕ) (result : Result X E) : Type 0 where
+pub record Takes {X E : Type 0} (say : X → List ℕ) (IsSaid : X
+    → Type 0) (text rest : List ℕ) (result : Result X E) : Type 0 where
   pub takes : (x : X) (a : List ℕ) → IsSaid x → text ≡ say x ++ a → (result ≡ Ok x) × (rest ≡ a)
 
 abbrev pub version_line : List ℕ
@@ -58,7 +60,8 @@ IsNumber n = n < 2 ^ 64
 
 -- what is left of a text whose first two lines are a dump's is what stands behind them
 pub record LeavesThird (text : List ℕ) (left : ℕ) : Type 0 where
-  pub leaves : (n : ℕ) (rest : List ℕ) → IsNumber n → text ≡ version_said tt ++ (size_said n ++ rest) → left ≡ length rest
+  pub leaves : (n : ℕ) (rest : List ℕ) → IsNumber n → text ≡ version_said tt ++ (size_said n ++ rest)
+      → left ≡ length rest
 
 abbrev pub AreNumbers : ℕ × ℕ → Type 0
 AreNumbers p = IsNumber p.0 × IsNumber p.1
@@ -69,46 +72,57 @@ abbrev pub site_of : Front → ℕ → Site
 site_of front size = record { named = front.named; unique = front.unique; size = size }
 
 -- all of them, in a segment with nothing in it that is long enough
-pub record MakesObjects {E : Type 0} (old new : State) (front : Front) (text : List ℕ) (most room : ℕ) (result : Result (Unit {0}) E) : Type 0 where
-  pub makes : (size : ℕ) (items : List Item) → StandsFor old.cut.bytes (empty size) → old.mode ≡ Write → front_room front.named front.unique + (all_needs item_needs items).room ≤ size → AreLeft (site_of front size) room [] items
-      → text ≡ items_text items ++ end_text → length text ≤ most → (result ≡ Ok tt) × StandsBuilt new (site_of front size) items 0
+pub record MakesObjects {E : Type 0} (old new : SegmentState) (front : Front) (text : List ℕ) (most room : ℕ)
+    (result : Result (Unit {0}) E) : Type 0 where
+  pub makes : (size : ℕ) (items : List DumpItem) → DenotesCurrent old.cut.bytes (empty size) → old.mode ≡ Write
+      → front_room front.named front.unique + (all_needs item_needs items).room ≤ size
+      → AreLeft (site_of front size) room [] items
+      → text ≡ items_text items ++ end_text → length text ≤ most
+      → (result ≡ Ok tt) × StandsBuilt new (site_of front size) items 0
 
 -- ---- what was made is judged
 
-abbrev pub AreOf : Class → List Item → Type 0
-AreOf c = AllByRecursion (λ (i : Item). i.class ≡ c)
+abbrev pub AreOf : Class → List DumpItem → Type 0
+AreOf c = AllByRecursion (λ (i : DumpItem). i.class ≡ c)
 
 -- as they are of a directory
-pub record AreSorted (items : Items) : Type 0 where
+pub record AreOrderedItems (items : Items) : Type 0 where
   pub named : AreOf Named items.named
   pub unique : AreOf Unique items.unique
   pub anonymous : AreOf Anonymous items.anonymous
-  pub by_name : AreInOrder name_less items.named
-  pub by_kind : AreInOrder kind_less items.unique
+  pub by_name : AreSortedItems name_less items.named
+  pub by_kind : AreSortedItems kind_less items.unique
 
 abbrev pub IsOk : {A E : Type 0} → Result A E → Type 0
 IsOk result = MatchResult result (λ a. ⊤) (λ e. ⊥)
 
 -- the size that was asked for, or, where none was, nothing free
-abbrev pub IsSized : Directory → Option ℕ → Type 0
-IsSized d None = free_bytes (live d) ≡ 0
-IsSized d (Some size) = d.size ≡ size
+abbrev pub HasRequestedSize : Directory → Option ℕ → Type 0
+HasRequestedSize d None = free_bytes (live d) ≡ 0
+HasRequestedSize d (Some size) = d.size ≡ size
 
-pub record Sizes (s : State) (size : Option ℕ) (result : Bool) : Type 0 where
-  pub sizes : (d : Directory) → StandsFor s.cut.bytes d → IsSized d size → result ≡ true
+pub record Sizes (s : SegmentState) (size : Option ℕ) (result : Bool) : Type 0 where
+  pub sizes : (d : Directory) → DenotesCurrent s.cut.bytes d → HasRequestedSize d size → result ≡ true
 
-pub record Judges (s : State) (text : List ℕ) (said : ℕ) (size : Option ℕ) (result : Result State LoadRefused) : Type 0 where
-  pub judges : (site : Site) (items : Items) → StandsBuilt s site (all_items items) 0 → AreSorted items → IsAsked size site.size → text ≡ dump_text said items → IsOk result
+pub record JudgesDump (s : SegmentState) (text : List ℕ) (said : ℕ) (size : Option ℕ)
+    (result : Result SegmentState LoadRefused) : Type 0 where
+  pub judges : (site : Site) (items : Items) → StandsBuilt s site (all_items items) 0 → AreOrderedItems items
+      → IsRequestedSize size site.size → text ≡ dump_text said items → IsOk result
 
 -- ---- all of it
 
 -- Whatever segment the text is the dump of, a load gives one where nothing is lacking for its objects.
-pub record Succeeds (text : List ℕ) (capacity base : ℕ) (size : Option ℕ) (room : ℕ) (result : Result State LoadRefused) : Type 0 where
-  pub succeeds : (b : List ℕ) (d : Directory) (n : ℕ) → StandsFor b d → n < 2 ^ 64 → text ≡ dump_text n (portable d) → refusal_for capacity base size room (record { size = n; needs = items_needs (portable d) }) ≡ None → IsOk result
+pub record Succeeds (text : List ℕ) (capacity base : ℕ) (size : Option ℕ) (room : ℕ)
+    (result : Result SegmentState LoadRefused) : Type 0 where
+  pub succeeds : (b : List ℕ) (d : Directory) (n : ℕ) → DenotesCurrent b d → n < 2 ^ 64
+      → text ≡ dump_text n (portable d)
+      → refusal_for capacity base size room (record { size = n; needs = items_needs (portable d) }) ≡ None → IsOk result
 
 -- the same where they were counted
-pub record SucceedsOf (text : List ℕ) (capacity base : ℕ) (size : Option ℕ) (room : ℕ) (counted : Result Count ℕ) (result : Result State LoadRefused) : Type 0 where
-  pub succeeds : (b : List ℕ) (d : Directory) (n : ℕ) → StandsFor b d → n < 2 ^ 64 → text ≡ dump_text n (portable d) → counted ≡ Ok (record { size = n; needs = items_needs (portable d) })
+pub record SucceedsOf (text : List ℕ) (capacity base : ℕ) (size : Option ℕ) (room : ℕ) (counted : Result Count ℕ)
+    (result : Result SegmentState LoadRefused) : Type 0 where
+  pub succeeds : (b : List ℕ) (d : Directory) (n : ℕ) → DenotesCurrent b d → n < 2 ^ 64
+      → text ≡ dump_text n (portable d) → counted ≡ Ok (record { size = n; needs = items_needs (portable d) })
       → refusal_for capacity base size room (record { size = n; needs = items_needs (portable d) }) ≡ None → IsOk result
 
 -- without the gap at the end, where no size was asked for
@@ -116,6 +130,6 @@ abbrev pub trimmed : Directory → Option ℕ → Directory
 trimmed d None = shrunk d
 trimmed d (Some size) = d
 
-pub record Trims (old new : State) (size : Option ℕ) : Type 0 where
+pub record Trims (old new : SegmentState) (size : Option ℕ) : Type 0 where
   pub mode : new.mode ≡ Write
-  pub trims : (d : Directory) → StandsFor old.cut.bytes d → StandsFor new.cut.bytes (trimmed d size)
+  pub trims : (d : Directory) → DenotesCurrent old.cut.bytes d → DenotesCurrent new.cut.bytes (trimmed d size)

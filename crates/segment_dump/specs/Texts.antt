@@ -6,7 +6,8 @@ use Rattle.seg_types.specs.declared.kinds.Class.TheVariants.{Anonymous, Named, U
 use Rattle.seg_types.specs.declared.kinds.Kind.{Kind}
 use Rattle.seg_types.specs.declared.kinds.ScalarKind.{ScalarKind}
 use Rattle.segment_lang.specs.Texts.{kind_text, name_text, number_text, quoted_text, value_text}
-use Rattle.segment_dump.specs.Items.{Content, Scalars, Vector, String, Map, Strings, Item, Items, kind_of_content, count_of_content}
+use Rattle.segment_dump.specs.Items.{ValueContent, Scalars, Vector, String, Map, Strings, DumpItem, Items}
+use Rattle.segment_dump.specs.Items.{kind_of_content, count_of_content}
 use Rattle.segment_manager.specs.Parts.{parts_until}
 
 -- ---- lines of elements: each behind two blanks
@@ -17,7 +18,8 @@ element_line k z = 0x20 ∷ 0x20 ∷ value_text k z ++ 0x0A ∷ []
 abbrev pub pair_line : ScalarKind → ScalarKind → ℤ × ℤ → List ℕ
 pair_line k v (x, y) = 0x20 ∷ 0x20 ∷ value_text k x ++ 0x20 ∷ value_text v y ++ 0x0A ∷ []
 
--- ---- a text: its length, and its bytes in pieces of 1000, of which the first stands in the same line and each other in its own
+-- ---- a text: its length, and its bytes in pieces of 1000, of which the first stands in the same line and each other
+-- in its own
 
 -- how many pieces so many bytes are: one where there are none
 abbrev pub pieces_in : ℕ → ℕ
@@ -45,7 +47,7 @@ text_lines bs = length_text (length bs) ++ pieces_text bs
 
 -- ---- an object
 
-abbrev pub content_text : Content → List ℕ
+abbrev pub content_text : ValueContent → List ℕ
 content_text (Scalars k zs) = flat_map (element_line k) zs
 content_text (Vector k zs) = flat_map (element_line k) zs
 content_text (String bs) = text_lines bs
@@ -64,27 +66,31 @@ head_line Anonymous name kind n = codes "anonymous " ++ measure_text kind n
 
 -- a line that tells an object: some bytes, its name where it has one, its kind, more bytes, and a number
 abbrev pub told_line : List ℕ → Class → List ℕ → Kind → List ℕ → ℕ → List ℕ
-told_line lead Named name kind between n = lead ++ (name_text name ++ (0x20 ∷ (kind_text kind ++ (between ++ (number_text n ++ 0x0A ∷ [])))))
+told_line lead Named name kind between n =
+    lead ++ (name_text name ++ (0x20 ∷ (kind_text kind ++ (between ++ (number_text n ++ 0x0A ∷ [])))))
 told_line lead Unique name kind between n = lead ++ (kind_text kind ++ (between ++ (number_text n ++ 0x0A ∷ [])))
 told_line lead Anonymous name kind between n = lead ++ (kind_text kind ++ (between ++ (number_text n ++ 0x0A ∷ [])))
 
-abbrev pub item_text : Item → List ℕ
-item_text i = head_line i.class i.name (kind_of_content i.content) (count_of_content i.content) ++ content_text i.content
+abbrev pub item_text : DumpItem → List ℕ
+item_text i = head_line i.class i.name (kind_of_content i.content) (count_of_content i.content)
+    ++ content_text i.content
 
 -- ---- all of it
 
 -- the version of the form, the size in bytes, and how many entries the two indexes have
 abbrev pub front_text : ℕ → ℕ → ℕ → List ℕ
 front_text size named unique =
-    codes "segment dump 1" ++ 0x0A ∷ codes "size " ++ number_text size ++ 0x0A ∷ codes "indexes " ++ number_text named ++ 0x20 ∷ number_text unique ++ 0x0A ∷ []
+    codes "segment dump 1" ++ 0x0A ∷ codes "size " ++ number_text size ++ 0x0A ∷ codes "indexes "
+    ++ number_text named ++ 0x20 ∷ number_text unique ++ 0x0A ∷ []
 
 abbrev pub end_text : List ℕ
 end_text = codes "end" ++ 0x0A ∷ []
 
-abbrev pub items_text : List Item → List ℕ
+abbrev pub items_text : List DumpItem → List ℕ
 items_text = flat_map item_text
 
 -- the dump of some objects, for a segment of a size
 abbrev pub dump_text : ℕ → Items → List ℕ
 dump_text size items =
-    front_text size (length items.named) (length items.unique) ++ (items_text items.named ++ (items_text items.unique ++ (items_text items.anonymous ++ end_text)))
+    front_text size (length items.named) (length items.unique)
+    ++ (items_text items.named ++ (items_text items.unique ++ (items_text items.anonymous ++ end_text)))

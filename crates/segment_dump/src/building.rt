@@ -8,40 +8,41 @@ ghost use Rattle.seg_types.specs.Names.{is_name};
 ghost use Rattle.segment_lang.specs.Seen.{bytes_said};
 ghost use Rattle.seg_types.specs.declared.kinds.Kind.{Kind as AnyKind};
 ghost use Rattle.seg_types.specs.declared.kinds.Kind.TheVariants.{Scalar as ScalarOf, Vector as VectorOf};
-ghost use Rattle.segment_manager.specs.State.{IsSegment, IsStep, handle_answer};
-ghost use Rattle.segment_manager.specs.containers.Filled.{Makes, alike};
-ghost use Rattle.segment_dump.specs.Builders.{Builds, BuildsObject, IsCountOf, IsGone, IsHere, ReadsClass, ReadsShape, StartsNamed, StartsNext, StartsUnder, first_content};
+ghost use Rattle.segment_manager.specs.State.{IsSegment, TakesStep, handle_answer};
+ghost use Rattle.segment_manager.specs.containers.Filled.{ConstructsObject, alike};
+ghost use Rattle.segment_dump.specs.Builders.{BuildsAllObjects, BuildsObject, IsCountOf, IsGone, IsHere, ReadsClass};
+ghost use Rattle.segment_dump.specs.Builders.{ReadsShape, StartsNamed, StartsNext, StartsUnder, first_content};
 
-use crate::faults::{DumpFault, Misfit};
+use crate::faults::{DumpFault, SyntaxError};
 use crate::filling::fill;
-use crate::reading::{Lines, Words};
+use crate::tokens::{Lines, Words};
 use seg_types::{Class, Handle, Kind, MAX_ARRAY_LEN, Name, Refusal, Scalar, ScalarKind, by_kind};
-use segment_lang::{Text, Word, numbers_are_decimals, texts_are_spelled};
-use segment_manager::conditioned::object_here;
-use segment_manager::{AnonymousInstance, Destination, Segment, UniqueInstance};
+use segment_lang::{LineBuffer, Word, numbers_are_decimals, texts_are_spelled};
+use segment_manager::unchecked::object_here;
+use segment_manager::{AnonymousInstance, ConstructKey, Segment, UniqueInstance};
 
 /// Why building stops.
 #[derive(Clone, Copy, Debug, PartialEq, Eq)]
-pub enum Stop {
+pub enum BuildError {
     /// The text is no dump.
-    Misfit(Misfit),
+    Misfit(SyntaxError),
     /// From here on the objects ask for more than what was counted of them.
     NoSpace(usize),
     /// The text that begins here is longer than what was counted of it.
     LongText(usize),
 }
 
-impl From<Misfit> for Stop {
+impl From<SyntaxError> for BuildError {
     ghost from_gives = { λ misfit stop. ⊤ };
 
-    fn from(misfit: Misfit) -> Stop {
-        Stop::Misfit(misfit)
+    fn from(misfit: SyntaxError) -> BuildError {
+        BuildError::Misfit(misfit)
     }
 }
 
 /// What stands in the line of an object behind its key.
 #[derive(Clone, Copy)]
-pub struct Shape {
+pub struct ObjectLine {
     /// The kind.
     pub kind: Kind,
     /// How many elements there are.
@@ -56,10 +57,10 @@ pub fn build(
     lines: &mut Lines<'_>,
     room: &mut [u8],
     most: usize,
-) -> Result<(), Stop>
-    ensures { Builds segment.old segment.new lines.old most (length room.old) result }
+) -> Result<(), BuildError>
+    ensures { BuildsAllObjects segment.old segment.new lines.old most (length room.old) result }
 {
-    let mut scratch = Text::new();
+    let mut scratch = LineBuffer::new();
     'objects: for _ in 0..most {
         let mut words = lines.next_line()?;
         if words.are(b"end") {
@@ -71,7 +72,7 @@ pub fn build(
 }
 
 /// Nothing stands behind the last line.
-fn finish(lines: &Lines<'_>) -> Result<(), Stop>
+fn finish(lines: &Lines<'_>) -> Result<(), BuildError>
     ensures { IsGone lines.now result }
 {
     if lines.is_empty() {
@@ -86,8 +87,8 @@ fn build_object(
     words: &mut Words<'_>,
     lines: &mut Lines<'_>,
     room: &mut [u8],
-    scratch: &mut Text,
-) -> Result<(), Stop>
+    scratch: &mut LineBuffer,
+) -> Result<(), BuildError>
     ensures { BuildsObject segment.old segment.new words.old lines.old lines.new (length room.old) result }
 {
     let (handle, shape) = start_next(segment, words, scratch)?;
@@ -99,10 +100,10 @@ fn build_object(
 fn start_next(
     segment: &mut Segment,
     words: &mut Words<'_>,
-    scratch: &mut Text,
-) -> Result<(Handle, Shape), Stop>
-    ensures starts { StartsNext segment.old segment.new words.old result }
-    ensures here { IfOk result (λ made. IsHere segment.new made.0) }
+    scratch: &mut LineBuffer,
+) -> Result<(Handle, ObjectLine), BuildError>
+    ensures start { StartsNext segment.old segment.new words.old result }
+    ensures in_place { IfOk result (λ made. IsHere segment.new made.0) }
 {
     match next_class(words)? {
         Class::Named => start_named(segment, words, scratch),
@@ -112,7 +113,7 @@ fn start_next(
 }
 
 /// The class that comes next.
-fn next_class(words: &mut Words<'_>) -> Result<Class, Misfit>
+fn next_class(words: &mut Words<'_>) -> Result<Class, SyntaxError>
     ensures { ReadsClass words.old words.new result }
 {
     let at = words.at();
@@ -124,7 +125,7 @@ fn next_class(words: &mut Words<'_>) -> Result<Class, Misfit>
     } else if is(word, b"anonymous") {
         Ok(Class::Anonymous)
     } else {
-        Err(Misfit {
+        Err(SyntaxError {
             at,
             cause: DumpFault::BadSyntax,
         })
@@ -139,18 +140,18 @@ fn is(word: &[u8], other: &[u8]) -> bool
 }
 
 /// Something is wrong at a place.
-pub fn misfit(at: usize, cause: DumpFault) -> Stop {
-    Stop::Misfit(Misfit { at, cause })
+pub fn misfit(at: usize, cause: DumpFault) -> BuildError {
+    BuildError::Misfit(SyntaxError { at, cause })
 }
 
 /// Makes an object under the name that comes next.
 fn start_named(
     segment: &mut Segment,
     words: &mut Words<'_>,
-    scratch: &mut Text,
-) -> Result<(Handle, Shape), Stop>
-    ensures starts { StartsNamed segment.old segment.new words.old result }
-    ensures here { IfOk result (λ made. IsHere segment.new made.0) }
+    scratch: &mut LineBuffer,
+) -> Result<(Handle, ObjectLine), BuildError>
+    ensures start { StartsNamed segment.old segment.new words.old result }
+    ensures in_place { IfOk result (λ made. IsHere segment.new made.0) }
 {
     texts_are_spelled();
     let at = words.at();
@@ -162,8 +163,9 @@ fn start_named(
 }
 
 /// The name that a word stands for, or `None` where it stands for none.
-fn name_of<'a>(word: Word<'a>, scratch: &'a mut Text) -> Option<Name<'a>>
-    ensures { option_map name_seen result ≡ (if is_name current (bytes_said word.entry) then Some (bytes_said word.entry) else None) }
+fn name_of<'a>(word: Word<'a>, scratch: &'a mut LineBuffer) -> Option<Name<'a>>
+    ensures { option_map name_seen result
+        ≡ (if is_name current (bytes_said word.entry) then Some (bytes_said word.entry) else None) }
 {
     match word {
         Word::Bare(bytes) => Name::new(bytes),
@@ -172,14 +174,14 @@ fn name_of<'a>(word: Word<'a>, scratch: &'a mut Text) -> Option<Name<'a>>
 }
 
 /// Makes an object of the kind and the count that come next, with room for its elements and none of them yet, or zeros.
-fn start_under<D: Destination>(
+fn start_under<D: ConstructKey>(
     segment: &mut Segment,
     words: &mut Words<'_>,
     under: &D,
-) -> Result<(Handle, Shape), Stop>
+) -> Result<(Handle, ObjectLine), BuildError>
     requires { (kind : AnyKind) → D.suits under.now kind }
-    ensures starts { StartsUnder segment.old segment.new (D.key under.now) words.old result }
-    ensures here { IfOk result (λ made. IsHere segment.new made.0) }
+    ensures start { StartsUnder segment.old segment.new (D.key under.now) words.old result }
+    ensures in_place { IfOk result (λ made. IsHere segment.new made.0) }
 {
     let shape = next_shape(words)?;
     // The bytes are those of a segment, and so what is made in it is there.
@@ -191,7 +193,7 @@ fn start_under<D: Destination>(
 }
 
 /// The kind and the count that come next, and no more.
-fn next_shape(words: &mut Words<'_>) -> Result<Shape, Misfit>
+fn next_shape(words: &mut Words<'_>) -> Result<ObjectLine, SyntaxError>
     ensures { ReadsShape words.old result }
 {
     numbers_are_decimals();
@@ -199,28 +201,30 @@ fn next_shape(words: &mut Words<'_>) -> Result<Shape, Misfit>
     let kind = words.next_kind()?;
     let count = words.next_number()?;
     words.finish()?;
-    Ok(Shape { kind, count, at })
+    Ok(ObjectLine { kind, count, at })
 }
 
 /// Why an object is not made, or not filled.
-pub fn stop_of(why: Refusal, at: usize) -> Stop {
+pub fn stop_of(why: Refusal, at: usize) -> BuildError {
     match why {
-        Refusal::NoSpace => Stop::NoSpace(at),
+        Refusal::NoSpace => BuildError::NoSpace(at),
         Refusal::Exists => misfit(at, DumpFault::Exists),
         _ => misfit(at, DumpFault::BadCount),
     }
 }
 
 /// Makes an object of a shape.
-fn construct<D: Destination>(
+fn construct<D: ConstructKey>(
     segment: &mut Segment,
     under: &D,
-    shape: Shape,
+    shape: ObjectLine,
 ) -> Result<Handle, Refusal>
-    requires suits { (kind : AnyKind) → D.suits under.now kind }
+    requires fit { (kind : AnyKind) → D.suits under.now kind }
     requires segment { IsSegment segment.old.cut.bytes }
-    ensures step { IsCountOf shape.kind shape.count → IsStep segment.old segment.new (Construct (D.key under.now shape.kind) (first_content shape.kind shape.count)) (handle_answer result) }
-    ensures here { IfOk result (IsHere segment.new) }
+    ensures step { IsCountOf shape.kind shape.count
+        → TakesStep segment.old segment.new
+        (Construct (D.key under.now shape.kind) (first_content shape.kind shape.count)) (handle_answer result) }
+    ensures in_place { IfOk result (IsHere segment.new) }
 {
     match shape.kind {
         Kind::Scalar(kind) => construct_scalars(segment, under, kind, shape.count),
@@ -232,16 +236,18 @@ fn construct<D: Destination>(
 }
 
 /// Makes as many zeros of a kind.
-fn construct_scalars<D: Destination>(
+fn construct_scalars<D: ConstructKey>(
     segment: &mut Segment,
     under: &D,
     kind: ScalarKind,
     count: u64,
 ) -> Result<Handle, Refusal>
-    requires suits { (kind : AnyKind) → D.suits under.now kind }
+    requires fit { (kind : AnyKind) → D.suits under.now kind }
     requires segment { IsSegment segment.old.cut.bytes }
-    ensures step { IsCountOf (ScalarOf kind) count → IsStep segment.old segment.new (Construct (D.key under.now (ScalarOf kind)) (first_content (ScalarOf kind) count)) (handle_answer result) }
-    ensures here { IfOk result (IsHere segment.new) }
+    ensures step { IsCountOf (ScalarOf kind) count
+        → TakesStep segment.old segment.new
+        (Construct (D.key under.now (ScalarOf kind)) (first_content (ScalarOf kind) count)) (handle_answer result) }
+    ensures in_place { IfOk result (IsHere segment.new) }
 {
     if count < 1 || count > MAX_ARRAY_LEN {
         return Err(Refusal::OutOfRange);
@@ -256,15 +262,16 @@ fn construct_scalars<D: Destination>(
 }
 
 /// Makes a vector of a kind without elements.
-fn construct_vector<D: Destination>(
+fn construct_vector<D: ConstructKey>(
     segment: &mut Segment,
     under: &D,
     kind: ScalarKind,
 ) -> Result<Handle, Refusal>
-    requires suits { (kind : AnyKind) → D.suits under.now kind }
+    requires fit { (kind : AnyKind) → D.suits under.now kind }
     requires segment { IsSegment segment.old.cut.bytes }
-    ensures step { IsStep segment.old segment.new (Construct (D.key under.now (VectorOf kind)) (first_content (VectorOf kind) 0)) (handle_answer result) }
-    ensures here { IfOk result (IsHere segment.new) }
+    ensures step { TakesStep segment.old segment.new
+        (Construct (D.key under.now (VectorOf kind)) (first_content (VectorOf kind) 0)) (handle_answer result) }
+    ensures in_place { IfOk result (IsHere segment.new) }
 {
     macro_rules! construct {
         ($type:ty, $kind:ident) => {
@@ -275,31 +282,33 @@ fn construct_vector<D: Destination>(
 }
 
 /// Makes as many times a number.
-fn make_numbers<T: Scalar, D: Destination>(
+fn make_numbers<T: Scalar, D: ConstructKey>(
     segment: &mut Segment,
     under: &D,
     count: u32,
     value: T,
 ) -> Result<Handle, Refusal>
     requires kind { D.suits under.now (ScalarOf T.kind) }
-    requires some { 1 ≤ count }
-    requires few { count ≤ 1048576 }
+    requires non_empty { 1 ≤ count }
+    requires max_count { count ≤ 1048576 }
     requires segment { IsSegment segment.old.cut.bytes }
-    ensures step { Makes segment.old segment.new (D.key under.now (ScalarOf T.kind)) (alike T.kind count (T.whole value)) result }
-    ensures here { IfOk result (IsHere segment.new) }
+    ensures step { ConstructsObject segment.old segment.new (D.key under.now (ScalarOf T.kind))
+        (alike T.kind count (T.whole value)) result }
+    ensures in_place { IfOk result (IsHere segment.new) }
 {
     segment.construct(under, count, value)
 }
 
 /// Makes a vector without elements.
-fn make_vector<T: Scalar, D: Destination>(
+fn make_vector<T: Scalar, D: ConstructKey>(
     segment: &mut Segment,
     under: &D,
 ) -> Result<Handle, Refusal>
     requires kind { D.suits under.now (VectorOf T.kind) }
     requires segment { IsSegment segment.old.cut.bytes }
-    ensures step { Makes segment.old segment.new (D.key under.now (VectorOf T.kind)) (Elements T.kind []) result }
-    ensures here { IfOk result (IsHere segment.new) }
+    ensures step { ConstructsObject segment.old segment.new (D.key under.now (VectorOf T.kind)) (Elements T.kind [])
+        result }
+    ensures in_place { IfOk result (IsHere segment.new) }
 {
     segment.construct_vec::<T, D>(under, &[])
 }

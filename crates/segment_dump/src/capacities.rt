@@ -5,21 +5,21 @@ ghost use Rattle.seg_types.specs.Names.{ByHandle};
 ghost use Rattle.segment_manager.specs.containers.Contents.{sizes_at};
 ghost use Rattle.segment_manager.specs.objects.Instances.{SaysOf};
 ghost use Rattle.segment_manager.specs.objects.Located.{IsLocated, IsObject};
-ghost use Rattle.segment_manager.specs.State.{Answers};
+ghost use Rattle.segment_manager.specs.State.{AnswersWith};
 ghost use Rattle.segment_dump.specs.Capacities.{Holds, capacities, capacities_text, capacity_note, index_notes};
 ghost use Rattle.segment_dump.specs.Capacities.{measured_places, notes_at, places_at};
 ghost use Rattle.segment_dump.specs.Items.{portable};
-ghost use Rattle.segment_dump.specs.Owed.{WritesOf};
+ghost use Rattle.segment_dump.specs.DumpWrites.{WritesOf};
 ghost use Rattle.segment_dump.specs.Texts.{dump_text};
 
 use crate::dumping::dump;
 use crate::entries::put_line;
-use crate::objects::{Telling, put_anonymous, put_named, put_unique};
+use crate::objects::{ObjectWriter, put_anonymous, put_named, put_unique};
 use raw_region::{DeviceFault, Sink, word_in};
 use seg_types::{Class, Kind};
 use segment_lang::{Piece, put_pieces};
-use segment_manager::conditioned::object_here;
 use segment_manager::layout::{NAMED_AT, UNIQUE_AT};
+use segment_manager::unchecked::object_here;
 use segment_manager::{Instance, Object, Segment};
 
 /// Where an index has its capacity, behind its first word.
@@ -34,7 +34,8 @@ const CAPACITY: usize = 16;
 /// Where the sink fails. It has taken a part of the text then, from the first byte on, and not all.
 pub fn dump_with_capacities<W: Sink>(segment: &Segment, out: &mut W) -> Result<(), DeviceFault>
     requires { (W.history out.old).failures < 2 ^ 64 - 1 }
-    ensures { WritesOf segment.now (W.history out.old) (W.history out.new) result (λ d. dump_text d.size (portable d) ++ capacities_text (capacities d)) }
+    ensures { WritesOf segment.now (W.history out.old) (W.history out.new) result (λ d.
+        dump_text d.size (portable d) ++ capacities_text (capacities d)) }
 {
     dump(segment, out)?;
     put_capacities(segment, out)
@@ -43,7 +44,7 @@ pub fn dump_with_capacities<W: Sink>(segment: &Segment, out: &mut W) -> Result<(
 /// Tells the capacity of an object, if it has one.
 struct Notes;
 
-impl Telling for Notes {
+impl ObjectWriter for Notes {
     ghost use Rattle.segment_dump.specs.Capacities.{object_notes};
 
     ghost text = { λ _. object_notes };
@@ -61,7 +62,8 @@ impl Telling for Notes {
 /// Writes the notes of all capacities.
 fn put_capacities<W: Sink>(segment: &Segment, out: &mut W) -> Result<(), DeviceFault>
     requires { (W.history out.old).failures < 2 ^ 64 - 1 }
-    ensures { WritesOf segment.now (W.history out.old) (W.history out.new) result (λ d. capacities_text (capacities d)) }
+    ensures { WritesOf segment.now (W.history out.old) (W.history out.new) result (λ d.
+        capacities_text (capacities d)) }
 {
     put_indexes(segment, out)?;
     put_named(&Notes, segment, out)?;
@@ -72,7 +74,8 @@ fn put_capacities<W: Sink>(segment: &Segment, out: &mut W) -> Result<(), DeviceF
 /// Writes the notes of the two indexes.
 fn put_indexes<W: Sink>(segment: &Segment, out: &mut W) -> Result<(), DeviceFault>
     requires { (W.history out.old).failures < 2 ^ 64 - 1 }
-    ensures { WritesOf segment.now (W.history out.old) (W.history out.new) result (λ d. index_notes d.named.capacity d.unique.capacity) }
+    ensures { WritesOf segment.now (W.history out.old) (W.history out.new) result (λ d.
+        index_notes d.named.capacity d.unique.capacity) }
 {
     put_pieces(
         out,
@@ -88,14 +91,14 @@ fn put_indexes<W: Sink>(segment: &Segment, out: &mut W) -> Result<(), DeviceFaul
 
 /// For how many entries the index of names has places.
 fn named_capacity(segment: &Segment) -> u64
-    ensures { Answers segment.now (λ d. d.named.capacity) result }
+    ensures { AnswersWith segment.now (λ d. d.named.capacity) result }
 {
     word_in(segment.as_bytes(), NAMED_AT as usize + CAPACITY)
 }
 
 /// For how many entries the index of kinds has places.
 fn unique_capacity(segment: &Segment) -> u64
-    ensures { Answers segment.now (λ d. d.unique.capacity) result }
+    ensures { AnswersWith segment.now (λ d. d.unique.capacity) result }
 {
     word_in(segment.as_bytes(), UNIQUE_AT as usize + CAPACITY)
 }
@@ -107,8 +110,9 @@ fn put_capacity<W: Sink>(
     out: &mut W,
 ) -> Result<(), DeviceFault>
     requires writer { (W.history out.old).failures < 2 ^ 64 - 1 }
-    requires said { SaysOf segment.now (ByHandle said.handle) said }
-    ensures { WritesOf segment.now (W.history out.old) (W.history out.new) result (λ d. notes_at d (ByHandle said.entry.handle)) }
+    requires text { SaysOf segment.now (ByHandle said.handle) said }
+    ensures { WritesOf segment.now (W.history out.old) (W.history out.new) result (λ d.
+        notes_at d (ByHandle said.entry.handle)) }
 {
     let object = object_here(segment, said.handle);
     match places_of(segment, object) {
@@ -120,7 +124,7 @@ fn put_capacity<W: Sink>(
 /// How many places an object has, if it has a capacity.
 fn places_of(segment: &Segment, object: Object) -> Option<u64>
     requires { IsLocated segment.now (ByHandle object.handle) object }
-    ensures { Answers segment.now (λ d. places_at d (ByHandle object.handle)) result }
+    ensures { AnswersWith segment.now (λ d. places_at d (ByHandle object.handle)) result }
 {
     match object.kind {
         Kind::Scalar(_) => None,
@@ -132,7 +136,7 @@ fn places_of(segment: &Segment, object: Object) -> Option<u64>
 /// How many places a vector, a string or a vector of strings has.
 fn count_places(segment: &Segment, object: Object) -> Option<u64>
     requires { IsObject object segment.now }
-    ensures { Answers segment.now (λ d. measured_places (sizes_at d (ByHandle object.handle))) result }
+    ensures { AnswersWith segment.now (λ d. measured_places (sizes_at d (ByHandle object.handle))) result }
 {
     match segment.measure(&object) {
         Ok((_, places)) => Some(places),
@@ -143,7 +147,11 @@ fn count_places(segment: &Segment, object: Object) -> Option<u64>
 /// Writes the note of an object that said this of itself, and has so many places.
 fn put_note<W: Sink>(said: Instance<'_>, places: u64, out: &mut W) -> Result<(), DeviceFault>
     requires { (W.history out.old).failures < 2 ^ 64 - 1 }
-    ensures { Writes (W.history out.old) (W.history out.new) result (capacity_note (record { holder = Holds said.entry.class said.entry.name.now said.entry.kind; places = places })) }
+    ensures { Writes (W.history out.old) (W.history out.new) result
+        (capacity_note (record {
+          holder = Holds said.entry.class said.entry.name.now said.entry.kind;
+          places = places;
+        })) }
 {
     match said.class {
         Class::Named => put_line(b"# capacity of named ", said, b": ", places, out),

@@ -2,7 +2,7 @@
 ghost use Rattle.std.specs.Prelude.{OnErr, OnOk};
 ghost use Rattle.segment_dump.specs.Comparing.{IsDumpOf, IsNoDumpOf};
 
-use crate::against::Against;
+use crate::compare_sink::CompareSink;
 use crate::dumping::dump_as;
 use segment_manager::Segment;
 
@@ -12,10 +12,10 @@ use segment_manager::Segment;
 ///
 /// Where it is not: how many of its bytes, from the first on, are those of the segment. No clause says that number.
 pub fn compare(segment: &Segment, size: u64, text: &[u8]) -> Result<(), usize>
-    ensures same { OnOk result (IsDumpOf segment.now size text.now) }
-    ensures other { OnErr result (IsNoDumpOf segment.now size text.now) }
+    ensures unchanged { OnOk result (IsDumpOf segment.now size text.now) }
+    ensures peer { OnErr result (IsNoDumpOf segment.now size text.now) }
 {
-    let mut out = Against::new(text);
+    let mut out = CompareSink::new(text);
     match dump_as(segment, size, &mut out) {
         Ok(()) => {
             if out.has_all() {

@@ -1,11 +1,14 @@
 //! What the objects of a dump need, counted from its text before a segment is begun.
 ghost use Rattle.std.specs.Prelude.{◌≡◌, ◌++◌, ℕ, List, true, length, flat_map, IfOk, IfSome};
 ghost use Rattle.std.specs.Bool.{OnTrue};
-ghost use Rattle.segment_dump.specs.Asked.{AskTogether, AsksContent, AsksNothing, AsksObject, AsksString, AsksText, Begins, HasObjects, IsText};
-ghost use Rattle.segment_dump.specs.Counting.{AreTexts, CountsDump, CountsObjects, IsContent, IsCountable, IsCounted, IsFront, fronted};
+ghost use Rattle.segment_dump.specs.Asked.{AskTogether, AsksContent, AsksNothing, AsksObject, AsksString, AsksText};
+ghost use Rattle.segment_dump.specs.Asked.{Begins, HasObjects, IsDumpText};
+ghost use Rattle.segment_dump.specs.Counting.{AreTexts, CountsDump, CountsObjects, HasContentShape, IsCountable};
+ghost use Rattle.segment_dump.specs.Counting.{IsCounted, IsFront, fronted};
 ghost use Rattle.segment_dump.specs.Leads.{IsSmall};
-ghost use Rattle.segment_dump.specs.Need.{all_needs, block_room, item_needs, nothing, only_room, text_needs, texts_needs};
-ghost use Rattle.segment_dump.specs.Reads.{Any, AreLines, Reads, Skips, itself, lines_text, seen, seen_rest};
+ghost use Rattle.segment_dump.specs.Need.{all_needs, block_room, item_needs, nothing, only_room, text_needs};
+ghost use Rattle.segment_dump.specs.Need.{texts_needs};
+ghost use Rattle.segment_dump.specs.Reads.{Any, AreLines, ParsesPrefix, Skips, itself, lines_text, seen, seen_rest};
 ghost use Rattle.segment_dump.specs.Succeeding.{IsNumber, LeavesThird, size_said};
 ghost use Rattle.segment_dump.specs.Texts.{content_text, end_text, item_text, text_lines};
 
@@ -38,9 +41,9 @@ pub struct Front {
 
 /// How many bytes a text has, and what is behind its lines.
 fn text_len(text: &[u8]) -> Option<(u64, &[u8])>
-    ensures value { Reads text_lines (λ bytes. IsSmall (length bytes)) Any length text.now (seen result) }
-    ensures text { IfSome result (λ r. Begins IsText text.now r.0 r.1.now) }
-    ensures small { IfSome result (λ r. IsSmall r.0) }
+    ensures value { ParsesPrefix text_lines (λ bytes. IsSmall (length bytes)) Any length text.now (seen result) }
+    ensures text { IfSome result (λ r. Begins IsDumpText text.now r.0 r.1.now) }
+    ensures max_size { IfSome result (λ r. IsSmall r.0) }
 {
     let (len, rest) = next_count(behind(text, b"  ")?)?;
     Some((len, behind_lines(rest, pieces_in(len as usize) as u64)?))
@@ -48,8 +51,9 @@ fn text_len(text: &[u8]) -> Option<(u64, &[u8])>
 
 /// What so many texts need, and what is behind their lines.
 fn count_texts(text: &[u8], count: u64) -> Option<(Needs, &[u8])>
-    ensures value { Reads (flat_map text_lines) (AreTexts count) Any (all_needs text_needs) text.now (seen result) }
-    ensures asks { IfSome result (λ r. Begins (AskTogether AsksText count) text.now r.0 r.1.now) }
+    ensures value { ParsesPrefix (flat_map text_lines) (AreTexts count) Any (all_needs text_needs) text.now
+        (seen result) }
+    ensures questions { IfSome result (λ r. Begins (AskTogether AsksText count) text.now r.0 r.1.now) }
 {
     let mut rest = text;
     let mut needs = only_room(0);
@@ -74,8 +78,8 @@ fn text_needs(len: u64) -> Needs
 
 /// What the texts among the elements of an object need, and what is behind its lines.
 fn count_content(text: &[u8], kind: Kind, count: u64) -> Option<(Needs, &[u8])>
-    ensures value { Reads content_text (IsContent kind count) Any texts_needs text.now (seen result) }
-    ensures asks { IfSome result (λ r. Begins (AsksContent kind count) text.now r.0 r.1.now) }
+    ensures value { ParsesPrefix content_text (HasContentShape kind count) Any texts_needs text.now (seen result) }
+    ensures questions { IfSome result (λ r. Begins (AsksContent kind count) text.now r.0 r.1.now) }
 {
     match kind {
         Kind::Scalar(_) => skip(text, count),
@@ -88,16 +92,17 @@ fn count_content(text: &[u8], kind: Kind, count: u64) -> Option<(Needs, &[u8])>
 
 /// What is behind so many lines, which need nothing.
 fn skip(text: &[u8], count: u64) -> Option<(Needs, &[u8])>
-    ensures value { Reads lines_text (AreLines count) Any (λ lines. nothing) text.now (seen result) }
-    ensures asks { IfSome result (λ r. Begins (AsksNothing count) text.now r.0 r.1.now) }
+    ensures value { ParsesPrefix lines_text (AreLines count) Any (λ lines. nothing) text.now (seen result) }
+    ensures questions { IfSome result (λ r. Begins (AsksNothing count) text.now r.0 r.1.now) }
 {
     Some((only_room(0), behind_lines(text, count)?))
 }
 
 /// What a string needs, and what is behind its lines.
 fn count_string(text: &[u8]) -> Option<(Needs, &[u8])>
-    ensures value { Reads text_lines (λ bytes. IsSmall (length bytes)) Any (λ bytes. only_room (block_room (length bytes))) text.now (seen result) }
-    ensures asks { IfSome result (λ r. Begins AsksString text.now r.0 r.1.now) }
+    ensures value { ParsesPrefix text_lines (λ bytes. IsSmall (length bytes)) Any (λ bytes.
+        only_room (block_room (length bytes))) text.now (seen result) }
+    ensures questions { IfSome result (λ r. Begins AsksString text.now r.0 r.1.now) }
 {
     let (len, rest) = text_len(text)?;
     Some((only_room(block_room(len)), rest))
@@ -105,8 +110,8 @@ fn count_string(text: &[u8]) -> Option<(Needs, &[u8])>
 
 /// What an object needs, and what is behind its lines.
 fn count_object(text: &[u8]) -> Option<(Needs, &[u8])>
-    ensures value { Reads item_text IsCountable Any item_needs text.now (seen result) }
-    ensures asks { IfSome result (λ r. Begins AsksObject text.now r.0 r.1.now) }
+    ensures value { ParsesPrefix item_text IsCountable Any item_needs text.now (seen result) }
+    ensures questions { IfSome result (λ r. Begins AsksObject text.now r.0 r.1.now) }
 {
     let (name_len, rest) = behind_lead(text)?;
     let ((kind, count), rest) = next_measure(rest)?;
@@ -117,16 +122,16 @@ fn count_object(text: &[u8]) -> Option<(Needs, &[u8])>
 
 /// Whether the last line stands in front.
 fn is_end(text: &[u8]) -> bool
-    ensures yes { OnTrue result ((rest : List ℕ) × (text.now ≡ end_text ++ rest)) }
-    ensures always { (rest : List ℕ) → text.now ≡ end_text ++ rest → result ≡ true }
+    ensures on_true { OnTrue result ((rest : List ℕ) × (text.now ≡ end_text ++ rest)) }
+    ensures totality { (rest : List ℕ) → text.now ≡ end_text ++ rest → result ≡ true }
 {
     behind(text, b"end\n").is_some()
 }
 
 /// What all objects need, up to the line `end`; or how many bytes are left from the first line on that cannot be read.
 fn count_objects(text: &[u8]) -> Result<Needs, usize>
-    ensures counts { CountsObjects text.now result }
-    ensures asks { IfOk result (HasObjects text.now) }
+    ensures count { CountsObjects text.now result }
+    ensures questions { IfOk result (HasObjects text.now) }
 {
     let mut rest = text;
     let mut needs = only_room(0);
@@ -145,7 +150,7 @@ fn count_objects(text: &[u8]) -> Result<Needs, usize>
 
 /// What the first lines say, and what is behind them.
 fn read_front(text: &[u8]) -> Option<(Front, &[u8])>
-    ensures value { Reads fronted IsFront Any itself text.now (seen result) }
+    ensures value { ParsesPrefix fronted IsFront Any itself text.now (seen result) }
     ensures spelled { IfSome result (λ r. text.now ≡ fronted r.0 ++ r.1.now) }
     ensures named { IfSome result (λ r. IsSmall r.0.named) }
     ensures unique { IfSome result (λ r. IsSmall r.0.unique) }
@@ -190,8 +195,8 @@ fn behind_size(text: &[u8]) -> Option<&[u8]>
 ///
 /// How many bytes are left from the first line on that cannot be read; the text is the dump of no segment then.
 pub fn count_dump(text: &[u8]) -> Result<Count, usize>
-    ensures counts { CountsDump text.now result }
-    ensures counted { IfOk result (IsCounted text.now) }
+    ensures count { CountsDump text.now result }
+    ensures steps_lower { IfOk result (IsCounted text.now) }
 {
     let Some((front, rest)) = read_front(text) else {
         return Err(front_left(text));

@@ -3,7 +3,7 @@ ghost use Rattle.std.specs.Prelude.{◌≡◌, ◌-◌, ◌^◌, ◌<◌, length
 ghost use Rattle.raw_region.specs.Device.{Writes};
 ghost use Rattle.segment_manager.specs.Directory.{named_objects, unique_objects};
 ghost use Rattle.segment_dump.specs.Items.{portable};
-ghost use Rattle.segment_dump.specs.Owed.{WritesOf, all_text};
+ghost use Rattle.segment_dump.specs.DumpWrites.{WritesOf, all_text};
 ghost use Rattle.segment_dump.specs.Texts.{dump_text, front_text};
 
 use crate::entries::Entries;
@@ -38,7 +38,8 @@ pub fn dump_as<W: Sink>(segment: &Segment, size: u64, out: &mut W) -> Result<(),
 /// Writes the version, the size, and how many entries the indexes have.
 fn put_front<W: Sink>(segment: &Segment, size: u64, out: &mut W) -> Result<(), DeviceFault>
     requires { (W.history out.old).failures < 2 ^ 64 - 1 }
-    ensures { WritesOf segment.now (W.history out.old) (W.history out.new) result (λ d. front_text size (length (named_objects d)) (length (unique_objects d))) }
+    ensures { WritesOf segment.now (W.history out.old) (W.history out.new) result (λ d.
+        front_text size (length (named_objects d)) (length (unique_objects d))) }
 {
     put_numbers(size, segment.num_named(), segment.num_unique(), out)
 }

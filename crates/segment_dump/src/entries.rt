@@ -3,23 +3,23 @@ ghost use Rattle.std.specs.Prelude.{◌-◌, ◌^◌, ◌<◌};
 ghost use Rattle.raw_region.specs.Device.{Writes};
 ghost use Rattle.seg_types.specs.Names.{ByHandle};
 ghost use Rattle.segment_manager.specs.objects.Instances.{SaysOf};
-ghost use Rattle.segment_dump.specs.Owed.{WritesOf, text_at};
+ghost use Rattle.segment_dump.specs.DumpWrites.{WritesOf, text_at};
 ghost use Rattle.segment_dump.specs.Texts.{head_line, told_line};
 
 use crate::layouts::InLines;
-use crate::objects::Telling;
+use crate::objects::ObjectWriter;
 use raw_region::{DeviceFault, Sink};
 use seg_types::Class;
 use segment_lang::{Piece, put_pieces};
-use segment_manager::conditioned::object_here;
+use segment_manager::unchecked::object_here;
 use segment_manager::{Instance, Segment};
 use segment_values::{count_of, put_content};
 
 /// Tells an object by its lines in a dump.
 pub(crate) struct Entries;
 
-impl Telling for Entries {
-    ghost use Rattle.segment_dump.specs.Owed.{object_text};
+impl ObjectWriter for Entries {
+    ghost use Rattle.segment_dump.specs.DumpWrites.{object_text};
 
     ghost text = { λ _. object_text };
 
@@ -36,8 +36,9 @@ impl Telling for Entries {
 /// Writes all lines of an object that said this of itself.
 fn put_entry<W: Sink>(segment: &Segment, said: Instance<'_>, out: &mut W) -> Result<(), DeviceFault>
     requires writer { (W.history out.old).failures < 2 ^ 64 - 1 }
-    requires said { SaysOf segment.now (ByHandle said.handle) said }
-    ensures { WritesOf segment.now (W.history out.old) (W.history out.new) result (λ d. text_at d (ByHandle said.entry.handle)) }
+    requires text { SaysOf segment.now (ByHandle said.handle) said }
+    ensures { WritesOf segment.now (W.history out.old) (W.history out.new) result (λ d.
+        text_at d (ByHandle said.entry.handle)) }
 {
     let object = object_here(segment, said.handle);
     let count = count_of(segment, object);
@@ -48,7 +49,8 @@ fn put_entry<W: Sink>(segment: &Segment, said: Instance<'_>, out: &mut W) -> Res
 /// Writes the line of an object: its class, its name where it has one, its kind, and how many elements there are.
 fn put_head<W: Sink>(said: Instance<'_>, count: u64, out: &mut W) -> Result<(), DeviceFault>
     requires { (W.history out.old).failures < 2 ^ 64 - 1 }
-    ensures { Writes (W.history out.old) (W.history out.new) result (head_line said.entry.class said.entry.name.now said.entry.kind count) }
+    ensures { Writes (W.history out.old) (W.history out.new) result
+        (head_line said.entry.class said.entry.name.now said.entry.kind count) }
 {
     match said.class {
         Class::Named => put_line(b"named ", said, b" ", count, out),

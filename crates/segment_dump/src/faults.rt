@@ -74,7 +74,7 @@ pub enum LoadError {
 
 /// What is wrong at a place of the text, in bytes from its start.
 #[derive(Clone, Copy, Debug, PartialEq, Eq)]
-pub struct Misfit {
+pub struct SyntaxError {
     /// The place.
     pub at: usize,
     /// What is wrong there.

@@ -1,32 +1,34 @@
 //! Objects filled with what the lines of a dump say.
 ghost use Rattle.std.specs.Prelude.{◌≡◌, ℕ, length, Ok};
-ghost use Rattle.seg_types.specs.declared.kinds.Kind.TheVariants.{Map as MapOf, Scalar as ScalarOf, Strings as StringsKind, Vector as VectorOf};
+ghost use Rattle.seg_types.specs.declared.kinds.Kind.TheVariants.{Map as MapOf, Scalar as ScalarOf};
+ghost use Rattle.seg_types.specs.declared.kinds.Kind.TheVariants.{Strings as StringsKind, Vector as VectorOf};
 ghost use Rattle.seg_types.specs.Commands.{Push, Set, literal_of};
 ghost use Rattle.seg_types.specs.Names.{ByHandle};
 ghost use Rattle.seg_types.specs.Values.{kind_of_scalar, value_of_scalar};
-ghost use Rattle.segment_manager.specs.State.{IsStepOfKind, done_answer};
+ghost use Rattle.segment_manager.specs.State.{TakesStepOfKind, done_answer};
 ghost use Rattle.segment_manager.specs.objects.Located.{IsObject};
-ghost use Rattle.segment_dump.specs.Builders.{AddsElement, FillsElements, FillsNew, HasObject, IsVectorKind};
+ghost use Rattle.segment_dump.specs.Builders.{AddsElement, FillsElements, FillsNew, HasLocatedObject, IsVectorKind};
 
-use crate::building::{Shape, Stop, misfit, stop_of};
+use crate::building::{BuildError, ObjectLine, misfit, stop_of};
 use crate::faults::DumpFault;
 use crate::filling_texts::{fill_string, push_text};
-use crate::reading::{Lines, next_pair, next_value};
+use crate::tokens::{Lines, next_pair, next_value};
 use seg_types::{Kind, Refusal, ScalarKind, ScalarValue, by_value};
-use segment_lang::Text;
+use segment_lang::LineBuffer;
 use segment_manager::{Object, Segment};
 
 /// Fills an object with what the next lines say.
 pub fn fill(
     segment: &mut Segment,
     object: Object,
-    shape: Shape,
+    shape: ObjectLine,
     lines: &mut Lines<'_>,
     room: &mut [u8],
-    scratch: &mut Text,
-) -> Result<(), Stop>
-    requires { HasObject segment.old object }
-    ensures { FillsNew segment.old segment.new object.handle shape.kind shape.count lines.old lines.new (length room.old) result }
+    scratch: &mut LineBuffer,
+) -> Result<(), BuildError>
+    requires { HasLocatedObject segment.old object }
+    ensures { FillsNew segment.old segment.new object.handle shape.kind shape.count lines.old lines.new
+        (length room.old) result }
 {
     match shape.kind {
         Kind::String => fill_string(segment, object, lines, scratch),
@@ -40,13 +42,15 @@ pub fn fill(
 fn fill_reserved(
     segment: &mut Segment,
     object: Object,
-    shape: Shape,
+    shape: ObjectLine,
     lines: &mut Lines<'_>,
     room: &mut [u8],
-    scratch: &mut Text,
-) -> Result<(), Stop>
-    requires { HasObject segment.old object }
-    ensures { IsVectorKind shape.kind → FillsNew segment.old segment.new object.handle shape.kind shape.count lines.old lines.new (length room.old) result }
+    scratch: &mut LineBuffer,
+) -> Result<(), BuildError>
+    requires { HasLocatedObject segment.old object }
+    ensures { IsVectorKind shape.kind
+        → FillsNew segment.old segment.new object.handle shape.kind shape.count lines.old lines.new
+        (length room.old) result }
 {
     match segment.reserve(&object, shape.count) {
         Ok(()) => fill_elements(segment, object, shape, lines, room, scratch),
@@ -58,12 +62,12 @@ fn fill_reserved(
 fn fill_elements(
     segment: &mut Segment,
     object: Object,
-    shape: Shape,
+    shape: ObjectLine,
     lines: &mut Lines<'_>,
     room: &mut [u8],
-    scratch: &mut Text,
-) -> Result<(), Stop>
-    requires { HasObject segment.old object }
+    scratch: &mut LineBuffer,
+) -> Result<(), BuildError>
+    requires { HasLocatedObject segment.old object }
     ensures { FillsElements segment.old segment.new object.handle shape.kind shape.count lines.old lines.new
         (length room.old) result }
 {
@@ -81,11 +85,12 @@ fn add_element(
     index: u64,
     lines: &mut Lines<'_>,
     room: &mut [u8],
-    scratch: &mut Text,
-) -> Result<(), Stop>
-    requires { HasObject segment.old object }
-    ensures adds { AddsElement segment.old segment.new object.handle kind index lines.old lines.new (length room.old) result }
-    ensures here { HasObject segment.new object }
+    scratch: &mut LineBuffer,
+) -> Result<(), BuildError>
+    requires { HasLocatedObject segment.old object }
+    ensures visits { AddsElement segment.old segment.new object.handle kind index lines.old lines.new
+        (length room.old) result }
+    ensures in_place { HasLocatedObject segment.new object }
 {
     match kind {
         Kind::Scalar(kind) => set_next(segment, object, kind, index, lines),
@@ -103,10 +108,11 @@ fn set_next(
     kind: ScalarKind,
     index: u64,
     lines: &mut Lines<'_>,
-) -> Result<(), Stop>
-    requires { HasObject segment.old object }
-    ensures adds { (room : ℕ) → AddsElement segment.old segment.new object.handle (ScalarOf kind) index lines.old lines.new room result }
-    ensures here { HasObject segment.new object }
+) -> Result<(), BuildError>
+    requires { HasLocatedObject segment.old object }
+    ensures visits { (room : ℕ) → AddsElement segment.old segment.new object.handle (ScalarOf kind) index lines.old
+        lines.new room result }
+    ensures in_place { HasLocatedObject segment.new object }
 {
     let at = lines.at();
     let value = next_value(lines, kind)?;
@@ -121,7 +127,9 @@ fn set_value(
     value: ScalarValue,
 ) -> Result<(), Refusal>
     requires { IsObject object segment.old }
-    ensures { IsStepOfKind segment.old segment.new (ByHandle object.handle) (ScalarOf (kind_of_scalar value)) (Set (ByHandle object.handle) index (literal_of (kind_of_scalar value) (value_of_scalar value))) (done_answer result) }
+    ensures { TakesStepOfKind segment.old segment.new (ByHandle object.handle) (ScalarOf (kind_of_scalar value))
+        (Set (ByHandle object.handle) index (literal_of (kind_of_scalar value) (value_of_scalar value)))
+        (done_answer result) }
 {
     by_value!(value, it => segment.set(&object, index, it))
 }
@@ -132,10 +140,11 @@ fn push_next(
     object: Object,
     kind: ScalarKind,
     lines: &mut Lines<'_>,
-) -> Result<(), Stop>
-    requires { HasObject segment.old object }
-    ensures adds { (index room : ℕ) → AddsElement segment.old segment.new object.handle (VectorOf kind) index lines.old lines.new room result }
-    ensures here { HasObject segment.new object }
+) -> Result<(), BuildError>
+    requires { HasLocatedObject segment.old object }
+    ensures visits { (index room : ℕ)
+        → AddsElement segment.old segment.new object.handle (VectorOf kind) index lines.old lines.new room result }
+    ensures in_place { HasLocatedObject segment.new object }
 {
     let at = lines.at();
     let value = next_value(lines, kind)?;
@@ -145,7 +154,9 @@ fn push_next(
 /// Puts a value behind the elements of a vector.
 fn push_value(segment: &mut Segment, object: Object, value: ScalarValue) -> Result<(), Refusal>
     requires { IsObject object segment.old }
-    ensures { IsStepOfKind segment.old segment.new (ByHandle object.handle) (VectorOf (kind_of_scalar value)) (Push (ByHandle object.handle) (literal_of (kind_of_scalar value) (value_of_scalar value))) (done_answer result) }
+    ensures { TakesStepOfKind segment.old segment.new (ByHandle object.handle) (VectorOf (kind_of_scalar value))
+        (Push (ByHandle object.handle) (literal_of (kind_of_scalar value) (value_of_scalar value)))
+        (done_answer result) }
 {
     by_value!(value, it => segment.vec_push(&object, it))
 }
@@ -157,10 +168,11 @@ fn put_next(
     keys: ScalarKind,
     values: ScalarKind,
     lines: &mut Lines<'_>,
-) -> Result<(), Stop>
-    requires { HasObject segment.old object }
-    ensures adds { (index room : ℕ) → AddsElement segment.old segment.new object.handle (MapOf keys values) index lines.old lines.new room result }
-    ensures here { HasObject segment.new object }
+) -> Result<(), BuildError>
+    requires { HasLocatedObject segment.old object }
+    ensures visits { (index room : ℕ)
+        → AddsElement segment.old segment.new object.handle (MapOf keys values) index lines.old lines.new room result }
+    ensures in_place { HasLocatedObject segment.new object }
 {
     let at = lines.at();
     let (key, value) = next_pair(lines, keys, values)?;
@@ -171,7 +183,7 @@ fn put_next(
 }
 
 /// A call ended, or why it stopped.
-pub fn ended(called: Result<(), Refusal>, at: usize) -> Result<(), Stop>
+pub fn ended(called: Result<(), Refusal>, at: usize) -> Result<(), BuildError>
     ensures { called ≡ Ok tt → result ≡ Ok tt }
 {
     match called {

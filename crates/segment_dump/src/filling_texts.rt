@@ -1,14 +1,15 @@
 //! Texts made of the lines of a dump.
 ghost use Rattle.std.specs.Prelude.{◌≡◌, ◌+◌, ◌-◌, ◌/◌, ◌≤◌, ◌++◌, ℕ, length, take, IfOk};
 ghost use Rattle.seg_types.specs.declared.kinds.Kind.TheVariants.{String as StringKind, Strings as StringsKind};
-ghost use Rattle.segment_dump.specs.Builders.{AddsElement, AppendsPiece, Collects, CopiesPiece, FillsNew, HasObject, ReadsLength, ReadsPiece};
+ghost use Rattle.segment_dump.specs.Builders.{AddsElement, AppendsPiece, Collects, CopiesPiece, FillsNew};
+ghost use Rattle.segment_dump.specs.Builders.{HasLocatedObject, ReadsLength, ReadsPiece};
 
-use crate::building::{Stop, stop_of};
-use crate::faults::Misfit;
+use crate::building::{BuildError, stop_of};
+use crate::faults::SyntaxError;
 use crate::filling::ended;
-use crate::reading::{Lines, Words};
 use crate::texts::PIECE;
-use segment_lang::{Quoted, Text, numbers_are_decimals, texts_are_spelled};
+use crate::tokens::{Lines, Words};
+use segment_lang::{LineBuffer, Quoted, numbers_are_decimals, texts_are_spelled};
 use segment_manager::{Object, Segment};
 
 /// Makes the text of the next lines that of a string, with places for just as many bytes.
@@ -16,9 +17,9 @@ pub fn fill_string(
     segment: &mut Segment,
     object: Object,
     lines: &mut Lines<'_>,
-    scratch: &mut Text,
-) -> Result<(), Stop>
-    requires { HasObject segment.old object }
+    scratch: &mut LineBuffer,
+) -> Result<(), BuildError>
+    requires { HasLocatedObject segment.old object }
     ensures { (room : ℕ) → FillsNew segment.old segment.new object.handle StringKind 1 lines.old lines.new room result }
 {
     let at = lines.at();
@@ -42,7 +43,7 @@ fn pieces_behind(len: u64) -> u64
 }
 
 /// The line that a text begins with, from its first piece on, and the length of the text.
-fn first_line<'a>(lines: &mut Lines<'a>) -> Result<(Words<'a>, u64), Misfit>
+fn first_line<'a>(lines: &mut Lines<'a>) -> Result<(Words<'a>, u64), SyntaxError>
     ensures { ReadsLength lines.old lines.new result }
 {
     numbers_are_decimals();
@@ -52,8 +53,8 @@ fn first_line<'a>(lines: &mut Lines<'a>) -> Result<(Words<'a>, u64), Misfit>
 }
 
 /// The piece of a text that is alone in a line.
-fn last_text<'a>(words: &mut Words<'a>) -> Result<Quoted<'a>, Misfit>
-    ensures short { IfOk result (λ text. length text ≤ 4096) }
+fn last_text<'a>(words: &mut Words<'a>) -> Result<Quoted<'a>, SyntaxError>
+    ensures max_len { IfOk result (λ text. length text ≤ 4096) }
     ensures piece { ReadsPiece words.old result }
 {
     texts_are_spelled();
@@ -67,11 +68,11 @@ fn append_piece(
     segment: &mut Segment,
     object: Object,
     words: &mut Words<'_>,
-    scratch: &mut Text,
-) -> Result<(), Stop>
-    requires { HasObject segment.old object }
-    ensures appends { AppendsPiece segment.old segment.new object.handle words.old result }
-    ensures here { HasObject segment.new object }
+    scratch: &mut LineBuffer,
+) -> Result<(), BuildError>
+    requires { HasLocatedObject segment.old object }
+    ensures append { AppendsPiece segment.old segment.new object.handle words.old result }
+    ensures in_place { HasLocatedObject segment.new object }
 {
     let at = words.at();
     let piece = last_text(words)?;
@@ -84,11 +85,12 @@ pub fn push_text(
     object: Object,
     lines: &mut Lines<'_>,
     room: &mut [u8],
-    scratch: &mut Text,
-) -> Result<(), Stop>
-    requires { HasObject segment.old object }
-    ensures adds { (index : ℕ) → AddsElement segment.old segment.new object.handle StringsKind index lines.old lines.new (length room.old) result }
-    ensures here { HasObject segment.new object }
+    scratch: &mut LineBuffer,
+) -> Result<(), BuildError>
+    requires { HasLocatedObject segment.old object }
+    ensures visits { (index : ℕ) → AddsElement segment.old segment.new object.handle StringsKind index lines.old
+        lines.new (length room.old) result }
+    ensures in_place { HasLocatedObject segment.new object }
 {
     let at = lines.at();
     let len = collect(lines, room, scratch)?;
@@ -96,8 +98,12 @@ pub fn push_text(
 }
 
 /// Collects the text of the next lines in the front of the room, and answers how many bytes it has.
-fn collect(lines: &mut Lines<'_>, room: &mut [u8], scratch: &mut Text) -> Result<usize, Stop>
-    ensures inside { IfOk result (λ n. n ≤ length room.new) }
+fn collect(
+    lines: &mut Lines<'_>,
+    room: &mut [u8],
+    scratch: &mut LineBuffer,
+) -> Result<usize, BuildError>
+    ensures in_bounds { IfOk result (λ n. n ≤ length room.new) }
     ensures text { Collects lines.old lines.new room.old room.new result }
 {
     let (mut words, len) = first_line(lines)?;
@@ -114,17 +120,17 @@ fn copy_piece(
     words: &mut Words<'_>,
     room: &mut [u8],
     from: usize,
-    scratch: &mut Text,
-) -> Result<usize, Stop>
+    scratch: &mut LineBuffer,
+) -> Result<usize, BuildError>
     requires { from ≤ length room.old }
-    ensures inside { IfOk result (λ n. n ≤ length room.new) }
+    ensures in_bounds { IfOk result (λ n. n ≤ length room.new) }
     ensures piece { CopiesPiece words.old room.old room.new from result }
 {
     let at = words.at();
     let piece = last_text(words)?;
     let bytes = piece.bytes(scratch);
     if room.len() - from < bytes.len() {
-        return Err(Stop::LongText(at));
+        return Err(BuildError::LongText(at));
     }
     put_at(room, from, bytes);
     Ok(from + bytes.len())

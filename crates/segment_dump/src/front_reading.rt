@@ -4,8 +4,10 @@ ghost use Rattle.std.specs.Prelude.{◌≡◌, ◌≢◌, ◌<◌, ◌≤◌, �
 ghost use Rattle.seg_types.specs.Texts.{item_text, kind_text, name_text};
 ghost use Rattle.segment_lang.specs.Texts.{number_text};
 ghost use Rattle.segment_dump.specs.Asked.{Begins, CanName, IsLined, IsMeasured, NamesKind};
-ghost use Rattle.segment_dump.specs.Leads.{AreEntries, IsLead, IsMeasure, IsSmall, closed_text, entries_text, lead_text, measured};
-ghost use Rattle.segment_dump.specs.Reads.{Any, AreLines, Breaks, HasNoEnd, IsWord, Reads, Skips, ended, itself, lines_text, seen, seen_rest};
+ghost use Rattle.segment_dump.specs.Leads.{AreEntryCounts, IsLead, IsMeasure, IsSmall, closed_text, entries_text};
+ghost use Rattle.segment_dump.specs.Leads.{lead_text, measured};
+ghost use Rattle.segment_dump.specs.Reads.{Any, AreLines, Breaks, HasNoEnd, IsWord, ParsesPrefix, Skips, ended, itself};
+ghost use Rattle.segment_dump.specs.Reads.{lines_text, seen, seen_rest};
 
 use block_tags::MAX_SEGMENT_LEN;
 use seg_types::Kind;
@@ -13,15 +15,16 @@ use segment_lang::{Word, kind_of_word, number_of, numbers_are_decimals};
 
 /// What is behind these bytes.
 pub fn behind<'a>(text: &'a [u8], lead: &[u8]) -> Option<&'a [u8]>
-    ensures { MatchOption result ((rest : List ℕ) → text.now ≢ lead.now ++ rest) (λ rest. text.now ≡ lead.now ++ rest.now) }
+    ensures { MatchOption result ((rest : List ℕ)
+        → text.now ≢ lead.now ++ rest) (λ rest. text.now ≡ lead.now ++ rest.now) }
 {
     text.strip_prefix(lead)
 }
 
 /// What is behind a line and its end.
 fn behind_line(text: &[u8]) -> Option<&[u8]>
-    ensures skips { Skips ended HasNoEnd text.now (seen_rest result) }
-    ensures lined { IfSome result (λ r. Begins IsLined text.now 1 r.now) }
+    ensures skip_count { Skips ended HasNoEnd text.now (seen_rest result) }
+    ensures line { IfSome result (λ r. Begins IsLined text.now 1 r.now) }
 {
     let mut rest = text;
     'bytes: while let [first, tail @ ..] = rest {
@@ -35,8 +38,8 @@ fn behind_line(text: &[u8]) -> Option<&[u8]>
 
 /// What is behind so many lines.
 pub fn behind_lines(text: &[u8], count: u64) -> Option<&[u8]>
-    ensures skips { Skips lines_text (AreLines count) text.now (seen_rest result) }
-    ensures lined { IfSome result (λ r. Begins IsLined text.now count r.now) }
+    ensures skip_count { Skips lines_text (AreLines count) text.now (seen_rest result) }
+    ensures line { IfSome result (λ r. Begins IsLined text.now count r.now) }
 {
     let mut rest = text;
     'lines: for _ in 0..count {
@@ -47,9 +50,9 @@ pub fn behind_lines(text: &[u8], count: u64) -> Option<&[u8]>
 
 /// The word in front, which may be empty, and what is behind it.
 pub fn next_word(text: &[u8]) -> (&[u8], &[u8])
-    ensures whole { text.now ≡ result.0.now ++ result.1.now }
+    ensures contents { text.now ≡ result.0.now ++ result.1.now }
     ensures word { IsWord result.0.now }
-    ensures breaks { Breaks result.1.now }
+    ensures line_breaks { Breaks result.1.now }
 {
     let mut rest = text;
     'word: while let [first, tail @ ..] = rest {
@@ -63,7 +66,7 @@ pub fn next_word(text: &[u8]) -> (&[u8], &[u8])
 
 /// The number in front, and what is behind it.
 pub fn next_number(text: &[u8]) -> Option<(u64, &[u8])>
-    ensures value { Reads number_text (λ n. n < 2 ^ 64) Breaks itself text.now (seen result) }
+    ensures value { ParsesPrefix number_text (λ n. n < 2 ^ 64) Breaks itself text.now (seen result) }
     ensures spelled { IfSome result (λ r. text.now ≡ number_text r.0 ++ r.1.now) }
 {
     numbers_are_decimals();
@@ -74,9 +77,9 @@ pub fn next_number(text: &[u8]) -> Option<(u64, &[u8])>
 
 /// The number in front, of no more than a segment has bytes, and what is behind it.
 pub fn next_count(text: &[u8]) -> Option<(u64, &[u8])>
-    ensures value { Reads number_text IsSmall Breaks itself text.now (seen result) }
+    ensures value { ParsesPrefix number_text IsSmall Breaks itself text.now (seen result) }
     ensures spelled { IfSome result (λ r. text.now ≡ number_text r.0 ++ r.1.now) }
-    ensures small { IfSome result (λ r. IsSmall r.0) }
+    ensures max_size { IfSome result (λ r. IsSmall r.0) }
 {
     let (number, rest) = next_number(text)?;
     if number > MAX_SEGMENT_LEN {
@@ -87,7 +90,7 @@ pub fn next_count(text: &[u8]) -> Option<(u64, &[u8])>
 
 /// The kind in front, and what is behind it.
 fn next_kind(text: &[u8]) -> Option<(Kind, &[u8])>
-    ensures value { Reads kind_text Any Breaks itself text.now (seen result) }
+    ensures value { ParsesPrefix kind_text Any Breaks itself text.now (seen result) }
     ensures named { IfSome result (λ r. Begins NamesKind text.now r.0 r.1.now) }
 {
     let (word, rest) = next_word(text);
@@ -97,8 +100,8 @@ fn next_kind(text: &[u8]) -> Option<(Kind, &[u8])>
 
 /// What is behind the spelling of a byte of a text in quotes.
 fn behind_byte(text: &[u8]) -> Option<&[u8]>
-    ensures skips { Skips item_text Any text.now (seen_rest result) }
-    ensures some { IfSome result (λ r. Begins CanName text.now 1 r.now) }
+    ensures skip_count { Skips item_text Any text.now (seen_rest result) }
+    ensures non_empty { IfSome result (λ r. Begins CanName text.now 1 r.now) }
 {
     match text {
         [b'\\', b'x', _, _, rest @ ..] => Some(rest),
@@ -110,9 +113,9 @@ fn behind_byte(text: &[u8]) -> Option<&[u8]>
 
 /// How many bytes a text in quotes has, behind the quote that opens it, and what is behind the quote that closes it.
 fn quoted_len(text: &[u8]) -> Option<(u64, &[u8])>
-    ensures value { Reads closed_text (λ bytes. IsSmall (length bytes)) Any length text.now (seen result) }
-    ensures long { IfSome result (λ r. Begins CanName text.now r.0 r.1.now) }
-    ensures small { IfSome result (λ r. IsSmall r.0) }
+    ensures value { ParsesPrefix closed_text (λ bytes. IsSmall (length bytes)) Any length text.now (seen result) }
+    ensures min_len { IfSome result (λ r. Begins CanName text.now r.0 r.1.now) }
+    ensures max_size { IfSome result (λ r. IsSmall r.0) }
 {
     let mut rest = text;
     'bytes: for len in 0..MAX_SEGMENT_LEN + 1 {
@@ -126,9 +129,9 @@ fn quoted_len(text: &[u8]) -> Option<(u64, &[u8])>
 
 /// How many bytes the name in front has, and what is behind it.
 fn name_len(text: &[u8]) -> Option<(u64, &[u8])>
-    ensures value { Reads name_text (λ name. IsSmall (length name)) Breaks length text.now (seen result) }
-    ensures long { IfSome result (λ r. Begins CanName text.now r.0 r.1.now) }
-    ensures small { IfSome result (λ r. IsSmall r.0) }
+    ensures value { ParsesPrefix name_text (λ name. IsSmall (length name)) Breaks length text.now (seen result) }
+    ensures min_len { IfSome result (λ r. Begins CanName text.now r.0 r.1.now) }
+    ensures max_size { IfSome result (λ r. IsSmall r.0) }
 {
     if let Some(rest) = behind(text, b"\"") {
         return quoted_len(rest);
@@ -143,9 +146,9 @@ fn name_len(text: &[u8]) -> Option<(u64, &[u8])>
 
 /// What is behind the class of an object and its name, and how many bytes that has.
 pub fn behind_lead(text: &[u8]) -> Option<(u64, &[u8])>
-    ensures value { Reads lead_text IsLead Any (λ lead. length lead.1) text.now (seen result) }
-    ensures long { IfSome result (λ r. Begins CanName text.now r.0 r.1.now) }
-    ensures small { IfSome result (λ r. IsSmall r.0) }
+    ensures value { ParsesPrefix lead_text IsLead Any (λ lead. length lead.1) text.now (seen result) }
+    ensures min_len { IfSome result (λ r. Begins CanName text.now r.0 r.1.now) }
+    ensures max_size { IfSome result (λ r. IsSmall r.0) }
 {
     if let Some(rest) = behind(text, b"named ") {
         let (len, rest) = name_len(rest)?;
@@ -159,9 +162,9 @@ pub fn behind_lead(text: &[u8]) -> Option<(u64, &[u8])>
 
 /// The kind of an object and how many elements it has, and what is behind the end of its line.
 pub fn next_measure(text: &[u8]) -> Option<((Kind, u64), &[u8])>
-    ensures value { Reads measured IsMeasure Any itself text.now (seen result) }
-    ensures measured { IfSome result (λ r. Begins IsMeasured text.now r.0 r.1.now) }
-    ensures small { IfSome result (λ r. IsSmall r.0.1) }
+    ensures value { ParsesPrefix measured IsMeasure Any itself text.now (seen result) }
+    ensures measure { IfSome result (λ r. Begins IsMeasured text.now r.0 r.1.now) }
+    ensures max_size { IfSome result (λ r. IsSmall r.0.1) }
 {
     let (kind, rest) = next_kind(text)?;
     let (count, rest) = next_count(behind(rest, b" ")?)?;
@@ -170,7 +173,7 @@ pub fn next_measure(text: &[u8]) -> Option<((Kind, u64), &[u8])>
 
 /// How many entries the two indexes have, and what is behind the end of the line.
 pub fn next_entries(text: &[u8]) -> Option<((u64, u64), &[u8])>
-    ensures value { Reads entries_text AreEntries Any itself text.now (seen result) }
+    ensures value { ParsesPrefix entries_text AreEntryCounts Any itself text.now (seen result) }
     ensures spelled { IfSome result (λ r. text.now ≡ entries_text r.0 ++ r.1.now) }
     ensures named { IfSome result (λ r. IsSmall r.0.0) }
     ensures unique { IfSome result (λ r. IsSmall r.0.1) }

@@ -5,25 +5,27 @@ ghost use Rattle.seg_types.specs.declared.kinds.Class.TheVariants.{Named};
 ghost use Rattle.seg_types.specs.Names.{ByHandle};
 ghost use Rattle.segment_manager.specs.objects.Instances.{SaysOf};
 ghost use Rattle.segment_manager.specs.objects.Located.{IsLocated};
-ghost use Rattle.segment_manager.specs.State.{Answers};
+ghost use Rattle.segment_manager.specs.State.{AnswersWith};
 ghost use Rattle.segment_dump.specs.Items.{portable};
-ghost use Rattle.segment_dump.specs.Json.{closing, comma_before, in_json, json_at, json_dump, json_key, json_kind, opening};
-ghost use Rattle.segment_dump.specs.Owed.{WritesOf};
+ghost use Rattle.segment_dump.specs.Json.{closing, comma_before, in_json, json_at, json_dump, json_key, json_kind};
+ghost use Rattle.segment_dump.specs.Json.{opening};
+ghost use Rattle.segment_dump.specs.DumpWrites.{WritesOf};
 ghost use Rattle.segment_values.specs.Layouts.{count_at, laid_at};
 
 use crate::json_texts::{put_bytes, put_string};
-use crate::objects::{Telling, put_anonymous, put_named, put_unique};
+use crate::objects::{ObjectWriter, put_anonymous, put_named, put_unique};
 use raw_region::{DeviceFault, Sink, write_all};
 use seg_types::{Class, Kind, ScalarValue};
 use segment_lang::{Piece, put_pieces};
-use segment_manager::conditioned::object_here;
+use segment_manager::unchecked::object_here;
 use segment_manager::{Instance, Object, Segment};
 use segment_values::{Layout, count_of, put_content};
 
 /// Writes all objects of a segment as lines of JSON, in the order of a [`dump`](crate::dump), an object a line:
 /// `{"class":"named","name":"a","kind":"i64","value":[1,2]}`. The name of an object that has none is `null`. Scalars
 /// are numbers, `true` or `false`; a text is a string where it is UTF-8, and else an object `{"base64":".."}` with its
-/// bytes. The value of a `string` is its text, and that of each other object a list: of scalars, of texts, or, of a map,
+/// bytes. The value of a `string` is its text, and that of each other object a list: of scalars, of texts, or, of a
+/// map,
 /// of lists of a key and its value. It needs no memory, and a line is as long as its object.
 ///
 /// # Errors
@@ -41,7 +43,7 @@ pub fn dump_json<W: Sink>(segment: &Segment, out: &mut W) -> Result<(), DeviceFa
 /// Objects as lines of JSON, and their elements with commas between them.
 struct InJson;
 
-impl Telling for InJson {
+impl ObjectWriter for InJson {
     ghost use Rattle.segment_dump.specs.Json.{json_object};
 
     ghost text = { λ _. json_object };
@@ -113,8 +115,9 @@ fn put_object<W: Sink>(
     out: &mut W,
 ) -> Result<(), DeviceFault>
     requires writer { (W.history out.old).failures < 2 ^ 64 - 1 }
-    requires said { SaysOf segment.now (ByHandle said.handle) said }
-    ensures { WritesOf segment.now (W.history out.old) (W.history out.new) result (λ d. json_at d (ByHandle said.entry.handle)) }
+    requires text { SaysOf segment.now (ByHandle said.handle) said }
+    ensures { WritesOf segment.now (W.history out.old) (W.history out.new) result (λ d.
+        json_at d (ByHandle said.entry.handle)) }
 {
     let object = object_here(segment, said.handle);
     let count = count_of(segment, object);
@@ -171,8 +174,9 @@ fn put_value<W: Sink>(
 ) -> Result<(), DeviceFault>
     requires writer { (W.history out.old).failures < 2 ^ 64 - 1 }
     requires object { IsLocated segment.now (ByHandle object.handle) object }
-    requires count { Answers segment.now (λ d. count_at d (ByHandle object.handle)) count }
-    ensures { WritesOf segment.now (W.history out.old) (W.history out.new) result (λ d. opening object.kind ++ (laid_at in_json d (ByHandle object.handle) ++ closing object.kind)) }
+    requires count { AnswersWith segment.now (λ d. count_at d (ByHandle object.handle)) count }
+    ensures { WritesOf segment.now (W.history out.old) (W.history out.new) result (λ d.
+        opening object.kind ++ (laid_at in_json d (ByHandle object.handle) ++ closing object.kind)) }
 {
     write_all(out, opening(object.kind))?;
     put_content(&InJson, segment, object, count, out)?;

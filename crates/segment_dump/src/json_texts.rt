@@ -103,7 +103,7 @@ fn put_group<W: Sink>(a: u8, b: u8, c: u8, out: &mut W) -> Result<(), DeviceFaul
 /// Writes the last bytes as base64, which are fewer than three.
 fn put_last<W: Sink>(bytes: &[u8], out: &mut W) -> Result<(), DeviceFault>
     requires writer { (W.history out.old).failures < 2 ^ 64 - 1 }
-    requires few { length bytes.now < 3 }
+    requires max_count { length bytes.now < 3 }
     ensures { Writes (W.history out.old) (W.history out.new) result (base64_text bytes.now) }
 {
     match bytes {

@@ -2,9 +2,9 @@
 //! the form.
 #![tactic(auto)]
 
-mod against;
 mod building;
 mod capacities;
+mod compare_sink;
 mod comparing;
 mod counting;
 mod dumping;
@@ -21,10 +21,10 @@ mod needs;
 mod notes;
 mod objects;
 mod places;
-mod reading;
 mod saying;
 mod texts;
 mod theorems;
+mod tokens;
 
 pub use capacities::dump_with_capacities;
 pub use comparing::compare;
@@ -35,5 +35,5 @@ pub use json::dump_json;
 pub use loading::load;
 pub use needs::Needs;
 pub use notes::without_notes;
-pub use saying::said_size;
+pub use saying::declared_size;
 pub use theorems::{dumps_tell_objects, notes_are_left_out, segments_have_room};

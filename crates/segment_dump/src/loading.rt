@@ -6,20 +6,24 @@ ghost use Rattle.segment_manager.specs.declared.modes.Mode.TheVariants.{Write};
 ghost use Rattle.segment_dump.specs.Counting.{IsFront, fronted};
 ghost use Rattle.segment_dump.specs.Notes.{without_notes};
 ghost use Rattle.segment_dump.specs.Reads.{Any};
-ghost use Rattle.segment_dump.specs.Succeeding.{AreNumbers, IsNumber, Judges, MakesObjects, ReadsLead, Sizes, Succeeds, SucceedsOf, Takes, Trims, entries_said, size_said, version_said};
-ghost use Rattle.segment_dump.specs.Loading.{HasSize, IsAsked, IsExact, IsJudged, IsLacking, IsLetGo, IsLoaded, IsMade, IsNotLoaded, IsRefusalOf, IsWrong, asked_of, cause_in, refusal_for};
+ghost use Rattle.segment_dump.specs.Succeeding.{AreNumbers, IsNumber, JudgesDump, MakesObjects, ReadsLead, Sizes};
+ghost use Rattle.segment_dump.specs.Succeeding.{Succeeds, SucceedsOf, Takes, Trims, entries_said, size_said};
+ghost use Rattle.segment_dump.specs.Succeeding.{version_said};
+ghost use Rattle.segment_dump.specs.Loading.{HasSize, IsRequestedSize, IsExact, IsJudged, IsLacking, IsLetGo, IsLoaded};
+ghost use Rattle.segment_dump.specs.Loading.{LoadsUnlessLacking, IsNotLoaded, IsRefusalOf, IsWrong, asked_of, cause_in};
+ghost use Rattle.segment_dump.specs.Loading.{refusal_for};
 
-use crate::building::{Stop, build, stop_of};
+use crate::building::{BuildError, build, stop_of};
 use crate::comparing::compare;
 use crate::counting::{Count, Front, count_dump};
-use crate::faults::{BadDump, DumpFault, LoadError, LoadRefused, Misfit};
+use crate::faults::{BadDump, DumpFault, LoadError, LoadRefused, SyntaxError};
 use crate::notes::without_notes;
 use crate::places::place_at;
-use crate::reading::{Lines, Words};
+use crate::tokens::{Lines, Words};
 use block_tags::is_legal_size;
 use raw_region::RawRegion;
 use segment_lang::numbers_are_decimals;
-use segment_manager::conditioned::cut_end;
+use segment_manager::unchecked::cut_end;
 use segment_manager::{CreateRefused, Mode, Segment};
 
 /// Makes a segment of a dump, in the `size` bytes of the region from `base` on, which is a multiple of 16; without a
@@ -43,11 +47,12 @@ pub fn load(
     size: Option<u64>,
 ) -> Result<Segment, LoadRefused>
     requires aligned { base % 16 ≡ 0 }
-    ensures done { MatchResult result (IsLoaded (without_notes text.now) size) (IsNotLoaded (without_notes text.now) region base size (length room.old)) }
+    ensures completion { MatchResult result (IsLoaded (without_notes text.now) size)
+        (IsNotLoaded (without_notes text.now) region base size (length room.old)) }
     ensures exact { IsExact (without_notes text.now) (length region) base size (length room.old) (cause_in result) }
-    ensures lacking { IfSome (cause_in result)
+    ensures cause { IfSome (cause_in result)
         (IsLacking (without_notes text.now) (length region) base size (length room.old)) }
-    ensures succeeds { Succeeds (without_notes text.now) (length region) base size (length room.old) result }
+    ensures success { Succeeds (without_notes text.now) (length region) base size (length room.old) result }
 {
     load_lines(without_notes(text), room, region, base, size)
 }
@@ -61,10 +66,11 @@ fn load_lines(
     size: Option<u64>,
 ) -> Result<Segment, LoadRefused>
     requires aligned { base % 16 ≡ 0 }
-    ensures done { MatchResult result (IsLoaded text.now size) (IsNotLoaded text.now region base size (length room.old)) }
+    ensures completion { MatchResult result (IsLoaded text.now size)
+        (IsNotLoaded text.now region base size (length room.old)) }
     ensures exact { IsExact text.now (length region) base size (length room.old) (cause_in result) }
-    ensures lacking { IfSome (cause_in result) (IsLacking text.now (length region) base size (length room.old)) }
-    ensures succeeds { Succeeds text.now (length region) base size (length room.old) result }
+    ensures cause { IfSome (cause_in result) (IsLacking text.now (length region) base size (length room.old)) }
+    ensures success { Succeeds text.now (length region) base size (length room.old) result }
 {
     let counted = count_dump(text);
     if let Some(cause) = refusal_of(counted, &region, base, size, room.len()) {
@@ -84,9 +90,10 @@ fn make(
     size: Option<u64>,
 ) -> Result<Segment, LoadRefused>
     requires aligned { base % 16 ≡ 0 }
-    ensures done { MatchResult result (IsLoaded text.now size) (IsNotLoaded text.now region base size (length room.old)) }
-    ensures exact { IsMade (length region) base size (length room.old) counted (cause_in result) }
-    ensures succeeds { SucceedsOf text.now (length region) base size (length room.old) counted result }
+    ensures completion { MatchResult result (IsLoaded text.now size)
+        (IsNotLoaded text.now region base size (length room.old)) }
+    ensures exact { LoadsUnlessLacking (length region) base size (length room.old) counted (cause_in result) }
+    ensures success { SucceedsOf text.now (length region) base size (length room.old) counted result }
 {
     let mut lines = Lines::new(text);
     let front = match read_front(&mut lines) {
@@ -98,7 +105,7 @@ fn make(
             });
         }
     };
-    let asked = asked_size(size, said_size(counted, front.size));
+    let asked = asked_size(size, declared_size(counted, front.size));
     let mut segment = match Segment::create(region, base, asked, Mode::Write) {
         Ok(segment) => segment,
         Err(refused) => return Err(not_created(text, refused, counted)),
@@ -110,7 +117,7 @@ fn make(
 }
 
 /// The size that was counted with a dump, or else this.
-fn said_size(counted: Result<Count, usize>, said: u64) -> u64
+fn declared_size(counted: Result<Count, usize>, said: u64) -> u64
     ensures { IfOk counted (λ count. result ≡ count.size) }
 {
     match counted {
@@ -120,7 +127,7 @@ fn said_size(counted: Result<Count, usize>, said: u64) -> u64
 }
 
 /// What the first three lines say.
-fn read_front(lines: &mut Lines<'_>) -> Result<Front, Misfit>
+fn read_front(lines: &mut Lines<'_>) -> Result<Front, SyntaxError>
     ensures { Takes fronted IsFront lines.old lines.new result }
 {
     read_version(lines)?;
@@ -134,7 +141,7 @@ fn read_front(lines: &mut Lines<'_>) -> Result<Front, Misfit>
 }
 
 /// The next line, behind its first word, which is this one.
-fn read_lead<'a>(lines: &mut Lines<'a>, word: &[u8]) -> Result<Words<'a>, Misfit>
+fn read_lead<'a>(lines: &mut Lines<'a>, word: &[u8]) -> Result<Words<'a>, SyntaxError>
     ensures { ReadsLead word.now lines.old lines.new result }
 {
     let mut words = lines.next_line()?;
@@ -143,7 +150,7 @@ fn read_lead<'a>(lines: &mut Lines<'a>, word: &[u8]) -> Result<Words<'a>, Misfit
 }
 
 /// The first line.
-fn read_version(lines: &mut Lines<'_>) -> Result<(), Misfit>
+fn read_version(lines: &mut Lines<'_>) -> Result<(), SyntaxError>
     ensures { Takes version_said Any lines.old lines.new result }
 {
     let mut words = read_lead(lines, b"segment")?;
@@ -153,7 +160,7 @@ fn read_version(lines: &mut Lines<'_>) -> Result<(), Misfit>
 }
 
 /// The size.
-fn read_size(lines: &mut Lines<'_>) -> Result<u64, Misfit>
+fn read_size(lines: &mut Lines<'_>) -> Result<u64, SyntaxError>
     ensures { Takes size_said IsNumber lines.old lines.new result }
 {
     numbers_are_decimals();
@@ -164,7 +171,7 @@ fn read_size(lines: &mut Lines<'_>) -> Result<u64, Misfit>
 }
 
 /// How many entries the indexes have.
-fn read_entries(lines: &mut Lines<'_>) -> Result<(u64, u64), Misfit>
+fn read_entries(lines: &mut Lines<'_>) -> Result<(u64, u64), SyntaxError>
     ensures { Takes entries_said AreNumbers lines.old lines.new result }
 {
     numbers_are_decimals();
@@ -177,7 +184,7 @@ fn read_entries(lines: &mut Lines<'_>) -> Result<(u64, u64), Misfit>
 
 /// The size that is asked for, or else that of the text.
 fn asked_size(size: Option<u64>, said: u64) -> u64
-    ensures asked { IsAsked size result }
+    ensures request { IsRequestedSize size result }
     ensures value { result ≡ asked_of size said }
 {
     size.unwrap_or(said)
@@ -228,7 +235,7 @@ fn refusal_of(
 
 /// No segment is created, and nothing was lacking for what was counted: so some lines could not be counted.
 fn not_created(text: &[u8], refused: CreateRefused, counted: Result<Count, usize>) -> LoadRefused
-    ensures back { result.region ≡ Some refused.region }
+    ensures return_path { result.region ≡ Some refused.region }
     ensures cause { IsWrong text.now result.cause }
 {
     let (region, _cause) = refused.into_parts();
@@ -240,7 +247,7 @@ fn not_created(text: &[u8], refused: CreateRefused, counted: Result<Count, usize
 
 /// The region is let go.
 fn let_go(cause: LoadError) -> LoadRefused
-    ensures gone { result.region ≡ None }
+    ensures absent { result.region ≡ None }
     ensures cause { result.cause ≡ cause }
 {
     LoadRefused {
@@ -250,7 +257,7 @@ fn let_go(cause: LoadError) -> LoadRefused
 }
 
 /// What is wrong at a place of a text.
-fn bad_dump(text: &[u8], misfit: Misfit) -> LoadError
+fn bad_dump(text: &[u8], misfit: SyntaxError) -> LoadError
     ensures { IsWrong text.now result }
 {
     let at = misfit.at.min(text.len());
@@ -264,23 +271,23 @@ fn bad_dump(text: &[u8], misfit: Misfit) -> LoadError
 
 /// Why building stopped. Where objects or a text ask for more than was counted, lines are wrong: those that could not
 /// be counted, or else those that were built.
-fn cause_of(text: &[u8], stop: Stop, counted: Result<Count, usize>) -> LoadError
+fn cause_of(text: &[u8], stop: BuildError, counted: Result<Count, usize>) -> LoadError
     ensures { IsWrong text.now result }
 {
     match stop {
-        Stop::Misfit(misfit) => bad_dump(text, misfit),
-        Stop::NoSpace(at) => bad_dump(text, uncounted(text, at, counted)),
-        Stop::LongText(at) => bad_dump(text, uncounted(text, at, counted)),
+        BuildError::Misfit(misfit) => bad_dump(text, misfit),
+        BuildError::NoSpace(at) => bad_dump(text, uncounted(text, at, counted)),
+        BuildError::LongText(at) => bad_dump(text, uncounted(text, at, counted)),
     }
 }
 
 /// The first line that could not be counted, or another place where all could.
-fn uncounted(text: &[u8], at: usize, counted: Result<Count, usize>) -> Misfit {
+fn uncounted(text: &[u8], at: usize, counted: Result<Count, usize>) -> SyntaxError {
     let at = match counted {
         Ok(_) => at,
         Err(left) => text.len().saturating_sub(left),
     };
-    Misfit {
+    SyntaxError {
         at,
         cause: DumpFault::Unlike,
     }
@@ -293,7 +300,7 @@ fn make_objects(
     lines: &mut Lines<'_>,
     room: &mut [u8],
     most: usize,
-) -> Result<(), Stop>
+) -> Result<(), BuildError>
     ensures { MakesObjects segment.old segment.new front lines.old most (length room.old) result }
 {
     let at = lines.at();
@@ -313,8 +320,8 @@ fn judge(
     said: u64,
     size: Option<u64>,
 ) -> Result<Segment, LoadRefused>
-    ensures done { MatchResult result (IsJudged text.now size) (IsLetGo text.now) }
-    ensures succeeds { Judges segment text.now said size result }
+    ensures completion { MatchResult result (IsJudged text.now size) (IsLetGo text.now) }
+    ensures success { JudgesDump segment text.now said size result }
 {
     if !is_open(&segment) {
         return Err(unlike(text, 0));
@@ -348,7 +355,7 @@ fn unlike(text: &[u8], at: usize) -> LoadRefused
     ensures { IsLetGo text.now result }
 {
     let cause = DumpFault::Unlike;
-    let_go(bad_dump(text, Misfit { at, cause }))
+    let_go(bad_dump(text, SyntaxError { at, cause }))
 }
 
 /// Whether a segment is open for writing.
@@ -360,8 +367,8 @@ fn is_open(segment: &Segment) -> bool
 
 /// Whether a segment has the size that was asked for, or nothing free where none was.
 fn has_size(segment: &Segment, size: Option<u64>) -> bool
-    ensures has { OnTrue result (HasSize segment.now size) }
-    ensures all { Sizes segment.now size result }
+    ensures content { OnTrue result (HasSize segment.now size) }
+    ensures every { Sizes segment.now size result }
 {
     match size {
         None => segment.free() == 0,

@@ -3,7 +3,8 @@ ghost use Rattle.std.specs.Prelude.{◌≡◌, ◌+◌, ◌^◌, ◌<◌, ◌≤
 ghost use Rattle.seg_types.specs.Kinds.{size_of};
 ghost use Rattle.seg_map.specs.Map.{node_len};
 ghost use Rattle.segment_dump.specs.Asked.{AreAtMost};
-ghost use Rattle.segment_dump.specs.Need.{block_room, body_len, both, elements_room, front_room, object_room, only_room};
+ghost use Rattle.segment_dump.specs.Need.{block_room, body_len, both, elements_room, front_room, object_room};
+ghost use Rattle.segment_dump.specs.Need.{only_room};
 
 use seg_types::{Kind, ScalarKind};
 use segment_manager::layout::CONTAINER_LEN;
@@ -45,7 +46,7 @@ pub fn only_room(room: u64) -> Needs
 pub fn block_room(bytes: u64) -> u64
     requires { bytes < 2 ^ 40 }
     ensures value { result ≡ block_room bytes }
-    ensures small { result ≤ bytes + 32 }
+    ensures max_size { result ≤ bytes + 32 }
 {
     if bytes == 0 {
         return 0;
@@ -57,7 +58,7 @@ pub fn block_room(bytes: u64) -> u64
 fn body_len(kind: Kind, count: u64) -> u64
     requires { count ≤ 1073741824 }
     ensures value { result ≡ body_len kind count }
-    ensures small { result < 2 ^ 34 }
+    ensures max_size { result < 2 ^ 34 }
 {
     match kind {
         Kind::Scalar(kind) => kind.size() * count,
@@ -71,7 +72,7 @@ fn body_len(kind: Kind, count: u64) -> u64
 /// The bytes of a node of a map.
 fn node_room(keys: ScalarKind, values: ScalarKind) -> u64
     ensures value { result ≡ block_room (node_len (size_of keys) (size_of values)) }
-    ensures small { result ≤ 64 }
+    ensures max_size { result ≤ 64 }
 {
     block_room(16 + keys.size() + values.size())
 }
@@ -80,7 +81,7 @@ fn node_room(keys: ScalarKind, values: ScalarKind) -> u64
 fn elements_room(kind: Kind, count: u64) -> u64
     requires { count ≤ 1073741824 }
     ensures value { result ≡ elements_room kind count }
-    ensures small { result < 2 ^ 37 }
+    ensures max_size { result < 2 ^ 37 }
 {
     match kind {
         Kind::Scalar(_) => 0,

@@ -32,8 +32,8 @@ fn last_line_at(text: &[u8]) -> usize
 fn is_note(line: &[u8]) -> bool
     requires { is_line line.now ≡ true }
     ensures note { result ≡ true → are_notes true line.now ≡ true }
-    ensures some { result ≡ true → 0 < length line.now }
-    ensures other { result ≡ false → 0 < length line.now → are_notes true line.now ≡ false }
+    ensures non_empty { result ≡ true → 0 < length line.now }
+    ensures peer { result ≡ false → 0 < length line.now → are_notes true line.now ≡ false }
 {
     if line.is_empty() {
         return false;

@@ -6,7 +6,7 @@ use crate::front_reading::{behind, next_number};
 
 /// How many bytes the segment of a dump had, as it says in its second line. Notes behind the dump make no difference.
 /// `None` is said of no dump; of another text it may be any number.
-pub fn said_size(text: &[u8]) -> Option<u64>
+pub fn declared_size(text: &[u8]) -> Option<u64>
     ensures { SaysSize (without_notes text.now) result }
 {
     let (size, _rest) = next_number(behind(text, b"segment dump 1\nsize ")?)?;

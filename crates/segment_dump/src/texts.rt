@@ -1,7 +1,8 @@
 //! A text in a dump: its length, and its bytes in pieces, so that no line is long.
 ghost use Rattle.std.specs.Prelude.{◌≡◌, ◌-◌, ◌^◌, ◌<◌, length};
 ghost use Rattle.raw_region.specs.Device.{Writes};
-ghost use Rattle.segment_dump.specs.Texts.{length_text, piece_lead, piece_line, piece_of, pieces_in, pieces_text, text_lines};
+ghost use Rattle.segment_dump.specs.Texts.{length_text, piece_lead, piece_line, piece_of, pieces_in, pieces_text};
+ghost use Rattle.segment_dump.specs.Texts.{text_lines};
 
 use raw_region::{DeviceFault, Sink};
 use segment_lang::{Piece, put_pieces};
@@ -48,7 +49,7 @@ pub fn pieces_in(len: usize) -> usize
 /// Writes a piece of a text, and ends its line.
 fn put_piece<W: Sink>(text: &[u8], index: usize, out: &mut W) -> Result<(), DeviceFault>
     requires writer { (W.history out.old).failures < 2 ^ 64 - 1 }
-    requires inside { index < pieces_in (length text.now) }
+    requires in_bounds { index < pieces_in (length text.now) }
     ensures { Writes (W.history out.old) (W.history out.new) result (piece_line text.now index) }
 {
     put_pieces(

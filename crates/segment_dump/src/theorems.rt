@@ -1,5 +1,6 @@
 //! Laws about the definitions that the contracts cite. These functions do nothing; what they ensure is proved.
-ghost use Rattle.segment_dump.specs.Laws.{CapacitiesAreLeftOut, DumpsHaveNoNotes, DumpsTellObjects, DumpsTellSizes, NotesAreCut, NotesAreLeftOut, SegmentsHaveRoom};
+ghost use Rattle.segment_dump.specs.Laws.{CapacitiesAreLeftOut, DumpsHaveNoNotes, DumpsTellObjects, DumpsTellSizes};
+ghost use Rattle.segment_dump.specs.Laws.{NotesAreCut, NotesAreLeftOut, SegmentsHaveRoom};
 
 /// Two segments that have one dump have the same objects: the same names, classes, kinds and values, and the anonymous
 /// objects in the same order; and they have one size.
@@ -18,8 +19,8 @@ pub fn segments_have_room()
 /// Where notes stand behind a dump, what is left without them is the dump, and so it is of a dump with capacities, and
 /// of a dump alone. Of any text only notes are left out, at its end.
 pub fn notes_are_left_out()
-    ensures behind { NotesAreLeftOut }
+    ensures after { NotesAreLeftOut }
     ensures capacities { CapacitiesAreLeftOut }
-    ensures none { DumpsHaveNoNotes }
-    ensures only { NotesAreCut }
+    ensures absent { DumpsHaveNoNotes }
+    ensures uniqueness { NotesAreCut }
 {}

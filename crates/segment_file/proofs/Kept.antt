@@ -3,7 +3,8 @@ use Rattle.std.proofs.Common.{◌≡◌, ◌<◌, ◌+◌, ◌*◌, ℕ, Bool, t
 use Rattle.std.proofs.lemmas.List.{take_all}
 
 -- it has the front, where that is all that it gave
-pub front_kept : (is_all : Bool) (kept failures : ℕ) (front bytes : List ℕ) → length front ≡ 24 → (is_all ≡ true → take kept front ≡ bytes) → (is_all ≡ true → length bytes ≡ kept)
+pub front_kept : (is_all : Bool) (kept failures : ℕ) (front bytes : List ℕ) → length front ≡ 24
+    → (is_all ≡ true → take kept front ≡ bytes) → (is_all ≡ true → length bytes ≡ kept)
     → (is_all ≡ false → 24 < length bytes + 25 * failures) → length bytes ≡ 24 → failures ≡ 0 → bytes ≡ front
 front_kept true kept failures front bytes len all count lost long sound =
     let same = count refl in sym (all refl) ∙ take_all kept front (omega (arith, len, long, same))

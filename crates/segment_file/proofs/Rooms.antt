@@ -1,7 +1,8 @@
 -- How much room the region of a file's segment has.
 use Rattle.std.proofs.Common.{◌≡◌, ◌<◌, ◌≤◌, ℕ, ◌+◌, inl, inr, List, length, max, min, refl, sym, ap, ◌∙◌, arith}
 use Rattle.std.proofs.lemmas.Bool.{cases_lt}
-use Rattle.std.proofs.Math.Nat.{le-max_left, le-max_right, max_comm, min-eq_left, min-eq_right, min-le_left, min-le_right}
+use Rattle.std.proofs.Math.Nat.{le-max_left, le-max_right, max_comm, min-eq_left, min-eq_right, min-le_left}
+use Rattle.std.proofs.Math.Nat.{min-le_right}
 use Rattle.image_check.specs.EarlyTests.{size_word}
 use Rattle.grow_shrink.specs.LargerRegion.{region_len}
 use Rattle.segment_file.specs.Opening.{file_region}
@@ -21,7 +22,8 @@ region_capped n = omega arith
 pub room-as-told : (len more : ℕ) (b : List ℕ) → size_word b ≤ len → region_len (len + more) ≡ file_region len more b
 room-as-told len more b few = omega arith
 
-pub room-as-said : (len more : ℕ) (b : List ℕ) → len ≤ size_word b → region_len (size_word b + more) ≡ file_region len more b
+pub room-as-said : (len more : ℕ) (b : List ℕ) → len ≤ size_word b
+    → region_len (size_word b + more) ≡ file_region len more b
 room-as-said len more b many = omega arith
 
 -- what does not fit a region for a file is more than the file has

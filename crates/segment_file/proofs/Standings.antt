@@ -1,43 +1,51 @@
 -- What stands under the path of a file while an image is written.
-use Rattle.std.proofs.Common.{◌≡◌, ◌⊎◌, ℕ, zero, suc, Bool, true, false, inl, inr, List, [], ◌∷◌, None, fold, take, bytes_eq, refl, sym, subst}
+use Rattle.std.proofs.Common.{◌≡◌, ◌⊎◌, ℕ, zero, suc, Bool, true, false, inl, inr, List, [], ◌∷◌, None, fold, take}
+use Rattle.std.proofs.Common.{bytes_eq, refl, sym, subst}
 use Rattle.std.proofs.lemmas.Slice.Eq.{bytes_eq-Decides}
-use Rattle.raw_region.specs.Device.{Taken}
-use Rattle.segment_disk.specs.declared.presence.Making.TheVariants.{New, Emptied, Beside}
+use Rattle.raw_region.specs.Device.{WriteDelta}
+use Rattle.segment_disk.specs.declared.presence.CreateMode.TheVariants.{New, Truncate, Replacement}
 use Rattle.segment_disk.specs.Events.{Event}
-use Rattle.segment_file.specs.Files.{Written, Overtaken, NotMade, Closed, Offered, IsUnwritten, all_of, whole, writes}
-use Rattle.segment_file.specs.Standing.{Scene, Whole, Neither, IsOneOf, ReplacingKeepsOneWhole, UnplacedLeavesTheOld, SavingEndsWhole, EmptyingTears, after_event, standing}
+use Rattle.segment_file.specs.Files.{WriteOutcome, Overtaken, NotMade, Closed, Offered, IsUnwritten, all_of, whole}
+use Rattle.segment_file.specs.Files.{writes}
+use Rattle.segment_file.specs.PathContents.{FileState, Whole, Neither, IsOneOf, ReplacingKeepsOneWhole}
+use Rattle.segment_file.specs.PathContents.{UnplacedLeavesTheOld, SavingEndsWhole, EmptyingTears, after_event, standing}
 
 same : (path : List ℕ) → bytes_eq path path ≡ true
 same path = (bytes_eq-Decides path path).1 refl
 
 -- one of the two stands there at each point
-abbrev Along : List ℕ → List ℕ → List ℕ → Scene → List Event → Type 0
+abbrev Along : List ℕ → List ℕ → List ℕ → FileState → List Event → Type 0
 Along path old new s [] = IsOneOf old new s.named
 Along path old new s (e ∷ es) = IsOneOf old new s.named × Along path old new (after_event path s e) es
 
-at_each : (path old new : List ℕ) (es : List Event) (s : Scene) → Along path old new s es → (k : ℕ) → IsOneOf old new (fold (after_event path) s (take k es)).named
+at_each : (path old new : List ℕ) (es : List Event) (s : FileState) → Along path old new s es → (k : ℕ)
+    → IsOneOf old new (fold (after_event path) s (take k es)).named
 at_each path old new [] s h zero = h
 at_each path old new [] s h (suc k) = h
 at_each path old new (e ∷ es) s h zero = h.0
 at_each path old new (e ∷ es) s h (suc k) = at_each path old new es (after_event path s e) h.1 k
 
-abbrev before : List ℕ → Scene
+abbrev before : List ℕ → FileState
 before old = record { named = Whole old; target = Neither; beside = None }
 
 module _ (path old image : List ℕ) where
-  abbrev Kept : Written → Type 0
-  Kept written = Along path old image (before old) (writes Beside path written)
+  abbrev Kept : WriteOutcome → Type 0
+  Kept written = Along path old image (before old) (writes Replacement path written)
 
-  kept-closed : (taken : Taken) (lasts : Bool) → Kept (Closed taken lasts)
+  kept-closed : (taken : WriteDelta) (lasts : Bool) → Kept (Closed taken lasts)
   kept-closed taken lasts = rw (same path) (inl refl, (inl refl, (inl refl, (inl refl, inl refl))))
 
   kept-placed : Kept (Offered image true)
   kept-placed = rw (same path) (inl refl, (inl refl, (inl refl, (inl refl, inr refl))))
 
   kept-unplaced : Kept (Offered image false)
-  kept-unplaced = rw (same path) (inl refl, (inl refl, (inl refl, (inl refl, ((inl refl, inr refl), (inl refl, inr refl))))))
+  kept-unplaced = rw (same path) (
+    inl refl,
+    (inl refl, (inl refl, (inl refl, ((inl refl, inr refl), (inl refl, inr refl))))),
+  )
 
-  kept : (written : Written) → (written ≡ whole Beside image) ⊎ IsUnwritten Beside image written → Kept written
+  kept : (written : WriteOutcome) → (written ≡ whole Replacement image) ⊎ IsUnwritten Replacement image written
+      → Kept written
   kept written (inl e) = subst Kept (sym e) kept-placed
   kept written (inr (inl o)) = subst Kept (sym o.left) (inl refl, inl refl)
   kept written (inr (inr (inl e))) = subst Kept (sym e) (inl refl, (inl refl, inl refl))
@@ -46,7 +54,8 @@ module _ (path old image : List ℕ) where
   kept written (inr (inr (inr (inr (inr u))))) = subst Kept (sym u.offered) kept-unplaced
 
 pub replacing_keeps : ReplacingKeepsOneWhole
-replacing_keeps path old image written h k = at_each path old image (writes Beside path written) (before old) (kept path old image written h) k
+replacing_keeps path old image written h k =
+    at_each path old image (writes Replacement path written) (before old) (kept path old image written h) k
 
 pub unplaced_leaves : UnplacedLeavesTheOld
 unplaced_leaves path old Overtaken h = refl
@@ -56,8 +65,8 @@ unplaced_leaves path old (Offered image placed) h = absurd h
 
 pub ends_whole : SavingEndsWhole
 ends_whole New path old image = rw (standing, same path) refl
-ends_whole Emptied path old image = rw (standing, same path) refl
-ends_whole Beside path old image = rw (standing, same path) refl
+ends_whole Truncate path old image = rw (standing, same path) refl
+ends_whole Replacement path old image = rw (standing, same path) refl
 
 pub tears : EmptyingTears
 tears path old image = rw (standing, same path) refl

@@ -1,17 +1,17 @@
 -- How the file of an image is read, and how it is written.
 use Rattle.std.specs.Prelude.{◌≡◌, ◌≢◌, ◌⊎◌, ⊤, Bool, true, false, List, [], ◌∷◌, ℕ, Some, None, Result, MatchResult}
-use Rattle.raw_region.specs.Device.{Given, Taken, IsProperPrefix}
+use Rattle.raw_region.specs.Device.{ReadDelta, WriteDelta, IsProperPrefix}
 use Rattle.segment_manager.specs.Directory.{Directory}
-use Rattle.segment_manager.specs.State.{StandsFor}
+use Rattle.segment_manager.specs.State.{DenotesCurrent}
 use Rattle.image_check.specs.Saving.{IsSaved}
-use Rattle.segment_disk.specs.declared.presence.Making.{Making}
-use Rattle.segment_disk.specs.declared.presence.Making.TheVariants.{New, Emptied, Beside}
+use Rattle.segment_disk.specs.declared.presence.CreateMode.{CreateMode}
+use Rattle.segment_disk.specs.declared.presence.CreateMode.TheVariants.{New, Truncate, Replacement}
 use Rattle.segment_disk.specs.Events.{Event, Opened, Read, Compared, Made, Wrote, Placed, Discarded, After}
 
 -- ---- a file that is read
 
 -- it was opened, and had so many bytes by what the disk told, gave this and was closed
-abbrev pub opens : List ℕ → ℕ → Given → List Event
+abbrev pub opens : List ℕ → ℕ → ReadDelta → List Event
 opens path len image = Opened path (Some len) ∷ Read image ∷ []
 
 -- it could not be opened
@@ -21,109 +21,117 @@ does_not_open path = Opened path None ∷ []
 -- ---- a file that is written
 
 -- all of an image
-abbrev pub all_of : List ℕ → Taken
+abbrev pub all_of : List ℕ → WriteDelta
 all_of image = record { bytes = image; failed = false }
 
--- What became of it: another file had taken its name, and it was left alone; it could not be made or emptied; it took something and was closed, and all that it took lasts or
+-- What became of it: another file had taken its name, and it was left alone; it could not be made or emptied; it took
+-- something and was closed, and all that it took lasts or
 -- need not; or, made beside the old one, it took all of an image, which lasts, and was put in the place of the old one,
 -- or need not have been.
-pub data Written : Type 0 where
-  Overtaken : Written
-  NotMade : Written
-  Closed : Taken → Bool → Written
-  Offered : List ℕ → Bool → Written
+pub data WriteOutcome : Type 0 where
+  Overtaken : WriteOutcome
+  NotMade : WriteOutcome
+  Closed : WriteDelta → Bool → WriteOutcome
+  Offered : List ℕ → Bool → WriteOutcome
 
 -- a file that was made beside another and did not take its place is removed
-abbrev pub leaving : Making → List ℕ → List Event
+abbrev pub leaving : CreateMode → List ℕ → List Event
 leaving New path = []
-leaving Emptied path = []
-leaving Beside path = Discarded path ∷ []
+leaving Truncate path = []
+leaving Replacement path = Discarded path ∷ []
 
 abbrev pub placing : List ℕ → Bool → List Event
 placing path true = Placed path true ∷ []
 placing path false = Placed path false ∷ Discarded path ∷ []
 
-abbrev pub makes : Making → List ℕ → Written → List Event
+abbrev pub makes : CreateMode → List ℕ → WriteOutcome → List Event
 makes how path Overtaken = []
 makes how path NotMade = Made how path false ∷ []
 makes how path (Closed taken lasts) = Made how path true ∷ Wrote taken lasts ∷ leaving how path
 makes how path (Offered image placed) = Made how path true ∷ Wrote (all_of image) true ∷ placing path placed
 
 -- before a file is emptied or replaced it is compared with the one that the right to write was given for
-abbrev pub compares : Making → List ℕ → Bool → List Event → List Event
+abbrev pub compares : CreateMode → List ℕ → Bool → List Event → List Event
 compares New path same then = then
-compares Emptied path same then = Compared path same ∷ then
-compares Beside path same then = Compared path same ∷ then
+compares Truncate path same then = Compared path same ∷ then
+compares Replacement path same then = Compared path same ∷ then
 
-abbrev pub is_same : Written → Bool
+abbrev pub is_same : WriteOutcome → Bool
 is_same Overtaken = false
 is_same NotMade = true
 is_same (Closed taken lasts) = true
 is_same (Offered image placed) = true
 
-abbrev pub writes : Making → List ℕ → Written → List Event
+abbrev pub writes : CreateMode → List ℕ → WriteOutcome → List Event
 writes how path written = compares how path (is_same written) (makes how path written)
 
 -- the file was made or emptied
-abbrev pub IsMade : Written → Type 0
+abbrev pub IsMade : WriteOutcome → Type 0
 IsMade Overtaken = ⊥
 IsMade NotMade = ⊥
 IsMade (Closed taken lasts) = ⊤
 IsMade (Offered image placed) = ⊤
 
 -- the whole image is in the file, and lasts
-abbrev pub whole : Making → List ℕ → Written
+abbrev pub whole : CreateMode → List ℕ → WriteOutcome
 whole New image = Closed (all_of image) true
-whole Emptied image = Closed (all_of image) true
-whole Beside image = Offered image true
+whole Truncate image = Closed (all_of image) true
+whole Replacement image = Offered image true
 
 -- writing failed, and not all of the image was taken
-pub record IsPart (image : List ℕ) (taken : Taken) : Type 0 where
+pub record IsPartialWrite (image : List ℕ) (taken : WriteDelta) : Type 0 where
   pub part : IsProperPrefix taken.bytes image
   pub failed : taken.failed ≡ true
 
 -- the file took not all of the image, since writing failed
-pub record IsCut (image : List ℕ) (written : Written) : Type 0 where
-  pub taken : Taken
+pub record IsPartialFile (image : List ℕ) (written : WriteOutcome) : Type 0 where
+  pub taken : WriteDelta
   pub lasts : Bool
   pub closed : written ≡ Closed taken lasts
-  pub is_part : IsPart image taken
+  pub is_part : IsPartialWrite image taken
 
 -- all of the image lasts beside the old file, whose place it need not have taken
-pub record IsUnplaced (how : Making) (image : List ℕ) (written : Written) : Type 0 where
-  pub beside : how ≡ Beside
+pub record IsUnplaced (how : CreateMode) (image : List ℕ) (written : WriteOutcome) : Type 0 where
+  pub beside : how ≡ Replacement
   pub offered : written ≡ Offered image false
 
 -- the file that was to be emptied or replaced has another's name
-pub record IsOvertaken (how : Making) (written : Written) : Type 0 where
+pub record IsOvertaken (how : CreateMode) (written : WriteOutcome) : Type 0 where
   pub old : how ≢ New
   pub left : written ≡ Overtaken
 
--- why a file has not an image that lasts: another has its name, it was not made or emptied, it took not all of it, all of
+-- why a file has not an image that lasts: another has its name, it was not made or emptied, it took not all of it, all
+-- of
 -- it need not last, or did not take the place of the old file
-abbrev pub IsUnwritten : Making → List ℕ → Written → Type 0
-IsUnwritten how image written = IsOvertaken how written ⊎ ((written ≡ NotMade) ⊎ (IsCut image written ⊎ ((written ≡ Closed (all_of image) false) ⊎ IsUnplaced how image written)))
+abbrev pub IsUnwritten : CreateMode → List ℕ → WriteOutcome → Type 0
+IsUnwritten how image written =
+    IsOvertaken how written ⊎ ((written ≡ NotMade)
+    ⊎ (IsPartialFile image written ⊎ ((written ≡ Closed (all_of image) false) ⊎ IsUnplaced how image written)))
 
 -- a file that was open for writing took an image and was closed; Ok says that it took all of it, and that this lasts
-pub record FillsFile {D E : Type 0} (step : D → Event → D → Type 0) (old new : D) (image : List ℕ) (result : Result (Unit {0}) E) : Type 0 where
-  pub taken : Taken
+pub record FillsFile {D E : Type 0} (step : D → Event → D
+    → Type 0) (old new : D) (image : List ℕ) (result : Result (Unit {0}) E) : Type 0 where
+  pub taken : WriteDelta
   pub lasts : Bool
   pub asked : step old (Wrote taken lasts) new
-  pub fate : MatchResult result (λ u. (taken ≡ all_of image) × (lasts ≡ true)) (λ e. IsPart image taken ⊎ ((taken ≡ all_of image) × (lasts ≡ false)))
-  pub accepted : (d : Directory) → StandsFor image d → IsSaved image d
+  pub fate : MatchResult result (λ u. (taken ≡ all_of image) × (lasts ≡ true)) (λ e. IsPartialWrite image taken
+      ⊎ ((taken ≡ all_of image) × (lasts ≡ false)))
+  pub accepted : (d : Directory) → DenotesCurrent image d → IsSaved image d
 
 -- the same where no comparison was asked for, or the file is the same
-pub record MakesImage {D E : Type 0} (step : D → Event → D → Type 0) (old new : D) (how : Making) (path image : List ℕ) (result : Result (Unit {0}) E) : Type 0 where
-  pub written : Written
+pub record MakesImage {D E : Type 0} (step : D → Event → D
+    → Type 0) (old new : D) (how : CreateMode) (path image : List ℕ) (result : Result (Unit {0}) E) : Type 0 where
+  pub written : WriteOutcome
   pub same : is_same written ≡ true
   pub asked : After step old (makes how path written) new
   pub fate : MatchResult result (λ u. written ≡ whole how image) (λ e. IsUnwritten how image written)
-  pub accepted : IsMade written → (d : Directory) → StandsFor image d → IsSaved image d
+  pub accepted : IsMade written → (d : Directory) → DenotesCurrent image d → IsSaved image d
 
 -- An image was written to a file, and nothing else was asked of the disk. It is whole there and lasts where the answer
 -- is Ok. A file that was made or emptied was so for an image that a check accepts.
-pub record WritesImage {D E : Type 0} (step : D → Event → D → Type 0) (old new : D) (how : Making) (path image : List ℕ) (result : Result (Unit {0}) E) : Type 0 where
-  pub written : Written
+pub record WritesImage {D E : Type 0} (step : D → Event → D
+    → Type 0) (old new : D) (how : CreateMode) (path image : List ℕ) (result : Result (Unit {0}) E) : Type 0 where
+  pub written : WriteOutcome
   pub asked : After step old (writes how path written) new
   pub fate : MatchResult result (λ u. written ≡ whole how image) (λ e. IsUnwritten how image written)
-  pub accepted : IsMade written → (d : Directory) → StandsFor image d → IsSaved image d
+  pub accepted : IsMade written → (d : Directory) → DenotesCurrent image d → IsSaved image d

@@ -3,7 +3,8 @@ use Rattle.std.specs.Prelude.{ℕ, true, List}
 use Rattle.segment_disk.specs.Events.{Event, Held, Released}
 
 -- it was taken, this was done, and it was given back
-pub record IsHolding {D : Type 0} (step : D → Event → D → Type 0) (old new : D) (path : List ℕ) (does : D → D → Type 0) : Type 0 where
+pub record RunsLocked {D : Type 0} (step : D → Event → D → Type 0) (old new : D) (path : List ℕ) (does : D → D
+    → Type 0) : Type 0 where
   pub held : D
   pub taken : step old (Held path true) held
   pub done : D

@@ -1,5 +1,5 @@
 pub mod Files
-pub mod Standing
+pub mod PathContents
 pub mod Holding
 pub mod ReadingOn
 pub mod Opening

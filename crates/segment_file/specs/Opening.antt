@@ -1,24 +1,27 @@
 -- How the image in a file is opened, or only checked: how much room its segment has, and why there is none.
-use Rattle.std.specs.Prelude.{◌≡◌, ◌⊎◌, ◌<◌, ◌≤◌, ⊤, ℕ, ◌+◌, false, List, length, max, Option, Some, None, Result, Ok, Err, MatchResult}
-use Rattle.raw_region.specs.Device.{Gave, Given}
+use Rattle.std.specs.Prelude.{◌≡◌, ◌⊎◌, ◌<◌, ◌≤◌, ⊤, ℕ, ◌+◌, false, List, length, max, Option, Some, None, Result, Ok}
+use Rattle.std.specs.Prelude.{Err, MatchResult}
+use Rattle.raw_region.specs.Device.{ReaderHistory, ReadDelta}
 use Rattle.raw_region.specs.Format.{current}
-use Rattle.raw_region.specs.Memory.{SamePlace, cut_at}
+use Rattle.raw_region.specs.Memory.{SameSurroundings, cut_at}
 use Rattle.raw_region.specs.Refusals.{refusal_of}
 use Rattle.raw_region.specs.declared.refused_memory.OutOfMemory.{OutOfMemory as NoMemory}
 use Rattle.segment_manager.specs.declared.modes.Mode.{Mode}
-use Rattle.segment_manager.specs.State.{State}
+use Rattle.segment_manager.specs.State.{SegmentState}
 use Rattle.image_check.specs.declared.errors.ExamineError.{ExamineError}
-use Rattle.image_check.specs.declared.errors.ExamineError.TheVariants.{Image as Judged, RegionTooSmall as TooSmall, OutOfMemory as NoMap, ReadFault as Unread}
+use Rattle.image_check.specs.declared.errors.ExamineError.TheVariants.{Image as Judged, RegionTooSmall as TooSmall}
+use Rattle.image_check.specs.declared.errors.ExamineError.TheVariants.{OutOfMemory as NoMap, ReadFault as Unread}
 use Rattle.image_check.specs.declared.errors.MemoryFault.TheVariants.{BlockMap, Bytes}
 use Rattle.image_check.specs.declared.errors.OpenError.{OpenError}
-use Rattle.image_check.specs.declared.errors.OpenError.TheVariants.{Image as NoImage, RegionTooSmall as NoRoom, OutOfMemory as NoBlocks, ReadFault as NotRead}
+use Rattle.image_check.specs.declared.errors.OpenError.TheVariants.{Image as NoImage, RegionTooSmall as NoRoom}
+use Rattle.image_check.specs.declared.errors.OpenError.TheVariants.{OutOfMemory as NoBlocks, ReadFault as NotRead}
 use Rattle.image_check.specs.declared.errors.OpenRefused.{OpenRefused}
-use Rattle.image_check.specs.declared.versions.Versions.{Versions}
-use Rattle.image_check.specs.declared.versions.Versions.TheVariants.{Current, All}
+use Rattle.image_check.specs.declared.versions.AcceptedVersions.{AcceptedVersions}
+use Rattle.image_check.specs.declared.versions.AcceptedVersions.TheVariants.{Current, All}
 use Rattle.image_check.specs.Deciding.{decided}
 use Rattle.image_check.specs.EarlyTests.{size_word}
 use Rattle.image_check.specs.Formats.{format_in}
-use Rattle.image_check.specs.Opening.{IsImage, IsOpened, IsOutOfMemory, IsReadToEnd, IsRefusedAs, IsUndecided, Opens}
+use Rattle.image_check.specs.Opening.{IsImage, OpensOk, IsOutOfMemory, IsReadToEnd, IsRefusedAs, IsUndecided, Opens}
 use Rattle.image_check.specs.OpeningAny.{IsOpenedAny, OpensAny}
 use Rattle.image_check.specs.Passes.{IsRefusalFor}
 use Rattle.image_check.specs.Verdicts.{IsVerdict}
@@ -27,12 +30,14 @@ use Rattle.segment_disk.specs.Events.{Event, After}
 use Rattle.segment_file.specs.declared.file_errors.FileError.{FileError}
 use Rattle.segment_file.specs.declared.file_errors.FileError.TheVariants.{Image, OutOfMemory, ReadFault}
 use Rattle.segment_file.specs.declared.unfit.Unfit.{Unfit}
-use Rattle.segment_file.specs.declared.unfit.Unfit.TheVariants.{Image as Unfitting, OutOfMemory as Unremembered, ReadFault as Unreadable}
+use Rattle.segment_file.specs.declared.unfit.Unfit.TheVariants.{Image as Unfitting, OutOfMemory as Unremembered}
+use Rattle.segment_file.specs.declared.unfit.Unfit.TheVariants.{ReadFault as Unreadable}
 use Rattle.segment_file.specs.Files.{opens, does_not_open}
 
 -- ---- how much room a segment has
 
--- the capacity of its region: for as many bytes as the disk tells of its file, or as its image says if these are more, and
+-- the capacity of its region: for as many bytes as the disk tells of its file, or as its image says if these are more,
+-- and
 -- for so many bytes more
 abbrev pub file_region : ℕ → ℕ → List ℕ → ℕ
 file_region len more image = region_len (max len (size_word image) + more)
@@ -40,26 +45,27 @@ file_region len more image = region_len (max len (size_word image) + more)
 -- ---- why there is none
 
 -- what was read of an image decides no class of it, and no read failed
-pub record IsOpenYet (format : ℕ) (image : Given) : Type 0 where
+pub record IsOpenYet (format : ℕ) (image : ReadDelta) : Type 0 where
   pub sound : image.failed ≡ false
   pub undecided : decided format image.bytes ≡ None
 
 -- it is all of an image
-pub record IsWholeImage (format : ℕ) (image : Given) : Type 0 where
+pub record IsWholeImage (format : ℕ) (image : ReadDelta) : Type 0 where
   pub read : IsReadToEnd image
   pub denotes : IsImage format image.bytes
 
 -- a request was refused, for the region or for what was read so far: for no more bytes than the region was to have
-pub record IsWithoutMemory (format most : ℕ) (image : Given) (refusal : NoMemory) : Type 0 where
+pub record IsWithoutMemory (format most : ℕ) (image : ReadDelta) (refusal : NoMemory) : Type 0 where
   pub yet : IsOpenYet format image ⊎ IsWholeImage format image
   pub asked : ℕ
   pub within : asked ≤ most
   pub refused : refusal ≡ refusal_of asked
 
 -- want of room is no reason
-abbrev pub IsWhyUnopened : ℕ → ℕ → Given → FileError → Type 0
+abbrev pub IsWhyUnopened : ℕ → ℕ → ReadDelta → FileError → Type 0
 IsWhyUnopened format most image (Image c) = IsRefusedAs format image c
-IsWhyUnopened format most image (OutOfMemory (BlockMap refusal)) = IsOutOfMemory format image × IsRefusalFor image.bytes refusal
+IsWhyUnopened format most image (OutOfMemory (BlockMap refusal)) =
+    IsOutOfMemory format image × IsRefusalFor image.bytes refusal
 IsWhyUnopened format most image (OutOfMemory (Bytes refusal)) = IsWithoutMemory format most image refusal
 IsWhyUnopened format most image ReadFault = IsUndecided format image
 IsWhyUnopened format most image why = ⊥
@@ -67,19 +73,21 @@ IsWhyUnopened format most image why = ⊥
 -- ---- an image that is opened
 
 -- by the current format, or by any of the three
-abbrev pub IsOpenedBy : Versions → Given → List ℕ → Mode → State → Type 0
-IsOpenedBy Current image region mode s = IsOpened current image region 0 mode s
+abbrev pub IsOpenedBy : AcceptedVersions → ReadDelta → List ℕ → Mode → SegmentState → Type 0
+IsOpenedBy Current image region mode s = OpensOk current image region 0 mode s
 IsOpenedBy All image region mode s = IsOpenedAny image region 0 mode s
 
 -- its segment stands at the front of a region with room for it, and for so many bytes more
-pub record IsRead (versions : Versions) (len more : ℕ) (mode : Mode) (image : Given) (s : State) : Type 0 where
+pub record OpensImageOk (versions : AcceptedVersions) (len more : ℕ) (mode : Mode) (image : ReadDelta)
+    (s : SegmentState) : Type 0 where
   pub region : List ℕ
   pub room : length region ≡ file_region len more image.bytes
   pub opened : IsOpenedBy versions image region mode s
 
-abbrev pub OpensImage : Versions → ℕ → Mode → ℕ → Given → Result State FileError → Type 0
+abbrev pub OpensImage : AcceptedVersions → ℕ → Mode → ℕ → ReadDelta → Result SegmentState FileError → Type 0
 OpensImage versions more mode len image result =
-    MatchResult result (IsRead versions len more mode image) (IsWhyUnopened (format_in versions image.bytes) (file_region len more image.bytes) image)
+    MatchResult result (OpensImageOk versions len more mode image)
+    (IsWhyUnopened (format_in versions image.bytes) (file_region len more image.bytes) image)
 
 -- ---- one that is checked
 
@@ -95,12 +103,13 @@ IsTold b (Unfitting v) = IsVerdict current b v
 IsTold b (Unremembered refusal) = ⊤
 IsTold b Unreadable = ⊤
 
-pub record IsWhyUnfit (most : ℕ) (image : Given) (unfit : Unfit) : Type 0 where
+pub record IsWhyUnfit (most : ℕ) (image : ReadDelta) (unfit : Unfit) : Type 0 where
   pub why : IsWhyUnopened current most image (unfit_error unfit)
   pub told : IsTold image.bytes unfit
 
-abbrev pub ExaminesImage : ℕ → Given → Result (Unit {0}) Unfit → Type 0
-ExaminesImage len image result = MatchResult result (λ done. IsWholeImage current image) (IsWhyUnfit (file_region len 0 image.bytes) image)
+abbrev pub ExaminesImage : ℕ → ReadDelta → Result (Unit {0}) Unfit → Type 0
+ExaminesImage len image result =
+    MatchResult result (λ done. IsWholeImage current image) (IsWhyUnfit (file_region len 0 image.bytes) image)
 
 -- ---- the image in a file
 
@@ -111,18 +120,20 @@ module _ {D A E : Type 0} (step : D → Event → D → Type 0) (old new : D) (p
     pub refused : result ≡ Err fault
 
   -- the file was opened, and had so many bytes by what the disk told, was read and closed, and nothing else was asked
-  pub record IsReadAs (answers : ℕ → Given → Result A E → Type 0) (result : Result A E) : Type 0 where
+  pub record IsReadAs (answers : ℕ → ReadDelta → Result A E → Type 0) (result : Result A E) : Type 0 where
     pub len : ℕ
-    pub image : Given
+    pub image : ReadDelta
     pub asked : After step old (opens path len image) new
     pub answer : answers len image result
 
-  abbrev pub ReadsFile : E → (ℕ → Given → Result A E → Type 0) → Result A E → Type 0
+  abbrev pub ReadsFile : E → (ℕ → ReadDelta → Result A E → Type 0) → Result A E → Type 0
   ReadsFile fault answers result = IsUnreadable fault result ⊎ IsReadAs answers result
 
 -- its segment
-abbrev pub OpensFile : {D : Type 0} → (D → Event → D → Type 0) → D → D → List ℕ → Versions → Mode → ℕ → Result State FileError → Type 0
-OpensFile step old new path versions mode more result = ReadsFile step old new path ReadFault (OpensImage versions more mode) result
+abbrev pub OpensFile : {D : Type 0} → (D → Event → D → Type 0) → D → D → List ℕ → AcceptedVersions → Mode → ℕ
+    → Result SegmentState FileError → Type 0
+OpensFile step old new path versions mode more result =
+    ReadsFile step old new path ReadFault (OpensImage versions more mode) result
 
 -- whether it has one, and why it has none
 abbrev pub ExaminesFile : {D : Type 0} → (D → Event → D → Type 0) → D → D → List ℕ → Result (Unit {0}) Unfit → Type 0
@@ -131,31 +142,32 @@ ExaminesFile step old new path result = ReadsFile step old new path Unreadable E
 -- ---- the parts of an opening
 
 -- what a call of `image_check` answers where images of these versions are read to the front of a region
-abbrev pub OpensAt : Versions → Given → List ℕ → Mode → Result State OpenRefused → Type 0
+abbrev pub OpensAt : AcceptedVersions → ReadDelta → List ℕ → Mode → Result SegmentState OpenRefused → Type 0
 OpensAt Current image region mode result = Opens current image region 0 mode result
 OpensAt All image region mode result = OpensAny image region 0 mode result
 
 -- a segment has no more bytes than its region was made for, and stays
-pub record IsNarrow (len : ℕ) (old new : State) : Type 0 where
+pub record KeepsRegion (len : ℕ) (old new : SegmentState) : Type 0 where
   pub few : length old.cut.bytes ≤ len
   pub same : new ≡ old
 
 -- it has more, and stands in a region of its own, with room for so many bytes more
-pub record IsWide (len more : ℕ) (old new : State) : Type 0 where
+pub record WidensRegion (len more : ℕ) (old new : SegmentState) : Type 0 where
   pub many : len < length old.cut.bytes
   pub region : List ℕ
   pub room : length region ≡ region_len (length old.cut.bytes + more)
   pub bytes : new.cut.bytes ≡ old.cut.bytes
   pub mode : new.mode ≡ old.mode
-  pub place : SamePlace (cut_at region 0 (length old.cut.bytes)) new.cut
+  pub place : SameSurroundings (cut_at region 0 (length old.cut.bytes)) new.cut
 
 -- there was no memory for that one
-pub record IsCramped (len more : ℕ) (old : State) (why : FileError) : Type 0 where
+pub record IsCramped (len more : ℕ) (old : SegmentState) (why : FileError) : Type 0 where
   pub many : len < length old.cut.bytes
   pub refused : why ≡ OutOfMemory (Bytes (refusal_of (region_len (length old.cut.bytes + more))))
 
-abbrev pub IsWidened : ℕ → ℕ → State → Result State FileError → Type 0
-IsWidened len more old result = MatchResult result (λ new. IsNarrow len old new ⊎ IsWide len more old new) (IsCramped len more old)
+abbrev pub WidensIfNeeded : ℕ → ℕ → SegmentState → Result SegmentState FileError → Type 0
+WidensIfNeeded len more old result =
+    MatchResult result (λ new. KeepsRegion len old new ⊎ WidensRegion len more old new) (IsCramped len more old)
 
 -- why an image is not opened, where that is not for want of room
 abbrev pub file_error : OpenError → Option FileError

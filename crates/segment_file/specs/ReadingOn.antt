@@ -1,6 +1,6 @@
 -- How the rest of an image is read that says more bytes than there is room for.
 use Rattle.std.specs.Prelude.{◌≡◌, ◌⊎◌, ◌≤◌, ◌<◌, ℕ, true, List, length}
-use Rattle.raw_region.specs.Device.{Gave}
+use Rattle.raw_region.specs.Device.{ReaderHistory}
 use Rattle.raw_region.specs.Refusals.{refusal_of}
 use Rattle.image_check.specs.declared.classes.ImageClass.TheVariants.{BadSize as MoreBytes, Truncated}
 use Rattle.image_check.specs.declared.errors.MemoryFault.{MemoryFault}
@@ -11,55 +11,56 @@ use Rattle.segment_file.specs.declared.unfit.Unfit.{Unfit}
 use Rattle.segment_file.specs.declared.unfit.Unfit.TheVariants.{Image, OutOfMemory, ReadFault}
 
 -- these are all bytes that a reader gave, and no read failed
-pub record IsReadUpTo (gave : Gave) (bytes : List ℕ) : Type 0 where
+pub record IsReadUpTo (gave : ReaderHistory) (bytes : List ℕ) : Type 0 where
   pub bytes_are : gave.bytes ≡ bytes
   pub sound : gave.failures ≡ 0
 
 -- a reader gave the first 24 bytes of an image, and no more, and no read failed
-pub record IsFrontGiven (gave : Gave) : Type 0 where
+pub record IsFrontGiven (gave : ReaderHistory) : Type 0 where
   pub long : length gave.bytes ≡ 24
   pub sound : gave.failures ≡ 0
 
 -- ---- by how many bytes are said
 
 -- a reader ended before it gave as many bytes as the image says, and never failed
-pub record IsCutShort (said : ℕ) (gave : Gave) : Type 0 where
+pub record IsCutShort (said : ℕ) (gave : ReaderHistory) : Type 0 where
   pub ended : gave.ended ≡ true
   pub sound : gave.failures ≡ 0
   pub short : length gave.bytes < said
 
 -- it gave no more than these, and failed
-pub record IsBroken (said : ℕ) (gave : Gave) : Type 0 where
+pub record IsBroken (said : ℕ) (gave : ReaderHistory) : Type 0 where
   pub few : length gave.bytes ≤ said
   pub failed : 0 < gave.failures
 
 -- it gave no more than these, and there was no memory to keep them
-pub record IsUnkept (said : ℕ) (gave : Gave) (refusal : MemoryFault) : Type 0 where
+pub record IsUnkept (said : ℕ) (gave : ReaderHistory) (refusal : MemoryFault) : Type 0 where
   pub few : length gave.bytes ≤ said
   pub sound : gave.failures ≡ 0
   pub asked : ℕ
   pub within : asked ≤ said
   pub refused : refusal ≡ Bytes (refusal_of asked)
 
-abbrev pub IsWhyNotUpTo : ℕ → Gave → Unfit → Type 0
+abbrev pub IsWhyNotUpTo : ℕ → ReaderHistory → Unfit → Type 0
 IsWhyNotUpTo said gave (Image v) = (v.class ≡ Truncated) × (v.place ≡ length gave.bytes) × IsCutShort said gave
 IsWhyNotUpTo said gave (OutOfMemory refusal) = IsUnkept said gave refusal
 IsWhyNotUpTo said gave ReadFault = IsBroken said gave
 
 -- all of an image, which has as many bytes as it says
-pub record IsWhole (said : ℕ) (gave : Gave) (text : List ℕ) : Type 0 where
+pub record IsWhole (said : ℕ) (gave : ReaderHistory) (text : List ℕ) : Type 0 where
   pub up_to : IsReadUpTo gave text
   pub ended : gave.ended ≡ true
   pub long : length text ≡ said
 
 -- more bytes stand behind them
-pub record IsTooLongFor (said : ℕ) (gave : Gave) : Type 0 where
+pub record GaveMoreThan (said : ℕ) (gave : ReaderHistory) : Type 0 where
   pub sound : gave.failures ≡ 0
   pub long : said < length gave.bytes
 
-abbrev pub IsWhyNotWhole : ℕ → Gave → Unfit → Type 0
+abbrev pub IsWhyNotWhole : ℕ → ReaderHistory → Unfit → Type 0
 IsWhyNotWhole said gave (Image v) =
-    ((v.class ≡ MoreBytes) × (v.place ≡ said) × IsTooLongFor said gave) ⊎ ((v.class ≡ Truncated) × (v.place ≡ length gave.bytes) × IsCutShort said gave)
+    ((v.class ≡ MoreBytes) × (v.place ≡ said) × GaveMoreThan said gave)
+    ⊎ ((v.class ≡ Truncated) × (v.place ≡ length gave.bytes) × IsCutShort said gave)
 IsWhyNotWhole said gave (OutOfMemory refusal) = IsUnkept said gave refusal
 IsWhyNotWhole said gave ReadFault = IsBroken said gave
 

@@ -4,29 +4,31 @@ use Rattle.std.specs.Prelude.{Some, None, Result, Ok, Err, IfErr, MatchResult}
 use Rattle.raw_region.specs.Refusals.{refusal_of}
 use Rattle.block_tags.specs.Format.{is_legal_size}
 use Rattle.segment_manager.specs.declared.modes.Mode.TheVariants.{Write}
-use Rattle.segment_manager.specs.Calls.{IsCreated}
+use Rattle.segment_manager.specs.Calls.{CreatesOk}
 use Rattle.segment_manager.specs.Directory.{Directory}
 use Rattle.segment_manager.specs.blocks.Resized.{Resizes}
-use Rattle.segment_manager.specs.State.{State, StandsFor}
+use Rattle.segment_manager.specs.State.{SegmentState, DenotesCurrent}
 use Rattle.segment_manager.specs.Step.{is_read_only}
 use Rattle.image_check.specs.declared.errors.MemoryFault.TheVariants.{Bytes}
-use Rattle.image_check.specs.declared.versions.Versions.TheVariants.{Current, All}
+use Rattle.image_check.specs.declared.versions.AcceptedVersions.TheVariants.{Current, All}
 use Rattle.grow_shrink.specs.declared.larger_region.GrowOrMoveError.{GrowOrMoveError}
-use Rattle.grow_shrink.specs.declared.larger_region.GrowOrMoveError.TheVariants.{Growth as NoGrowth, OutOfMemory as NoLargerRegion}
+use Rattle.grow_shrink.specs.declared.larger_region.GrowOrMoveError.TheVariants.{Growth as NoGrowth}
+use Rattle.grow_shrink.specs.declared.larger_region.GrowOrMoveError.TheVariants.{OutOfMemory as NoLargerRegion}
 use Rattle.grow_shrink.specs.declared.refusals.GrowError.{GrowError}
 use Rattle.grow_shrink.specs.LargerRegion.{GrowsOrMovesErr, GrowsOrMovesOk, region_len}
 use Rattle.grow_shrink.specs.Resized.{shrink_refusal, shrunk}
-use Rattle.segment_disk.specs.declared.presence.Making.{Making}
-use Rattle.segment_disk.specs.declared.presence.Making.TheVariants.{New, Emptied}
+use Rattle.segment_disk.specs.declared.presence.CreateMode.{CreateMode}
+use Rattle.segment_disk.specs.declared.presence.CreateMode.TheVariants.{New, Truncate}
 use Rattle.segment_disk.specs.declared.presence.Presence.{Presence}
 use Rattle.segment_disk.specs.declared.presence.Presence.TheVariants.{Absent, There}
 use Rattle.segment_disk.specs.Events.{Event, Looked, Held, Released, After}
 use Rattle.segment_file.specs.declared.file_errors.FileError.{FileError}
-use Rattle.segment_file.specs.declared.file_errors.FileError.TheVariants.{Exists, BadSize, OutOfMemory, WriteFault, InUse, Growth}
+use Rattle.segment_file.specs.declared.file_errors.FileError.TheVariants.{Exists, BadSize, OutOfMemory, WriteFault}
+use Rattle.segment_file.specs.declared.file_errors.FileError.TheVariants.{InUse, Growth}
 use Rattle.segment_file.specs.declared.segment_files.SegmentFile.{SegmentFile}
 use Rattle.segment_file.specs.declared.unfit.Unfit.{Unfit}
 use Rattle.segment_file.specs.Files.{WritesImage}
-use Rattle.segment_file.specs.Holding.{IsHolding}
+use Rattle.segment_file.specs.Holding.{RunsLocked}
 use Rattle.segment_file.specs.Opening.{ExaminesFile, OpensFile, unfit_error}
 
 -- an answer of a writing that went well
@@ -43,9 +45,9 @@ region_refused room = bytes_refused (region_len room)
 -- ---- a segment that is made
 
 -- an empty segment of a size, at the front of a region
-pub record IsEmptySegment (size : ℕ) (s : State) : Type 0 where
+pub record IsEmptySegment (size : ℕ) (s : SegmentState) : Type 0 where
   pub region : List ℕ
-  pub created : IsCreated region 0 size Write s
+  pub created : CreatesOk region 0 size Write s
 
 -- no segment has the size, whatever memory there is; or it has, and memory for its region was refused
 abbrev pub IsWhyNoSegment : ℕ → FileError → Type 0
@@ -54,7 +56,7 @@ IsWhyNoSegment size why =
 
 module _ {D : Type 0} (step : D → Event → D → Type 0) (old new : D) (path : List ℕ) (size : ℕ) where
   -- the image of an empty segment was written to a new file
-  pub record IsNewFile (s : State) : Type 0 where
+  pub record IsNewFile (s : SegmentState) : Type 0 where
     pub empty : IsEmptySegment size s
     pub writes : WritesImage step old new New path s.cut.bytes saved
 
@@ -65,17 +67,18 @@ module _ {D : Type 0} (step : D → Event → D → Type 0) (old new : D) (path 
 
   -- the image of an empty segment is not in its file, or need not last
   pub record IsUnwrittenFile (why : FileError) : Type 0 where
-    pub segment : State
+    pub segment : SegmentState
     pub empty : IsEmptySegment size segment
     pub writes : WritesImage {E = FileError} step old new New path segment.cut.bytes (Err why)
     pub refused : why ≡ WriteFault
 
   -- an empty segment in a file that is made for it
-  abbrev pub MakesSegmentFile : Result State FileError → Type 0
+  abbrev pub MakesSegmentFile : Result SegmentState FileError → Type 0
   MakesSegmentFile result = MatchResult result IsNewFile (λ why. IsUnmade why ⊎ IsUnwrittenFile why)
 
 -- the path was looked at, where this was found, and then what is done went on from there
-pub record IsBehindLook {D : Type 0} (step : D → Event → D → Type 0) (old : D) (path : List ℕ) (IsWhere : Presence → Type 0) (goes_on : D → Type 0) : Type 0 where
+pub record IsBehindLook {D : Type 0} (step : D → Event → D → Type 0) (old : D) (path : List ℕ) (IsWhere : Presence
+    → Type 0) (goes_on : D → Type 0) : Type 0 where
   pub found : Presence
   pub is : IsWhere found
   pub looked : D
@@ -92,32 +95,33 @@ module _ {D : Type 0} (step : D → Event → D → Type 0) (old new : D) (path 
 
   -- the right was taken, this was done, and it was given back
   abbrev pub HoldsFile : (D → D → Type 0) → Result (Unit {0}) FileError → Type 0
-  HoldsFile does result = IsFileInUse result ⊎ IsHolding step old new path does
+  HoldsFile does result = IsFileInUse result ⊎ RunsLocked step old new path does
 
   -- the right was taken before the file was read, and is kept where there is a segment, and else given back
-  pub record IsHeldOpening (result : Result State FileError) : Type 0 where
+  pub record IsHeldOpening (result : Result SegmentState FileError) : Type 0 where
     pub held : D
     pub taken : step old (Held path true) held
     pub read : D
     pub opens : OpensFile step held read path Current Write 0 result
     pub kept : MatchResult result (λ s. new ≡ read) (λ why. step read Released new)
 
-  abbrev pub OpensHeld : Result State FileError → Type 0
+  abbrev pub OpensHeld : Result SegmentState FileError → Type 0
   OpensHeld result = IsFileInUse result ⊎ IsHeldOpening result
 
 module _ {D : Type 0} (step : D → Event → D → Type 0) (old new : D) (path : List ℕ) where
   -- something is there under the path, and nothing else was asked
-  pub record IsThere {A : Type 0} (result : Result A FileError) : Type 0 where
+  pub record RefusesExistingPath {A : Type 0} (result : Result A FileError) : Type 0 where
     pub asked : After step old (Looked path There ∷ []) new
     pub refused : result ≡ Err Exists
 
   -- a segment that is made, in a file that is not there
-  abbrev pub CreatesSegment : ℕ → Result State FileError → Type 0
+  abbrev pub CreatesSegment : ℕ → Result SegmentState FileError → Type 0
   CreatesSegment size result =
-      IsThere result ⊎ IsBehindLook step old path (λ found. found ≢ There) (λ looked. MakesSegmentFile step looked new path size result)
+      RefusesExistingPath result ⊎ IsBehindLook step old path (λ found. found ≢ There) (λ looked.
+      MakesSegmentFile step looked new path size result)
 
   -- the same where nothing is there, and else the segment of the file
-  abbrev pub OpensOrCreates : ℕ → Result State FileError → Type 0
+  abbrev pub OpensOrCreates : ℕ → Result SegmentState FileError → Type 0
   OpensOrCreates size result =
       IsBehindLook step old path (λ found. found ≡ Absent) (λ looked. MakesSegmentFile step looked new path size result)
       ⊎ IsBehindLook step old path (λ found. found ≢ Absent) (λ looked. OpensHeld step looked new path result)
@@ -125,33 +129,41 @@ module _ {D : Type 0} (step : D → Event → D → Type 0) (old new : D) (path 
 -- ---- a segment with its path, and with the right to write its file
 
 -- the segment comes with the right
-abbrev pub ComesHeld : {H : Type 0} → (Result State FileError → Type 0) → Result (State × H) FileError → Type 0
+abbrev pub ComesHeld : {H : Type 0} → (Result SegmentState FileError → Type 0) → Result (SegmentState × H) FileError
+    → Type 0
 ComesHeld comes result = MatchResult result (λ held. comes (Ok held.0)) (λ why. comes (Err why))
 
 -- the segment came to be by this, and its path is kept
-pub record IsFileOf {H : Type 0} (path : List ℕ) (comes : Result State FileError → Type 0) (file : SegmentFile H) : Type 0 where
+pub record IsFileOf {H : Type 0} (path : List ℕ) (comes : Result SegmentState FileError
+    → Type 0) (file : SegmentFile H) : Type 0 where
   pub path_is : string_bytes file.path ≡ path
   pub segment : comes (Ok file.segment)
 
 -- memory for the path was refused, and nothing was asked
-pub record IsPathless {D : Type 0} (old new : D) (path : List ℕ) (why : FileError) : Type 0 where
+pub record RefusesPath {D : Type 0} (old new : D) (path : List ℕ) (why : FileError) : Type 0 where
   pub asked : new ≡ old
   pub refused : why ≡ bytes_refused (length path)
 
-abbrev pub KeepsFile : {D H : Type 0} → D → D → List ℕ → (Result State FileError → Type 0) → Result (SegmentFile H) FileError → Type 0
-KeepsFile old new path comes result = MatchResult result (IsFileOf path comes) (λ why. IsPathless old new path why ⊎ comes (Err why))
+abbrev pub KeepsFile : {D H : Type 0} → D → D → List ℕ → (Result SegmentState FileError → Type 0)
+    → Result (SegmentFile H) FileError → Type 0
+KeepsFile old new path comes result =
+    MatchResult result (IsFileOf path comes) (λ why. RefusesPath old new path why ⊎ comes (Err why))
 
 -- ---- a segment that is written
 
 -- a file takes the image, and nothing else is asked: the right to write it is neither taken nor given back
-pub record Saves {D : Type 0} (step : D → Event → D → Type 0) (old new : D) (path : List ℕ) (s : State) (result : Result (Unit {0}) FileError) (how : Making) : Type 0 where
+pub record SavesFile {D : Type 0} (step : D → Event → D
+    → Type 0) (old new : D) (path : List ℕ) (s : SegmentState) (result : Result (Unit {0}) FileError)
+    (how : CreateMode) : Type 0 where
   pub writes : WritesImage step old new how path s.cut.bytes result
   pub refused : IfErr result (λ why. why ≡ WriteFault)
 
 -- `save_as`: the image in a file that is not there
-abbrev pub SavesAs : {D : Type 0} → (D → Event → D → Type 0) → D → D → List ℕ → State → Result (Unit {0}) FileError → Type 0
+abbrev pub SavesAs : {D : Type 0} → (D → Event → D → Type 0) → D → D → List ℕ → SegmentState
+    → Result (Unit {0}) FileError → Type 0
 SavesAs step old new path s result =
-    IsThere step old new path result ⊎ IsBehindLook step old path (λ found. found ≢ There) (λ looked. Saves step looked new path s result New)
+    RefusesExistingPath step old new path result
+    ⊎ IsBehindLook step old path (λ found. found ≢ There) (λ looked. SavesFile step looked new path s result New)
 
 -- ---- a file that is looked at, or written anew
 
@@ -160,28 +172,31 @@ without_place (Ok done) = Ok done
 without_place (Err unfit) = Err (unfit_error unfit)
 
 -- `check`: the file has a segment, or this is why it has none; nothing is opened for writing
-pub record ChecksFile {D : Type 0} (step : D → Event → D → Type 0) (old new : D) (path : List ℕ) (result : Result (Unit {0}) FileError) : Type 0 where
+pub record ChecksFile {D : Type 0} (step : D → Event → D
+    → Type 0) (old new : D) (path : List ℕ) (result : Result (Unit {0}) FileError) : Type 0 where
   pub examined : Result (Unit {0}) Unfit
   pub examines : ExaminesFile step old new path examined
   pub answer : result ≡ without_place examined
 
 -- the file was read, and then emptied for the image by the current format
-pub record IsMigrating {D : Type 0} (step : D → Event → D → Type 0) (old new : D) (path : List ℕ) (result : Result (Unit {0}) FileError) : Type 0 where
-  pub segment : State
+pub record MigratesInPlace {D : Type 0} (step : D → Event → D
+    → Type 0) (old new : D) (path : List ℕ) (result : Result (Unit {0}) FileError) : Type 0 where
+  pub segment : SegmentState
   pub read : D
   pub reads : OpensFile step old read path All Write 0 (Ok segment)
-  pub writes : WritesImage step read new Emptied path segment.cut.bytes result
+  pub writes : WritesImage step read new Truncate path segment.cut.bytes result
   pub refused : IfErr result (λ why. why ≡ WriteFault)
 
 -- the file has no segment of any format, for this reason, and is as it was
-pub record IsUnmigrated {D : Type 0} (step : D → Event → D → Type 0) (old new : D) (path : List ℕ) (result : Result (Unit {0}) FileError) : Type 0 where
+pub record MigrateRefused {D : Type 0} (step : D → Event → D
+    → Type 0) (old new : D) (path : List ℕ) (result : Result (Unit {0}) FileError) : Type 0 where
   pub why : FileError
   pub reads : OpensFile step old new path All Write 0 (Err why)
   pub refused : result ≡ Err why
 
 -- `migrate`
 abbrev pub Migrates : {D : Type 0} → (D → Event → D → Type 0) → D → D → List ℕ → Result (Unit {0}) FileError → Type 0
-Migrates step old new path result = IsUnmigrated step old new path result ⊎ IsMigrating step old new path result
+Migrates step old new path result = MigrateRefused step old new path result ⊎ MigratesInPlace step old new path result
 
 -- ---- other sizes
 
@@ -191,27 +206,27 @@ growing_error (NoGrowth reason) = Growth reason
 growing_error (NoLargerRegion refusal) = OutOfMemory (Bytes refusal)
 
 -- it does not grow, and may not move, for this reason
-pub record IsNotLonger (old new : State) (extra : ℕ) (why : FileError) : Type 0 where
+pub record GrowsFileErr (old new : SegmentState) (extra : ℕ) (why : FileError) : Type 0 where
   pub cause : GrowOrMoveError
   pub refused : GrowsOrMovesErr old new extra cause
   pub answer : why ≡ growing_error cause
 
 -- `grow`
-abbrev pub Grows : State → State → ℕ → Result (Unit {0}) FileError → Type 0
-Grows old new extra result = MatchResult result (λ u. GrowsOrMovesOk old new extra) (IsNotLonger old new extra)
+abbrev pub GrowsFile : SegmentState → SegmentState → ℕ → Result (Unit {0}) FileError → Type 0
+GrowsFile old new extra result = MatchResult result (λ u. GrowsOrMovesOk old new extra) (GrowsFileErr old new extra)
 
 -- it ends behind its last block
-pub record IsShorter (old new : State) : Type 0 where
-  pub may : (d : Directory) → StandsFor old.cut.bytes d → shrink_refusal old.mode ≡ None
+pub record ShrinksFileOk (old new : SegmentState) : Type 0 where
+  pub may : (d : Directory) → DenotesCurrent old.cut.bytes d → shrink_refusal old.mode ≡ None
   pub shrinks : Resizes old new (λ d. shrunk d)
 
 -- it does not shrink, for this reason
-pub record IsNotShorter (old new : State) (why : FileError) : Type 0 where
+pub record ShrinksFileErr (old new : SegmentState) (why : FileError) : Type 0 where
   pub same : new ≡ old
   pub reason : GrowError
-  pub applies : (d : Directory) → StandsFor old.cut.bytes d → shrink_refusal old.mode ≡ Some reason
+  pub applies : (d : Directory) → DenotesCurrent old.cut.bytes d → shrink_refusal old.mode ≡ Some reason
   pub refused : why ≡ Growth reason
 
 -- `shrink`
-abbrev pub Shrinks : State → State → Result (Unit {0}) FileError → Type 0
-Shrinks old new result = MatchResult result (λ u. IsShorter old new) (IsNotShorter old new)
+abbrev pub ShrinksFile : SegmentState → SegmentState → Result (Unit {0}) FileError → Type 0
+ShrinksFile old new result = MatchResult result (λ u. ShrinksFileOk old new) (ShrinksFileErr old new)

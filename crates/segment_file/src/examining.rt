@@ -1,6 +1,6 @@
 //! The check of the image in a file, of which no segment is made.
 ghost use Rattle.std.specs.Prelude.{◌≡◌, ◌+◌};
-ghost use Rattle.raw_region.specs.Device.{given_since};
+ghost use Rattle.raw_region.specs.Device.{read_delta};
 ghost use Rattle.raw_region.specs.Format.{current};
 ghost use Rattle.image_check.specs.Opening.{IsTooSmallFor};
 ghost use Rattle.grow_shrink.specs.LargerRegion.{region_len};
@@ -12,9 +12,9 @@ use crate::heading::Headed;
 use crate::opening::file_region;
 use crate::reading_on::read_on;
 use crate::unfit::Unfit;
-use image_check::{ExamineError, MemoryFault, Versions, examine, examine_bytes};
+use image_check::{AcceptedVersions, ExamineError, MemoryFault, examine, examine_bytes};
 use raw_region::{Source, Steps};
-use segment_disk::{Disk, Opened};
+use segment_disk::{Disk, OpenedFile};
 use std::alloc::Global;
 
 /// Why there is no segment of an image. `None` is want of room.
@@ -33,15 +33,16 @@ fn unexamined(error: ExamineError) -> Option<Unfit>
 
 /// Whether an image that says more bytes than there was room for has a segment. It is read first.
 fn examine_behind<S: Source>(alloc: Global, reader: &mut Headed<S>, len: u64) -> Result<(), Unfit>
-    requires alone { IsFrontGiven (S.history reader.old.inner) }
-    requires small { IsTooSmallFor current (given_since nothing_given (S.history reader.old.inner)) 0 (region_len (len + 0)) }
-    ensures { ExaminesImage len (given_since nothing_given (S.history reader.new.inner)) result }
+    requires exclusive { IsFrontGiven (S.history reader.old.inner) }
+    requires max_size { IsTooSmallFor current (read_delta nothing_given (S.history reader.old.inner)) 0
+        (region_len (len + 0)) }
+    ensures { ExaminesImage len (read_delta nothing_given (S.history reader.new.inner)) result }
 {
     let text = read_on(alloc, reader)?;
     let region = file_region(alloc, text.len() as u64, 0)?;
     let image = text.as_slice();
     match examine_bytes(
-        Versions::Current,
+        AcceptedVersions::Current,
         alloc,
         image,
         region,
@@ -59,7 +60,7 @@ fn examine_behind<S: Source>(alloc: Global, reader: &mut Headed<S>, len: u64) ->
 /// Whether the image of a reader that was told to give `len` bytes has a segment.
 fn examine_image<S: Source>(alloc: Global, reader: &mut Headed<S>, len: u64) -> Result<(), Unfit>
     requires fresh { S.history reader.old.inner ≡ nothing_given }
-    ensures { ExaminesImage len (given_since nothing_given (S.history reader.new.inner)) result }
+    ensures { ExaminesImage len (read_delta nothing_given (S.history reader.new.inner)) result }
 {
     let region = file_region(alloc, len, 0)?;
     match examine(alloc, reader, region, 0, &mut Steps::new()) {
@@ -82,7 +83,7 @@ pub fn examine_file<D: Disk>(alloc: Global, disk: &mut D, path: &str) -> Result<
     let Ok(opened) = disk.open(path) else {
         return Err(Unfit::ReadFault);
     };
-    let Opened { reader, len } = opened;
+    let OpenedFile { reader, len } = opened;
     let mut reader = Headed::new(reader);
     let examined = examine_image(alloc, &mut reader, len);
     disk.close(reader.into_inner());

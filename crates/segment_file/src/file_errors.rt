@@ -23,7 +23,8 @@ pub enum FileError {
     /// The bytes of the file denote no directory.
     #[error("image refused: {0}")]
     Image(ImageClass),
-    /// Memory was refused: for the path, for the region of the segment, for what was read, or for the check of the image.
+    /// Memory was refused: for the path, for the region of the segment, for what was read, or for the check of the
+    /// image.
     #[error("{0}")]
     OutOfMemory(MemoryFault),
     /// The file can't be opened, or reading it failed.

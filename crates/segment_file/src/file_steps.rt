@@ -1,14 +1,15 @@
 //! What the calls of a `SegmentFile` are made of: a segment that is made in a new file, or read from one that is held.
 ghost use Rattle.std.specs.Prelude.{◌≡◌, MatchResult};
-ghost use Rattle.segment_file.specs.SegmentFiles.{ComesHeld, IsEmptySegment, IsWhyNoSegment, MakesSegmentFile, Migrates, OpensHeld, Saves};
+ghost use Rattle.segment_file.specs.SegmentFiles.{ComesHeld, IsEmptySegment, IsWhyNoSegment, MakesSegmentFile};
+ghost use Rattle.segment_file.specs.SegmentFiles.{Migrates, OpensHeld, SavesFile};
 
 use crate::file_errors::FileError;
 use crate::opening::open_file;
 use crate::writing::write_image;
 use block_tags::is_legal_size;
 use grow_shrink::region_for;
-use image_check::Versions;
-use segment_disk::{Disk, Making};
+use image_check::AcceptedVersions;
+use segment_disk::{CreateMode, Disk};
 use segment_manager::{Mode, Segment};
 use std::alloc::Global;
 
@@ -33,11 +34,11 @@ fn empty_segment(alloc: Global, size: u64) -> Result<Segment, FileError>
 pub(crate) fn save_image<D: Disk>(
     disk: &mut D,
     path: &str,
-    how: Making,
+    how: CreateMode,
     hold: &mut D::Hold,
     segment: &Segment,
 ) -> Result<(), FileError>
-    ensures { Saves D.step disk.old disk.new path.now segment.now result how }
+    ensures { SavesFile D.step disk.old disk.new path.now segment.now result how }
 {
     match write_image(disk, path, how, hold, segment) {
         Ok(()) => Ok(()),
@@ -56,7 +57,7 @@ pub(crate) fn make_segment_file<D: Disk>(
 {
     let segment = empty_segment(alloc, size)?;
     let mut hold = D::hold_none();
-    match write_image(disk, path, Making::New, &mut hold, &segment) {
+    match write_image(disk, path, CreateMode::New, &mut hold, &segment) {
         Ok(()) => Ok((segment, hold)),
         Err(_) => Err(FileError::WriteFault),
     }
@@ -70,13 +71,13 @@ pub(crate) fn open_held<D: Disk>(
 ) -> Result<(Segment, D::Hold), FileError>
     ensures { ComesHeld (OpensHeld D.step disk.old disk.new path.now) result }
 {
-    let Ok(hold) = disk.hold(path) else {
+    let Ok(hold) = disk.lock(path) else {
         return Err(FileError::InUse);
     };
-    match open_file(alloc, disk, path, Versions::Current, Mode::Write, 0) {
+    match open_file(alloc, disk, path, AcceptedVersions::Current, Mode::Write, 0) {
         Ok(segment) => Ok((segment, hold)),
         Err(error) => {
-            disk.release(hold);
+            disk.unlock(hold);
             Err(error)
         }
     }
@@ -91,8 +92,8 @@ pub(crate) fn migrate_held<D: Disk>(
 ) -> Result<(), FileError>
     ensures { Migrates D.step disk.old disk.new path.now result }
 {
-    let segment = open_file(alloc, disk, path, Versions::All, Mode::Write, 0)?;
-    match write_image(disk, path, Making::Emptied, hold, &segment) {
+    let segment = open_file(alloc, disk, path, AcceptedVersions::All, Mode::Write, 0)?;
+    match write_image(disk, path, CreateMode::Truncate, hold, &segment) {
         Ok(()) => Ok(()),
         Err(_) => Err(FileError::WriteFault),
     }

@@ -9,8 +9,8 @@ use raw_region::{DeviceFault, Source};
 /// Puts bytes behind those that are kept, where there is room for all of them, and answers how many are kept then.
 fn keep(front: &mut [u8; FRONT], kept: usize, bytes: &[u8]) -> Option<usize>
     requires { kept ≤ 24 }
-    ensures within { IfSome result (λ n. n ≤ 24) }
-    ensures kept { IfSome result (λ n. take n front.new ≡ take kept front.old ++ bytes.now) }
+    ensures in_bounds { IfSome result (λ n. n ≤ 24) }
+    ensures unchanged { IfSome result (λ n. take n front.new ≡ take kept front.old ++ bytes.now) }
     ensures count { IfSome result (λ n. n ≡ kept + length bytes.now) }
     ensures full { result ≡ None → 24 < kept + length bytes.now }
 {

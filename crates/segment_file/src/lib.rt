@@ -1,4 +1,5 @@
-//! Segments in files: a segment with its file, which no other may write meanwhile, and the reading and writing of images,
+//! Segments in files: a segment with its file, which no other may write meanwhile, and the reading and writing of
+//! images,
 //! over any disk.
 #![tactic(auto)]
 

@@ -1,6 +1,6 @@
 //! The opening of the image in a file, whatever it says of its size.
 ghost use Rattle.std.specs.Prelude.{◌≡◌, ◌+◌, IfErr, IfOk, length};
-ghost use Rattle.raw_region.specs.Device.{given_since};
+ghost use Rattle.raw_region.specs.Device.{read_delta};
 ghost use Rattle.raw_region.specs.Refusals.{refusal_of};
 ghost use Rattle.image_check.specs.declared.errors.OpenError.TheVariants.{RegionTooSmall};
 ghost use Rattle.image_check.specs.Formats.{format_in};
@@ -8,7 +8,7 @@ ghost use Rattle.image_check.specs.Opening.{IsTooSmallFor};
 ghost use Rattle.image_check.specs.OpeningBytes.{as_given};
 ghost use Rattle.grow_shrink.specs.LargerRegion.{region_len};
 ghost use Rattle.segment_disk.specs.Events.{nothing_given};
-ghost use Rattle.segment_file.specs.Opening.{IsWidened, OpensAt, OpensFile, OpensImage, file_error};
+ghost use Rattle.segment_file.specs.Opening.{WidensIfNeeded, OpensAt, OpensFile, OpensImage, file_error};
 ghost use Rattle.segment_file.specs.ReadingOn.{IsFrontGiven};
 
 use crate::file_errors::FileError;
@@ -16,10 +16,11 @@ use crate::heading::Headed;
 use crate::reading_on::read_on;
 use grow_shrink::{copy_into, region_for, size_of};
 use image_check::{
-    MemoryFault, OpenError, OpenRefused, Versions, open, open_any, open_any_bytes, open_bytes,
+    AcceptedVersions, MemoryFault, OpenError, OpenRefused, open, open_any, open_any_bytes,
+    open_bytes,
 };
 use raw_region::{OutOfMemory, RawRegion, Source, Steps};
-use segment_disk::{Disk, Opened};
+use segment_disk::{Disk, OpenedFile};
 use segment_manager::{Mode, Segment};
 use std::alloc::Global;
 
@@ -35,25 +36,25 @@ pub(crate) fn file_region(alloc: Global, bytes: u64, more: u64) -> Result<RawReg
 /// Opens an image at the front of a region.
 fn open_at<S: Source>(
     alloc: Global,
-    versions: Versions,
+    versions: AcceptedVersions,
     mode: Mode,
     reader: &mut S,
     region: RawRegion,
 ) -> Result<Segment, OpenRefused>
     requires { S.history reader.old ≡ nothing_given }
-    ensures opens { OpensAt versions (given_since nothing_given (S.history reader.new)) region mode result }
-    ensures alone { IfErr result (λ refused. refused.cause ≡ RegionTooSmall → IsFrontGiven (S.history reader.new)) }
+    ensures opening { OpensAt versions (read_delta nothing_given (S.history reader.new)) region mode result }
+    ensures exclusive { IfErr result (λ refused. refused.cause ≡ RegionTooSmall → IsFrontGiven (S.history reader.new)) }
 {
     match versions {
-        Versions::Current => open(alloc, reader, region, 0, mode, &mut Steps::new()),
-        Versions::All => open_any(alloc, reader, region, 0, mode, &mut Steps::new()),
+        AcceptedVersions::Current => open(alloc, reader, region, 0, mode, &mut Steps::new()),
+        AcceptedVersions::All => open_any(alloc, reader, region, 0, mode, &mut Steps::new()),
     }
 }
 
 /// The same of an image that lies in memory.
 fn open_text(
     alloc: Global,
-    versions: Versions,
+    versions: AcceptedVersions,
     mode: Mode,
     text: &[u8],
     region: RawRegion,
@@ -61,8 +62,8 @@ fn open_text(
     ensures { OpensAt versions (as_given text.now) region mode result }
 {
     match versions {
-        Versions::Current => open_bytes(alloc, text, region, 0, mode, &mut Steps::new()),
-        Versions::All => open_any_bytes(alloc, text, region, 0, mode, &mut Steps::new()),
+        AcceptedVersions::Current => open_bytes(alloc, text, region, 0, mode, &mut Steps::new()),
+        AcceptedVersions::All => open_any_bytes(alloc, text, region, 0, mode, &mut Steps::new()),
     }
 }
 
@@ -83,7 +84,7 @@ fn unopened(cause: OpenError) -> Option<FileError>
 /// A segment with room for so many bytes more than it has, where it has more than `len`: its file grew while it was
 /// read, and its region was made for `len` bytes.
 fn with_room(alloc: Global, segment: Segment, len: u64, more: u64) -> Result<Segment, FileError>
-    ensures { IsWidened len more segment result }
+    ensures { WidensIfNeeded len more segment result }
 {
     let size = size_of(&segment);
     if size <= len {
@@ -97,16 +98,16 @@ fn with_room(alloc: Global, segment: Segment, len: u64, more: u64) -> Result<Seg
 /// read first, so that it takes no more memory than it has bytes.
 fn open_behind<S: Source>(
     alloc: Global,
-    versions: Versions,
+    versions: AcceptedVersions,
     mode: Mode,
     reader: &mut Headed<S>,
     len: u64,
     more: u64,
 ) -> Result<Segment, FileError>
-    requires alone { IsFrontGiven (S.history reader.old.inner) }
-    requires small { IsTooSmallFor (format_in versions (S.history reader.old.inner).bytes)
-        (given_since nothing_given (S.history reader.old.inner)) 0 (region_len (len + more)) }
-    ensures { OpensImage versions more mode len (given_since nothing_given (S.history reader.new.inner)) result }
+    requires exclusive { IsFrontGiven (S.history reader.old.inner) }
+    requires max_size { IsTooSmallFor (format_in versions (S.history reader.old.inner).bytes)
+        (read_delta nothing_given (S.history reader.old.inner)) 0 (region_len (len + more)) }
+    ensures { OpensImage versions more mode len (read_delta nothing_given (S.history reader.new.inner)) result }
 {
     let text = read_on(alloc, reader)?;
     let region = file_region(alloc, text.len() as u64, more)?;
@@ -122,14 +123,14 @@ fn open_behind<S: Source>(
 /// The segment of the image of a reader that was told to give `len` bytes, with room for so many bytes more.
 fn open_image<S: Source>(
     alloc: Global,
-    versions: Versions,
+    versions: AcceptedVersions,
     mode: Mode,
     reader: &mut Headed<S>,
     len: u64,
     more: u64,
 ) -> Result<Segment, FileError>
     requires fresh { S.history reader.old.inner ≡ nothing_given }
-    ensures { OpensImage versions more mode len (given_since nothing_given (S.history reader.new.inner)) result }
+    ensures { OpensImage versions more mode len (read_delta nothing_given (S.history reader.new.inner)) result }
 {
     let region = file_region(alloc, len, more)?;
     match open_at(alloc, versions, mode, reader, region) {
@@ -151,7 +152,7 @@ pub fn open_file<D: Disk>(
     alloc: Global,
     disk: &mut D,
     path: &str,
-    versions: Versions,
+    versions: AcceptedVersions,
     mode: Mode,
     more: u64,
 ) -> Result<Segment, FileError>
@@ -160,7 +161,7 @@ pub fn open_file<D: Disk>(
     let Ok(opened) = disk.open(path) else {
         return Err(FileError::ReadFault);
     };
-    let Opened { reader, len } = opened;
+    let OpenedFile { reader, len } = opened;
     let mut reader = Headed::new(reader);
     let read = open_image(alloc, versions, mode, &mut reader, len, more);
     disk.close(reader.into_inner());

@@ -1,6 +1,6 @@
 //! What is done with a file that nobody keeps: it is read, checked, or written by the current format.
 ghost use Rattle.std.specs.Prelude.{◌≡◌};
-ghost use Rattle.image_check.specs.declared.versions.Versions.TheVariants.{Current};
+ghost use Rattle.image_check.specs.declared.versions.AcceptedVersions.TheVariants.{Current};
 ghost use Rattle.segment_file.specs.Opening.{OpensFile};
 ghost use Rattle.segment_file.specs.SegmentFiles.{ChecksFile, HoldsFile, Migrates};
 
@@ -8,12 +8,13 @@ use crate::examining::examine_file;
 use crate::file_errors::FileError;
 use crate::file_steps::migrate_held;
 use crate::opening::open_file;
-use image_check::Versions;
+use image_check::AcceptedVersions;
 use segment_disk::Disk;
 use segment_manager::{Mode, Segment};
 use std::alloc::Global;
 
-/// The segment in a file, open in a mode. What changes it changes no file: a [`SegmentFile`](crate::SegmentFile) is saved.
+/// The segment in a file, open in a mode. What changes it changes no file: a [`SegmentFile`](crate::SegmentFile) is
+/// saved.
 ///
 /// `crates/examples/src/prices.rt` has an example.
 ///
@@ -29,7 +30,7 @@ pub fn read<D: Disk>(
 ) -> Result<Segment, FileError>
     ensures { OpensFile D.step disk.old disk.new path.now Current mode 0 result }
 {
-    open_file(alloc, disk, path, Versions::Current, mode, 0)
+    open_file(alloc, disk, path, AcceptedVersions::Current, mode, 0)
 }
 
 /// Tells whether a file holds a segment. Nothing is opened for writing, and no segment is made.
@@ -54,15 +55,17 @@ pub fn check<D: Disk>(alloc: Global, disk: &mut D, path: &str) -> Result<(), Fil
 ///
 /// # Errors
 ///
-/// Those of [`read`], and `InUse` where another has the right to write the file: it is as it was. `WriteFault` where it
+/// Those of [`read`], and `AlreadyLocked` where another has the right to write the file: it is as it was. `WriteFault`
+/// where it
 /// can't be emptied, takes not the whole image, or need not last.
 pub fn migrate<D: Disk>(alloc: Global, disk: &mut D, path: &str) -> Result<(), FileError>
-    ensures { HoldsFile D.step disk.old disk.new path.now (λ held done. Migrates D.step held done path.now result) result }
+    ensures { HoldsFile D.step disk.old disk.new path.now (λ held done.
+        Migrates D.step held done path.now result) result }
 {
-    let Ok(mut hold) = disk.hold(path) else {
+    let Ok(mut hold) = disk.lock(path) else {
         return Err(FileError::InUse);
     };
     let answer = migrate_held(alloc, disk, path, &mut hold);
-    disk.release(hold);
+    disk.unlock(hold);
     answer
 }

@@ -1,6 +1,6 @@
 //! The rest of an image that says more bytes than there is room for: of a file that another writes, or a pipe.
 ghost use Rattle.std.specs.Prelude.{◌≡◌, ◌≤◌, length, MatchResult, OnOk, IfErr};
-ghost use Rattle.raw_region.specs.Device.{Grows};
+ghost use Rattle.raw_region.specs.Device.{AppendsBytes};
 ghost use Rattle.image_check.specs.EarlyTests.{size_word};
 ghost use Rattle.segment_file.specs.ReadingOn.{IsFrontGiven, IsReadUpTo, IsWhole, IsWhyNotUpTo, IsWhyNotWhole};
 
@@ -16,12 +16,12 @@ const PIECE: usize = 4096;
 
 /// Reads on until the text has as many bytes as are said, which take no more memory than the reader gives.
 fn read_up_to<S: Source>(reader: &mut S, text: &mut Vec<u8>, said: u64) -> Result<(), Unfit>
-    requires begun { IsReadUpTo (S.history reader.old) text.old.items }
-    requires few { length text.old.items ≤ said }
-    ensures ok { OnOk result (IsReadUpTo (S.history reader.new) text.new.items) }
-    ensures long { OnOk result (length text.new.items ≡ said) }
-    ensures err { IfErr result (IsWhyNotUpTo said (S.history reader.new)) }
-    ensures grows { Grows (S.history reader.old).bytes (S.history reader.new).bytes }
+    requires start { IsReadUpTo (S.history reader.old) text.old.items }
+    requires max_count { length text.old.items ≤ said }
+    ensures on_ok { OnOk result (IsReadUpTo (S.history reader.new) text.new.items) }
+    ensures min_len { OnOk result (length text.new.items ≡ said) }
+    ensures on_error { IfErr result (IsWhyNotUpTo said (S.history reader.new)) }
+    ensures history { AppendsBytes (S.history reader.old).bytes (S.history reader.new).bytes }
 {
     let mut piece = [0; PIECE];
     'pieces: while (text.len() as u64) < said {
@@ -53,11 +53,11 @@ fn read_whole<S: Source>(
     said: u64,
     reader: &mut S,
 ) -> Result<Vec<u8>, Unfit>
-    requires begun { IsReadUpTo (S.history reader.old) front.now }
-    requires some { 24 ≤ said }
-    ensures reads { MatchResult result (λ text. IsWhole said (S.history reader.new) text.items)
+    requires start { IsReadUpTo (S.history reader.old) front.now }
+    requires non_empty { 24 ≤ said }
+    ensures reading { MatchResult result (λ text. IsWhole said (S.history reader.new) text.items)
         (IsWhyNotWhole said (S.history reader.new)) }
-    ensures grows { Grows (S.history reader.old).bytes (S.history reader.new).bytes }
+    ensures history { AppendsBytes (S.history reader.old).bytes (S.history reader.new).bytes }
 {
     let mut text = Vec::new(alloc);
     append(&mut text, front)?;
@@ -79,11 +79,11 @@ fn read_whole<S: Source>(
 /// As [`read_whole`].
 pub(crate) fn read_on<S: Source>(alloc: Global, reader: &mut Headed<S>) -> Result<Vec<u8>, Unfit>
     requires front { IsFrontGiven (S.history reader.old.inner) }
-    requires some { 24 ≤ size_word (S.history reader.old.inner).bytes }
-    ensures reads { MatchResult result
+    requires non_empty { 24 ≤ size_word (S.history reader.old.inner).bytes }
+    ensures reading { MatchResult result
         (λ text. IsWhole (size_word (S.history reader.old.inner).bytes) (S.history reader.new.inner) text.items)
         (IsWhyNotWhole (size_word (S.history reader.old.inner).bytes) (S.history reader.new.inner)) }
-    ensures grows { Grows (S.history reader.old.inner).bytes (S.history reader.new.inner).bytes }
+    ensures history { AppendsBytes (S.history reader.old.inner).bytes (S.history reader.new.inner).bytes }
 {
     let front = reader.front();
     let said = word_in(&front, SIZE_AT as usize);

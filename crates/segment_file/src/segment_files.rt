@@ -1,14 +1,15 @@
 //! A segment with its file, which no other may write meanwhile.
 ghost use Rattle.std.specs.Prelude.{◌≡◌, string_bytes};
-ghost use Rattle.segment_disk.specs.declared.presence.Making.TheVariants.{Beside, Emptied};
+ghost use Rattle.segment_disk.specs.declared.presence.CreateMode.TheVariants.{Replacement, Truncate};
 ghost use Rattle.segment_disk.specs.Events.{Released};
-ghost use Rattle.segment_file.specs.SegmentFiles.{CreatesSegment, Grows, KeepsFile, OpensHeld, OpensOrCreates, Saves, SavesAs, Shrinks};
+ghost use Rattle.segment_file.specs.SegmentFiles.{CreatesSegment, GrowsFile, KeepsFile, OpensHeld, OpensOrCreates};
+ghost use Rattle.segment_file.specs.SegmentFiles.{SavesFile, SavesAs, ShrinksFile};
 
 use crate::file_errors::FileError;
 use crate::file_steps::{make_segment_file, open_held, save_image};
 use grow_shrink::{grow_or_move, shrink_to_fit};
 use raw_region::copy_text;
-use segment_disk::{Disk, Making, Presence};
+use segment_disk::{CreateMode, Disk, Presence};
 use segment_manager::Segment;
 use std::alloc::Global;
 
@@ -42,7 +43,7 @@ impl<H: Drop> SegmentFile<H> {
         ensures { KeepsFile disk.old disk.new path.now (CreatesSegment D.step disk.old disk.new path.now size) result }
     {
         let kept = copy_text(alloc, path)?;
-        if disk.look(path) == Presence::There {
+        if disk.path_status(path) == Presence::There {
             return Err(FileError::Exists);
         }
         let (segment, hold) = make_segment_file(alloc, disk, path, size)?;
@@ -59,7 +60,8 @@ impl<H: Drop> SegmentFile<H> {
     ///
     /// # Errors
     ///
-    /// `InUse` where another has the right to write the file. Those of [`read`](crate::read); the right is given back.
+    /// `AlreadyLocked` where another has the right to write the file. Those of [`read`](crate::read); the right is
+    /// given back.
     pub fn open<D: Disk<Hold = H>>(
         alloc: Global,
         disk: &mut D,
@@ -94,7 +96,7 @@ impl<H: Drop> SegmentFile<H> {
         ensures { KeepsFile disk.old disk.new path.now (OpensOrCreates D.step disk.old disk.new path.now size) result }
     {
         let kept = copy_text(alloc, path)?;
-        let (segment, hold) = if disk.look(path) == Presence::Absent {
+        let (segment, hold) = if disk.path_status(path) == Presence::Absent {
             make_segment_file(alloc, disk, path, size)?
         } else {
             open_held(alloc, disk, path)?
@@ -113,15 +115,23 @@ impl<H: Drop> SegmentFile<H> {
     ///
     /// # Errors
     ///
-    /// `WriteFault` where the file can't be emptied, takes not the whole image, or need not last, and where another file
+    /// `WriteFault` where the file can't be emptied, takes not the whole image, or need not last, and where another
+    /// file
     /// has taken its name, which is left alone.
     pub fn save<D: Disk<Hold = H>>(&mut self, disk: &mut D) -> Result<(), FileError>
-        ensures saves { Saves D.step disk.old disk.new (string_bytes self.old.path) self.old.segment result Emptied }
+        ensures save { SavesFile D.step disk.old disk.new (string_bytes self.old.path) self.old.segment result
+            Truncate }
         ensures segment { self.new.segment ≡ self.old.segment }
         ensures path { self.new.path ≡ self.old.path }
     {
         let path = self.path.as_str();
-        save_image(disk, path, Making::Emptied, &mut self.hold, &self.segment)
+        save_image(
+            disk,
+            path,
+            CreateMode::Truncate,
+            &mut self.hold,
+            &self.segment,
+        )
     }
 
     /// The same to a new file beside its file, which takes the place of the old one when it has the whole image: at
@@ -134,12 +144,19 @@ impl<H: Drop> SegmentFile<H> {
     /// As of [`save`](SegmentFile::save). The old file is as it was then, but where it is not known whether the new one
     /// has its place for good.
     pub fn replace<D: Disk<Hold = H>>(&mut self, disk: &mut D) -> Result<(), FileError>
-        ensures saves { Saves D.step disk.old disk.new (string_bytes self.old.path) self.old.segment result Beside }
+        ensures save { SavesFile D.step disk.old disk.new (string_bytes self.old.path) self.old.segment result
+            Replacement }
         ensures segment { self.new.segment ≡ self.old.segment }
         ensures path { self.new.path ≡ self.old.path }
     {
         let path = self.path.as_str();
-        save_image(disk, path, Making::Beside, &mut self.hold, &self.segment)
+        save_image(
+            disk,
+            path,
+            CreateMode::Replacement,
+            &mut self.hold,
+            &self.segment,
+        )
     }
 
     /// Writes the image of the segment to another file, which is made for it. The segment keeps its path.
@@ -153,17 +170,23 @@ impl<H: Drop> SegmentFile<H> {
     pub fn save_as<D: Disk<Hold = H>>(&self, disk: &mut D, path: &str) -> Result<(), FileError>
         ensures { SavesAs D.step disk.old disk.new path.now self.now.segment result }
     {
-        if disk.look(path) == Presence::There {
+        if disk.path_status(path) == Presence::There {
             return Err(FileError::Exists);
         }
-        save_image(disk, path, Making::New, &mut D::hold_none(), &self.segment)
+        save_image(
+            disk,
+            path,
+            CreateMode::New,
+            &mut D::hold_none(),
+            &self.segment,
+        )
     }
 
     /// Gives the right to write the file back. The segment is gone, and what was not saved of it is not in the file.
     pub fn close<D: Disk<Hold = H>>(self, disk: &mut D)
         ensures { D.step disk.old Released disk.new }
     {
-        disk.release(self.hold);
+        disk.unlock(self.hold);
     }
 
     /// Makes the segment longer by `extra` bytes, which are free: a multiple of 16, at least 32. Where its region has
@@ -178,7 +201,7 @@ impl<H: Drop> SegmentFile<H> {
     /// multiple of 16, and with `TooLarge` where the size would be above 1073741824; else `OutOfMemory` where its
     /// region has no room, and there is none for a larger one. The segment is as it was.
     pub fn grow(&mut self, alloc: Global, extra: u64) -> Result<(), FileError>
-        ensures grows { Grows self.old.segment self.new.segment extra result }
+        ensures history { GrowsFile self.old.segment self.new.segment extra result }
         ensures path { self.new.path ≡ self.old.path }
     {
         match grow_or_move(alloc, &mut self.segment, extra) {
@@ -196,7 +219,7 @@ impl<H: Drop> SegmentFile<H> {
     ///
     /// `Growth` with `ReadOnly` where the segment is open for reading. It is as it was.
     pub fn shrink(&mut self) -> Result<(), FileError>
-        ensures shrinks { Shrinks self.old.segment self.new.segment result }
+        ensures shrinking { ShrinksFile self.old.segment self.new.segment result }
         ensures path { self.new.path ≡ self.old.path }
     {
         match shrink_to_fit(&mut self.segment) {

@@ -1,5 +1,6 @@
 //! What holds of every save, by the questions that it asks the disk. These functions do nothing.
-ghost use Rattle.segment_file.specs.Standing.{EmptyingTears, ReplacingKeepsOneWhole, SavingEndsWhole, UnplacedLeavesTheOld};
+ghost use Rattle.segment_file.specs.PathContents.{EmptyingTears, ReplacingKeepsOneWhole, SavingEndsWhole};
+ghost use Rattle.segment_file.specs.PathContents.{UnplacedLeavesTheOld};
 
 /// At each point of a save that replaces, the old image or the new one stands whole under the path.
 pub fn replacing_keeps_one_whole()

@@ -1,12 +1,12 @@
 //! The writing of an image to a file.
 ghost use Rattle.std.specs.Prelude.{◌≡◌, ◌≢◌, is_ok};
-ghost use Rattle.segment_disk.specs.declared.presence.Making.TheVariants.{Beside, New};
+ghost use Rattle.segment_disk.specs.declared.presence.CreateMode.TheVariants.{Replacement, New};
 ghost use Rattle.segment_disk.specs.Events.{After, nothing_taken};
 ghost use Rattle.segment_file.specs.Files.{FillsFile, MakesImage, WritesImage, placing};
 
 use image_check::save;
 use raw_region::DeviceFault;
-use segment_disk::{Disk, Making};
+use segment_disk::{CreateMode, Disk};
 use segment_manager::Segment;
 
 /// Writes the image of a segment to a file that took nothing yet, and closes it.
@@ -15,7 +15,7 @@ fn fill<D: Disk>(disk: &mut D, mut writer: D::Writer, segment: &Segment) -> Resu
     ensures { FillsFile D.step disk.old disk.new segment.now.cut.bytes result }
 {
     let saved = save(segment, &mut writer);
-    let lasting = disk.finish(writer);
+    let lasting = disk.sync_and_close(writer);
     match saved {
         Ok(()) => lasting,
         Err(fault) => Err(fault),
@@ -26,14 +26,14 @@ fn fill<D: Disk>(disk: &mut D, mut writer: D::Writer, segment: &Segment) -> Resu
 fn write_here<D: Disk>(
     disk: &mut D,
     path: &str,
-    how: Making,
+    how: CreateMode,
     hold: &mut D::Hold,
     segment: &Segment,
 ) -> Result<(), DeviceFault>
-    requires { how ≢ Beside }
+    requires { how ≢ Replacement }
     ensures { MakesImage D.step disk.old disk.new how path.now segment.now.cut.bytes result }
 {
-    match disk.make(path, how, hold) {
+    match disk.create(path, how, hold) {
         Ok(writer) => fill(disk, writer, segment),
         Err(fault) => Err(fault),
     }
@@ -43,10 +43,10 @@ fn write_here<D: Disk>(
 fn put_in_place<D: Disk>(disk: &mut D, path: &str, hold: &mut D::Hold) -> Result<(), DeviceFault>
     ensures { After D.step disk.old (placing path.now (is_ok result)) disk.new }
 {
-    match disk.place(path, hold) {
+    match disk.commit_replacement(path, hold) {
         Ok(()) => Ok(()),
         Err(fault) => {
-            disk.discard(path, hold);
+            disk.discard_replacement(path, hold);
             Err(fault)
         }
     }
@@ -60,15 +60,15 @@ fn replace_image<D: Disk>(
     hold: &mut D::Hold,
     segment: &Segment,
 ) -> Result<(), DeviceFault>
-    ensures { MakesImage D.step disk.old disk.new Beside path.now segment.now.cut.bytes result }
+    ensures { MakesImage D.step disk.old disk.new Replacement path.now segment.now.cut.bytes result }
 {
-    let Ok(writer) = disk.make(path, Making::Beside, hold) else {
+    let Ok(writer) = disk.create(path, CreateMode::Replacement, hold) else {
         return Err(DeviceFault);
     };
     match fill(disk, writer, segment) {
         Ok(()) => put_in_place(disk, path, hold),
         Err(fault) => {
-            disk.discard(path, hold);
+            disk.discard_replacement(path, hold);
             Err(fault)
         }
     }
@@ -79,13 +79,13 @@ fn replace_image<D: Disk>(
 fn make_image<D: Disk>(
     disk: &mut D,
     path: &str,
-    how: Making,
+    how: CreateMode,
     hold: &mut D::Hold,
     segment: &Segment,
 ) -> Result<(), DeviceFault>
     ensures { MakesImage D.step disk.old disk.new how path.now segment.now.cut.bytes result }
 {
-    if how == Making::Beside {
+    if how == CreateMode::Replacement {
         replace_image(disk, path, hold, segment)
     } else {
         write_here(disk, path, how, hold, segment)
@@ -101,14 +101,14 @@ fn write_new<D: Disk>(
 ) -> Result<(), DeviceFault>
     ensures { WritesImage D.step disk.old disk.new New path.now segment.now.cut.bytes result }
 {
-    make_image(disk, path, Making::New, hold, segment)
+    make_image(disk, path, CreateMode::New, hold, segment)
 }
 
 /// The same of a file that is emptied or replaced. It is left alone where another has taken its name.
 fn overwrite_image<D: Disk>(
     disk: &mut D,
     path: &str,
-    how: Making,
+    how: CreateMode,
     hold: &mut D::Hold,
     segment: &Segment,
 ) -> Result<(), DeviceFault>
@@ -121,18 +121,19 @@ fn overwrite_image<D: Disk>(
     }
 }
 
-/// Writes the image of a segment to a file that is made, emptied or replaced for it, with the right to write it. A check
+/// Writes the image of a segment to a file that is made, emptied or replaced for it, with the right to write it. A
+/// check
 /// of the image accepts it.
 pub fn write_image<D: Disk>(
     disk: &mut D,
     path: &str,
-    how: Making,
+    how: CreateMode,
     hold: &mut D::Hold,
     segment: &Segment,
 ) -> Result<(), DeviceFault>
     ensures { WritesImage D.step disk.old disk.new how path.now segment.now.cut.bytes result }
 {
-    if how == Making::New {
+    if how == CreateMode::New {
         write_new(disk, path, hold, segment)
     } else {
         overwrite_image(disk, path, how, hold, segment)

@@ -27,11 +27,14 @@ neither false x y h k = k
 -- ---- the values of a word that may stand there more than once
 
 module _ (f : Found) (id : Text) where
-  pub all_listed : (old new values : List (Bor Text)) → old ≡ [] → new ≡ old ++ values → Some (map (λ s. s.now) values) ≡ option_map raw_values (matched_of f id)
+  pub all_listed : (old new values : List (Bor Text)) → old ≡ [] → new ≡ old ++ values
+      → Some (map (λ s. s.now) values) ≡ option_map raw_values (matched_of f id)
       → map (λ s. s.now) new ≡ list_of id (rows_of f)
-  all_listed old new values o n e = ap (map (λ (s : Bor Text). s.now)) (n ∙ ap (λ l. l ++ values) o) ∙ ap (λ l. unwrap_or l []) (e ∙ raw_values-rows f id)
+  all_listed old new values o n e = ap (map (λ (s : Bor Text). s.now)) (n ∙ ap (λ l. l ++ values) o)
+      ∙ ap (λ l. unwrap_or l []) (e ∙ raw_values-rows f id)
 
-  pub none_listed : (old : List (Bor Text)) → old ≡ [] → None ≡ option_map raw_values (matched_of f id) → map (λ s. s.now) old ≡ list_of id (rows_of f)
+  pub none_listed : (old : List (Bor Text)) → old ≡ [] → None ≡ option_map raw_values (matched_of f id)
+      → map (λ s. s.now) old ≡ list_of id (rows_of f)
   none_listed old o e = ap (map (λ (s : Bor Text). s.now)) o ∙ ap (λ l. unwrap_or l []) (e ∙ raw_values-rows f id)
 
 -- ---- a number that must be there
@@ -61,7 +64,8 @@ number_unread None h = cc
 number_unread (Some w) h = none_of (number_of w) h
 
 -- every other command wants a file
-pub without_file : (name : Text) (rows : List Row) → bytes_eq name (codes "lint") ≡ false → bytes_eq name (codes "language") ≡ false
+pub without_file : (name : Text) (rows : List Row) → bytes_eq name (codes "lint") ≡ false
+    → bytes_eq name (codes "language") ≡ false
     → first_of (codes "file") rows ≡ None → asked_in name rows ≡ None
 without_file name rows l h e =
     neither (bytes_eq name (codes "create")) _ _ (rw e refl)

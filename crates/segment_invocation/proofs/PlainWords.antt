@@ -2,7 +2,8 @@
 use Rattle.std.proofs.Common.{◌≡◌, refl, ap, ap₂, ℕ, true, false, ◌&&◌, List, [], ◌∷◌, None, ◌==◌}
 use Rattle.std.specs.Str.{bytes_eq}
 use Rattle.clap.specs.Lexer.{long_of, short_of, strip_byte}
-use Rattle.clap.specs.Walk.{Held, Rule, Step, Text, Waiting, Walk, after_step, plain_word, walked, word_met, idle, option, positional}
+use Rattle.clap.specs.Walk.{Held, Rule, Step, Text, Waiting, Walk, after_step, plain_word, walked, word_met, idle}
+use Rattle.clap.specs.Walk.{option, positional}
 use Rattle.clap.specs.Simple.{Shape}
 use Rattle.clap.specs.Takes.{step_passes, turn_passes, word_passes}
 
@@ -33,20 +34,41 @@ met-plain c (option id) position x xs h e = rw (no-dashes x xs e, no-long x xs e
 met-plain c positional position x xs h e = rw (no-dashes x xs e, no-long x xs e, no-short x xs e) refl
 
 pub walked-plain : (c : List Rule) (h : Held) (waiting : Waiting) (position : ℕ) (word : Text) → IsPlain word
-    → walked c [] (record { held = h; waiting = waiting; position = position; is_trailing = false; stopped = None }) word
-    ≡ plain_step c (record { held = h; waiting = waiting; position = position; is_trailing = false; stopped = None }) word
+    → walked c [] (record { held = h; waiting = waiting; position = position; is_trailing = false; stopped = None })
+    word
+    ≡ plain_step c (record {
+      held = h;
+      waiting = waiting;
+      position = position;
+      is_trailing = false;
+      stopped = None;
+    }) word
 unfolding walked
 walked-plain c h waiting position word (x, xs, is, e) =
-    rw is (ap (λ met. after_step c (x ∷ xs) (record { held = h; waiting = waiting; position = position; is_trailing = false; stopped = None }) met.0 met.1) (met-plain c waiting position x xs h e))
+    rw is (ap (λ met. after_step c (x ∷ xs) (record {
+      held = h;
+      waiting = waiting;
+      position = position;
+      is_trailing = false;
+      stopped = None;
+    }) met.0 met.1) (met-plain c waiting position x xs h e))
 
-passes-plain : (s : Shape) (waiting : Waiting) (x : ℕ) (xs : Text) (h : Held) → (x == 45) ≡ false → word_passes s [] false waiting (x ∷ xs) h ≡ true
+passes-plain : (s : Shape) (waiting : Waiting) (x : ℕ) (xs : Text) (h : Held) → (x == 45) ≡ false
+    → word_passes s [] false waiting (x ∷ xs) h ≡ true
 passes-plain s idle x xs h e = rw (no-dashes x xs e, no-long x xs e, no-short x xs e) refl
 passes-plain s (option id) x xs h e = rw (no-dashes x xs e, no-long x xs e, no-short x xs e) refl
 passes-plain s positional x xs h e = rw (no-dashes x xs e, no-long x xs e, no-short x xs e) refl
 
 -- it passes where the step does
 pub turn-plain : (s : Shape) (h : Held) (waiting : Waiting) (position : ℕ) (word : Text) → IsPlain word
-    → turn_passes s [] (record { held = h; waiting = waiting; position = position; is_trailing = false; stopped = None }) word
+    → turn_passes s [] (record {
+      held = h;
+      waiting = waiting;
+      position = position;
+      is_trailing = false;
+      stopped = None;
+    }) word
     ≡ (let met = plain_word s.rules waiting word h in step_passes s position met.0 met.1)
 turn-plain s h waiting position word (x, xs, is, e) =
-    rw is (ap₂ (λ a (met : Held × Step). a && step_passes s position met.0 met.1) (passes-plain s waiting x xs h e) (met-plain s.rules waiting position x xs h e))
+    rw is (ap₂ (λ a (met : Held × Step). a && step_passes s position met.0 met.1) (passes-plain s waiting x xs h e)
+    (met-plain s.rules waiting position x xs h e))

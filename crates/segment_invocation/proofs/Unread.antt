@@ -1,5 +1,6 @@
 -- What is asked for by words of which a parse made matches, and by words of which it made an error.
-use Rattle.std.proofs.Common.{◌≡◌, refl, sym, ap, ap₂, subst, ◌∙◌, List, [], ◌∷◌, Option, Some, None, Ok, Err, true, inl, inr}
+use Rattle.std.proofs.Common.{◌≡◌, refl, sym, ap, ap₂, subst, ◌∙◌, List, [], ◌∷◌, Option, Some, None, Ok, Err, true}
+use Rattle.std.proofs.Common.{inl, inr}
 use Rattle.std.specs.Prelude.{◌⊎◌, Box, Result, IfOk, MatchResult, option_map}
 use Rattle.std.specs.Box.{box_value}
 use Rattle.std.proofs.lemmas.Option.{none-some, same_Some}
@@ -35,11 +36,13 @@ no-memory e = cc
 no-kinds : (k : ErrorKind) → ◌≡◌ {A = Kinds} (k ∷ []) [] → ⊥
 no-kinds k e = cc
 
-shown : (kinds : Kinds) (other : Error) → kind_of other ≡ DisplayVersion → HasKind kinds other → IsAmong DisplayVersion kinds
+shown : (kinds : Kinds) (other : Error) → kind_of other ≡ DisplayVersion → HasKind kinds other
+    → IsAmong DisplayVersion kinds
 shown kinds other e (inl m) = absurd (no-memory (sym e ∙ m))
 shown kinds other e (inr a) = subst (λ k. IsAmong k kinds) e a
 
-entered_rows : {Z : Type 0} (o : Option (Box SubCommand Z)) (name : Text) (rows : List Row) → option_map (λ b. (out-SubCommand (box_value b)).name.now) o ≡ Some name
+entered_rows : {Z : Type 0} (o : Option (Box SubCommand Z)) (name : Text) (rows : List Row)
+    → option_map (λ b. (out-SubCommand (box_value b)).name.now) o ≡ Some name
     → option_map (λ p. p.1) (subcommand_rows o) ≡ Some rows → subcommand_rows o ≡ Some (name, rows)
 entered_rows None name rows n r = cc
 entered_rows (Some b) name rows n r = ap₂ (λ x y. Some (x, y)) (same_Some _ _ n) (same_Some _ _ r)
@@ -56,25 +59,36 @@ module _ (words : List Text) (command : Command) (is : app_of command ≡ comman
   simple : is_simple_and_free (app_of command) ≡ true
   simple = ap is_simple_and_free is ∙ free
 
-  pub unread_read : (other : Error) → (is_simple_and_free (app_of command) ≡ true → HasKind (fault_of (app_of command) words) other) → (result : Result Invocation InvocationFault)
-      → IfOk result (λ i. (i ≡ Version) × (kind_of other ≡ DisplayVersion)) → IfOk result (λ i. IsAskedBy words (asked_by i))
-  unread_read other kinds result only = IfOk-weaker result _ _ (λ i h. inr (ap asked_by h.0, subst (IsAmong DisplayVersion) same-faults (shown _ other h.1 (kinds simple)))) only
+  pub unread_read : (other : Error)
+      → (is_simple_and_free (app_of command) ≡ true → HasKind (fault_of (app_of command) words) other)
+      → (result : Result Invocation InvocationFault)
+      → IfOk result (λ i. (i ≡ Version) × (kind_of other ≡ DisplayVersion))
+      → IfOk result (λ i. IsAskedBy words (asked_by i))
+  unread_read other kinds result only =
+      IfOk-weaker result _ _ (λ i h.
+      inr (ap asked_by h.0, subst (IsAmong DisplayVersion) same-faults (shown _ other h.1 (kinds simple)))) only
 
-  module _ (a : Asked) (other : Error) (result : Result Invocation InvocationFault) (memory : kind_of other ≡ NoMemory → result ≡ Err OutOfMemory) (version : kind_of other ≡ DisplayVersion → result ≡ Ok Version) where
+  module _ (a : Asked) (other : Error) (result : Result Invocation InvocationFault) (memory : kind_of other
+      ≡ NoMemory → result ≡ Err OutOfMemory) (version : kind_of other ≡ DisplayVersion → result ≡ Ok Version) where
     refused : kind_of other ≡ NoMemory → MatchResult result (λ i. asked_by i ≡ a) (λ e. e ≡ OutOfMemory)
     refused m = rw (memory m) refl
 
-    told : WantsVersion words a → HasKind (DisplayVersion ∷ []) other → MatchResult result (λ i. asked_by i ≡ a) (λ e. e ≡ OutOfMemory)
+    told : WantsVersion words a → HasKind (DisplayVersion ∷ []) other
+        → MatchResult result (λ i. asked_by i ≡ a) (λ e. e ≡ OutOfMemory)
     told v (inl m) = refused m
     told v (inr (inl e)) = rw (version e) (sym v.is)
     told v (inr (inr x)) = absurd x
 
-    pub unread_given : IsUnderstood words a ⊎ WantsVersion words a → (takes (app_of command) words ≡ true → kind_of other ≡ NoMemory)
-        → (is_simple_and_free (app_of command) ≡ true → HasKind (fault_of (app_of command) words) other) → MatchResult result (λ i. asked_by i ≡ a) (λ e. e ≡ OutOfMemory)
+    pub unread_given : IsUnderstood words a ⊎ WantsVersion words a
+        → (takes (app_of command) words ≡ true → kind_of other ≡ NoMemory)
+        → (is_simple_and_free (app_of command) ≡ true → HasKind (fault_of (app_of command) words) other)
+        → MatchResult result (λ i. asked_by i ≡ a) (λ e. e ≡ OutOfMemory)
     unread_given (inl u) passes kinds = refused (passes (ap (λ (x : App). takes x words) is ∙ u.takes))
     unread_given (inr v) passes kinds = told v (subst (λ k. HasKind k other) (same-faults ∙ v.fault) (kinds simple))
 
-  pub read_given : (a : Asked) → IsUnderstood words a ⊎ WantsVersion words a → (is_simple_and_free (app_of command) ≡ true → fault_of (app_of command) words ≡ []) → asked_of (subcommand_of command_line words) ≡ Some a
+  pub read_given : (a : Asked) → IsUnderstood words a ⊎ WantsVersion words a
+      → (is_simple_and_free (app_of command) ≡ true → fault_of (app_of command) words ≡ [])
+      → asked_of (subcommand_of command_line words) ≡ Some a
   read_given a (inl u) kinds = u.asks
   read_given a (inr v) kinds = absurd (no-kinds DisplayVersion (sym v.fault ∙ (sym same-faults ∙ kinds simple)))
 
@@ -91,8 +105,10 @@ module _ (words : List Text) (command : Command) (is : app_of command ≡ comman
       sym (ap (λ (x : App). subcommand_of x words) is)
       ∙ (sym entered ∙ entered_rows (out-ArgMatches m).subcommand name rows (sym n) (sym r))
 
-  pub asks : (m : ArgMatches) → HasMatchesOf (app_of command) words m → (name : Text) (rows : List Row) → Some name ≡ subcommand_name_of m
-      → Some rows ≡ option_map (λ p. p.1) (subcommand_rows (out-ArgMatches m).subcommand) → asked_of (subcommand_of command_line words) ≡ asked_in name rows
+  pub asks : (m : ArgMatches) → HasMatchesOf (app_of command) words m → (name : Text) (rows : List Row)
+      → Some name ≡ subcommand_name_of m
+      → Some rows ≡ option_map (λ p. p.1) (subcommand_rows (out-ArgMatches m).subcommand)
+      → asked_of (subcommand_of command_line words) ≡ asked_in name rows
   asks m matches name rows n r = ap asked_of (enters m matches name rows n r)
 
   -- what is wrong with words of which a parse made an error

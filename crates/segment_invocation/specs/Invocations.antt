@@ -16,15 +16,20 @@ use Rattle.clap.specs.declared.error.kind.ErrorKind.TheVariants.{DisplayVersion}
 use Rattle.clap.specs.declared.builder.action.ArgAction.TheVariants.{Append, Set, SetTrue}
 use Rattle.segment_lang.specs.Words.{number_of}
 use Rattle.segment_invocation.specs.declared.invocations.Invocation.{Invocation}
-use Rattle.segment_invocation.specs.declared.invocations.Invocation.TheVariants.{Create, Run, RunWith, Check, CheckAll, Explain, Grow, Shrink, Migrate, ChangeWith, Tell, Names, Load, Lint, Language, Version}
-use Rattle.segment_invocation.specs.declared.invocations.Change.{Change}
-use Rattle.segment_invocation.specs.declared.invocations.Change.TheVariants as change
+use Rattle.segment_invocation.specs.declared.invocations.Invocation.TheVariants.{Create, Run, RunWith, Check, CheckAll}
+use Rattle.segment_invocation.specs.declared.invocations.Invocation.TheVariants.{Explain, Grow, Shrink, Migrate}
+use Rattle.segment_invocation.specs.declared.invocations.Invocation.TheVariants.{ChangeWith, Tell, Names, Load, Lint}
+use Rattle.segment_invocation.specs.declared.invocations.Invocation.TheVariants.{Language, Version}
+use Rattle.segment_invocation.specs.declared.invocations.FileChange.{FileChange}
+use Rattle.segment_invocation.specs.declared.invocations.FileChange.TheVariants as change
 use Rattle.segment_invocation.specs.declared.invocations.ModeName.{ModeName}
-use Rattle.segment_invocation.specs.declared.invocations.ModeName.TheVariants.{CreateOnly, OpenOnly, OpenOrCreate, OpenReadOnly, OpenCopyOnWrite}
+use Rattle.segment_invocation.specs.declared.invocations.ModeName.TheVariants.{CreateOnly, OpenOnly, OpenOrCreate}
+use Rattle.segment_invocation.specs.declared.invocations.ModeName.TheVariants.{OpenReadOnly, OpenCopyOnWrite}
 use Rattle.segment_invocation.specs.declared.invocations.Report.{Report}
-use Rattle.segment_invocation.specs.declared.invocations.Report.TheVariants.{Figures, Picture, Page, Dump, Capacities, Json}
-use Rattle.segment_invocation.specs.declared.invocations.Saving.{Saving}
-use Rattle.segment_invocation.specs.declared.invocations.Saving.TheVariants.{InPlace, Replacing}
+use Rattle.segment_invocation.specs.declared.invocations.Report.TheVariants.{Figures, Picture, Page, Dump, Capacities}
+use Rattle.segment_invocation.specs.declared.invocations.Report.TheVariants.{Json}
+use Rattle.segment_invocation.specs.declared.invocations.SaveMode.{SaveMode}
+use Rattle.segment_invocation.specs.declared.invocations.SaveMode.TheVariants.{InPlace, Replacing}
 use Rattle.segment_invocation.specs.declared.invocations.Script.{Script}
 use Rattle.segment_invocation.specs.declared.invocations.Script.TheVariants as script
 use Rattle.segment_invocation.specs.declared.usage.UsageError.{UsageError}
@@ -65,9 +70,17 @@ kept = flag (codes "replace") ∷ option (codes "wait") ∷ []
 abbrev pub taking : Text → List Rule → Shape
 taking name rules = record (new_shape name) { rules = rules ++ (flag (codes "verbose") ∷ []) }
 
--- the program, without its subcommands: it wants one, gives help where no word stands behind its name, and has clap's `help`
+-- the program, without its subcommands: it wants one, gives help where no word stands behind its name, and has clap's
+-- `help`
 abbrev pub program : App
-program = record { top = record (new_shape (codes "segment")) { has_version = true; arg_required_else_help = true; subcommand_required = true }; subs = [] }
+program = record {
+  top = record (new_shape (codes "segment")) {
+    has_version = true;
+    arg_required_else_help = true;
+    subcommand_required = true;
+  };
+  subs = [];
+}
 
 abbrev pub file_command : Text → Shape
 file_command name = taking name (operand (codes "file") ∷ [])
@@ -97,14 +110,18 @@ abbrev pub load_command : Shape
 load_command = taking (codes "load") (operand (codes "file") ∷ option (codes "size") ∷ kept)
 
 abbrev pub run_options : List Rule
-run_options = operand (codes "file") ∷ maybe (codes "script") ∷ option (codes "mode") ∷ option (codes "size") ∷ lines (codes "line") 99 ∷ []
+run_options = operand (codes "file") ∷ maybe (codes "script") ∷ option (codes "mode") ∷ option (codes "size")
+    ∷ lines (codes "line") 99 ∷ []
 
 abbrev pub run_command : Shape
-run_command = taking (codes "run") (run_options ++ (flag (codes "replace") ∷ flag (codes "strict") ∷ flag (codes "numbered") ∷ option (codes "wait") ∷ []))
+run_command = taking (codes "run") (run_options
+    ++ (flag (codes "replace") ∷ flag (codes "strict") ∷ flag (codes "numbered") ∷ option (codes "wait") ∷ []))
 
 abbrev pub subcommands : List Shape
-subcommands = create_command ∷ run_command ∷ check_command ∷ grow_command ∷ kept_command (codes "shrink") ∷ kept_command (codes "migrate")
-    ∷ file_command (codes "stat") ∷ draw_command ∷ dump_command ∷ names_command ∷ load_command ∷ taking (codes "lint") [] ∷ taking (codes "language") [] ∷ []
+subcommands = create_command ∷ run_command ∷ check_command ∷ grow_command ∷ kept_command (codes "shrink")
+    ∷ kept_command (codes "migrate")
+    ∷ file_command (codes "stat") ∷ draw_command ∷ dump_command ∷ names_command ∷ load_command
+    ∷ taking (codes "lint") [] ∷ taking (codes "language") [] ∷ []
 
 abbrev pub command_line : App
 command_line = fold with_subcommand program subcommands
@@ -117,23 +134,25 @@ pub data Origin : Type 0 where
   from_file : Text → Origin
   from_lines : List Text → Origin
 
--- a file goes by its path; a file that is written may have how it is saved, and how many seconds are waited for it; a run
--- may also have a script, and whether it is strict, and its answers are numbered; a check of all says whether it is quiet;
+-- a file goes by its path; a file that is written may have how it is saved, and how many seconds are waited for it; a
+-- run
+-- may also have a script, and whether it is strict, and its answers are numbered; a check of all says whether it is
+-- quiet;
 -- names begin with a text and may be limited; a load has a size or takes the least
 pub data Asked : Type 0 where
   create : Text → ℕ → Asked
   run : Text → ModeName → Option ℕ → Asked
-  run_with : Text → ModeName → Option ℕ → Origin → Saving → ℕ → Bool → Bool → Asked
+  run_with : Text → ModeName → Option ℕ → Origin → SaveMode → ℕ → Bool → Bool → Asked
   check : Text → Asked
   check_all : List Text → Bool → Asked
   explain : Text → Asked
   grow : Text → ℕ → Asked
   shrink : Text → Asked
   migrate : Text → Asked
-  change_with : Text → Change → Saving → ℕ → Asked
+  change_with : Text → FileChange → SaveMode → ℕ → Asked
   tell : Text → Report → Asked
   names : Text → Text → Option ℕ → Asked
-  load : Text → Option ℕ → Saving → ℕ → Asked
+  load : Text → Option ℕ → SaveMode → ℕ → Asked
   lint : Asked
   language : Asked
   version : Asked
@@ -150,7 +169,9 @@ script_text = flat_map (λ line. line.now ++ 0x0A ∷ [])
 abbrev pub asked_by : Invocation → Asked
 asked_by (Create file size) = create file.now size
 asked_by (Run file mode size) = run file.now mode size
-asked_by (RunWith file mode size how) = run_with file.now mode size (origin_by how.script) how.keeping.saving how.keeping.wait how.answering.strict how.answering.numbered
+asked_by (RunWith file mode size how) =
+    run_with file.now mode size (origin_by how.script) how.keeping.saving how.keeping.wait how.answering.strict
+    how.answering.numbered
 asked_by (Check file) = check file.now
 asked_by (CheckAll files quiet) = check_all (map (λ s. s.now) files.items) quiet
 asked_by (Explain file) = explain file.now
@@ -203,7 +224,7 @@ is_set None = false
 is_set (Some word) = bytes_eq word (codes "true")
 
 -- how a file is saved, by what stands for `--replace`
-abbrev pub saving_of : Option Text → Saving
+abbrev pub saving_of : Option Text → SaveMode
 saving_of word = if is_set word then Replacing else InPlace
 
 -- for how many seconds a file is waited for, by what stands for `--wait`
@@ -218,29 +239,30 @@ origin_of (Some path) [] = Some (from_file path)
 origin_of (Some path) (line ∷ rest) = None
 
 -- no option says otherwise how a file is taken and saved
-abbrev pub is_plain : Saving → ℕ → Bool
+abbrev pub is_plain : SaveMode → ℕ → Bool
 is_plain InPlace wait = wait == 0
 is_plain Replacing wait = false
 
 -- no option says otherwise what a run is asked for
-abbrev pub is_plain_run : Origin → Saving → ℕ → Bool → Bool → Bool
+abbrev pub is_plain_run : Origin → SaveMode → ℕ → Bool → Bool → Bool
 is_plain_run input saving wait strict numbered = is_plain saving wait && (not strict && not numbered)
 is_plain_run origin saving wait strict numbered = false
 
 -- a run, with its options where there are some
-abbrev pub ran : Text → ModeName → Option ℕ → Origin → Saving → ℕ → Bool → Bool → Asked
+abbrev pub ran : Text → ModeName → Option ℕ → Origin → SaveMode → ℕ → Bool → Bool → Asked
 ran file mode size origin saving wait strict numbered =
     if is_plain_run origin saving wait strict numbered then run file mode size
     else run_with file mode size origin saving wait strict numbered
 
 -- a change without options, and one with its options where there are some
-abbrev pub plain_change : Text → Change → Asked
+abbrev pub plain_change : Text → FileChange → Asked
 plain_change file (change.Grow bytes) = grow file bytes
 plain_change file change.Shrink = shrink file
 plain_change file change.Migrate = migrate file
 
-abbrev pub asked_change : Text → Change → Saving → ℕ → Asked
-asked_change file change saving wait = if is_plain saving wait then plain_change file change else change_with file change saving wait
+abbrev pub asked_change : Text → FileChange → SaveMode → ℕ → Asked
+asked_change file change saving wait =
+    if is_plain saving wait then plain_change file change else change_with file change saving wait
 
 -- the values of a word that may stand there more than once
 abbrev pub list_of : Text → List Row → List Text
@@ -251,13 +273,15 @@ abbrev pub with_file : (Text → Option Asked) → List Row → Option Asked
 with_file ask words = option_and_then ask (first_of (codes "file") words)
 
 abbrev pub with_number : (Text → ℕ → Option Asked) → List Row → Option Asked
-with_number ask words = with_file (λ file. option_and_then (ask file) (option_and_then number_of (first_of (codes "number") words))) words
+with_number ask words = with_file (λ file.
+    option_and_then (ask file) (option_and_then number_of (first_of (codes "number") words))) words
 
 -- how a file is taken and saved: the flag --replace, and the seconds of --wait
-abbrev pub with_kept : (Saving → ℕ → Asked) → List Row → Option Asked
-with_kept ask words = option_map (ask (saving_of (first_of (codes "replace") words))) (seconds_of (first_of (codes "wait") words))
+abbrev pub with_kept : (SaveMode → ℕ → Asked) → List Row → Option Asked
+with_kept ask words = option_map (ask (saving_of (first_of (codes "replace") words)))
+    (seconds_of (first_of (codes "wait") words))
 
-abbrev pub asked_kept : Change → List Row → Option Asked
+abbrev pub asked_kept : FileChange → List Row → Option Asked
 asked_kept change words = with_file (λ file. with_kept (asked_change file change) words) words
 
 abbrev pub asked_grow : List Row → Option Asked
@@ -272,23 +296,31 @@ checked_of file files explains quiet =
     else Some (check file)
 
 abbrev pub asked_check : List Row → Option Asked
-asked_check words = with_file (λ file. checked_of file (list_of (codes "file") words) (is_set (first_of (codes "explain") words)) (is_set (first_of (codes "quiet") words))) words
+asked_check words = with_file (λ file.
+    checked_of file (list_of (codes "file") words) (is_set (first_of (codes "explain") words))
+    (is_set (first_of (codes "quiet") words))) words
 
 -- a picture's file, and its flag --html
 abbrev pub asked_draw : List Row → Option Asked
-asked_draw words = with_file (λ file. Some (tell file (if is_set (first_of (codes "html") words) then Page else Picture))) words
+asked_draw words = with_file (λ file.
+    Some (tell file (if is_set (first_of (codes "html") words) then Page else Picture))) words
 
 -- a dump's file, and its flags --json and --capacities
 abbrev pub asked_dump : List Row → Option Asked
-asked_dump words = with_file (λ file. Some (tell file (if is_set (first_of (codes "json") words) then Json else if is_set (first_of (codes "capacities") words) then Capacities else Dump))) words
+asked_dump words = with_file (λ file.
+    Some (tell file (if is_set (first_of (codes "json") words) then Json else if is_set
+    (first_of (codes "capacities") words) then Capacities else Dump))) words
 
 -- the file of names, what they begin with, and how many there are at most
 abbrev pub asked_names : List Row → Option Asked
-asked_names words = with_file (λ file. option_map (names file (unwrap_or (first_of (codes "prefix") words) [])) (size_of (first_of (codes "most") words))) words
+asked_names words = with_file (λ file.
+    option_map (names file (unwrap_or (first_of (codes "prefix") words) []))
+    (size_of (first_of (codes "most") words))) words
 
 -- a load's file and size
 abbrev pub asked_load : List Row → Option Asked
-asked_load words = with_file (λ file. option_and_then (λ size. with_kept (load file size) words) (size_of (first_of (codes "size") words))) words
+asked_load words = with_file (λ file.
+    option_and_then (λ size. with_kept (load file size) words) (size_of (first_of (codes "size") words))) words
 
 -- a run's file, mode, size, script and lines, and its words --replace, --wait, --strict and --numbered
 pub record RunWords : Type 0 where
@@ -327,7 +359,8 @@ run_sized said file mode size origin wait =
 
 abbrev pub asked_of_run : RunWords → Option Asked
 asked_of_run said =
-    option_and_then (λ file. option_and_then (λ mode. option_and_then (λ size. option_and_then (λ wait. option_and_then (λ origin.
+    option_and_then (λ file. option_and_then (λ mode.
+    option_and_then (λ size. option_and_then (λ wait. option_and_then (λ origin.
     run_sized said file mode size origin wait)
     (origin_of said.script said.lines)) (seconds_of said.wait)) (size_of said.size)) (mode_of said.mode)) said.file
 
@@ -363,8 +396,8 @@ IsAskedBy words a = ((fault_of command_line words ≡ []) × (asked_of (subcomma
     ⊎ ((a ≡ version) × IsAmong DisplayVersion (fault_of command_line words))
 
 -- an answer is what is wanted, and an error stands for nothing
-abbrev pub Reads : {A E : Type 0} → Option A → Result A E → Type 0
-Reads wanted result = MatchResult result (λ a. wanted ≡ Some a) (λ e. wanted ≡ None)
+abbrev pub ParsesTo : {A E : Type 0} → Option A → Result A E → Type 0
+ParsesTo wanted result = MatchResult result (λ a. wanted ≡ Some a) (λ e. wanted ≡ None)
 
 -- ---- what is wrong with words that ask for nothing
 
@@ -389,13 +422,15 @@ wrong_by Size = Some no_size
 wrong_by TwoScripts = Some two_scripts
 wrong_by Files = Some many_files
 
--- of a run the first of these: its mode is none, its size is no number, it lacks a size, the seconds are no number, it has
+-- of a run the first of these: its mode is none, its size is no number, it lacks a size, the seconds are no number, it
+-- has
 -- two scripts
 abbrev pub wrong_run : RunWords → Wrong
 wrong_run said =
     if not (is_some (mode_of said.mode)) then no_mode
     else if not (is_some (size_of said.size)) then no_number
-    else if option_map_or (λ mode. lacks_size mode (unwrap_or (size_of said.size) None)) (mode_of said.mode) false then no_size
+    else if option_map_or (λ mode. lacks_size mode (unwrap_or (size_of said.size) None)) (mode_of said.mode) false
+    then no_size
     else if is_some (seconds_of said.wait) then two_scripts
     else no_number
 
@@ -452,10 +487,11 @@ IsSizePart words mode size = IsNumberPart (codes "--size") words size × (lacks_
 
 -- `--wait N`, which may be left out for no time
 abbrev pub IsWaitPart : List Text → ℕ → Type 0
-IsWaitPart words wait = (seconds : Option ℕ) × IsNumberPart (codes "--wait") words seconds × (wait ≡ unwrap_or seconds 0)
+IsWaitPart words wait = (seconds : Option ℕ) × IsNumberPart (codes "--wait") words seconds
+    × (wait ≡ unwrap_or seconds 0)
 
 -- `--replace`, which is left out where the file is emptied
-abbrev pub saving_part : Saving → List Text
+abbrev pub saving_part : SaveMode → List Text
 saving_part InPlace = []
 saving_part Replacing = codes "--replace" ∷ []
 
@@ -464,8 +500,9 @@ abbrev pub flag_part : Text → Bool → List Text
 flag_part word true = word ∷ []
 flag_part word false = []
 
-abbrev pub flag_words : Saving → Bool → Bool → List Text
-flag_words saving strict numbered = saving_part saving ++ (flag_part (codes "--strict") strict ++ flag_part (codes "--numbered") numbered)
+abbrev pub flag_words : SaveMode → Bool → Bool → List Text
+flag_words saving strict numbered =
+    saving_part saving ++ (flag_part (codes "--strict") strict ++ flag_part (codes "--numbered") numbered)
 
 -- the lines of a script, each behind `-c`
 abbrev pub line_words : List Text → List Text
@@ -477,7 +514,8 @@ abbrev pub IsOriginPart : List Text → Origin → Type 0
 IsOriginPart words input = words ≡ []
 IsOriginPart words (from_file path) = IsTrue (is_path path) × (words ≡ path ∷ [])
 IsOriginPart words (from_lines []) = ⊥
-IsOriginPart words (from_lines (line ∷ rest)) = IsTrue (list_all is_path (line ∷ rest)) × (words ≡ line_words (line ∷ rest))
+IsOriginPart words (from_lines (line ∷ rest)) = IsTrue (list_all is_path (line ∷ rest))
+    × (words ≡ line_words (line ∷ rest))
 
 -- `NAME TEXT`, which may be left out
 abbrev pub IsPart : Text → List Text → Text → Type 0
@@ -485,20 +523,24 @@ IsPart name words [] = words ≡ []
 IsPart name words (c ∷ cs) = IsTrue (is_path (c ∷ cs)) × (words ≡ name ∷ (c ∷ cs) ∷ [])
 
 -- a run, with its script from standard input, or else with no other word than the script
-abbrev pub IsRunWritten : Text → ModeName → Option ℕ → Origin → Saving → ℕ → Bool → Bool → List Text → Type 0
-IsRunWritten file mode size input saving wait strict numbered words = (modes : List Text) × (sizes : List Text) × (waits : List Text)
+abbrev pub IsRunWritten : Text → ModeName → Option ℕ → Origin → SaveMode → ℕ → Bool → Bool → List Text → Type 0
+IsRunWritten file mode size input saving wait strict numbered words = (modes : List Text) × (sizes : List Text)
+    × (waits : List Text)
     × IsModePart modes mode × IsSizePart sizes mode size × IsWaitPart waits wait
     × (words ≡ codes "run" ∷ file ∷ modes ++ (sizes ++ (waits ++ flag_words saving strict numbered)))
-IsRunWritten file mode size origin saving wait strict numbered words = (origins : List Text) × IsOriginPart origins origin
-    × (mode ≡ OpenOnly) × (size ≡ None) × (saving ≡ InPlace) × (wait ≡ 0) × (strict ≡ false) × (numbered ≡ false) × (words ≡ codes "run" ∷ file ∷ origins)
+IsRunWritten file mode size origin saving wait strict numbered words =
+    (origins : List Text) × IsOriginPart origins origin
+    × (mode ≡ OpenOnly) × (size ≡ None) × (saving ≡ InPlace) × (wait ≡ 0) × (strict ≡ false) × (numbered ≡ false)
+    × (words ≡ codes "run" ∷ file ∷ origins)
 
 -- a change and its file, and behind them its options
-abbrev pub IsChangePart : List Text → Text → Change → Type 0
-IsChangePart words file (change.Grow bytes) = (digits : Text) × (number_of digits ≡ Some bytes) × (words ≡ codes "grow" ∷ file ∷ digits ∷ [])
+abbrev pub IsChangePart : List Text → Text → FileChange → Type 0
+IsChangePart words file (change.Grow bytes) = (digits : Text) × (number_of digits ≡ Some bytes)
+    × (words ≡ codes "grow" ∷ file ∷ digits ∷ [])
 IsChangePart words file change.Shrink = words ≡ codes "shrink" ∷ file ∷ []
 IsChangePart words file change.Migrate = words ≡ codes "migrate" ∷ file ∷ []
 
-abbrev pub IsChangeWritten : Text → Change → Saving → ℕ → List Text → Type 0
+abbrev pub IsChangeWritten : Text → FileChange → SaveMode → ℕ → List Text → Type 0
 IsChangeWritten file change saving wait words = IsTrue (is_path file) × (changes : List Text) × (waits : List Text)
     × IsChangePart changes file change × IsWaitPart waits wait × (words ≡ changes ++ (waits ++ saving_part saving))
 
@@ -513,21 +555,28 @@ report_words Json file = codes "dump" ∷ file ∷ codes "--json" ∷ []
 
 -- the words behind the program's name say what is asked for
 abbrev pub IsWritten : Asked → List Text → Type 0
-IsWritten (create file size) words = IsTrue (is_path file) × (digits : Text) × (number_of digits ≡ Some size) × (words ≡ codes "create" ∷ file ∷ digits ∷ [])
-IsWritten (run file mode size) words = IsTrue (is_path file) × IsRunWritten file mode size input InPlace 0 false false words
-IsWritten (run_with file mode size origin saving wait strict numbered) words = IsTrue (is_path file) × (is_plain_run origin saving wait strict numbered ≡ false)
+IsWritten (create file size) words = IsTrue (is_path file) × (digits : Text) × (number_of digits ≡ Some size)
+    × (words ≡ codes "create" ∷ file ∷ digits ∷ [])
+IsWritten (run file mode size) words =
+    IsTrue (is_path file) × IsRunWritten file mode size input InPlace 0 false false words
+IsWritten (run_with file mode size origin saving wait strict numbered) words =
+    IsTrue (is_path file) × (is_plain_run origin saving wait strict numbered ≡ false)
     × IsRunWritten file mode size origin saving wait strict numbered words
 IsWritten (check file) words = IsTrue (is_path file) × (words ≡ codes "check" ∷ file ∷ [])
-IsWritten (check_all files quiet) words = (file : Text) × IsTrue (is_path file) × (files ≡ file ∷ []) × (quiet ≡ true) × (words ≡ codes "check" ∷ file ∷ codes "--quiet" ∷ [])
+IsWritten (check_all files quiet) words = (file : Text) × IsTrue (is_path file) × (files ≡ file ∷ [])
+    × (quiet ≡ true) × (words ≡ codes "check" ∷ file ∷ codes "--quiet" ∷ [])
 IsWritten (explain file) words = IsTrue (is_path file) × (words ≡ codes "check" ∷ file ∷ codes "--explain" ∷ [])
 IsWritten (grow file bytes) words = IsChangeWritten file (change.Grow bytes) InPlace 0 words
 IsWritten (shrink file) words = IsChangeWritten file change.Shrink InPlace 0 words
 IsWritten (migrate file) words = IsChangeWritten file change.Migrate InPlace 0 words
-IsWritten (change_with file change saving wait) words = (is_plain saving wait ≡ false) × IsChangeWritten file change saving wait words
+IsWritten (change_with file change saving wait) words = (is_plain saving wait ≡ false)
+    × IsChangeWritten file change saving wait words
 IsWritten (tell file what) words = IsTrue (is_path file) × (words ≡ report_words what file)
-IsWritten (names file prefix most) words = IsTrue (is_path file) × (prefixes : List Text) × (mosts : List Text) × IsPart (codes "--prefix") prefixes prefix × IsNumberPart (codes "--most") mosts most
+IsWritten (names file prefix most) words = IsTrue (is_path file) × (prefixes : List Text) × (mosts : List Text)
+    × IsPart (codes "--prefix") prefixes prefix × IsNumberPart (codes "--most") mosts most
     × (words ≡ codes "names" ∷ file ∷ prefixes ++ mosts)
-IsWritten (load file size saving wait) words = IsTrue (is_path file) × (sizes : List Text) × (waits : List Text) × IsNumberPart (codes "--size") sizes size × IsWaitPart waits wait
+IsWritten (load file size saving wait) words = IsTrue (is_path file) × (sizes : List Text) × (waits : List Text)
+    × IsNumberPart (codes "--size") sizes size × IsWaitPart waits wait
     × (words ≡ codes "load" ∷ file ∷ sizes ++ (waits ++ saving_part saving))
 IsWritten lint words = words ≡ codes "lint" ∷ []
 IsWritten language words = words ≡ codes "language" ∷ []

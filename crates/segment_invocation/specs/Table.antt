@@ -4,11 +4,11 @@ use denote.Ref.{Bor}
 use Rattle.clap.specs.Walk.{Rule, Text}
 use Rattle.clap.specs.Simple.{Shape, new_app, with_rule}
 use Rattle.segment_invocation.specs.Invocations.{flag, lines, maybe, operand, operands, option}
-use Rattle.segment_invocation.specs.declared.command_line.Word.{Word}
-use Rattle.segment_invocation.specs.declared.command_line.Word.TheVariants as word
+use Rattle.segment_invocation.specs.declared.command_line.CommandWord.{CommandWord}
+use Rattle.segment_invocation.specs.declared.command_line.CommandWord.TheVariants as word
 
 -- a word, as clap reads it
-abbrev pub word_rule : Word → Rule
+abbrev pub word_rule : CommandWord → Rule
 word_rule (word.Operand name shown help) = operand name.now
 word_rule (word.Operands name shown help) = operands name.now
 word_rule (word.Optional name shown help) = maybe name.now
@@ -17,9 +17,9 @@ word_rule (word.Option name shown help) = option name.now
 word_rule (word.Flag name help) = flag name.now
 
 -- a command's name, what it does, what its help has at the end, and its words
-abbrev pub Row : Type 0
-Row = Bor Text × Bor Text × Option (Bor Text) × Bor (List Word)
+abbrev pub CommandSpec : Type 0
+CommandSpec = Bor Text × Bor Text × Option (Bor Text) × Bor (List CommandWord)
 
 -- a command, as clap reads it
-abbrev pub row_shape : Row → Shape
+abbrev pub row_shape : CommandSpec → Shape
 row_shape row = (fold with_rule (new_app row.0.now) (map word_rule row.3.now)).top

@@ -1,5 +1,6 @@
 //! What the words of a command line ask for.
-ghost use Rattle.std.specs.Prelude.{◌≡◌, false, Some, None, Ok, Err, map, drop, codes, IfErr, IfOk, MatchResult, option_map, option_and_then, unwrap_or};
+ghost use Rattle.std.specs.Prelude.{◌≡◌, false, Some, None, Ok, Err, map, drop, codes, IfErr, IfOk, MatchResult};
+ghost use Rattle.std.specs.Prelude.{option_map, option_and_then, unwrap_or};
 ghost use Rattle.std.specs.List.{list_any};
 ghost use Rattle.std.specs.Str.{bytes_eq};
 ghost use Rattle.clap.specs.Matches.{found_of};
@@ -7,14 +8,18 @@ ghost use Rattle.clap.specs.Values.{kind_of};
 ghost use Rattle.clap.specs.Walk.{first_of, rows_of};
 ghost use Rattle.clap.specs.declared.error.kind.ErrorKind.TheVariants.{DisplayVersion, OutOfMemory as NoMemory};
 ghost use Rattle.segment_lang.specs.Words.{number_of};
-ghost use Rattle.segment_invocation.specs.Invocations.{Asked, IsAskedBy, IsWritten, IsWrongBy, Reads, asked_by, asked_change, asked_check, asked_in, asked_run, is_set, list_of, many_files, mode_of, no_mode, no_number, origin_by, origin_of, run_words, saving_of, seconds_of, size_of, two_scripts, wrong_by, wrong_in, wrong_run};
+ghost use Rattle.segment_invocation.specs.Invocations.{Asked, IsAskedBy, IsWritten, IsWrongBy, ParsesTo, asked_by};
+ghost use Rattle.segment_invocation.specs.Invocations.{asked_change, asked_check, asked_in, asked_run, is_set, list_of};
+ghost use Rattle.segment_invocation.specs.Invocations.{many_files, mode_of, no_mode, no_number, origin_by, origin_of};
+ghost use Rattle.segment_invocation.specs.Invocations.{run_words, saving_of, seconds_of, size_of, two_scripts};
+ghost use Rattle.segment_invocation.specs.Invocations.{wrong_by, wrong_in, wrong_run};
 ghost use Rattle.segment_invocation.specs.declared.invocations.Invocation.TheVariants.{Version};
 ghost use Rattle.segment_invocation.specs.declared.usage.InvocationFault.TheVariants.{OutOfMemory, Usage};
 ghost use Rattle.segment_invocation.specs.declared.usage.UsageError.TheVariants.{Words};
 
 use crate::command_line::command_line;
 use crate::invocations::{
-    Answering, Change, Invocation, Keeping, ModeName, Report, Running, Saving, Script,
+    Answering, FileChange, Invocation, Keeping, ModeName, Report, Running, SaveMode, Script,
 };
 use crate::nearest::nearest_mode;
 use crate::usage::{InvocationFault, UsageError};
@@ -45,8 +50,8 @@ fn texts_in<'a>(alloc: Global, words: &ArgMatches<'a>, id: &str) -> Result<Vec<&
 
 /// The mode of a run, `open_only` where none is named.
 fn mode_in(alloc: Global, words: &ArgMatches<'_>) -> Result<ModeName, UsageError>
-    ensures read { Reads (mode_of (first_of (codes "mode") (rows_of (found_of words.now)))) result }
-    ensures wrong { IfErr result (λ e. wrong_by e ≡ Some no_mode) }
+    ensures read { ParsesTo (mode_of (first_of (codes "mode") (rows_of (found_of words.now)))) result }
+    ensures error { IfErr result (λ e. wrong_by e ≡ Some no_mode) }
 {
     match word_of(words, "mode") {
         Some(word) => match ModeName::called(word) {
@@ -59,8 +64,8 @@ fn mode_in(alloc: Global, words: &ArgMatches<'_>) -> Result<ModeName, UsageError
 
 /// The number behind an option, if there is one.
 fn count_in(words: &ArgMatches<'_>, id: &str) -> Result<Option<u64>, UsageError>
-    ensures read { Reads (size_of (first_of id.now (rows_of (found_of words.now)))) result }
-    ensures wrong { IfErr result (λ e. wrong_by e ≡ Some no_number) }
+    ensures read { ParsesTo (size_of (first_of id.now (rows_of (found_of words.now)))) result }
+    ensures error { IfErr result (λ e. wrong_by e ≡ Some no_number) }
 {
     match word_of(words, id) {
         Some(word) => match number_of(word.as_bytes()) {
@@ -74,8 +79,9 @@ fn count_in(words: &ArgMatches<'_>, id: &str) -> Result<Option<u64>, UsageError>
 /// The number of a command.
 #[tactic(auto, using(crate::proofs::Filed::number_read, crate::proofs::Filed::no_number_read, crate::proofs::Filed::number_unread))]
 fn number_in(words: &ArgMatches<'_>) -> Result<u64, UsageError>
-    ensures read { Reads (option_and_then number_of (first_of (codes "number") (rows_of (found_of words.now)))) result }
-    ensures wrong { IfErr result (λ e. wrong_by e ≡ Some no_number) }
+    ensures read { ParsesTo (option_and_then number_of (first_of (codes "number") (rows_of (found_of words.now))))
+        result }
+    ensures error { IfErr result (λ e. wrong_by e ≡ Some no_number) }
 {
     match count_in(words, "number")? {
         Some(number) => Ok(number),
@@ -92,16 +98,17 @@ fn is_set(words: &ArgMatches<'_>, id: &str) -> bool
 
 /// How the file of a command is taken and saved.
 fn keeping_in(words: &ArgMatches<'_>) -> Result<Keeping, UsageError>
-    ensures saving { IfOk result (λ k. k.saving ≡ saving_of (first_of (codes "replace") (rows_of (found_of words.now)))) }
-    ensures read { MatchResult result (λ k. seconds_of (first_of (codes "wait") (rows_of (found_of words.now))) ≡ Some k.wait)
+    ensures save { IfOk result (λ k. k.saving ≡ saving_of (first_of (codes "replace") (rows_of (found_of words.now)))) }
+    ensures read { MatchResult result (λ k. seconds_of (first_of (codes "wait") (rows_of (found_of words.now)))
+        ≡ Some k.wait)
         (λ e. seconds_of (first_of (codes "wait") (rows_of (found_of words.now))) ≡ None) }
-    ensures wrong { IfErr result (λ e. wrong_by e ≡ Some no_number) }
+    ensures error { IfErr result (λ e. wrong_by e ≡ Some no_number) }
 {
     let wait = count_in(words, "wait")?.unwrap_or(0);
     let saving = if is_set(words, "replace") {
-        Saving::Replacing
+        SaveMode::Replacing
     } else {
-        Saving::InPlace
+        SaveMode::InPlace
     };
     Ok(Keeping { saving, wait })
 }
@@ -109,9 +116,11 @@ fn keeping_in(words: &ArgMatches<'_>) -> Result<Keeping, UsageError>
 /// Where the script of a run comes from, that has these lines on the command line.
 fn script_in<'a>(words: &ArgMatches<'a>, lines: Vec<&'a str>) -> Result<Script<'a>, UsageError>
     ensures read { MatchResult result
-        (λ s. origin_of (first_of (codes "script") (rows_of (found_of words.now))) (map (λ l. l.now) lines.entry.items) ≡ Some (origin_by s))
-        (λ e. origin_of (first_of (codes "script") (rows_of (found_of words.now))) (map (λ l. l.now) lines.entry.items) ≡ None) }
-    ensures wrong { IfErr result (λ e. wrong_by e ≡ Some two_scripts) }
+        (λ s. origin_of (first_of (codes "script") (rows_of (found_of words.now)))
+        (map (λ l. l.now) lines.entry.items) ≡ Some (origin_by s))
+        (λ e. origin_of (first_of (codes "script") (rows_of (found_of words.now)))
+        (map (λ l. l.now) lines.entry.items) ≡ None) }
+    ensures error { IfErr result (λ e. wrong_by e ≡ Some two_scripts) }
 {
     match word_of(words, "script") {
         Some(path) if lines.is_empty() => Ok(Script::File(path)),
@@ -132,7 +141,7 @@ fn read_run<'a>(
     requires lines { map (λ l. l.now) lines.items ≡ list_of (codes "line") (rows_of (found_of words.now)) }
     ensures read { MatchResult result (λ i. asked_run (rows_of (found_of words.now)) ≡ Some (asked_by i))
         (λ e. asked_run (rows_of (found_of words.now)) ≡ None) }
-    ensures wrong { IfErr result (λ e. wrong_by e ≡ Some (wrong_run (run_words (rows_of (found_of words.now))))) }
+    ensures error { IfErr result (λ e. wrong_by e ≡ Some (wrong_run (run_words (rows_of (found_of words.now))))) }
 {
     let mode = mode_in(alloc, words)?;
     let size = count_in(words, "size")?;
@@ -164,7 +173,7 @@ fn read_check<'a>(
     requires files { map (λ f. f.now) files.items ≡ list_of (codes "file") (rows_of (found_of words.now)) }
     ensures read { MatchResult result (λ i. asked_check (rows_of (found_of words.now)) ≡ Some (asked_by i))
         (λ e. asked_check (rows_of (found_of words.now)) ≡ None) }
-    ensures wrong { IfErr result (λ e. wrong_by e ≡ Some many_files) }
+    ensures error { IfErr result (λ e. wrong_by e ≡ Some many_files) }
 {
     let are_many = files.len() > 1;
     match (is_set(words, "explain"), is_set(words, "quiet")) {
@@ -176,14 +185,14 @@ fn read_check<'a>(
 }
 
 /// A change of the segment in a file, with how that file is taken and saved where an option says so.
-fn change_of<'a>(file: &'a str, change: Change, keeping: Keeping) -> Invocation<'a>
+fn change_of<'a>(file: &'a str, change: FileChange, keeping: Keeping) -> Invocation<'a>
     ensures { asked_by result ≡ asked_change file.now change keeping.saving keeping.wait }
 {
     match change {
         _ if !keeping.is_plain() => Invocation::ChangeWith(file, change, keeping),
-        Change::Grow(bytes) => Invocation::Grow(file, bytes),
-        Change::Shrink => Invocation::Shrink(file),
-        Change::Migrate => Invocation::Migrate(file),
+        FileChange::Grow(bytes) => Invocation::Grow(file, bytes),
+        FileChange::Shrink => Invocation::Shrink(file),
+        FileChange::Migrate => Invocation::Migrate(file),
     }
 }
 
@@ -200,7 +209,7 @@ fn read_command<'a>(
     requires lines { map (λ l. l.now) lines.items ≡ list_of (codes "line") (rows_of (found_of words.now)) }
     ensures read { MatchResult result (λ i. asked_in name.now (rows_of (found_of words.now)) ≡ Some (asked_by i))
         (λ e. asked_in name.now (rows_of (found_of words.now)) ≡ None) }
-    ensures wrong { IfErr result (λ e. wrong_by e ≡ Some (wrong_in name.now (rows_of (found_of words.now)))) }
+    ensures error { IfErr result (λ e. wrong_by e ≡ Some (wrong_in name.now (rows_of (found_of words.now)))) }
 {
     if name == "lint" {
         return Ok(Invocation::Lint);
@@ -217,10 +226,10 @@ fn read_command<'a>(
         "check" => read_check(file, words, files),
         "grow" => {
             let bytes = number_in(words)?;
-            Ok(change_of(file, Change::Grow(bytes), keeping_in(words)?))
+            Ok(change_of(file, FileChange::Grow(bytes), keeping_in(words)?))
         }
-        "shrink" => Ok(change_of(file, Change::Shrink, keeping_in(words)?)),
-        "migrate" => Ok(change_of(file, Change::Migrate, keeping_in(words)?)),
+        "shrink" => Ok(change_of(file, FileChange::Shrink, keeping_in(words)?)),
+        "migrate" => Ok(change_of(file, FileChange::Migrate, keeping_in(words)?)),
         "stat" => Ok(Invocation::Tell(file, Report::Figures)),
         "draw" if is_set(words, "html") => Ok(Invocation::Tell(file, Report::Page)),
         "draw" => Ok(Invocation::Tell(file, Report::Picture)),
@@ -243,10 +252,10 @@ fn read_command<'a>(
 fn read_other<'a>(other: Misread) -> Result<Invocation<'a>, InvocationFault>
     ensures version { kind_of other ≡ DisplayVersion → result ≡ Ok Version }
     ensures memory { kind_of other ≡ NoMemory → result ≡ Err OutOfMemory }
-    ensures wrong { (kind_of other ≡ DisplayVersion → ⊥) → (kind_of other ≡ NoMemory → ⊥)
+    ensures error { (kind_of other ≡ DisplayVersion → ⊥) → (kind_of other ≡ NoMemory → ⊥)
         → result ≡ Err (Usage (Words other)) }
-    ensures only { IfOk result (λ i. (i ≡ Version) × (kind_of other ≡ DisplayVersion)) }
-    ensures told { (w : UsageError) → result ≡ Err (Usage w) → (w ≡ Words other) × (kind_of other ≡ NoMemory → ⊥) }
+    ensures uniqueness { IfOk result (λ i. (i ≡ Version) × (kind_of other ≡ DisplayVersion)) }
+    ensures result { (w : UsageError) → result ≡ Err (Usage w) → (w ≡ Words other) × (kind_of other ≡ NoMemory → ⊥) }
 {
     if other.kind() == ErrorKind::DisplayVersion {
         return Ok(Invocation::Version);
@@ -265,7 +274,8 @@ pub fn invocation<'a>(
     words: &'a [&'a str],
 ) -> Result<Invocation<'a>, InvocationFault>
     ensures read { IfOk result (λ i. IsAskedBy (map (λ s. s.now) words.now) (asked_by i)) }
-    ensures given { (a : Asked) → IsWritten a (drop 1 (map (λ s. s.now) words.now)) → MatchResult result (λ i. asked_by i ≡ a) (λ e. e ≡ OutOfMemory) }
+    ensures input { (a : Asked) → IsWritten a (drop 1 (map (λ s. s.now) words.now))
+        → MatchResult result (λ i. asked_by i ≡ a) (λ e. e ≡ OutOfMemory) }
     ensures refused { (w : UsageError) → result ≡ Err (Usage w) → IsWrongBy (map (λ s. s.now) words.now) w }
 {
     let matches = match command_line(alloc)?.try_get_matches_from(words) {

@@ -110,7 +110,7 @@ Example:
 const SIZES: &str = "A number of bytes: 144, or a multiple of 16 from 176 to 1073741824";
 
 /// A word of a command, with its name and what help says of it.
-pub enum Word {
+pub enum CommandWord {
     /// A value in its place, which must be there; help calls it by the second text.
     Operand(&'static str, &'static str, &'static str),
     /// The same, and there may be more of them.
@@ -130,20 +130,32 @@ type Row = (
     &'static str,
     &'static str,
     Option<&'static str>,
-    &'static [Word],
+    &'static [CommandWord],
 );
 
 /// The file of a command.
-const FILE: Word = Word::Operand("file", "FILE", "The path of the file with the segment");
+const FILE: CommandWord = CommandWord::Operand(
+    "file",
+    "FILE",
+    "The path of the file with the segment",
+);
 
 /// The files of a check.
-const FILES: Word = Word::Operands("file", "FILE", "The path of the file with the segment");
+const FILES: CommandWord = CommandWord::Operands(
+    "file",
+    "FILE",
+    "The path of the file with the segment",
+);
 
 /// The script of a run, as a file.
-const SCRIPT: Word = Word::Optional("script", "SCRIPT", "The path of a file with the script");
+const SCRIPT: CommandWord = CommandWord::Optional(
+    "script",
+    "SCRIPT",
+    "The path of a file with the script",
+);
 
 /// A line of the script of a run.
-const LINE: Word = Word::Short(
+const LINE: CommandWord = CommandWord::Short(
     "line",
     'c',
     "LINE",
@@ -151,84 +163,91 @@ const LINE: Word = Word::Short(
 );
 
 /// The size of a segment that is made.
-const SIZE: Word = Word::Operand("number", "SIZE", SIZES);
+const SIZE: CommandWord = CommandWord::Operand("number", "SIZE", SIZES);
 
 /// By how much a segment grows.
-const BYTES: Word = Word::Operand("number", "BYTES", "A multiple of 16 from 32 on");
+const BYTES: CommandWord = CommandWord::Operand("number", "BYTES", "A multiple of 16 from 32 on");
 
 /// The mode of a run.
-const MODE: Word = Word::Option("mode", "MODE", "One of the five modes below");
+const MODE: CommandWord = CommandWord::Option("mode", "MODE", "One of the five modes below");
 
 /// The size of a segment that a run makes.
-const RUN_SIZE: Word = Word::Option("size", "SIZE", SIZES);
+const RUN_SIZE: CommandWord = CommandWord::Option("size", "SIZE", SIZES);
 
 /// What is done to a file that is saved.
-const REPLACE: Word = Word::Flag(
+const REPLACE: CommandWord = CommandWord::Flag(
     "replace",
     "The image goes to a new file, FILE.new, which then takes the place of FILE: one of the two is whole at each moment",
 );
 
 /// How long a file is waited for that another program writes.
-const WAIT: Word = Word::Option(
+const WAIT: CommandWord = CommandWord::Option(
     "wait",
     "SECONDS",
     "How long to wait for FILE where another program writes it; without it that is told at once",
 );
 
 /// What a run does behind an error.
-const STRICT: Word = Word::Flag(
+const STRICT: CommandWord = CommandWord::Flag(
     "strict",
     "The first answer that is an error ends the run, with status 1, and nothing is saved",
 );
 
 /// How the answers of a run are told apart.
-const NUMBERED: Word = Word::Flag(
+const NUMBERED: CommandWord = CommandWord::Flag(
     "numbered",
     "Each line of an answer stands behind the number of the line that it answers, as in '3: #192'",
 );
 
 /// What a check says beside the class.
-const EXPLAIN: Word = Word::Flag(
+const EXPLAIN: CommandWord = CommandWord::Flag(
     "explain",
     "Where FILE holds no segment, tells in words why, and at which byte, from 0 on, that shows",
 );
 
 /// What a check leaves out.
-const QUIET: Word = Word::Flag("quiet", "Prints nothing for a FILE that holds a segment");
+const QUIET: CommandWord = CommandWord::Flag(
+    "quiet",
+    "Prints nothing for a FILE that holds a segment",
+);
 
 /// The option of a picture.
-const HTML: Word = Word::Flag(
+const HTML: CommandWord = CommandWord::Flag(
     "html",
     "Prints a page for a browser: the picture, the figures of stat, and the objects as a table",
 );
 
 /// How a dump is written.
-const JSON: Word = Word::Flag(
+const JSON: CommandWord = CommandWord::Flag(
     "json",
     "Writes each object as a line of JSON: class, name, kind and value; then --capacities tells nothing",
 );
 
 /// What a dump has behind its end.
-const CAPACITIES: Word = Word::Flag(
+const CAPACITIES: CommandWord = CommandWord::Flag(
     "capacities",
     "Behind the objects, tells the capacities: of the indexes, vectors, strings and vectors of strings",
 );
 
 /// What the names that are printed begin with.
-const PREFIX: Word = Word::Option("prefix", "TEXT", "Prints only names that begin with TEXT");
+const PREFIX: CommandWord = CommandWord::Option(
+    "prefix",
+    "TEXT",
+    "Prints only names that begin with TEXT",
+);
 
 /// How many names are printed.
-const MOST: Word = Word::Option("most", "N", "Prints the first N of them at most");
+const MOST: CommandWord = CommandWord::Option("most", "N", "Prints the first N of them at most");
 
 /// The size of a segment that is loaded.
-const LOADED: Word = Word::Option(
+const LOADED: CommandWord = CommandWord::Option(
     "size",
     "SIZE",
     "The bytes of the segment, as for create; without it the segment is made as long as the dump says, and then shrunk",
 );
 
 /// How much is told of a file that can't be read or written.
-const VERBOSE: Word = Word::Flag(
+const VERBOSE: CommandWord = CommandWord::Flag(
     "verbose",
     "Behind a read fault or write fault of FILE, tells FILE and why, as far as the system says",
 );
@@ -258,32 +277,34 @@ static COMMANDS: [Row; 13] = [
 ];
 
 /// A word of a command, for clap.
-fn arg_of<'a>(alloc: Global, word: &Word) -> Arg<'a>
+fn arg_of<'a>(alloc: Global, word: &CommandWord) -> Arg<'a>
     ensures rule { rule_of result ≡ word_rule word.now }
     ensures local { result.global ≡ false }
 {
     match *word {
-        Word::Operand(name, shown, help) => Arg::new(alloc, name)
+        CommandWord::Operand(name, shown, help) => Arg::new(alloc, name)
             .required(true)
             .value_name(shown)
             .help(help),
-        Word::Operands(name, shown, help) => Arg::new(alloc, name)
+        CommandWord::Operands(name, shown, help) => Arg::new(alloc, name)
             .required(true)
             .action(ArgAction::Append)
             .value_name(shown)
             .help(help),
-        Word::Optional(name, shown, help) => { Arg::new(alloc, name).value_name(shown).help(help) }
-        Word::Short(name, letter, shown, help) => Arg::new(alloc, name)
+        CommandWord::Optional(name, shown, help) => {
+            Arg::new(alloc, name).value_name(shown).help(help)
+        }
+        CommandWord::Short(name, letter, shown, help) => Arg::new(alloc, name)
             .short(letter)
             .action(ArgAction::Append)
             .value_name(shown)
             .help(help),
-        Word::Option(name, shown, help) => Arg::new(alloc, name)
+        CommandWord::Option(name, shown, help) => Arg::new(alloc, name)
             .long(name)
             .action(ArgAction::Set)
             .value_name(shown)
             .help(help),
-        Word::Flag(name, help) => Arg::new(alloc, name)
+        CommandWord::Flag(name, help) => Arg::new(alloc, name)
             .long(name)
             .action(ArgAction::SetTrue)
             .help(help),
@@ -311,7 +332,7 @@ fn bare_command<'a>(
 fn with_words<'a>(
     alloc: Global,
     begun: Command<'a>,
-    words: &[Word],
+    words: &[CommandWord],
 ) -> Result<Command<'a>, AllocError>
     requires { (fields_of begun).has_globals ≡ false }
     ensures app { IfOk result (λ c. app_of c ≡ fold with_rule (app_of begun.entry) (map word_rule words.now)) }

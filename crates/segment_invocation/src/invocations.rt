@@ -1,6 +1,7 @@
 //! What the program may be asked for.
 ghost use Rattle.std.specs.Prelude.{◌≡◌, IfOk};
-ghost use Rattle.segment_invocation.specs.Invocations.{is_plain, is_plain_run, mode_called, origin_by, script_text, wants_size};
+ghost use Rattle.segment_invocation.specs.Invocations.{is_plain, is_plain_run, mode_called, origin_by, script_text};
+ghost use Rattle.segment_invocation.specs.Invocations.{wants_size};
 
 use raw_region::{OutOfMemory, append};
 use std::alloc::Global;
@@ -45,7 +46,7 @@ impl ModeName {
 
 /// How a run saves the segment of a file that is there.
 #[derive(Clone, Copy, Debug, PartialEq, Eq)]
-pub enum Saving {
+pub enum SaveMode {
     /// The file is emptied, and takes the image.
     InPlace,
     /// `--replace`: a new file with the image takes the place of the old one.
@@ -71,7 +72,7 @@ pub enum Report {
 
 /// How the segment in a file changes without a script.
 #[derive(Clone, Copy, Debug, PartialEq, Eq)]
-pub enum Change {
+pub enum FileChange {
     /// It becomes larger by so many bytes.
     Grow(u64),
     /// It becomes as small as its last block lets it be.
@@ -93,7 +94,7 @@ pub struct Answering {
 #[derive(Clone, Copy, Debug, PartialEq, Eq)]
 pub struct Keeping {
     /// How a file that is there is saved.
-    pub saving: Saving,
+    pub saving: SaveMode,
     /// `--wait`: for how many seconds the right to write the file is waited for, where another has it.
     pub wait: u64,
 }
@@ -101,7 +102,7 @@ pub struct Keeping {
 impl Keeping {
     /// As it is where no option says otherwise.
     pub const PLAIN: Keeping = Keeping {
-        saving: Saving::InPlace,
+        saving: SaveMode::InPlace,
         wait: 0,
     };
 
@@ -109,7 +110,7 @@ impl Keeping {
     pub(crate) fn is_plain(self) -> bool
         ensures { result ≡ is_plain self.saving self.wait }
     {
-        matches!(self.saving, Saving::InPlace) && self.wait == 0
+        matches!(self.saving, SaveMode::InPlace) && self.wait == 0
     }
 }
 
@@ -181,7 +182,8 @@ impl<'a> Running<'a> {
 pub enum Invocation<'a> {
     /// To make an empty segment of this size in a file that is not there.
     Create(&'a str, u64),
-    /// To run the script of standard input on the segment in a file, in a mode, with the size of a segment that is made.
+    /// To run the script of standard input on the segment in a file, in a mode, with the size of a segment that is
+    /// made.
     /// The modes `create_only` and `open_or_create` have a size.
     Run(&'a str, ModeName, Option<u64>),
     /// The same, as other options say.
@@ -200,7 +202,7 @@ pub enum Invocation<'a> {
     /// To write the segment in a file, of this format or an older one, in this format.
     Migrate(&'a str),
     /// To do one of these three as other options say.
-    ChangeWith(&'a str, Change, Keeping),
+    ChangeWith(&'a str, FileChange, Keeping),
     /// To tell something of the segment in a file.
     Tell(&'a str, Report),
     /// To print the names of the segment in a file that begin with a text, in their order, at most so many.

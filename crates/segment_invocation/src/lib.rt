@@ -10,7 +10,8 @@ mod version;
 
 pub use asking::{invocation, is_verbose};
 pub use invocations::{
-    Answering, Change, Invocation, Keeping, ModeName, Report, Running, Saving, Script, script_text,
+    Answering, FileChange, Invocation, Keeping, ModeName, Report, Running, SaveMode, Script,
+    script_text,
 };
 pub use nearest::Tip;
 pub use usage::{InvocationFault, UsageError};

@@ -15,7 +15,7 @@ use Rattle.seg_types.specs.Commands.{Literal, Whole, Truth, value_of_literal}
 use Rattle.segment_lang.specs.Words.{Word, words, literal_of_word}
 use Rattle.segment_lang.specs.Reading.{all, value_for}
 use Rattle.segment_lang.specs.Tokens.{at_end, next_word}
-use Rattle.segment_lang.specs.Arguments.{Written, numbers_at, scalars_in, values_in}
+use Rattle.segment_lang.specs.Arguments.{TypedNumbers, numbers_at, scalars_in, values_in}
 use Rattle.segment_lang.proofs.EachWord.{Held, each_end, each_first, each_last, each_more, each_stays, first_and}
 
 -- ---- a value is in the range of its kind
@@ -121,17 +121,17 @@ numbers k = record {
   more = λ z zs. refl;
 }
 
-pub none_left : (k : ScalarKind) (bytes : List ℕ) (w : Written) (v : Option ScalarValue) → values_in k bytes ≡ w
+pub none_left : (k : ScalarKind) (bytes : List ℕ) (w : TypedNumbers) (v : Option ScalarValue) → values_in k bytes ≡ w
     → next_word bytes ≡ None → v ≡ None → YieldsFirst scalars_in w v w
 unfolding numbers_at
 none_left k bytes w v is h e =
-    subst (λ (w : Written). YieldsFirst scalars_in w v w) is (each_last (numbers k) bytes _ v refl h e)
+    subst (λ (w : TypedNumbers). YieldsFirst scalars_in w v w) is (each_last (numbers k) bytes _ v refl h e)
 
-pub first_left : (k : ScalarKind) (bytes r : List ℕ) (word : Word) (w : Written) (v : Option ScalarValue)
+pub first_left : (k : ScalarKind) (bytes r : List ℕ) (word : Word) (w : TypedNumbers) (v : Option ScalarValue)
     → values_in k bytes ≡ w → next_word bytes ≡ Some (word, r) → IsSome (numbers_at k bytes)
     → v ≡ option_map (scalar_of k) (value_for k word) → YieldsFirst scalars_in w v (values_in k r)
 unfolding numbers_at
-first_left k bytes r word w v is h s e = subst (λ (w : Written). YieldsFirst scalars_in w v (values_in k r)) is
+first_left k bytes r word w v is h s e = subst (λ (w : TypedNumbers). YieldsFirst scalars_in w v (values_in k r)) is
     (each_first (numbers k) bytes r word _ v refl h s e)
 
 pub stays_good : (k : ScalarKind) (bytes r : List ℕ) (w : Word) → next_word bytes ≡ Some (w, r)

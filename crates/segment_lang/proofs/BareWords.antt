@@ -1,5 +1,6 @@
 -- A bare word, read by its own bytes: it is one where a blank or the end follows them.
-use Rattle.std.proofs.Common.{◌≡◌, ℕ, suc, ◌+◌, ◌≤◌, Bool, true, false, cond, List, [], ◌∷◌, Option, Some, None, refl, sym, ap}
+use Rattle.std.proofs.Common.{◌≡◌, ℕ, suc, ◌+◌, ◌≤◌, Bool, true, false, cond, List, [], ◌∷◌, Option, Some, None, refl}
+use Rattle.std.proofs.Common.{sym, ap}
 use Rattle.std.proofs.Common.{◌∙◌, arith, take, drop, length, not}
 use Rattle.std.specs.List.{list_all, prefix_len}
 use Rattle.std.proofs.lemmas.List.{length-drop}
@@ -55,7 +56,8 @@ bare_at_front [] = refl
 bare_at_front (c ∷ cs) = step (is_blank c) (is_bare c) c cs refl refl (bare_at_front cs)
 
 -- what is found in front is the word, and what is found not to be one is none
-pub front_is_word : (bs w r : List ℕ) (e : Bool) → w ≡ take (prefix_len is_bare bs) bs → r ≡ drop (prefix_len is_bare bs) bs
+pub front_is_word : (bs w r : List ℕ) (e : Bool) → w ≡ take (prefix_len is_bare bs) bs
+    → r ≡ drop (prefix_len is_bare bs) bs
     → e ≡ ends_word r → e ≡ true → Some (w, r) ≡ bare_at bs
 front_is_word bs w r e f g h t = rw f (rw g (sym (bare_at_front bs ∙ rw (sym (ap ends_word g) ∙ sym h ∙ t) refl)))
 
@@ -67,7 +69,8 @@ ended : (a : Bool) (up bs w r : List ℕ) → length up ≤ length bs
     → cond {A = Option (List ℕ × List ℕ)} a (Some (up, drop (length up) bs)) None ≡ Some (w, r)
     → length up + length r ≡ length bs
 ended true up bs w r h e =
-    let d : drop (length up) bs ≡ r = ap (λ (x : List ℕ × List ℕ). x.1) (same_Some (up, drop (length up) bs) (w, r) e) in
+    let d : drop (length up) bs ≡ r =
+    ap (λ (x : List ℕ × List ℕ). x.1) (same_Some (up, drop (length up) bs) (w, r) e) in
     omega (arith, sym (ap length d) ∙ length-drop (length up) bs)
 ended false up bs w r h e = absurd (cc)
 

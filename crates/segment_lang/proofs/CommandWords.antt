@@ -12,7 +12,8 @@ use Rattle.seg_types.specs.Names.{Key}
 use Rattle.seg_types.specs.Kinds.{is_value}
 use Rattle.seg_types.specs.Values.{kind_of_scalar, scalar_of, value_of_scalar}
 use Rattle.seg_types.proofs.Laws.{scalar_of-kind, scalar_of-value}
-use Rattle.seg_types.specs.Commands.{Assign, BadSyntax, Bytes, Command, ConstructIt, Content, Elements, Literal, LineTooLong}
+use Rattle.seg_types.specs.Commands.{Assign, BadSyntax, Bytes, Command, ConstructIt, Content, Elements, Literal}
+use Rattle.seg_types.specs.Commands.{LineTooLong}
 use Rattle.seg_types.specs.Commands.{NoPairs, Nothing, Numbers, Reading, Strings, UnknownCommand, DestroyPtr}
 use Rattle.segment_lang.specs.Words as said
 use Rattle.segment_lang.specs.Words.{Word, Bare, literal_of_word, number_of, words}
@@ -24,7 +25,7 @@ use Rattle.segment_lang.specs.Reading.{without_return, value_for, with_key, with
 use Rattle.segment_lang.specs.Reading.{with_key_number_literal, with_number}
 use Rattle.segment_lang.specs.Tokens.{at_end, behind_word, next_two, next_word, only_word}
 use Rattle.segment_lang.specs.Tokens.{up_to_blank}
-use Rattle.segment_lang.specs.Arguments.{Written, assigning_at, counted_values, handle_of, literals_at, making_at}
+use Rattle.segment_lang.specs.Arguments.{TypedNumbers, assigning_at, counted_values, handle_of, literals_at, making_at}
 use Rattle.segment_lang.specs.Arguments.{making_each_at, numbers_at, of_one, of_two, of_three}
 use Rattle.segment_lang.specs.Arguments.{scalar_at, scalar_in, texts_at, written}
 use Rattle.segment_lang.proofs.WordList.{take_end, take_only, take_word}
@@ -143,11 +144,11 @@ pub no_pairs_content : (k v : ScalarKind) (n : ℕ) (bytes : List ℕ)
 no_pairs_content k v n bytes = take_end (content (Map k v) n) (λ w ws. refl) bytes
 
 -- the values that are read are the elements
-pub elements_read : (k : ScalarKind) (o : Option (List ℤ)) (w : Written) → Some w ≡ option_map (written k) o
+pub elements_read : (k : ScalarKind) (o : Option (List ℤ)) (w : TypedNumbers) → Some w ≡ option_map (written k) o
     → Some (Elements w.kind w.numbers) ≡ option_map (Elements k) o
 elements_read k None w h = cc
 elements_read k (Some zs) w h = let e : w ≡ written k zs = cc in
-    ap (λ (w : Written). Some (Elements w.kind w.numbers)) e
+    ap (λ (w : TypedNumbers). Some (Elements w.kind w.numbers)) e
 
 one_scalar : (k : ScalarKind) (n : ℕ) (o : Option ℤ) (v : ScalarValue) → Some v ≡ option_map (scalar_of k) o
     → ((z : ℤ) → o ≡ Some z → is_value k z ≡ true)
@@ -214,21 +215,21 @@ of_making_each bytes =
     ∙ under _ _ (λ key. each_given (words x.2) k.0 k.1 key) (key k.0))
     (counted_kind (whole current) x.0)) (next_two bytes)
 
-if_as_many : (b : Bool) (k : ScalarKind) (n : ℕ) (key : Key) (zs : List ℤ) (w : Written)
+if_as_many : (b : Bool) (k : ScalarKind) (n : ℕ) (key : Key) (zs : List ℤ) (w : TypedNumbers)
     → Some w ≡ cond b (Some (written k zs)) None
     → Some (ConstructIt key w.kind n w.numbers) ≡ cond b (Some (ConstructIt key k n zs)) None
 if_as_many true k n key zs w h = let e : w ≡ written k zs = cc in
-    ap (λ (w : Written). Some (ConstructIt key w.kind n w.numbers)) e
+    ap (λ (w : TypedNumbers). Some (ConstructIt key w.kind n w.numbers)) e
 if_as_many false k n key zs w h = cc
 
-as_many : (k : ScalarKind) (n : ℕ) (key : Key) (o : Option (List ℤ)) (w : Written)
+as_many : (k : ScalarKind) (n : ℕ) (key : Key) (o : Option (List ℤ)) (w : TypedNumbers)
     → Some w ≡ option_and_then (λ zs. cond (length zs == n) (Some (written k zs)) None) o
     → Some (ConstructIt key w.kind n w.numbers) ≡ option_and_then (λ zs. items n k key zs) o
 as_many k n key None w h = cc
 as_many k n key (Some zs) w h = if_as_many (length zs == n) k n key zs w h
 
 -- what is read of each part is the command
-pub each_read : (bytes r : List ℕ) (w v : Word) (kind : Kind) (k : ScalarKind) (n : ℕ) (key : Key) (x : Written)
+pub each_read : (bytes r : List ℕ) (w v : Word) (kind : Kind) (k : ScalarKind) (n : ℕ) (key : Key) (x : TypedNumbers)
     → Some (w, v, r) ≡ next_two bytes → Some (kind, n) ≡ counted_kind (whole current) w
     → Some key ≡ for_kind kind (new_key (whole current) v) → kind ≡ Scalar k → Some x ≡ counted_values k n r
     → Some (ConstructIt key x.kind n x.numbers) ≡ making_each_at bytes

@@ -8,7 +8,7 @@ use Rattle.std.proofs.lemmas.Bool.{eq-eqb}
 use denote.Ref.{Bor}
 use Rattle.segment_lang.specs.Words.{is, is_blank}
 use Rattle.segment_lang.specs.Reading.{Form, Reader, form_of, forms}
-use Rattle.segment_lang.specs.Seen.{Row, place_of, reader_of, found_in, with_rest}
+use Rattle.segment_lang.specs.Seen.{KeywordRow, place_of, reader_of, found_in, with_rest}
 use Rattle.segment_lang.specs.Tokens.{up_to_blank}
 use Rattle.segment_lang.specs.declared.forms.CommandForm.{CommandForm}
 use Rattle.segment_lang.proofs.FirstWords.{first_cons}
@@ -18,23 +18,23 @@ use Rattle.segment_lang.proofs.FirstWords.{first_cons}
 abbrev pub LentRow : Type 0 → Type 0
 LentRow A = Bor (List ℕ) × A
 
-abbrev pub lent_row : {A : Type 0} → LentRow A → Row A
+abbrev pub lent_row : {A : Type 0} → LentRow A → KeywordRow A
 lent_row row = (row.0.now, row.1)
 
-lent_first : {A : Type 0} (b : Bool) (row : LentRow A) (x : Option (LentRow A)) (y : Option (Row A))
+lent_first : {A : Type 0} (b : Bool) (row : LentRow A) (x : Option (LentRow A)) (y : Option (KeywordRow A))
     → option_map lent_row x ≡ y → option_map lent_row (cond b (Some row) x) ≡ cond b (Some (lent_row row)) y
 lent_first true row x y h = refl
 lent_first false row x y h = h
 
 lent_row_of : {A : Type 0} (rows : List (LentRow A)) (w : List ℕ)
-    → option_map lent_row (find (λ (row : LentRow A). is w row.0.now) rows) ≡ find (λ (row : Row A). is w row.0)
+    → option_map lent_row (find (λ (row : LentRow A). is w row.0.now) rows) ≡ find (λ (row : KeywordRow A). is w row.0)
     (map lent_row rows)
 lent_row_of [] w = refl
 lent_row_of {A} (row ∷ rows) w = lent_first (is w row.0.now) row (find (λ (row : LentRow A). is w row.0.now) rows)
-    (find (λ (row : Row A). is w row.0) (map lent_row rows)) (lent_row_of rows w)
+    (find (λ (row : KeywordRow A). is w row.0) (map lent_row rows)) (lent_row_of rows w)
 
 row_value : {A : Type 0} (x : Option (Bor (LentRow A)))
-    → option_map (λ (row : Row A). row.1) (option_map lent_row (option_map (λ (y : Bor (LentRow A)). y.now) x))
+    → option_map (λ (row : KeywordRow A). row.1) (option_map lent_row (option_map (λ (y : Bor (LentRow A)). y.now) x))
     ≡ option_map (λ (y : Bor (LentRow A)). y.now.1) x
 row_value None = refl
 row_value (Some y) = refl
@@ -43,13 +43,14 @@ pub found_row : {A : Type 0} (rows : List (LentRow A)) (w : List ℕ) (x : Optio
     → option_map (λ (y : Bor (LentRow A)). y.now) x ≡ find (λ (row : LentRow A). is w row.0.now) rows
     → value ≡ option_map (λ (y : Bor (LentRow A)). y.now.1) x → value ≡ found_in (map lent_row rows) w
 found_row {A} rows w x value h e =
-    e ∙ sym (row_value x) ∙ ap (λ (x : Option (LentRow A)). option_map (λ (row : Row A). row.1) (option_map lent_row x))
-    h ∙ ap (option_map (λ (row : Row A). row.1)) (lent_row_of rows w)
+    e ∙ sym (row_value x) ∙ ap (λ (x : Option (LentRow A)).
+    option_map (λ (row : KeywordRow A). row.1) (option_map lent_row x))
+    h ∙ ap (option_map (λ (row : KeywordRow A). row.1)) (lent_row_of rows w)
 
 -- ---- the table
 
 abbrev pub FormRow : Type 0
-FormRow = Row CommandForm
+FormRow = KeywordRow CommandForm
 
 -- a row with what its form means
 abbrev pub form_row : FormRow → Form

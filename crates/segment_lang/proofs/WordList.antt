@@ -6,14 +6,15 @@ use Rattle.std.specs.List.{list_all}
 use Rattle.std.proofs.lemmas.List.Sums.{take_while-cons}
 use Rattle.std.proofs.lemmas.Bool.{false≢true}
 use Rattle.std.proofs.lemmas.Bool.Decides.{nat_tests}
-use Rattle.segment_lang.specs.Words.{Word, Bare, Text, Rest, words, in_bare, in_text, after_text, escaped, high_digit}
+use Rattle.segment_lang.specs.Words.{Word, Bare, Text, WordRest, words, in_bare, in_text, after_text, escaped}
+use Rattle.segment_lang.specs.Words.{high_digit}
 use Rattle.segment_lang.specs.Words.{more, ended, bare_word, text_word, is_blank, is_bare, is_plain, byte_of_digits}
 use Rattle.segment_lang.specs.Reading.{skip_blanks}
 use Rattle.segment_lang.specs.Tokens.{text_at, escaped_at, high_digit_at, longer, closed_at, bare_at, up_to_blank}
 use Rattle.segment_lang.specs.Tokens.{behind_word, word_at, next_word, only_word, at_end}
 
 -- what was read of a word, and the words behind it
-abbrev then_words : Option (List ℕ × List ℕ) → Rest
+abbrev then_words : Option (List ℕ × List ℕ) → WordRest
 then_words t = option_and_then (λ x. option_map {U = List ℕ × List Word} (λ ws. (x.0, ws)) (words x.1)) t
 
 more_words : (c : ℕ) (bs : List ℕ) (ws : Option (List Word))
@@ -40,14 +41,15 @@ after_text_is : (cs : List ℕ) → after_text cs ≡ then_words (closed_at cs)
 after_text_is [] = refl
 after_text_is (c ∷ cs) = after_blank (is_blank c) c cs (blank_first c cs)
 
-same_item : (q e p : Bool) (a b m : Rest) (a' b' m' : Option (List ℕ × List ℕ)) → a ≡ then_words a' → b ≡ then_words b'
+same_item : (q e p : Bool) (a b m : WordRest) (a' b' m' : Option (List ℕ × List ℕ)) → a ≡ then_words a'
+    → b ≡ then_words b'
     → m ≡ then_words m' → cond q a (cond e b (cond p m None)) ≡ then_words (cond q a' (cond e b' (cond p m' None)))
 same_item true e p a b m a' b' m' f g h = f
 same_item false true p a b m a' b' m' f g h = g
 same_item false false true a b m a' b' m' f g h = h
 same_item false false false a b m a' b' m' f g h = refl
 
-same_escape : (q x : Bool) (a b : Rest) (a' b' : Option (List ℕ × List ℕ)) → a ≡ then_words a' → b ≡ then_words b'
+same_escape : (q x : Bool) (a b : WordRest) (a' b' : Option (List ℕ × List ℕ)) → a ≡ then_words a' → b ≡ then_words b'
     → cond q a (cond x b None) ≡ then_words (cond q a' (cond x b' None))
 same_escape true x a b a' b' f g = f
 same_escape false true a b a' b' f g = g

@@ -2,21 +2,22 @@
 use Rattle.std.proofs.Common.{◌≡◌, ℕ, ◌+◌, ◌≤◌, Bool, true, false, cond, List, [], ◌∷◌, length, Option, Some, None}
 use Rattle.std.proofs.Common.{subst, arith, ◌==◌, ◌||◌}
 use Rattle.std.specs.Option.{option_and_then, IfSome}
-use Rattle.segment_lang.specs.Words.{Word, Rest, words, in_bare, in_text, after_text, escaped, high_digit, more, ended}
+use Rattle.segment_lang.specs.Words.{Word, WordRest, words, in_bare, in_text, after_text, escaped, high_digit, more}
+use Rattle.segment_lang.specs.Words.{ended}
 use Rattle.segment_lang.specs.Words.{bare_word, text_word, is_blank, is_bare, is_plain, byte_of_digits}
 use Rattle.segment_lang.specs.Laws.{room}
 
 abbrev Fits : ℕ → Option (List Word) → Type 0
 Fits n o = IfSome o (λ ws. room ws ≤ n)
 
-abbrev RestFits : ℕ → Rest → Type 0
+abbrev RestFits : ℕ → WordRest → Type 0
 RestFits n r = IfSome r (λ x. length x.0 + room x.1 ≤ n)
 
-wider : (n m : ℕ) (r : Rest) → n ≤ m → RestFits n r → RestFits m r
+wider : (n m : ℕ) (r : WordRest) → n ≤ m → RestFits n r → RestFits m r
 wider n m None h f = tt
 wider n m (Some (bs, ws)) h f = omega arith
 
-more_fits : (c n m : ℕ) (r : Rest) → n + 1 ≤ m → RestFits n r → RestFits m (more c r)
+more_fits : (c n m : ℕ) (r : WordRest) → n + 1 ≤ m → RestFits n r → RestFits m (more c r)
 more_fits c n m None h f = tt
 more_fits c n m (Some (bs, ws)) h f = omega arith
 
@@ -24,11 +25,11 @@ ended_fits : (n m : ℕ) (o : Option (List Word)) → n ≤ m → Fits n o → R
 ended_fits n m None h f = tt
 ended_fits n m (Some ws) h f = omega arith
 
-text_fits : (n m : ℕ) (r : Rest) → n + 1 ≤ m → RestFits n r → Fits m (text_word r)
+text_fits : (n m : ℕ) (r : WordRest) → n + 1 ≤ m → RestFits n r → Fits m (text_word r)
 text_fits n m None h f = tt
 text_fits n m (Some (bs, ws)) h f = omega arith
 
-bare_fits : (c n m : ℕ) (r : Rest) → n + 2 ≤ m → RestFits n r → Fits m (bare_word c r)
+bare_fits : (c n m : ℕ) (r : WordRest) → n + 2 ≤ m → RestFits n r → Fits m (bare_word c r)
 bare_fits c n m None h f = tt
 bare_fits c n m (Some (bs, ws)) h f = omega arith
 
@@ -43,19 +44,19 @@ choice_fits false true f n x y z g h k = h
 choice_fits false false true n x y z g h k = k
 choice_fits false false false n x y z g h k = tt
 
-item_fits : (q e p : Bool) (n : ℕ) (x y z : Rest) → RestFits n x → RestFits n y → RestFits n z
+item_fits : (q e p : Bool) (n : ℕ) (x y z : WordRest) → RestFits n x → RestFits n y → RestFits n z
     → RestFits n (cond q x (cond e y (cond p z None)))
 item_fits true e p n x y z g h k = g
 item_fits false true p n x y z g h k = h
 item_fits false false true n x y z g h k = k
 item_fits false false false n x y z g h k = tt
 
-pair_fits : (q x : Bool) (n : ℕ) (y z : Rest) → RestFits n y → RestFits n z → RestFits n (cond q y (cond x z None))
+pair_fits : (q x : Bool) (n : ℕ) (y z : WordRest) → RestFits n y → RestFits n z → RestFits n (cond q y (cond x z None))
 pair_fits true x n y z g h = g
 pair_fits false true n y z g h = h
 pair_fits false false n y z g h = tt
 
-digits_fit : (o : Option ℕ) (n m : ℕ) (r : Rest) → n + 1 ≤ m → RestFits n r
+digits_fit : (o : Option ℕ) (n m : ℕ) (r : WordRest) → n + 1 ≤ m → RestFits n r
     → RestFits m (option_and_then (λ c. more c r) o)
 digits_fit None n m r h f = tt
 digits_fit (Some c) n m r h f = more_fits c n m r h f

@@ -53,25 +53,25 @@ unfoldable pub numbers_at : ScalarKind → List ℕ → Option (List ℤ)
 numbers_at k bytes = option_and_then (all (value_for k)) (words bytes)
 
 -- values of one kind
-pub record Written : Type 0 where
+pub record TypedNumbers : Type 0 where
   pub kind : ScalarKind
   pub numbers : List ℤ
 
 -- the values of a kind that the words are, which is none where a word is no such value
-abbrev pub values_in : ScalarKind → List ℕ → Written
+abbrev pub values_in : ScalarKind → List ℕ → TypedNumbers
 values_in k bytes = record { kind = k; numbers = unwrap_or (numbers_at k bytes) [] }
 
 -- these values of a kind
-abbrev pub written : ScalarKind → List ℤ → Written
+abbrev pub written : ScalarKind → List ℤ → TypedNumbers
 written k zs = record { kind = k; numbers = zs }
 
 -- the values of a kind that all words are, where they are as many
-abbrev pub counted_values : ScalarKind → ℕ → List ℕ → Option Written
+abbrev pub counted_values : ScalarKind → ℕ → List ℕ → Option TypedNumbers
 counted_values k n bytes =
     option_and_then (λ zs. if length zs == n then Some (written k zs) else None) (numbers_at k bytes)
 
 -- the values, each with its kind
-abbrev pub scalars_in : Written → List ScalarValue
+abbrev pub scalars_in : TypedNumbers → List ScalarValue
 scalars_in w = map (scalar_of w.kind) w.numbers
 
 -- a scalar kind and how many, a key, and as many values

@@ -20,14 +20,16 @@ use Rattle.segment_lang.specs.declared.commands.Content.{Content}
 use Rattle.segment_lang.specs.declared.commands.Content.TheVariants.{Scalars, Elements, String as StringContent}
 use Rattle.segment_lang.specs.declared.commands.Content.TheVariants.{Strings as StringsContent, NoPairs}
 use Rattle.segment_lang.specs.declared.commands.Deed.{Deed}
-use Rattle.segment_lang.specs.declared.commands.Deed.TheVariants.{Construct, ConstructIt, Find, FindOrConstruct, Destroy}
+use Rattle.segment_lang.specs.declared.commands.Deed.TheVariants.{Construct, ConstructIt, Find, FindOrConstruct}
+use Rattle.segment_lang.specs.declared.commands.Deed.TheVariants.{Destroy}
 use Rattle.segment_lang.specs.declared.commands.Deed.TheVariants.{DestroyPtr, Show, Info, Set, Insert, Erase, Reserve}
-use Rattle.segment_lang.specs.declared.commands.Deed.TheVariants.{Shrink, Clear, Assign, Append, Lookup, Remove, ListNames}
+use Rattle.segment_lang.specs.declared.commands.Deed.TheVariants.{Shrink, Clear, Assign, Append, Lookup, Remove}
+use Rattle.segment_lang.specs.declared.commands.Deed.TheVariants.{ListNames}
 use Rattle.segment_lang.specs.declared.commands.Deed.TheVariants.{ListKinds, Blocks, Free, NumNamed, NumUnique}
 use Rattle.segment_lang.specs.declared.commands.Deed.TheVariants.{ReserveNamed, ReserveUnique, ShrinkIndexes, ZeroFree}
 use Rattle.segment_lang.specs.declared.commands.Deed.TheVariants.{Sanity, AllDeallocated}
-use Rattle.segment_lang.specs.declared.commands.Lead.{Lead}
-use Rattle.segment_lang.specs.declared.commands.Lead.TheVariants as lead
+use Rattle.segment_lang.specs.declared.commands.LineStart.{LineStart}
+use Rattle.segment_lang.specs.declared.commands.LineStart.TheVariants as lead
 use Rattle.seg_types.specs.declared.refusals.LineError.{LineError}
 use Rattle.seg_types.specs.declared.refusals.LineError.TheVariants.{UnknownCommand, LineTooLong, BadSyntax}
 use Rattle.segment_lang.specs.declared.forms.CommandForm.{CommandForm}
@@ -50,9 +52,9 @@ literal_of (Truth b) = asked.Truth b
 literal_of (Quoted t) = asked.Quoted t
 
 -- a text of it has room where a line keeps one
-abbrev pub HasRoom : asked.Literal → Type 0
-HasRoom (asked.Quoted bs) = length bs ≤ 4096
-HasRoom l = ⊤
+abbrev pub HasLineRoom : asked.Literal → Type 0
+HasLineRoom (asked.Quoted bs) = length bs ≤ 4096
+HasLineRoom l = ⊤
 
 -- a value as the code has it
 abbrev pub literal_held : asked.Literal → Literal
@@ -159,7 +161,7 @@ reader_of (form.Deed d) = deed_reader_of d
 abbrev pub reading_by : CommandForm → List ℕ → asked.Reading
 reading_by form rest = as_reading (option_and_then (reader_of form (whole current)) (words rest))
 
-abbrev pub reading_led : Lead → asked.Reading
+abbrev pub reading_led : LineStart → asked.Reading
 reading_led lead.Nothing = asked.Nothing
 reading_led (lead.Form form rest) = reading_by form rest.now
 reading_led (lead.Wrong e) = wrong_reading e
@@ -169,8 +171,8 @@ abbrev pub with_rest : {A : Type 0} → List ℕ → Option A → Option (A × L
 with_rest {A} line x = option_map (λ (a : A). (a, behind_word line)) x
 
 -- a word, and what it is the word of
-abbrev pub Row : Type 0 → Type 0
-Row A = List ℕ × A
+abbrev pub KeywordRow : Type 0 → Type 0
+KeywordRow A = List ℕ × A
 
 -- the place of a word in the table of command words: its first byte and its third decide
 abbrev pub place_of : List ℕ → ℕ
@@ -180,5 +182,5 @@ place_of (a ∷ b ∷ []) = 0
 place_of (a ∷ b ∷ c ∷ w) = (a + 6 * c) % 32
 
 -- what the first row of a word has
-abbrev pub found_in : {A : Type 0} → List (Row A) → List ℕ → Option A
-found_in {A} rows w = option_map (λ (row : Row A). row.1) (find (λ (row : Row A). is w row.0) rows)
+abbrev pub found_in : {A : Type 0} → List (KeywordRow A) → List ℕ → Option A
+found_in {A} rows w = option_map (λ (row : KeywordRow A). row.1) (find (λ (row : KeywordRow A). is w row.0) rows)

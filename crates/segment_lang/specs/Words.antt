@@ -30,20 +30,20 @@ abbrev pub byte_of_digits : ℕ → ℕ → Option ℕ
 byte_of_digits h l = option_and_then (λ x. option_map (λ y. 16 * x + y) (digit_of l)) (digit_of h)
 
 -- what is left to read of a word, and the words behind it
-abbrev pub Rest : Type 0
-Rest = Option (List ℕ × List Word)
+abbrev pub WordRest : Type 0
+WordRest = Option (List ℕ × List Word)
 
 -- one byte more in front of the word
-abbrev pub more : ℕ → Rest → Rest
+abbrev pub more : ℕ → WordRest → WordRest
 more c rest = option_map (λ (bs, ws). (c ∷ bs, ws)) rest
 
-abbrev pub bare_word : ℕ → Rest → Option (List Word)
+abbrev pub bare_word : ℕ → WordRest → Option (List Word)
 bare_word c rest = option_map (λ (bs, ws). Bare (c ∷ bs) ∷ ws) rest
 
-abbrev pub text_word : Rest → Option (List Word)
+abbrev pub text_word : WordRest → Option (List Word)
 text_word rest = option_map (λ (bs, ws). Text bs ∷ ws) rest
 
-abbrev pub ended : Option (List Word) → Rest
+abbrev pub ended : Option (List Word) → WordRest
 ended ws = option_map (λ ws. ([], ws)) ws
 
 -- The words of a line, or nothing where a byte does not fit. The three functions stand between words, inside a bare
@@ -55,28 +55,28 @@ abbrev mutual
       if is_blank c then words cs
       else if c == 0x22 then text_word (in_text cs) else if is_bare c then bare_word c (in_bare cs) else None
 
-  pub in_bare : List ℕ → Rest
+  pub in_bare : List ℕ → WordRest
   in_bare [] = Some ([], [])
   in_bare (c ∷ cs) = if is_blank c then ended (words cs) else if is_bare c then more c (in_bare cs) else None
 
-  pub in_text : List ℕ → Rest
+  pub in_text : List ℕ → WordRest
   in_text [] = None
   in_text (c ∷ cs) =
       if c == 0x22 then after_text cs
       else if c == 0x5C then escaped cs else if is_plain c then more c (in_text cs) else None
 
   -- a blank or the end
-  pub after_text : List ℕ → Rest
+  pub after_text : List ℕ → WordRest
   after_text [] = Some ([], [])
   after_text (c ∷ cs) = if is_blank c then ended (words cs) else None
 
   -- behind a backslash
-  pub escaped : List ℕ → Rest
+  pub escaped : List ℕ → WordRest
   escaped [] = None
   escaped (c ∷ cs) =
       if (c == 0x22) || (c == 0x5C) then more c (in_text cs) else if c == 0x78 then high_digit cs else None
 
-  pub high_digit : List ℕ → Rest
+  pub high_digit : List ℕ → WordRest
   high_digit [] = None
   high_digit (h ∷ []) = None
   high_digit (h ∷ l ∷ cs) = option_and_then (λ c. more c (in_text cs)) (byte_of_digits h l)

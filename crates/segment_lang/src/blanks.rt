@@ -15,7 +15,7 @@ pub fn is_blank(byte: u8) -> bool
 /// What is left behind the blanks in front.
 pub fn skip_blanks(bytes: &[u8]) -> &[u8]
     ensures value { result.now ≡ skip_blanks bytes.now }
-    ensures shorter { length result.now ≤ length bytes.now }
+    ensures shrinking { length result.now ≤ length bytes.now }
 {
     let mut rest = bytes;
     'blanks: while let [first, tail @ ..] = rest {

@@ -12,7 +12,7 @@ pub struct Buffer<T, const N: usize> {
 }
 
 /// A text of up to 4096 bytes, as many as a line has.
-pub type Text = Buffer<u8, 4096>;
+pub type LineBuffer = Buffer<u8, 4096>;
 
 impl<T, const N: usize> Model for Buffer<T, N> {
     ghost Value = { List T };

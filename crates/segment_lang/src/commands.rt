@@ -1,9 +1,9 @@
 //! What a line asks for. The types hold what they say in place or in the line, and take no memory.
 
 use crate::forms::CommandForm;
-use crate::lists::{Literals, Texts};
+use crate::lists::{Literals, TextLiterals};
 use crate::literals::Literal;
-use crate::values::Values;
+use crate::values::LiteralValues;
 use crate::words::Quoted;
 use seg_types::{Handle, IndexKey, Key, Kind, LineError, NewKey, ScalarKind, ScalarValue};
 
@@ -18,11 +18,11 @@ pub enum Content<'a> {
         count: u32,
     },
     /// The elements of a vector.
-    Elements(Values<'a>),
+    Elements(LiteralValues<'a>),
     /// The bytes of a string.
     String(Quoted<'a>),
     /// The elements of a vector of strings.
-    Strings(Texts<'a>),
+    Strings(TextLiterals<'a>),
     /// A map without pairs.
     NoPairs {
         /// The kind of its keys.
@@ -32,7 +32,8 @@ pub enum Content<'a> {
     },
 }
 
-/// What a line asks for, where it is done once all of the line is read. The other commands are those of [`CommandForm`].
+/// What a line asks for, where it is done once all of the line is read. The other commands are those of
+/// [`CommandForm`].
 #[derive(Drop)]
 pub enum Deed<'a> {
     /// Make an object.
@@ -49,7 +50,7 @@ pub enum Deed<'a> {
         /// How many values it has, from 1 to 1048576.
         count: u32,
         /// As many values.
-        values: Values<'a>,
+        values: LiteralValues<'a>,
     },
     /// Print the handle and the count of an object of a kind.
     Find {
@@ -165,7 +166,7 @@ pub enum Deed<'a> {
 
 /// How a line begins.
 #[derive(Drop)]
-pub enum Lead<'a> {
+pub enum LineStart<'a> {
     /// With nothing: it is a comment or has blanks only, and has no answer.
     Nothing,
     /// With a command word of a form. What stands behind the word is to be read.

@@ -6,7 +6,7 @@ ghost use Rattle.segment_lang.specs.Reading.{appending, with_key_number, with_ke
 ghost use Rattle.segment_lang.specs.Arguments.{assigning_at, of_three, of_two};
 ghost use Rattle.segment_lang.specs.Seen.{deed_of};
 
-use crate::buffer::Text;
+use crate::buffer::LineBuffer;
 use crate::commands::Deed;
 use crate::keys::key_of;
 use crate::lists::read_literals;
@@ -16,7 +16,7 @@ use crate::words::{next_word, two_words};
 
 /// A key, a number and a value, of an element that is written.
 #[inline(never)]
-pub fn read_set<'a>(bytes: &'a [u8], scratch: &'a mut Text) -> Option<Deed<'a>>
+pub fn read_set<'a>(bytes: &'a [u8], scratch: &'a mut LineBuffer) -> Option<Deed<'a>>
     ensures { option_map deed_of result ≡ of_three (with_key_number_literal asked.Set) bytes.now }
 {
     let (key, index, value) = key_number_literal(bytes, scratch)?;
@@ -25,7 +25,7 @@ pub fn read_set<'a>(bytes: &'a [u8], scratch: &'a mut Text) -> Option<Deed<'a>>
 
 /// A key, a number and a value, of a new element.
 #[inline(never)]
-pub fn read_insert<'a>(bytes: &'a [u8], scratch: &'a mut Text) -> Option<Deed<'a>>
+pub fn read_insert<'a>(bytes: &'a [u8], scratch: &'a mut LineBuffer) -> Option<Deed<'a>>
     ensures { option_map deed_of result ≡ of_three (with_key_number_literal asked.Insert) bytes.now }
 {
     let (key, index, value) = key_number_literal(bytes, scratch)?;
@@ -34,7 +34,7 @@ pub fn read_insert<'a>(bytes: &'a [u8], scratch: &'a mut Text) -> Option<Deed<'a
 
 /// A key and a number, of an element that goes.
 #[inline(never)]
-pub fn read_erase<'a>(bytes: &'a [u8], scratch: &'a mut Text) -> Option<Deed<'a>>
+pub fn read_erase<'a>(bytes: &'a [u8], scratch: &'a mut LineBuffer) -> Option<Deed<'a>>
     ensures { option_map deed_of result ≡ of_two (with_key_number asked.Erase) bytes.now }
 {
     let (key, index) = key_and_number(bytes, scratch)?;
@@ -43,7 +43,7 @@ pub fn read_erase<'a>(bytes: &'a [u8], scratch: &'a mut Text) -> Option<Deed<'a>
 
 /// A key and a number, of elements that there is to be room for.
 #[inline(never)]
-pub fn read_reserve<'a>(bytes: &'a [u8], scratch: &'a mut Text) -> Option<Deed<'a>>
+pub fn read_reserve<'a>(bytes: &'a [u8], scratch: &'a mut LineBuffer) -> Option<Deed<'a>>
     ensures { option_map deed_of result ≡ of_two (with_key_number asked.Reserve) bytes.now }
 {
     let (key, count) = key_and_number(bytes, scratch)?;
@@ -53,7 +53,7 @@ pub fn read_reserve<'a>(bytes: &'a [u8], scratch: &'a mut Text) -> Option<Deed<'
 /// A key and any number of values, of all new elements.
 #[tactic(auto, unfolding(crate::specs::Arguments::assigning_at))]
 #[inline(never)]
-pub fn read_assign<'a>(bytes: &'a [u8], scratch: &'a mut Text) -> Option<Deed<'a>>
+pub fn read_assign<'a>(bytes: &'a [u8], scratch: &'a mut LineBuffer) -> Option<Deed<'a>>
     ensures { option_map deed_of result ≡ assigning_at bytes.now }
 {
     let (key, rest) = next_word(bytes)?;
@@ -64,7 +64,7 @@ pub fn read_assign<'a>(bytes: &'a [u8], scratch: &'a mut Text) -> Option<Deed<'a
 
 /// A key and a text, of new last bytes.
 #[inline(never)]
-pub fn read_append<'a>(bytes: &'a [u8], scratch: &'a mut Text) -> Option<Deed<'a>>
+pub fn read_append<'a>(bytes: &'a [u8], scratch: &'a mut LineBuffer) -> Option<Deed<'a>>
     ensures { option_map deed_of result ≡ of_two appending bytes.now }
 {
     let (key, text) = two_words(bytes)?;

@@ -10,7 +10,7 @@ ghost use Rattle.segment_lang.specs.Reading.{form_of};
 ghost use Rattle.segment_lang.specs.Seen.{deed_of, deed_reader_of, found_in, place_of, reader_of, with_rest};
 ghost use Rattle.segment_lang.specs.Tokens.{behind_word, is_unbroken, up_to_blank};
 
-use crate::buffer::Text;
+use crate::buffer::LineBuffer;
 use crate::commands::Deed;
 use crate::elements::{read_append, read_assign, read_erase, read_insert, read_reserve, read_set};
 use crate::pairs::{key_and_pair, read_lookup, read_remove};
@@ -203,7 +203,7 @@ fn find_row<'a>(rows: &[(&[u8], CommandForm)], line: &'a [u8]) -> Option<(Comman
 /// The place in the table of the word that a line begins with: few command words share one.
 fn place_of(line: &[u8]) -> usize
     ensures value { result ≡ place_of line.now }
-    ensures small { result < 32 }
+    ensures max_size { result < 32 }
 {
     match line {
         [first, _, third, ..] => (usize::from(*first) + 6 * usize::from(*third)) % 32,
@@ -236,7 +236,11 @@ pub fn split_form(line: &[u8]) -> Option<(CommandForm, &[u8])>
 }
 
 /// The deed that what stands behind a command word of this form asks for.
-pub fn read_deed<'a>(form: DeedForm, bytes: &'a [u8], scratch: &'a mut Text) -> Option<Deed<'a>>
+pub fn read_deed<'a>(
+    form: DeedForm,
+    bytes: &'a [u8],
+    scratch: &'a mut LineBuffer,
+) -> Option<Deed<'a>>
     ensures { option_map deed_of result ≡ option_and_then (deed_reader_of form (whole current)) (words bytes.now) }
 {
     match form {
@@ -274,7 +278,7 @@ pub fn read_deed<'a>(form: DeedForm, bytes: &'a [u8], scratch: &'a mut Text) -> 
 }
 
 /// Whether what stands behind a command word has the word's form.
-pub fn is_command(form: CommandForm, bytes: &[u8], scratch: &mut Text) -> bool
+pub fn is_command(form: CommandForm, bytes: &[u8], scratch: &mut LineBuffer) -> bool
     ensures { result ≡ is_some (option_and_then (reader_of form (whole current)) (words bytes.now)) }
 {
     match form {

@@ -10,7 +10,7 @@ ghost use Rattle.segment_lang.specs.Reading.{agrees, for_kind, key_of, name_key,
 ghost use Rattle.segment_lang.specs.Arguments.{handle_of};
 ghost use Rattle.segment_lang.specs.Seen.{word_of};
 
-use crate::buffer::Text;
+use crate::buffer::LineBuffer;
 use crate::kinds::kind_named;
 use crate::literals::is;
 use crate::numbers::number_of;
@@ -30,7 +30,7 @@ fn bare_name(word: &[u8]) -> Option<Name<'_>>
 
 /// The entry of an index: a name, or `@` and a kind.
 #[inline(always)]
-pub fn index_key<'a>(word: Word<'a>, scratch: &'a mut Text) -> Option<IndexKey<'a>>
+pub fn index_key<'a>(word: Word<'a>, scratch: &'a mut LineBuffer) -> Option<IndexKey<'a>>
     ensures { option_map index_key_seen result ≡ name_key (whole current) (word_of word.entry) }
 {
     match word {
@@ -51,7 +51,11 @@ fn agrees(kind: Kind, key: &IndexKey<'_>) -> bool
 }
 
 /// The entry that a word is, where it may hold an object of the kind.
-pub fn index_key_for<'a>(kind: Kind, word: Word<'a>, scratch: &'a mut Text) -> Option<IndexKey<'a>>
+pub fn index_key_for<'a>(
+    kind: Kind,
+    word: Word<'a>,
+    scratch: &'a mut LineBuffer,
+) -> Option<IndexKey<'a>>
     ensures { option_map index_key_seen result ≡ for_kind kind (name_key (whole current) (word_of word.entry)) }
 {
     let key = index_key(word, scratch)?;
@@ -62,7 +66,11 @@ pub fn index_key_for<'a>(kind: Kind, word: Word<'a>, scratch: &'a mut Text) -> O
 }
 
 /// The key that a new object of the kind gets: an entry, or `-`.
-pub fn new_key_for<'a>(kind: Kind, word: Word<'a>, scratch: &'a mut Text) -> Option<NewKey<'a>>
+pub fn new_key_for<'a>(
+    kind: Kind,
+    word: Word<'a>,
+    scratch: &'a mut LineBuffer,
+) -> Option<NewKey<'a>>
     ensures { option_map new_key_seen result ≡ for_kind kind (new_key (whole current) (word_of word.entry)) }
 {
     match word {
@@ -82,7 +90,7 @@ pub fn handle_of(word: Word<'_>) -> Option<Handle>
 }
 
 /// The key of an object: its entry, or `#` and its handle.
-pub fn key_of<'a>(word: Word<'a>, scratch: &'a mut Text) -> Option<Key<'a>>
+pub fn key_of<'a>(word: Word<'a>, scratch: &'a mut LineBuffer) -> Option<Key<'a>>
     ensures { option_map key_seen result ≡ key_of (whole current) (word_of word.entry) }
 {
     match word {

@@ -103,7 +103,7 @@ fn split_front(word: &[u8]) -> (&[u8], &[u8])
 /// What stands in front of the first `[`, and what behind it.
 fn split_bracket(word: &[u8]) -> (&[u8], &[u8])
     ensures front { result.0.now ≡ take_while (λ c. not (c == 0x5B)) word.now }
-    ensures behind { result.1.now ≡ drop (length result.0.now + 1) word.now }
+    ensures after { result.1.now ≡ drop (length result.0.now + 1) word.now }
 {
     let (front, rest) = split_front(word);
     match rest {

@@ -31,13 +31,13 @@ mod texts;
 // Laws of the definitions.
 mod theorems;
 
-pub use buffer::{Buffer, Text};
-pub use commands::{Content, Deed, Lead};
+pub use buffer::{Buffer, LineBuffer};
+pub use commands::{Content, Deed, LineStart};
 pub use errors::{put_line_error, put_refusal};
 pub use forms::{CommandForm, DeedForm, read_deed};
 pub use kinds::kind_of_word;
-pub use line::{LONGEST_LINE, lead_of, line_error, without_return};
-pub use lists::{Literals, Texts};
+pub use line::{MAX_LINE_LEN, line_error, line_start, without_return};
+pub use lists::{Literals, TextLiterals};
 pub use literals::{Literal, literal_of, scalar_of};
 pub use numbers::{WholeNumber, number_of, whole_of};
 pub use pairs::key_and_pair;
@@ -52,5 +52,5 @@ pub use theorems::{
     long_lines_are_cut, numbers_are_decimals, printed_kinds_are_read, printed_names_are_read,
     printed_texts_are_read, texts_are_spelled, wholes_are_decimals, words_follow, words_have_room,
 };
-pub use values::Values;
+pub use values::LiteralValues;
 pub use words::{Quoted, Word, next_word, only_word};

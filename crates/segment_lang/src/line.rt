@@ -8,13 +8,13 @@ ghost use Rattle.segment_lang.specs.Reading.{command_line, reading, skip_blanks,
 ghost use Rattle.segment_lang.specs.Seen.{is_wrong, reading_led, wrong_reading};
 
 use crate::blanks::skip_blanks;
-use crate::buffer::Text;
-use crate::commands::Lead;
+use crate::buffer::LineBuffer;
+use crate::commands::LineStart;
 use crate::forms::{is_command, split_form};
 use seg_types::LineError;
 
 /// The longest line without its end, in bytes.
-pub const LONGEST_LINE: usize = 4096;
+pub const MAX_LINE_LEN: usize = 4096;
 
 /// The line without the carriage return at its end, if there is one.
 pub fn without_return(line: &[u8]) -> &[u8]
@@ -38,20 +38,20 @@ fn is_comment(line: &[u8]) -> bool
 
 /// How a line begins that no command word begins: with blanks, or with a word that is none.
 #[inline(never)]
-fn lead_behind_blanks(line: &[u8]) -> Lead<'_>
+fn lead_behind_blanks(line: &[u8]) -> LineStart<'_>
     ensures { reading_led result
         ≡ (if slice_index line.now 0 == 0x23 then Nothing else command_line (whole current) (skip_blanks line.now)) }
 {
     if is_comment(line) {
-        return Lead::Nothing;
+        return LineStart::Nothing;
     }
     let line = skip_blanks(line);
     if line.is_empty() {
-        return Lead::Nothing;
+        return LineStart::Nothing;
     }
     match split_form(line) {
-        Some((form, rest)) => Lead::Form(form, rest),
-        None => Lead::Wrong(LineError::UnknownCommand),
+        Some((form, rest)) => LineStart::Form(form, rest),
+        None => LineStart::Wrong(LineError::UnknownCommand),
     }
 }
 
@@ -59,34 +59,35 @@ fn lead_behind_blanks(line: &[u8]) -> Lead<'_>
 /// dropped.
 #[tactic(auto, unfolding(crate::specs::Reading::reading))]
 #[inline(always)]
-pub fn lead_of(line: &[u8]) -> Lead<'_>
+pub fn line_start(line: &[u8]) -> LineStart<'_>
     ensures { reading_led result ≡ reading (whole current) line.now }
 {
     let line = without_return(line);
-    if line.len() > LONGEST_LINE {
-        return Lead::Wrong(LineError::LineTooLong);
+    if line.len() > MAX_LINE_LEN {
+        return LineStart::Wrong(LineError::LineTooLong);
     }
     match split_form(line) {
-        Some((form, rest)) => Lead::Form(form, rest),
+        Some((form, rest)) => LineStart::Form(form, rest),
         None => lead_behind_blanks(line),
     }
 }
 
-/// Why a line is no command, if it has one and it is none. A name that is spelled with escapes is decoded into `scratch`,
+/// Why a line is no command, if it has one and it is none. A name that is spelled with escapes is decoded into
+/// `scratch`,
 /// whatever it held.
-pub fn line_error(line: &[u8], scratch: &mut Text) -> Option<LineError>
+pub fn line_error(line: &[u8], scratch: &mut LineBuffer) -> Option<LineError>
     ensures { MatchOption result (is_wrong (reading (whole current) line.now) ≡ false)
         (λ error. wrong_reading error ≡ reading (whole current) line.now) }
 {
-    match lead_of(line) {
-        Lead::Nothing => None,
-        Lead::Form(form, rest) => {
+    match line_start(line) {
+        LineStart::Nothing => None,
+        LineStart::Form(form, rest) => {
             if is_command(form, rest, scratch) {
                 None
             } else {
                 Some(LineError::BadSyntax)
             }
         }
-        Lead::Wrong(error) => Some(error),
+        LineStart::Wrong(error) => Some(error),
     }
 }

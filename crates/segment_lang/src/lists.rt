@@ -45,12 +45,12 @@ impl<'a> Iterator for Literals<'a> {
 
 /// Texts. They are read from the line when they are asked for, in order.
 #[derive(Drop)]
-pub struct Texts<'a> {
+pub struct TextLiterals<'a> {
     // What of the line is left: each word of it is a text.
     behind: &'a [u8],
 }
 
-impl<'a> Model for Texts<'a> {
+impl<'a> Model for TextLiterals<'a> {
     ghost use Rattle.std.specs.Prelude.{List, ℕ, IsSome};
     ghost use Rattle.segment_lang.specs.Arguments.{texts_at, texts_in};
 
@@ -61,7 +61,7 @@ impl<'a> Model for Texts<'a> {
     ghost invariant = { λ v. IsSome (texts_at v.behind.now) };
 }
 
-impl<'a> Iterator for Texts<'a> {
+impl<'a> Iterator for TextLiterals<'a> {
     type Item = Quoted<'a>;
 
     ghost next_gives = { YieldsFirst texts_held };
@@ -114,11 +114,11 @@ fn are_texts(bytes: &[u8]) -> bool
 }
 
 /// The texts that all words are.
-pub fn read_texts(bytes: &[u8]) -> Option<Texts<'_>>
+pub fn read_texts(bytes: &[u8]) -> Option<TextLiterals<'_>>
     ensures { result ≡ texts_at bytes.now }
 {
     if !are_texts(bytes) {
         return None;
     }
-    Some(Texts { behind: bytes })
+    Some(TextLiterals { behind: bytes })
 }

@@ -4,9 +4,9 @@ ghost use Rattle.std.specs.Prelude.{◌≡◌, option_map};
 ghost use Rattle.seg_types.specs.Values.{scalar_of as scalar_in};
 ghost use Rattle.segment_lang.specs.Words.{Bare, is, literal_of_word};
 ghost use Rattle.segment_lang.specs.Reading.{quoted_of, value_for};
-ghost use Rattle.segment_lang.specs.Seen.{HasRoom, literal_of, word_of};
+ghost use Rattle.segment_lang.specs.Seen.{HasLineRoom, literal_of, word_of};
 
-use crate::buffer::Text;
+use crate::buffer::LineBuffer;
 use crate::numbers::{WholeNumber, whole_of};
 use crate::words::{Quoted, Word};
 use seg_types::{Refusal, ScalarKind, ScalarValue, Written, truth_as, whole_as};
@@ -63,11 +63,11 @@ pub fn quoted_of(word: Word<'_>) -> Option<Quoted<'_>>
 }
 
 impl Written for Literal<'_> {
-    type Room = Text;
+    type Room = LineBuffer;
 
     ghost literal = { literal_of };
 
-    ghost fits = { λ l. HasRoom (literal_of l) };
+    ghost fits = { λ l. HasLineRoom (literal_of l) };
 
     fn value_of(&self, kind: ScalarKind) -> Result<ScalarValue, Refusal> {
         match self {
@@ -77,7 +77,7 @@ impl Written for Literal<'_> {
         }
     }
 
-    fn text<'r>(&'r self, room: &'r mut Text) -> Option<&'r [u8]> {
+    fn text<'r>(&'r self, room: &'r mut LineBuffer) -> Option<&'r [u8]> {
         match self {
             Literal::Quoted(text) => Some(text.bytes(room)),
             _ => None,

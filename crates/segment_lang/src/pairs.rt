@@ -7,7 +7,7 @@ ghost use Rattle.seg_types.specs.Keys.{key_seen};
 ghost use Rattle.segment_lang.specs.Arguments.{of_three, of_two};
 ghost use Rattle.segment_lang.specs.Seen.{deed_of, literal_of as literal_seen};
 
-use crate::buffer::Text;
+use crate::buffer::LineBuffer;
 use crate::commands::Deed;
 use crate::keys::key_of;
 use crate::literals::{Literal, literal_of};
@@ -19,7 +19,7 @@ use seg_types::Key;
 #[inline(never)]
 pub fn key_and_pair<'a>(
     bytes: &'a [u8],
-    scratch: &'a mut Text,
+    scratch: &'a mut LineBuffer,
 ) -> Option<(Key<'a>, Literal<'a>, Literal<'a>)>
     ensures { option_map (λ x. asked.Put (key_seen x.0) (literal_seen x.1) (literal_seen x.2)) result
         ≡ of_three putting bytes.now }
@@ -33,7 +33,7 @@ pub fn key_and_pair<'a>(
 
 /// A key and a value, of a pair that is looked up.
 #[inline(never)]
-pub fn read_lookup<'a>(bytes: &'a [u8], scratch: &'a mut Text) -> Option<Deed<'a>>
+pub fn read_lookup<'a>(bytes: &'a [u8], scratch: &'a mut LineBuffer) -> Option<Deed<'a>>
     ensures { option_map deed_of result ≡ of_two (with_key_literal asked.Lookup) bytes.now }
 {
     let (key, at) = key_and_literal(bytes, scratch)?;
@@ -42,7 +42,7 @@ pub fn read_lookup<'a>(bytes: &'a [u8], scratch: &'a mut Text) -> Option<Deed<'a
 
 /// A key and a value, of a pair that goes.
 #[inline(never)]
-pub fn read_remove<'a>(bytes: &'a [u8], scratch: &'a mut Text) -> Option<Deed<'a>>
+pub fn read_remove<'a>(bytes: &'a [u8], scratch: &'a mut LineBuffer) -> Option<Deed<'a>>
     ensures { option_map deed_of result ≡ of_two (with_key_literal asked.Remove) bytes.now }
 {
     let (key, at) = key_and_literal(bytes, scratch)?;

@@ -11,7 +11,7 @@ ghost use Rattle.segment_lang.specs.Arguments.{handle_of, making_at, making_each
 ghost use Rattle.segment_lang.specs.Seen.{deed_of, literal_of};
 
 use crate::blanks::at_end;
-use crate::buffer::Text;
+use crate::buffer::LineBuffer;
 use crate::commands::Deed;
 use crate::contents::read_content;
 use crate::keys::{handle_of, index_key, index_key_for, key_of, new_key_for};
@@ -25,7 +25,7 @@ use seg_types::{Key, Kind};
 /// A kind with a count, a key and what an object of the kind is made with: one value, any number of them or none.
 #[tactic(auto, unfolding(crate::specs::Arguments::making_at))]
 #[inline(never)]
-pub fn read_construct<'a>(bytes: &'a [u8], scratch: &'a mut Text) -> Option<Deed<'a>>
+pub fn read_construct<'a>(bytes: &'a [u8], scratch: &'a mut LineBuffer) -> Option<Deed<'a>>
     ensures { option_map deed_of result ≡ making_at asked.Construct new_key bytes.now }
 {
     let (kind, key, rest) = next_two(bytes)?;
@@ -38,7 +38,7 @@ pub fn read_construct<'a>(bytes: &'a [u8], scratch: &'a mut Text) -> Option<Deed
 /// A kind with a count, an entry of an index and what an object of the kind is made with.
 #[tactic(auto, unfolding(crate::specs::Arguments::making_at))]
 #[inline(never)]
-pub fn read_find_or_construct<'a>(bytes: &'a [u8], scratch: &'a mut Text) -> Option<Deed<'a>>
+pub fn read_find_or_construct<'a>(bytes: &'a [u8], scratch: &'a mut LineBuffer) -> Option<Deed<'a>>
     ensures { option_map deed_of result ≡ making_at asked.FindOrConstruct name_key bytes.now }
 {
     let (kind, key, rest) = next_two(bytes)?;
@@ -51,7 +51,7 @@ pub fn read_find_or_construct<'a>(bytes: &'a [u8], scratch: &'a mut Text) -> Opt
 /// A kind with a count, a key and as many values.
 #[tactic(auto, unfolding(crate::specs::Arguments::making_each_at))]
 #[inline(never)]
-pub fn read_construct_it<'a>(bytes: &'a [u8], scratch: &'a mut Text) -> Option<Deed<'a>>
+pub fn read_construct_it<'a>(bytes: &'a [u8], scratch: &'a mut LineBuffer) -> Option<Deed<'a>>
     ensures { option_map deed_of result ≡ making_each_at bytes.now }
 {
     let (kind, key, rest) = next_two(bytes)?;
@@ -66,7 +66,7 @@ pub fn read_construct_it<'a>(bytes: &'a [u8], scratch: &'a mut Text) -> Option<D
 
 /// A kind and an entry of an index.
 #[inline(never)]
-pub fn read_find<'a>(bytes: &'a [u8], scratch: &'a mut Text) -> Option<Deed<'a>>
+pub fn read_find<'a>(bytes: &'a [u8], scratch: &'a mut LineBuffer) -> Option<Deed<'a>>
     ensures { option_map deed_of result ≡ of_two finding bytes.now }
 {
     let (kind, key) = two_words(bytes)?;
@@ -77,7 +77,7 @@ pub fn read_find<'a>(bytes: &'a [u8], scratch: &'a mut Text) -> Option<Deed<'a>>
 
 /// An entry of an index.
 #[inline(never)]
-pub fn read_destroy<'a>(bytes: &'a [u8], scratch: &'a mut Text) -> Option<Deed<'a>>
+pub fn read_destroy<'a>(bytes: &'a [u8], scratch: &'a mut LineBuffer) -> Option<Deed<'a>>
     ensures { option_map deed_of result ≡ of_one (with_key asked.Destroy name_key) bytes.now }
 {
     let word = only_word(bytes)?;
@@ -97,7 +97,7 @@ pub fn read_destroy_ptr(bytes: &[u8]) -> Option<Deed<'_>>
 
 /// A key, whatever it is read for.
 #[inline(never)]
-pub fn only_key<'a>(bytes: &'a [u8], scratch: &'a mut Text) -> Option<Key<'a>>
+pub fn only_key<'a>(bytes: &'a [u8], scratch: &'a mut LineBuffer) -> Option<Key<'a>>
     ensures { (f : AskedKey → asked.Command) → option_map (λ key. f (key_seen key)) result
         ≡ of_one (with_key f key_of) bytes.now }
 {
@@ -107,7 +107,7 @@ pub fn only_key<'a>(bytes: &'a [u8], scratch: &'a mut Text) -> Option<Key<'a>>
 
 /// A key and a number, whatever they are read for.
 #[inline(never)]
-pub fn key_and_number<'a>(bytes: &'a [u8], scratch: &'a mut Text) -> Option<(Key<'a>, u64)>
+pub fn key_and_number<'a>(bytes: &'a [u8], scratch: &'a mut LineBuffer) -> Option<(Key<'a>, u64)>
     ensures { (f : AskedKey → ℕ → asked.Command) → option_map (λ x. f (key_seen x.0) x.1) result
         ≡ of_two (with_key_number f) bytes.now }
 {
@@ -119,7 +119,10 @@ pub fn key_and_number<'a>(bytes: &'a [u8], scratch: &'a mut Text) -> Option<(Key
 
 /// A key and a value, whatever they are read for.
 #[inline(never)]
-pub fn key_and_literal<'a>(bytes: &'a [u8], scratch: &'a mut Text) -> Option<(Key<'a>, Literal<'a>)>
+pub fn key_and_literal<'a>(
+    bytes: &'a [u8],
+    scratch: &'a mut LineBuffer,
+) -> Option<(Key<'a>, Literal<'a>)>
     ensures { (f : AskedKey → asked.Literal → asked.Command) → option_map (λ x. f (key_seen x.0) (literal_of x.1))
         result ≡ of_two (with_key_literal f) bytes.now }
 {
@@ -133,7 +136,7 @@ pub fn key_and_literal<'a>(bytes: &'a [u8], scratch: &'a mut Text) -> Option<(Ke
 #[inline(always)]
 pub fn key_number_literal<'a>(
     bytes: &'a [u8],
-    scratch: &'a mut Text,
+    scratch: &'a mut LineBuffer,
 ) -> Option<(Key<'a>, u64, Literal<'a>)>
     ensures { (f : AskedKey → ℕ → asked.Literal → asked.Command)
         → option_map (λ x. f (key_seen x.0) x.1 (literal_of x.2)) result

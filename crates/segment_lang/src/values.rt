@@ -14,24 +14,24 @@ use std::marker::Model;
 
 /// Values of one kind. They are read from the line when they are asked for, in order.
 #[derive(Drop)]
-pub struct Values<'a> {
+pub struct LiteralValues<'a> {
     kind: ScalarKind,
     // What of the line is left: each word of it is a value of the kind.
     behind: &'a [u8],
 }
 
-impl<'a> Model for Values<'a> {
+impl<'a> Model for LiteralValues<'a> {
     ghost use Rattle.std.specs.Prelude.{IsSome};
-    ghost use Rattle.segment_lang.specs.Arguments.{Written, numbers_at, values_in};
+    ghost use Rattle.segment_lang.specs.Arguments.{TypedNumbers, numbers_at, values_in};
 
-    ghost Value = { Written };
+    ghost Value = { TypedNumbers };
 
     ghost view = { λ v. values_in v.kind v.behind.now };
 
     ghost invariant = { λ v. IsSome (numbers_at v.kind v.behind.now) };
 }
 
-impl Values<'_> {
+impl LiteralValues<'_> {
     /// The kind of the values.
     pub fn kind(&self) -> ScalarKind
         ensures kind { result ≡ self.now.kind }
@@ -41,7 +41,7 @@ impl Values<'_> {
     }
 }
 
-impl Iterator for Values<'_> {
+impl Iterator for LiteralValues<'_> {
     type Item = ScalarValue;
 
     ghost next_gives = { YieldsFirst scalars_in };
@@ -73,24 +73,24 @@ fn count_values(kind: ScalarKind, bytes: &[u8]) -> Option<usize>
 }
 
 /// The values of the kind that all words are.
-pub fn read_elements(kind: ScalarKind, bytes: &[u8]) -> Option<Values<'_>>
+pub fn read_elements(kind: ScalarKind, bytes: &[u8]) -> Option<LiteralValues<'_>>
     ensures { result ≡ option_map (written kind) (numbers_at kind bytes.now) }
 {
     count_values(kind, bytes)?;
-    Some(Values {
+    Some(LiteralValues {
         kind,
         behind: bytes,
     })
 }
 
 /// The values of the kind that the words are, where they are as many.
-pub fn read_values(kind: ScalarKind, count: u32, bytes: &[u8]) -> Option<Values<'_>>
+pub fn read_values(kind: ScalarKind, count: u32, bytes: &[u8]) -> Option<LiteralValues<'_>>
     ensures { result ≡ counted_values kind count bytes.now }
 {
     if count_values(kind, bytes)? as u64 != u64::from(count) {
         return None;
     }
-    Some(Values {
+    Some(LiteralValues {
         kind,
         behind: bytes,
     })

@@ -1,6 +1,7 @@
 //! The words of a line, one after another.
 
-ghost use Rattle.std.specs.Prelude.{◌≡◌, ◌≤◌, ◌<◌, ◌+◌, ◌++◌, drop, length, option_map, take, take_while, IfSome, Some, None};
+ghost use Rattle.std.specs.Prelude.{◌≡◌, ◌≤◌, ◌<◌, ◌+◌, ◌++◌, drop, length, option_map, take, take_while, IfSome, Some};
+ghost use Rattle.std.specs.Prelude.{None};
 ghost use Rattle.std.specs.Prelude.{if◌then◌else◌};
 ghost use Rattle.std.specs.List.{prefix_len};
 ghost use Rattle.raw_region.specs.Format.{current};
@@ -12,8 +13,8 @@ ghost use Rattle.segment_lang.specs.Tokens.{behind_text, text_in, up_to_blank};
 ghost use Rattle.segment_lang.specs.Seen.{bytes_said, word_of};
 
 use crate::blanks::{at_end, is_blank, skip_blanks};
-use crate::buffer::Text;
-use seg_types::{LONGEST_NAME, Name};
+use crate::buffer::LineBuffer;
+use seg_types::{MAX_NAME_LEN, Name};
 use std::marker::Model;
 
 /// The bytes that a text in quotes stands for. They are read from the line when they are asked for.
@@ -38,7 +39,7 @@ impl<'a> Quoted<'a> {
     ghost use Rattle.seg_types.specs.Keys.{name_seen};
 
     /// The bytes. They are lent from the line, or decoded into `scratch` where the line escapes one, whatever it held.
-    pub fn bytes(&self, scratch: &'a mut Text) -> &'a [u8]
+    pub fn bytes(&self, scratch: &'a mut LineBuffer) -> &'a [u8]
         requires { length self.now ≤ 4096 }
         ensures { result.now ≡ self.now }
     {
@@ -68,7 +69,7 @@ impl<'a> Quoted<'a> {
 
     /// The name that the bytes are, or `None` where they are none. It is lent from the line, or decoded into `scratch`
     /// where the line escapes a byte of it.
-    pub fn to_name(&self, scratch: &'a mut Text) -> Option<Name<'a>>
+    pub fn to_name(&self, scratch: &'a mut LineBuffer) -> Option<Name<'a>>
         ensures { option_map name_seen result ≡ (if is_name current self.now then Some self.now else None) }
     {
         match self.lent() {
@@ -78,13 +79,13 @@ impl<'a> Quoted<'a> {
     }
 
     /// The name that the bytes are, decoded into `scratch`.
-    fn decode_name(&self, scratch: &'a mut Text) -> Option<Name<'a>>
+    fn decode_name(&self, scratch: &'a mut LineBuffer) -> Option<Name<'a>>
         ensures { option_map name_seen result ≡ (if is_name current self.now then Some self.now else None) }
     {
         scratch.clear();
         let mut rest = self.behind;
         'items: while let Some((byte, tail)) = read_item(rest) {
-            if scratch.len() == LONGEST_NAME {
+            if scratch.len() == MAX_NAME_LEN {
                 return None;
             }
             scratch.push(byte);
@@ -94,7 +95,7 @@ impl<'a> Quoted<'a> {
     }
 
     /// Adds the bytes at the end of a text.
-    pub fn append_to(&self, text: &mut Text)
+    pub fn append_to(&self, text: &mut LineBuffer)
         requires { length text.old + length self.now ≤ 4096 }
         ensures { text.new ≡ text.old ++ self.now }
     {
@@ -126,7 +127,7 @@ fn is_bare(byte: u8) -> bool
 fn split_bare(bytes: &[u8]) -> (&[u8], &[u8])
     ensures front { result.0.now ≡ take (prefix_len is_bare bytes.now) bytes.now }
     ensures rest { result.1.now ≡ drop (prefix_len is_bare bytes.now) bytes.now }
-    ensures shorter { length result.0.now + length result.1.now ≡ length bytes.now }
+    ensures shrinking { length result.0.now + length result.1.now ≡ length bytes.now }
 {
     let mut rest = bytes;
     'bare: while let [first, tail @ ..] = rest {
@@ -141,7 +142,7 @@ fn split_bare(bytes: &[u8]) -> (&[u8], &[u8])
 /// The bare word in front, up to a blank, and what is behind it.
 fn read_bare(bytes: &[u8]) -> Option<(&[u8], &[u8])>
     ensures value { option_map (λ x. (x.0.now, x.1.now)) result ≡ bare_at bytes.now }
-    ensures shorter { IfSome result (λ x. length (up_to_blank bytes.now) + length x.1.now ≡ length bytes.now) }
+    ensures shrinking { IfSome result (λ x. length (up_to_blank bytes.now) + length x.1.now ≡ length bytes.now) }
     ensures fits { IfSome result (λ x. length x.0.now ≤ length bytes.now) }
 {
     let (word, rest) = split_bare(bytes);
@@ -161,7 +162,7 @@ fn is_plain(byte: u8) -> bool
 /// The value of a digit of `0` to `9`, `a` to `f`, from 0 to 15.
 fn digit_of(byte: u8) -> Option<u8>
     ensures value { result ≡ digit_of byte }
-    ensures small { IfSome result (λ digit. digit < 16) }
+    ensures max_size { IfSome result (λ digit. digit < 16) }
 {
     if byte.is_ascii_digit() {
         Some(byte - b'0')
@@ -176,7 +177,7 @@ fn digit_of(byte: u8) -> Option<u8>
 #[tactic(auto, unfolding(crate::specs::Tokens::digits_at))]
 fn read_digits(bytes: &[u8]) -> Option<(u8, &[u8])>
     ensures value { option_map (λ x. (x.0, x.1.now)) result ≡ digits_at bytes.now }
-    ensures shorter { IfSome result (λ x. length x.1.now < length bytes.now) }
+    ensures shrinking { IfSome result (λ x. length x.1.now < length bytes.now) }
 {
     let [high, low, rest @ ..] = bytes else {
         return None;
@@ -190,7 +191,7 @@ fn read_digits(bytes: &[u8]) -> Option<(u8, &[u8])>
 #[tactic(auto, unfolding(crate::specs::Tokens::escape_at))]
 fn read_escape(bytes: &[u8]) -> Option<(u8, &[u8])>
     ensures value { option_map (λ x. (x.0, x.1.now)) result ≡ escape_at bytes.now }
-    ensures shorter { IfSome result (λ x. length x.1.now < length bytes.now) }
+    ensures shrinking { IfSome result (λ x. length x.1.now < length bytes.now) }
 {
     let [byte, rest @ ..] = bytes else {
         return None;
@@ -206,7 +207,7 @@ fn read_escape(bytes: &[u8]) -> Option<(u8, &[u8])>
 #[tactic(auto, unfolding(crate::specs::Tokens::item_at))]
 fn read_item(bytes: &[u8]) -> Option<(u8, &[u8])>
     ensures value { option_map (λ x. (x.0, x.1.now)) result ≡ item_at bytes.now }
-    ensures shorter { IfSome result (λ x. length x.1.now < length bytes.now) }
+    ensures shrinking { IfSome result (λ x. length x.1.now < length bytes.now) }
 {
     let [byte, rest @ ..] = bytes else {
         return None;
@@ -248,8 +249,8 @@ pub fn ends_word(bytes: &[u8]) -> bool
 /// What stands behind the items of a text.
 fn skip_items(bytes: &[u8]) -> &[u8]
     ensures end { item_at result.now ≡ None }
-    ensures same { behind_text result.now ≡ behind_text bytes.now }
-    ensures shorter { length result.now ≤ length bytes.now }
+    ensures unchanged { behind_text result.now ≡ behind_text bytes.now }
+    ensures shrinking { length result.now ≤ length bytes.now }
 {
     let mut rest = bytes;
     'items: while let Some((_, tail)) = read_item(rest) {
@@ -261,7 +262,7 @@ fn skip_items(bytes: &[u8]) -> &[u8]
 /// What is behind the quote that closes a text, where it stands in front and the word ends there.
 fn close_text(bytes: &[u8]) -> Option<&[u8]>
     ensures value { option_map (λ x. x.now) result ≡ behind_quote bytes.now }
-    ensures shorter { IfSome result (λ x. length x.now < length bytes.now) }
+    ensures shrinking { IfSome result (λ x. length x.now < length bytes.now) }
 {
     let [byte, rest @ ..] = bytes else {
         return None;
@@ -275,7 +276,7 @@ fn close_text(bytes: &[u8]) -> Option<&[u8]>
 /// The text behind the quote that opens it, and what is behind the quote that closes it.
 fn read_text(bytes: &[u8]) -> Option<(Quoted<'_>, &[u8])>
     ensures value { option_map (λ x. (x.0, x.1.now)) result ≡ text_at bytes.now }
-    ensures shorter { IfSome result (λ x. length x.1.now < length bytes.now) }
+    ensures shrinking { IfSome result (λ x. length x.1.now < length bytes.now) }
     ensures fits { IfSome result (λ x. length x.0 ≤ length bytes.now) }
 {
     let rest = close_text(skip_items(bytes))?;
@@ -287,7 +288,7 @@ fn read_text(bytes: &[u8]) -> Option<(Quoted<'_>, &[u8])>
 #[tactic(auto, unfolding(crate::specs::Tokens::next_word, crate::specs::Tokens::word_at))]
 pub fn next_word(bytes: &[u8]) -> Option<(Word<'_>, &[u8])>
     ensures value { option_map (λ x. (word_of x.0, x.1.now)) result ≡ next_word bytes.now }
-    ensures shorter { IfSome result (λ x. length x.1.now < length bytes.now) }
+    ensures shrinking { IfSome result (λ x. length x.1.now < length bytes.now) }
 
     // A word stands for no more bytes than the line has.
     ensures fits { IfSome result (λ x. length (bytes_said x.0) ≤ length bytes.now) }

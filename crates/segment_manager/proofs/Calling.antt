@@ -1,9 +1,13 @@
 -- What the contracts of the heap come to for a directory: blocks asked for, released and written.
-use Rattle.segment_manager.proofs.Common.{◌≡◌, sym, ap, ◌∙◌, ℕ, Bool, true, ◌&&◌, ◌==◌, List, Cut, live, [], ◌∷◌}
+use Rattle.segment_manager.proofs.Common.{◌≡◌, sym, ap, ◌∙◌, ℕ, Bool, true, ◌&&◌, ◌==◌, List, WindowState, live, []}
+use Rattle.segment_manager.proofs.Common.{◌∷◌}
 use Rattle.segment_manager.proofs.Common.{refl, is_live_in, value_extents, without_object, lay_out_one, list_any-insert}
-use Rattle.segment_manager.proofs.Common.{subst, IsTrue, eq-eqb, Extent, handle, holds, Keeps, Object, has_key, Denotes}
-use Rattle.segment_manager.proofs.Common.{list_any, is_proper, IsReleased, Directory, IsObjectAt, Anonymous, extents_of}
-use Rattle.segment_manager.proofs.Common.{and_from, bytes_of, LiveSet, released, LaysOut, live_of, has_room, ByHandle}
+use Rattle.segment_manager.proofs.Common.{subst, IsTrue, eq-eqb, Extent, handle, holds, KeepsBlocks, Object, has_key}
+use Rattle.segment_manager.proofs.Common.{Denotes}
+use Rattle.segment_manager.proofs.Common.{list_any, is_proper, Deallocates, Directory, IsObjectAt, Anonymous}
+use Rattle.segment_manager.proofs.Common.{extents_of}
+use Rattle.segment_manager.proofs.Common.{and_from, bytes_of, LiveSet, released, EncodesLiveSet, live_of, has_room}
+use Rattle.segment_manager.proofs.Common.{ByHandle}
 use Rattle.segment_manager.proofs.Live.{IsFound, IsIn, live-split, removing}
 use Rattle.segment_manager.proofs.{Order.inserted, objects.ObjectLists.all-found, Denoted.denotes-without}
 
@@ -40,16 +44,17 @@ pub denotes-live : (format : ℕ) (b : List ℕ) (d : Directory) → Denotes for
 denotes-live format b d h = lay_out_one format b (live d) h.heap
 
 -- the bytes of a directory are a heap's
-pub denotes-heap : (format : ℕ) (b : List ℕ) (d : Directory) → Denotes format b d → LaysOut format b (live_of b)
-denotes-heap format b d h = subst (LaysOut format b) (sym (denotes-live format b d h)) h.heap
+pub denotes-heap : (format : ℕ) (b : List ℕ) (d : Directory) → Denotes format b d → EncodesLiveSet format b (live_of b)
+denotes-heap format b d h = subst (EncodesLiveSet format b) (sym (denotes-live format b d h)) h.heap
 
 -- without the object whose block was released, one without a key that has no other
-pub denotes-released : {format : ℕ} {old new : Cut} {d : Directory} (o : Object) → Denotes format old.bytes d → IsIn d o
-    → o.class ≡ Anonymous → value_extents o.value ≡ [] → IsReleased format old new (handle o.extent)
+pub denotes-released : {format : ℕ} {old new : WindowState} {d : Directory} (o : Object)
+    → Denotes format old.bytes d → IsIn d o
+    → o.class ≡ Anonymous → value_extents o.value ≡ [] → Deallocates format old new (handle o.extent)
     → Denotes format new.bytes (without_object d o)
 denotes-released {format} {old} {new} {d} o k f class alone r =
     let same : released (live_of old.bytes) (handle o.extent) ≡ removing (live d) (extents_of o) =
     ap (λ l. released l (handle o.extent)) (denotes-live format old.bytes d k)
     ∙ ap (λ xs. removing (live d) (o.extent ∷ xs)) (sym alone) in
-    denotes-without old new o k f class (subst (LaysOut format new.bytes) same r.live)
-    (subst (λ (l : LiveSet). Keeps old new l.extents) same r.keeps)
+    denotes-without old new o k f class (subst (EncodesLiveSet format new.bytes) same r.live)
+    (subst (λ (l : LiveSet). KeepsBlocks old new l.extents) same r.keeps)

@@ -2,7 +2,7 @@
 -- step of a command, by the kind of the object and by what the literals are for it.
 
 -- what is known of the object that is to be changed, and of the literals
-pub use Rattle.segment_manager.specs.containers.Changeable.{IsChangeable, IsElement, IsNoElement, IsToChange}
+pub use Rattle.segment_manager.specs.containers.Changeable.{IsChangeable, IsElement, IsNoElement, IsChangeableObject}
 pub use Rattle.segment_manager.specs.containers.Changeable.{IsUnchangeable}
 pub use Rattle.segment_manager.proofs.containers.Changeable.{changeable, handle-to-change, reading-unchangeable}
 pub use Rattle.segment_manager.proofs.containers.Changeable.{says-kind, to-change}

@@ -17,12 +17,14 @@ pub use Rattle.std.specs.Prelude.{int_lt, is_some, option_map, option_to_list, r
 pub use Rattle.std.specs.{Iterator.Yields, List.AllByRecursion, List.list_all, List.list_any, Str.chars, Str.is_utf8}
 use Rattle.std.specs.Prelude.{IsErrAnd}
 pub use denote.Ref.{Bor}
-pub use Rattle.raw_region.proofs.Laws.{Has-same, Same-part, Same-trans, Same-word, SameBut-Same, SamePlace-trans}
+pub use Rattle.raw_region.proofs.Laws.{HasBytesAt-same, SameBytes-part, SameBytes-trans, SameBytes-word}
+pub use Rattle.raw_region.proofs.Laws.{SameBytesExcept-SameBytes, SameSurroundings-trans}
 unfoldable pub use Rattle.raw_region.specs.Format.{current}
-pub use Rattle.raw_region.specs.Memory.{AreZero, Cut, Has, Memory, Same, SameBut, SamePlace, are_bytes, bytes_of, part}
+pub use Rattle.raw_region.specs.Memory.{AreZero, WindowState, HasBytesAt, Memory, SameBytes, SameBytesExcept}
+pub use Rattle.raw_region.specs.Memory.{SameSurroundings, are_bytes, bytes_of, part}
 pub use Rattle.raw_region.specs.Memory.{read}
 unfoldable pub use Rattle.raw_region.specs.Memory.{word_at}
-pub use Rattle.offset_link.proofs.Laws.{Same-link}
+pub use Rattle.offset_link.proofs.Laws.{SameBytes-link}
 pub use Rattle.offset_link.specs.Link.{link_at}
 pub use Rattle.link_tree.specs.Tree.{Tree, fork, leaf, nodes_of}
 pub use Rattle.block_tags.specs.declared.tile.Role.TheVariants.{Index as IndexRole, Node, Object as ObjectRole, Storage}
@@ -31,16 +33,17 @@ pub use Rattle.best_fit.proofs.Laws.{IsAlone, SameSpread, allocated-is_live, all
 pub use Rattle.best_fit.proofs.Laws.{blocks-trans, changed-live, changed-room, found-new, inserted-append, keeps-refl}
 pub use Rattle.best_fit.proofs.Laws.{keeps-trans, laid-heap, lay_out_one, legal_size, list_any-insert, live-spaced}
 pub use Rattle.best_fit.proofs.Laws.{middle-first, placed_is_proper, room_block, spaced-insert}
-pub use Rattle.best_fit.specs.Exchange.{IsExchanged, SameBlockBut, exchanged}
+pub use Rattle.best_fit.specs.Exchange.{ExchangesBlocks, SameBlockExcept, exchanged}
 pub use Rattle.best_fit.specs.Extents.{Extent, LiveSet, end_of, handle, holds, proper_from, spans}
 unfoldable pub use Rattle.best_fit.specs.Extents.{gaps, is_proper}
 pub use Rattle.best_fit.specs.Fit.{added, others, place, released, resized}
 unfoldable pub use Rattle.best_fit.specs.Fit.{regrow}
 pub use Rattle.best_fit.specs.FreeTree.{IsTreeOf, cells_of, gap_front}
-pub use Rattle.best_fit.specs.Heap.{IsAllocated, IsChanged, IsHeap, IsRefused, IsReleased, IsZeroed, Keeps, LaysOut}
+pub use Rattle.best_fit.specs.Heap.{AllocatesOk, ChangesBytes, IsHeap, AllocatesNoSpace, Deallocates, ZeroesFree}
+pub use Rattle.best_fit.specs.Heap.{KeepsBlocks, EncodesLiveSet}
 pub use Rattle.best_fit.specs.Heap.{SameBlock, extent_at, has_room, is_live_in, live_of}
-pub use Rattle.best_fit.specs.Table.{Table, is_table, no_table, same_role, serves}
-unfoldable pub use Rattle.best_fit.specs.Table.{cut_table}
+pub use Rattle.best_fit.specs.Table.{BackingArray, has_backing, no_backing, same_role, serves}
+unfoldable pub use Rattle.best_fit.specs.Table.{shrunk_backing}
 pub use Rattle.seg_types.specs.Commands.{Append, Assign, Command, Content, Destroy, DestroyPtr, Erase, Get, Insert}
 pub use Rattle.seg_types.specs.Commands.{Literal, Lookup, Pop, Push, Put, Quoted, Remove, Set, is_changing, literal_of}
 pub use Rattle.seg_types.specs.Keys.{index_key_seen, key_seen, new_key_seen}
@@ -58,38 +61,44 @@ pub use Rattle.seg_types.specs.{declared.keys.IndexKey.IndexKey, declared.kinds.
 pub use Rattle.seg_types.specs.{declared.kinds.Kind.TheVariants.Vector as VectorKind, declared.refusals.Refusal.Refusal}
 pub use Rattle.seg_types.specs.{declared.kinds.ScalarKind.ScalarKind, declared.refusals.Refusal.TheVariants.WrongKind}
 pub use Rattle.seg_types.specs.{declared.plain.Plain.Ghosts as Plain, declared.values.ScalarValue.ScalarValue}
-pub use Rattle.seg_vector.specs.Standing.{IsOwnBlock, Stands, place_at}
-pub use Rattle.seg_vector.specs.TextCalls.{AssignsText, IsSomeText, IsTextGrown, IsTextNow}
-pub use Rattle.seg_vector.specs.TextsCalls.{AreOthers, AreTextsAssigned, AssignsTexts, IsGivenUp, IsSomeTexts}
-pub use Rattle.seg_vector.specs.TextsCalls.{IsTextsNow, all_texts, new_array, one_more, placed_text, placed_texts}
+pub use Rattle.seg_vector.specs.Containers.{IsStorageBlock, IsContainer, place_at}
+pub use Rattle.seg_vector.specs.TextCalls.{AssignsText, IsSomeText, GrowsTextOk, ReplacesText}
+pub use Rattle.seg_vector.specs.TextsCalls.{AreDistinct, AssignsTextsOk, AssignsTexts, UndoesRequests, IsTextsContainer}
+pub use Rattle.seg_vector.specs.TextsCalls.{ReplacesTexts, all_texts, new_array, one_more, placed_text, placed_texts}
 pub use Rattle.seg_vector.specs.TextsCalls.{text_blocks, with_array, with_text}
 pub use Rattle.seg_vector.specs.Vector.{IsContainerAt, OwnedText, capacity_for_one, capacity_for_text, spelled}
-unfoldable pub use Rattle.seg_vector.specs.Vector.{grown_table}
-pub use Rattle.seg_vector.specs.VectorCalls.{Assigns, IsOutside, IsSomeVector, IsVectorGrown, IsVectorNow}
-pub use Rattle.seg_vector.specs.VectorCalls.{IsWithoutSpace}
+unfoldable pub use Rattle.seg_vector.specs.Vector.{grown_backing}
+pub use Rattle.seg_vector.specs.VectorCalls.{Assigns, RefusesIndex, IsSomeVector, GrowsVectorOk, ReplacesVector}
+pub use Rattle.seg_vector.specs.VectorCalls.{LacksSpace}
 pub use Rattle.best_fit.specs.declared.places.Place.{Place}
-pub use Rattle.seg_map.specs.Changing.{Erases, IsBesideMap, IsErased, IsFull, IsPut, IsPutAgain, Puts, Releases}
+pub use Rattle.seg_map.specs.Changing.{ErasesKey, KeepsOutsideMap, ErasesPair, PutsNoSpace, PutsNewPair, OverwritesPair}
+pub use Rattle.seg_map.specs.Changing.{PutsPair, ReleasesMap}
 pub use Rattle.seg_map.specs.Map.{is_key, is_rising, node_len, pair_at, put_pair, remove_pair}
 pub use Rattle.seg_map.specs.Numbers.{IsNumberPairAt, NumberPair, is_number_pair}
 pub use Rattle.seg_map.specs.Places.{FindsItem, FindsItemBefore, FindsLastItem, FindsValue, HoldsMap, IsPairIn}
 pub use Rattle.seg_map.specs.Places.{IsSomeMap, first_pair, item_of, nodes_of_pairs, value_of_pair}
 pub use Rattle.seg_index.proofs.Laws.{prepared}
-pub use Rattle.seg_index.specs.Growth.{AddKeeps, Adds, CanGrow, GivesBack, IsGrowth, KeepsRest, beside_table}
+pub use Rattle.seg_index.specs.Growth.{AddKeeps, AddsEntry, CanGrow, FreesGrowth, IsGrowth, KeepsOutsideIndex}
+pub use Rattle.seg_index.specs.Growth.{beside_table}
 pub use Rattle.seg_index.specs.Held.{HasIndex, IsIndexOf, capacity_at, entry_count, place_of}
 pub use Rattle.seg_index.specs.declared.index.Index.TheVariants.{Named, Unique}
 pub use Rattle.seg_index.specs.declared.keys.Lookup.TheVariants.{Absent, Found}
-pub use Rattle.seg_index.specs.{Capacities.IsReserved, declared.index.Index.Index, declared.keys.Entry.Entry}
-pub use Rattle.seg_index.specs.{Capacities.IsRoomy, Capacities.IsShrunk, Growth.without_link, Index.grown_capacity}
-pub use Rattle.seg_index.specs.{Growth.grown_bytes, Index.IsIndexAt, Keys.name_len_at, Lookups.IsPlace}
-pub use Rattle.seg_index.specs.{Growth.unlinked, declared.keys.Entry.TheVariants.Code, declared.keys.Entry.TheVariants.Name}
+pub use Rattle.seg_index.specs.{Capacities.ReservesIndexOk, declared.index.Index.Index, declared.keys.Entry.Entry}
+pub use Rattle.seg_index.specs.{Capacities.KeepsRoomyIndex, Capacities.ShrinksIndex, Growth.without_link}
+pub use Rattle.seg_index.specs.{Index.grown_capacity}
+pub use Rattle.seg_index.specs.{Growth.grown_bytes, Index.IsIndexAt, Keys.name_len_at, Lookups.FindsPosition}
+pub use Rattle.seg_index.specs.{Growth.unlinked, declared.keys.Entry.TheVariants.Code}
+pub use Rattle.seg_index.specs.{declared.keys.Entry.TheVariants.Name}
 pub use Rattle.segment_manager.specs.Answers.{Answer, Done, Element, Made, Number, Refused, TextElement, Truth}
-pub use Rattle.segment_manager.specs.objects.Begun.{Begins, IsAbsentAt, IsBegun, IsBegunAlone, IsBegunEntry, IsHeaded}
-pub use Rattle.segment_manager.specs.objects.Begun.{IsLoose, IsLooseAlone, IsLooseEntry, IsNotBegun, IsReadyFor}
-pub use Rattle.segment_manager.specs.objects.Begun.{IsTakenKey, IsWanted, LeadsThere}
+pub use Rattle.segment_manager.specs.objects.PendingObjects.{BeginsObject, IsAbsentAt, BeginsObjectOk, BeginsAnonymous}
+pub use Rattle.segment_manager.specs.objects.PendingObjects.{BeginsEntryOk, WritesObjectHeader}
+pub use Rattle.segment_manager.specs.objects.PendingObjects.{IsUnindexedObject, IsLooseAlone, IsLooseEntry, IsNotBegun}
+pub use Rattle.segment_manager.specs.objects.PendingObjects.{IsReadyFor}
+pub use Rattle.segment_manager.specs.objects.PendingObjects.{RefusesKey, IsReadyForEntry, LeadsThere}
 pub use Rattle.segment_manager.specs.Calls.{IsTileOfIndex, elements_at, elements_of, kind_at}
-pub use Rattle.segment_manager.specs.containers.Changeable.{IsChangeable, IsToChange, IsUnchangeable}
+pub use Rattle.segment_manager.specs.containers.Changeable.{IsChangeable, IsChangeableObject, IsUnchangeable}
 pub use Rattle.segment_manager.specs.containers.Contents.{Contents, bytes_at, has_values, has_sizes, sizes_at, sizes_of}
-pub use Rattle.segment_manager.specs.containers.Contents.{IsRefilled, container_at, contents_of, has_storage}
+pub use Rattle.segment_manager.specs.containers.Contents.{RefillsContainer, container_at, contents_of, has_storage}
 pub use Rattle.segment_manager.specs.containers.Contents.{container_place, place_of_kind, sizes_at_kind, sizes_of_kind}
 pub use Rattle.segment_manager.specs.Denotes.{Denotes, IsHeader, IsObjectAt, IsValueAt, handles, padded_name}
 pub use Rattle.segment_manager.specs.objects.Destroyed.{Becomes, Empties, HoldsObject, emptied}
@@ -101,33 +110,39 @@ pub use Rattle.segment_manager.specs.Directory.{padded, put_object, remove_objec
 pub use Rattle.segment_manager.specs.Directory.{same_bytes, sorted, table_extents, unique_objects, value_extents}
 pub use Rattle.segment_manager.specs.Directory.{value_len, with_changed, with_object, without_object}
 pub use Rattle.segment_manager.specs.{Answers.is_untouched, Answers.refusal_of, Denotes.two_halves}
-pub use Rattle.seg_types.specs.Literals.{IsValueOf, and_then, pair_of, values_of}
+pub use Rattle.seg_types.specs.Literals.{IsValueOf, cons_values, pair_values, values_of}
 unfoldable pub use Rattle.segment_manager.specs.Directory.{live}
 pub use Rattle.segment_manager.specs.objects.ElementLists.{first_size, length_at_kind, number_or_none}
 pub use Rattle.segment_manager.specs.containers.Filled.{Constructs, FindsOrConstructs, IsBegunFor, IsDenied, IsGiven}
-pub use Rattle.segment_manager.specs.containers.Filled.{IsMadeValue, IsNoValue, MakesValue, with_count}
+pub use Rattle.segment_manager.specs.containers.Filled.{MakesValueOk, MakesValueErr, MakesValue, with_count}
 pub use Rattle.segment_manager.specs.objects.Found.{IsBelow, handle_at, is_object_at, pair_answer}
 pub use Rattle.segment_manager.specs.indexes.Indexed.{Seeks, class_of_index, entries_of, objects_of, order_of}
 pub use Rattle.segment_manager.specs.indexes.Indexed.{reserve_of, table_of, with_table_of}
 pub use Rattle.segment_manager.specs.objects.Instances.{IsInstance, IsMissing, SaysAt, SaysOf}
-pub use Rattle.segment_manager.specs.indexes.Iterating.{GoesOn, GoesOnNames, NameWalk, Walk, is_own, is_own_span}
-pub use Rattle.segment_manager.specs.Keeping.{HasPlaces, KeepsWhere, LacksKey}
-pub use Rattle.segment_manager.specs.indexes.Listed.{HasEntries, HasEntry, IsAnonymousAt, IsListed}
+pub use Rattle.segment_manager.specs.indexes.Iterating.{YieldsInstance, GoesOnNames, NameWalk, Walk, is_own}
+pub use Rattle.segment_manager.specs.indexes.Iterating.{is_own_span}
+pub use Rattle.segment_manager.specs.Keeping.{HasPlaces, UnchangedWhere, LacksKey}
+pub use Rattle.segment_manager.specs.indexes.Listed.{HasEntries, HasIndexEntry, IsAnonymousAt, IsListed}
 pub use Rattle.segment_manager.specs.containers.Maps.{HasPairs, ReleasesPairs, numbers_in, numbers_of}
 pub use Rattle.segment_manager.specs.containers.Maps.{pair_above, pair_at_end, pair_below, pair_from, pair_up_to}
 pub use Rattle.segment_manager.specs.containers.Maps.{told_of, told_of_map, value_or_absent}
-pub use Rattle.segment_manager.specs.objects.NewObjects.{IsNewKeyOf, IsOfKind, IsRequested, IsRestored, IsUnmet}
+pub use Rattle.segment_manager.specs.objects.NewObjects.{IsNewKeyOf, IsOfKind, RequestsBlocksOk, RestoresBlocks}
+pub use Rattle.segment_manager.specs.objects.NewObjects.{RequestsBlocksErr}
 pub use Rattle.segment_manager.specs.Plan.{Need, New, Plan, Refuse, Regrown as RegrownNeed, Reply, Request, bare}
 pub use Rattle.segment_manager.specs.Plan.{class_of, met, name_of, perform, with, with_capacity, with_entry}
 pub use Rattle.segment_manager.specs.Plan.{with_new_index, with_new_object, with_owned_text, with_owned_texts}
 pub use Rattle.segment_manager.specs.blocks.Resized.{Resizes, grown, shrunk}
-pub use Rattle.segment_manager.specs.objects.Standing.{HasObject, IsHeadAt, IsHeadOf, StandsAt, pair_of_kind, repeated}
-pub use Rattle.segment_manager.specs.State.{Answers, IsReply, IsReplyOfKind, IsSegment, IsStep, IsStepOfKind}
-pub use Rattle.segment_manager.specs.State.{KeepsRefused, LeadsOn, Moves, StandsFor, State, Stays, answer_of}
+pub use Rattle.segment_manager.specs.objects.Standing.{HasObject, IsHeadAt, IsHeadOf, IsObjectInBlock, pair_of_kind}
+pub use Rattle.segment_manager.specs.objects.Standing.{repeated}
+pub use Rattle.segment_manager.specs.State.{AnswersWith, AnswersQuery, AnswersQueryOfKind, IsSegment, TakesStep}
+pub use Rattle.segment_manager.specs.State.{TakesStepOfKind}
+pub use Rattle.segment_manager.specs.State.{UnchangedIfRefused, StepsWithoutAnswer, Transitions, DenotesCurrent}
+pub use Rattle.segment_manager.specs.State.{SegmentState, KeepsModeAndPlace, answer_of}
 pub use Rattle.segment_manager.specs.State.{done_answer, handle_answer, refusal_in, scalar_answer, truth_answer}
 pub use Rattle.segment_manager.specs.Step.{changed, effect, element_at, found, found_at, get, is_read_only, map_of}
 pub use Rattle.segment_manager.specs.Step.{plan, set, storage_of, texts_of, with_items, with_table}
-pub use Rattle.segment_manager.specs.{objects.Heads.IsEntry, objects.Items.TakesItems, indexes.Iterating.own_spans}
+pub use Rattle.segment_manager.specs.{objects.Heads.IsEntry, objects.Items.ConstructsFromItems}
+pub use Rattle.segment_manager.specs.{indexes.Iterating.own_spans}
 pub use Rattle.segment_manager.specs.{Layout.head_len, objects.Located.IsLocated, Plan.with_place, Plan.with_storage}
 pub use Rattle.segment_manager.specs.{Plan.with_value, objects.Standing.room_for, Staying.is_elementwise}
 unfoldable pub use Rattle.segment_manager.specs.Step.{step, step_of_kind}
@@ -135,10 +150,11 @@ pub use Rattle.segment_manager.specs.containers.Stored.{AnswersSafely, HasEnough
 pub use Rattle.segment_manager.specs.containers.Walks.{IsMap, first_of, item_of_kinds, item_seen, pairs_at, pairs_of}
 pub use Rattle.segment_manager.specs.declared.modes.Mode.TheVariants.{CopyOnWrite, Write}
 pub use Rattle.segment_manager.specs.declared.containers.storages.Change.TheVariants.{Clear, Reserve, Shrink}
-pub use Rattle.segment_manager.specs.{containers.TextLists.LeadsOnOfKind, declared.objects.beginning.NewEntry.NewEntry}
+pub use Rattle.segment_manager.specs.{containers.TextLists.LeadsOnOfKind}
+pub use Rattle.segment_manager.specs.{declared.objects.pending_object.PendingEntry.PendingEntry}
 pub use Rattle.segment_manager.specs.{containers.ToChange.IsNotToChange, declared.containers.storages.Change.Change}
-pub use Rattle.segment_manager.specs.{declared.objects.head.Head.Head, declared.objects.telling.Instance.Instance}
-pub use Rattle.segment_manager.specs.{declared.modes.Mode.Mode, declared.objects.targets.Object.Object as Located}
+pub use Rattle.segment_manager.specs.{declared.objects.head.Head.Head, declared.objects.instance_info.Instance.Instance}
+pub use Rattle.segment_manager.specs.{declared.modes.Mode.Mode, declared.objects.object_ref.Object.Object as Located}
 
 -- what the exit of a `?` returns is the error that it met
 pub exit-is : {T E : Type 0} (r : Result T E) (why : E) → IsErrAnd r (λ e. e ≡ why) → r ≡ Err why

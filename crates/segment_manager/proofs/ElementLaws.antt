@@ -13,4 +13,5 @@ pub use Rattle.segment_manager.proofs.objects.Stored.{literal-read, literals-rea
 pub use Rattle.segment_manager.proofs.containers.ContentPlans.{append-other, assign-plan, assign-refused, text-plan}
 pub use Rattle.segment_manager.proofs.containers.ContentPlans.{text-refused}
 -- the elements of an array or a vector stand in its run
-pub use Rattle.segment_manager.proofs.containers.ElementRuns.{IsElementAt, IsRowOfKind, AnArray, AVector, row-element, run-kind}
+pub use Rattle.segment_manager.proofs.containers.ElementRuns.{IsElementAt, IsRowOfKind, AnArray, AVector, row-element}
+pub use Rattle.segment_manager.proofs.containers.ElementRuns.{run-kind}

@@ -2,13 +2,15 @@
 use Rattle.segment_manager.proofs.Common.{◌≡◌, ℕ, zero, suc, ◌+◌, List, [], ◌∷◌, Option, Some, None, Ok, slice_get}
 use Rattle.segment_manager.proofs.Common.{refl, sym, ap, ◌∙◌, arith, option_map, Map, ScalarKind, ScalarValue, ByHandle}
 use Rattle.segment_manager.proofs.Common.{kind_of_scalar, value_of_scalar, NumberPair, item_of, Directory, pair_above}
-use Rattle.segment_manager.proofs.Common.{Answers, State, StandsFor, IsMap, first_of, item_of_kinds, item_seen}
+use Rattle.segment_manager.proofs.Common.{AnswersWith, SegmentState, DenotesCurrent, IsMap, first_of, item_of_kinds}
+use Rattle.segment_manager.proofs.Common.{item_seen}
 use Rattle.segment_manager.proofs.{Common.pairs_at, containers.PairWalks.first-at, containers.PairWalks.walk-next}
-use Rattle.segment_manager.specs.{Parts.part_of, containers.Walks.Item}
+use Rattle.segment_manager.specs.{Parts.part_of, containers.Walks.KindedPair}
 
 -- the next pair is the one at a place
-abbrev pub IsNext : State → ℕ → ScalarKind → ScalarKind → Option (ScalarValue × ScalarValue) → ℕ → Type 0
-IsNext s h k v o i = (d : Directory) → StandsFor s.cut.bytes d → option_map item_seen o ≡ option_map (item_of_kinds k v)
+abbrev pub IsNext : SegmentState → ℕ → ScalarKind → ScalarKind → Option (ScalarValue × ScalarValue) → ℕ → Type 0
+IsNext s h k v o i = (d : Directory) → DenotesCurrent s.cut.bytes d
+    → option_map item_seen o ≡ option_map (item_of_kinds k v)
     (option_map item_of (slice_get (pairs_at d (ByHandle h)) i))
 
 -- there is one
@@ -40,18 +42,18 @@ none-behind (p ∷ ps) zero e = absurd (cc)
 none-behind (p ∷ ps) (suc i) e = none-behind ps i e
 
 -- the first stands at the first place
-pub next-first : (s : State) (h : ℕ) (k v : ScalarKind) (o : Option (ScalarValue × ScalarValue))
-    → Answers s (λ d. option_map (item_of_kinds k v) (option_map item_of (first_of (pairs_at d (ByHandle h)))))
+pub next-first : (s : SegmentState) (h : ℕ) (k v : ScalarKind) (o : Option (ScalarValue × ScalarValue))
+    → AnswersWith s (λ d. option_map (item_of_kinds k v) (option_map item_of (first_of (pairs_at d (ByHandle h)))))
     (option_map item_seen o) → IsNext s h k v o 0
 next-first s h k v o a d l = a.answers d l ∙ ap (λ (r : Option NumberPair). option_map (item_of_kinds k v)
     (option_map item_of r)) (sym (first-at (pairs_at d (ByHandle h))))
 
-module _ (s : State) (h : ℕ) (k v : ScalarKind) (i : ℕ) where
-  abbrev part : (Item → List ℕ) → Directory → List ℕ
+module _ (s : SegmentState) (h : ℕ) (k v : ScalarKind) (i : ℕ) where
+  abbrev part : (KindedPair → List ℕ) → Directory → List ℕ
   part text d = part_of (λ p. text (item_of_kinds k v (item_of p))) (slice_get (pairs_at d (ByHandle h)) i)
 
   -- nothing is written where there is none, and then there is none behind
-  pub none-text : IsNext s h k v None i → (text : Item → List ℕ) (d : Directory) → StandsFor s.cut.bytes d
+  pub none-text : IsNext s h k v None i → (text : KindedPair → List ℕ) (d : Directory) → DenotesCurrent s.cut.bytes d
       → [] ≡ part text d
   none-text n text d l = ap (part_of (λ p. text (item_of_kinds k v (item_of p))))
       (sym (none-if k v (slice_get (pairs_at d (ByHandle h)) i) (n d l)))
@@ -64,11 +66,11 @@ module _ (s : State) (h : ℕ) (k v : ScalarKind) (i : ℕ) where
       ∙ ap (λ (m : ℕ). option_map (item_of_kinds k v) (option_map item_of (slice_get ps m))) more
 
   module _ (x y : ScalarValue) (n : IsNext s h k v (Some (x, y)) i) where
-    pair-there : {d : Directory} → StandsFor s.cut.bytes d → IsPair k v x y (slice_get (pairs_at d (ByHandle h)) i)
+    pair-there : {d : Directory} → DenotesCurrent s.cut.bytes d → IsPair k v x y (slice_get (pairs_at d (ByHandle h)) i)
     pair-there {d} l = pair-if (slice_get (pairs_at d (ByHandle h)) i) (n d l)
 
     -- what is written of it
-    pub pair-said : (text : Item → List ℕ) (d : Directory) → StandsFor s.cut.bytes d
+    pub pair-said : (text : KindedPair → List ℕ) (d : Directory) → DenotesCurrent s.cut.bytes d
         → text (item_seen (x, y)) ≡ part text d
     pair-said text d l =
         let p = pair-there l in ap text p.same ∙ sym (ap (part_of (λ q. text (item_of_kinds k v (item_of q)))) p.is)
@@ -81,7 +83,7 @@ module _ (s : State) (h : ℕ) (k v : ScalarKind) (i : ℕ) where
 
     -- above it comes the one at the next place
     pub next-behind : (o : Option (ScalarValue × ScalarValue))
-        → Answers s (λ d. option_map (item_of_kinds (kind_of_scalar x) v)
+        → AnswersWith s (λ d. option_map (item_of_kinds (kind_of_scalar x) v)
         (pair_above (value_of_scalar x) (pairs_at d (ByHandle h)))) (option_map item_seen o) → IsNext s h k v o (i + 1)
     next-behind o a d l =
         let p = pair-there l in let kinds : kind_of_scalar x ≡ k = ap (λ t. t.0.0) p.same in

@@ -7,7 +7,7 @@ use Rattle.segment_manager.proofs.{Common.slice_get_within}
 use Rattle.raw_region.proofs.Facts.{none_more}
 use Rattle.std.specs.Result.{IsErr}
 use Rattle.std.proofs.lemmas.{Grind.flat_map-append, Option.get_or_from_slice_get, List.append-nil, List.take_more}
-use Rattle.raw_region.specs.Device.{Took, Writes}
+use Rattle.raw_region.specs.Device.{WriterHistory, Writes}
 use Rattle.raw_region.proofs.Laws.{writes-cut, writes-then}
 pub use Rattle.segment_manager.specs.Parts.{part_of, parts_until}
 
@@ -75,7 +75,8 @@ parts-all f xs = parts-taken f xs (length xs) ∙ ap (flat_map f) (take_all (len
 abbrev pub well : Result ℕ ℕ
 well = Ok 0
 
-module _ (part : ℕ → List ℕ) (old mid new : Took) (i : ℕ) (before : Writes old mid well (parts_until part i)) where
+module _ (part : ℕ → List ℕ) (old mid new : WriterHistory) (i : ℕ)
+    (before : Writes old mid well (parts_until part i)) where
   -- one part more
   pub part-told : {B F : Type 0} (y : B) → Writes {E = F} mid new (Ok y) (part i)
       → Writes old new well (parts_until part (i + 1))

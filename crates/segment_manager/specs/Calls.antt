@@ -3,7 +3,7 @@ use Rattle.std.specs.Prelude.{◌≡◌, ◌<◌, ◌≤◌, ℕ, ◌+◌, ◌-�
 use Rattle.std.specs.Prelude.{option_map, slice_get, List, length, IsTrue}
 use Rattle.std.specs.List.{AllByRecursion}
 use Rattle.raw_region.specs.Format.{current}
-use Rattle.raw_region.specs.Memory.{AreZero, SamePlace, bytes_of, cut_at, word_at}
+use Rattle.raw_region.specs.Memory.{AreZero, SameSurroundings, bytes_of, cut_at, word_at}
 use Rattle.block_tags.specs.declared.tile.Tile.{Tile}
 use Rattle.block_tags.specs.Format.{is_legal_size}
 use Rattle.block_tags.specs.Tiles.{tiles_of}
@@ -21,21 +21,21 @@ use Rattle.segment_manager.specs.declared.modes.Mode.{Mode}
 use Rattle.segment_manager.specs.declared.errors.CreateError.{CreateError}
 use Rattle.segment_manager.specs.declared.errors.CreateError.TheVariants.{BadSize, RegionTooSmall}
 use Rattle.segment_manager.specs.declared.errors.CreateRefused.{CreateRefused}
-use Rattle.segment_manager.specs.declared.blocks.tiles.Span.{Span}
+use Rattle.segment_manager.specs.declared.blocks.tiles.TileInfo.{TileInfo}
 use Rattle.segment_manager.specs.Layout.{header_len}
 use Rattle.segment_manager.specs.Directory.{Object, Directory, empty, kind_of, live, object_at}
 use Rattle.segment_manager.specs.Answers.{Answer, Refused}
-use Rattle.segment_manager.specs.State.{Answers, State, StandsFor}
+use Rattle.segment_manager.specs.State.{AnswersWith, SegmentState, DenotesCurrent}
 use Rattle.segment_manager.specs.Step.{step}
 
 -- a segment with nothing in it, in the window of the size at the base; its bytes are 0 but for the header's front,
 -- which says the size, the free tree and two indexes without a place, the tags, and the links of the one gap
-pub record IsCreated (region : List ℕ) (base size : ℕ) (how : Mode) (s : State) : Type 0 where
+pub record CreatesOk (region : List ℕ) (base size : ℕ) (how : Mode) (s : SegmentState) : Type 0 where
   pub legal : IsTrue (is_legal_size size)
   pub fits : base + size ≤ length region
   pub mode : s.mode ≡ how
-  pub place : SamePlace (cut_at region base size) s.cut
-  pub stands : StandsFor s.cut.bytes (empty size)
+  pub place : SameSurroundings (cut_at region base size) s.cut
+  pub stands : DenotesCurrent s.cut.bytes (empty size)
   -- the words in front of its gap's free bytes are null links
   pub links : (at : ℕ) → at % 8 ≡ 0 → 144 ≤ at → at < header_len + gap_front current → at < size - 16
       → word_at (bytes_of s.cut.bytes) at ≡ 1
@@ -47,13 +47,13 @@ IsWhy region base size BadSize = is_legal_size size ≡ false
 IsWhy region base size RegionTooSmall = IsTrue (is_legal_size size) × (length region < base + size)
 
 -- no segment is created, and the region comes back as it was
-pub record IsNotCreated (region : List ℕ) (base size : ℕ) (refused : CreateRefused) : Type 0 where
+pub record CreatesErr (region : List ℕ) (base size : ℕ) (refused : CreateRefused) : Type 0 where
   pub why : IsWhy region base size refused.cause
   pub region_same : refused.region ≡ region
 
-abbrev pub Creates : List ℕ → ℕ → ℕ → Mode → Result State CreateRefused → Type 0
+abbrev pub Creates : List ℕ → ℕ → ℕ → Mode → Result SegmentState CreateRefused → Type 0
 Creates region base size mode result =
-    MatchResult result (IsCreated region base size mode) (IsNotCreated region base size)
+    MatchResult result (CreatesOk region base size mode) (CreatesErr region base size)
 
 -- what is said of the object of a key
 abbrev pub told_at : {A : Type 0} → Directory → Key → (Object → A) → Result A Refusal
@@ -75,24 +75,24 @@ abbrev pub elements_at : Directory → Key → Result ScalarKind Refusal
 elements_at d key = elim (object_at d key) [ None ↦ Err NotFound | Some o ↦ elements_of (kind_of o.value) ]
 
 -- the elements of the object of a key are scalars of some kind
-abbrev pub HasScalars : State → Key → Type 0
-HasScalars s key = (k : ScalarKind) × Answers s (λ d. elements_at d key) (Ok k)
+abbrev pub HasScalars : SegmentState → Key → Type 0
+HasScalars s key = (k : ScalarKind) × AnswersWith s (λ d. elements_at d key) (Ok k)
 
 -- what a command answers for objects whose elements are scalars, and for others why there are none
 abbrev pub scalar_reply : Mode → Directory → Key → Command → Answer
 scalar_reply mode d key c = elim (elements_at d key) [ Err r ↦ Refused r | Ok k ↦ (step mode d c).0 ]
 
 -- an extent or a gap, as a call answers it
-abbrev pub as_span : Span → LiveSpan
+abbrev pub as_span : TileInfo → LiveSpan
 as_span s = record { offset = s.offset; len = s.len; use_of = s.use_of }
 
 -- what stands at an index among the tiles of a segment, where as many stand: a block or gap of the directory
-pub record IsTileOfIndex (s : State) (index : ℕ) (result : Option Tile) : Type 0 where
+pub record IsTileOfIndex (s : SegmentState) (index : ℕ) (result : Option Tile) : Type 0 where
   pub tile : result ≡ slice_get (tiles_of (bytes_of s.cut.bytes) (length s.cut.bytes)) index
-  pub span : Answers s (λ d. slice_get (spans (live d)) index) (option_map span_of result)
+  pub span : AnswersWith s (λ d. slice_get (spans (live d)) index) (option_map span_of result)
 
 -- the free bytes of all gaps are 0
-pub record HasZeroGaps (s : State) : Type 0 where
-  pub zeros : (d : Directory) → StandsFor s.cut.bytes d
+pub record HasZeroGaps (s : SegmentState) : Type 0 where
+  pub zeros : (d : Directory) → DenotesCurrent s.cut.bytes d
       → AllByRecursion (λ (g : Gap). AreZero (bytes_of s.cut.bytes) (g.offset + gap_front current) (g.offset + g.len))
       (gaps (live d))

@@ -1,9 +1,9 @@
 -- Which bytes stand for which directory.
 use Rattle.std.specs.Prelude.{◌≡◌, ℕ, ◌+◌, ◌-◌, ◌*◌, List, ◌++◌, length, map, replicate}
 use Rattle.std.specs.List.{AllByRecursion}
-use Rattle.raw_region.specs.Memory.{Memory, bytes_of, Has, word_at, AreZero}
+use Rattle.raw_region.specs.Memory.{Memory, bytes_of, HasBytesAt, word_at, AreZero}
 use Rattle.best_fit.specs.Extents.{handle}
-use Rattle.best_fit.specs.Heap.{LaysOut}
+use Rattle.best_fit.specs.Heap.{EncodesLiveSet}
 use Rattle.seg_types.specs.Kinds.{class_code, code_of}
 use Rattle.seg_vector.specs.Vector.{IsVectorAt, IsTextAt, IsTextsAt, spelled}
 use Rattle.seg_map.specs.Numbers.{IsNumberMapAt}
@@ -19,7 +19,7 @@ magic_number = 0x454C49464745534D
 
 -- the value at an offset
 abbrev pub IsValueAt : Memory → ℕ → Value → Type 0
-IsValueAt m at (Numbers k zs) = Has m at (spelled k zs)
+IsValueAt m at (Numbers k zs) = HasBytesAt m at (spelled k zs)
 IsValueAt m at (Elements k zs t) = IsVectorAt m at k zs t
 IsValueAt m at (Bytes bs t) = IsTextAt m at bs t
 IsValueAt m at (Pairs k v ps) = IsNumberMapAt m at k v ps
@@ -36,7 +36,7 @@ two_halves low high = low + 4294967296 * high
 pub record IsObjectAt (m : Memory) (o : Object) : Type 0 where
   pub kind_count : word_at m (handle o.extent) ≡ two_halves (code_of (kind_of o.value)) (count_of o.value)
   pub name_class : word_at m (handle o.extent + name_class_at) ≡ two_halves (length o.name) (class_code o.class)
-  pub name : Has m (handle o.extent + head_len) (padded_name o.name)
+  pub name : HasBytesAt m (handle o.extent + head_len) (padded_name o.name)
   pub value : IsValueAt m (handle o.extent + head_len + padded (length o.name)) o.value
 
 abbrev pub handles : List Object → List ℕ
@@ -53,7 +53,7 @@ pub record IsHeader (format : ℕ) (m : Memory) (size : ℕ) : Type 0 where
 pub record Denotes (format : ℕ) (b : List ℕ) (d : Directory) : Type 0 where
   pub directory : IsDirectory format d
   pub header : IsHeader format (bytes_of b) d.size
-  pub heap : LaysOut format b (live d)
+  pub heap : EncodesLiveSet format b (live d)
   pub named : IsIndexAt (bytes_of b) named_at d.named (handles (named_objects d))
   pub unique : IsIndexAt (bytes_of b) unique_at d.unique (handles (unique_objects d))
   pub objects : AllByRecursion (IsObjectAt (bytes_of b)) d.objects

@@ -8,7 +8,7 @@ use Rattle.std.specs.Ordering.{nat_cmp, is_lt}
 use Rattle.block_tags.specs.declared.tile.Role.TheVariants.{Object as ObjectRole, Index, Storage}
 use Rattle.best_fit.specs.Extents.{Extent, LiveSet, handle, is_proper}
 use Rattle.best_fit.specs.Fit.{insert}
-use Rattle.best_fit.specs.Table.{Table, no_table, is_table, serves}
+use Rattle.best_fit.specs.Table.{BackingArray, no_backing, has_backing, serves}
 use Rattle.seg_types.specs.declared.kinds.ScalarKind.{ScalarKind}
 use Rattle.seg_types.specs.declared.kinds.Kind.{Kind}
 use Rattle.seg_types.specs.declared.kinds.Class.{Class}
@@ -24,10 +24,10 @@ use Rattle.segment_manager.specs.Layout.{head_len}
 -- numbers of one kind; a vector; a text; a map, by rising keys; a vector of texts
 pub data Value : Type 0 where
   Numbers : ScalarKind → List ℤ → Value
-  Elements : ScalarKind → List ℤ → Table → Value
-  Bytes : List ℕ → Table → Value
+  Elements : ScalarKind → List ℤ → BackingArray → Value
+  Bytes : List ℕ → BackingArray → Value
   Pairs : ScalarKind → ScalarKind → List NumberPair → Value
-  Texts : List OwnedText → Table → Value
+  Texts : List OwnedText → BackingArray → Value
 
 -- its class, its name, which others than named objects have not, its value, and the block of its own
 pub record Object : Type 0 where
@@ -40,12 +40,12 @@ pub record Object : Type 0 where
 pub record Directory : Type 0 where
   pub size : ℕ
   pub objects : List Object
-  pub named : Table
-  pub unique : Table
+  pub named : BackingArray
+  pub unique : BackingArray
 
 -- a segment of a size with nothing in it
 abbrev pub empty : ℕ → Directory
-empty size = record { size = size; objects = []; named = no_table; unique = no_table }
+empty size = record { size = size; objects = []; named = no_backing; unique = no_backing }
 
 abbrev pub kind_of : Value → Kind
 kind_of (Numbers k zs) = Scalar k
@@ -78,7 +78,7 @@ object_len name value = head_len + padded (length name) + value_len value
 
 -- ---- the extents that a directory uses
 
-abbrev pub table_extents : Table → List Extent
+abbrev pub table_extents : BackingArray → List Extent
 table_extents t = option_to_list t.extent
 
 abbrev pub value_extents : Value → List Extent
@@ -194,8 +194,8 @@ is_object format o =
     && serves o.extent ObjectRole (object_len o.name o.value)
 
 -- a full index has as many objects as it has places
-abbrev pub is_index : Table → List Object → (Object → Object → Bool) → Bool
-is_index t os lt = is_table Index 8 t && nat_le (length os) t.capacity && rises lt os
+abbrev pub is_index : BackingArray → List Object → (Object → Object → Bool) → Bool
+is_index t os lt = has_backing Index 8 t && nat_le (length os) t.capacity && rises lt os
 
 -- the objects stand by offset, from an offset on
 abbrev pub rises_from : ℕ → List Object → Bool

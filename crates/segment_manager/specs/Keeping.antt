@@ -1,29 +1,29 @@
 -- What calls leave to the last byte, that of gaps too: all, since they find that there is nothing to do, or all but an
 -- element.
 use Rattle.std.specs.Prelude.{◌≡◌, ◌<◌, ◌≤◌, ◌+◌, ◌⊎◌, ℕ, ℤ, int_lt, List, length, Some, None, Ok, IfOk}
-use Rattle.raw_region.specs.Memory.{SameBut, bytes_of}
+use Rattle.raw_region.specs.Memory.{SameBytesExcept, bytes_of}
 use Rattle.seg_types.specs.declared.kinds.ScalarKind.{ScalarKind}
 use Rattle.seg_types.specs.Kinds.{size_of}
 use Rattle.seg_types.specs.Names.{Key}
 use Rattle.seg_map.specs.{Map.pair_at, Numbers.NumberPair}
 use Rattle.best_fit.specs.Extents.{handle}
 use Rattle.segment_manager.specs.containers.Contents.{sizes_at}
-use Rattle.best_fit.specs.{Heap.KeepsGaps, Heap.live_of, Table.Table}
+use Rattle.best_fit.specs.{Heap.KeepsGaps, Heap.live_of, Table.BackingArray}
 use Rattle.best_fit.specs.declared.places.Place.{Place}
 use Rattle.seg_vector.specs.{TextsCalls.new_array, TextsCalls.placed_text}
-use Rattle.seg_vector.specs.Vector.{OwnedText, capacity_for_one, grown_table}
+use Rattle.seg_vector.specs.Vector.{OwnedText, capacity_for_one, grown_backing}
 use Rattle.segment_manager.specs.Directory.{Object, Directory, Texts, live, object_at}
 use Rattle.segment_manager.specs.objects.Standing.{place_at}
-use Rattle.segment_manager.specs.State.{State, StandsFor}
+use Rattle.segment_manager.specs.State.{SegmentState, DenotesCurrent}
 use Rattle.segment_manager.specs.containers.Walks.{pairs_at}
 
 -- the call changes nothing where this holds of the directory
-abbrev pub KeepsWhere : State → State → (Directory → Type 0) → Type 0
-KeepsWhere old new holds = (d : Directory) → StandsFor old.cut.bytes d → holds d → new ≡ old
+abbrev pub UnchangedWhere : SegmentState → SegmentState → (Directory → Type 0) → Type 0
+UnchangedWhere old new holds = (d : Directory) → DenotesCurrent old.cut.bytes d → holds d → new ≡ old
 
 -- an object has the key
-abbrev pub HasKey : Key → Directory → Type 0
-HasKey key d = (o : Object) × (object_at d key ≡ Some o)
+abbrev pub IsBoundKey : Key → Directory → Type 0
+IsBoundKey key d = (o : Object) × (object_at d key ≡ Some o)
 
 -- no object has it
 abbrev pub LacksKey : Key → Directory → Type 0
@@ -46,27 +46,27 @@ pub record LacksFirst (key : Key) (bytes : List ℕ) (d : Directory) : Type 0 wh
   pub object : Object
   pub is : object_at d key ≡ Some object
   pub texts : List OwnedText
-  pub table : Table
+  pub table : BackingArray
   pub value : object.value ≡ Texts texts table
   pub none : ((length texts < table.capacity) × (placed_text (live d) bytes ≡ None))
-      ⊎ (grown_table (live d) 16 (capacity_for_one (length texts) table.capacity) table ≡ None)
+      ⊎ (grown_backing (live d) 16 (capacity_for_one (length texts) table.capacity) table ≡ None)
 
 -- there is no space for an array of so many texts
 abbrev pub LacksArray : ℕ → Directory → Type 0
 LacksArray n d = new_array (live d) n ≡ None
 
 -- no byte changes but those of the element at an index in the object of the key, an object of scalars of the kind
-abbrev pub ChangesElement : State → State → Key → ScalarKind → ℕ → Type 0
-ChangesElement old new key k i = (d : Directory) → StandsFor old.cut.bytes d
+abbrev pub ChangesElement : SegmentState → SegmentState → Key → ScalarKind → ℕ → Type 0
+ChangesElement old new key k i = (d : Directory) → DenotesCurrent old.cut.bytes d
     → IfOk (place_at d key k i) (λ (p : Place).
-    SameBut (bytes_of old.cut.bytes) (bytes_of new.cut.bytes) (p.handle + p.at) (size_of k))
+    SameBytesExcept (bytes_of old.cut.bytes) (bytes_of new.cut.bytes) (p.handle + p.at) (size_of k))
 
 -- where the same blocks are in use, no byte of a gap changes
-abbrev pub KeepsUnused : State → State → Type 0
+abbrev pub KeepsUnused : SegmentState → SegmentState → Type 0
 KeepsUnused old new = live_of new.cut.bytes ≡ live_of old.cut.bytes → KeepsGaps old.cut new.cut
 
 -- where the map of the key has such a key, no byte changes but those of its value
-abbrev pub ChangesValue : State → State → Key → ScalarKind → ℤ → ScalarKind → Type 0
-ChangesValue old new key k x v = (d : Directory) → StandsFor old.cut.bytes d → (p : NumberPair)
+abbrev pub ChangesValue : SegmentState → SegmentState → Key → ScalarKind → ℤ → ScalarKind → Type 0
+ChangesValue old new key k x v = (d : Directory) → DenotesCurrent old.cut.bytes d → (p : NumberPair)
     → pair_at int_lt (pairs_at d key) x ≡ Some p
-    → SameBut (bytes_of old.cut.bytes) (bytes_of new.cut.bytes) (handle p.node + 16 + size_of k) (size_of v)
+    → SameBytesExcept (bytes_of old.cut.bytes) (bytes_of new.cut.bytes) (handle p.node + 16 + size_of k) (size_of v)

@@ -7,11 +7,12 @@ use Rattle.seg_types.specs.Names.{Key, ByHandle}
 use Rattle.seg_types.specs.Commands as asked
 use Rattle.seg_types.specs.Commands.{Command, NumNamed, NumUnique, Pop, is_changing}
 use Rattle.segment_manager.specs.declared.modes.Mode.{Mode}
-use Rattle.segment_manager.specs.declared.objects.targets.Object.{Object as Located}
+use Rattle.segment_manager.specs.declared.objects.object_ref.Object.{Object as Located}
 use Rattle.segment_manager.specs.Directory.{Directory, named_objects, object_at, unique_objects}
 use Rattle.segment_manager.specs.Answers.{Answer, Number, Refused, TextElement, refusal_of}
 use Rattle.segment_manager.specs.Step.{step, step_of_kind, is_read_only}
-use Rattle.segment_manager.specs.State.{State, StandsFor, IsReply, IsStep, LeadsOn, answer_of, refusal_in}
+use Rattle.segment_manager.specs.State.{SegmentState, DenotesCurrent, AnswersQuery, TakesStep, StepsWithoutAnswer}
+use Rattle.segment_manager.specs.State.{answer_of, refusal_in}
 use Rattle.segment_manager.specs.objects.Found.{IsBelow}
 use Rattle.segment_manager.specs.objects.Located.{IsLocated}
 
@@ -44,24 +45,26 @@ ReadsOfKindChangeNothing = (mode : Mode) (d : Directory) (key : Key) (kind : Kin
 
 -- the law: a step leads on, refused for the reason that it answers
 abbrev pub StepsLeadOn : Type 0
-StepsLeadOn = (old new : State) (c : Command) (answer : Answer) → IsStep old new c answer
-    → LeadsOn old new c (refusal_of answer)
+StepsLeadOn = (old new : SegmentState) (c : Command) (answer : Answer) → TakesStep old new c answer
+    → StepsWithoutAnswer old new c (refusal_of answer)
 
 -- for one: a call that takes the last text away and does not answer it, where the text would be a step's answer
 abbrev pub PoppedTextsLeadOn : Type 0
-PoppedTextsLeadOn = (old new : State) (key : Key) (result : Result (List ℕ) Refusal)
-    → IsStep old new (Pop key) (answer_of TextElement result) → LeadsOn old new (Pop key) (refusal_in result)
+PoppedTextsLeadOn = (old new : SegmentState) (key : Key) (result : Result (List ℕ) Refusal)
+    → TakesStep old new (Pop key) (answer_of TextElement result)
+    → StepsWithoutAnswer old new (Pop key) (refusal_in result)
 
 -- and what leads on and is refused leaves the directory
 abbrev pub RefusedCallsStay : Type 0
-RefusedCallsStay = (old new : State) (c : Command) (r : Refusal) → LeadsOn old new c (Some r) → (d : Directory)
-    → StandsFor old.cut.bytes d → StandsFor new.cut.bytes d
+RefusedCallsStay = (old new : SegmentState) (c : Command) (r : Refusal) → StepsWithoutAnswer old new c (Some r)
+    → (d : Directory)
+    → DenotesCurrent old.cut.bytes d → DenotesCurrent new.cut.bytes d
 
 -- the law: an index that is less than the number that was answered has an object
 pub record CountedAreBelow : Type 0 where
-  pub named : (s : State) (n i : ℕ) → IsReply s NumNamed (Number n) → i < n
+  pub named : (s : SegmentState) (n i : ℕ) → AnswersQuery s NumNamed (Number n) → i < n
       → IsBelow s (λ d. length (named_objects d)) i
-  pub unique : (s : State) (n i : ℕ) → IsReply s NumUnique (Number n) → i < n
+  pub unique : (s : SegmentState) (n i : ℕ) → AnswersQuery s NumUnique (Number n) → i < n
       → IsBelow s (λ d. length (unique_objects d)) i
 
 -- a command on the object of a key, as one on that of another key
@@ -96,5 +99,5 @@ KeysOfKindMeanObjects = (mode : Mode) (d : Directory) (key other : Key) (kind : 
 
 -- and an object that was located has its handle for a key
 abbrev pub HandlesMeanObjects : Type 0
-HandlesMeanObjects = (s : State) (key : Key) (o : Located) → IsLocated s key o → (d : Directory)
-    → StandsFor s.cut.bytes d → object_at d key ≡ object_at d (ByHandle o.handle)
+HandlesMeanObjects = (s : SegmentState) (key : Key) (o : Located) → IsLocated s key o → (d : Directory)
+    → DenotesCurrent s.cut.bytes d → object_at d key ≡ object_at d (ByHandle o.handle)

@@ -5,7 +5,7 @@ use Rattle.block_tags.specs.declared.tile.Role.{Role}
 use Rattle.block_tags.specs.declared.tile.Role.TheVariants.{Object as ObjectRole, Index, Storage}
 use Rattle.best_fit.specs.Extents.{Extent, LiveSet}
 use Rattle.best_fit.specs.Fit.{place, resized, regrow}
-use Rattle.best_fit.specs.Table.{Table, no_table}
+use Rattle.best_fit.specs.Table.{BackingArray, no_backing}
 use Rattle.seg_types.specs.declared.kinds.Class.{Class}
 use Rattle.seg_types.specs.declared.refusals.Refusal.{Refusal}
 use Rattle.seg_types.specs.declared.kinds.Class.TheVariants.{Anonymous, Named, Unique}
@@ -51,12 +51,12 @@ with (Err r) next = Refuse r
 -- ---- the blocks that commands ask for
 
 -- an index of so many places in a new block
-abbrev pub with_new_index : ℕ → (Table → Plan) → Plan
+abbrev pub with_new_index : ℕ → (BackingArray → Plan) → Plan
 with_new_index capacity next = Request (New Index (8 * capacity))
     (λ x. next (record { capacity = capacity; extent = Some x }))
 
 -- an index that has so many entries, with a place for one more
-abbrev pub with_place : Table → ℕ → (Table → Plan) → Plan
+abbrev pub with_place : BackingArray → ℕ → (BackingArray → Plan) → Plan
 with_place t count next = if nat_lt count t.capacity then next t else with_new_index (grown_capacity t.capacity) next
 
 -- the directory with a place in the index of the class
@@ -66,12 +66,12 @@ with_entry d Named next = with_place d.named (length (named_objects d)) (λ t. n
 with_entry d Unique next = with_place d.unique (length (unique_objects d)) (λ t. next (record d { unique = t }))
 
 -- storage for n elements, if there are any
-abbrev pub with_storage : ℕ → ℕ → (Table → Plan) → Plan
-with_storage each n next = if n == 0 then next no_table else Request (New Storage (each * n))
+abbrev pub with_storage : ℕ → ℕ → (BackingArray → Plan) → Plan
+with_storage each n next = if n == 0 then next no_backing else Request (New Storage (each * n))
     (λ x. next (record { capacity = n; extent = Some x }))
 
 -- storage for as many as the capacity says: as it is where there are so many places, else regrown
-abbrev pub with_capacity : ℕ → ℕ → Table → (Table → Plan) → Plan
+abbrev pub with_capacity : ℕ → ℕ → BackingArray → (BackingArray → Plan) → Plan
 with_capacity each capacity t next =
     if nat_le capacity t.capacity then next t
     else Request (Regrown t.extent (each * capacity)) (λ x. next (record { capacity = capacity; extent = Some x }))
@@ -93,10 +93,10 @@ name_of NoKey = []
 -- the value, but for its storage
 abbrev pub bare : Content → Value
 bare (asked.Numbers k zs) = Numbers k zs
-bare (asked.Elements k zs) = Elements k zs no_table
-bare (asked.Bytes bs) = Bytes bs no_table
+bare (asked.Elements k zs) = Elements k zs no_backing
+bare (asked.Bytes bs) = Bytes bs no_backing
 bare (asked.NoPairs k v) = Pairs k v []
-bare (asked.Strings bss) = Texts [] no_table
+bare (asked.Strings bss) = Texts [] no_backing
 
 -- texts in blocks of their own, where they are not empty
 abbrev pub with_owned_text : List ℕ → (OwnedText → Plan) → Plan

@@ -1,26 +1,27 @@
 -- A segment that moves into another region.
 use Rattle.std.specs.Prelude.{◌≡◌, ◌<◌, ◌≤◌, ℕ, ◌+◌, List, length, Result, MatchResult}
-use Rattle.raw_region.specs.Memory.{SamePlace, cut_at, whole}
+use Rattle.raw_region.specs.Memory.{SameSurroundings, cut_at, whole}
 use Rattle.segment_manager.specs.declared.errors.RelocateRefused.{RelocateRefused}
 use Rattle.segment_manager.specs.Directory.{Directory}
-use Rattle.segment_manager.specs.State.{State, StandsFor}
+use Rattle.segment_manager.specs.State.{SegmentState, DenotesCurrent}
 
 -- the segment stands at the base of the region with the bytes and the mode that it had, all other bytes of the region
 -- stay, and the region that it left has all its bytes
-pub record IsRelocated (old : State) (region : List ℕ) (base : ℕ) (new : State) (behind : List ℕ) : Type 0 where
+pub record RelocatesTo (old : SegmentState) (region : List ℕ) (base : ℕ) (new : SegmentState) (behind : List ℕ) :
+    Type 0 where
   pub fits : base + length old.cut.bytes ≤ length region
-  pub place : SamePlace (cut_at region base (length old.cut.bytes)) new.cut
+  pub place : SameSurroundings (cut_at region base (length old.cut.bytes)) new.cut
   pub bytes : new.cut.bytes ≡ old.cut.bytes
-  pub directory : (d : Directory) → StandsFor old.cut.bytes d → StandsFor new.cut.bytes d
+  pub directory : (d : Directory) → DenotesCurrent old.cut.bytes d → DenotesCurrent new.cut.bytes d
   pub mode : new.mode ≡ old.mode
   pub left : behind ≡ whole old.cut
 
 -- the region is too small, and both come back as they were
-pub record IsNotRelocated (old : State) (region : List ℕ) (base : ℕ) (refused : RelocateRefused) : Type 0 where
+pub record IsNotRelocated (old : SegmentState) (region : List ℕ) (base : ℕ) (refused : RelocateRefused) : Type 0 where
   pub too_small : length region < base + length old.cut.bytes
   pub segment_same : refused.segment ≡ old
   pub region_same : refused.region ≡ region
 
-abbrev pub Relocates : State → List ℕ → ℕ → Result (State × List ℕ) RelocateRefused → Type 0
+abbrev pub Relocates : SegmentState → List ℕ → ℕ → Result (SegmentState × List ℕ) RelocateRefused → Type 0
 Relocates old region base result =
-    MatchResult result (λ moved. IsRelocated old region base moved.0 moved.1) (IsNotRelocated old region base)
+    MatchResult result (λ moved. RelocatesTo old region base moved.0 moved.1) (IsNotRelocated old region base)

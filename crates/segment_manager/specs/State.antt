@@ -1,6 +1,6 @@
 -- What contracts see of a segment: its bytes, which denote one directory, how it is open, and where it lies.
 use Rattle.std.specs.Prelude.{◌≡◌, ℕ, Bool, true, List, Option, Some, None, Result, Ok, Err, IfErr}
-use Rattle.raw_region.specs.Memory.{Cut, SamePlace}
+use Rattle.raw_region.specs.Memory.{WindowState, SameSurroundings}
 use Rattle.raw_region.specs.Format.{current}
 use Rattle.seg_types.specs.declared.kinds.Kind.{Kind}
 use Rattle.seg_types.specs.declared.refusals.Refusal.{Refusal}
@@ -14,56 +14,58 @@ use Rattle.segment_manager.specs.Answers.{Answer, Made, Truth, Element, Refused,
 use Rattle.segment_manager.specs.Step.{step, step_of_kind}
 use Rattle.segment_manager.specs.Denotes.{Denotes}
 
-pub record State : Type 0 where
-  pub cut : Cut
+pub record SegmentState : Type 0 where
+  pub cut : WindowState
   pub mode : Mode
 
 -- the bytes denote the directory
-pub record StandsFor (b : List ℕ) (d : Directory) : Type 0 where
+pub record DenotesCurrent (b : List ℕ) (d : Directory) : Type 0 where
   pub denotes : Denotes current b d
 
 abbrev pub IsSegment : List ℕ → Type 0
-IsSegment b = (d : Directory) × StandsFor b d
+IsSegment b = (d : Directory) × DenotesCurrent b d
 
 -- the same segment, but for its bytes
-pub record Stays (old new : State) : Type 0 where
+pub record KeepsModeAndPlace (old new : SegmentState) : Type 0 where
   pub mode : new.mode ≡ old.mode
-  pub place : SamePlace old.cut new.cut
+  pub place : SameSurroundings old.cut new.cut
 
 -- a call that changes nothing, and answers this function of the directory
-pub record Answers {A : Type 0} (s : State) (say : Directory → A) (result : A) : Type 0 where
-  pub answers : (d : Directory) → StandsFor s.cut.bytes d → result ≡ say d
+pub record AnswersWith {A : Type 0} (s : SegmentState) (say : Directory → A) (result : A) : Type 0 where
+  pub answers : (d : Directory) → DenotesCurrent s.cut.bytes d → result ≡ say d
 
 -- from each directory that the old bytes denote to one that the new bytes denote, with this answer, of whatever type
-pub record Moves {A : Type 0} (old new : State) (answer : A) (next : Directory → A × Directory) : Type 0 where
-  pub stays : Stays old new
-  pub answers : (d : Directory) → StandsFor old.cut.bytes d → answer ≡ (next d).0
-  pub denotes : (d : Directory) → StandsFor old.cut.bytes d → StandsFor new.cut.bytes (next d).1
+pub record Transitions {A : Type 0} (old new : SegmentState) (answer : A) (next : Directory
+    → A × Directory) : Type 0 where
+  pub stays : KeepsModeAndPlace old new
+  pub answers : (d : Directory) → DenotesCurrent old.cut.bytes d → answer ≡ (next d).0
+  pub denotes : (d : Directory) → DenotesCurrent old.cut.bytes d → DenotesCurrent new.cut.bytes (next d).1
 
 -- the call is one step of the directory machine
-abbrev pub IsStep : State → State → Command → Answer → Type 0
-IsStep old new c answer = Moves old new answer (λ d. step old.mode d c)
+abbrev pub TakesStep : SegmentState → SegmentState → Command → Answer → Type 0
+TakesStep old new c answer = Transitions old new answer (λ d. step old.mode d c)
 
 -- the same of a call that is for objects of one kind
-abbrev pub IsStepOfKind : State → State → Key → Kind → Command → Answer → Type 0
-IsStepOfKind old new key kind c answer = Moves old new answer (λ d. step_of_kind old.mode d key kind c)
+abbrev pub TakesStepOfKind : SegmentState → SegmentState → Key → Kind → Command → Answer → Type 0
+TakesStepOfKind old new key kind c answer = Transitions old new answer (λ d. step_of_kind old.mode d key kind c)
 
 -- The call is refused exactly where the step is, for the same reason, and else it is not; it leads to the step's
 -- directory. This is for a call that answers less than the machine.
-abbrev pub LeadsOn : State → State → Command → Option Refusal → Type 0
-LeadsOn old new c refusal = Moves old new refusal (λ d. (refusal_of (step old.mode d c).0, (step old.mode d c).1))
+abbrev pub StepsWithoutAnswer : SegmentState → SegmentState → Command → Option Refusal → Type 0
+StepsWithoutAnswer old new c refusal =
+    Transitions old new refusal (λ d. (refusal_of (step old.mode d c).0, (step old.mode d c).1))
 
 -- a call that changes nothing, and answers as the machine does
-abbrev pub IsReply : State → Command → Answer → Type 0
-IsReply s c answer = Answers s (λ d. (step s.mode d c).0) answer
+abbrev pub AnswersQuery : SegmentState → Command → Answer → Type 0
+AnswersQuery s c answer = AnswersWith s (λ d. (step s.mode d c).0) answer
 
 -- the same of a call that is for objects of one kind
-abbrev pub IsReplyOfKind : State → Key → Kind → Command → Answer → Type 0
-IsReplyOfKind s key kind c answer = Answers s (λ d. (step_of_kind s.mode d key kind c).0) answer
+abbrev pub AnswersQueryOfKind : SegmentState → Key → Kind → Command → Answer → Type 0
+AnswersQueryOfKind s key kind c answer = AnswersWith s (λ d. (step_of_kind s.mode d key kind c).0) answer
 
 -- a call that was refused before it asked for a block changed nothing
-abbrev pub KeepsRefused : {A : Type 0} → State → State → Result A Refusal → Type 0
-KeepsRefused old new result = IfErr result (λ why. is_untouched (Refused why) ≡ true → new ≡ old)
+abbrev pub UnchangedIfRefused : {A : Type 0} → SegmentState → SegmentState → Result A Refusal → Type 0
+UnchangedIfRefused old new result = IfErr result (λ why. is_untouched (Refused why) ≡ true → new ≡ old)
 
 -- ---- what a call's result is as an answer
 

@@ -4,10 +4,10 @@ use Rattle.seg_types.specs.declared.kinds.Kind.{Kind}
 use Rattle.seg_types.specs.Names.{Key}
 use Rattle.seg_types.specs.Commands as asked
 use Rattle.seg_types.specs.Commands.{Command}
-use Rattle.segment_manager.specs.declared.objects.targets.Object.{Object as Located}
+use Rattle.segment_manager.specs.declared.objects.object_ref.Object.{Object as Located}
 use Rattle.segment_manager.specs.objects.Located.{IsObject}
 use Rattle.segment_manager.specs.Answers.{Answer}
-use Rattle.segment_manager.specs.State.{IsSegment, IsStep, IsStepOfKind, State}
+use Rattle.segment_manager.specs.State.{IsSegment, TakesStep, TakesStepOfKind, SegmentState}
 
 -- The commands on the elements of an object, and those that only read.
 abbrev pub is_elementwise : Command → Bool
@@ -22,12 +22,13 @@ is_elementwise asked.ShrinkIndexes = false
 is_elementwise c = true
 
 -- each object that there was is there
-abbrev pub KeepsObjects : State → State → Type 0
+abbrev pub KeepsObjects : SegmentState → SegmentState → Type 0
 KeepsObjects old new = (o : Located) → IsObject o old → IsObject o new
 
 -- the law: a command on the elements of an object, and one that only reads, keeps each object
 pub record ObjectsStay : Type 0 where
-  pub any : (old new : State) (c : Command) (answer : Answer) → IsSegment old.cut.bytes → is_elementwise c ≡ true
+  pub any : (old new : SegmentState) (c : Command) (answer : Answer) → IsSegment old.cut.bytes → is_elementwise c ≡ true
       → IsStep old new c answer → KeepsObjects old new
-  pub of_kind : (old new : State) (key : Key) (kind : Kind) (c : Command) (answer : Answer) → IsSegment old.cut.bytes
+  pub of_kind : (old new : SegmentState) (key : Key) (kind : Kind) (c : Command) (answer : Answer)
+      → IsSegment old.cut.bytes
       → is_elementwise c ≡ true → IsStepOfKind old new key kind c answer → KeepsObjects old new

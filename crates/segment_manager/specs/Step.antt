@@ -5,7 +5,7 @@ use Rattle.std.specs.Prelude.{nat_lt, nat_le, int_lt, if◌then◌else◌}
 use Rattle.block_tags.specs.declared.tile.Role.TheVariants.{Node}
 use Rattle.best_fit.specs.Extents.{handle, spans, free_bytes}
 use Rattle.best_fit.specs.Fit.{place, regrow}
-use Rattle.best_fit.specs.Table.{Table, cut_table}
+use Rattle.best_fit.specs.Table.{BackingArray, shrunk_backing}
 use Rattle.seg_types.specs.declared.kinds.ScalarKind.{ScalarKind}
 use Rattle.seg_types.specs.declared.kinds.Kind.{Kind}
 use Rattle.seg_types.specs.declared.refusals.Refusal.{Refusal}
@@ -15,7 +15,7 @@ use Rattle.seg_types.specs.Kinds.{size_of, same_kind}
 use Rattle.seg_types.specs.Names.{Key, ByHandle}
 use Rattle.seg_types.specs.Commands as asked
 use Rattle.seg_types.specs.Commands.{Command, Literal, value_of_literal, is_changing}
-use Rattle.seg_types.specs.Literals.{pair_of, values_of}
+use Rattle.seg_types.specs.Literals.{pair_values, values_of}
 use Rattle.seg_vector.specs.Vector.{OwnedText, capacity_for_one, capacity_for_text}
 use Rattle.seg_map.specs.Map.{pair_at, put_pair, remove_pair, node_len}
 use Rattle.seg_map.specs.Numbers.{NumberPair}
@@ -46,28 +46,28 @@ with_items (Pairs k v ps) zs = Pairs k v ps
 with_items (Texts ps t) zs = Texts [] t
 
 -- the bytes of an element, the length and the storage of a vector or text
-abbrev pub storage_of : Value → Result (ℕ × ℕ × Table) Refusal
+abbrev pub storage_of : Value → Result (ℕ × ℕ × BackingArray) Refusal
 storage_of (Numbers k zs) = Err WrongKind
 storage_of (Elements k zs t) = Ok (size_of k, length zs, t)
 storage_of (Bytes bs t) = Ok (1, length bs, t)
 storage_of (Pairs k v ps) = Err WrongKind
 storage_of (Texts ps t) = Ok (16, length ps, t)
 
-abbrev pub with_table : Value → Table → Value
+abbrev pub with_table : Value → BackingArray → Value
 with_table (Numbers k zs) u = Numbers k zs
 with_table (Elements k zs t) u = Elements k zs u
 with_table (Bytes bs t) u = Bytes bs u
 with_table (Pairs k v ps) u = Pairs k v ps
 with_table (Texts ps t) u = Texts ps u
 
-abbrev pub vector_of : Value → Result (ScalarKind × List ℤ × Table) Refusal
+abbrev pub vector_of : Value → Result (ScalarKind × List ℤ × BackingArray) Refusal
 vector_of (Numbers k zs) = Err WrongKind
 vector_of (Elements k zs t) = Ok (k, zs, t)
 vector_of (Bytes bs t) = Err WrongKind
 vector_of (Pairs k v ps) = Err WrongKind
 vector_of (Texts ps t) = Err WrongKind
 
-abbrev pub text_of : Value → Result (List ℕ × Table) Refusal
+abbrev pub text_of : Value → Result (List ℕ × BackingArray) Refusal
 text_of (Numbers k zs) = Err WrongKind
 text_of (Elements k zs t) = Err WrongKind
 text_of (Bytes bs t) = Ok (bs, t)
@@ -185,8 +185,8 @@ put d o k v ps other = Refuse WrongKind
 
 abbrev pub shrunk_indexes : Directory → Directory
 shrunk_indexes d =
-    let e : Directory = record d { named = cut_table (live d) 8 (length (named_objects d)) d.named } in
-    record e { unique = cut_table (live e) 8 (length (unique_objects e)) e.unique }
+    let e : Directory = record d { named = shrunk_backing (live d) 8 (length (named_objects d)) d.named } in
+    record e { unique = shrunk_backing (live e) 8 (length (unique_objects e)) e.unique }
 
 abbrev pub effect : Directory → Command → Plan
 effect d (asked.Construct key content) = elim (object_at d key) [
@@ -226,7 +226,7 @@ effect d (asked.Reserve key n) =
     Reply Done (changed d o (with_table o.value u)))))
 effect d (asked.Shrink key) =
     with (found_at d key) (λ o. with (storage_of o.value) (λ (each, len, t).
-    Reply Done (changed d o (with_table o.value (cut_table (live d) each len t)))))
+    Reply Done (changed d o (with_table o.value (shrunk_backing (live d) each len t)))))
 effect d (asked.Clear key) =
     with (found_at d key) (λ o. with (storage_of o.value) (λ s. Reply Done (changed d o (with_items o.value []))))
 effect d (asked.Assign key ls) = with (found_at d key) (λ o. assign d o o.value ls)
@@ -236,7 +236,7 @@ effect d (asked.Append key more) =
     Reply Done (changed d o (Bytes (bs ++ more) u)))))
 effect d (asked.Put key l m) =
     with (found_at d key) (λ o. with (map_of o.value)
-    (λ (k, v, ps). with (pair_of k v l m) (λ new. put d o k v ps new)))
+    (λ (k, v, ps). with (pair_values k v l m) (λ new. put d o k v ps new)))
 effect d (asked.Lookup key l) =
     with (found_at d key) (λ o. with (map_of o.value) (λ (k, v, ps). with (value_of_literal k l) (λ x.
     elim (pair_at int_lt ps x) [ None ↦ Reply Absent d | Some p ↦ Reply (Element v p.value) d ])))
@@ -273,12 +273,12 @@ abbrev pub plan : Mode → Directory → Command → Plan
 plan mode d c = if is_read_only mode && is_changing c then Refuse ReadOnly else effect d c
 
 unfoldable pub step : Mode → Directory → Command → Answer × Directory
-unfolding live place regrow cut_table free_bytes
+unfolding live place regrow shrunk_backing free_bytes
 step mode d c = perform d (live d) (plan mode d c)
 
 -- The step of a call that is for objects of one kind: it refuses those of another.
 unfoldable pub step_of_kind : Mode → Directory → Key → Kind → Command → Answer × Directory
-unfolding live place regrow cut_table free_bytes
+unfolding live place regrow shrunk_backing free_bytes
 step_of_kind mode d key kind c =
     perform d (live d) (if is_read_only mode && is_changing c then Refuse ReadOnly else
     with (found_at d key) (λ o. if same_kind kind (kind_of o.value) then effect d c else Refuse WrongKind))

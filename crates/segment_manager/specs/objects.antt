@@ -4,7 +4,7 @@ pub mod Located
 pub mod Heads
 pub mod NewObjects
 pub mod Items
-pub mod Begun
+pub mod PendingObjects
 pub mod Standing
 pub mod Destroyed
 pub mod Instances

@@ -1,7 +1,8 @@
 //! The making of an empty segment, and the moving of one into another region.
 ghost use Rattle.std.specs.Prelude.{◌≡◌, ◌%◌, []};
-ghost use Rattle.raw_region.specs.{Memory.AreZero, Memory.SameBut, Memory.SamePlace, Memory.bytes_of, Format.current};
-ghost use Rattle.best_fit.specs.{Heap.LaysOut, Heap.live_of, Table.no_table};
+ghost use Rattle.raw_region.specs.{Memory.AreZero, Memory.SameBytesExcept, Memory.SameSurroundings, Memory.bytes_of};
+ghost use Rattle.raw_region.specs.{Format.current};
+ghost use Rattle.best_fit.specs.{Heap.EncodesLiveSet, Heap.live_of, Table.no_backing};
 ghost use Rattle.seg_index.specs.Index.{IsIndexAt};
 ghost use Rattle.segment_manager.specs.{Calls.Creates, Denotes.IsHeader, Relocating.Relocates};
 ghost use Rattle.segment_manager.specs.Layout.{header_len, named_at, reserved_at, unique_at};
@@ -91,12 +92,12 @@ impl Segment {
 /// of it is the heap's.
 fn write_header(heap: &mut Heap, size: u64)
     requires { AreZero (bytes_of heap.old.bytes) named_at header_len }
-    ensures live { LaysOut current heap.new.bytes (live_of heap.old.bytes) }
+    ensures live { EncodesLiveSet current heap.new.bytes (live_of heap.old.bytes) }
     ensures header { IsHeader current (bytes_of heap.new.bytes) size }
-    ensures named { IsIndexAt (bytes_of heap.new.bytes) named_at no_table [] }
-    ensures unique { IsIndexAt (bytes_of heap.new.bytes) unique_at no_table [] }
-    ensures place { SamePlace heap.old heap.new }
-    ensures rest { SameBut (bytes_of heap.old.bytes) (bytes_of heap.new.bytes) 0 reserved_at }
+    ensures named { IsIndexAt (bytes_of heap.new.bytes) named_at no_backing [] }
+    ensures unique { IsIndexAt (bytes_of heap.new.bytes) unique_at no_backing [] }
+    ensures place { SameSurroundings heap.old heap.new }
+    ensures rest { SameBytesExcept (bytes_of heap.old.bytes) (bytes_of heap.new.bytes) 0 reserved_at }
 {
     heap.set_header_word(MAGIC_AT, MAGIC);
     heap.set_header_word(FORMAT_AT, FORMAT);

@@ -1,16 +1,16 @@
 //! Objects, whatever they hold: found by their keys, made, told of, read and written where they are scalars, and
 //! destroyed.
 pub(crate) mod accessing;
-pub(crate) mod beginning;
+pub(crate) mod construct_keys;
 pub(crate) mod constructing;
 pub(crate) mod constructing_from;
-pub(crate) mod destinations;
 pub(crate) mod destroying;
 pub(crate) mod element;
 pub(crate) mod finding;
 pub(crate) mod finding_or_constructing;
 pub(crate) mod finding_or_taking;
 pub(crate) mod head;
-pub(crate) mod targets;
-pub(crate) mod telling;
+pub(crate) mod instance_info;
+pub(crate) mod object_ref;
+pub(crate) mod pending_object;
 pub(crate) mod walking_objects;

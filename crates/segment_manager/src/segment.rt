@@ -2,7 +2,7 @@
 ghost use Rattle.std.specs.Prelude.{◌≡◌, ◌+◌, ◌-◌, ◌%◌, IsTrue, length};
 ghost use Rattle.raw_region.specs.Memory.{whole};
 ghost use Rattle.seg_types.specs.Commands.{Free, Size};
-ghost use Rattle.segment_manager.specs.{Answers.Number, State.IsReply, State.IsSegment, Step.is_read_only};
+ghost use Rattle.segment_manager.specs.{Answers.Number, State.AnswersQuery, State.IsSegment, Step.is_read_only};
 
 use crate::layout::SIZE_AT;
 use crate::modes::Mode;
@@ -21,9 +21,9 @@ pub struct Segment {
 }
 
 impl Model for Segment {
-    ghost use Rattle.segment_manager.specs.State.{State, IsSegment};
+    ghost use Rattle.segment_manager.specs.State.{SegmentState, IsSegment};
 
-    ghost Value = { State };
+    ghost Value = { SegmentState };
 
     ghost view = { λ s. record { cut = s.heap; mode = s.mode } };
 
@@ -45,7 +45,7 @@ impl Segment {
     /// Example: `let image = segment.as_bytes()`.
     pub fn as_bytes(&self) -> &[u8]
         ensures bytes { result.now ≡ self.now.cut.bytes }
-        ensures denotes { IsSegment result.now }
+        ensures denotation { IsSegment result.now }
     {
         self.heap.as_bytes()
     }
@@ -54,7 +54,7 @@ impl Segment {
     ///
     /// Example: `let bytes = segment.size()`.
     pub fn size(&self) -> u64
-        ensures { IsReply self.now Size (Number result) }
+        ensures { AnswersQuery self.now Size (Number result) }
     {
         self.heap.header_word(SIZE_AT)
     }
@@ -63,7 +63,7 @@ impl Segment {
     ///
     /// Example: `let bytes = segment.free()`.
     pub fn free(&self) -> u64
-        ensures { IsReply self.now Free (Number result) }
+        ensures { AnswersQuery self.now Free (Number result) }
     {
         self.heap.free_bytes()
     }

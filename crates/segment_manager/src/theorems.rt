@@ -19,29 +19,29 @@ use crate::layout::{
 /// A command that is refused changes nothing, and a segment that is open for reading refuses each command that may
 /// change it.
 pub fn refusals_change_nothing()
-    ensures any { RefusalsChangeNothing }
-    ensures of_kind { RefusalsOfKindChangeNothing }
+    ensures any_kind { RefusalsChangeNothing }
+    ensures kind_fit { RefusalsOfKindChangeNothing }
 {}
 
 /// A command that only reads changes nothing.
 pub fn reads_change_nothing()
-    ensures any { ReadsChangeNothing }
-    ensures of_kind { ReadsOfKindChangeNothing }
+    ensures any_kind { ReadsChangeNothing }
+    ensures kind_fit { ReadsOfKindChangeNothing }
 {}
 
 /// A step leads on, refused for the reason that it answers, and what is refused leaves the directory: so it is with a
 /// call that answers less than its command prints.
 pub fn steps_lead_on()
-    ensures leads { StepsLeadOn }
-    ensures popped { PoppedTextsLeadOn }
+    ensures link_target { StepsLeadOn }
+    ensures changes { PoppedTextsLeadOn }
     ensures refused { RefusedCallsStay }
 {}
 
 /// A command on an object is the same under each key that means it, and the handle of an object that was located is
 /// such a key.
 pub fn keys_mean_objects()
-    ensures any { KeysMeanObjects }
-    ensures of_kind { KeysOfKindMeanObjects }
+    ensures any_kind { KeysMeanObjects }
+    ensures kind_fit { KeysOfKindMeanObjects }
     ensures handle { HandlesMeanObjects }
 {}
 
@@ -84,7 +84,7 @@ pub fn layout_is_denoted()
     ensures size_at { SIZE_AT ≡ size_at }
     ensures named_at { NAMED_AT ≡ named_at }
     ensures unique_at { UNIQUE_AT ≡ unique_at }
-    ensures reserved_at { RESERVED_AT ≡ reserved_at }
+    ensures capacity_at { RESERVED_AT ≡ reserved_at }
     ensures name_class_at { NAME_CLASS_AT ≡ name_class_at }
     ensures head_len { HEAD_LEN ≡ head_len }
     ensures half { HALF ≡ two_halves 0 1 }

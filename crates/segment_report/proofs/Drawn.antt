@@ -12,13 +12,14 @@ use Rattle.best_fit.specs.Extents.{spans, spans_from}
 use Rattle.best_fit.proofs.Laws.{legal_size, proper_from-IsFirst, proper_from-reaches}
 use Rattle.seg_types.specs.Commands.{Free, Size}
 use Rattle.seg_types.specs.Names.{ByHandle}
-use Rattle.segment_manager.specs.declared.objects.telling.Instance.{Instance}
+use Rattle.segment_manager.specs.declared.objects.instance_info.Instance.{Instance}
 use Rattle.segment_manager.specs.Answers.{Number}
 use Rattle.segment_manager.specs.Directory.{Directory, live, object_at}
 use Rattle.segment_manager.specs.objects.Instances.{SaysOf}
-use Rattle.segment_manager.specs.State.{IsReply, IsSegment, State, StandsFor}
+use Rattle.segment_manager.specs.State.{AnswersQuery, IsSegment, SegmentState, DenotesCurrent}
 use Rattle.segment_manager.proofs.Laws.{AllByRecursion-append, live-size, tile-here}
-use Rattle.segment_report.specs.Picture.{HasOwner, HasScale, bytes_in_row, called, head_text, label_text, object_in, object_label}
+use Rattle.segment_report.specs.Picture.{HasOwner, HasScale, bytes_in_row, called, head_text, label_text, object_in}
+use Rattle.segment_report.specs.Picture.{object_label}
 use Rattle.segment_report.specs.Picture.{shape_text, sort_of, span_text}
 use Rattle.segment_report.proofs.Replies.{free_is, size_is}
 
@@ -27,20 +28,30 @@ use Rattle.segment_report.proofs.Replies.{free_is, size_is}
 abbrev LiesBelow : ℕ → Span → Type 0
 LiesBelow to s = (0 < s.len) × (s.offset + s.len ≤ to)
 
-hole-if : (a b to : ℕ) (c : Bool) → nat_lt a b ≡ c → b ≤ to → AllByRecursion (LiesBelow to) (if c then record { offset = a; len = b - a; use_of = None } ∷ [] else [])
+hole-if : (a b to : ℕ) (c : Bool) → nat_lt a b ≡ c → b ≤ to
+    → AllByRecursion (LiesBelow to) (if c then record { offset = a; len = b - a; use_of = None } ∷ [] else [])
 hole-if a b to true e h = let l = ltb-true a b e in ((omega arith, omega arith), tt)
 hole-if a b to false e h = tt
 
-lie-below : (from : ℕ) (xs : List Extent) (to : ℕ) → IsTrue (proper_from from xs to) → AllByRecursion (LiesBelow to) (spans_from from xs to)
+lie-below : (from : ℕ) (xs : List Extent) (to : ℕ) → IsTrue (proper_from from xs to)
+    → AllByRecursion (LiesBelow to) (spans_from from xs to)
 lie-below from [] to h = hole-if from to to (nat_lt from to) refl (omega arith)
 lie-below from (x ∷ xs) to h =
     let f = proper_from-IsFirst from x xs to h in
     let reaches = proper_from-reaches (end_of x) xs to f.rest in
     let long = f.block.long in
-    AllByRecursion-append (LiesBelow to) (span_between from x.offset) (record { offset = x.offset; len = x.len; use_of = Some x.role } ∷ spans_from (end_of x) xs to)
-    (hole-if from x.offset to (nat_lt from x.offset) refl (omega arith)) ((omega arith, omega arith), lie-below (end_of x) xs to f.rest)
+    AllByRecursion-append (LiesBelow to) (span_between from x.offset) (record {
+      offset = x.offset;
+      len = x.len;
+      use_of = Some x.role;
+    } ∷ spans_from (end_of x) xs to)
+    (hole-if from x.offset to (nat_lt from x.offset) refl (omega arith)) (
+      (omega arith, omega arith),
+      lie-below (end_of x) xs to f.rest,
+    )
 
-one-of : {X : Type 0} (P : X → Type 0) (xs : List X) (i : ℕ) (x : X) → AllByRecursion P xs → Some x ≡ slice_get xs i → P x
+one-of : {X : Type 0} (P : X → Type 0) (xs : List X) (i : ℕ) (x : X) → AllByRecursion P xs → Some x ≡ slice_get xs i
+    → P x
 one-of P [] i x h e = absurd (cc)
 one-of P (y ∷ ys) zero x h e = let same : y ≡ x = cc in subst P same h.0
 one-of P (y ∷ ys) (suc i) x h e = one-of P ys i x h.1 e
@@ -57,7 +68,8 @@ live-lies l h i s e =
     let one = one-of (LiesBelow (l.size - 16)) (spans l) i s (lie-below 128 l.extents (l.size - 16) parts.1) e in
     record { some = one.0; inside = omega (arith, one.1, legal.high) }
 
-pub lies-in : (b : List ℕ) (i : ℕ) (s : Span) → IsSegment b → ((d : Directory) → StandsFor b d → Some s ≡ slice_get (spans (live d)) i) → LiesIn s
+pub lies-in : (b : List ℕ) (i : ℕ) (s : Span) → IsSegment b
+    → ((d : Directory) → DenotesCurrent b d → Some s ≡ slice_get (spans (live d)) i) → LiesIn s
 lies-in b i s (d, k) next = live-lies (live d) k.denotes.directory.proper i s (next d k)
 
 -- ---- how long the segment is
@@ -76,24 +88,30 @@ live-legal l h =
 pub legal-size : (d : Directory) → IsTrue (is_proper (live d)) → HasSize (live d).size
 legal-size d h = live-legal (live d) h
 
-pub has_size : (s : State) (n : ℕ) → IsSegment s.cut.bytes → IsReply s Size (Number n) → HasSize n
+pub has_size : (s : SegmentState) (n : ℕ) → IsSegment s.cut.bytes → AnswersQuery s Size (Number n) → HasSize n
 has_size s n (d, k) h =
-    subst HasSize (sym (size_is s.mode d n (h.answers d k) ∙ sym (live-size d))) (live-legal (live d) k.denotes.directory.proper)
+    subst HasSize (sym (size_is s.mode d n (h.answers d k) ∙ sym (live-size d)))
+    (live-legal (live d) k.denotes.directory.proper)
 
-pub head-same : (s : State) (size free : ℕ) → IsReply s Size (Number size) → IsReply s Free (Number free) → (d : Directory) → StandsFor s.cut.bytes d
+pub head-same : (s : SegmentState) (size free : ℕ) → AnswersQuery s Size (Number size)
+    → AnswersQuery s Free (Number free) → (d : Directory) → DenotesCurrent s.cut.bytes d
     → head_text size free ≡ head_text d.size (free_bytes (live d))
-head-same s size free h f d k = λ i. head_text (size_is s.mode d size (h.answers d k) i) (free_is s.mode d free (f.answers d k) i)
+head-same s size free h f d k =
+    λ i. head_text (size_is s.mode d size (h.answers d k) i) (free_is s.mode d free (f.answers d k) i)
 
 -- ---- what an object is called
 
-pub label-said : (s : State) (per from len h : ℕ) (said : Instance) → SaysOf s (ByHandle h) said → (d : Directory) → StandsFor s.cut.bytes d
-    → label_text per from len (called said.class said.name.now said.handle) said.kind ≡ object_label per from len (object_at d (ByHandle h))
+pub label-said : (s : SegmentState) (per from len h : ℕ) (said : Instance) → SaysOf s (ByHandle h) said
+    → (d : Directory) → DenotesCurrent s.cut.bytes d
+    → label_text per from len (called said.class said.name.now said.handle) said.kind
+    ≡ object_label per from len (object_at d (ByHandle h))
 label-said s per from len h said says d k =
     let o = says.says d k in
-    (λ i. label_text per from len (called (o.2.class i) (o.2.name i) (o.2.at i)) (o.2.kind i)) ∙ ap (object_label per from len) (sym o.1)
+    (λ i. label_text per from len (called (o.2.class i) (o.2.name i) (o.2.at i)) (o.2.kind i))
+    ∙ ap (object_label per from len) (sym o.1)
 
 -- an object's block has an object
-owner-of : (s : State) (i offset len : ℕ) (u : Option Role) → ((d : Directory) → StandsFor s.cut.bytes d
+owner-of : (s : SegmentState) (i offset len : ℕ) (u : Option Role) → ((d : Directory) → DenotesCurrent s.cut.bytes d
     → Some (record { offset = offset; len = len; use_of = u }) ≡ slice_get (spans (live d)) i) → HasOwner s u offset
 owner-of s i offset len (Some ObjectRole) next =
     tile-here i (record { offset = offset; len = len; use_of = Some ObjectRole }) next refl
@@ -102,16 +120,26 @@ owner-of s i offset len (Some Storage) next = tt
 owner-of s i offset len (Some Node) next = tt
 owner-of s i offset len None next = tt
 
-pub has-owner : (s : State) (i : ℕ) (x : Span) → ((d : Directory) → StandsFor s.cut.bytes d
+pub has-owner : (s : SegmentState) (i : ℕ) (x : Span) → ((d : Directory) → DenotesCurrent s.cut.bytes d
     → Some x ≡ slice_get (spans (live d)) i) → HasOwner s x.use_of x.offset
 has-owner s i x next = owner-of s i x.offset x.len x.use_of next
 
-pub end-same : (s : State) (per size : ℕ) → HasScale s per → IsReply s Size (Number size) → (d : Directory) → StandsFor s.cut.bytes d
+pub end-same : (s : SegmentState) (per size : ℕ) → HasScale s per → AnswersQuery s Size (Number size)
+    → (d : Directory) → DenotesCurrent s.cut.bytes d
     → shape_text per (size - 16) 16 (codes "end") ≡ shape_text (bytes_in_row d.size) (d.size - 16) 16 (codes "end")
-end-same s per size h a d k = λ i. shape_text (h.scale d k i) (size_is s.mode d size (a.answers d k) i - 16) 16 (codes "end")
+end-same s per size h a d k = λ i.
+    shape_text (h.scale d k i) (size_is s.mode d size (a.answers d k) i - 16) 16 (codes "end")
 
 -- the next block or gap
-pub next-text : (s : State) (per : ℕ) → HasScale s per → (i : ℕ) (x : Span) → ((d : Directory) → StandsFor s.cut.bytes d → Some x ≡ slice_get (spans (live d)) i) → (d : Directory) → StandsFor s.cut.bytes d
-    → (y : Span) × (Some y ≡ slice_get (spans (live d)) i) × (span_text d y ≡ shape_text per x.offset x.len (sort_of x.use_of) ++ object_label per x.offset x.len (object_in d x.use_of x.offset))
-next-text s per h i x next d k =
-    (x, next d k, ap (λ (n : ℕ). shape_text n x.offset x.len (sort_of x.use_of) ++ object_label n x.offset x.len (object_in d x.use_of x.offset)) (sym (h.scale d k)))
+pub next-text : (s : SegmentState) (per : ℕ) → HasScale s per → (i : ℕ) (x : Span)
+    → ((d : Directory) → DenotesCurrent s.cut.bytes d → Some x ≡ slice_get (spans (live d)) i) → (d : Directory)
+    → DenotesCurrent s.cut.bytes d
+    → (y : Span) × (Some y ≡ slice_get (spans (live d)) i)
+    × (span_text d y ≡ shape_text per x.offset x.len (sort_of x.use_of)
+    ++ object_label per x.offset x.len (object_in d x.use_of x.offset))
+next-text s per h i x next d k = (
+  x,
+  next d k,
+  ap (λ (n : ℕ). shape_text n x.offset x.len (sort_of x.use_of)
+      ++ object_label n x.offset x.len (object_in d x.use_of x.offset)) (sym (h.scale d k)),
+)

@@ -2,7 +2,8 @@
 use Rattle.std.proofs.Common.{◌≡◌, ℕ, ◌+◌, ◌-◌, List, sym, ◌∙◌}
 use Rattle.std.specs.Prelude.{◌≢◌, ◌==◌}
 use Rattle.std.proofs.lemmas.Bool.{cond-false, cond-true, eq-eqb, ne_eqb}
-use Rattle.segment_report.specs.Picture.{box_text, frame_at, frame_text, left_of, outline_text, right_of, rows_text, shape_text, top_of, width_in}
+use Rattle.segment_report.specs.Picture.{box_text, frame_at, frame_text, left_of, outline_text, right_of, rows_text}
+use Rattle.segment_report.specs.Picture.{shape_text, top_of, width_in}
 
 -- the corners of so many bytes from an offset on
 pub record AreCorners (per from len left right top last : ℕ) : Type 0 where
@@ -16,10 +17,13 @@ module _ (per from len left right top last : ℕ) (h : AreCorners per from len l
   outline sort = λ i. outline_text (h.left_is i) (h.right_is i) (h.top_is i) (h.last_is i) from len sort
 
   pub one-row : (sort : List ℕ) → top ≡ last → box_text left right top from len sort ≡ shape_text per from len sort
-  one-row sort e = sym (cond-true (top == last) (box_text left right top from len sort) (rows_text left right top last from len sort) (eq-eqb top last e)) ∙ outline sort
+  one-row sort e = sym (cond-true (top == last) (box_text left right top from len sort)
+      (rows_text left right top last from len sort) (eq-eqb top last e)) ∙ outline sort
 
-  pub many-rows : (sort : List ℕ) → top ≢ last → rows_text left right top last from len sort ≡ shape_text per from len sort
-  many-rows sort n = sym (cond-false (top == last) (box_text left right top from len sort) (rows_text left right top last from len sort) (ne_eqb top last n)) ∙ outline sort
+  pub many-rows : (sort : List ℕ) → top ≢ last
+      → rows_text left right top last from len sort ≡ shape_text per from len sort
+  many-rows sort n = sym (cond-false (top == last) (box_text left right top from len sort)
+      (rows_text left right top last from len sort) (ne_eqb top last n)) ∙ outline sort
 
   pub framed : frame_at left (width_in left right top last) top ≡ frame_text per from len
   framed = λ i. frame_at (h.left_is i) (width_in (h.left_is i) (h.right_is i) (h.top_is i) (h.last_is i)) (h.top_is i)

@@ -56,7 +56,7 @@ object_counted t Unique k = record t { unique = t.unique + 1; kinds = one_more_a
 object_counted t Anonymous k = record t { anonymous = t.anonymous + 1; kinds = one_more_at t.kinds (kind_place k) }
 
 -- there is room to count one more
-pub record HasRoomFor (t : ObjectTally) (i : ℕ) : Type 0 where
+pub record CanTally (t : ObjectTally) (i : ℕ) : Type 0 where
   pub named : t.named ≤ i
   pub unique : t.unique ≤ i
   pub anonymous : t.anonymous ≤ i

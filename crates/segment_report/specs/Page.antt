@@ -4,7 +4,7 @@ use Rattle.best_fit.specs.Extents.{handle}
 use Rattle.seg_types.specs.declared.kinds.Class.{Class}
 use Rattle.seg_types.specs.declared.kinds.Kind.{Kind}
 use Rattle.seg_types.specs.Texts.{class_text, kind_text}
-use Rattle.segment_manager.specs.declared.objects.telling.Instance.{Instance}
+use Rattle.segment_manager.specs.declared.objects.instance_info.Instance.{Instance}
 use Rattle.segment_manager.specs.Directory.{Directory, Object, count_of, kind_of}
 use Rattle.segment_report.specs.Parts.{xml_text}
 use Rattle.segment_report.specs.Picture.{picture_of}
@@ -17,7 +17,8 @@ abbrev pub page_head : List ℕ
 page_head =
     codes "<!DOCTYPE html>\n<html lang='en'><head><meta charset='utf-8'><title>Segment</title>\n"
     ++ codes "<style>body{font:14px sans-serif;margin:2em}svg{max-width:1080px}"
-    ++ codes "table{border-collapse:collapse}td,th{padding:2px 12px;border-bottom:1px solid #ccd;text-align:left}th{cursor:pointer}</style></head>\n<body><h1>Segment</h1>\n"
+    ++ codes
+    "table{border-collapse:collapse}td,th{padding:2px 12px;border-bottom:1px solid #ccd;text-align:left}th{cursor:pointer}</style></head>\n<body><h1>Segment</h1>\n"
 
 -- what stands in front of the figures, which a browser does not show as they are
 abbrev pub figures_head : List ℕ
@@ -34,11 +35,14 @@ table_head =
 abbrev pub page_end : List ℕ
 page_end =
     codes "</tbody></table>\n<script>\n"
-    ++ codes "const rows=[...document.querySelectorAll('#objects tbody tr')],body=document.querySelector('#objects tbody');\n"
+    ++ codes
+    "const rows=[...document.querySelectorAll('#objects tbody tr')],body=document.querySelector('#objects tbody');\n"
     ++ codes "const lines=document.getElementById('stat').textContent.trim().split(String.fromCharCode(10));\n"
-    ++ codes "for(const line of lines){const at=line.lastIndexOf(' '),row=document.getElementById('figures').insertRow();\n"
+    ++ codes
+    "for(const line of lines){const at=line.lastIndexOf(' '),row=document.getElementById('figures').insertRow();\n"
     ++ codes "row.insertCell().textContent=line.slice(0,at);row.insertCell().textContent=line.slice(at+1)}\n"
-    ++ codes "document.getElementById('search').oninput=e=>{for(const row of rows)row.hidden=!row.textContent.includes(e.target.value)};\n"
+    ++ codes
+    "document.getElementById('search').oninput=e=>{for(const row of rows)row.hidden=!row.textContent.includes(e.target.value)};\n"
     ++ codes "document.querySelectorAll('#objects th').forEach((head,column)=>{let up=false;head.onclick=()=>{up=!up;\n"
     ++ codes "rows.sort((a,b)=>{const x=a.cells[column].textContent,y=b.cells[column].textContent;\n"
     ++ codes "return(up?1:-1)*(x-y||x.localeCompare(y))});for(const row of rows)body.append(row)}});\n"
@@ -49,7 +53,8 @@ page_end =
 -- a row of the table, of these cells
 abbrev pub cells_text : List ℕ → List ℕ → Kind → ℕ → ℕ → List ℕ
 cells_text class name kind count handle =
-    codes "<tr><td>" ++ (class ++ (codes "</td><td>" ++ (xml_text name ++ (codes "</td><td>" ++ (xml_text (kind_text kind) ++ (
+    codes "<tr><td>" ++ (class ++ (codes "</td><td>"
+    ++ (xml_text name ++ (codes "</td><td>" ++ (xml_text (kind_text kind) ++ (
     codes "</td><td>" ++ (decimal count ++ (codes "</td><td>" ++ (decimal handle ++ codes "</td></tr>\n")))))))))
 
 -- class, name, kind, number of elements, handle

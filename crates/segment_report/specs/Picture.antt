@@ -1,7 +1,8 @@
 -- The picture of a segment, a text of SVG. Its bytes go through 16 rows from left to right, to scale: each block, each
 -- gap, the header and the end tag is a shape of its own, over several rows where it is longer than one. An object has
 -- its name and kind in it.
-use Rattle.std.specs.Prelude.{◌≡◌, ℕ, ◌+◌, ◌-◌, ◌*◌, ◌/◌, ◌%◌, max, true, Option, Some, None, List, [], ◌++◌, codes, decimal, flat_map, ◌==◌, if◌then◌else◌}
+use Rattle.std.specs.Prelude.{◌≡◌, ℕ, ◌+◌, ◌-◌, ◌*◌, ◌/◌, ◌%◌, max, true, Option, Some, None, List, [], ◌++◌, codes}
+use Rattle.std.specs.Prelude.{decimal, flat_map, ◌==◌, if◌then◌else◌}
 use Rattle.block_tags.specs.declared.tile.Role.{Role}
 use Rattle.block_tags.specs.declared.tile.Role.TheVariants.{Object as ObjectRole, Index, Storage, Node}
 use Rattle.best_fit.specs.Extents.{Span, free_bytes, handle, spans}
@@ -12,7 +13,7 @@ use Rattle.seg_types.specs.Names.{ByHandle}
 use Rattle.seg_types.specs.Texts.{kind_text}
 use Rattle.segment_manager.specs.Directory.{Directory, Object, kind_of, live, object_at}
 use Rattle.segment_manager.specs.objects.Found.{is_object_at}
-use Rattle.segment_manager.specs.State.{Answers, State, StandsFor}
+use Rattle.segment_manager.specs.State.{AnswersWith, SegmentState, DenotesCurrent}
 use Rattle.segment_report.specs.Parts.{xml_text}
 
 -- ---- where a byte stands, in pixels
@@ -36,24 +37,31 @@ top_of per at = 72 + at / per * 32
 -- bytes that lie in one row: the line round them, and behind it where they begin, how many they are, and of what sort
 abbrev pub box_text : ℕ → ℕ → ℕ → ℕ → ℕ → List ℕ → List ℕ
 box_text left right top from len sort =
-    codes "<path class='" ++ (sort ++ (codes "' d='M" ++ (decimal left ++ (codes " " ++ (decimal top ++ (codes "H" ++ (decimal right ++ (
-    codes "V" ++ (decimal (top + 32) ++ (codes "H" ++ (decimal left ++ (codes "Z'><title>" ++ (decimal from ++ (codes " " ++ (decimal len ++ (
+    codes "<path class='" ++ (sort
+    ++ (codes "' d='M" ++ (decimal left ++ (codes " " ++ (decimal top ++ (codes "H" ++ (decimal right ++ (
+    codes "V" ++ (decimal (top + 32)
+    ++ (codes "H" ++ (decimal left ++ (codes "Z'><title>" ++ (decimal from ++ (codes " " ++ (decimal len ++ (
     codes " " ++ (sort ++ codes "</title></path>\n")))))))))))))))))
 
 -- the same of bytes that lie in several rows, the first at one height and the last at another
 abbrev pub rows_text : ℕ → ℕ → ℕ → ℕ → ℕ → ℕ → List ℕ → List ℕ
 rows_text left right top last from len sort =
-    codes "<path class='" ++ (sort ++ (codes "' d='M" ++ (decimal left ++ (codes " " ++ (decimal top ++ (codes "H1052V" ++ (decimal last ++ (
-    codes "H" ++ (decimal right ++ (codes "V" ++ (decimal (last + 32) ++ (codes "H28V" ++ (decimal (top + 32) ++ (codes "H" ++ (decimal left ++ (
-    codes "Z'><title>" ++ (decimal from ++ (codes " " ++ (decimal len ++ (codes " " ++ (sort ++ codes "</title></path>\n")))))))))))))))))))))
+    codes "<path class='" ++ (sort
+    ++ (codes "' d='M" ++ (decimal left ++ (codes " " ++ (decimal top ++ (codes "H1052V" ++ (decimal last ++ (
+    codes "H" ++ (decimal right ++ (codes "V"
+    ++ (decimal (last + 32) ++ (codes "H28V" ++ (decimal (top + 32) ++ (codes "H" ++ (decimal left ++ (
+    codes "Z'><title>" ++ (decimal from
+    ++ (codes " " ++ (decimal len ++ (codes " " ++ (sort ++ codes "</title></path>\n")))))))))))))))))))))
 
 abbrev pub outline_text : ℕ → ℕ → ℕ → ℕ → ℕ → ℕ → List ℕ → List ℕ
-outline_text left right top last from len sort = if top == last then box_text left right top from len sort else rows_text left right top last from len sort
+outline_text left right top last from len sort =
+    if top == last then box_text left right top from len sort else rows_text left right top last from len sort
 
 -- so many bytes from an offset on, of a sort that has a style
 abbrev pub shape_text : ℕ → ℕ → ℕ → List ℕ → List ℕ
 shape_text per from len sort =
-    outline_text (left_of per from) (right_of per (from + len - 1)) (top_of per from) (top_of per (from + len - 1)) from len sort
+    outline_text (left_of per from) (right_of per (from + len - 1)) (top_of per from) (top_of per (from + len - 1))
+    from len sort
 
 abbrev pub sort_of : Option Role → List ℕ
 sort_of None = codes "free"
@@ -80,10 +88,12 @@ frame_at left width top =
 
 abbrev pub frame_text : ℕ → ℕ → ℕ → List ℕ
 frame_text per from len =
-    frame_at (left_of per from) (width_in (left_of per from) (right_of per (from + len - 1)) (top_of per from) (top_of per (from + len - 1))) (top_of per from)
+    frame_at (left_of per from) (width_in (left_of per from) (right_of per (from + len - 1)) (top_of per from)
+    (top_of per (from + len - 1))) (top_of per from)
 
 abbrev pub label_text : ℕ → ℕ → ℕ → List ℕ → Kind → List ℕ
-label_text per from len name kind = frame_text per from len ++ (name ++ (xml_text (kind_text kind) ++ codes "</text></svg>\n"))
+label_text per from len name kind =
+    frame_text per from len ++ (name ++ (xml_text (kind_text kind) ++ codes "</text></svg>\n"))
 
 abbrev pub object_label : ℕ → ℕ → ℕ → Option Object → List ℕ
 object_label per from len None = []
@@ -102,14 +112,17 @@ object_in d None from = None
 -- a block or gap, and what stands in it
 abbrev pub span_text : Directory → Span → List ℕ
 span_text d s =
-    shape_text (bytes_in_row d.size) s.offset s.len (sort_of s.use_of) ++ object_label (bytes_in_row d.size) s.offset s.len (object_in d s.use_of s.offset)
+    shape_text (bytes_in_row d.size) s.offset s.len (sort_of s.use_of)
+    ++ object_label (bytes_in_row d.size) s.offset s.len (object_in d s.use_of s.offset)
 
 -- how it begins, with the colour of each sort
 abbrev pub begin_text : List ℕ
 begin_text =
     codes "<svg xmlns='http://www.w3.org/2000/svg' viewBox='0 0 1080 600' font-family='sans-serif' font-size='13'>\n"
-    ++ codes "<style>path{stroke:#456}.header,.end{fill:#bcc3ca}.free{fill:#fff}.object{fill:#9cc9ea}.index{fill:#f5c883}"
-    ++ codes ".storage{fill:#a9d8a2}.node{fill:#cdb9e6}</style>\n<rect width='1080' height='600' fill='#f2f4f6'/>\n<text x='28' y='26' font-size='16'>"
+    ++ codes
+    "<style>path{stroke:#456}.header,.end{fill:#bcc3ca}.free{fill:#fff}.object{fill:#9cc9ea}.index{fill:#f5c883}"
+    ++ codes
+    ".storage{fill:#a9d8a2}.node{fill:#cdb9e6}</style>\n<rect width='1080' height='600' fill='#f2f4f6'/>\n<text x='28' y='26' font-size='16'>"
 
 -- what its colours mean
 abbrev pub legend_text : List ℕ
@@ -123,7 +136,8 @@ legend_text =
 
 -- the size and the free bytes, and what the colours mean
 abbrev pub head_text : ℕ → ℕ → List ℕ
-head_text size free = begin_text ++ (decimal size ++ (codes " bytes, " ++ (decimal free ++ (codes " free" ++ legend_text))))
+head_text size free = begin_text
+    ++ (decimal size ++ (codes " bytes, " ++ (decimal free ++ (codes " free" ++ legend_text))))
 
 -- these, and the header
 abbrev pub front_text : Directory → List ℕ
@@ -143,12 +157,12 @@ abbrev pub picture_of : Directory → List ℕ
 picture_of d = front_text d ++ (spans_text d ++ end_text d)
 
 -- the scale of a segment's picture
-pub record HasScale (s : State) (per : ℕ) : Type 0 where
-  pub scale : (d : Directory) → StandsFor s.cut.bytes d → per ≡ bytes_in_row d.size
+pub record HasScale (s : SegmentState) (per : ℕ) : Type 0 where
+  pub scale : (d : Directory) → DenotesCurrent s.cut.bytes d → per ≡ bytes_in_row d.size
 
 -- an object has the handle of an object's block
-abbrev pub HasOwner : State → Option Role → ℕ → Type 0
-HasOwner s (Some ObjectRole) from = Answers s (λ d. is_object_at d (from + 16)) true
+abbrev pub HasOwner : SegmentState → Option Role → ℕ → Type 0
+HasOwner s (Some ObjectRole) from = AnswersWith s (λ d. is_object_at d (from + 16)) true
 HasOwner s (Some Index) from = Unit {0}
 HasOwner s (Some Storage) from = Unit {0}
 HasOwner s (Some Node) from = Unit {0}

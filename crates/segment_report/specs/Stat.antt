@@ -15,12 +15,15 @@ use Rattle.segment_report.specs.Usages.{tally_of}
 -- places for; and how many bytes the segment would lose if it ended behind its last block
 abbrev pub figures_text : ℕ → Tally → ObjectTally → ℕ → ℕ → List ℕ
 figures_text size t o named unique =
-    entry_line (codes "size") size ++ (entry_line (codes "free") t.gaps.bytes ++ (entry_line (codes "gaps") t.gaps.count ++ (entry_line (codes "largest_gap") t.longest_gap
+    entry_line (codes "size") size
+    ++ (entry_line (codes "free") t.gaps.bytes
+    ++ (entry_line (codes "gaps") t.gaps.count ++ (entry_line (codes "largest_gap") t.longest_gap
     ++ (entry_line (codes "object_blocks") t.objects.count ++ (entry_line (codes "object_bytes") t.objects.bytes
     ++ (entry_line (codes "index_blocks") t.indexes.count ++ (entry_line (codes "index_bytes") t.indexes.bytes
     ++ (entry_line (codes "storage_blocks") t.storages.count ++ (entry_line (codes "storage_bytes") t.storages.bytes
     ++ (entry_line (codes "node_blocks") t.nodes.count ++ (entry_line (codes "node_bytes") t.nodes.bytes
-    ++ (entry_line (codes "named") o.named ++ (entry_line (codes "unique") o.unique ++ (entry_line (codes "anonymous") o.anonymous
+    ++ (entry_line (codes "named") o.named
+    ++ (entry_line (codes "unique") o.unique ++ (entry_line (codes "anonymous") o.anonymous
     ++ (entry_line (codes "named_capacity") named ++ (entry_line (codes "unique_capacity") unique
     ++ (entry_line (codes "shrink_frees") t.end_gap ++ [])))))))))))))))))
 
@@ -38,4 +41,5 @@ kinds_text count = flat_map (λ k. kind_line k (count k)) kinds
 
 abbrev pub stat_text : Directory → List ℕ
 stat_text d =
-    figures_text d.size (tally_of d) (object_tally_of d) d.named.capacity d.unique.capacity ++ kinds_text (count_of_kind d.objects)
+    figures_text d.size (tally_of d) (object_tally_of d) d.named.capacity d.unique.capacity
+    ++ kinds_text (count_of_kind d.objects)

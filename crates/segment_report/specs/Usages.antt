@@ -18,7 +18,10 @@ blocks_of role xs = filter (has_role role) xs
 
 -- how many they are, and their bytes together, tags included
 abbrev pub usage_of : Role → List Extent → Usage
-usage_of role xs = record { count = length (blocks_of role xs); bytes = sum_by (λ (x : Extent). x.len) (blocks_of role xs) }
+usage_of role xs = record {
+  count = length (blocks_of role xs);
+  bytes = sum_by (λ (x : Extent). x.len) (blocks_of role xs);
+}
 
 -- the same of gaps
 abbrev pub gap_usage : List Gap → Usage

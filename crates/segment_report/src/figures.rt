@@ -2,10 +2,10 @@
 ghost use Rattle.std.specs.Prelude.{◌≡◌, ◌-◌, ◌^◌, ◌<◌, flat_map};
 ghost use Rattle.raw_region.specs.Device.{Writes};
 ghost use Rattle.seg_types.specs.Kinds.{kinds};
-ghost use Rattle.segment_manager.specs.State.{Answers};
+ghost use Rattle.segment_manager.specs.State.{AnswersWith};
 ghost use Rattle.segment_report.specs.Objects.{object_tally_of};
 ghost use Rattle.segment_report.specs.Stat.{counted_line, figures_text, kind_line, stat_text};
-ghost use Rattle.segment_report.specs.Telling.{Tells};
+ghost use Rattle.segment_report.specs.Telling.{WritesReport};
 ghost use Rattle.segment_report.specs.Usages.{tally_of};
 
 use crate::entries::put_entries;
@@ -71,7 +71,7 @@ static KINDS: [Kind; 37] = [
 /// with it.
 pub fn stat<W: Sink>(segment: &Segment, out: &mut W) -> Result<(), DeviceFault>
     requires { (W.history out.old).failures < 2 ^ 64 - 1 }
-    ensures { Tells segment.now (W.history out.old) (W.history out.new) result stat_text }
+    ensures { WritesReport segment.now (W.history out.old) (W.history out.new) result stat_text }
 {
     let objects = tally_objects(segment);
     put_figures(segment, &objects, out)?;
@@ -85,8 +85,9 @@ fn put_figures<W: Sink>(
     out: &mut W,
 ) -> Result<(), DeviceFault>
     requires writer { (W.history out.old).failures < 2 ^ 64 - 1 }
-    requires counted { Answers segment.now object_tally_of objects.now }
-    ensures { Tells segment.now (W.history out.old) (W.history out.new) result (λ d. figures_text d.size (tally_of d) (object_tally_of d) d.named.capacity d.unique.capacity) }
+    requires steps_lower { AnswersWith segment.now object_tally_of objects.now }
+    ensures { WritesReport segment.now (W.history out.old) (W.history out.new) result (λ d.
+        figures_text d.size (tally_of d) (object_tally_of d) d.named.capacity d.unique.capacity) }
 {
     let blocks = tally_blocks(segment);
     let places = Places {
@@ -114,7 +115,8 @@ fn put_lines<W: Sink>(
     places: Places,
 ) -> Result<(), DeviceFault>
     requires { (W.history out.old).failures < 2 ^ 64 - 1 }
-    ensures { Writes (W.history out.old) (W.history out.new) result (figures_text size blocks.now objects.now places.named places.unique) }
+    ensures { Writes (W.history out.old) (W.history out.new) result
+        (figures_text size blocks.now objects.now places.named places.unique) }
 {
     put_entries(
         out,
@@ -143,14 +145,14 @@ fn put_lines<W: Sink>(
 
 /// For how many entries the index of names has places.
 fn named_capacity(segment: &Segment) -> u64
-    ensures { Answers segment.now (λ d. d.named.capacity) result }
+    ensures { AnswersWith segment.now (λ d. d.named.capacity) result }
 {
     word_in(segment.as_bytes(), NAMED_AT as usize + CAPACITY)
 }
 
 /// For how many entries the index of kinds has places.
 fn unique_capacity(segment: &Segment) -> u64
-    ensures { Answers segment.now (λ d. d.unique.capacity) result }
+    ensures { AnswersWith segment.now (λ d. d.unique.capacity) result }
 {
     word_in(segment.as_bytes(), UNIQUE_AT as usize + CAPACITY)
 }
@@ -170,7 +172,8 @@ fn put_kind_lines<W: Sink>(
     out: &mut W,
 ) -> Result<(), DeviceFault>
     requires { (W.history out.old).failures < 2 ^ 64 - 1 }
-    ensures { Writes (W.history out.old) (W.history out.new) result (flat_map (counted_line objects.now.kinds) kinds.now) }
+    ensures { Writes (W.history out.old) (W.history out.new) result
+        (flat_map (counted_line objects.now.kinds) kinds.now) }
 {
     'kinds: for kind in kinds {
         put_kind(out, *kind, objects.of_kind(*kind))?;

@@ -2,7 +2,7 @@
 ghost use Rattle.std.specs.Prelude.{◌≡◌, ◌-◌, ◌^◌, ◌<◌, IfOk};
 ghost use Rattle.raw_region.specs.Device.{Writes};
 ghost use Rattle.segment_report.specs.Names.{begins_with, left_behind, listed_line, name_line, names_text};
-ghost use Rattle.segment_report.specs.Telling.{Tells};
+ghost use Rattle.segment_report.specs.Telling.{WritesReport};
 
 use raw_region::{DeviceFault, Sink};
 use segment_lang::{Piece, put_pieces};
@@ -20,7 +20,7 @@ pub fn put_names<W: Sink>(
     out: &mut W,
 ) -> Result<(), DeviceFault>
     requires { (W.history out.old).failures < 2 ^ 64 - 1 }
-    ensures { Tells segment.now (W.history out.old) (W.history out.new) result (names_text prefix.now most) }
+    ensures { WritesReport segment.now (W.history out.old) (W.history out.new) result (names_text prefix.now most) }
 {
     let mut left = most;
     'names: for name in segment.names() {
@@ -37,8 +37,8 @@ fn put_listed<W: Sink>(
     left: u64,
 ) -> Result<u64, DeviceFault>
     requires { (W.history out.old).failures < 2 ^ 64 - 1 }
-    ensures left { IfOk result (λ n. n ≡ left_behind prefix.now left name.now) }
-    ensures writes { Writes (W.history out.old) (W.history out.new) result (listed_line prefix.now left name.now) }
+    ensures remainder { IfOk result (λ n. n ≡ left_behind prefix.now left name.now) }
+    ensures output { Writes (W.history out.old) (W.history out.new) result (listed_line prefix.now left name.now) }
 {
     if left == 0 || !begins_with(name, prefix) {
         return Ok(left);

@@ -1,7 +1,8 @@
 //! The objects of a segment, counted by class and by kind in one walk over them.
 ghost use Rattle.std.specs.Prelude.{◌≡◌, ◌^◌, ◌<◌, slice_index, [], ℕ};
-ghost use Rattle.segment_manager.specs.State.{Answers};
-ghost use Rattle.segment_report.specs.Objects.{HasRoomFor, kind_place, object_counted, object_tally_of, objects_tally, scalar_place};
+ghost use Rattle.segment_manager.specs.State.{AnswersWith};
+ghost use Rattle.segment_report.specs.Objects.{CanTally, kind_place, object_counted, object_tally_of, objects_tally};
+ghost use Rattle.segment_report.specs.Objects.{scalar_place};
 
 use seg_types::{Class, Kind, ScalarKind};
 use segment_manager::Segment;
@@ -25,7 +26,7 @@ pub struct ObjectTally {
 /// The place of a kind among all.
 fn place_of(kind: Kind) -> usize
     ensures place { result ≡ kind_place kind }
-    ensures inside { result < 37 }
+    ensures in_bounds { result < 37 }
 {
     match kind {
         Kind::Scalar(scalar) => scalar_place(scalar),
@@ -39,7 +40,7 @@ fn place_of(kind: Kind) -> usize
 /// The place of a kind among the scalar ones.
 fn scalar_place(kind: ScalarKind) -> usize
     ensures place { result ≡ scalar_place kind }
-    ensures inside { result < 5 }
+    ensures in_bounds { result < 5 }
 {
     match kind {
         ScalarKind::Bool => 0,
@@ -72,7 +73,7 @@ impl ObjectTally {
 
     /// Counts one object more.
     fn add(&mut self, class: Class, kind: Kind)
-        requires { (i : ℕ) × HasRoomFor self.old i × (i < 2 ^ 63) }
+        requires { (i : ℕ) × CanTally self.old i × (i < 2 ^ 63) }
         ensures { self.new ≡ object_counted self.old class kind }
     {
         match class {
@@ -86,7 +87,7 @@ impl ObjectTally {
 
 /// How many objects a segment has, by class and by kind.
 pub fn tally_objects(segment: &Segment) -> ObjectTally
-    ensures { Answers segment.now object_tally_of result }
+    ensures { AnswersWith segment.now object_tally_of result }
 {
     let mut tally = ObjectTally::new();
     // 64 bits count the objects of a segment, which its bytes say.

@@ -1,8 +1,9 @@
 //! A page that a browser shows of a segment: its picture, its figures, and its objects as a table.
 ghost use Rattle.std.specs.Prelude.{◌≡◌, ◌-◌, ◌^◌, ◌<◌};
 ghost use Rattle.raw_region.specs.Device.{Writes};
-ghost use Rattle.segment_report.specs.Page.{cells_text, figures_head, figures_part, instance_row, objects_part, page_end, page_head, page_of, picture_part, rows_text, table_head};
-ghost use Rattle.segment_report.specs.Telling.{Tells};
+ghost use Rattle.segment_report.specs.Page.{cells_text, figures_head, figures_part, instance_row, objects_part};
+ghost use Rattle.segment_report.specs.Page.{page_end, page_head, page_of, picture_part, rows_text, table_head};
+ghost use Rattle.segment_report.specs.Telling.{WritesReport};
 
 use crate::figures::stat;
 use crate::parts::{Part, put_parts};
@@ -18,7 +19,7 @@ use segment_manager::{Instance, Segment};
 /// with it.
 pub fn draw_page<W: Sink>(segment: &Segment, out: &mut W) -> Result<(), DeviceFault>
     requires { (W.history out.old).failures < 2 ^ 64 - 1 }
-    ensures { Tells segment.now (W.history out.old) (W.history out.new) result page_of }
+    ensures { WritesReport segment.now (W.history out.old) (W.history out.new) result page_of }
 {
     put_picture(segment, out)?;
     put_figures(segment, out)?;
@@ -28,7 +29,7 @@ pub fn draw_page<W: Sink>(segment: &Segment, out: &mut W) -> Result<(), DeviceFa
 /// Writes how a page begins, and the picture.
 fn put_picture<W: Sink>(segment: &Segment, out: &mut W) -> Result<(), DeviceFault>
     requires { (W.history out.old).failures < 2 ^ 64 - 1 }
-    ensures { Tells segment.now (W.history out.old) (W.history out.new) result picture_part }
+    ensures { WritesReport segment.now (W.history out.old) (W.history out.new) result picture_part }
 {
     put_head(out)?;
     draw(segment, out)
@@ -37,7 +38,7 @@ fn put_picture<W: Sink>(segment: &Segment, out: &mut W) -> Result<(), DeviceFaul
 /// Writes the figures, which the page's script lays out.
 fn put_figures<W: Sink>(segment: &Segment, out: &mut W) -> Result<(), DeviceFault>
     requires { (W.history out.old).failures < 2 ^ 64 - 1 }
-    ensures { Tells segment.now (W.history out.old) (W.history out.new) result figures_part }
+    ensures { WritesReport segment.now (W.history out.old) (W.history out.new) result figures_part }
 {
     put_figures_head(out)?;
     stat(segment, out)
@@ -46,7 +47,7 @@ fn put_figures<W: Sink>(segment: &Segment, out: &mut W) -> Result<(), DeviceFaul
 /// Writes the table of the objects, and how a page ends.
 fn put_objects<W: Sink>(segment: &Segment, out: &mut W) -> Result<(), DeviceFault>
     requires { (W.history out.old).failures < 2 ^ 64 - 1 }
-    ensures { Tells segment.now (W.history out.old) (W.history out.new) result objects_part }
+    ensures { WritesReport segment.now (W.history out.old) (W.history out.new) result objects_part }
 {
     put_table_head(out)?;
     put_rows(segment, out)?;
@@ -56,7 +57,7 @@ fn put_objects<W: Sink>(segment: &Segment, out: &mut W) -> Result<(), DeviceFaul
 /// Writes a row of the table for each object.
 fn put_rows<W: Sink>(segment: &Segment, out: &mut W) -> Result<(), DeviceFault>
     requires { (W.history out.old).failures < 2 ^ 64 - 1 }
-    ensures { Tells segment.now (W.history out.old) (W.history out.new) result rows_text }
+    ensures { WritesReport segment.now (W.history out.old) (W.history out.new) result rows_text }
 {
     'objects: for said in segment.objects() {
         put_row(out, said)?;

@@ -4,18 +4,19 @@ ghost use Rattle.raw_region.specs.Device.{Writes};
 ghost use Rattle.seg_types.specs.Names.{ByHandle};
 ghost use Rattle.segment_manager.specs.Directory.{object_at};
 ghost use Rattle.segment_manager.specs.objects.Found.{is_object_at};
-ghost use Rattle.segment_manager.specs.State.{Answers};
-ghost use Rattle.segment_report.specs.Picture.{HasOwner, HasScale, end_text, front_text, head_text, object_in, object_label, picture_of, shape_text, sort_of, spans_text};
-ghost use Rattle.segment_report.specs.Telling.{Tells};
+ghost use Rattle.segment_manager.specs.State.{AnswersWith};
+ghost use Rattle.segment_report.specs.Picture.{HasOwner, HasScale, end_text, front_text, head_text, object_in};
+ghost use Rattle.segment_report.specs.Picture.{object_label, picture_of, shape_text, sort_of, spans_text};
+ghost use Rattle.segment_report.specs.Telling.{WritesReport};
 
 use crate::parts::{Part, put_parts};
 use crate::scale::Scale;
 use crate::shapes::{put_label, put_shape};
 use crate::sizes::size_of;
-use block_tags::{Role, TAG, Tile};
+use block_tags::{Role, TAG_LEN, Tile};
 use raw_region::{DeviceFault, Sink};
 use segment_manager::Segment;
-use segment_manager::conditioned::{instance_here, next_tile};
+use segment_manager::unchecked::{instance_here, next_tile};
 
 /// The bytes of a segment's header.
 const HEADER: u64 = 128;
@@ -24,7 +25,7 @@ const HEADER: u64 = 128;
 /// then shorter than the text, and the text begins with it.
 pub fn draw<W: Sink>(segment: &Segment, out: &mut W) -> Result<(), DeviceFault>
     requires { (W.history out.old).failures < 2 ^ 64 - 1 }
-    ensures { Tells segment.now (W.history out.old) (W.history out.new) result picture_of }
+    ensures { WritesReport segment.now (W.history out.old) (W.history out.new) result picture_of }
 {
     let scale = scale_of(segment);
     put_front(segment, scale, out)?;
@@ -43,7 +44,7 @@ fn scale_of(segment: &Segment) -> Scale
 fn put_front<W: Sink>(segment: &Segment, scale: Scale, out: &mut W) -> Result<(), DeviceFault>
     requires writer { (W.history out.old).failures < 2 ^ 64 - 1 }
     requires scale { HasScale segment.now scale.row }
-    ensures { Tells segment.now (W.history out.old) (W.history out.new) result front_text }
+    ensures { WritesReport segment.now (W.history out.old) (W.history out.new) result front_text }
 {
     put_head(out, size_of(segment), segment.free())?;
     put_shape(out, scale, 0, HEADER, b"header")
@@ -53,9 +54,9 @@ fn put_front<W: Sink>(segment: &Segment, scale: Scale, out: &mut W) -> Result<()
 fn put_end<W: Sink>(segment: &Segment, scale: Scale, out: &mut W) -> Result<(), DeviceFault>
     requires writer { (W.history out.old).failures < 2 ^ 64 - 1 }
     requires scale { HasScale segment.now scale.row }
-    ensures { Tells segment.now (W.history out.old) (W.history out.new) result end_text }
+    ensures { WritesReport segment.now (W.history out.old) (W.history out.new) result end_text }
 {
-    put_shape(out, scale, size_of(segment) - TAG, TAG, b"end")?;
+    put_shape(out, scale, size_of(segment) - TAG_LEN, TAG_LEN, b"end")?;
     put_parts(out, &[Part::Bytes(b"</svg>\n")])
 }
 
@@ -106,7 +107,7 @@ fn put_head<W: Sink>(out: &mut W, size: u64, free: u64) -> Result<(), DeviceFaul
 fn put_spans<W: Sink>(segment: &Segment, scale: Scale, out: &mut W) -> Result<(), DeviceFault>
     requires writer { (W.history out.old).failures < 2 ^ 64 - 1 }
     requires scale { HasScale segment.now scale.row }
-    ensures { Tells segment.now (W.history out.old) (W.history out.new) result spans_text }
+    ensures { WritesReport segment.now (W.history out.old) (W.history out.new) result spans_text }
 {
     let mut ahead = segment.first_tile();
     // a segment has fewer blocks and gaps than bytes
@@ -128,10 +129,12 @@ fn put_tile<W: Sink>(
     out: &mut W,
 ) -> Result<(), DeviceFault>
     requires writer { (W.history out.old).failures < 2 ^ 64 - 1 }
-    requires some { 0 < tile.len }
-    requires inside { tile.offset + tile.len ≤ 2 ^ 30 }
+    requires non_empty { 0 < tile.len }
+    requires in_bounds { tile.offset + tile.len ≤ 2 ^ 30 }
     requires object { HasOwner segment.now tile.use_of tile.offset }
-    ensures { Tells segment.now (W.history out.old) (W.history out.new) result (λ d. shape_text scale.row tile.offset tile.len (sort_of tile.use_of) ++ object_label scale.row tile.offset tile.len (object_in d tile.use_of tile.offset)) }
+    ensures { WritesReport segment.now (W.history out.old) (W.history out.new) result (λ d.
+        shape_text scale.row tile.offset tile.len (sort_of tile.use_of)
+        ++ object_label scale.row tile.offset tile.len (object_in d tile.use_of tile.offset)) }
 {
     put_shape(out, scale, tile.offset, tile.len, sort_of(tile.use_of))?;
     put_inside(segment, scale, tile, out)
@@ -145,10 +148,11 @@ fn put_inside<W: Sink>(
     out: &mut W,
 ) -> Result<(), DeviceFault>
     requires writer { (W.history out.old).failures < 2 ^ 64 - 1 }
-    requires some { 0 < tile.len }
-    requires inside { tile.offset + tile.len ≤ 2 ^ 30 }
+    requires non_empty { 0 < tile.len }
+    requires in_bounds { tile.offset + tile.len ≤ 2 ^ 30 }
     requires object { HasOwner segment.now tile.use_of tile.offset }
-    ensures { Tells segment.now (W.history out.old) (W.history out.new) result (λ d. object_label scale.row tile.offset tile.len (object_in d tile.use_of tile.offset)) }
+    ensures { WritesReport segment.now (W.history out.old) (W.history out.new) result (λ d.
+        object_label scale.row tile.offset tile.len (object_in d tile.use_of tile.offset)) }
 {
     match tile.use_of {
         Some(Role::Object) => put_object(segment, scale, tile.offset, tile.len, out),
@@ -165,12 +169,19 @@ fn put_object<W: Sink>(
     out: &mut W,
 ) -> Result<(), DeviceFault>
     requires writer { (W.history out.old).failures < 2 ^ 64 - 1 }
-    requires some { 0 < len }
-    requires inside { from + len ≤ 2 ^ 30 }
-    requires object { Answers segment.now (λ d. is_object_at d (from + 16)) true }
-    ensures { Tells segment.now (W.history out.old) (W.history out.new) result (λ d. object_label scale.row from len (object_at d (ByHandle (from + 16)))) }
+    requires non_empty { 0 < len }
+    requires in_bounds { from + len ≤ 2 ^ 30 }
+    requires object { AnswersWith segment.now (λ d. is_object_at d (from + 16)) true }
+    ensures { WritesReport segment.now (W.history out.old) (W.history out.new) result (λ d.
+        object_label scale.row from len (object_at d (ByHandle (from + 16)))) }
 {
-    put_label(out, scale, from, len, instance_here(segment, from + TAG))
+    put_label(
+        out,
+        scale,
+        from,
+        len,
+        instance_here(segment, from + TAG_LEN),
+    )
 }
 
 /// The word for what bytes are used for.

@@ -53,21 +53,21 @@ impl Scale {
     fn top_of(self, at: u64) -> u64
         requires { at < 2 ^ 31 }
         ensures top { result ≡ top_of self.row at }
-        ensures low { result < 2 ^ 40 }
+        ensures min_value { result < 2 ^ 40 }
     {
         72 + at / self.row * 32
     }
 
     /// Where the shape of `len` bytes from an offset on stands.
     pub fn corners(self, from: u64, len: u64) -> Corners
-        requires some { 0 < len }
-        requires inside { from + len ≤ 2 ^ 30 }
-        ensures left { result.left ≡ left_of self.row from }
+        requires non_empty { 0 < len }
+        requires in_bounds { from + len ≤ 2 ^ 30 }
+        ensures remainder { result.left ≡ left_of self.row from }
         ensures right { result.right ≡ right_of self.row (from + len - 1) }
         ensures top { result.top ≡ top_of self.row from }
         ensures last { result.last ≡ top_of self.row (from + len - 1) }
-        ensures high { result.top < 2 ^ 40 }
-        ensures low { result.last < 2 ^ 40 }
+        ensures max_value { result.top < 2 ^ 40 }
+        ensures min_value { result.last < 2 ^ 40 }
     {
         let end = from + len - 1;
         Corners {

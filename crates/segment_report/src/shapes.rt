@@ -24,8 +24,8 @@ pub fn put_shape<W: Sink>(
     sort: &[u8],
 ) -> Result<(), DeviceFault>
     requires writer { (W.history out.old).failures < 2 ^ 64 - 1 }
-    requires some { 0 < len }
-    requires inside { from + len ≤ 2 ^ 30 }
+    requires non_empty { 0 < len }
+    requires in_bounds { from + len ≤ 2 ^ 30 }
     ensures { Writes (W.history out.old) (W.history out.new) result (shape_text scale.row from len sort.now) }
 {
     let corners = scale.corners(from, len);
@@ -95,9 +95,11 @@ pub fn put_label<W: Sink>(
     said: Instance<'_>,
 ) -> Result<(), DeviceFault>
     requires writer { (W.history out.old).failures < 2 ^ 64 - 1 }
-    requires some { 0 < len }
-    requires inside { from + len ≤ 2 ^ 30 }
-    ensures { Writes (W.history out.old) (W.history out.new) result (label_text scale.row from len (called said.entry.class said.entry.name.now said.entry.handle) said.entry.kind) }
+    requires non_empty { 0 < len }
+    requires in_bounds { from + len ≤ 2 ^ 30 }
+    ensures { Writes (W.history out.old) (W.history out.new) result
+        (label_text scale.row from len (called said.entry.class said.entry.name.now said.entry.handle)
+        said.entry.kind) }
 {
     put_frame(out, scale, from, len)?;
     put_called(out, said)?;
@@ -110,8 +112,8 @@ pub fn put_label<W: Sink>(
 /// Begins the label of a block of `len` bytes from an offset on.
 fn put_frame<W: Sink>(out: &mut W, scale: Scale, from: u64, len: u64) -> Result<(), DeviceFault>
     requires writer { (W.history out.old).failures < 2 ^ 64 - 1 }
-    requires some { 0 < len }
-    requires inside { from + len ≤ 2 ^ 30 }
+    requires non_empty { 0 < len }
+    requires in_bounds { from + len ≤ 2 ^ 30 }
     ensures { Writes (W.history out.old) (W.history out.new) result (frame_text scale.row from len) }
 {
     let corners = scale.corners(from, len);
@@ -143,7 +145,8 @@ fn width_in(corners: &Corners) -> u64
 /// Writes what an object is called, in front of its kind.
 fn put_called<W: Sink>(out: &mut W, said: Instance<'_>) -> Result<(), DeviceFault>
     requires { (W.history out.old).failures < 2 ^ 64 - 1 }
-    ensures { Writes (W.history out.old) (W.history out.new) result (called said.entry.class said.entry.name.now said.entry.handle) }
+    ensures { Writes (W.history out.old) (W.history out.new) result
+        (called said.entry.class said.entry.name.now said.entry.handle) }
 {
     match said.class {
         Class::Named => put_parts(out, &[Part::Escaped(said.name), Part::Bytes(b": ")]),

@@ -1,14 +1,14 @@
 //! The size of a segment.
 ghost use Rattle.seg_types.specs.Commands.{Size};
 ghost use Rattle.segment_manager.specs.Answers.{Number};
-ghost use Rattle.segment_manager.specs.State.{IsReply, IsSegment};
+ghost use Rattle.segment_manager.specs.State.{AnswersQuery, IsSegment};
 
 use segment_manager::Segment;
 
 /// The number of bytes of a segment, which are those of a directory.
 pub fn size_of(segment: &Segment) -> u64
-    ensures size { IsReply segment.now Size (Number result) }
-    ensures denotes { IsSegment segment.now.cut.bytes }
+    ensures size { AnswersQuery segment.now Size (Number result) }
+    ensures denotation { IsSegment segment.now.cut.bytes }
 {
     let _bytes = segment.as_bytes();
     segment.size()

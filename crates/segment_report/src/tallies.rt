@@ -1,13 +1,13 @@
 //! How the bytes of a segment are used, counted in one walk over its blocks and gaps.
 ghost use Rattle.std.specs.Prelude.{◌≡◌, ◌+◌, ◌^◌, ◌<◌, []};
-ghost use Rattle.segment_manager.specs.State.{Answers};
+ghost use Rattle.segment_manager.specs.State.{AnswersWith};
 ghost use Rattle.segment_report.specs.Counting.{counted, more, tally_in, total_bytes, total_count};
 ghost use Rattle.segment_report.specs.Usages.{tally_of};
 
 use crate::sizes::size_of;
 use block_tags::Role;
 use segment_manager::Segment;
-use segment_manager::conditioned::next_tile;
+use segment_manager::unchecked::next_tile;
 
 /// How many blocks of one use there are, and their bytes together.
 #[derive(Clone, Copy, Debug, PartialEq, Eq)]
@@ -91,7 +91,7 @@ impl Tally {
 
 /// How the bytes of a segment are used.
 pub fn tally_blocks(segment: &Segment) -> Tally
-    ensures { Answers segment.now tally_of result }
+    ensures { AnswersWith segment.now tally_of result }
 {
     let mut tally = Tally::new();
     let mut ahead = segment.first_tile();

@@ -1,9 +1,10 @@
 -- A call of the segment is the step of its command.
 use Rattle.std.proofs.lemmas.Bool.{false≢true, leb-true}
 use Rattle.std.specs.Prelude.{◌||◌, not, is_some}
-use Rattle.segment_manager.specs.Keeping.{HasKey, HasPlaces, KeepsWhere, LacksKey}
+use Rattle.segment_manager.specs.Keeping.{IsBoundKey, HasPlaces, UnchangedWhere, LacksKey}
 use Rattle.segment_manager.specs.containers.Contents.{sizes_at}
-use Rattle.std.proofs.Common.{◌≡◌, ◌≤◌, Bool, refl, sym, ap, subst, ◌∙◌, ℕ, true, false, Result, Ok, Err, Option, Some, None, length}
+use Rattle.std.proofs.Common.{◌≡◌, ◌≤◌, Bool, refl, sym, ap, subst, ◌∙◌, ℕ, true, false, Result, Ok, Err, Option, Some}
+use Rattle.std.proofs.Common.{None, length}
 use Rattle.std.specs.Prelude.{OnOk, OnErr}
 use Rattle.best_fit.specs.Extents.{LiveSet}
 use Rattle.seg_types.specs.declared.refusals.Refusal.{Refusal}
@@ -16,15 +17,16 @@ use Rattle.segment_manager.specs.declared.modes.Mode.{Mode}
 use Rattle.segment_manager.specs.Directory.{Directory, Object, live, named_objects, object_at, unique_objects}
 use Rattle.segment_manager.specs.Answers.{Answer, Done, Number, is_untouched}
 use Rattle.segment_manager.specs.Calls.{HasZeroGaps}
-use Rattle.segment_manager.specs.State.{KeepsRefused, State, StandsFor, IsReply, IsStep, answer_of}
+use Rattle.segment_manager.specs.State.{UnchangedIfRefused, SegmentState, DenotesCurrent, AnswersQuery, TakesStep}
+use Rattle.segment_manager.specs.State.{answer_of}
 use Rattle.segment_manager.specs.Plan.{perform}
 use Rattle.segment_manager.specs.Step.{effect, step}
 use Rattle.segment_manager.proofs.CommandLaws.{answered-reads}
 use Rattle.segment_manager.proofs.Laws.{step-reads}
 use Rattle.segment_lang.specs.declared.commands.Deed.{Deed}
 use Rattle.segment_lang.specs.Seen.{deed_of}
-use Rattle.segment_scripts.specs.declared.replies.Answer.{Answer as Reply}
-use Rattle.segment_scripts.specs.declared.replies.Answer.TheVariants as said
+use Rattle.segment_scripts.specs.declared.replies.CommandAnswer.{CommandAnswer as Reply}
+use Rattle.segment_scripts.specs.declared.replies.CommandAnswer.TheVariants as said
 use Rattle.segment_scripts.specs.Replies.{Replies, answer_seen, shown_at, shown_of, told_at, told_of}
 use Rattle.segment_scripts.specs.ZeroGaps.{finds_nothing, has_places, is_zero_free}
 
@@ -37,48 +39,57 @@ size_is mode d n e =
     cc
 
 -- how many entries the indexes have
-pub named_is : (mode : Mode) (d : Directory) (n : ℕ) → Number n ≡ (step mode d asked.NumNamed).0 → n ≡ length (named_objects d)
+pub named_is : (mode : Mode) (d : Directory) (n : ℕ) → Number n ≡ (step mode d asked.NumNamed).0
+    → n ≡ length (named_objects d)
 named_is mode d n e =
     let same : Number n ≡ Number (length (named_objects d)) = e ∙ answered-reads mode d asked.NumNamed refl in
     cc
 
-pub unique_is : (mode : Mode) (d : Directory) (n : ℕ) → Number n ≡ (step mode d asked.NumUnique).0 → n ≡ length (unique_objects d)
+pub unique_is : (mode : Mode) (d : Directory) (n : ℕ) → Number n ≡ (step mode d asked.NumUnique).0
+    → n ≡ length (unique_objects d)
 unique_is mode d n e =
     let same : Number n ≡ Number (length (unique_objects d)) = e ∙ answered-reads mode d asked.NumUnique refl in
     cc
 
-shown-found : (d : Directory) (l : LiveSet) (key : Key) (r : Option Object) → object_at d key ≡ r → shown_of r ≡ (perform d l (effect d (asked.Show key))).0
+shown-found : (d : Directory) (l : LiveSet) (key : Key) (r : Option Object) → object_at d key ≡ r
+    → shown_of r ≡ (perform d l (effect d (asked.Show key))).0
 shown-found d l key None e = rw (e, perform) refl
 shown-found d l key (Some o) e = rw (e, perform) refl
 
 -- what is shown of an object
 pub show-is : (mode : Mode) (d : Directory) (key : Key) → shown_at d key ≡ (step mode d (asked.Show key)).0
-show-is mode d key = shown-found d (live d) key (object_at d key) refl ∙ sym (answered-reads mode d (asked.Show key) refl)
+show-is mode d key = shown-found d (live d) key (object_at d key) refl
+    ∙ sym (answered-reads mode d (asked.Show key) refl)
 
-told-found : (d : Directory) (l : LiveSet) (key : Key) (r : Option Object) → object_at d key ≡ r → told_of r ≡ (perform d l (effect d (asked.Info key))).0
+told-found : (d : Directory) (l : LiveSet) (key : Key) (r : Option Object) → object_at d key ≡ r
+    → told_of r ≡ (perform d l (effect d (asked.Info key))).0
 told-found d l key None e = rw (e, perform) refl
 told-found d l key (Some o) e = rw (e, perform) refl
 
 -- what is told of an object
 told-is : (mode : Mode) (d : Directory) (key : Key) → told_at d key ≡ (step mode d (asked.Info key)).0
-told-is mode d key = told-found d (live d) key (object_at d key) refl ∙ sym (answered-reads mode d (asked.Info key) refl)
+told-is mode d key = told-found d (live d) key (object_at d key) refl
+    ∙ sym (answered-reads mode d (asked.Info key) refl)
 
-module _ (s : State) where
+module _ (s : SegmentState) where
   -- the directory stays, and the segment
-  pub reads : (c : Command) (reply : Reply) → is_changing c ≡ false → ((d : Directory) → StandsFor s.cut.bytes d → answer_seen d reply ≡ (step s.mode d c).0) → Replies s s c reply
+  pub reads : (c : Command) (reply : Reply) → is_changing c ≡ false
+      → ((d : Directory) → DenotesCurrent s.cut.bytes d → answer_seen d reply ≡ (step s.mode d c).0)
+      → Replies s s c reply
   reads c reply e says =
       let same = λ (d : Directory). step-reads s.mode d c e in
       record {
         stays = record { mode = refl; place = record { before = refl; after = refl } };
         answers = λ d h. ap (λ (x : Directory). answer_seen x reply) (same d) ∙ says d h;
-        denotes = λ d h. subst (StandsFor s.cut.bytes) (sym (same d)) h;
+        denotes = λ d h. subst (DenotesCurrent s.cut.bytes) (sym (same d)) h;
         reads = λ _. refl;
         kept = λ _ _ _. refl;
         zeros = λ _ _ is _. absurd (cc (ap is_changing is));
       }
 
   -- a call that only reads, and answers as the machine does
-  pub replies-read : (c : Command) (reply : Reply) (answer : Answer) → is_changing c ≡ false → ((d : Directory) → answer_seen d reply ≡ answer) → IsReply s c answer → Replies s s c reply
+  pub replies-read : (c : Command) (reply : Reply) (answer : Answer) → is_changing c ≡ false
+      → ((d : Directory) → answer_seen d reply ≡ answer) → AnswersQuery s c answer → Replies s s c reply
   replies-read c reply answer e same h = reads c reply e (λ d stands. same d ∙ h.answers d stands)
 
   -- what is long is read later
@@ -99,16 +110,20 @@ module _ (s : State) where
 
 -- ---- what may change the segment
 
-pub kept-refused : {A : Type 0} (f : A → Answer) → ((a : A) → is_untouched (f a) ≡ false) → (result : Result A Refusal) (old new : State) → KeepsRefused old new result → is_untouched (answer_of f result) ≡ true → new ≡ old
+pub kept-refused : {A : Type 0} (f : A → Answer) → ((a : A) → is_untouched (f a) ≡ false)
+    → (result : Result A Refusal) (old new : SegmentState) → UnchangedIfRefused old new result
+    → is_untouched (answer_of f result) ≡ true → new ≡ old
 kept-refused f plain (Ok a) old new h e = absurd (cc (plain a))
 kept-refused f plain (Err r) old new h e = h e
 
 -- a call that changes nothing where it is refused
-pub keeps-refused : {A : Type 0} (old new : State) (result : Result A Refusal) → OnErr result (new ≡ old) → KeepsRefused old new result
+pub keeps-refused : {A : Type 0} (old new : SegmentState) (result : Result A Refusal) → OnErr result (new ≡ old)
+    → UnchangedIfRefused old new result
 keeps-refused old new (Ok a) h = tt
 keeps-refused old new (Err r) h = λ _. h
 
-done-zeros : {A : Type 0} (f : A → Answer) (result : Result A Refusal) (new : State) → OnOk result (HasZeroGaps new) → answer_of f result ≡ Done → HasZeroGaps new
+done-zeros : {A : Type 0} (f : A → Answer) (result : Result A Refusal) (new : SegmentState)
+    → OnOk result (HasZeroGaps new) → answer_of f result ≡ Done → HasZeroGaps new
 done-zeros f (Ok a) new h e = h
 done-zeros f (Err r) new h e = absurd (cc)
 
@@ -118,15 +133,18 @@ either-kept true b h k e = h refl
 either-kept false b h k e = k e
 
 -- what a call finds to have nothing to do for it changes nothing
-abbrev pub KeepsFound : State → State → Command → Type 0
-KeepsFound old new c = (d : Directory) → StandsFor old.cut.bytes d → finds_nothing d c ≡ true → new ≡ old
+abbrev pub KeepsFound : SegmentState → SegmentState → Command → Type 0
+KeepsFound old new c = (d : Directory) → DenotesCurrent old.cut.bytes d → finds_nothing d c ≡ true → new ≡ old
 
-pub finds-none : (old new : State) (c : Command) → ((d : Directory) → finds_nothing d c ≡ false) → KeepsFound old new c
+pub finds-none : (old new : SegmentState) (c : Command) → ((d : Directory) → finds_nothing d c ≡ false)
+    → KeepsFound old new c
 finds-none old new c none d s e = absurd (false≢true (sym (none d) ∙ e))
 
 -- a call that is a step, and where it finds nothing to do or is refused before it asks for a block changes nothing
-pub replies-step : {A : Type 0} (f : A → Answer) → ((a : A) → is_untouched (f a) ≡ false) → (old new : State) (c : Command) (result : Result A Refusal) (reply : Reply)
-    → is_changing c ≡ true → ((d : Directory) → answer_seen d reply ≡ answer_of f result) → IsStep old new c (answer_of f result) → KeepsRefused old new result
+pub replies-step : {A : Type 0} (f : A → Answer) → ((a : A) → is_untouched (f a) ≡ false)
+    → (old new : SegmentState) (c : Command) (result : Result A Refusal) (reply : Reply)
+    → is_changing c ≡ true → ((d : Directory) → answer_seen d reply ≡ answer_of f result)
+    → TakesStep old new c (answer_of f result) → UnchangedIfRefused old new result
     → KeepsFound old new c → (c ≡ asked.ZeroFree → OnOk result (HasZeroGaps new)) → Replies old new c reply
 replies-step f plain old new c result reply e same h refused found zeros = record {
   stays = h.stays;
@@ -139,38 +157,48 @@ replies-step f plain old new c result reply e same h refused found zeros = recor
 }
 
 -- the same of any command but the one that clears gaps
-pub replies-call : {A : Type 0} (f : A → Answer) → ((a : A) → is_untouched (f a) ≡ false) → {old new : State} {c : Command} {reply : Reply} (result : Result A Refusal)
-    → is_changing c ≡ true → is_zero_free c ≡ false → ((d : Directory) → answer_seen d reply ≡ answer_of f result) → IsStep old new c (answer_of f result) → KeepsRefused old new result
+pub replies-call : {A : Type 0} (f : A → Answer) → ((a : A) → is_untouched (f a) ≡ false)
+    → {old new : SegmentState} {c : Command} {reply : Reply} (result : Result A Refusal)
+    → is_changing c ≡ true → is_zero_free c ≡ false → ((d : Directory) → answer_seen d reply ≡ answer_of f result)
+    → TakesStep old new c (answer_of f result) → UnchangedIfRefused old new result
     → KeepsFound old new c → Replies old new c reply
 replies-call f plain {old} {new} {c} {reply} result e other same h refused found =
-    replies-step f plain old new c result reply e same h refused found (λ is. absurd (let clears : is_zero_free c ≡ true = ap is_zero_free is in cc))
+    replies-step f plain old new c result reply e same h refused found (λ is.
+    absurd (let clears : is_zero_free c ≡ true = ap is_zero_free is in cc))
 
 -- and of one that always finds something to do
-pub replies-plain : {A : Type 0} (f : A → Answer) → ((a : A) → is_untouched (f a) ≡ false) → {old new : State} {c : Command} {reply : Reply} (result : Result A Refusal)
-    → is_changing c ≡ true → is_zero_free c ≡ false → ((d : Directory) → answer_seen d reply ≡ answer_of f result) → IsStep old new c (answer_of f result) → KeepsRefused old new result
+pub replies-plain : {A : Type 0} (f : A → Answer) → ((a : A) → is_untouched (f a) ≡ false)
+    → {old new : SegmentState} {c : Command} {reply : Reply} (result : Result A Refusal)
+    → is_changing c ≡ true → is_zero_free c ≡ false → ((d : Directory) → answer_seen d reply ≡ answer_of f result)
+    → TakesStep old new c (answer_of f result) → UnchangedIfRefused old new result
     → ((d : Directory) → finds_nothing d c ≡ false) → Replies old new c reply
 replies-plain f plain {old} {new} {c} {reply} result e other same h refused none =
     replies-call f plain result e other same h refused (finds-none old new c none)
 
 -- ---- a deed as the line that was read has it
 
-module _ {old new : State} {deed x : Deed} {reply : Reply} (is : deed ≡ x) where
+module _ {old new : SegmentState} {deed x : Deed} {reply : Reply} (is : deed ≡ x) where
   pub replies-as : Replies old new (deed_of x) reply → Replies old new (deed_of deed) reply
   replies-as = subst (λ y. Replies old new (deed_of y) reply) (sym is)
 
-  pub replies-command : {A : Type 0} (f : A → Answer) → ((a : A) → is_untouched (f a) ≡ false) → (result : Result A Refusal)
-      → is_changing (deed_of x) ≡ true → is_zero_free (deed_of x) ≡ false → ((d : Directory) → answer_seen d reply ≡ answer_of f result)
-      → IsStep old new (deed_of x) (answer_of f result) → KeepsRefused old new result
+  pub replies-command : {A : Type 0} (f : A → Answer) → ((a : A) → is_untouched (f a) ≡ false)
+      → (result : Result A Refusal)
+      → is_changing (deed_of x) ≡ true → is_zero_free (deed_of x) ≡ false
+      → ((d : Directory) → answer_seen d reply ≡ answer_of f result)
+      → TakesStep old new (deed_of x) (answer_of f result) → UnchangedIfRefused old new result
       → ((d : Directory) → finds_nothing d (deed_of x) ≡ false) → Replies old new (deed_of deed) reply
   replies-command f plain result e other same h refused none =
       replies-as (replies-plain f plain result e other same h refused none)
 
   -- one that may find nothing to do
-  pub replies-found : {A : Type 0} (f : A → Answer) → ((a : A) → is_untouched (f a) ≡ false) → (result : Result A Refusal)
-      → is_changing (deed_of x) ≡ true → is_zero_free (deed_of x) ≡ false → ((d : Directory) → answer_seen d reply ≡ answer_of f result)
-      → IsStep old new (deed_of x) (answer_of f result) → KeepsRefused old new result
+  pub replies-found : {A : Type 0} (f : A → Answer) → ((a : A) → is_untouched (f a) ≡ false)
+      → (result : Result A Refusal)
+      → is_changing (deed_of x) ≡ true → is_zero_free (deed_of x) ≡ false
+      → ((d : Directory) → answer_seen d reply ≡ answer_of f result)
+      → TakesStep old new (deed_of x) (answer_of f result) → UnchangedIfRefused old new result
       → KeepsFound old new (deed_of x) → Replies old new (deed_of deed) reply
-  replies-found f plain result e other same h refused found = replies-as (replies-call f plain result e other same h refused found)
+  replies-found f plain result e other same h refused found =
+      replies-as (replies-call f plain result e other same h refused found)
 
 -- ---- what is found
 
@@ -188,19 +216,20 @@ has-places key n d (Ok (len, capacity)) e h =
     record { len = len; capacity = capacity; says = e; enough = leb-true n capacity h }
 has-places key n d (Err why) e h = absurd (false≢true h)
 
-module _ {old new : State} (key : Key) where
-  pub lacks-found : KeepsWhere old new (LacksKey key) → KeepsFound old new (asked.Destroy key)
+module _ {old new : SegmentState} (key : Key) where
+  pub lacks-found : UnchangedWhere old new (LacksKey key) → KeepsFound old new (asked.Destroy key)
   lacks-found k d s e = k d s (not-some (object_at d key) e)
 
-  pub has-found : (c : asked.Content) → KeepsWhere old new (HasKey key) → KeepsFound old new (asked.FindOrConstruct key c)
+  pub has-found : (c : asked.Content) → UnchangedWhere old new (IsBoundKey key)
+      → KeepsFound old new (asked.FindOrConstruct key c)
   has-found c k d s e = k d s (is-some (object_at d key) e)
 
-  pub places-found : (n : ℕ) → KeepsWhere old new (HasPlaces key n) → KeepsFound old new (asked.Reserve key n)
+  pub places-found : (n : ℕ) → UnchangedWhere old new (HasPlaces key n) → KeepsFound old new (asked.Reserve key n)
   places-found n k d s e = k d s (has-places key n d (sizes_at d key) refl e)
 
-module _ {old new : State} (n : ℕ) where
-  pub named-found : KeepsWhere old new (λ d. n ≤ d.named.capacity) → KeepsFound old new (asked.ReserveNamed n)
+module _ {old new : SegmentState} (n : ℕ) where
+  pub named-found : UnchangedWhere old new (λ d. n ≤ d.named.capacity) → KeepsFound old new (asked.ReserveNamed n)
   named-found k d s e = k d s (leb-true n d.named.capacity e)
 
-  pub unique-found : KeepsWhere old new (λ d. n ≤ d.unique.capacity) → KeepsFound old new (asked.ReserveUnique n)
+  pub unique-found : UnchangedWhere old new (λ d. n ≤ d.unique.capacity) → KeepsFound old new (asked.ReserveUnique n)
   unique-found k d s e = k d s (leb-true n d.unique.capacity e)

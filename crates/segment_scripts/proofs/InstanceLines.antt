@@ -10,14 +10,16 @@ two-front : (a b ab rest : List ℕ) → a ++ b ≡ ab → a ++ (b ++ rest) ≡ 
 two-front a b ab rest e = sym (append_assoc a b rest) ∙ ap (λ (t : List ℕ). t ++ rest) e
 
 -- a last word, and up to two numbers behind it
-last-words : (word : List ℕ) (n m : Option ℕ) → word ++ (behind_text n ++ (behind_text m ++ 0x0A ∷ [])) ≡ line (word ∷ (number_words n ++ number_words m))
+last-words : (word : List ℕ) (n m : Option ℕ)
+    → word ++ (behind_text n ++ (behind_text m ++ 0x0A ∷ [])) ≡ line (word ∷ (number_words n ++ number_words m))
 last-words word None None = refl
 last-words word None (Some m) = refl
 last-words word (Some n) None = refl
 last-words word (Some n) (Some m) = refl
 
 class-words : (class : Class) (name : List ℕ) (kind count handle : List ℕ) (rest : List (List ℕ))
-    → class_text class name ++ (0x20 ∷ kind ++ (0x20 ∷ count ++ 0x20 ∷ line (handle ∷ rest))) ≡ line (class_words class name ++ (kind ∷ count ∷ handle ∷ []) ++ rest)
+    → class_text class name ++ (0x20 ∷ kind ++ (0x20 ∷ count ++ 0x20 ∷ line (handle ∷ rest)))
+    ≡ line (class_words class name ++ (kind ∷ count ∷ handle ∷ []) ++ rest)
 class-words Named name kind count handle rest = refl
 class-words Unique name kind count handle rest = refl
 class-words Anonymous name kind count handle rest = refl
@@ -30,6 +32,8 @@ pub instance-line : (class : Class) (name : List ℕ) (kind count handle : List 
 instance-line class name kind count handle n m a b c d e f first second third =
     two-front a b (class_text class name) _ first
     ∙ ap (λ (t : List ℕ). class_text class name ++ (0x20 ∷ kind ++ (0x20 ∷ count ++ (0x20 ∷ 0x23 ∷ handle ++ t))))
-    (two-front c d (behind_text n) _ second ∙ ap (λ (t : List ℕ). behind_text n ++ t) (two-front e f (behind_text m) (0x0A ∷ []) third))
-    ∙ ap (λ (t : List ℕ). class_text class name ++ (0x20 ∷ kind ++ (0x20 ∷ count ++ 0x20 ∷ t))) (last-words (0x23 ∷ handle) n m)
+    (two-front c d (behind_text n) _ second
+    ∙ ap (λ (t : List ℕ). behind_text n ++ t) (two-front e f (behind_text m) (0x0A ∷ []) third))
+    ∙ ap (λ (t : List ℕ). class_text class name ++ (0x20 ∷ kind ++ (0x20 ∷ count ++ 0x20 ∷ t)))
+    (last-words (0x23 ∷ handle) n m)
     ∙ class-words class name kind count (0x23 ∷ handle) (number_words n ++ number_words m)

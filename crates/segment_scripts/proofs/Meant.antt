@@ -1,6 +1,7 @@
 -- A line asks for no more than there can be: from 1 to 1048576 numbers, or as many elements and bytes as it has, under
 -- a key that is for their kind.
-use Rattle.std.proofs.Common.{◌≡◌, refl, sym, subst, ℕ, ℤ, ◌+◌, ◌*◌, ◌≤◌, Bool, true, false, ◌&&◌, Option, Some, None, Result, List, [], ◌∷◌, length, replicate, arith, if◌then◌else◌, ◌==◌, nat_le, nat_lt}
+use Rattle.std.proofs.Common.{◌≡◌, refl, sym, subst, ℕ, ℤ, ◌+◌, ◌*◌, ◌≤◌, Bool, true, false, ◌&&◌, Option, Some, None}
+use Rattle.std.proofs.Common.{Result, List, [], ◌∷◌, length, replicate, arith, if◌then◌else◌, ◌==◌, nat_le, nat_lt}
 use Rattle.std.specs.Prelude.{IsTrue, codes, find, option_and_then, option_map, take_while, drop, not, slice_index, ⊤}
 use Rattle.std.specs.List.{AllByRecursion}
 use Rattle.std.specs.Result.{result_ok}
@@ -12,16 +13,21 @@ use Rattle.seg_types.specs.declared.kinds.Kind.{Kind}
 use Rattle.seg_types.specs.declared.kinds.Kind.TheVariants.{Scalar, String, Vector, Map, Strings}
 use Rattle.seg_types.specs.Names.{Key}
 use Rattle.seg_types.specs.Commands as asked
-use Rattle.seg_types.specs.Commands.{Command, Content, Literal, Whole, Truth, Quoted, Reading, Nothing, Asked, UnknownCommand, LineTooLong, BadSyntax}
+use Rattle.seg_types.specs.Commands.{Command, Content, Literal, Whole, Truth, Quoted, Reading, Nothing, Asked}
+use Rattle.seg_types.specs.Commands.{UnknownCommand, LineTooLong, BadSyntax}
 use Rattle.segment_lang.specs.Words as word
 use Rattle.segment_lang.specs.Words.{Word, Bare, words, is, is_blank, literal_of_word, number_of, whole_of}
 use Rattle.raw_region.specs.Format.{current}
 use Rattle.segment_lang.specs.Language.{Language, whole}
 use Rattle.segment_lang.specs.Reading as reads
-use Rattle.segment_lang.specs.Reading.{Form, Reader, agrees, all, alone, as_reading, bracketed, command_line, content, counted, counted_kind, each, for_kind, form_of, forms, items, key_of, kind_named, kind_of_word, making, making_each, name_key, new_key, number, quoted_of, reading, skip_blanks, value_for, with_key, with_key_literal, with_key_number, with_key_number_literal, with_number, without_return}
+use Rattle.segment_lang.specs.Reading.{Form, Reader, agrees, all, alone, as_reading, bracketed, command_line, content}
+use Rattle.segment_lang.specs.Reading.{counted, counted_kind, each, for_kind, form_of, forms, items, key_of, kind_named}
+use Rattle.segment_lang.specs.Reading.{kind_of_word, making, making_each, name_key, new_key, number, quoted_of, reading}
+use Rattle.segment_lang.specs.Reading.{skip_blanks, value_for, with_key, with_key_literal, with_key_number}
+use Rattle.segment_lang.specs.Reading.{with_key_number_literal, with_number, without_return}
 use Rattle.segment_lang.specs.Laws.{room}
 use Rattle.segment_lang.proofs.Laws.{words_room}
-use Rattle.segment_scripts.specs.Replies.{IsContent, IsMeant, bytes_taken, texts_taken}
+use Rattle.segment_scripts.specs.Replies.{IsLineContent, IsMeant, bytes_taken, texts_taken}
 use Rattle.segment_scripts.proofs.RowValues.{text-no_value}
 
 -- ---- what there is, if there is something
@@ -34,15 +40,18 @@ map-holds : {A B : Type 0} (Q : B → Type 0) (f : A → B) (r : Option A) → (
 map-holds Q f None h = tt
 map-holds Q f (Some a) h = h a
 
-then-holds : {A B : Type 0} (P : A → Type 0) (Q : B → Type 0) (f : A → Option B) (r : Option A) → Holds P r → ((a : A) → P a → Holds Q (f a)) → Holds Q (option_and_then f r)
+then-holds : {A B : Type 0} (P : A → Type 0) (Q : B → Type 0) (f : A → Option B) (r : Option A) → Holds P r
+    → ((a : A) → P a → Holds Q (f a)) → Holds Q (option_and_then f r)
 then-holds P Q f None p h = tt
 then-holds P Q f (Some a) p h = h a p
 
-then-all : {A B : Type 0} (Q : B → Type 0) (f : A → Option B) (r : Option A) → ((a : A) → Holds Q (f a)) → Holds Q (option_and_then f r)
+then-all : {A B : Type 0} (Q : B → Type 0) (f : A → Option B) (r : Option A) → ((a : A) → Holds Q (f a))
+    → Holds Q (option_and_then f r)
 then-all Q f None h = tt
 then-all Q f (Some a) h = h a
 
-map-where : {A B : Type 0} (P : A → Type 0) (Q : B → Type 0) (f : A → B) (r : Option A) → Holds P r → ((a : A) → P a → Q (f a)) → Holds Q (option_map f r)
+map-where : {A B : Type 0} (P : A → Type 0) (Q : B → Type 0) (f : A → B) (r : Option A) → Holds P r
+    → ((a : A) → P a → Q (f a)) → Holds Q (option_map f r)
 map-where P Q f None p h = tt
 map-where P Q f (Some a) p h = h a p
 
@@ -62,15 +71,20 @@ room-tail (Bare bs) ws = omega arith
 room-tail (word.Text bs) ws = omega arith
 
 -- two values take four bytes
-values-room : (k : ScalarKind) (ws : List Word) → Holds (λ (zs : List ℤ). 2 * length zs ≤ room ws) (all (value_for k) ws)
+values-room : (k : ScalarKind) (ws : List Word)
+    → Holds (λ (zs : List ℤ). 2 * length zs ≤ room ws) (all (value_for k) ws)
 values-room k [] = omega arith
 values-room k (Bare [] ∷ ws) = tt
 values-room k (Bare (c ∷ cs) ∷ ws) =
-    then-all (λ (zs : List ℤ). 2 * length zs ≤ room (Bare (c ∷ cs) ∷ ws)) (λ z. option_map (λ zs. z ∷ zs) (all (value_for k) ws)) (value_for k (Bare (c ∷ cs)))
-    (λ z. map-where (λ (zs : List ℤ). 2 * length zs ≤ room ws) (λ (zs : List ℤ). 2 * length zs ≤ room (Bare (c ∷ cs) ∷ ws)) (λ zs. z ∷ zs) (all (value_for k) ws) (values-room k ws)
+    then-all (λ (zs : List ℤ). 2 * length zs ≤ room (Bare (c ∷ cs) ∷ ws)) (λ z.
+    option_map (λ zs. z ∷ zs) (all (value_for k) ws)) (value_for k (Bare (c ∷ cs)))
+    (λ z. map-where (λ (zs : List ℤ). 2 * length zs ≤ room ws) (λ (zs : List ℤ).
+    2 * length zs ≤ room (Bare (c ∷ cs) ∷ ws)) (λ zs. z ∷ zs) (all (value_for k) ws) (values-room k ws)
     (λ zs h. omega arith))
 values-room k (word.Text bs ∷ ws) =
-    subst (λ (r : Result ℤ Refusal). Holds (λ (zs : List ℤ). 2 * length zs ≤ room (word.Text bs ∷ ws)) (option_and_then (λ z. option_map (λ zs. z ∷ zs) (all (value_for k) ws)) (result_ok r)))
+    subst (λ (r : Result ℤ Refusal).
+    Holds (λ (zs : List ℤ). 2 * length zs ≤ room (word.Text bs ∷ ws))
+    (option_and_then (λ z. option_map (λ zs. z ∷ zs) (all (value_for k) ws)) (result_ok r)))
     (sym (text-no_value k bs)) tt
 
 -- a bare word is no text
@@ -79,7 +93,8 @@ IsBareValue (Whole z) = ⊤
 IsBareValue (Truth b) = ⊤
 IsBareValue (Quoted bs) = ⊥
 
-bare-if : (b c : Bool) (r : Option ℤ) → Holds IsBareValue (if b then Some (Truth true) else if c then Some (Truth false) else option_map Whole r)
+bare-if : (b c : Bool) (r : Option ℤ)
+    → Holds IsBareValue (if b then Some (Truth true) else if c then Some (Truth false) else option_map Whole r)
 bare-if true c r = tt
 bare-if false true r = tt
 bare-if false false r = map-holds IsBareValue Whole r (λ z. tt)
@@ -93,24 +108,30 @@ literals-room : (ws : List Word) → Holds (λ ls. bytes_taken ls ≤ room ws) (
 literals-room [] = omega arith
 literals-room (Bare [] ∷ ws) = tt
 literals-room (Bare (c ∷ cs) ∷ ws) =
-    then-holds IsBareValue (λ ls. bytes_taken ls ≤ room (Bare (c ∷ cs) ∷ ws)) (λ l. option_map (λ ls. l ∷ ls) (all literal_of_word ws)) (literal_of_word (Bare (c ∷ cs)))
+    then-holds IsBareValue (λ ls. bytes_taken ls ≤ room (Bare (c ∷ cs) ∷ ws)) (λ l.
+    option_map (λ ls. l ∷ ls) (all literal_of_word ws)) (literal_of_word (Bare (c ∷ cs)))
     (bare-if (is (c ∷ cs) (codes "true")) (is (c ∷ cs) (codes "false")) (whole_of (c ∷ cs)))
-    (λ l b. map-where (λ ls. bytes_taken ls ≤ room ws) (λ ls. bytes_taken ls ≤ room (Bare (c ∷ cs) ∷ ws)) (λ ls. l ∷ ls) (all literal_of_word ws) (literals-room ws)
+    (λ l b. map-where (λ ls. bytes_taken ls ≤ room ws) (λ ls. bytes_taken ls ≤ room (Bare (c ∷ cs) ∷ ws)) (λ ls.
+    l ∷ ls) (all literal_of_word ws) (literals-room ws)
     (λ ls h. let e = bare-taken l ls b in omega arith))
 literals-room (word.Text bs ∷ ws) =
-    map-where (λ ls. bytes_taken ls ≤ room ws) (λ ls. bytes_taken ls ≤ room (word.Text bs ∷ ws)) (λ ls. Quoted bs ∷ ls) (all literal_of_word ws) (literals-room ws) (λ ls h. omega arith)
+    map-where (λ ls. bytes_taken ls ≤ room ws) (λ ls. bytes_taken ls ≤ room (word.Text bs ∷ ws)) (λ ls.
+    Quoted bs ∷ ls) (all literal_of_word ws) (literals-room ws) (λ ls h. omega arith)
 
 texts-room : (ws : List Word) → Holds (λ (bss : List (List ℕ)). texts_taken bss ≤ room ws) (all quoted_of ws)
 texts-room [] = omega arith
 texts-room (Bare w ∷ ws) = tt
 texts-room (word.Text bs ∷ ws) =
-    map-where (λ (bss : List (List ℕ)). texts_taken bss ≤ room ws) (λ (bss : List (List ℕ)). texts_taken bss ≤ room (word.Text bs ∷ ws)) (λ bss. bs ∷ bss) (all quoted_of ws) (texts-room ws) (λ bss h. omega arith)
+    map-where (λ (bss : List (List ℕ)). texts_taken bss ≤ room ws) (λ (bss : List (List ℕ)).
+    texts_taken bss ≤ room (word.Text bs ∷ ws)) (λ bss. bs ∷ bss) (all quoted_of ws) (texts-room ws) (λ bss h.
+    omega arith)
 
 -- one value takes no more than its word
 literal-room : (w : Word) → Holds (λ l. bytes_taken (l ∷ []) ≤ room (w ∷ [])) (literal_of_word w)
 literal-room (Bare []) = tt
 literal-room (Bare (c ∷ cs)) =
-    holds-map IsBareValue (λ l. bytes_taken (l ∷ []) ≤ room (Bare (c ∷ cs) ∷ [])) (literal_of_word (Bare (c ∷ cs))) (bare-if (is (c ∷ cs) (codes "true")) (is (c ∷ cs) (codes "false")) (whole_of (c ∷ cs)))
+    holds-map IsBareValue (λ l. bytes_taken (l ∷ []) ≤ room (Bare (c ∷ cs) ∷ [])) (literal_of_word (Bare (c ∷ cs)))
+    (bare-if (is (c ∷ cs) (codes "true")) (is (c ∷ cs) (codes "false")) (whole_of (c ∷ cs)))
     (λ l b. let e = bare-taken l [] b in omega arith)
 literal-room (word.Text bs) = omega arith
 
@@ -149,16 +170,19 @@ kinds-count (Bare w) = kind-holds (whole current) w (kind_named (whole current) 
 kinds-count (word.Text bs) = tt
 
 key-agrees : (k : Kind) (key : Option Key) → Holds (λ (x : Key). IsTrue (agrees k x)) (for_kind k key)
-key-agrees k key = then-all (λ (x : Key). IsTrue (agrees k x)) _ key (λ x. if-holds (λ (y : Key). IsTrue (agrees k y)) (agrees k x) x (λ e. e))
+key-agrees k key = then-all (λ (x : Key). IsTrue (agrees k x)) _ key (λ x.
+    if-holds (λ (y : Key). IsTrue (agrees k y)) (agrees k x) x (λ e. e))
 
-content-holds : (k : Kind) (n : ℕ) (ws : List Word) (key : Key) → IsCounted (k, n) → room ws ≤ 4097 → IsTrue (agrees k key) → Holds (IsContent key) (content k n ws)
+content-holds : (k : Kind) (n : ℕ) (ws : List Word) (key : Key) → IsCounted (k, n) → room ws ≤ 4097
+    → IsTrue (agrees k key) → Holds (IsLineContent key) (content k n ws)
 content-holds (Scalar k) n [] key h f a = tt
 content-holds (Scalar k) n (v ∷ []) key h f a =
-    map-holds (IsContent key) (λ z. asked.Numbers k (replicate n z)) (value_for k v)
+    map-holds (IsLineContent key) (λ z. asked.Numbers k (replicate n z)) (value_for k v)
     (λ z. let e = length-replicate n z in (subst (λ m. 1 ≤ m) (sym e) h.0, subst (λ m. m ≤ 1048576) (sym e) h.1, a))
 content-holds (Scalar k) n (v ∷ w ∷ ws) key h f a = tt
 content-holds (Vector k) n ws key h f a =
-    map-where (λ (zs : List ℤ). 2 * length zs ≤ room ws) (IsContent key) (asked.Elements k) (all (value_for k) ws) (values-room k ws) (λ zs r. (omega arith, a))
+    map-where (λ (zs : List ℤ). 2 * length zs ≤ room ws) (IsLineContent key) (asked.Elements k)
+    (all (value_for k) ws) (values-room k ws) (λ zs r. (omega arith, a))
 content-holds String n [] key h f a = tt
 content-holds String n (Bare w ∷ ws) key h f a = tt
 content-holds String n (word.Text bs ∷ []) key h f a = (omega arith, a)
@@ -166,7 +190,8 @@ content-holds String n (word.Text bs ∷ w ∷ ws) key h f a = tt
 content-holds (Map k v) n [] key h f a = a
 content-holds (Map k v) n (w ∷ ws) key h f a = tt
 content-holds Strings n ws key h f a =
-    map-where (λ (bss : List (List ℕ)). texts_taken bss ≤ room ws) (IsContent key) asked.Strings (all quoted_of ws) (texts-room ws) (λ bss r. (omega arith, a))
+    map-where (λ (bss : List (List ℕ)). texts_taken bss ≤ room ws) (IsLineContent key) asked.Strings
+    (all quoted_of ws) (texts-room ws) (λ bss r. (omega arith, a))
 
 -- ---- the forms
 
@@ -177,7 +202,8 @@ alone-meant : (c : Command) → IsMeant c → Meant (alone c)
 alone-meant c h [] room_is = h
 alone-meant c h (w ∷ ws) room_is = tt
 
-key-meant : (f : Key → Command) (key_in : Language → Word → Option Key) → ((k : Key) → IsMeant (f k)) → Meant (with_key f key_in)
+key-meant : (f : Key → Command) (key_in : Language → Word → Option Key) → ((k : Key) → IsMeant (f k))
+    → Meant (with_key f key_in)
 key-meant f key_in h [] room_is = tt
 key-meant f key_in h (w ∷ []) room_is = map-holds IsMeant f (key_in (whole current) w) h
 key-meant f key_in h (w ∷ v ∷ ws) room_is = tt
@@ -190,28 +216,36 @@ number-meant f h (w ∷ v ∷ ws) room_is = tt
 key-number-meant : (f : Key → ℕ → Command) → ((k : Key) (n : ℕ) → IsMeant (f k n)) → Meant (with_key_number f)
 key-number-meant f h [] room_is = tt
 key-number-meant f h (w ∷ []) room_is = tt
-key-number-meant f h (w ∷ v ∷ []) room_is = then-all IsMeant (λ key. option_map (f key) (number v)) (key_of (whole current) w) (λ k. map-holds IsMeant (f k) (number v) (h k))
+key-number-meant f h (w ∷ v ∷ []) room_is =
+    then-all IsMeant (λ key. option_map (f key) (number v)) (key_of (whole current) w) (λ k.
+    map-holds IsMeant (f k) (number v) (h k))
 key-number-meant f h (w ∷ v ∷ u ∷ ws) room_is = tt
 
-key-literal-meant : (f : Key → Literal → Command) → ((k : Key) (m : Literal) → bytes_taken (m ∷ []) ≤ 4097 → IsMeant (f k m)) → Meant (with_key_literal f)
+key-literal-meant : (f : Key → Literal → Command)
+    → ((k : Key) (m : Literal) → bytes_taken (m ∷ []) ≤ 4097 → IsMeant (f k m)) → Meant (with_key_literal f)
 key-literal-meant f h [] room_is = tt
 key-literal-meant f h (w ∷ []) room_is = tt
 key-literal-meant f h (w ∷ v ∷ []) room_is =
     let tail = room-tail w (v ∷ []) in
     then-all IsMeant (λ key. option_map (f key) (literal_of_word v)) (key_of (whole current) w)
-    (λ k. map-where (λ l. bytes_taken (l ∷ []) ≤ room (v ∷ [])) IsMeant (f k) (literal_of_word v) (literal-room v) (λ m few. h k m (omega arith)))
+    (λ k. map-where (λ l. bytes_taken (l ∷ []) ≤ room (v ∷ [])) IsMeant (f k) (literal_of_word v) (literal-room v)
+    (λ m few. h k m (omega arith)))
 key-literal-meant f h (w ∷ v ∷ u ∷ ws) room_is = tt
 
-key-number-literal-meant : (f : Key → ℕ → Literal → Command) → ((k : Key) (n : ℕ) (m : Literal) → bytes_taken (m ∷ []) ≤ 4097 → IsMeant (f k n m)) → Meant (with_key_number_literal f)
+key-number-literal-meant : (f : Key → ℕ → Literal → Command)
+    → ((k : Key) (n : ℕ) (m : Literal) → bytes_taken (m ∷ []) ≤ 4097 → IsMeant (f k n m))
+    → Meant (with_key_number_literal f)
 key-number-literal-meant f h [] room_is = tt
 key-number-literal-meant f h (w ∷ []) room_is = tt
 key-number-literal-meant f h (w ∷ v ∷ []) room_is = tt
 key-number-literal-meant f h (w ∷ v ∷ u ∷ []) room_is =
     let first = room-tail w (v ∷ u ∷ []) in
     let second = room-tail v (u ∷ []) in
-    then-all IsMeant (λ key. option_and_then (λ n. option_map (f key n) (literal_of_word u)) (number v)) (key_of (whole current) w)
+    then-all IsMeant (λ key. option_and_then (λ n. option_map (f key n) (literal_of_word u)) (number v))
+    (key_of (whole current) w)
     (λ k. then-all IsMeant (λ n. option_map (f k n) (literal_of_word u)) (number v)
-    (λ n. map-where (λ l. bytes_taken (l ∷ []) ≤ room (u ∷ [])) IsMeant (f k n) (literal_of_word u) (literal-room u) (λ m few. h k n m (omega arith))))
+    (λ n. map-where (λ l. bytes_taken (l ∷ []) ≤ room (u ∷ [])) IsMeant (f k n) (literal_of_word u) (literal-room u)
+    (λ m few. h k n m (omega arith))))
 key-number-literal-meant f h (w ∷ v ∷ u ∷ t ∷ ws) room_is = tt
 
 assigning-meant : Meant reads.assigning
@@ -219,15 +253,18 @@ assigning-meant [] room_is = tt
 assigning-meant (w ∷ ws) room_is =
     let tail = room-tail w ws in
     then-all IsMeant (λ key. option_map (asked.Assign key) (all literal_of_word ws)) (key_of (whole current) w)
-    (λ k. map-where (λ ls. bytes_taken ls ≤ room ws) IsMeant (asked.Assign k) (all literal_of_word ws) (literals-room ws) (λ ls h. omega arith))
+    (λ k. map-where (λ ls. bytes_taken ls ≤ room ws) IsMeant (asked.Assign k) (all literal_of_word ws)
+    (literals-room ws) (λ ls h. omega arith))
 
 putting-meant : Meant reads.putting
 putting-meant [] room_is = tt
 putting-meant (w ∷ []) room_is = tt
 putting-meant (w ∷ v ∷ []) room_is = tt
 putting-meant (w ∷ v ∷ u ∷ []) room_is =
-    then-all IsMeant (λ key. option_and_then (λ k. option_map (asked.Put key k) (literal_of_word u)) (literal_of_word v)) (key_of (whole current) w)
-    (λ key. then-all IsMeant (λ k. option_map (asked.Put key k) (literal_of_word u)) (literal_of_word v) (λ k. map-holds IsMeant (asked.Put key k) (literal_of_word u) (λ m. tt)))
+    then-all IsMeant (λ key. option_and_then (λ k.
+    option_map (asked.Put key k) (literal_of_word u)) (literal_of_word v)) (key_of (whole current) w)
+    (λ key. then-all IsMeant (λ k. option_map (asked.Put key k) (literal_of_word u)) (literal_of_word v) (λ k.
+    map-holds IsMeant (asked.Put key k) (literal_of_word u) (λ m. tt)))
 putting-meant (w ∷ v ∷ u ∷ t ∷ ws) room_is = tt
 
 appending-meant : Meant reads.appending
@@ -243,7 +280,8 @@ finding-meant : Meant reads.finding
 finding-meant [] room_is = tt
 finding-meant (w ∷ []) room_is = tt
 finding-meant (w ∷ v ∷ []) room_is =
-    then-all IsMeant (λ k. option_map (λ key. asked.Find key k) (for_kind k (name_key (whole current) v))) (kind_of_word (whole current) w)
+    then-all IsMeant (λ k. option_map (λ key. asked.Find key k) (for_kind k (name_key (whole current) v)))
+    (kind_of_word (whole current) w)
     (λ k. map-holds IsMeant (λ key. asked.Find key k) (for_kind k (name_key (whole current) v)) (λ key. tt))
 finding-meant (w ∷ v ∷ u ∷ ws) room_is = tt
 
@@ -258,20 +296,28 @@ destroying-meant (Bare (c ∷ cs) ∷ []) room_is = handle-if (c == 0x23) cs
 destroying-meant (Bare (c ∷ cs) ∷ w ∷ ws) room_is = tt
 destroying-meant (word.Text bs ∷ ws) room_is = tt
 
-making-meant : (make : Key → Content → Command) (key_in : Language → Word → Option Key) → ((key : Key) (x : Content) → IsContent key x → IsMeant (make key x)) → Meant (making make key_in)
+making-meant : (make : Key → Content → Command) (key_in : Language → Word → Option Key)
+    → ((key : Key) (x : Content) → IsLineContent key x → IsMeant (make key x)) → Meant (making make key_in)
 making-meant make key_in h [] room_is = tt
 making-meant make key_in h (w ∷ []) room_is = tt
 making-meant make key_in h (w ∷ v ∷ args) room_is =
     let tail = room-tail w (v ∷ args) in
     let fits = room-tail v args in
-    then-holds IsCounted IsMeant (λ (k, n). option_and_then (λ key. option_map (make key) (content k n args)) (for_kind k (key_in (whole current) v))) (counted_kind (whole current) w) (kinds-count w)
-    (λ p count. then-holds (λ (x : Key). IsTrue (agrees p.0 x)) IsMeant (λ key. option_map (make key) (content p.0 p.1 args)) (for_kind p.0 (key_in (whole current) v)) (key-agrees p.0 (key_in (whole current) v))
-    (λ key a. map-where (IsContent key) IsMeant (make key) (content p.0 p.1 args) (content-holds p.0 p.1 args key count (omega arith) a) (h key)))
+    then-holds IsCounted IsMeant (λ (k, n).
+    option_and_then (λ key. option_map (make key) (content k n args)) (for_kind k (key_in (whole current) v)))
+    (counted_kind (whole current) w) (kinds-count w)
+    (λ p count. then-holds (λ (x : Key). IsTrue (agrees p.0 x)) IsMeant (λ key.
+    option_map (make key) (content p.0 p.1 args)) (for_kind p.0 (key_in (whole current) v))
+    (key-agrees p.0 (key_in (whole current) v))
+    (λ key a. map-where (IsLineContent key) IsMeant (make key) (content p.0 p.1 args)
+    (content-holds p.0 p.1 args key count (omega arith) a) (h key)))
 
-each-meant : (vs : List Word) (k : Kind) (n : ℕ) (key : Key) → IsCount n → IsTrue (agrees k key) → Holds IsMeant (each vs k n key)
+each-meant : (vs : List Word) (k : Kind) (n : ℕ) (key : Key) → IsCount n → IsTrue (agrees k key)
+    → Holds IsMeant (each vs k n key)
 each-meant vs (Scalar k) n key h a =
     then-all IsMeant (items n k key) (all (value_for k) vs)
-    (λ zs. if-holds IsMeant (length zs == n) (asked.ConstructIt key k n zs) (λ e. (h.0, h.1, eqb-true (length zs) n e, a)))
+    (λ zs. if-holds IsMeant (length zs == n) (asked.ConstructIt key k n zs) (λ e.
+    (h.0, h.1, eqb-true (length zs) n e, a)))
 each-meant vs String n key h a = tt
 each-meant vs (Vector k) n key h a = tt
 each-meant vs (Map k v) n key h a = tt
@@ -281,17 +327,123 @@ making_each-meant : Meant making_each
 making_each-meant [] room_is = tt
 making_each-meant (w ∷ []) room_is = tt
 making_each-meant (w ∷ v ∷ vs) room_is =
-    then-holds IsCounted IsMeant (λ (k, n). option_and_then (λ key. each vs k n key) (for_kind k (new_key (whole current) v))) (counted_kind (whole current) w) (kinds-count w)
-    (λ p count. then-holds (λ (x : Key). IsTrue (agrees p.0 x)) IsMeant (λ key. each vs p.0 p.1 key) (for_kind p.0 (new_key (whole current) v)) (key-agrees p.0 (new_key (whole current) v))
+    then-holds IsCounted IsMeant (λ (k, n).
+    option_and_then (λ key. each vs k n key) (for_kind k (new_key (whole current) v)))
+    (counted_kind (whole current) w) (kinds-count w)
+    (λ p count. then-holds (λ (x : Key). IsTrue (agrees p.0 x)) IsMeant (λ key.
+    each vs p.0 p.1 key) (for_kind p.0 (new_key (whole current) v)) (key-agrees p.0 (new_key (whole current) v))
     (λ key a. each-meant vs p.0 p.1 key count a))
 
 abbrev IsFormMeant : Form → Type 0
 IsFormMeant f = Meant f.1
 
 forms-meant : AllByRecursion IsFormMeant forms
-forms-meant = (making-meant asked.Construct new_key (λ k x h. h), (making_each-meant, (finding-meant, (making-meant asked.FindOrConstruct name_key (λ k x h. h), (key-meant asked.Destroy name_key (λ k. tt), (destroying-meant, (key-meant asked.Show key_of (λ k. tt), (key-meant asked.Info key_of (λ k. tt), (key-number-meant asked.Get (λ k n. tt), (key-number-literal-meant asked.Set (λ k n m few. few), (key-literal-meant asked.Push (λ k m few. few), (key-meant asked.Pop key_of (λ k. tt), (key-number-literal-meant asked.Insert (λ k n m few. few), (key-number-meant asked.Erase (λ k n. tt), (key-number-meant asked.Reserve (λ k n. tt), (key-meant asked.Shrink key_of (λ k. tt), (key-meant asked.Clear key_of (λ k. tt), (assigning-meant, (appending-meant, (putting-meant, (key-literal-meant asked.Lookup (λ k m few. tt), (key-literal-meant asked.Remove (λ k m few. tt), (alone-meant asked.ListNames tt, (alone-meant asked.ListKinds tt, (alone-meant asked.ListBlocks tt, (alone-meant asked.Size tt, (alone-meant asked.Free tt, (alone-meant asked.NumNamed tt, (alone-meant asked.NumUnique tt, (number-meant asked.ReserveNamed (λ n. tt), (number-meant asked.ReserveUnique (λ n. tt), (alone-meant asked.ShrinkIndexes tt, (alone-meant asked.ZeroFree tt, (alone-meant asked.Sanity tt, (alone-meant asked.AllDeallocated tt, tt)))))))))))))))))))))))))))))))))))
+forms-meant = (
+  making-meant asked.Construct new_key (λ k x h. h),
+  (
+    making_each-meant,
+    (
+      finding-meant,
+      (
+        making-meant asked.FindOrConstruct name_key (λ k x h. h),
+        (
+          key-meant asked.Destroy name_key (λ k. tt),
+          (
+            destroying-meant,
+            (
+              key-meant asked.Show key_of (λ k. tt),
+              (
+                key-meant asked.Info key_of (λ k. tt),
+                (
+                  key-number-meant asked.Get (λ k n. tt),
+                  (
+                    key-number-literal-meant asked.Set (λ k n m few. few),
+                    (
+                      key-literal-meant asked.Push (λ k m few. few),
+                      (
+                        key-meant asked.Pop key_of (λ k. tt),
+                        (
+                          key-number-literal-meant asked.Insert (λ k n m few. few),
+                          (
+                            key-number-meant asked.Erase (λ k n. tt),
+                            (
+                              key-number-meant asked.Reserve (λ k n. tt),
+                              (
+                                key-meant asked.Shrink key_of (λ k. tt),
+                                (
+                                  key-meant asked.Clear key_of (λ k. tt),
+                                  (
+                                    assigning-meant,
+                                    (
+                                      appending-meant,
+                                      (
+                                        putting-meant,
+                                        (
+                                          key-literal-meant asked.Lookup (λ k m few. tt),
+                                          (
+                                            key-literal-meant asked.Remove (λ k m few. tt),
+                                            (
+                                              alone-meant asked.ListNames tt,
+                                              (
+                                                alone-meant asked.ListKinds tt,
+                                                (
+                                                  alone-meant asked.ListBlocks tt,
+                                                  (
+                                                    alone-meant asked.Size tt,
+                                                    (
+                                                      alone-meant asked.Free tt,
+                                                      (
+                                                        alone-meant asked.NumNamed tt,
+                                                        (
+                                                          alone-meant asked.NumUnique tt,
+                                                          (
+                                                            number-meant asked.ReserveNamed (λ n. tt),
+                                                            (
+                                                              number-meant asked.ReserveUnique (λ n. tt),
+                                                              (
+                                                                alone-meant asked.ShrinkIndexes tt,
+                                                                (
+                                                                  alone-meant asked.ZeroFree tt,
+                                                                  (
+                                                                    alone-meant asked.Sanity tt,
+                                                                    (alone-meant asked.AllDeallocated tt, tt),
+                                                                  ),
+                                                                ),
+                                                              ),
+                                                            ),
+                                                          ),
+                                                        ),
+                                                      ),
+                                                    ),
+                                                  ),
+                                                ),
+                                              ),
+                                            ),
+                                          ),
+                                        ),
+                                      ),
+                                    ),
+                                  ),
+                                ),
+                              ),
+                            ),
+                          ),
+                        ),
+                      ),
+                    ),
+                  ),
+                ),
+              ),
+            ),
+          ),
+        ),
+      ),
+    ),
+  ),
+)
 
-find-if : (t : Form → Bool) (b : Bool) (f : Form) (r : Option Form) → IsFormMeant f → Holds IsFormMeant r → Holds IsFormMeant (if b then Some f else r)
+find-if : (t : Form → Bool) (b : Bool) (f : Form) (r : Option Form) → IsFormMeant f → Holds IsFormMeant r
+    → Holds IsFormMeant (if b then Some f else r)
 find-if t true f r h k = h
 find-if t false f r h k = k
 
@@ -301,7 +453,8 @@ found-meant t (f ∷ fs) h = find-if t (t f) f (find t fs) h.0 (found-meant t fs
 
 -- ---- the line
 
-words-fit : (rest : List ℕ) (r : Option (List Word)) → words rest ≡ r → length rest ≤ 4096 → Holds (λ ws. room ws ≤ 4097) r
+words-fit : (rest : List ℕ) (r : Option (List Word)) → words rest ≡ r → length rest ≤ 4096
+    → Holds (λ ws. room ws ≤ 4097) r
 words-fit rest None e short = tt
 words-fit rest (Some ws) e short = omega (arith, words_room rest ws e)
 
@@ -316,26 +469,31 @@ as-meant : (r : Option Command) → Holds IsMeant r → IsReadingMeant (as_readi
 as-meant None h = tt
 as-meant (Some c) h = h
 
-words-if : (rest : List ℕ) (r : Option Form) → length rest ≤ 4096 → Holds IsFormMeant r → IsReadingMeant (elim r as (λ _. Reading) [
-  | None ↦ UnknownCommand
-  | Some form ↦ as_reading (option_and_then (form.1 (whole current)) (words rest))
-])
+words-if : (rest : List ℕ) (r : Option Form) → length rest ≤ 4096 → Holds IsFormMeant r
+    → IsReadingMeant (elim r as (λ _. Reading) [
+      | None ↦ UnknownCommand
+      | Some form ↦ as_reading (option_and_then (form.1 (whole current)) (words rest))
+    ])
 words-if rest None short h = tt
 words-if rest (Some f) short h =
     as-meant (option_and_then (f.1 (whole current)) (words rest))
-    (then-holds (λ ws. room ws ≤ 4097) IsMeant (f.1 (whole current)) (words rest) (words-fit rest (words rest) refl short) (λ ws fits. h ws fits))
+    (then-holds (λ ws. room ws ≤ 4097) IsMeant (f.1 (whole current)) (words rest)
+    (words-fit rest (words rest) refl short) (λ ws fits. h ws fits))
 
 command-meant : (line : List ℕ) → length line ≤ 4096 → IsReadingMeant (command_line (whole current) line)
 command-meant [] short = tt
 command-meant (c ∷ cs) short =
     let first = take_while (λ c. not (is_blank c)) (c ∷ cs) in
-    words-if (drop (length first) (c ∷ cs)) (form_of first) (omega (arith, length-drop (length first) (c ∷ cs))) (found-meant (λ (f : Form). is first f.0) forms forms-meant)
+    words-if (drop (length first) (c ∷ cs)) (form_of first) (omega (arith, length-drop (length first) (c ∷ cs)))
+    (found-meant (λ (f : Form). is first f.0) forms forms-meant)
 
-meant-if : (b : Bool) (x y : Reading) → IsReadingMeant x → (b ≡ false → IsReadingMeant y) → IsReadingMeant (if b then x else y)
+meant-if : (b : Bool) (x y : Reading) → IsReadingMeant x → (b ≡ false → IsReadingMeant y)
+    → IsReadingMeant (if b then x else y)
 meant-if true x y h k = h
 meant-if false x y h k = k refl
 
-blank-if : (b : Bool) (c : ℕ) (cs : List ℕ) → length (skip_blanks cs) ≤ length cs → length (if b then skip_blanks cs else c ∷ cs) ≤ length (c ∷ cs)
+blank-if : (b : Bool) (c : ℕ) (cs : List ℕ) → length (skip_blanks cs) ≤ length cs
+    → length (if b then skip_blanks cs else c ∷ cs) ≤ length (c ∷ cs)
 blank-if true c cs h = omega arith
 blank-if false c cs h = omega arith
 

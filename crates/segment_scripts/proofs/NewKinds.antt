@@ -16,19 +16,22 @@ use Rattle.seg_types.specs.Commands as asked
 use Rattle.segment_lang.specs.Reading.{agrees}
 use Rattle.segment_manager.specs.objects.NewObjects.{IsOfItsKind, IsOfKind}
 use Rattle.segment_manager.proofs.Laws.{code-read}
-use Rattle.segment_scripts.specs.Replies.{IsContent, IsMeant}
+use Rattle.segment_scripts.specs.Replies.{IsLineContent, IsMeant}
 
 pub kind-same : (k l : Kind) → IsTrue (same_kind k l) → l ≡ k
 kind-same k l h =
-    let e : Some l ≡ Some k = sym (code-read l) ∙ sym (ap kind_of_code (eqb-true (code_of k) (code_of l) h)) ∙ code-read k in
+    let e : Some l ≡ Some k = sym (code-read l) ∙ sym (ap kind_of_code (eqb-true (code_of k) (code_of l) h))
+    ∙ code-read k in
     cc
 
-new-kind : (key : NewKey) (k : ScalarKind) → IsTrue (agrees (Scalar k) (new_key_seen key)) → IsOfItsKind (new_key_seen key) k
+new-kind : (key : NewKey) (k : ScalarKind) → IsTrue (agrees (Scalar k) (new_key_seen key))
+    → IsOfItsKind (new_key_seen key) k
 new-kind (new.Name bytes) k h = tt
 new-kind (new.Unique u) k h = kind-same (Scalar k) u h
 new-kind new.Anonymous k h = tt
 
-entry-kind : (key : IndexKey) (k : ScalarKind) → IsTrue (agrees (Scalar k) (index_key_seen key)) → IsOfItsKind (index_key_seen key) k
+entry-kind : (key : IndexKey) (k : ScalarKind) → IsTrue (agrees (Scalar k) (index_key_seen key))
+    → IsOfItsKind (index_key_seen key) k
 entry-kind (entry.Name bytes) k h = tt
 entry-kind (entry.Unique u) k h = kind-same (Scalar k) u h
 
@@ -38,7 +41,8 @@ new-of (new.Name bytes) kind h = tt
 new-of (new.Unique u) kind h = kind-same kind u h
 new-of new.Anonymous kind h = tt
 
-entry-of : (key : IndexKey) (kind : Kind) → IsTrue (agrees kind (index_key_seen key)) → IsOfKind (index_key_seen key) kind
+entry-of : (key : IndexKey) (kind : Kind) → IsTrue (agrees kind (index_key_seen key))
+    → IsOfKind (index_key_seen key) kind
 entry-of (entry.Name bytes) kind h = tt
 entry-of (entry.Unique u) kind h = kind-same kind u h
 
@@ -50,7 +54,8 @@ few n z h = subst (λ m. m ≤ 1048576) (length-replicate n z) h
 
 -- ---- a new object
 
-module _ (key : NewKey) (k : ScalarKind) (n : ℕ) (z : ℤ) (h : IsContent (new_key_seen key) (asked.Numbers k (replicate n z))) where
+module _ (key : NewKey) (k : ScalarKind) (n : ℕ) (z : ℤ)
+    (h : IsLineContent (new_key_seen key) (asked.Numbers k (replicate n z))) where
   pub content_kind : IsOfItsKind (new_key_seen key) k
   content_kind = new-kind key k h.2
 
@@ -62,7 +67,8 @@ module _ (key : NewKey) (k : ScalarKind) (n : ℕ) (z : ℤ) (h : IsContent (new
 
 -- ---- an object that is found or made
 
-module _ (key : IndexKey) (k : ScalarKind) (n : ℕ) (z : ℤ) (h : IsContent (index_key_seen key) (asked.Numbers k (replicate n z))) where
+module _ (key : IndexKey) (k : ScalarKind) (n : ℕ) (z : ℤ)
+    (h : IsLineContent (index_key_seen key) (asked.Numbers k (replicate n z))) where
   pub index_kind : IsOfItsKind (index_key_seen key) k
   index_kind = entry-kind key k h.2
 
@@ -74,33 +80,42 @@ module _ (key : IndexKey) (k : ScalarKind) (n : ℕ) (z : ℤ) (h : IsContent (i
 
 -- ---- vectors and strings
 
-pub elements_kind : (key : NewKey) (k : ScalarKind) (zs : List ℤ) → IsContent (new_key_seen key) (asked.Elements k zs) → IsOfKind (new_key_seen key) (Vector k)
+pub elements_kind : (key : NewKey) (k : ScalarKind) (zs : List ℤ)
+    → IsLineContent (new_key_seen key) (asked.Elements k zs) → IsOfKind (new_key_seen key) (Vector k)
 elements_kind key k zs h = new-of key (Vector k) h.1
 
-pub bytes_kind : (key : NewKey) (bs : List ℕ) → IsContent (new_key_seen key) (asked.Bytes bs) → IsOfKind (new_key_seen key) String
+pub bytes_kind : (key : NewKey) (bs : List ℕ) → IsLineContent (new_key_seen key) (asked.Bytes bs)
+    → IsOfKind (new_key_seen key) String
 bytes_kind key bs h = new-of key String h.1
 
-pub strings_kind : (key : NewKey) (bss : List (List ℕ)) → IsContent (new_key_seen key) (asked.Strings bss) → IsOfKind (new_key_seen key) Strings
+pub strings_kind : (key : NewKey) (bss : List (List ℕ)) → IsLineContent (new_key_seen key) (asked.Strings bss)
+    → IsOfKind (new_key_seen key) Strings
 strings_kind key bss h = new-of key Strings h.1
 
-pub index_elements_kind : (key : IndexKey) (k : ScalarKind) (zs : List ℤ) → IsContent (index_key_seen key) (asked.Elements k zs) → IsOfKind (index_key_seen key) (Vector k)
+pub index_elements_kind : (key : IndexKey) (k : ScalarKind) (zs : List ℤ)
+    → IsLineContent (index_key_seen key) (asked.Elements k zs) → IsOfKind (index_key_seen key) (Vector k)
 index_elements_kind key k zs h = entry-of key (Vector k) h.1
 
-pub index_bytes_kind : (key : IndexKey) (bs : List ℕ) → IsContent (index_key_seen key) (asked.Bytes bs) → IsOfKind (index_key_seen key) String
+pub index_bytes_kind : (key : IndexKey) (bs : List ℕ) → IsLineContent (index_key_seen key) (asked.Bytes bs)
+    → IsOfKind (index_key_seen key) String
 index_bytes_kind key bs h = entry-of key String h.1
 
-pub pairs_kind : (key : NewKey) (k v : ScalarKind) → IsContent (new_key_seen key) (asked.NoPairs k v) → IsOfKind (new_key_seen key) (Map k v)
+pub pairs_kind : (key : NewKey) (k v : ScalarKind) → IsLineContent (new_key_seen key) (asked.NoPairs k v)
+    → IsOfKind (new_key_seen key) (Map k v)
 pairs_kind key k v h = new-of key (Map k v) h
 
-pub index_pairs_kind : (key : IndexKey) (k v : ScalarKind) → IsContent (index_key_seen key) (asked.NoPairs k v) → IsOfKind (index_key_seen key) (Map k v)
+pub index_pairs_kind : (key : IndexKey) (k v : ScalarKind) → IsLineContent (index_key_seen key) (asked.NoPairs k v)
+    → IsOfKind (index_key_seen key) (Map k v)
 index_pairs_kind key k v h = entry-of key (Map k v) h
 
-pub index_strings_kind : (key : IndexKey) (bss : List (List ℕ)) → IsContent (index_key_seen key) (asked.Strings bss) → IsOfKind (index_key_seen key) Strings
+pub index_strings_kind : (key : IndexKey) (bss : List (List ℕ))
+    → IsLineContent (index_key_seen key) (asked.Strings bss) → IsOfKind (index_key_seen key) Strings
 index_strings_kind key bss h = entry-of key Strings h.1
 
 -- ---- an array
 
-module _ (key : NewKey) (k : ScalarKind) (n : ℕ) (zs : List ℤ) (h : IsMeant (asked.ConstructIt (new_key_seen key) k n zs)) where
+module _ (key : NewKey) (k : ScalarKind) (n : ℕ) (zs : List ℤ)
+    (h : IsMeant (asked.ConstructIt (new_key_seen key) k n zs)) where
   pub array_kind : IsOfItsKind (new_key_seen key) k
   array_kind = new-kind key k h.3
 

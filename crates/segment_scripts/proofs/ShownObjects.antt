@@ -7,12 +7,12 @@ use Rattle.seg_types.specs.Names.{ByHandle, Key}
 use Rattle.seg_map.specs.Places.{item_of}
 use Rattle.seg_vector.specs.Vector.{OwnedText}
 use Rattle.segment_lang.specs.Texts.{kind_text, quoted_text, value_text}
-use Rattle.segment_manager.specs.declared.objects.targets.Object.{Object as Located}
+use Rattle.segment_manager.specs.declared.objects.object_ref.Object.{Object as Located}
 use Rattle.segment_manager.specs.Answers.{Refused, Shown}
 use Rattle.segment_manager.specs.Directory.{Value, Numbers, Elements, Bytes, Pairs, Texts, Object, Directory, kind_of}
 use Rattle.segment_manager.specs.objects.Instances.{IsMissing}
 use Rattle.segment_manager.specs.objects.Located.{IsLocated}
-use Rattle.segment_manager.specs.State.{Answers, State, StandsFor}
+use Rattle.segment_manager.specs.State.{AnswersWith, SegmentState, DenotesCurrent}
 use Rattle.segment_manager.proofs.Laws.{said-at, same-object}
 use Rattle.segment_values.specs.Contents.{bytes_in, content_of, count_of_content}
 use Rattle.segment_values.specs.Layouts.{count_at, laid_at, laid_from, laid_object, laid_out, object_count}
@@ -26,18 +26,21 @@ use Rattle.segment_scripts.specs.Shown.{front_text, in_line}
 
 -- ---- all elements
 
-line-words : {X : Type 0} (text : X → List ℕ) (w : List ℕ) (xs : List X) → line (w ∷ map text xs) ≡ w ++ (flat_map (λ x. 0x20 ∷ text x) xs ++ 0x0A ∷ [])
+line-words : {X : Type 0} (text : X → List ℕ) (w : List ℕ) (xs : List X)
+    → line (w ∷ map text xs) ≡ w ++ (flat_map (λ x. 0x20 ∷ text x) xs ++ 0x0A ∷ [])
 line-words text w [] = refl
 line-words text w (x ∷ xs) =
     ap (λ l. w ++ 0x20 ∷ l) (line-words text (text x) xs)
     ∙ ap (λ l. w ++ 0x20 ∷ l) (sym (append_assoc (text x) (flat_map (λ x. 0x20 ∷ text x) xs) (0x0A ∷ [])))
 
 -- elements that are laid out behind a word are the words behind it
-laid-line : {X : Type 0} (text : X → List ℕ) (w : List ℕ) (xs : List X) → w ++ (laid_from (λ i x. 0x20 ∷ text x) 0 xs ++ 0x0A ∷ []) ≡ line (w ∷ map text xs)
+laid-line : {X : Type 0} (text : X → List ℕ) (w : List ℕ) (xs : List X)
+    → w ++ (laid_from (λ i x. 0x20 ∷ text x) 0 xs ++ 0x0A ∷ []) ≡ line (w ∷ map text xs)
 laid-line text w xs = ap (λ l. w ++ (l ++ 0x0A ∷ [])) (laid-flat (λ x. 0x20 ∷ text x) 0 xs) ∙ sym (line-words text w xs)
 
 -- what is written of a value is what is shown of it
-shown-laid : (v : Value) → front_text (kind_of v) (count_of_content (content_of v)) ++ (laid_out in_line (content_of v) ++ 0x0A ∷ []) ≡ answer_text (Shown v)
+shown-laid : (v : Value) → front_text (kind_of v) (count_of_content (content_of v))
+    ++ (laid_out in_line (content_of v) ++ 0x0A ∷ []) ≡ answer_text (Shown v)
 shown-laid (Numbers k zs) = laid-line (value_text k) (front_text (Scalar k) (length zs)) zs
 shown-laid (Elements k zs t) = laid-line (value_text k) (kind_text (Vector k)) zs
 shown-laid (Bytes bs t) = refl
@@ -50,8 +53,10 @@ shown-laid (Texts ps t) =
 
 -- ---- the object of a handle, and of a key
 
-pub shown-said : (s : State) (o : Located) → IsLocated s (ByHandle o.handle) o → (n : ℕ) → Answers s (λ d. count_at d (ByHandle o.handle)) n → (d : Directory) → StandsFor s.cut.bytes d
-    → front_text o.kind n ++ (laid_at in_line d (ByHandle o.handle) ++ 0x0A ∷ []) ≡ answer_text (shown_at d (ByHandle o.handle))
+pub shown-said : (s : SegmentState) (o : Located) → IsLocated s (ByHandle o.handle) o → (n : ℕ)
+    → AnswersWith s (λ d. count_at d (ByHandle o.handle)) n → (d : Directory) → DenotesCurrent s.cut.bytes d
+    → front_text o.kind n ++ (laid_at in_line d (ByHandle o.handle) ++ 0x0A ∷ [])
+    ≡ answer_text (shown_at d (ByHandle o.handle))
 shown-said s o l n counted d st =
     let f = said-at s (ByHandle o.handle) o l d st in
     let kind : o.kind ≡ kind_of f.object.value = ap (λ (q : Located). q.kind) f.said in
@@ -60,13 +65,16 @@ shown-said s o l n counted d st =
     ∙ shown-laid f.object.value
     ∙ ap (λ (r : Option Object). answer_text (shown_of r)) (sym f.is)
 
-pub shown-by_key : (s : State) (key : Key) (o : Located) → IsLocated s key o → (d : Directory) → StandsFor s.cut.bytes d → answer_text (shown_at d (ByHandle o.handle)) ≡ answer_text (shown_at d key)
+pub shown-by_key : (s : SegmentState) (key : Key) (o : Located) → IsLocated s key o → (d : Directory)
+    → DenotesCurrent s.cut.bytes d → answer_text (shown_at d (ByHandle o.handle)) ≡ answer_text (shown_at d key)
 shown-by_key s key o l d st = ap (λ (r : Option Object). answer_text (shown_of r)) (sym (same-object s key o l d st))
 
 -- it is shown
-pub shown-here : (s : State) (key : Key) (o : Located) → IsLocated s key o → (d : Directory) → StandsFor s.cut.bytes d → false ≡ is_refusal (shown_at d key)
+pub shown-here : (s : SegmentState) (key : Key) (o : Located) → IsLocated s key o → (d : Directory)
+    → DenotesCurrent s.cut.bytes d → false ≡ is_refusal (shown_at d key)
 shown-here s key o l d st = ap (λ (r : Option Object). is_refusal (shown_of r)) (sym (said-at s key o l d st).is)
 
 -- there is none
-pub shown-missing : (s : State) (key : Key) (r : Refusal) → IsMissing s key r → (d : Directory) → StandsFor s.cut.bytes d → Refused r ≡ shown_at d key
+pub shown-missing : (s : SegmentState) (key : Key) (r : Refusal) → IsMissing s key r → (d : Directory)
+    → DenotesCurrent s.cut.bytes d → Refused r ≡ shown_at d key
 shown-missing s key r h d k = ap Refused h.is ∙ ap shown_of (sym (h.missing d k))

@@ -1,16 +1,19 @@
 -- Where a run may end behind a line.
-use Rattle.std.proofs.Common.{◌≡◌, ◌&&◌, ◌==◌, ℕ, ◌<◌, Bool, false, true, not, List, [], ◌∷◌, ◌++◌, length, take, refl, sym, ap, subst, ◌∙◌}
+use Rattle.std.proofs.Common.{◌≡◌, ◌&&◌, ◌==◌, ℕ, ◌<◌, Bool, false, true, not, List, [], ◌∷◌, ◌++◌, length, take, refl}
+use Rattle.std.proofs.Common.{sym, ap, subst, ◌∙◌}
 use Rattle.std.proofs.lemmas.List.{append_assoc}
-use Rattle.raw_region.specs.Answers.{AddsFront}
+use Rattle.raw_region.specs.Answers.{AppendsProperPrefix}
 use Rattle.segment_scripts.specs.Run.{lines}
-use Rattle.segment_scripts.specs.Leaves.{answer_all}
+use Rattle.segment_scripts.specs.RunOutcome.{answer_all}
 use Rattle.segment_scripts.specs.Lines.{ended_lines, open_line, whole_lines}
-use Rattle.segment_scripts.specs.Behind.{kept, HasAnswered, IsBehind, IsOn, EndsAtLast, EndsBehind, EndsIn, FailsIn, IsThrough}
+use Rattle.segment_scripts.specs.RunProgress.{kept, HasAnswered, HasRunTo, IsOn, EndsAtLast, EndsBehind, EndsIn}
+use Rattle.segment_scripts.specs.RunProgress.{FailsIn, IsThrough}
 use Rattle.segment_scripts.specs.Stopping.{goes_on}
 use Rattle.segment_scripts.proofs.Cuts.{answered_all, answered_last, last_line, no_last_line}
 use Rattle.segment_scripts.proofs.LineEnds.{BeginsWithEnd}
 use Rattle.segment_scripts.proofs.LineLaws.{ended_lines-end, ended_lines-open, ended-nil}
-use Rattle.segment_scripts.proofs.RunLaws.{answers_one, behind_line, behind_none, behind_open, kept-decides, same_answer, same_line, stops_at}
+use Rattle.segment_scripts.proofs.RunLaws.{answers_one, behind_line, behind_none, behind_open, kept-decides}
+use Rattle.segment_scripts.proofs.RunLaws.{same_answer, same_line, stops_at}
 
 -- a test behind another
 and-then : (a b c : Bool) → (a && b) ≡ true → (b ≡ true → c ≡ true) → (a && c) ≡ true
@@ -23,11 +26,14 @@ module _ {P : Type 0} (respond : P → List ℕ → List ℕ × P) (stops : P �
   goes_on-alone place l false e f = refl
 
   -- one more line, behind which the run goes on
-  pub goes_on-one : (place : P) (ls : List (List ℕ)) (l : List ℕ) → goes_on respond stops place ls ≡ true → stops (answer_all respond place ls).1 l ≡ false → goes_on respond stops place (ls ++ l ∷ []) ≡ true
+  pub goes_on-one : (place : P) (ls : List (List ℕ)) (l : List ℕ) → goes_on respond stops place ls ≡ true
+      → stops (answer_all respond place ls).1 l ≡ false → goes_on respond stops place (ls ++ l ∷ []) ≡ true
   goes_on-one place [] l e f = goes_on-alone place l (stops place l) refl f
-  goes_on-one place (x ∷ xs) l e f = and-then (not (stops place x)) _ _ e (λ h. goes_on-one (respond place x).1 xs l h f)
+  goes_on-one place (x ∷ xs) l e f =
+      and-then (not (stops place x)) _ _ e (λ h. goes_on-one (respond place x).1 xs l h f)
 
-  pub on_none : (start : P) (before : List ℕ) (Stands : P → Type 0) → Stands start → IsOn respond stops start before [] Stands [] before
+  pub on_none : (start : P) (before : List ℕ) (Stands : P → Type 0) → Stands start
+      → IsOn respond stops start before [] Stands [] before
   on_none start before Stands s = record { behind = behind_none respond start before Stands s; on = rw ended-nil refl }
 
   -- bytes came in which no line ends
@@ -40,22 +46,32 @@ module _ {P : Type 0} (respond : P → List ℕ → List ℕ × P) (stops : P �
     on = ap (goes_on respond stops start) (ended_lines-open read part none) ∙ h.on;
   }
 
-  module _ (long : (place : P) (line : List ℕ) → 4097 < length line → respond place line ≡ respond place (take kept line))
-      (long_stops : (place : P) (line : List ℕ) → 4097 < length line → stops place line ≡ stops place (take kept line)) where
+  module _ (long : (place : P) (line : List ℕ) → 4097 < length line
+      → respond place line ≡ respond place (take kept line))
+      (long_stops : (place : P) (line : List ℕ) → 4097 < length line
+      → stops place line ≡ stops place (take kept line)) where
     -- whether the run ends behind the open line, by what is kept of it
-    stop_is : (start : P) (before read : List ℕ) (Stands : P → Type 0) (line taken : List ℕ) (b : Bool) → IsBehind respond start before read Stands line taken
-        → ((p : P) → Stands p → stops p line ≡ b) → stops (answer_all respond start (ended_lines read)).1 (open_line read) ≡ b
+    stop_is : (start : P) (before read : List ℕ) (Stands : P → Type 0) (line taken : List ℕ) (b : Bool)
+        → HasRunTo respond start before read Stands line taken
+        → ((p : P) → Stands p → stops p line ≡ b)
+        → stops (answer_all respond start (ended_lines read)).1 (open_line read) ≡ b
     stop_is start before read Stands line taken b h tells =
         let at = (answer_all respond start (ended_lines read)).1 in
-        sym (kept-decides stops long_stops at (open_line read)) ∙ ap (stops at) (sym h.line_kept) ∙ tells at h.answered.stands
+        sym (kept-decides stops long_stops at (open_line read)) ∙ ap (stops at) (sym h.line_kept)
+        ∙ tells at h.answered.stands
 
     -- the open line was answered, and the run goes on
-    on_one : (start : P) (before read : List ℕ) (Stands : P → Type 0) (line taken : List ℕ) → IsOn respond stops start before read Stands line taken
-        → ((p : P) → Stands p → stops p line ≡ false) → goes_on respond stops start (ended_lines read ++ open_line read ∷ []) ≡ true
-    on_one start before read Stands line taken h tells = goes_on-one start (ended_lines read) (open_line read) h.on (stop_is start before read Stands line taken false h.behind tells)
+    on_one : (start : P) (before read : List ℕ) (Stands : P → Type 0) (line taken : List ℕ)
+        → IsOn respond stops start before read Stands line taken
+        → ((p : P) → Stands p → stops p line ≡ false)
+        → goes_on respond stops start (ended_lines read ++ open_line read ∷ []) ≡ true
+    on_one start before read Stands line taken h tells =
+        goes_on-one start (ended_lines read) (open_line read) h.on
+        (stop_is start before read Stands line taken false h.behind tells)
 
     -- the run ends behind it
-    ends_behind : (start : P) (before read : List ℕ) (Stands Stands' : P → Type 0) (line taken taken' : List ℕ) → IsOn respond stops start before read Stands line taken
+    ends_behind : (start : P) (before read : List ℕ) (Stands Stands' : P → Type 0) (line taken taken' : List ℕ)
+        → IsOn respond stops start before read Stands line taken
         → ((p : P) → Stands p → Stands' (respond p line).1)
         → ((p : P) → Stands p → taken' ≡ taken ++ (respond p line).0)
         → ((p : P) → Stands p → stops p line ≡ true)
@@ -65,21 +81,24 @@ module _ {P : Type 0} (respond : P → List ℕ → List ℕ × P) (stops : P �
         record {
           on = h.on;
           stop = stop_is start before read Stands line taken true h.behind tells;
-          answered = answers_one respond start before (ended_lines read) (open_line read) Stands Stands' taken taken' h.behind.answered
+          answered = answers_one respond start before (ended_lines read) (open_line read) Stands Stands' taken
+              taken' h.behind.answered
               (λ p s. subst (λ (r : List ℕ × P). Stands' r.1) (same p) (leads p s))
               (λ p s. subst (λ (r : List ℕ × P). taken' ≡ taken ++ r.0) (same p) (ok p s));
         }
 
     -- ---- a line that ends in what is left of a piece
 
-    module _ (start : P) (before read piece done rest end more : List ℕ) (Stands Stands' : P → Type 0) (line taken taken' : List ℕ)
+    module _ (start : P) (before read piece done rest end more : List ℕ) (Stands Stands' : P
+        → Type 0) (line taken taken' : List ℕ)
         (h : IsOn respond stops start before (read ++ done) Stands line taken) (ends : BeginsWithEnd rest end more)
         (leads : (p : P) → Stands p → Stands' (respond p (take kept (line ++ end))).1) where
       -- it is open before it is answered
       on_end : IsOn respond stops start before (read ++ (done ++ end)) Stands (take kept (line ++ end)) taken
       on_end =
           let all : (read ++ done) ++ end ≡ read ++ (done ++ end) = append_assoc read done end in
-          subst (λ (l : List ℕ). IsOn respond stops start before l Stands (take kept (line ++ end)) taken) all (on_open start before (read ++ done) end Stands line (take kept (line ++ end)) taken h ends.unended refl)
+          subst (λ (l : List ℕ). IsOn respond stops start before l Stands (take kept (line ++ end)) taken) all
+          (on_open start before (read ++ done) end Stands line (take kept (line ++ end)) taken h ends.unended refl)
 
       parts_end : piece ≡ done ++ rest → piece ≡ (done ++ end) ++ 0x0A ∷ more
       parts_end parts = parts ∙ ap (λ (l : List ℕ). done ++ l) ends.parts ∙ sym (append_assoc done end (0x0A ∷ more))
@@ -94,9 +113,11 @@ module _ {P : Type 0} (respond : P → List ℕ → List ℕ × P) (stops : P �
           let front : List ℕ = read ++ (done ++ end) in
           let all : front ++ 0x0A ∷ [] ≡ read ++ (done ++ end ++ 0x0A ∷ []) = simp append_assoc in
           record {
-            behind = behind_line respond long start before read done rest end more Stands Stands' line line' taken taken' h.behind ends leads ok new;
+            behind = behind_line respond long start before read done rest end more Stands Stands' line line' taken
+                taken' h.behind ends leads ok new;
             on = ap (λ (l : List ℕ). goes_on respond stops start (ended_lines l)) (sym all)
-                ∙ ap (goes_on respond stops start) (ended_lines-end front [] ∙ ap (λ (ls : List (List ℕ)). ended_lines front ++ open_line front ∷ ls) ended-nil)
+                ∙ ap (goes_on respond stops start) (ended_lines-end front []
+                ∙ ap (λ (ls : List (List ℕ)). ended_lines front ++ open_line front ∷ ls) ended-nil)
                 ∙ on_one start before front Stands (take kept (line ++ end)) taken on_end tells;
           }
 
@@ -109,12 +130,13 @@ module _ {P : Type 0} (respond : P → List ℕ → List ℕ × P) (stops : P �
         front = done ++ end;
         more = more;
         parts = parts_end parts;
-        ends = ends_behind start before (read ++ (done ++ end)) Stands Stands' (take kept (line ++ end)) taken taken' on_end leads ok tells;
+        ends = ends_behind start before (read ++ (done ++ end)) Stands Stands' (take kept (line ++ end)) taken
+            taken' on_end leads ok tells;
       }
 
       -- its answer was cut
       pub fails_in : piece ≡ done ++ rest
-          → ((p : P) → Stands p → AddsFront taken taken' (respond p (take kept (line ++ end))).0)
+          → ((p : P) → Stands p → AppendsProperPrefix taken taken' (respond p (take kept (line ++ end))).0)
           → FailsIn respond stops start before read piece Stands' taken'
       fails_in parts err =
           let front : List ℕ = read ++ (done ++ end) in
@@ -125,22 +147,29 @@ module _ {P : Type 0} (respond : P → List ℕ → List ℕ × P) (stops : P �
             more = more;
             parts = parts_end parts;
             on = was.on;
-            stopped = stops_at respond start before (ended_lines front) (open_line front) Stands Stands' taken taken' was.behind.answered
+            stopped = stops_at respond start before (ended_lines front) (open_line front) Stands Stands' taken
+                taken' was.behind.answered
                 (λ p s. subst (λ (r : List ℕ × P). Stands' r.1) (same p) (leads p s))
-                (λ p s. subst (λ (r : List ℕ × P). AddsFront taken taken' r.0) (same p) (err p s));
+                (λ p s. subst (λ (r : List ℕ × P). AppendsProperPrefix taken taken' r.0) (same p) (err p s));
           }
 
     -- ---- the last line, which has no end
 
-    module _ (start : P) (before read : List ℕ) (Stands Stands' : P → Type 0) (line taken taken' : List ℕ) (h : IsOn respond stops start before read Stands line taken) (some : (length line == 0) ≡ false)
-        (leads : (p : P) → Stands p → Stands' (respond p line).1) (ok : (p : P) → Stands p → taken' ≡ taken ++ (respond p line).0) where
-      pub through_last : ((p : P) → Stands p → stops p line ≡ false) → IsThrough respond stops start before read Stands' taken'
+    module _ (start : P) (before read : List ℕ) (Stands Stands' : P
+        → Type 0) (line taken taken' : List ℕ) (h : IsOn respond stops start before read Stands line taken)
+        (some : (length line == 0) ≡ false)
+        (leads : (p : P) → Stands p → Stands' (respond p line).1) (ok : (p : P) → Stands p
+        → taken' ≡ taken ++ (respond p line).0) where
+      pub through_last : ((p : P) → Stands p → stops p line ≡ false)
+          → IsThrough respond stops start before read Stands' taken'
       through_last tells = record {
         answered = answered_last respond long start before read Stands Stands' line taken taken' h.behind some leads ok;
-        on = ap (goes_on respond stops start) (last_line read line h.behind.line_kept some) ∙ on_one start before read Stands line taken h tells;
+        on = ap (goes_on respond stops start) (last_line read line h.behind.line_kept some)
+            ∙ on_one start before read Stands line taken h tells;
       }
 
-      pub ends_at_last : ((p : P) → Stands p → stops p line ≡ true) → EndsAtLast respond stops start before read Stands' taken'
+      pub ends_at_last : ((p : P) → Stands p → stops p line ≡ true)
+          → EndsAtLast respond stops start before read Stands' taken'
       ends_at_last tells = record {
         parts = last_line read line h.behind.line_kept some;
         ends = ends_behind start before read Stands Stands' line taken taken' h leads ok tells;
@@ -155,5 +184,8 @@ module _ {P : Type 0} (respond : P → List ℕ → List ℕ × P) (stops : P �
     on = ap (goes_on respond stops start) (no_last_line read line h.behind.line_kept none) ∙ h.on;
   }
 
-  pub same_on : (start : P) (before read : List ℕ) (Stands : P → Type 0) (line line' taken : List ℕ) → IsOn respond stops start before read Stands line taken → line' ≡ line → IsOn respond stops start before read Stands line' taken
-  same_on start before read Stands line line' taken h e = record { behind = same_line respond start before read Stands line line' taken h.behind e; on = h.on }
+  pub same_on : (start : P) (before read : List ℕ) (Stands : P → Type 0) (line line' taken : List ℕ)
+      → IsOn respond stops start before read Stands line taken → line' ≡ line
+      → IsOn respond stops start before read Stands line' taken
+  same_on start before read Stands line line' taken h e =
+      record { behind = same_line respond start before read Stands line line' taken h.behind e; on = h.on }

@@ -1,11 +1,14 @@
 -- Texts one behind another, by how many bytes each has.
-use Rattle.std.proofs.Common.{◌≡◌, refl, sym, ap, ◌∙◌, ℕ, ◌+◌, ◌<◌, ◌≤◌, Result, Ok, Err, List, [], ◌∷◌, ◌++◌, drop, get_or, length, take, append_assoc, arith}
-use Rattle.std.proofs.lemmas.List.{append-nil, drop-append-le, drop_all, drop_more, length-append, length-drop, length-take-le, take-append-le, take_all}
+use Rattle.std.proofs.Common.{◌≡◌, refl, sym, ap, ◌∙◌, ℕ, ◌+◌, ◌<◌, ◌≤◌, Result, Ok, Err, List, [], ◌∷◌, ◌++◌, drop}
+use Rattle.std.proofs.Common.{get_or, length, take, append_assoc, arith}
+use Rattle.std.proofs.lemmas.List.{append-nil, drop-append-le, drop_all, drop_more, length-append, length-drop}
+use Rattle.std.proofs.lemmas.List.{length-take-le, take-append-le, take_all}
 use Rattle.seg_types.specs.declared.refusals.Refusal.{Refusal}
 use Rattle.seg_types.specs.declared.refusals.Refusal.TheVariants.{WrongKind}
 use Rattle.seg_types.specs.Commands.{Literal, Quoted, Truth, Whole}
 use Rattle.segment_lang.specs.declared.literals.Literal.{Literal as CodeLiteral}
-use Rattle.segment_lang.specs.declared.literals.Literal.TheVariants.{Whole as CodeWhole, Truth as CodeTruth, Quoted as CodeQuoted}
+use Rattle.segment_lang.specs.declared.literals.Literal.TheVariants.{Whole as CodeWhole, Truth as CodeTruth}
+use Rattle.segment_lang.specs.declared.literals.Literal.TheVariants.{Quoted as CodeQuoted}
 use Rattle.segment_lang.specs.Seen.{literal_of}
 use Rattle.segment_manager.specs.Step.{texts_of}
 use Rattle.segment_scripts.specs.Replies.{bytes_taken, texts_taken}
@@ -15,8 +18,10 @@ none : (bs : List ℕ) → 0 ≡ length bs → bs ≡ []
 none [] e = refl
 none (b ∷ bs) e = absurd (omega arith)
 
-pub parts-more : (ns bs cs : List ℕ) → total ns ≡ length bs → parts (ns ++ length cs ∷ []) (bs ++ cs) ≡ parts ns bs ++ cs ∷ []
-parts-more [] bs cs e = ap (λ b. take (length cs) (b ++ cs) ∷ []) (none bs e) ∙ ap (λ t. t ∷ []) (take_all (length cs) cs (omega arith))
+pub parts-more : (ns bs cs : List ℕ) → total ns ≡ length bs
+    → parts (ns ++ length cs ∷ []) (bs ++ cs) ≡ parts ns bs ++ cs ∷ []
+parts-more [] bs cs e = ap (λ b. take (length cs) (b ++ cs) ∷ []) (none bs e)
+    ∙ ap (λ t. t ∷ []) (take_all (length cs) cs (omega arith))
 parts-more (n ∷ ns) bs cs e =
     let fits : n ≤ length bs = omega arith in
     let left : total ns ≡ length (drop n bs) = omega (arith, length-drop n bs) in
@@ -78,7 +83,8 @@ before-none (Ok bss) = refl
 before-none (Err why) = refl
 
 before-more : (row : List (List ℕ)) (bs : List ℕ) (r : Result (List (List ℕ)) Refusal)
-    → before row (elim r as (λ _. Result (List (List ℕ)) Refusal) [ Ok css ↦ Ok (bs ∷ css) | Err w ↦ Err w ]) ≡ before (row ++ bs ∷ []) r
+    → before row (elim r as (λ _. Result (List (List ℕ)) Refusal) [ Ok css ↦ Ok (bs ∷ css) | Err w ↦ Err w ])
+    ≡ before (row ++ bs ∷ []) r
 before-more row bs (Ok css) = ap Ok (sym (append_assoc row (bs ∷ []) css))
 before-more row bs (Err w) = refl
 
@@ -90,7 +96,8 @@ pub record AreTexts (ls rest : List Literal) (row : List (List ℕ)) : Type 0 wh
 pub texts-none : (ls : List Literal) → bytes_taken ls ≤ 4097 → AreTexts ls ls []
 texts-none ls few = record { values = sym (before-none (texts_of ls)); few = omega arith }
 
-module _ (ls rest rest' : List Literal) (row : List (List ℕ)) (l : Literal) (h : AreTexts ls rest row) (next : rest ≡ l ∷ rest') where
+module _ (ls rest rest' : List Literal) (row : List (List ℕ)) (l : Literal) (h : AreTexts ls rest row) (next : rest
+    ≡ l ∷ rest') where
   pub texts-fit : (bs : List ℕ) → l ≡ Quoted bs → texts_taken row + length bs ≤ 4096
   texts-fit bs e =
       let left : bytes_taken rest ≡ bytes_taken (Quoted bs ∷ rest') = ap bytes_taken (next ∙ ap (λ m. m ∷ rest') e) in
@@ -100,17 +107,21 @@ module _ (ls rest rest' : List Literal) (row : List (List ℕ)) (l : Literal) (h
   texts-more bs e =
       let left : bytes_taken rest ≡ bytes_taken (Quoted bs ∷ rest') = ap bytes_taken (next ∙ ap (λ m. m ∷ rest') e) in
       record {
-        values = h.values ∙ ap (λ r. before row (texts_of r)) (next ∙ ap (λ m. m ∷ rest') e) ∙ before-more row bs (texts_of rest');
+        values = h.values ∙ ap (λ r. before row (texts_of r)) (next ∙ ap (λ m. m ∷ rest') e)
+            ∙ before-more row bs (texts_of rest');
         few = omega (arith, h.few, taken-more row bs);
       }
 
-no_text-first : (row : List (List ℕ)) (l : Literal) (rest : List Literal) → ((bs : List ℕ) → l ≡ Quoted bs → ⊥) → before row (texts_of (l ∷ rest)) ≡ Err WrongKind
+no_text-first : (row : List (List ℕ)) (l : Literal) (rest : List Literal) → ((bs : List ℕ) → l ≡ Quoted bs → ⊥)
+    → before row (texts_of (l ∷ rest)) ≡ Err WrongKind
 no_text-first row (Whole z) rest n = refl
 no_text-first row (Truth b) rest n = refl
 no_text-first row (Quoted bs) rest n = absurd (n bs refl)
 
-pub texts-wrong : (ls rest rest' : List Literal) (row : List (List ℕ)) (l : CodeLiteral) → AreTexts ls rest row → rest ≡ literal_of l ∷ rest' → ((q : List ℕ) → l ≡ CodeQuoted q → ⊥) → texts_of ls ≡ Err WrongKind
-texts-wrong ls rest rest' row l h next n = h.values ∙ ap (λ r. before row (texts_of r)) next ∙ no_text-first row (literal_of l) rest' (other l n)
+pub texts-wrong : (ls rest rest' : List Literal) (row : List (List ℕ)) (l : CodeLiteral) → AreTexts ls rest row
+    → rest ≡ literal_of l ∷ rest' → ((q : List ℕ) → l ≡ CodeQuoted q → ⊥) → texts_of ls ≡ Err WrongKind
+texts-wrong ls rest rest' row l h next n =
+    h.values ∙ ap (λ r. before row (texts_of r)) next ∙ no_text-first row (literal_of l) rest' (other l n)
   where
     other : (l : CodeLiteral) → ((q : List ℕ) → l ≡ CodeQuoted q → ⊥) → (bs : List ℕ) → literal_of l ≡ Quoted bs → ⊥
     other (CodeWhole z) n bs e = absurd (cc)
@@ -148,7 +159,8 @@ module _ (ns bs : List ℕ) (i : ℕ) (rest : List ℕ) (made : List (List ℕ))
 
     pub cut-more : IsCut ns bs (i + 1) (drop (get_or ns i 0) rest) (made ++ take (get_or ns i 0) rest ∷ [])
     cut-more = record {
-      is = append_assoc made (take (get_or ns i 0) rest ∷ []) (parts (drop (i + 1) ns) (drop (get_or ns i 0) rest)) ∙ ap (λ l. made ++ parts l rest) (sym next) ∙ h.is;
+      is = append_assoc made (take (get_or ns i 0) rest ∷ []) (parts (drop (i + 1) ns) (drop (get_or ns i 0) rest))
+          ∙ ap (λ l. made ++ parts l rest) (sym next) ∙ h.is;
       fits = omega (arith, left, length-drop (get_or ns i 0) rest);
       many = omega (arith, h.many, length-append made (take (get_or ns i 0) rest ∷ []));
     }

@@ -1,5 +1,6 @@
 -- The lines that an answer is printed as.
-use Rattle.std.specs.Prelude.{ℕ, Option, Some, None, List, [], ◌∷◌, ◌++◌, length, map, if◌then◌else◌, ◌==◌, codes, Bool, true, false}
+use Rattle.std.specs.Prelude.{ℕ, Option, Some, None, List, [], ◌∷◌, ◌++◌, length, map, if◌then◌else◌, ◌==◌, codes, Bool}
+use Rattle.std.specs.Prelude.{true, false}
 use Rattle.block_tags.specs.declared.tile.Role.{Role}
 use Rattle.block_tags.specs.declared.tile.Role.TheVariants.{Object as ObjectRole, Index, Storage, Node}
 use Rattle.best_fit.specs.Extents.{Span, handle}
@@ -10,7 +11,8 @@ use Rattle.seg_map.specs.Numbers.{NumberPair}
 use Rattle.seg_vector.specs.Vector.{OwnedText}
 use Rattle.segment_lang.specs.Texts.{number_text, quoted_text, name_text, value_text, kind_text, refusal_text}
 use Rattle.segment_manager.specs.Directory.{Value, Numbers, Elements, Bytes, Pairs, Texts, Object, kind_of, count_of}
-use Rattle.segment_manager.specs.Answers.{Answer, Done, Absent, Truth, Number, Made, Found, Element, TextElement, Shown, Told, Names, Kinds, Blocks, Refused}
+use Rattle.segment_manager.specs.Answers.{Answer, Done, Absent, Truth, Number, Made, Found, Element, TextElement, Shown}
+use Rattle.segment_manager.specs.Answers.{Told, Names, Kinds, Blocks, Refused}
 
 -- words of a line, parted by one blank, and the end of the line
 abbrev pub line : List (List ℕ) → List ℕ
@@ -29,7 +31,8 @@ pair_text k v p = value_text k p.key ++ 0x3D ∷ value_text v p.value
 
 abbrev pub shown_words : Value → List (List ℕ)
 shown_words (Numbers k zs) =
-    (kind_text (kind_of (Numbers k zs)) ++ (if length zs == 1 then [] else 0x5B ∷ number_text (length zs) ++ 0x5D ∷ [])) ∷ map (value_text k) zs
+    (kind_text (kind_of (Numbers k zs))
+    ++ (if length zs == 1 then [] else 0x5B ∷ number_text (length zs) ++ 0x5D ∷ [])) ∷ map (value_text k) zs
 shown_words (Elements k zs t) = kind_text (kind_of (Elements k zs t)) ∷ map (value_text k) zs
 shown_words (Bytes bs t) = kind_text (kind_of (Bytes bs t)) ∷ quoted_text bs ∷ []
 shown_words (Texts ps t) = kind_text (kind_of (Texts ps t)) ∷ map (λ (p : OwnedText). quoted_text p.bytes) ps

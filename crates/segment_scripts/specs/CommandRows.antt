@@ -4,7 +4,8 @@ use Rattle.std.specs.Str.{bytes_eq}
 use Rattle.segment_scripts.specs.declared.language.CommandRow.{CommandRow}
 
 abbrev pub row_text : CommandRow → List ℕ
-row_text row = row.usage.now ++ (codes " -> " ++ (row.answer.now ++ (codes "\n    " ++ (row.does.now ++ (codes "\n" ++ [])))))
+row_text row = row.usage.now ++ (codes " -> "
+    ++ (row.answer.now ++ (codes "\n    " ++ (row.does.now ++ (codes "\n" ++ [])))))
 
 -- the words of the command that begins with this word, where there is one
 abbrev pub usage_of : List CommandRow → List ℕ → List ℕ

@@ -4,9 +4,9 @@ pub mod Refusing
 pub mod Run
 pub mod ZeroGaps
 pub mod Lines
-pub mod Leaves
+pub mod RunOutcome
 pub mod Stopping
-pub mod Behind
+pub mod RunProgress
 pub mod Segments
 pub mod Replies
 pub mod LongLines

@@ -1,6 +1,6 @@
 -- The lines of a script of which some bytes were read, and which of them may be executed.
 use Rattle.std.specs.Prelude.{ℕ, ◌==◌, ◌||◌, ◌&&◌, nat_lt, nat_le, if◌then◌else◌, List, [], ◌∷◌, length, take, drop}
-use Rattle.raw_region.specs.Device.{Given}
+use Rattle.raw_region.specs.Device.{ReadDelta}
 use Rattle.segment_scripts.specs.Run.{lines}
 
 -- the most bytes that a script may have
@@ -21,7 +21,7 @@ unfoldable pub open_line : List ℕ → List ℕ
 open_line bytes = drop (length (whole_lines bytes)) bytes
 
 -- the lines that may be executed: those that ended within the limit and, where the script ended within it, the last one
-abbrev pub executable : Given → List (List ℕ)
+abbrev pub executable : ReadDelta → List (List ℕ)
 executable script =
     if script.ended && nat_le (length script.bytes) script_limit then lines script.bytes
     else lines (whole_lines (take script_limit script.bytes))

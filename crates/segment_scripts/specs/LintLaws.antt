@@ -6,13 +6,15 @@ use Rattle.raw_region.specs.Format.{current}
 use Rattle.segment_lang.specs.Language.{whole}
 use Rattle.segment_lang.specs.Seen.{is_wrong}
 use Rattle.segment_scripts.specs.LongLines.{too_long}
-use Rattle.segment_scripts.specs.Linting.{Place, lint_line, misses_line, respond}
+use Rattle.segment_scripts.specs.Linting.{LintState, lint_line, misses_line, respond}
 
-pub lint_line-long : (at : Place) (line : List ℕ) → 4097 < length line → lint_line at line ≡ lint_line at (take 4098 line)
+pub lint_line-long : (at : LintState) (line : List ℕ) → 4097 < length line
+    → lint_line at line ≡ lint_line at (take 4098 line)
 lint_line-long at line h =
     let long = length-take-le 4098 line (omega arith) in
-    let next : Place = record at { line = min (at.line + 1) 18446744073709551615 } in
-    ap (respond next line) (too_long (whole current) line h) ∙ sym (ap (respond next (take 4098 line)) (too_long (whole current) (take 4098 line) (omega arith)))
+    let next : LintState = record at { line = min (at.line + 1) 18446744073709551615 } in
+    ap (respond next line) (too_long (whole current) line h)
+    ∙ sym (ap (respond next (take 4098 line)) (too_long (whole current) (take 4098 line) (omega arith)))
 
 pub misses_line-long : (line : List ℕ) → 4097 < length line → misses_line line ≡ misses_line (take 4098 line)
 misses_line-long line h =

@@ -1,5 +1,6 @@
 -- What is told of the lines of a script that are no commands.
-use Rattle.std.specs.Prelude.{◌≡◌, ℕ, ◌+◌, ◌-◌, Bool, true, false, not, min, List, [], ◌∷◌, ◌++◌, length, take, decimal, codes, if◌then◌else◌}
+use Rattle.std.specs.Prelude.{◌≡◌, ℕ, ◌+◌, ◌-◌, Bool, true, false, not, min, List, [], ◌∷◌, ◌++◌, length, take, decimal}
+use Rattle.std.specs.Prelude.{codes, if◌then◌else◌}
 use Rattle.raw_region.specs.Format.{current}
 use Rattle.seg_types.specs.Commands.{Reading, Nothing, Asked, UnknownCommand, LineTooLong, BadSyntax}
 use Rattle.seg_types.specs.declared.refusals.LineError.{LineError}
@@ -45,30 +46,31 @@ expected rows wrong.BadSyntax line = usage_of rows (first_word line)
 
 abbrev pub finding_text : List CommandRow → ℕ → LineError → List ℕ → List ℕ
 finding_text rows n e line =
-    decimal n ++ (codes ":" ++ (decimal (column_of e line) ++ (codes ": " ++ (line_error_text e ++ (codes ": expected " ++ (expected rows e line ++ (codes "\n" ++ [])))))))
+    decimal n ++ (codes ":" ++ (decimal (column_of e line)
+    ++ (codes ": " ++ (line_error_text e ++ (codes ": expected " ++ (expected rows e line ++ (codes "\n" ++ [])))))))
 
 -- ---- line by line
 
 -- how many lines there were, whether one of them is no command, and the commands that there are
-pub record Place : Type 0 where
+pub record LintState : Type 0 where
   pub line : ℕ
   pub found : Bool
   pub rows : List CommandRow
 
-abbrev pub start : List CommandRow → Place
+abbrev pub start : List CommandRow → LintState
 start rows = record { line = 0; found = false; rows = rows }
 
-abbrev pub is_at : ℕ → Bool → List CommandRow → Place → Type 0
+abbrev pub is_at : ℕ → Bool → List CommandRow → LintState → Type 0
 is_at line found rows at = (line ≡ at.line) × (found ≡ at.found) × (rows ≡ at.rows)
 
-abbrev pub tells : Place → LineError → List ℕ → List ℕ × Place
+abbrev pub tells : LintState → LineError → List ℕ → List ℕ × LintState
 tells at e line = (finding_text at.rows at.line e (without_return line), record at { found = true })
 
 -- the line is no command
 abbrev pub misses_line : List ℕ → Bool
 misses_line line = is_wrong (reading (whole current) line)
 
-abbrev pub respond : Place → List ℕ → Reading → List ℕ × Place
+abbrev pub respond : LintState → List ℕ → Reading → List ℕ × LintState
 respond at line Nothing = ([], at)
 respond at line (Asked c) = ([], at)
 respond at line UnknownCommand = tells at wrong.UnknownCommand line
@@ -76,5 +78,6 @@ respond at line LineTooLong = tells at wrong.LineTooLong line
 respond at line BadSyntax = tells at wrong.BadSyntax line
 
 -- what is told of a line: nothing where it is a command or means nothing
-abbrev pub lint_line : Place → List ℕ → List ℕ × Place
-lint_line at line = respond (record at { line = min (at.line + 1) 18446744073709551615 }) line (reading (whole current) line)
+abbrev pub lint_line : LintState → List ℕ → List ℕ × LintState
+lint_line at line = respond (record at { line = min (at.line + 1) 18446744073709551615 }) line
+    (reading (whole current) line)

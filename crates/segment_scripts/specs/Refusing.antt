@@ -1,6 +1,6 @@
 -- Which lines are refused, and how a call tells it.
 use Rattle.std.specs.Prelude.{◌≡◌, Bool, true, false, Result, Ok, Err, IfOk}
-use Rattle.raw_region.specs.Device.{Took}
+use Rattle.raw_region.specs.Device.{WriterHistory}
 use Rattle.seg_types.specs.Commands.{Reading, Nothing, Asked, UnknownCommand, LineTooLong, BadSyntax}
 use Rattle.segment_manager.specs.declared.modes.Mode.{Mode}
 use Rattle.segment_manager.specs.Answers.{Answer, Refused as RefusedFor}
@@ -38,6 +38,7 @@ refuses mode d LineTooLong = true
 refuses mode d BadSyntax = true
 
 -- the answer that is due where a machine stands goes out, and the call tells whether it is a refusal
-pub record AnswersFor {P E : Type 0} (old new : Took) (result : Result Answered E) (Stands : P → Type 0) (due : P → Answer) : Type 0 where
+pub record AnswersFor {P E : Type 0} (old new : WriterHistory) (result : Result Answered E) (Stands : P
+    → Type 0) (due : P → Answer) : Type 0 where
   pub writes : WritesFor old new result Stands (λ place. answer_text (due place))
   pub tells : (place : P) → Stands place → Tells result (is_refusal (due place))

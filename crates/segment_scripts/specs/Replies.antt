@@ -1,5 +1,6 @@
 -- What a command is answered by a call, and the step of the directory machine that this is.
-use Rattle.std.specs.Prelude.{◌≡◌, ◌≤◌, ℕ, ◌+◌, true, false, Option, Some, None, List, [], ◌∷◌, length, slice_get, ⊤, IsTrue}
+use Rattle.std.specs.Prelude.{◌≡◌, ◌≤◌, ℕ, ◌+◌, true, false, Option, Some, None, List, [], ◌∷◌, length, slice_get, ⊤}
+use Rattle.std.specs.Prelude.{IsTrue}
 use Rattle.best_fit.specs.Extents.{spans}
 use Rattle.seg_types.specs.declared.kinds.Kind.TheVariants.{Map, Scalar, String, Strings as StringsKind, Vector}
 use Rattle.seg_types.specs.declared.refusals.Refusal.TheVariants.{NotFound, OutOfRange, WrongKind}
@@ -9,14 +10,16 @@ use Rattle.seg_types.specs.Commands.{Command, Content, Literal, ZeroFree, is_cha
 use Rattle.seg_types.specs.Keys.{key_seen}
 use Rattle.seg_types.specs.Values.{kind_of_scalar, value_of_scalar}
 use Rattle.segment_lang.specs.Reading.{agrees}
-use Rattle.segment_manager.specs.Answers.{Answer, Done, Absent, Truth, Number, Made, Found, Element, TextElement, Shown, Told, Names, Kinds, Blocks, Refused}
-use Rattle.segment_manager.specs.Directory.{Value, Texts, Directory, Object, live, named_objects, object_at, unique_objects}
-use Rattle.segment_manager.specs.State.{State, StandsFor, Stays}
+use Rattle.segment_manager.specs.Answers.{Answer, Done, Absent, Truth, Number, Made, Found, Element, TextElement, Shown}
+use Rattle.segment_manager.specs.Answers.{Told, Names, Kinds, Blocks, Refused}
+use Rattle.segment_manager.specs.Directory.{Value, Texts, Directory, Object, live, named_objects, object_at}
+use Rattle.segment_manager.specs.Directory.{unique_objects}
+use Rattle.segment_manager.specs.State.{SegmentState, DenotesCurrent, KeepsModeAndPlace}
 use Rattle.segment_manager.specs.Step.{step}
 use Rattle.segment_manager.specs.Calls.{HasZeroGaps}
 use Rattle.segment_scripts.specs.ZeroGaps.{changes_nothing}
-use Rattle.segment_scripts.specs.declared.replies.Answer.{Answer as Reply}
-use Rattle.segment_scripts.specs.declared.replies.Answer.TheVariants as said
+use Rattle.segment_scripts.specs.declared.replies.CommandAnswer.{CommandAnswer as Reply}
+use Rattle.segment_scripts.specs.declared.replies.CommandAnswer.TheVariants as said
 
 -- what is shown of an object, or that there is none
 abbrev pub shown_of : Option Object → Answer
@@ -70,12 +73,12 @@ texts_taken [] = 0
 texts_taken (bs ∷ bss) = 1 + length bs + texts_taken bss
 
 -- from 1 to 1048576 numbers, or as many elements, bytes or texts as a line has, under a key that is for their kind
-abbrev pub IsContent : Key → Content → Type 0
-IsContent key (asked.Numbers k zs) = (1 ≤ length zs) × (length zs ≤ 1048576) × IsTrue (agrees (Scalar k) key)
-IsContent key (asked.Elements k zs) = (length zs ≤ 2048) × IsTrue (agrees (Vector k) key)
-IsContent key (asked.Bytes bs) = (length bs ≤ 4096) × IsTrue (agrees String key)
-IsContent key (asked.NoPairs k v) = IsTrue (agrees (Map k v) key)
-IsContent key (asked.Strings bss) = (texts_taken bss ≤ 4097) × IsTrue (agrees StringsKind key)
+abbrev pub IsLineContent : Key → Content → Type 0
+IsLineContent key (asked.Numbers k zs) = (1 ≤ length zs) × (length zs ≤ 1048576) × IsTrue (agrees (Scalar k) key)
+IsLineContent key (asked.Elements k zs) = (length zs ≤ 2048) × IsTrue (agrees (Vector k) key)
+IsLineContent key (asked.Bytes bs) = (length bs ≤ 4096) × IsTrue (agrees String key)
+IsLineContent key (asked.NoPairs k v) = IsTrue (agrees (Map k v) key)
+IsLineContent key (asked.Strings bss) = (texts_taken bss ≤ 4097) × IsTrue (agrees StringsKind key)
 
 -- how many bytes of a line values take at the least, with one behind each
 abbrev pub bytes_taken : List Literal → ℕ
@@ -85,9 +88,9 @@ bytes_taken (asked.Truth b ∷ ls) = 2 + bytes_taken ls
 bytes_taken (asked.Quoted bs ∷ ls) = 1 + length bs + bytes_taken ls
 
 abbrev pub IsMeant : Command → Type 0
-IsMeant (asked.Construct key c) = IsContent key c
+IsMeant (asked.Construct key c) = IsLineContent key c
 IsMeant (asked.ConstructIt key k n zs) = (1 ≤ n) × (n ≤ 1048576) × (length zs ≡ n) × IsTrue (agrees (Scalar k) key)
-IsMeant (asked.FindOrConstruct key c) = IsContent key c
+IsMeant (asked.FindOrConstruct key c) = IsLineContent key c
 IsMeant (asked.Set key i l) = bytes_taken (l ∷ []) ≤ 4097
 IsMeant (asked.Push key l) = bytes_taken (l ∷ []) ≤ 4097
 IsMeant (asked.Insert key i l) = bytes_taken (l ∷ []) ≤ 4097
@@ -98,10 +101,12 @@ IsMeant c = ⊤
 -- The call is one step of the directory machine, and the reply stands for its answer in the directory behind it.
 -- Nothing changes where the command only reads, finds that there is nothing to do or is refused before it asks for a
 -- block, and gaps that were made zero are.
-pub record Replies (old new : State) (c : Command) (reply : Reply) : Type 0 where
-  pub stays : Stays old new
-  pub answers : (d : Directory) → StandsFor old.cut.bytes d → answer_seen (step old.mode d c).1 reply ≡ (step old.mode d c).0
-  pub denotes : (d : Directory) → StandsFor old.cut.bytes d → StandsFor new.cut.bytes (step old.mode d c).1
+pub record Replies (old new : SegmentState) (c : Command) (reply : Reply) : Type 0 where
+  pub stays : KeepsModeAndPlace old new
+  pub answers : (d : Directory) → DenotesCurrent old.cut.bytes d
+      → answer_seen (step old.mode d c).1 reply ≡ (step old.mode d c).0
+  pub denotes : (d : Directory) → DenotesCurrent old.cut.bytes d → DenotesCurrent new.cut.bytes (step old.mode d c).1
   pub reads : is_changing c ≡ false → new ≡ old
-  pub kept : (d : Directory) → StandsFor old.cut.bytes d → changes_nothing old.mode d c ≡ true → new ≡ old
-  pub zeros : (d : Directory) → StandsFor old.cut.bytes d → c ≡ ZeroFree → (step old.mode d c).0 ≡ Done → HasZeroGaps new
+  pub kept : (d : Directory) → DenotesCurrent old.cut.bytes d → changes_nothing old.mode d c ≡ true → new ≡ old
+  pub zeros : (d : Directory) → DenotesCurrent old.cut.bytes d → c ≡ ZeroFree → (step old.mode d c).0 ≡ Done
+      → HasZeroGaps new

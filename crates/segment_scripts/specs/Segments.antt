@@ -1,13 +1,13 @@
 -- A segment as what answers the lines of a script.
 use Rattle.std.specs.Prelude.{◌≡◌, ℕ, Bool, true, List, Result}
 use Rattle.seg_types.specs.Commands.{Reading}
-use Rattle.raw_region.specs.Device.{Took}
+use Rattle.raw_region.specs.Device.{WriterHistory}
 use Rattle.raw_region.specs.Format.{current}
 use Rattle.segment_lang.specs.Language.{whole}
 use Rattle.segment_lang.specs.Reading.{reading}
 use Rattle.segment_manager.specs.declared.modes.Mode.{Mode}
 use Rattle.segment_manager.specs.Directory.{Directory}
-use Rattle.segment_manager.specs.State.{State, StandsFor}
+use Rattle.segment_manager.specs.State.{SegmentState, DenotesCurrent}
 use Rattle.segment_manager.specs.Calls.{HasZeroGaps}
 use Rattle.segment_scripts.specs.Answer.{line}
 use Rattle.segment_scripts.specs.declared.answered.Answered.{Answered}
@@ -17,19 +17,19 @@ use Rattle.segment_scripts.specs.Writing.{WritesFor}
 use Rattle.segment_scripts.specs.ZeroGaps.{zeros_after}
 
 -- what is known of a segment between two lines
-pub record Place : Type 0 where
+pub record MachineState : Type 0 where
   pub mode : Mode
   pub directory : Directory
   -- its gaps are zero; where this is false they may be anything
   pub zeros : Bool
 
-pub record IsAt (s : State) (at : Place) : Type 0 where
+pub record IsMachineAt (s : SegmentState) (at : MachineState) : Type 0 where
   pub mode : s.mode ≡ at.mode
-  pub denotes : StandsFor s.cut.bytes at.directory
+  pub denotes : DenotesCurrent s.cut.bytes at.directory
   pub zeros : at.zeros ≡ true → HasZeroGaps s
 
 -- where a reading leads: the mode stays
-abbrev pub place_after : Place → Reading → Place
+abbrev pub place_after : MachineState → Reading → MachineState
 place_after at asked = record {
   mode = at.mode;
   directory = (respond at.mode at.directory asked).1;
@@ -37,16 +37,18 @@ place_after at asked = record {
 }
 
 -- what a line prints from a place, and where it leads
-abbrev pub answer_line : Place → List ℕ → List ℕ × Place
-answer_line at line = let asked = reading (whole current) line in ((respond at.mode at.directory asked).0, place_after at asked)
+abbrev pub answer_line : MachineState → List ℕ → List ℕ × MachineState
+answer_line at line = let asked = reading (whole current) line
+    in ((respond at.mode at.directory asked).0, place_after at asked)
 
 -- whether a line is refused at a place
-abbrev pub refuses_line : Place → List ℕ → Bool
+abbrev pub refuses_line : MachineState → List ℕ → Bool
 refuses_line at line = refuses at.mode at.directory (reading (whole current) line)
 
 -- wherever it stands, what it is asked leads where it is to lead, what is owed there is written, and it is told whether
 -- it is refused
-pub record Responds {E : Type 0} (old new : State) (took took' : Took) (result : Result Answered E) (asked : Reading) : Type 0 where
-  pub leads : (at : Place) → IsAt old at → IsAt new (place_after at asked)
-  pub writes : WritesFor took took' result (IsAt old) (λ at. (respond at.mode at.directory asked).0)
-  pub tells : (at : Place) → IsAt old at → Tells result (refuses at.mode at.directory asked)
+pub record Responds {E : Type 0} (old new : SegmentState) (took took' : WriterHistory) (result : Result Answered E)
+    (asked : Reading) : Type 0 where
+  pub leads : (at : MachineState) → IsMachineAt old at → IsMachineAt new (place_after at asked)
+  pub writes : WritesFor took took' result (IsMachineAt old) (λ at. (respond at.mode at.directory asked).0)
+  pub tells : (at : MachineState) → IsMachineAt old at → Tells result (refuses at.mode at.directory asked)

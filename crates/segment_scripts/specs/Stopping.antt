@@ -1,7 +1,7 @@
 -- What a run owes that ends with the first line that is refused, over anything that answers lines: `stops place line`
 -- says whether the run ends behind a line.
 use Rattle.std.specs.Prelude.{◌≡◌, ◌&&◌, ℕ, Bool, true, false, not, List, [], ◌∷◌, ◌++◌, take, Result, Ok, Err}
-use Rattle.raw_region.specs.Device.{Given, Taken}
+use Rattle.raw_region.specs.Device.{ReadDelta, WriteDelta}
 use Rattle.segment_scripts.specs.declared.answered.Answered.{Answered}
 use Rattle.segment_scripts.specs.declared.ends.End.{End}
 use Rattle.segment_scripts.specs.declared.ends.End.TheVariants.{Whole, Refused}
@@ -9,7 +9,7 @@ use Rattle.segment_scripts.specs.declared.ends.Until.{Until}
 use Rattle.segment_scripts.specs.declared.ends.Until.TheVariants.{End as ToTheEnd, Refusal}
 use Rattle.segment_scripts.specs.declared.faults.RunFault.{RunFault}
 use Rattle.segment_scripts.specs.declared.faults.RunFault.TheVariants.{ReadFault, WriteFault, ScriptTooLong}
-use Rattle.segment_scripts.specs.Leaves.{Answers, LeavesFault, RunsWhole, answer_all}
+use Rattle.segment_scripts.specs.RunOutcome.{AnswersLines, LeavesFault, RunsWhole, answer_all}
 use Rattle.segment_scripts.specs.Lines.{ended_lines, executable, script_limit}
 use Rattle.segment_scripts.specs.Refusing.{was_refused}
 use Rattle.segment_scripts.specs.Run.{lines}
@@ -31,7 +31,8 @@ abbrev pub goes_on : {P : Type 0} → (P → List ℕ → List ℕ × P) → (P 
 goes_on respond stops place [] = true
 goes_on respond stops place (l ∷ ls) = not (stops place l) && goes_on respond stops (respond place l).1 ls
 
-module _ {P : Type 0} (respond : P → List ℕ → List ℕ × P) (stops : P → List ℕ → Bool) (start : P) (script : Given) (out : Taken) (Stands : P → Type 0) where
+module _ {P : Type 0} (respond : P → List ℕ → List ℕ × P) (stops : P → List ℕ
+    → Bool) (start : P) (script : ReadDelta) (out : WriteDelta) (Stands : P → Type 0) where
   -- all lines of the script were answered, and behind none of them the run was to end
   pub record RunsToTheEnd : Type 0 where
     pub ran : RunsWhole respond start script out Stands
@@ -45,7 +46,7 @@ module _ {P : Type 0} (respond : P → List ℕ → List ℕ × P) (stops : P �
     pub parts : executable script ≡ before ++ last ∷ rest
     pub on : goes_on respond stops start before ≡ true
     pub stop : stops (answer_all respond start before).1 last ≡ true
-    pub answers : Answers respond start (before ++ last ∷ []) out.bytes Stands
+    pub answers : AnswersLines respond start (before ++ last ∷ []) out.bytes Stands
     pub read : script.failed ≡ false
     pub written : out.failed ≡ false
 

@@ -3,7 +3,8 @@ use Rattle.std.specs.Prelude.{ℕ, Bool, true, false, not, ◌||◌, List, [], �
 use Rattle.std.specs.Prelude.{Ok, Err}
 use Rattle.seg_types.specs.Commands as asked
 use Rattle.seg_types.specs.declared.refusals.Refusal.{Refusal}
-use Rattle.seg_types.specs.Commands.{Command, ZeroFree, Reading, Nothing, Asked, UnknownCommand, LineTooLong, BadSyntax, is_changing}
+use Rattle.seg_types.specs.Commands.{Command, ZeroFree, Reading, Nothing, Asked, UnknownCommand, LineTooLong, BadSyntax}
+use Rattle.seg_types.specs.Commands.{is_changing}
 use Rattle.segment_lang.specs.Language.{Language}
 use Rattle.segment_lang.specs.Reading.{reading}
 use Rattle.segment_manager.specs.declared.modes.Mode.{Mode}
@@ -37,7 +38,8 @@ changes_nothing mode d c = is_untouched (step mode d c).0 || finds_nothing d c
 
 -- A command that changes nothing keeps what was known. Of the others one leaves zeros.
 abbrev pub zeros_after : Mode → Directory → Reading → Bool → Bool
-zeros_after mode d (Asked c) known = if changes_nothing mode d c then known else if is_changing c then is_zero_free c else known
+zeros_after mode d (Asked c) known =
+    if changes_nothing mode d c then known else if is_changing c then is_zero_free c else known
 zeros_after mode d Nothing known = known
 zeros_after mode d UnknownCommand known = known
 zeros_after mode d LineTooLong known = known

@@ -6,15 +6,15 @@ ghost use Rattle.seg_types.specs.Commands.{Append, Assign, Quoted as AskedQuoted
 ghost use Rattle.seg_types.specs.Keys.{key_seen};
 ghost use Rattle.seg_types.specs.Names.{ByHandle};
 ghost use Rattle.segment_manager.specs.objects.Located.{IsObject};
-ghost use Rattle.segment_manager.specs.State.{IsStep, IsStepOfKind, KeepsRefused, done_answer};
+ghost use Rattle.segment_manager.specs.State.{TakesStep, TakesStepOfKind, UnchangedIfRefused, done_answer};
 ghost use Rattle.segment_scripts.specs.Changes.{IsChangeable};
 ghost use Rattle.segment_scripts.specs.Replies.{bytes_taken};
 
-use crate::machine::Room;
-use crate::rows::{Row, Rows, literal_row, on_row, only_text};
+use crate::machine::ParseBuffers;
+use crate::rows::{Rows, ValueBuffer, literal_row, on_row, only_text};
 use crate::text_rows::{FEW, TextRow, literal_texts};
 use seg_types::{Key, Kind, Refusal, Scalar, ScalarKind};
-use segment_lang::{Literals, Quoted, Text};
+use segment_lang::{LineBuffer, Literals, Quoted};
 use segment_manager::{Object, Segment};
 use segment_values::object_to_change;
 
@@ -30,11 +30,11 @@ pub fn assign(
     segment: &mut Segment,
     key: &Key,
     values: Literals<'_>,
-    room: &mut Room,
+    room: &mut ParseBuffers,
 ) -> Result<(), Refusal>
     requires { bytes_taken values ≤ 4097 }
-    ensures step { IsStep segment.old segment.new (Assign (key_seen key.now) values.entry) (done_answer result) }
-    ensures refused { KeepsRefused segment.old segment.new result }
+    ensures step { TakesStep segment.old segment.new (Assign (key_seen key.now) values.entry) (done_answer result) }
+    ensures refused { UnchangedIfRefused segment.old segment.new result }
 {
     let object = object_to_change(segment, key)?;
     match object.kind {
@@ -54,9 +54,10 @@ fn assign_vector(
     rows: &mut Rows,
 ) -> Result<(), Refusal>
     requires object { IsObject object segment.old }
-    requires of_kind { IsChangeable segment.old (ByHandle object.handle) (VectorOf kind) }
-    requires few { bytes_taken values ≤ 4097 }
-    ensures step { IsStep segment.old segment.new (Assign (ByHandle object.handle) values.entry) (done_answer result) }
+    requires kind_fit { IsChangeable segment.old (ByHandle object.handle) (VectorOf kind) }
+    requires max_count { bytes_taken values ≤ 4097 }
+    ensures step { TakesStep segment.old segment.new (Assign (ByHandle object.handle) values.entry)
+        (done_answer result) }
     ensures refused { OnErr result (segment.new ≡ segment.old) }
 {
     on_row!(kind, rows, assign_row(segment, object, values))
@@ -67,12 +68,13 @@ fn assign_row<T: Scalar>(
     segment: &mut Segment,
     object: Object,
     values: Literals<'_>,
-    row: &mut Row<T>,
+    row: &mut ValueBuffer<T>,
 ) -> Result<(), Refusal>
     requires object { IsObject object segment.old }
-    requires of_kind { IsChangeable segment.old (ByHandle object.handle) (VectorOf T.kind) }
-    requires few { bytes_taken values ≤ 4097 }
-    ensures step { IsStep segment.old segment.new (Assign (ByHandle object.handle) values.entry) (done_answer result) }
+    requires kind_fit { IsChangeable segment.old (ByHandle object.handle) (VectorOf T.kind) }
+    requires max_count { bytes_taken values ≤ 4097 }
+    ensures step { TakesStep segment.old segment.new (Assign (ByHandle object.handle) values.entry)
+        (done_answer result) }
     ensures refused { OnErr result (segment.new ≡ segment.old) }
 {
     literal_row(values, row)?;
@@ -84,12 +86,13 @@ fn assign_string(
     segment: &mut Segment,
     object: Object,
     values: Literals<'_>,
-    scratch: &mut Text,
+    scratch: &mut LineBuffer,
 ) -> Result<(), Refusal>
     requires object { IsObject object segment.old }
-    requires of_kind { IsChangeable segment.old (ByHandle object.handle) StringKind }
-    requires few { bytes_taken values ≤ 4097 }
-    ensures step { IsStep segment.old segment.new (Assign (ByHandle object.handle) values.entry) (done_answer result) }
+    requires kind_fit { IsChangeable segment.old (ByHandle object.handle) StringKind }
+    requires max_count { bytes_taken values ≤ 4097 }
+    ensures step { TakesStep segment.old segment.new (Assign (ByHandle object.handle) values.entry)
+        (done_answer result) }
     ensures refused { OnErr result (segment.new ≡ segment.old) }
 {
     let text = only_text(values, scratch)?;
@@ -105,10 +108,11 @@ fn assign_texts(
     row: &mut TextRow,
 ) -> Result<(), Refusal>
     requires object { IsObject object segment.old }
-    requires of_kind { IsChangeable segment.old (ByHandle object.handle) StringsKind }
-    requires few { bytes_taken values ≤ 4097 }
-    ensures step { IsStep segment.old segment.new (Assign (ByHandle object.handle) values.entry) (done_answer result) }
-    ensures refused { KeepsRefused segment.old segment.new result }
+    requires kind_fit { IsChangeable segment.old (ByHandle object.handle) StringsKind }
+    requires max_count { bytes_taken values ≤ 4097 }
+    ensures step { TakesStep segment.old segment.new (Assign (ByHandle object.handle) values.entry)
+        (done_answer result) }
+    ensures refused { UnchangedIfRefused segment.old segment.new result }
 {
     literal_texts(values, row)?;
     assign_read(segment, object, row)
@@ -117,8 +121,9 @@ fn assign_texts(
 /// Makes the texts of a row those of the vector of strings.
 fn assign_read(segment: &mut Segment, object: Object, row: &TextRow) -> Result<(), Refusal>
     requires { IsObject object segment.old }
-    ensures step { IsStepOfKind segment.old segment.new (ByHandle object.handle) StringsKind (Assign (ByHandle object.handle) (map AskedQuoted row.now)) (done_answer result) }
-    ensures refused { KeepsRefused segment.old segment.new result }
+    ensures step { TakesStepOfKind segment.old segment.new (ByHandle object.handle) StringsKind
+        (Assign (ByHandle object.handle) (map AskedQuoted row.now)) (done_answer result) }
+    ensures refused { UnchangedIfRefused segment.old segment.new result }
 {
     if FEW < row.len() {
         return assign_many(segment, object, row);
@@ -130,8 +135,9 @@ fn assign_read(segment: &mut Segment, object: Object, row: &TextRow) -> Result<(
 #[inline(never)]
 fn assign_many(segment: &mut Segment, object: Object, row: &TextRow) -> Result<(), Refusal>
     requires { IsObject object segment.old }
-    ensures step { IsStepOfKind segment.old segment.new (ByHandle object.handle) StringsKind (Assign (ByHandle object.handle) (map AskedQuoted row.now)) (done_answer result) }
-    ensures refused { KeepsRefused segment.old segment.new result }
+    ensures step { TakesStepOfKind segment.old segment.new (ByHandle object.handle) StringsKind
+        (Assign (ByHandle object.handle) (map AskedQuoted row.now)) (done_answer result) }
+    ensures refused { UnchangedIfRefused segment.old segment.new result }
 {
     segment.texts_assign(&object, row.all().as_slice())
 }
@@ -146,10 +152,10 @@ pub fn append(
     segment: &mut Segment,
     key: &Key,
     text: Quoted<'_>,
-    scratch: &mut Text,
+    scratch: &mut LineBuffer,
 ) -> Result<(), Refusal>
     requires { length text ≤ 4096 }
-    ensures step { IsStep segment.old segment.new (Append (key_seen key.now) text.entry) (done_answer result) }
+    ensures step { TakesStep segment.old segment.new (Append (key_seen key.now) text.entry) (done_answer result) }
     ensures refused { OnErr result (segment.new ≡ segment.old) }
 {
     segment.string_append(key, text.bytes(scratch))

@@ -7,15 +7,15 @@ ghost use Rattle.seg_types.specs.Keys.{index_key_seen, new_key_seen};
 ghost use Rattle.seg_types.specs.Kinds.{is_value};
 ghost use Rattle.segment_lang.specs.Seen.{content_of};
 ghost use Rattle.segment_manager.specs.objects.Found.{pair_answer};
-ghost use Rattle.segment_manager.specs.Keeping.{HasKey, KeepsWhere};
-ghost use Rattle.segment_manager.specs.State.{IsStep, KeepsRefused, handle_answer};
-ghost use Rattle.segment_scripts.specs.Replies.{IsContent, IsMeant};
+ghost use Rattle.segment_manager.specs.Keeping.{IsBoundKey, UnchangedWhere};
+ghost use Rattle.segment_manager.specs.State.{TakesStep, UnchangedIfRefused, handle_answer};
+ghost use Rattle.segment_scripts.specs.Replies.{IsLineContent, IsMeant};
 
-use crate::machine::Room;
-use crate::rows::{Row, Rows, on_row, value_row};
+use crate::machine::ParseBuffers;
+use crate::rows::{Rows, ValueBuffer, on_row, value_row};
 use crate::text_rows::{FEW, TextRow, text_row};
 use seg_types::{Handle, IndexKey, NewKey, Refusal, Scalar, ScalarKind};
-use segment_lang::{Content, Texts, Values};
+use segment_lang::{Content, LiteralValues, TextLiterals};
 use segment_manager::Segment;
 
 /// Makes an object, and answers its handle.
@@ -29,11 +29,12 @@ pub fn construct(
     segment: &mut Segment,
     key: &NewKey,
     content: Content<'_>,
-    room: &mut Room,
+    room: &mut ParseBuffers,
 ) -> Result<Handle, Refusal>
-    requires { IsContent (new_key_seen key.now) (content_of content) }
-    ensures step { IsStep segment.old segment.new (Construct (new_key_seen key.now) (content_of content.entry)) (handle_answer result) }
-    ensures refused { KeepsRefused segment.old segment.new result }
+    requires { IsLineContent (new_key_seen key.now) (content_of content) }
+    ensures step { TakesStep segment.old segment.new (Construct (new_key_seen key.now) (content_of content.entry))
+        (handle_answer result) }
+    ensures refused { UnchangedIfRefused segment.old segment.new result }
 {
     match content {
         Content::Scalars { value, count } => segment.construct_value(key, count, value),
@@ -51,12 +52,13 @@ pub fn construct(
 fn construct_vector(
     segment: &mut Segment,
     key: &NewKey,
-    values: Values<'_>,
+    values: LiteralValues<'_>,
     rows: &mut Rows,
 ) -> Result<Handle, Refusal>
-    requires { IsContent (new_key_seen key.now) (Elements values.kind values.numbers) }
-    ensures step { IsStep segment.old segment.new (Construct (new_key_seen key.now) (Elements values.entry.kind values.entry.numbers)) (handle_answer result) }
-    ensures refused { KeepsRefused segment.old segment.new result }
+    requires { IsLineContent (new_key_seen key.now) (Elements values.kind values.numbers) }
+    ensures step { TakesStep segment.old segment.new
+        (Construct (new_key_seen key.now) (Elements values.entry.kind values.entry.numbers)) (handle_answer result) }
+    ensures refused { UnchangedIfRefused segment.old segment.new result }
 {
     on_row!(values.kind(), rows, construct_row(segment, key, values))
 }
@@ -65,15 +67,16 @@ fn construct_vector(
 fn construct_row<T: Scalar>(
     segment: &mut Segment,
     key: &NewKey,
-    values: Values<'_>,
-    row: &mut Row<T>,
+    values: LiteralValues<'_>,
+    row: &mut ValueBuffer<T>,
 ) -> Result<Handle, Refusal>
     requires kind { values.kind ≡ T.kind }
-    requires content { IsContent (new_key_seen key.now) (Elements values.kind values.numbers) }
+    requires content { IsLineContent (new_key_seen key.now) (Elements values.kind values.numbers) }
     requires range { AllByRecursion (λ z. IsTrue (is_value T.kind z)) values.numbers }
-    requires few { length values.numbers ≤ 2048 }
-    ensures step { IsStep segment.old segment.new (Construct (new_key_seen key.now) (Elements values.entry.kind values.entry.numbers)) (handle_answer result) }
-    ensures refused { KeepsRefused segment.old segment.new result }
+    requires max_count { length values.numbers ≤ 2048 }
+    ensures step { TakesStep segment.old segment.new
+        (Construct (new_key_seen key.now) (Elements values.entry.kind values.entry.numbers)) (handle_answer result) }
+    ensures refused { UnchangedIfRefused segment.old segment.new result }
 {
     value_row(values, row);
     segment.construct_vec(key, row.as_slice())
@@ -84,12 +87,13 @@ fn construct_row<T: Scalar>(
 fn construct_texts(
     segment: &mut Segment,
     key: &NewKey,
-    texts: Texts<'_>,
+    texts: TextLiterals<'_>,
     row: &mut TextRow,
 ) -> Result<Handle, Refusal>
-    requires { IsContent (new_key_seen key.now) (Strings texts) }
-    ensures step { IsStep segment.old segment.new (Construct (new_key_seen key.now) (Strings texts.entry)) (handle_answer result) }
-    ensures refused { KeepsRefused segment.old segment.new result }
+    requires { IsLineContent (new_key_seen key.now) (Strings texts) }
+    ensures step { TakesStep segment.old segment.new (Construct (new_key_seen key.now) (Strings texts.entry))
+        (handle_answer result) }
+    ensures refused { UnchangedIfRefused segment.old segment.new result }
 {
     text_row(texts, row);
     if FEW < row.len() {
@@ -101,9 +105,10 @@ fn construct_texts(
 /// Makes a vector of strings of the texts of a row, however many, and answers its handle.
 #[inline(never)]
 fn construct_many(segment: &mut Segment, key: &NewKey, row: &TextRow) -> Result<Handle, Refusal>
-    requires { IsContent (new_key_seen key.now) (Strings row.now) }
-    ensures step { IsStep segment.old segment.new (Construct (new_key_seen key.now) (Strings row.now)) (handle_answer result) }
-    ensures refused { KeepsRefused segment.old segment.new result }
+    requires { IsLineContent (new_key_seen key.now) (Strings row.now) }
+    ensures step { TakesStep segment.old segment.new (Construct (new_key_seen key.now) (Strings row.now))
+        (handle_answer result) }
+    ensures refused { UnchangedIfRefused segment.old segment.new result }
 {
     segment.construct_texts(key, row.all().as_slice())
 }
@@ -118,11 +123,12 @@ pub fn construct_it(
     segment: &mut Segment,
     key: &NewKey,
     count: u32,
-    mut values: Values<'_>,
+    mut values: LiteralValues<'_>,
 ) -> Result<Handle, Refusal>
     requires { IsMeant (ConstructIt (new_key_seen key.now) values.kind count values.numbers) }
-    ensures step { IsStep segment.old segment.new (ConstructIt (new_key_seen key.now) values.entry.kind count values.entry.numbers) (handle_answer result) }
-    ensures refused { KeepsRefused segment.old segment.new result }
+    ensures step { TakesStep segment.old segment.new
+        (ConstructIt (new_key_seen key.now) values.entry.kind count values.entry.numbers) (handle_answer result) }
+    ensures refused { UnchangedIfRefused segment.old segment.new result }
 {
     let kind = values.kind();
     segment.construct_values(key, kind, count, &mut values)
@@ -139,12 +145,13 @@ pub fn find_or_construct(
     segment: &mut Segment,
     key: &IndexKey,
     content: Content<'_>,
-    room: &mut Room,
+    room: &mut ParseBuffers,
 ) -> Result<(Handle, u32), Refusal>
-    requires { IsContent (index_key_seen key.now) (content_of content) }
-    ensures step { IsStep segment.old segment.new (FindOrConstruct (index_key_seen key.now) (content_of content.entry)) (pair_answer result) }
-    ensures refused { KeepsRefused segment.old segment.new result }
-    ensures found { KeepsWhere segment.old segment.new (HasKey (index_key_seen key.now)) }
+    requires { IsLineContent (index_key_seen key.now) (content_of content) }
+    ensures step { TakesStep segment.old segment.new
+        (FindOrConstruct (index_key_seen key.now) (content_of content.entry)) (pair_answer result) }
+    ensures refused { UnchangedIfRefused segment.old segment.new result }
+    ensures search { UnchangedWhere segment.old segment.new (IsBoundKey (index_key_seen key.now)) }
 {
     match content {
         Content::Scalars { value, count } => segment.find_or_construct_value(key, count, value),
@@ -166,13 +173,15 @@ pub fn find_or_construct(
 fn find_or_construct_vector(
     segment: &mut Segment,
     key: &IndexKey,
-    values: Values<'_>,
+    values: LiteralValues<'_>,
     rows: &mut Rows,
 ) -> Result<(Handle, u32), Refusal>
-    requires { IsContent (index_key_seen key.now) (Elements values.kind values.numbers) }
-    ensures step { IsStep segment.old segment.new (FindOrConstruct (index_key_seen key.now) (Elements values.entry.kind values.entry.numbers)) (pair_answer result) }
-    ensures refused { KeepsRefused segment.old segment.new result }
-    ensures found { KeepsWhere segment.old segment.new (HasKey (index_key_seen key.now)) }
+    requires { IsLineContent (index_key_seen key.now) (Elements values.kind values.numbers) }
+    ensures step { TakesStep segment.old segment.new
+        (FindOrConstruct (index_key_seen key.now) (Elements values.entry.kind values.entry.numbers))
+        (pair_answer result) }
+    ensures refused { UnchangedIfRefused segment.old segment.new result }
+    ensures search { UnchangedWhere segment.old segment.new (IsBoundKey (index_key_seen key.now)) }
 {
     on_row!(
         values.kind(),
@@ -185,16 +194,18 @@ fn find_or_construct_vector(
 fn find_or_construct_row<T: Scalar>(
     segment: &mut Segment,
     key: &IndexKey,
-    values: Values<'_>,
-    row: &mut Row<T>,
+    values: LiteralValues<'_>,
+    row: &mut ValueBuffer<T>,
 ) -> Result<(Handle, u32), Refusal>
     requires kind { values.kind ≡ T.kind }
-    requires content { IsContent (index_key_seen key.now) (Elements values.kind values.numbers) }
+    requires content { IsLineContent (index_key_seen key.now) (Elements values.kind values.numbers) }
     requires range { AllByRecursion (λ z. IsTrue (is_value T.kind z)) values.numbers }
-    requires few { length values.numbers ≤ 2048 }
-    ensures step { IsStep segment.old segment.new (FindOrConstruct (index_key_seen key.now) (Elements values.entry.kind values.entry.numbers)) (pair_answer result) }
-    ensures refused { KeepsRefused segment.old segment.new result }
-    ensures found { KeepsWhere segment.old segment.new (HasKey (index_key_seen key.now)) }
+    requires max_count { length values.numbers ≤ 2048 }
+    ensures step { TakesStep segment.old segment.new
+        (FindOrConstruct (index_key_seen key.now) (Elements values.entry.kind values.entry.numbers))
+        (pair_answer result) }
+    ensures refused { UnchangedIfRefused segment.old segment.new result }
+    ensures search { UnchangedWhere segment.old segment.new (IsBoundKey (index_key_seen key.now)) }
 {
     value_row(values, row);
     segment.find_or_construct_vec(key, row.as_slice())
@@ -205,13 +216,14 @@ fn find_or_construct_row<T: Scalar>(
 fn find_or_construct_texts(
     segment: &mut Segment,
     key: &IndexKey,
-    texts: Texts<'_>,
+    texts: TextLiterals<'_>,
     row: &mut TextRow,
 ) -> Result<(Handle, u32), Refusal>
-    requires { IsContent (index_key_seen key.now) (Strings texts) }
-    ensures step { IsStep segment.old segment.new (FindOrConstruct (index_key_seen key.now) (Strings texts.entry)) (pair_answer result) }
-    ensures refused { KeepsRefused segment.old segment.new result }
-    ensures found { KeepsWhere segment.old segment.new (HasKey (index_key_seen key.now)) }
+    requires { IsLineContent (index_key_seen key.now) (Strings texts) }
+    ensures step { TakesStep segment.old segment.new
+        (FindOrConstruct (index_key_seen key.now) (Strings texts.entry)) (pair_answer result) }
+    ensures refused { UnchangedIfRefused segment.old segment.new result }
+    ensures search { UnchangedWhere segment.old segment.new (IsBoundKey (index_key_seen key.now)) }
 {
     text_row(texts, row);
     if FEW < row.len() {
@@ -227,10 +239,11 @@ fn find_or_construct_many(
     key: &IndexKey,
     row: &TextRow,
 ) -> Result<(Handle, u32), Refusal>
-    requires { IsContent (index_key_seen key.now) (Strings row.now) }
-    ensures step { IsStep segment.old segment.new (FindOrConstruct (index_key_seen key.now) (Strings row.now)) (pair_answer result) }
-    ensures refused { KeepsRefused segment.old segment.new result }
-    ensures found { KeepsWhere segment.old segment.new (HasKey (index_key_seen key.now)) }
+    requires { IsLineContent (index_key_seen key.now) (Strings row.now) }
+    ensures step { TakesStep segment.old segment.new (FindOrConstruct (index_key_seen key.now) (Strings row.now))
+        (pair_answer result) }
+    ensures refused { UnchangedIfRefused segment.old segment.new result }
+    ensures search { UnchangedWhere segment.old segment.new (IsBoundKey (index_key_seen key.now)) }
 {
     segment.find_or_construct_texts(key, row.all().as_slice())
 }

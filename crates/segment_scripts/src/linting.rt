@@ -3,13 +3,14 @@ ghost use Rattle.std.specs.Prelude.{◌≡◌, ◌≤◌, ◌-◌, ◌^◌, ◌<
 ghost use Rattle.raw_region.specs.Device.{Writes};
 ghost use Rattle.segment_scripts.specs.CommandRows.{usage_of};
 ghost use Rattle.segment_scripts.specs.LintLaws.{lint_line-long, misses_line-long};
-ghost use Rattle.segment_scripts.specs.Linting.{Place, behind, column_of, expected, finding_text, first_word, is_at, lint_line, misses_line, same, start};
+ghost use Rattle.segment_scripts.specs.Linting.{LintState, behind, column_of, expected, finding_text, first_word};
+ghost use Rattle.segment_scripts.specs.Linting.{is_at, lint_line, misses_line, same, start};
 
 use crate::answered::Answered;
 use crate::language::CommandRow;
 use crate::machine::{Machine, Scratch};
 use raw_region::{DeviceFault, Sink};
-use segment_lang::{LONGEST_LINE, LineError, Piece, line_error, put_pieces, without_return};
+use segment_lang::{LineError, MAX_LINE_LEN, Piece, line_error, put_pieces, without_return};
 
 /// Reads the lines of a script, and tells which are no commands: their number, the column, the error, and what is
 /// expected.
@@ -41,7 +42,7 @@ impl<'a> Lint<'a> {
 }
 
 impl<'a> Machine for Lint<'a> {
-    ghost Place = { Place };
+    ghost Place = { LintState };
 
     ghost respond = { λ at line. lint_line at line };
 
@@ -102,7 +103,7 @@ fn column_of(error: LineError, line: &[u8]) -> u64
     ensures { result ≡ column_of error line.now }
 {
     let rest = match error {
-        LineError::LineTooLong => return LONGEST_LINE as u64 + 1,
+        LineError::LineTooLong => return MAX_LINE_LEN as u64 + 1,
         LineError::UnknownCommand => behind(true, line),
         LineError::BadSyntax => behind(true, behind(false, behind(true, line))),
     };
@@ -131,7 +132,7 @@ fn first_word(line: &[u8]) -> &[u8]
 /// What is left behind the blanks in front, or behind the word in front.
 fn behind(blanks: bool, bytes: &[u8]) -> &[u8]
     ensures value { result.now ≡ behind blanks bytes.now }
-    ensures shorter { length result.now ≤ length bytes.now }
+    ensures shrinking { length result.now ≤ length bytes.now }
 {
     let mut rest = bytes;
     'bytes: while let [first, tail @ ..] = rest {

@@ -5,7 +5,7 @@ ghost use Rattle.best_fit.specs.Extents.{spans};
 ghost use Rattle.best_fit.specs.FreeTree.{span};
 ghost use Rattle.segment_manager.specs.Answers.{Blocks};
 ghost use Rattle.segment_manager.specs.Directory.{live};
-ghost use Rattle.segment_manager.specs.State.{StandsFor};
+ghost use Rattle.segment_manager.specs.State.{DenotesCurrent};
 ghost use Rattle.segment_scripts.specs.Answer.{answer_text, block_words, line, role_word};
 ghost use Rattle.segment_scripts.specs.Writing.{WritesFor};
 
@@ -13,13 +13,13 @@ use block_tags::{Role, Tile};
 use raw_region::{DeviceFault, Sink};
 use segment_lang::{Piece, put_pieces};
 use segment_manager::Segment;
-use segment_manager::conditioned::next_tile;
+use segment_manager::unchecked::next_tile;
 
 /// Writes a line for each block and gap by offset, and then `end`.
 #[inline(never)]
 pub fn put_blocks<W: Sink>(segment: &Segment, out: &mut W) -> Result<(), DeviceFault>
     requires { (W.history out.old).failures < 2 ^ 64 - 1 }
-    ensures { WritesFor (W.history out.old) (W.history out.new) result (StandsFor segment.now.cut.bytes)
+    ensures { WritesFor (W.history out.old) (W.history out.new) result (DenotesCurrent segment.now.cut.bytes)
         (λ d. answer_text (Blocks (spans (live d)))) }
 {
     let mut ahead = segment.first_tile();

@@ -7,29 +7,29 @@ use crate::answered::Answered;
 use crate::rows::Rows;
 use crate::text_rows::TextRow;
 use raw_region::{DeviceFault, Sink};
-use segment_lang::Text;
+use segment_lang::LineBuffer;
 
 /// Room for a name that a line escapes, and for what it gives an object. It is made once for all lines, and what it
 /// held means nothing.
 #[derive(Drop)]
 pub struct Scratch {
-    pub(crate) name: Text,
-    pub(crate) room: Room,
+    pub(crate) name: LineBuffer,
+    pub(crate) room: ParseBuffers,
 }
 
 /// Room for a text that a line escapes, for the values of a vector, and for the texts of a vector of strings.
 #[derive(Drop)]
-pub struct Room {
-    pub text: Text,
+pub struct ParseBuffers {
+    pub text: LineBuffer,
     pub rows: Rows,
     pub texts: TextRow,
 }
 
-impl Room {
+impl ParseBuffers {
     /// Room that holds nothing.
-    pub fn new() -> Room {
-        Room {
-            text: Text::new(),
+    pub fn new() -> ParseBuffers {
+        ParseBuffers {
+            text: LineBuffer::new(),
             rows: Rows::new(),
             texts: TextRow::new(),
         }
@@ -59,11 +59,11 @@ pub trait Machine {
         out: &mut W,
     ) -> Result<Answered, DeviceFault>
         requires { (W.history out.old).failures < 2 ^ 64 - 1 }
-        ensures leads { (place : Place) → stands self.old place
+        ensures link_target { (place : Place) → stands self.old place
             → stands self.new (respond place line.now).1 }
-        ensures writes { WritesFor (W.history out.old) (W.history out.new) result (stands self.old)
+        ensures output { WritesFor (W.history out.old) (W.history out.new) result (stands self.old)
             (λ place. (respond place line.now).0) }
-        ensures tells { (place : Place) → stands self.old place → Tells result (refuses place line.now) };
+        ensures report { (place : Place) → stands self.old place → Tells result (refuses place line.now) };
 
     // Of a line of more than 4097 bytes the first 4098 decide.
     ghost long_lines: { (place : Place) (line : List ℕ) → 4097 < length line

@@ -5,7 +5,7 @@ ghost use Rattle.seg_types.specs.Commands.{Pop};
 ghost use Rattle.seg_types.specs.Keys.{key_seen};
 ghost use Rattle.seg_types.specs.Names.{ByHandle};
 ghost use Rattle.segment_manager.specs.objects.Located.{IsObject};
-ghost use Rattle.segment_manager.specs.State.{IsStepOfKind, StandsFor, scalar_answer};
+ghost use Rattle.segment_manager.specs.State.{TakesStepOfKind, DenotesCurrent, scalar_answer};
 ghost use Rattle.segment_manager.specs.Step.{step};
 ghost use Rattle.segment_scripts.specs.Changes.{Executes, IsChangeable};
 ghost use Rattle.segment_scripts.specs.Refusing.{AnswersFor};
@@ -25,8 +25,8 @@ use segment_values::{length_of, object_to_change};
 #[inline(never)]
 pub fn pop<W: Sink>(segment: &mut Segment, key: &Key, out: &mut W) -> Result<Answered, DeviceFault>
     requires { (W.history out.old).failures < 2 ^ 64 - 1 }
-    ensures executed { Executes segment.old segment.new (Pop (key_seen key.now)) }
-    ensures answers { AnswersFor (W.history out.old) (W.history out.new) result (StandsFor segment.old.cut.bytes)
+    ensures execution { Executes segment.old segment.new (Pop (key_seen key.now)) }
+    ensures outcome { AnswersFor (W.history out.old) (W.history out.new) result (DenotesCurrent segment.old.cut.bytes)
         (λ d. (step segment.old.mode d (Pop (key_seen key.now))).0) }
 {
     match object_to_change(segment, key) {
@@ -51,9 +51,9 @@ fn pop_text<W: Sink>(
 ) -> Result<Answered, DeviceFault>
     requires object { IsObject object segment.old }
     requires writer { (W.history out.old).failures < 2 ^ 64 - 1 }
-    requires of_kind { IsChangeable segment.old (ByHandle object.handle) StringsKind }
-    ensures executed { Executes segment.old segment.new (Pop (ByHandle object.handle)) }
-    ensures answers { AnswersFor (W.history out.old) (W.history out.new) result (StandsFor segment.old.cut.bytes)
+    requires kind_fit { IsChangeable segment.old (ByHandle object.handle) StringsKind }
+    ensures execution { Executes segment.old segment.new (Pop (ByHandle object.handle)) }
+    ensures outcome { AnswersFor (W.history out.old) (W.history out.new) result (DenotesCurrent segment.old.cut.bytes)
         (λ d. (step segment.old.mode d (Pop (ByHandle object.handle))).0) }
 {
     let last = length_of(segment, object).saturating_sub(1);
@@ -70,7 +70,8 @@ fn pop_element(
     kind: ScalarKind,
 ) -> Result<ScalarValue, Refusal>
     requires { IsObject object segment.old }
-    ensures step { IsStepOfKind segment.old segment.new (ByHandle object.handle) (VectorOf kind) (Pop (ByHandle object.handle)) (scalar_answer result) }
+    ensures step { TakesStepOfKind segment.old segment.new (ByHandle object.handle) (VectorOf kind)
+        (Pop (ByHandle object.handle)) (scalar_answer result) }
     ensures refused { OnErr result (segment.new ≡ segment.old) }
 {
     macro_rules! pop {

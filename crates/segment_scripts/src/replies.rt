@@ -9,15 +9,15 @@ ghost use Rattle.segment_scripts.specs.Replies.{IsMeant, Replies, answer_seen};
 
 use crate::changing::{append, assign};
 use crate::constructing::{construct, construct_it, find_or_construct};
-use crate::machine::Room;
+use crate::machine::ParseBuffers;
 use seg_types::{Handle, Key, Refusal, ScalarValue};
 use segment_lang::Deed;
 use segment_manager::Segment;
-use segment_values::{Spot, add, erase, erase_pair, look_up, set};
+use segment_values::{InsertSpot, add, erase, erase_pair, look_up, set};
 
 /// What a command is answered: all of it where it is short, and where it is long, of what the segment is to be asked.
 #[derive(Drop)]
-pub enum Answer<'a> {
+pub enum CommandAnswer<'a> {
     /// The command is done.
     Done,
     /// There is nothing.
@@ -48,7 +48,11 @@ pub enum Answer<'a> {
 
 /// Does a deed, and answers it. What the line escapes or lists is put into `room`.
 #[inline(never)]
-pub fn reply<'a>(segment: &mut Segment, deed: Deed<'a>, room: &mut Room) -> Answer<'a>
+pub fn reply<'a>(
+    segment: &mut Segment,
+    deed: Deed<'a>,
+    room: &mut ParseBuffers,
+) -> CommandAnswer<'a>
     requires { IsMeant (deed_of deed) }
     ensures { Replies segment.old segment.new (deed_of deed.entry) result }
 {
@@ -63,13 +67,19 @@ pub fn reply<'a>(segment: &mut Segment, deed: Deed<'a>, room: &mut Room) -> Answ
         }
         Deed::Destroy(key) => truth(segment.destroy(&key)),
         Deed::DestroyPtr(handle) => gone(segment.destroy_ptr(handle)),
-        Deed::Show(key) => Answer::Shown(key),
-        Deed::Info(key) => Answer::Told(key),
+        Deed::Show(key) => CommandAnswer::Shown(key),
+        Deed::Info(key) => CommandAnswer::Told(key),
         Deed::Set { key, index, value } => {
             done(set(segment, &key, index, &value, &mut room.text))
         }
         Deed::Insert { key, index, value } => {
-            done(add(segment, &key, Spot::Before(index), &value, &mut room.text))
+            done(add(
+                segment,
+                &key,
+                InsertSpot::Before(index),
+                &value,
+                &mut room.text,
+            ))
         }
         Deed::Erase { key, index } => done(erase(segment, &key, index)),
         Deed::Reserve { key, count } => done(segment.reserve(&key, count)),
@@ -79,101 +89,101 @@ pub fn reply<'a>(segment: &mut Segment, deed: Deed<'a>, room: &mut Room) -> Answ
         Deed::Append { key, text } => done(append(segment, &key, text, &mut room.text)),
         Deed::Lookup { key, at } => value_found(look_up(segment, &key, &at)),
         Deed::Remove { key, at } => truth(erase_pair(segment, &key, &at)),
-        Deed::ListNames => Answer::Names,
-        Deed::ListKinds => Answer::Kinds,
-        Deed::Blocks => Answer::Blocks,
-        Deed::Free => Answer::Number(segment.free()),
-        Deed::NumNamed => Answer::Number(segment.num_named()),
-        Deed::NumUnique => Answer::Number(segment.num_unique()),
+        Deed::ListNames => CommandAnswer::Names,
+        Deed::ListKinds => CommandAnswer::Kinds,
+        Deed::Blocks => CommandAnswer::Blocks,
+        Deed::Free => CommandAnswer::Number(segment.free()),
+        Deed::NumNamed => CommandAnswer::Number(segment.num_named()),
+        Deed::NumUnique => CommandAnswer::Number(segment.num_unique()),
         Deed::ReserveNamed(count) => done(segment.reserve_named(count)),
         Deed::ReserveUnique(count) => done(segment.reserve_unique(count)),
         Deed::ShrinkIndexes => done(segment.shrink_indexes()),
         Deed::ZeroFree => done(segment.zero_free()),
-        Deed::Sanity => Answer::Truth(segment.sanity()),
-        Deed::AllDeallocated => Answer::Truth(segment.all_deallocated()),
+        Deed::Sanity => CommandAnswer::Truth(segment.sanity()),
+        Deed::AllDeallocated => CommandAnswer::Truth(segment.all_deallocated()),
     }
 }
 
 /// The answer where an object was made, or not.
-fn made<'a>(made: Result<Handle, Refusal>) -> Answer<'a>
+fn made<'a>(made: Result<Handle, Refusal>) -> CommandAnswer<'a>
     ensures { (d : Directory) → answer_seen d result ≡ handle_answer made }
 {
     match made {
-        Ok(handle) => Answer::Made(handle),
-        Err(refusal) => Answer::Refused(refusal),
+        Ok(handle) => CommandAnswer::Made(handle),
+        Err(refusal) => CommandAnswer::Refused(refusal),
     }
 }
 
 /// The answer where an object was found or made, or not.
-fn found<'a>(found: Result<(Handle, u32), Refusal>) -> Answer<'a>
+fn found<'a>(found: Result<(Handle, u32), Refusal>) -> CommandAnswer<'a>
     ensures { (d : Directory) → answer_seen d result ≡ pair_answer found }
 {
     match found {
-        Ok((handle, count)) => Answer::Found(handle, count),
-        Err(refusal) => Answer::Refused(refusal),
+        Ok((handle, count)) => CommandAnswer::Found(handle, count),
+        Err(refusal) => CommandAnswer::Refused(refusal),
     }
 }
 
 /// The answer where an object was looked for.
-fn looked_up<'a>(found: Result<Option<(Handle, u32)>, Refusal>) -> Answer<'a>
+fn looked_up<'a>(found: Result<Option<(Handle, u32)>, Refusal>) -> CommandAnswer<'a>
     ensures { (d : Directory) → answer_seen d result ≡ found_answer found }
 {
     match found {
-        Ok(Some((handle, count))) => Answer::Found(handle, count),
-        Ok(None) => Answer::Absent,
-        Err(refusal) => Answer::Refused(refusal),
+        Ok(Some((handle, count))) => CommandAnswer::Found(handle, count),
+        Ok(None) => CommandAnswer::Absent,
+        Err(refusal) => CommandAnswer::Refused(refusal),
     }
 }
 
 /// The answer where an element was asked for.
-pub fn element<'a>(element: Result<ScalarValue, Refusal>) -> Answer<'a>
+pub fn element<'a>(element: Result<ScalarValue, Refusal>) -> CommandAnswer<'a>
     ensures { (d : Directory) → answer_seen d result ≡ scalar_answer element }
 {
     match element {
-        Ok(value) => Answer::Element(value),
-        Err(refusal) => Answer::Refused(refusal),
+        Ok(value) => CommandAnswer::Element(value),
+        Err(refusal) => CommandAnswer::Refused(refusal),
     }
 }
 
 /// The answer where a value was looked for.
-fn value_found<'a>(found: Result<Option<ScalarValue>, Refusal>) -> Answer<'a>
+fn value_found<'a>(found: Result<Option<ScalarValue>, Refusal>) -> CommandAnswer<'a>
     ensures { (d : Directory) → answer_seen d result ≡ any_value_answer found }
 {
     match found {
         Ok(value) => match value {
-            Some(value) => Answer::Element(value),
-            None => Answer::Absent,
+            Some(value) => CommandAnswer::Element(value),
+            None => CommandAnswer::Absent,
         },
-        Err(refusal) => Answer::Refused(refusal),
+        Err(refusal) => CommandAnswer::Refused(refusal),
     }
 }
 
 /// The answer where something holds, or not.
-pub fn truth<'a>(truth: Result<bool, Refusal>) -> Answer<'a>
+pub fn truth<'a>(truth: Result<bool, Refusal>) -> CommandAnswer<'a>
     ensures { (d : Directory) → answer_seen d result ≡ truth_answer truth }
 {
     match truth {
-        Ok(truth) => Answer::Truth(truth),
-        Err(refusal) => Answer::Refused(refusal),
+        Ok(truth) => CommandAnswer::Truth(truth),
+        Err(refusal) => CommandAnswer::Refused(refusal),
     }
 }
 
 /// The answer where an object is gone, or not.
-fn gone<'a>(gone: Result<(), Refusal>) -> Answer<'a>
+fn gone<'a>(gone: Result<(), Refusal>) -> CommandAnswer<'a>
     ensures { (d : Directory) → answer_seen d result ≡ gone_answer gone }
 {
     match gone {
-        Ok(()) => Answer::Truth(true),
-        Err(refusal) => Answer::Refused(refusal),
+        Ok(()) => CommandAnswer::Truth(true),
+        Err(refusal) => CommandAnswer::Refused(refusal),
     }
 }
 
 /// The answer where a command is done, or not.
-pub fn done<'a>(done: Result<(), Refusal>) -> Answer<'a>
+pub fn done<'a>(done: Result<(), Refusal>) -> CommandAnswer<'a>
     ensures { (d : Directory) → answer_seen d result ≡ done_answer done }
 {
     match done {
-        Ok(()) => Answer::Done,
-        Err(refusal) => Answer::Refused(refusal),
+        Ok(()) => CommandAnswer::Done,
+        Err(refusal) => CommandAnswer::Refused(refusal),
     }
 }

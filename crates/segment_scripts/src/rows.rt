@@ -9,22 +9,22 @@ ghost use Rattle.segment_scripts.specs.Replies.{bytes_taken};
 
 use seg_types::theorems::scalar_is_number;
 use seg_types::{Refusal, Scalar, ScalarValue, Written};
-use segment_lang::{Buffer, Literal, Literals, Text, Values};
+use segment_lang::{Buffer, LineBuffer, Literal, LiteralValues, Literals};
 
 /// The longest spelling of a scalar, in bytes.
 const LONGEST: usize = 8;
 
 /// Values of a type, as many as a line may have: each takes a byte, and another parts it from the next.
-pub type Row<T> = Buffer<T, 2048>;
+pub type ValueBuffer<T> = Buffer<T, 2048>;
 
 /// A row for each type that values of a line may have.
 #[derive(Drop)]
 pub struct Rows {
-    pub truths: Row<bool>,
-    pub bytes: Row<u8>,
-    pub i32s: Row<i32>,
-    pub i64s: Row<i64>,
-    pub u64s: Row<u64>,
+    pub truths: ValueBuffer<bool>,
+    pub bytes: ValueBuffer<u8>,
+    pub i32s: ValueBuffer<i32>,
+    pub i64s: ValueBuffer<i64>,
+    pub u64s: ValueBuffer<u64>,
 }
 
 /// A call whose last argument is the row of a kind: `on_row!(kind, rows, assign_row(segment, object, values))`.
@@ -46,11 +46,11 @@ impl Rows {
     /// Rows without values.
     pub fn new() -> Rows {
         Rows {
-            truths: Row::new(),
-            bytes: Row::new(),
-            i32s: Row::new(),
-            i64s: Row::new(),
-            u64s: Row::new(),
+            truths: ValueBuffer::new(),
+            bytes: ValueBuffer::new(),
+            i32s: ValueBuffer::new(),
+            i64s: ValueBuffer::new(),
+            u64s: ValueBuffer::new(),
         }
     }
 }
@@ -71,10 +71,10 @@ fn as_type<T: Scalar>(value: ScalarValue) -> T
 }
 
 /// Makes the values of a line those of a row. They are of the type's kind.
-pub fn value_row<T: Scalar>(values: Values<'_>, row: &mut Row<T>)
+pub fn value_row<T: Scalar>(values: LiteralValues<'_>, row: &mut ValueBuffer<T>)
     requires kind { values.kind ≡ T.kind }
     requires range { AllByRecursion (λ z. IsTrue (is_value T.kind z)) values.numbers }
-    requires few { length values.numbers ≤ 2048 }
+    requires max_count { length values.numbers ≤ 2048 }
     ensures { map T.whole row.new ≡ values.entry.numbers }
 {
     row.clear();
@@ -89,7 +89,10 @@ pub fn value_row<T: Scalar>(values: Values<'_>, row: &mut Row<T>)
 ///
 /// `WrongKind` where one has not the form of the kind, and else `OutOfRange` where one is not in its range. The row
 /// means nothing then.
-pub fn literal_row<T: Scalar>(literals: Literals<'_>, row: &mut Row<T>) -> Result<(), Refusal>
+pub fn literal_row<T: Scalar>(
+    literals: Literals<'_>,
+    row: &mut ValueBuffer<T>,
+) -> Result<(), Refusal>
     requires { bytes_taken literals ≤ 4097 }
     ensures { ReadsInto T.kind T.whole literals.entry row.new result }
 {
@@ -120,9 +123,13 @@ pub fn literal_row<T: Scalar>(literals: Literals<'_>, row: &mut Row<T>) -> Resul
 /// # Errors
 ///
 /// `WrongKind` where there is none, or more than one, or a value of another form.
-pub fn only_text<'a>(mut literals: Literals<'a>, scratch: &'a mut Text) -> Result<&'a [u8], Refusal>
+pub fn only_text<'a>(
+    mut literals: Literals<'a>,
+    scratch: &'a mut LineBuffer,
+) -> Result<&'a [u8], Refusal>
     requires { bytes_taken literals ≤ 4097 }
-    ensures { MatchResult result (λ text. text_among literals.entry ≡ Ok text.now) (λ why. text_among literals.entry ≡ Err why) }
+    ensures { MatchResult result (λ text. text_among literals.entry ≡ Ok text.now) (λ why.
+        text_among literals.entry ≡ Err why) }
 {
     let Some(Literal::Quoted(text)) = literals.next() else {
         return Err(Refusal::WrongKind);

@@ -2,21 +2,22 @@
 ghost use Rattle.std.specs.Prelude.{◌≡◌, ◌+◌, ◌-◌, ◌^◌, ◌<◌, ℕ, List, [], ◌++◌, take, OnErr, IfOk, IfErr};
 ghost use Rattle.memchr.specs.Find.{IsFirstByte, is_byte};
 ghost use Rattle.raw_region.specs.Answers.{failures_in};
-ghost use Rattle.raw_region.specs.Device.{given_since, taken_since, Grows};
-ghost use Rattle.segment_scripts.specs.Leaves.{Leaves, UsesDevices};
+ghost use Rattle.raw_region.specs.Device.{read_delta, write_delta, AppendsBytes};
+ghost use Rattle.segment_scripts.specs.RunOutcome.{ExecutesScript, UsesDevices};
 ghost use Rattle.segment_scripts.specs.Refusing.{Tells};
 ghost use Rattle.segment_scripts.specs.Stopping.{FailsOnTheWay, LeavesUntil, stops_at};
 ghost use Rattle.segment_scripts.specs.Writing.{WritesFor};
-ghost use Rattle.segment_scripts.specs.Behind.{FailsIn, IsOn, IsStoppedAtLast, LeavesEnded, LeavesLast, LeavesPiece};
+ghost use Rattle.segment_scripts.specs.RunProgress.{FailsIn, IsOn, IsStoppedAtLast, LeavesEnded, LeavesLast};
+ghost use Rattle.segment_scripts.specs.RunProgress.{LeavesPiece};
 
 use crate::answered::Answered;
 use crate::ends::{End, Until};
 use crate::faults::RunFault;
-use crate::followers::{Follower, Nobody};
-use crate::machine::{Machine, Room, Scratch};
+use crate::machine::{Machine, ParseBuffers, Scratch};
+use crate::observers::{NoObserver, RunObserver};
 use memchr::memchr_iter;
 use raw_region::{DeviceFault, Sink, Source};
-use segment_lang::{Buffer, Text};
+use segment_lang::{Buffer, LineBuffer};
 
 /// How many bytes of a script are read at once, at most.
 const PIECE: usize = 65536;
@@ -24,9 +25,10 @@ const PIECE: usize = 65536;
 /// The most bytes that a script may have.
 const SCRIPT_LIMIT: usize = 16777216;
 
-/// The first 4098 bytes of a line that has not ended yet, or all of them where it has fewer: a longer line is answered by
+/// The first 4098 bytes of a line that has not ended yet, or all of them where it has fewer: a longer line is answered
+/// by
 /// these alone.
-type OpenLine = Buffer<u8, 4098>;
+type PartialLine = Buffer<u8, 4098>;
 
 /// Where the first line end is. It looks at 32 bytes first, since most lines are short.
 fn line_end(bytes: &[u8]) -> Option<usize>
@@ -36,7 +38,7 @@ fn line_end(bytes: &[u8]) -> Option<usize>
 }
 
 /// Answers a line, before which the follower is asked.
-fn answer_next<M: Machine, W: Sink, F: Follower<W>>(
+fn answer_next<M: Machine, W: Sink, F: RunObserver<W>>(
     machine: &mut M,
     scratch: &mut Scratch,
     line: &[u8],
@@ -44,33 +46,33 @@ fn answer_next<M: Machine, W: Sink, F: Follower<W>>(
     follower: &mut F,
 ) -> Result<Answered, DeviceFault>
     requires { (W.history out.old).failures < 2 ^ 64 - 1 }
-    ensures leads { (place : M.Place) → M.stands machine.old place
+    ensures link_target { (place : M.Place) → M.stands machine.old place
         → M.stands machine.new (M.respond place line.now).1 }
-    ensures writes { WritesFor (W.history out.old) (W.history out.new) result (M.stands machine.old)
+    ensures output { WritesFor (W.history out.old) (W.history out.new) result (M.stands machine.old)
         (λ place. (M.respond place line.now).0) }
-    ensures tells { (place : M.Place) → M.stands machine.old place → Tells result (M.refuses place line.now) }
+    ensures report { (place : M.Place) → M.stands machine.old place → Tells result (M.refuses place line.now) }
 {
     follower.before_line(out);
     machine.answer(scratch, line, out)
 }
 
 /// Answers the open line, which ends with these bytes. One that has no others is not copied.
-fn answer_ended<M: Machine, W: Sink, F: Follower<W>>(
+fn answer_ended<M: Machine, W: Sink, F: RunObserver<W>>(
     machine: &mut M,
     scratch: &mut Scratch,
-    line: &mut OpenLine,
+    line: &mut PartialLine,
     end: &[u8],
     out: &mut W,
     follower: &mut F,
 ) -> Result<Answered, DeviceFault>
     requires { (W.history out.old).failures < 2 ^ 64 - 1 }
-    ensures leads { (place : M.Place) → M.stands machine.old place
+    ensures link_target { (place : M.Place) → M.stands machine.old place
         → M.stands machine.new (M.respond place (take 4098 (line.old ++ end.now))).1 }
-    ensures writes { WritesFor (W.history out.old) (W.history out.new) result (M.stands machine.old)
+    ensures output { WritesFor (W.history out.old) (W.history out.new) result (M.stands machine.old)
         (λ place. (M.respond place (take 4098 (line.old ++ end.now))).0) }
-    ensures tells { (place : M.Place) → M.stands machine.old place
+    ensures report { (place : M.Place) → M.stands machine.old place
         → Tells result (M.refuses place (take 4098 (line.old ++ end.now))) }
-    ensures cleared { line.new ≡ [] }
+    ensures links { line.new ≡ [] }
 {
     if line.is_empty() {
         return answer_next(machine, scratch, end, out, follower);
@@ -83,27 +85,27 @@ fn answer_ended<M: Machine, W: Sink, F: Follower<W>>(
 
 /// Executes the lines that end in the piece, the first of which may have begun before it, and keeps
 /// the line that is still open behind it. It goes no further than the line that ends the run.
-fn feed<M: Machine, W: Sink, F: Follower<W>>(
+fn feed<M: Machine, W: Sink, F: RunObserver<W>>(
     machine: &mut M,
     scratch: &mut Scratch,
-    line: &mut OpenLine,
+    line: &mut PartialLine,
     piece: &[u8],
     out: &mut W,
     follower: &mut F,
     until: Until,
 ) -> Result<End, DeviceFault>
     requires { (W.history out.old).failures < 2 ^ 64 - 1 }
-    ensures ok { IfOk result (λ end. (start : M.Place) (before read : List ℕ)
+    ensures on_ok { IfOk result (λ end. (start : M.Place) (before read : List ℕ)
         → IsOn M.respond (stops_at until M.refuses) start before read (M.stands machine.old) line.old
         (W.history out.old).bytes
         → LeavesPiece M.respond (stops_at until M.refuses) start before read piece.now (M.stands machine.new) line.new
         (W.history out.new).bytes end) }
-    ensures err { OnErr result ((start : M.Place) (before read : List ℕ)
+    ensures on_error { OnErr result ((start : M.Place) (before read : List ℕ)
         → IsOn M.respond (stops_at until M.refuses) start before read (M.stands machine.old) line.old
         (W.history out.old).bytes
         → FailsIn M.respond (stops_at until M.refuses) start before read piece.now (M.stands machine.new)
         (W.history out.new).bytes) }
-    ensures counted { (W.history out.new).failures ≡ (W.history out.old).failures + failures_in result }
+    ensures failures { (W.history out.new).failures ≡ (W.history out.old).failures + failures_in result }
 {
     let mut rest = piece;
     'lines: while let Some(len) = line_end(rest) {
@@ -118,11 +120,11 @@ fn feed<M: Machine, W: Sink, F: Follower<W>>(
 }
 
 /// Reads the script in pieces, and executes the lines that end in it, as far as the one that ends the run.
-fn read_lines<M: Machine, S: Source, W: Sink, F: Follower<W>>(
+fn read_lines<M: Machine, S: Source, W: Sink, F: RunObserver<W>>(
     machine: &mut M,
     scratch: &mut Scratch,
     script: &mut S,
-    line: &mut OpenLine,
+    line: &mut PartialLine,
     out: &mut W,
     follower: &mut F,
     until: Until,
@@ -132,16 +134,16 @@ fn read_lines<M: Machine, S: Source, W: Sink, F: Follower<W>>(
     requires fresh { line.old ≡ [] }
     ensures end { IfOk result (λ end. (start : M.Place) → M.stands machine.old start
         → LeavesEnded M.respond (stops_at until M.refuses) start (W.history out.old).bytes
-        (given_since (S.history script.old) (S.history script.new))
+        (read_delta (S.history script.old) (S.history script.new))
         (M.stands machine.new) line.new (W.history out.new).bytes
-        (taken_since (W.history out.old) (W.history out.new)) end) }
+        (write_delta (W.history out.old) (W.history out.new)) end) }
     ensures fault { IfErr result (λ fault. (start : M.Place) → M.stands machine.old start
         → FailsOnTheWay M.respond (stops_at until M.refuses) start
-        (given_since (S.history script.old) (S.history script.new))
-        (taken_since (W.history out.old) (W.history out.new))
+        (read_delta (S.history script.old) (S.history script.new))
+        (write_delta (W.history out.old) (W.history out.new))
         (M.stands machine.new) fault) }
-    ensures out_grows { (start : M.Place) → M.stands machine.old start
-        → Grows (W.history out.old).bytes (W.history out.new).bytes }
+    ensures output_history { (start : M.Place) → M.stands machine.old start
+        → AppendsBytes (W.history out.old).bytes (W.history out.new).bytes }
     ensures devices { UsesDevices (S.history script.old) (S.history script.new)
         (W.history out.old) (W.history out.new) result }
 {
@@ -180,25 +182,25 @@ fn read_lines<M: Machine, S: Source, W: Sink, F: Follower<W>>(
 }
 
 /// Answers the line that is open where the script ends, if it has a byte.
-fn answer_last<M: Machine, W: Sink, F: Follower<W>>(
+fn answer_last<M: Machine, W: Sink, F: RunObserver<W>>(
     machine: &mut M,
     scratch: &mut Scratch,
-    line: &OpenLine,
+    line: &PartialLine,
     out: &mut W,
     follower: &mut F,
     until: Until,
 ) -> Result<End, DeviceFault>
     requires { (W.history out.old).failures < 2 ^ 64 - 1 }
-    ensures ok { IfOk result (λ end. (start : M.Place) (before read : List ℕ)
+    ensures on_ok { IfOk result (λ end. (start : M.Place) (before read : List ℕ)
         → IsOn M.respond (stops_at until M.refuses) start before read (M.stands machine.old) line.now
         (W.history out.old).bytes
         → LeavesLast M.respond (stops_at until M.refuses) start before read (M.stands machine.new)
         (W.history out.new).bytes end) }
-    ensures err { OnErr result ((start : M.Place) (before read : List ℕ)
+    ensures on_error { OnErr result ((start : M.Place) (before read : List ℕ)
         → IsOn M.respond (stops_at until M.refuses) start before read (M.stands machine.old) line.now
         (W.history out.old).bytes
         → IsStoppedAtLast M.respond start before read (M.stands machine.new) (W.history out.new).bytes) }
-    ensures counted { (W.history out.new).failures ≡ (W.history out.old).failures + failures_in result }
+    ensures failures { (W.history out.new).failures ≡ (W.history out.old).failures + failures_in result }
 {
     let last = line.as_slice();
     if !last.is_empty() {
@@ -216,7 +218,7 @@ fn answer_last<M: Machine, W: Sink, F: Follower<W>>(
 /// refuses is the last: it is answered, and no line behind it is executed, nor more of the script read.
 ///
 /// A fault leaves the machine where the lines that were executed lead.
-pub fn run_until<M: Machine, S: Source, W: Sink, F: Follower<W>>(
+pub fn run_until<M: Machine, S: Source, W: Sink, F: RunObserver<W>>(
     machine: &mut M,
     script: &mut S,
     out: &mut W,
@@ -225,21 +227,21 @@ pub fn run_until<M: Machine, S: Source, W: Sink, F: Follower<W>>(
 ) -> Result<End, RunFault>
     requires reader { (S.history script.old).failures < 2 ^ 64 - 1 }
     requires writer { (W.history out.old).failures < 2 ^ 64 - 1 }
-    ensures leaves { (place : M.Place) → M.stands machine.old place
+    ensures remainder { (place : M.Place) → M.stands machine.old place
         → LeavesUntil M.respond (stops_at until M.refuses) place
-        (given_since (S.history script.old) (S.history script.new))
-        (taken_since (W.history out.old) (W.history out.new))
+        (read_delta (S.history script.old) (S.history script.new))
+        (write_delta (W.history out.old) (W.history out.new))
         (M.stands machine.new) result }
-    ensures out_grows { (place : M.Place) → M.stands machine.old place
-        → Grows (W.history out.old).bytes (W.history out.new).bytes }
+    ensures output_history { (place : M.Place) → M.stands machine.old place
+        → AppendsBytes (W.history out.old).bytes (W.history out.new).bytes }
     ensures devices { UsesDevices (S.history script.old) (S.history script.new)
         (W.history out.old) (W.history out.new) result }
 {
     let mut scratch = Scratch {
-        name: Text::new(),
-        room: Room::new(),
+        name: LineBuffer::new(),
+        room: ParseBuffers::new(),
     };
-    let mut line = OpenLine::new();
+    let mut line = PartialLine::new();
     match read_lines(
         machine,
         &mut scratch,
@@ -258,7 +260,7 @@ pub fn run_until<M: Machine, S: Source, W: Sink, F: Follower<W>>(
 }
 
 /// Executes the script to its end, whatever its lines are answered, as [`run_until`] does.
-pub fn run_followed<M: Machine, S: Source, W: Sink, F: Follower<W>>(
+pub fn run_followed<M: Machine, S: Source, W: Sink, F: RunObserver<W>>(
     machine: &mut M,
     script: &mut S,
     out: &mut W,
@@ -266,13 +268,13 @@ pub fn run_followed<M: Machine, S: Source, W: Sink, F: Follower<W>>(
 ) -> Result<(), RunFault>
     requires reader { (S.history script.old).failures < 2 ^ 64 - 1 }
     requires writer { (W.history out.old).failures < 2 ^ 64 - 1 }
-    ensures leaves { (place : M.Place) → M.stands machine.old place
-        → Leaves M.respond place
-        (given_since (S.history script.old) (S.history script.new))
-        (taken_since (W.history out.old) (W.history out.new))
+    ensures remainder { (place : M.Place) → M.stands machine.old place
+        → ExecutesScript M.respond place
+        (read_delta (S.history script.old) (S.history script.new))
+        (write_delta (W.history out.old) (W.history out.new))
         result (M.stands machine.new) }
-    ensures out_grows { (place : M.Place) → M.stands machine.old place
-        → Grows (W.history out.old).bytes (W.history out.new).bytes }
+    ensures output_history { (place : M.Place) → M.stands machine.old place
+        → AppendsBytes (W.history out.old).bytes (W.history out.new).bytes }
     ensures devices { UsesDevices (S.history script.old) (S.history script.new)
         (W.history out.old) (W.history out.new) result }
 {
@@ -293,15 +295,15 @@ pub fn run<M: Machine, S: Source, W: Sink>(
 ) -> Result<(), RunFault>
     requires reader { (S.history script.old).failures < 2 ^ 64 - 1 }
     requires writer { (W.history out.old).failures < 2 ^ 64 - 1 }
-    ensures leaves { (place : M.Place) → M.stands machine.old place
-        → Leaves M.respond place
-        (given_since (S.history script.old) (S.history script.new))
-        (taken_since (W.history out.old) (W.history out.new))
+    ensures remainder { (place : M.Place) → M.stands machine.old place
+        → ExecutesScript M.respond place
+        (read_delta (S.history script.old) (S.history script.new))
+        (write_delta (W.history out.old) (W.history out.new))
         result (M.stands machine.new) }
-    ensures out_grows { (place : M.Place) → M.stands machine.old place
-        → Grows (W.history out.old).bytes (W.history out.new).bytes }
+    ensures output_history { (place : M.Place) → M.stands machine.old place
+        → AppendsBytes (W.history out.old).bytes (W.history out.new).bytes }
     ensures devices { UsesDevices (S.history script.old) (S.history script.new)
         (W.history out.old) (W.history out.new) result }
 {
-    run_followed(machine, script, out, &mut Nobody)
+    run_followed(machine, script, out, &mut NoObserver)
 }

@@ -7,7 +7,7 @@ ghost use Rattle.segment_lang.specs.declared.forms.CommandForm.TheVariants as fo
 ghost use Rattle.segment_scripts.specs.Refusing.{Tells};
 ghost use Rattle.segment_scripts.specs.Replies.{IsMeant};
 ghost use Rattle.segment_scripts.specs.Run.{error_line};
-ghost use Rattle.segment_scripts.specs.Segments.{IsAt, Place, Responds, answer_line, refuses_line};
+ghost use Rattle.segment_scripts.specs.Segments.{IsMachineAt, MachineState, Responds, answer_line, refuses_line};
 ghost use Rattle.segment_scripts.specs.LongLines.{answer_line-long, refuses_line-long};
 
 use crate::answered::Answered;
@@ -15,23 +15,23 @@ use crate::machine::{Machine, Scratch};
 use crate::popping::pop;
 use crate::printing::put_answer;
 use crate::replies::{done, reply, truth};
-use crate::showing::put_got;
+use crate::showing::put_get_answer;
 use raw_region::{DeviceFault, Sink};
 use segment_lang::{
-    CommandForm, DeedForm, Lead, LineError, Piece, is_alone, key_and_literal, key_and_number,
-    key_and_pair, lead_of, only_key, put_number_line, put_pieces, read_deed,
+    CommandForm, DeedForm, LineError, LineStart, Piece, is_alone, key_and_literal, key_and_number,
+    key_and_pair, line_start, only_key, put_number_line, put_pieces, read_deed,
 };
 use segment_manager::Segment;
-use segment_values::{Spot, add, put_pair};
+use segment_values::{InsertSpot, add, put_pair};
 
 impl Machine for Segment {
-    ghost Place = { Place };
+    ghost Place = { MachineState };
 
     ghost respond = { λ at line. answer_line at line };
 
     ghost refuses = { λ at line. refuses_line at line };
 
-    ghost stands = { λ segment at. IsAt segment at };
+    ghost stands = { λ segment at. IsMachineAt segment at };
 
     fn answer<W: Sink>(
         &mut self,
@@ -39,9 +39,9 @@ impl Machine for Segment {
         line: &[u8],
         out: &mut W,
     ) -> Result<Answered, DeviceFault> {
-        match lead_of(line) {
-            Lead::Nothing => Ok(Answered::Done),
-            Lead::Form(form, rest) => match form {
+        match line_start(line) {
+            LineStart::Nothing => Ok(Answered::Done),
+            LineStart::Form(form, rest) => match form {
                 CommandForm::Size => answer_size(self, rest, out),
                 CommandForm::Get => answer_get(self, rest, scratch, out),
                 CommandForm::Push => answer_push(self, rest, scratch, out),
@@ -49,7 +49,7 @@ impl Machine for Segment {
                 CommandForm::Pop => answer_pop(self, rest, scratch, out),
                 CommandForm::Deed(form) => answer_deed(self, form, rest, scratch, out),
             },
-            Lead::Wrong(error) => put_wrong(error, out),
+            LineStart::Wrong(error) => put_wrong(error, out),
         }
     }
 
@@ -62,8 +62,8 @@ impl Machine for Segment {
 #[inline(never)]
 fn put_wrong<W: Sink>(error: LineError, out: &mut W) -> Result<Answered, DeviceFault>
     requires { (W.history out.old).failures < 2 ^ 64 - 1 }
-    ensures writes { Writes (W.history out.old) (W.history out.new) result (error_line error) }
-    ensures tells { Tells result true }
+    ensures output { Writes (W.history out.old) (W.history out.new) result (error_line error) }
+    ensures report { Tells result true }
 {
     Answered::Refused.once(put_pieces(out, &[Piece::LineError(error), Piece::Bytes(b"\n")]))
 }
@@ -76,7 +76,8 @@ fn answer_size<W: Sink>(
     out: &mut W,
 ) -> Result<Answered, DeviceFault>
     requires { (W.history out.old).failures < 2 ^ 64 - 1 }
-    ensures { Responds segment.now segment.now (W.history out.old) (W.history out.new) result (reading_by form.Size rest.now) }
+    ensures { Responds segment.now segment.now (W.history out.old) (W.history out.new) result
+        (reading_by form.Size rest.now) }
 {
     if !is_alone(rest) {
         return put_wrong(LineError::BadSyntax, out);
@@ -93,10 +94,11 @@ fn answer_get<W: Sink>(
     out: &mut W,
 ) -> Result<Answered, DeviceFault>
     requires { (W.history out.old).failures < 2 ^ 64 - 1 }
-    ensures { Responds segment.now segment.now (W.history out.old) (W.history out.new) result (reading_by form.Get rest.now) }
+    ensures { Responds segment.now segment.now (W.history out.old) (W.history out.new) result
+        (reading_by form.Get rest.now) }
 {
     match key_and_number(rest, &mut scratch.name) {
-        Some((key, index)) => put_got(segment, &key, index, out),
+        Some((key, index)) => put_get_answer(segment, &key, index, out),
         None => put_wrong(LineError::BadSyntax, out),
     }
 }
@@ -110,13 +112,14 @@ fn answer_push<W: Sink>(
     out: &mut W,
 ) -> Result<Answered, DeviceFault>
     requires room { (W.history out.old).failures < 2 ^ 64 - 1 }
-    requires meant { (c : AskedCommand) → Asked c ≡ reading_by form.Push rest.now → IsMeant c }
-    ensures { Responds segment.old segment.new (W.history out.old) (W.history out.new) result (reading_by form.Push rest.now) }
+    requires meaning { (c : AskedCommand) → Asked c ≡ reading_by form.Push rest.now → IsMeant c }
+    ensures { Responds segment.old segment.new (W.history out.old) (W.history out.new) result
+        (reading_by form.Push rest.now) }
 {
     match key_and_literal(rest, &mut scratch.name) {
         Some((key, value)) => {
             let room = &mut scratch.room.text;
-            let answer = done(add(segment, &key, Spot::End, &value, room));
+            let answer = done(add(segment, &key, InsertSpot::End, &value, room));
             put_answer(segment, answer, out)
         }
         None => put_wrong(LineError::BadSyntax, out),
@@ -132,7 +135,8 @@ fn answer_put<W: Sink>(
     out: &mut W,
 ) -> Result<Answered, DeviceFault>
     requires { (W.history out.old).failures < 2 ^ 64 - 1 }
-    ensures { Responds segment.old segment.new (W.history out.old) (W.history out.new) result (reading_by form.Put rest.now) }
+    ensures { Responds segment.old segment.new (W.history out.old) (W.history out.new) result
+        (reading_by form.Put rest.now) }
 {
     match key_and_pair(rest, &mut scratch.name) {
         Some((key, at, value)) => {
@@ -152,7 +156,8 @@ fn answer_pop<W: Sink>(
     out: &mut W,
 ) -> Result<Answered, DeviceFault>
     requires { (W.history out.old).failures < 2 ^ 64 - 1 }
-    ensures { Responds segment.old segment.new (W.history out.old) (W.history out.new) result (reading_by form.Pop rest.now) }
+    ensures { Responds segment.old segment.new (W.history out.old) (W.history out.new) result
+        (reading_by form.Pop rest.now) }
 {
     match only_key(rest, &mut scratch.name) {
         Some(key) => pop(segment, &key, out),
@@ -170,8 +175,9 @@ fn answer_deed<W: Sink>(
     out: &mut W,
 ) -> Result<Answered, DeviceFault>
     requires room { (W.history out.old).failures < 2 ^ 64 - 1 }
-    requires meant { (c : AskedCommand) → Asked c ≡ reading_by (form.Deed kind) rest.now → IsMeant c }
-    ensures { Responds segment.old segment.new (W.history out.old) (W.history out.new) result (reading_by (form.Deed kind) rest.now) }
+    requires meaning { (c : AskedCommand) → Asked c ≡ reading_by (form.Deed kind) rest.now → IsMeant c }
+    ensures { Responds segment.old segment.new (W.history out.old) (W.history out.new) result
+        (reading_by (form.Deed kind) rest.now) }
 {
     match read_deed(kind, rest, &mut scratch.name) {
         Some(deed) => {

@@ -5,7 +5,7 @@ ghost use Rattle.seg_types.specs.Commands.{Get};
 ghost use Rattle.seg_types.specs.Keys.{key_seen};
 ghost use Rattle.seg_types.specs.Names.{ByHandle};
 ghost use Rattle.segment_manager.specs.objects.Located.{IsLocated, IsObject};
-ghost use Rattle.segment_manager.specs.State.{StandsFor};
+ghost use Rattle.segment_manager.specs.State.{DenotesCurrent};
 ghost use Rattle.segment_manager.specs.Step.{step};
 ghost use Rattle.segment_scripts.specs.Answer.{answer_text};
 ghost use Rattle.segment_scripts.specs.Refusing.{AnswersFor};
@@ -24,13 +24,13 @@ use segment_values::{Layout, count_of, put_content};
 
 /// Writes the kind and the value of the object of a key, or that there is none.
 #[inline(never)]
-pub fn put_shown<W: Sink>(
+pub fn put_show_answer<W: Sink>(
     segment: &Segment,
     key: &Key,
     out: &mut W,
 ) -> Result<Answered, DeviceFault>
     requires { (W.history out.old).failures < 2 ^ 64 - 1 }
-    ensures { AnswersFor (W.history out.old) (W.history out.new) result (StandsFor segment.now.cut.bytes)
+    ensures { AnswersFor (W.history out.old) (W.history out.new) result (DenotesCurrent segment.now.cut.bytes)
         (λ d. shown_at d (key_seen key.now)) }
 {
     match locate(segment, key) {
@@ -43,7 +43,7 @@ pub fn put_shown<W: Sink>(
 fn put_value<W: Sink>(segment: &Segment, object: Object, out: &mut W) -> Result<(), DeviceFault>
     requires writer { (W.history out.old).failures < 2 ^ 64 - 1 }
     requires object { IsLocated segment.now (ByHandle object.handle) object }
-    ensures { WritesFor (W.history out.old) (W.history out.new) result (StandsFor segment.now.cut.bytes)
+    ensures { WritesFor (W.history out.old) (W.history out.new) result (DenotesCurrent segment.now.cut.bytes)
         (λ d. answer_text (shown_at d (ByHandle object.handle))) }
 {
     let count = count_of(segment, object);
@@ -124,14 +124,14 @@ fn put_counted<W: Sink>(kind: Kind, count: u64, out: &mut W) -> Result<(), Devic
 
 /// Writes the element at an index in the object of a key, or why there is none.
 #[inline(never)]
-pub fn put_got<W: Sink>(
+pub fn put_get_answer<W: Sink>(
     segment: &Segment,
     key: &Key,
     index: u64,
     out: &mut W,
 ) -> Result<Answered, DeviceFault>
     requires { (W.history out.old).failures < 2 ^ 64 - 1 }
-    ensures { AnswersFor (W.history out.old) (W.history out.new) result (StandsFor segment.now.cut.bytes)
+    ensures { AnswersFor (W.history out.old) (W.history out.new) result (DenotesCurrent segment.now.cut.bytes)
         (λ d. (step segment.now.mode d (Get (key_seen key.now) index)).0) }
 {
     match locate(segment, key) {
@@ -152,7 +152,7 @@ pub fn put_text_at<W: Sink>(
 ) -> Result<Answered, DeviceFault>
     requires writer { (W.history out.old).failures < 2 ^ 64 - 1 }
     requires object { IsObject object segment.now }
-    ensures { AnswersFor (W.history out.old) (W.history out.new) result (StandsFor segment.now.cut.bytes)
+    ensures { AnswersFor (W.history out.old) (W.history out.new) result (DenotesCurrent segment.now.cut.bytes)
         (λ d. text_at d (ByHandle object.handle) index) }
 {
     match segment.texts_get(&object, index) {

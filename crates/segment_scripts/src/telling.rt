@@ -8,7 +8,7 @@ ghost use Rattle.segment_lang.specs.Texts.{name_text};
 ghost use Rattle.segment_manager.specs.Answers.{Kinds, Names};
 ghost use Rattle.segment_manager.specs.Directory.{Object, named_objects, unique_objects};
 ghost use Rattle.segment_manager.specs.objects.Located.{IsObject};
-ghost use Rattle.segment_manager.specs.State.{StandsFor};
+ghost use Rattle.segment_manager.specs.State.{DenotesCurrent};
 ghost use Rattle.segment_scripts.specs.Answer.{answer_text, class_words, entry_words, line};
 ghost use Rattle.segment_scripts.specs.Parts.{said_words};
 ghost use Rattle.segment_scripts.specs.Refusing.{AnswersFor};
@@ -21,14 +21,18 @@ use crate::printing::put_refusal_line;
 use raw_region::{DeviceFault, Sink};
 use seg_types::{Class, Key, Kind};
 use segment_lang::{Piece, put_pieces};
-use segment_manager::conditioned::{named_instance, unique_instance};
+use segment_manager::unchecked::{named_instance, unique_instance};
 use segment_manager::{Instance, Object, Segment, locate};
 
 /// Writes what the object of a key says of itself, or that there is none.
 #[inline(never)]
-pub fn put_told<W: Sink>(segment: &Segment, key: &Key, out: &mut W) -> Result<Answered, DeviceFault>
+pub fn put_info_answer<W: Sink>(
+    segment: &Segment,
+    key: &Key,
+    out: &mut W,
+) -> Result<Answered, DeviceFault>
     requires { (W.history out.old).failures < 2 ^ 64 - 1 }
-    ensures { AnswersFor (W.history out.old) (W.history out.new) result (StandsFor segment.now.cut.bytes)
+    ensures { AnswersFor (W.history out.old) (W.history out.new) result (DenotesCurrent segment.now.cut.bytes)
         (λ d. told_at d (key_seen key.now)) }
 {
     match locate(segment, key) {
@@ -45,7 +49,7 @@ fn put_object<W: Sink>(
 ) -> Result<Answered, DeviceFault>
     requires writer { (W.history out.old).failures < 2 ^ 64 - 1 }
     requires object { IsObject object segment.now }
-    ensures { AnswersFor (W.history out.old) (W.history out.new) result (StandsFor segment.now.cut.bytes)
+    ensures { AnswersFor (W.history out.old) (W.history out.new) result (DenotesCurrent segment.now.cut.bytes)
         (λ d. told_at d (ByHandle object.handle)) }
 {
     match segment.instance(&object) {
@@ -68,7 +72,9 @@ fn put_instance<W: Sink>(
     out: &mut W,
 ) -> Result<(), DeviceFault>
     requires { (W.history out.old).failures < 2 ^ 64 - 1 }
-    ensures { Writes (W.history out.old) (W.history out.new) result (line (class_words said.entry.class said.entry.name.now ++ said_words said.entry ++ (number_words len ++ number_words capacity))) }
+    ensures { Writes (W.history out.old) (W.history out.new) result
+        (line (class_words said.entry.class said.entry.name.now ++ said_words said.entry
+        ++ (number_words len ++ number_words capacity))) }
 {
     let (class, name) = class_pieces(said.class, said.name);
     let (before_len, len) = pieces_behind(len);
@@ -118,7 +124,7 @@ fn pieces_behind<'a>(number: Option<u64>) -> (Piece<'a>, Piece<'a>)
 #[inline(never)]
 pub fn put_names<W: Sink>(segment: &Segment, out: &mut W) -> Result<(), DeviceFault>
     requires { (W.history out.old).failures < 2 ^ 64 - 1 }
-    ensures { WritesFor (W.history out.old) (W.history out.new) result (StandsFor segment.now.cut.bytes)
+    ensures { WritesFor (W.history out.old) (W.history out.new) result (DenotesCurrent segment.now.cut.bytes)
         (λ d. answer_text (Names (named_objects d))) }
 {
     'names: for index in 0..segment.num_named() {
@@ -130,7 +136,8 @@ pub fn put_names<W: Sink>(segment: &Segment, out: &mut W) -> Result<(), DeviceFa
 /// Writes the line of an object with a name.
 fn put_named<W: Sink>(said: Instance<'_>, out: &mut W) -> Result<(), DeviceFault>
     requires { (W.history out.old).failures < 2 ^ 64 - 1 }
-    ensures { Writes (W.history out.old) (W.history out.new) result (line (name_text said.entry.name.now ∷ said_words said.entry)) }
+    ensures { Writes (W.history out.old) (W.history out.new) result
+        (line (name_text said.entry.name.now ∷ said_words said.entry)) }
 {
     put_pieces(
         out,
@@ -151,7 +158,7 @@ fn put_named<W: Sink>(said: Instance<'_>, out: &mut W) -> Result<(), DeviceFault
 #[inline(never)]
 pub fn put_kinds<W: Sink>(segment: &Segment, out: &mut W) -> Result<(), DeviceFault>
     requires { (W.history out.old).failures < 2 ^ 64 - 1 }
-    ensures { WritesFor (W.history out.old) (W.history out.new) result (StandsFor segment.now.cut.bytes)
+    ensures { WritesFor (W.history out.old) (W.history out.new) result (DenotesCurrent segment.now.cut.bytes)
         (λ d. answer_text (Kinds (unique_objects d))) }
 {
     'kinds: for index in 0..segment.num_unique() {

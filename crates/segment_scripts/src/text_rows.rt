@@ -1,12 +1,13 @@
 //! The texts of a line in place: their bytes one behind another, and how many each has.
-ghost use Rattle.std.specs.Prelude.{◌≡◌, ◌≤◌, ◌<◌, ◌+◌, ◌++◌, ◌∷◌, [], List, ℕ, MatchResult, Ok, Err, length, map, take};
+ghost use Rattle.std.specs.Prelude.{◌≡◌, ◌≤◌, ◌<◌, ◌+◌, ◌++◌, ◌∷◌, [], List, ℕ, MatchResult, Ok, Err, length, map};
+ghost use Rattle.std.specs.Prelude.{take};
 ghost use Rattle.segment_manager.specs.Step.{texts_of};
 ghost use Rattle.segment_scripts.specs.Replies.{bytes_taken, texts_taken};
 ghost use Rattle.segment_scripts.specs.TextRows.{parts, total};
 
 use arrayvec::ArrayVec;
 use seg_types::Refusal;
-use segment_lang::{Literal, Literals, Quoted, Text, Texts};
+use segment_lang::{LineBuffer, Literal, Literals, Quoted, TextLiterals};
 use std::marker::Model;
 
 /// The most texts that a line can be taken for: each takes a byte and those that it stands for.
@@ -18,7 +19,7 @@ pub const FEW: usize = 32;
 /// Texts, as many and as long as a line may have.
 #[derive(Drop)]
 pub struct TextRow {
-    bytes: Text,
+    bytes: LineBuffer,
     lengths: [usize; 4097],
     len: usize,
 }
@@ -40,7 +41,7 @@ impl TextRow {
         ensures { result ≡ [] }
     {
         TextRow {
-            bytes: Text::new(),
+            bytes: LineBuffer::new(),
             lengths: [0; MOST],
             len: 0,
         }
@@ -91,8 +92,8 @@ impl TextRow {
 
 /// Parts of bytes, one behind another, by how many bytes each has.
 fn cut<'a, const N: usize>(bytes: &'a [u8], lengths: &[usize]) -> ArrayVec<&'a [u8], N>
-    requires few { length lengths.now ≤ N }
-    requires whole { total lengths.now ≡ length bytes.now }
+    requires max_count { length lengths.now ≤ N }
+    requires aligned { total lengths.now ≡ length bytes.now }
     ensures { map (λ t. t.now) result.items ≡ parts lengths.now bytes.now }
 {
     let mut slices = ArrayVec::new();
@@ -106,7 +107,7 @@ fn cut<'a, const N: usize>(bytes: &'a [u8], lengths: &[usize]) -> ArrayVec<&'a [
 }
 
 /// Makes the texts of a line those of a row.
-pub fn text_row(texts: Texts<'_>, row: &mut TextRow)
+pub fn text_row(texts: TextLiterals<'_>, row: &mut TextRow)
     requires { texts_taken texts ≤ 4097 }
     ensures { row.new ≡ texts.entry }
 {
@@ -123,7 +124,8 @@ pub fn text_row(texts: Texts<'_>, row: &mut TextRow)
 /// `WrongKind` where one is none. The row means nothing then.
 pub fn literal_texts(literals: Literals<'_>, row: &mut TextRow) -> Result<(), Refusal>
     requires { bytes_taken literals ≤ 4097 }
-    ensures { MatchResult result (λ u. texts_of literals.entry ≡ Ok row.new) (λ why. texts_of literals.entry ≡ Err why) }
+    ensures { MatchResult result (λ u. texts_of literals.entry ≡ Ok row.new) (λ why.
+        texts_of literals.entry ≡ Err why) }
 {
     row.clear();
     'literals: for literal in literals {

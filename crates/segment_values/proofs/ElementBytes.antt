@@ -3,7 +3,7 @@ use Rattle.std.proofs.Common.{◌≡◌, refl, sym, ap, subst, ◌∙◌, ℕ, �
 use Rattle.std.proofs.Common.{inl, inr, Result, Ok, Err, if◌then◌else◌}
 use Rattle.std.specs.Prelude.{IfOk, OnOk, nat_lt}
 use Rattle.std.proofs.lemmas.Bool.{cases_Bool}
-use Rattle.raw_region.specs.Memory.{SameBut, bytes_of}
+use Rattle.raw_region.specs.Memory.{SameBytesExcept, bytes_of}
 use Rattle.best_fit.specs.Extents.{handle}
 use Rattle.seg_types.specs.declared.kinds.Kind.TheVariants.{Scalar, Strings}
 use Rattle.seg_types.specs.declared.kinds.ScalarKind.{ScalarKind}
@@ -13,13 +13,13 @@ use Rattle.seg_types.specs.declared.refusals.Refusal.TheVariants.{NotFound, OutO
 use Rattle.seg_types.specs.Kinds.{same_kind, size_of}
 use Rattle.seg_types.specs.Names.{Key, ByHandle}
 use Rattle.best_fit.specs.declared.places.Place.{Place}
-use Rattle.segment_manager.specs.declared.objects.targets.Object.{Object as Located}
+use Rattle.segment_manager.specs.declared.objects.object_ref.Object.{Object as Located}
 use Rattle.segment_manager.specs.Directory.{Object, kind_of}
 use Rattle.segment_manager.specs.Directory.{count_of, object_at}
 use Rattle.segment_manager.specs.{Calls.elements_at, Calls.elements_of, Keeping.ChangesElement}
 use Rattle.segment_manager.specs.objects.Located.{IsLocated}
 use Rattle.segment_manager.specs.objects.Standing.{element_at, place_in}
-use Rattle.segment_manager.specs.State.{Answers, State}
+use Rattle.segment_manager.specs.State.{AnswersWith, SegmentState}
 use Rattle.segment_manager.proofs.Laws.{said-at, same-object}
 use Rattle.segment_values.proofs.RangeRows.{one-kind}
 
@@ -43,9 +43,9 @@ place-other k o i other = λ j. place_by o
 
 -- ---- bytes
 
-abbrev But : State → State → ℕ → Result Place Refusal → Type 0
+abbrev But : SegmentState → SegmentState → ℕ → Result Place Refusal → Type 0
 But old new n r =
-    IfOk r (λ (p : Place). SameBut (bytes_of old.cut.bytes) (bytes_of new.cut.bytes) (p.handle + p.at) n)
+    IfOk r (λ (p : Place). SameBytesExcept (bytes_of old.cut.bytes) (bytes_of new.cut.bytes) (p.handle + p.at) n)
 
 pub on_ok-map : {P Q : Type 0} (r : Result (Unit {0}) Refusal) → (P → Q) → OnOk r P → OnOk r Q
 on_ok-map (Ok a) f p = f p
@@ -69,13 +69,15 @@ each-if P (Some o) j k i e m =
     ]
 
 -- an object has elements of one kind alone, and none of another is written
-pub element-each : (old new : State) (key : Key) (j : ScalarKind) (i : ℕ) → Answers old (λ d. elements_at d key) (Ok j)
+pub element-each : (old new : SegmentState) (key : Key) (j : ScalarKind) (i : ℕ)
+    → AnswersWith old (λ d. elements_at d key) (Ok j)
     → ChangesElement old new key j i → (k : ScalarKind) → ChangesElement old new key k i
 element-each old new key j i a m k = λ d st. each-if (λ (l : ScalarKind) (p : Place).
-    SameBut (bytes_of old.cut.bytes) (bytes_of new.cut.bytes) (p.handle + p.at) (size_of l)) (object_at d key) j k i
+    SameBytesExcept (bytes_of old.cut.bytes) (bytes_of new.cut.bytes) (p.handle + p.at) (size_of l))
+    (object_at d key) j k i
     (a.answers d st) (m d st)
 
-pub element-by_key : (s t : State) (key : Key) (o : Located) → IsLocated s key o → (k : ScalarKind) (i : ℕ)
+pub element-by_key : (s t : SegmentState) (key : Key) (o : Located) → IsLocated s key o → (k : ScalarKind) (i : ℕ)
     → ChangesElement s t (ByHandle o.handle) k i → ChangesElement s t key k i
 element-by_key s t key o l k i m = λ d st.
     subst (λ (r : Option Object). But s t (size_of k) (place_of r k i)) (sym (same-object s key o l d st)) (m d st)
@@ -88,7 +90,7 @@ no_array I32 = refl
 no_array I64 = refl
 no_array U64 = refl
 
-pub element-text : (s t : State) (key : Key) (o : Located) → IsLocated s key o → o.kind ≡ Strings → (i : ℕ)
+pub element-text : (s t : SegmentState) (key : Key) (o : Located) → IsLocated s key o → o.kind ≡ Strings → (i : ℕ)
     → (r : Result (Unit {0}) Refusal) → OnOk r ((k : ScalarKind) → ChangesElement s t key k i)
 element-text s t key o l is i (Ok u) = λ k d st.
     let p = said-at s key o l d st in

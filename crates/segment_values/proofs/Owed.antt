@@ -3,7 +3,7 @@ use Rattle.std.proofs.Common.{◌≡◌, ℕ, ◌+◌, ◌<◌, List, [], ◌++�
 use Rattle.std.proofs.lemmas.List.{append-nil}
 use Rattle.std.specs.Result.{IsErr}
 use Rattle.raw_region.specs.Answers.{failures_in}
-use Rattle.raw_region.specs.Device.{Took, Writes}
+use Rattle.raw_region.specs.Device.{WriterHistory, Writes}
 use Rattle.raw_region.proofs.Laws.{writes-cut, writes-then}
 use Rattle.segment_manager.specs.Parts.{parts_until}
 use Rattle.segment_manager.proofs.PartLaws.{part-cut, part-told, well}
@@ -15,12 +15,17 @@ failures_in-err (Ok x) h = absurd (cc h)
 failures_in-err (Err e) h = refl
 
 -- where nothing is to be written nothing is
-pub writes_none : {A E : Type 0} (old : Took) (a : A) (text : List ℕ) → text ≡ [] → Writes {E = E} old old (Ok a) text
-writes_none old a text e = record { ok = sym (append-nil old.bytes) ∙ ap (λ t. old.bytes ++ t) (sym e); err = tt; counted = omega arith }
+pub writes_none : {A E : Type 0} (old : WriterHistory) (a : A) (text : List ℕ) → text ≡ []
+    → Writes {E = E} old old (Ok a) text
+writes_none old a text e = record {
+  ok = sym (append-nil old.bytes) ∙ ap (λ t. old.bytes ++ t) (sym e);
+  err = tt;
+  counted = omega arith;
+}
 
 module _ {P : Type 0} {Stands : P → Type 0} where
   -- one text is owed of each directory
-  pub of-one : {A E : Type 0} {old new : Took} {result : Result A E} {text : List ℕ} {owed : P → List ℕ}
+  pub of-one : {A E : Type 0} {old new : WriterHistory} {result : Result A E} {text : List ℕ} {owed : P → List ℕ}
       → Writes old new result text
       → ((d : P) → Stands d → text ≡ owed d) → WritesFor old new result Stands owed
   of-one {old} {new} {result} w same = record {
@@ -30,7 +35,7 @@ module _ {P : Type 0} {Stands : P → Type 0} where
   }
 
   -- the same text by other words
-  pub of-same : {A E : Type 0} {old new : Took} {result : Result A E} {said owed : P → List ℕ}
+  pub of-same : {A E : Type 0} {old new : WriterHistory} {result : Result A E} {said owed : P → List ℕ}
       → WritesFor old new result Stands said
       → ((d : P) → Stands d → said d ≡ owed d) → WritesFor old new result Stands owed
   of-same {old} {new} {result} w same = record {
@@ -40,7 +45,7 @@ module _ {P : Type 0} {Stands : P → Type 0} where
   }
 
   -- nothing is owed
-  pub of-none : {A E : Type 0} {old : Took} {x : A} {owed : P → List ℕ}
+  pub of-none : {A E : Type 0} {old : WriterHistory} {x : A} {owed : P → List ℕ}
       → ((d : P) → Stands d → owed d ≡ [])
       → WritesFor {E = E} old old (Ok x) Stands owed
   of-none {old} {x} {owed} none = record {
@@ -50,7 +55,7 @@ module _ {P : Type 0} {Stands : P → Type 0} where
   }
 
   -- one behind another
-  pub of-then : {A B E F : Type 0} {old mid new : Took} {x : A} {result : Result B F} {a b : P → List ℕ}
+  pub of-then : {A B E F : Type 0} {old mid new : WriterHistory} {x : A} {result : Result B F} {a b : P → List ℕ}
       → WritesFor {E = E} old mid (Ok x) Stands a
       → WritesFor mid new result Stands b → WritesFor old new result Stands (λ d. a d ++ b d)
   of-then {old} {mid} {new} {x} {result} {a} {b} first more = record {
@@ -59,7 +64,7 @@ module _ {P : Type 0} {Stands : P → Type 0} where
   }
 
   -- the writer failed, whatever was to be written behind
-  pub of-cut : {A B E F : Type 0} {old new : Took} {x : E} {result : Result B F} {a : P → List ℕ}
+  pub of-cut : {A B E F : Type 0} {old new : WriterHistory} {x : E} {result : Result B F} {a : P → List ℕ}
       (b : P → List ℕ) → IsErr result
       → WritesFor {A = A} old new (Err x) Stands a → WritesFor old new result Stands (λ d. a d ++ b d)
   of-cut {old} {new} {x} {result} {a} b is_err w = record {
@@ -68,16 +73,17 @@ module _ {P : Type 0} {Stands : P → Type 0} where
   }
 
   -- one part more
-  pub of-more : {B F : Type 0} (part : P → ℕ → List ℕ) {old mid new : Took} {i : ℕ} {y : B}
+  pub of-more : {B F : Type 0} (part : P → ℕ → List ℕ) {old mid new : WriterHistory} {i : ℕ} {y : B}
       → WritesFor old mid well Stands (λ d. parts_until (part d) i)
-      → WritesFor {E = F} mid new (Ok y) Stands (λ d. part d i) → WritesFor old new well Stands (λ d. parts_until (part d) (i + 1))
+      → WritesFor {E = F} mid new (Ok y) Stands (λ d. part d i)
+      → WritesFor old new well Stands (λ d. parts_until (part d) (i + 1))
   of-more part {old} {mid} {new} {i} {y} before w = record {
     writes = λ d st. part-told (part d) old mid new i (before.writes d st) y (w.writes d st);
     counted = omega (arith, before.counted, w.counted);
   }
 
   -- the writer failed in a part
-  pub of-cut_in : {B C F G : Type 0} (part : P → ℕ → List ℕ) (n : P → ℕ) {old mid new : Took} {i : ℕ}
+  pub of-cut_in : {B C F G : Type 0} (part : P → ℕ → List ℕ) (n : P → ℕ) {old mid new : WriterHistory} {i : ℕ}
       {y : F} {result : Result C G}
       → WritesFor old mid well Stands (λ d. parts_until (part d) i) → ((d : P) → Stands d → i < n d)
       → WritesFor {A = B} mid new (Err y) Stands (λ d. part d i) → IsErr result
@@ -89,14 +95,20 @@ module _ {P : Type 0} {Stands : P → Type 0} where
   }
 
   -- nothing has gone out before the first part
-  pub of-start : (part : P → ℕ → List ℕ) {old : Took} → WritesFor old old well Stands (λ d. parts_until (part d) 0)
+  pub of-start : (part : P → ℕ → List ℕ) {old : WriterHistory}
+      → WritesFor old old well Stands (λ d. parts_until (part d) 0)
   of-start part = of-none (λ d st. refl)
 
   -- so many parts are all
-  pub of-all : {B F : Type 0} (part : P → ℕ → List ℕ) (i n : ℕ) {old new : Took} {y : B}
+  pub of-all : {B F : Type 0} (part : P → ℕ → List ℕ) (i n : ℕ) {old new : WriterHistory} {y : B}
       → WritesFor old new well Stands (λ d. parts_until (part d) i) → i ≡ n
       → WritesFor {E = F} old new (Ok y) Stands (λ d. parts_until (part d) n)
   of-all part i n {old} w e = record {
-    writes = λ d st. let v = w.writes d st in record { ok = v.ok ∙ ap (λ m. old.bytes ++ parts_until (part d) m) e; err = tt; counted = omega (arith, v.counted) };
+    writes = λ d st. let v = w.writes d st
+        in record {
+          ok = v.ok ∙ ap (λ m. old.bytes ++ parts_until (part d) m) e;
+          err = tt;
+          counted = omega (arith, v.counted);
+        };
     counted = omega (arith, w.counted);
   }

@@ -33,7 +33,11 @@ row-cases k kind r = cases-if (same_kind (Vector k) kind) refl r
     cases-if false f r = inr (sym (one-kind (Scalar k) kind r))
 
 -- of the object of a key
-pub its-numbers : (d : Directory) (key : Key) (kind : Kind) (o : Object) → object_at d key ≡ Some o → kind_of o.value ≡ kind → list_at numbers_in d key kind ≡ numbers_in o.value
+pub its-numbers : (d : Directory) (key : Key) (kind : Kind) (o : Object) → object_at d key ≡ Some o
+    → kind_of o.value ≡ kind → list_at numbers_in d key kind ≡ numbers_in o.value
 its-numbers d key kind o e f =
-    ap (λ (r : Option Object). elim r as (λ _. List ℤ) [ None ↦ [] | Some o ↦ if same_kind kind (kind_of o.value) then numbers_in o.value else [] ]) e
+    ap (λ (r : Option Object). elim r as (λ _. List ℤ) [
+      | None ↦ []
+      | Some o ↦ if same_kind kind (kind_of o.value) then numbers_in o.value else []
+    ]) e
     ∙ ap (λ b. if b then numbers_in o.value else []) (of-same kind (kind_of o.value) (sym f))

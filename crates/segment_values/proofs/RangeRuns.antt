@@ -1,6 +1,7 @@
 -- Elements that are read where they stand in the image.
 use Rattle.std.proofs.Common.{◌≡◌, refl, sym, ap, subst, ◌∙◌, ℕ, zero, suc, ◌+◌, ◌*◌, ◌<◌, ◌≤◌, ◌⊎◌, inl, inr, ℤ, true}
-use Rattle.std.proofs.Common.{Bool, Some, None, Option, Result, Ok, Err, List, [], ◌∷◌, ◌++◌, length, length-append, map}
+use Rattle.std.proofs.Common.{Bool, Some, None, Option, Result, Ok, Err, List, [], ◌∷◌, ◌++◌, length, length-append}
+use Rattle.std.proofs.Common.{map}
 use Rattle.std.proofs.Common.{set, take, IsTrue, zero-add, arith}
 use Rattle.std.specs.Prelude.{◌-◌, drop, slice_get}
 use Rattle.std.specs.List.{list_all}
@@ -24,13 +25,13 @@ use Rattle.seg_types.proofs.Laws.{all_spell_one}
 use Rattle.seg_vector.specs.Vector.{spelled}
 use Rattle.seg_vector.proofs.Typed.{all-at, flat-element, flat-take, has-element}
 use Rattle.segment_manager.specs.declared.containers.element_runs.ElementRun.{ElementRun}
-use Rattle.segment_manager.specs.declared.objects.targets.Object.{Object as Located}
+use Rattle.segment_manager.specs.declared.objects.object_ref.Object.{Object as Located}
 use Rattle.segment_manager.specs.Directory.{Directory, Value, Numbers, Elements, Object, kind_of, live, padded}
 use Rattle.segment_manager.specs.Layout.{head_len}
 use Rattle.segment_manager.specs.containers.ElementRuns.{IsRunOf, run_at, run_in, run_of, spelled_at, spelled_in}
 use Rattle.segment_manager.specs.objects.ElementLists.{numbers_in}
 use Rattle.segment_manager.specs.objects.Located.{IsLocated}
-use Rattle.segment_manager.specs.State.{Answers, IsSegment, State, StandsFor}
+use Rattle.segment_manager.specs.State.{AnswersWith, IsSegment, SegmentState, DenotesCurrent}
 use Rattle.segment_manager.proofs.Laws.{IsSaidAt, said-at}
 use Rattle.segment_manager.proofs.ElementLaws.{AVector, AnArray, IsRowOfKind, row-element, run-kind}
 use Rattle.segment_values.specs.Ranges.{AreSpelled, HasRow, is_row, row_of}
@@ -104,7 +105,8 @@ range-spelled k zs bytes first n a =
 pub slice-part : {b image : List ℕ} {from f len n : ℕ} → image ≡ b → from ≡ f → len ≡ n
     → take (from + len - from) (drop from image) ≡ part b f n
 slice-part {b} {image} {from} {f} {len} {n} p q r =
-    ap (λ m. take m (drop from image)) (let e : from + len - from ≡ len = omega arith in e) ∙ (λ i. part (p i) (q i) (r i))
+    ap (λ m. take m (drop from image)) (let e : from + len - from ≡ len = omega arith in e)
+    ∙ (λ i. part (p i) (q i) (r i))
 
 pub slice-element : (bytes : List ℕ) {each size : ℕ} (i : ℕ) → each ≡ size
     → take (each * (i + 1) - each * i) (drop (each * i) bytes) ≡ part bytes (size * i) size
@@ -155,7 +157,8 @@ segment-short : (b : List ℕ) → IsSegment b → length b ≤ 1073741824
 unfolding is_proper
 segment-short b (d, st) =
     let legal : IsTrue (is_legal_size (live d).size) =
-    first (is_legal_size (live d).size) (proper_from 128 (live d).extents ((live d).size - 16)) st.denotes.directory.proper in
+    first (is_legal_size (live d).size) (proper_from 128 (live d).extents ((live d).size - 16))
+    st.denotes.directory.proper in
     let small = legal-most (live d).size legal in let size = st.denotes.heap.size in omega (arith, small, size)
   where
     legal-most : (n : ℕ) → IsTrue (is_legal_size n) → n ≤ 1073741824
@@ -176,12 +179,12 @@ run-if {k} {why} o row e = of-value (handle o.extent + head_len + padded (length
     of-value at v (AnArray e) f = absurd (cc)
     of-value at v (AVector e) f = absurd (cc)
 
-module _ (s : State) (o : Located) (k : ScalarKind) (located : IsLocated s (ByHandle o.handle) o)
+module _ (s : SegmentState) (o : Located) (k : ScalarKind) (located : IsLocated s (ByHandle o.handle) o)
     (row : is_row k o.kind ≡ true) where
-  there : (d : Directory) → StandsFor s.cut.bytes d → IsSaidAt d (ByHandle o.handle) o
+  there : (d : Directory) → DenotesCurrent s.cut.bytes d → IsSaidAt d (ByHandle o.handle) o
   there d st = said-at s (ByHandle o.handle) o located d st
 
-  of-kind : (d : Directory) (st : StandsFor s.cut.bytes d) → IsRowOfKind k (there d st).object.value
+  of-kind : (d : Directory) (st : DenotesCurrent s.cut.bytes d) → IsRowOfKind k (there d st).object.value
   of-kind d st = cases (row-cases k o.kind row)
     where
       said : o.kind ≡ kind_of (there d st).object.value
@@ -191,29 +194,33 @@ module _ (s : State) (o : Located) (k : ScalarKind) (located : IsLocated s (ByHa
       cases (inl e) = AVector (sym said ∙ e)
       cases (inr e) = AnArray (sym said ∙ e)
 
-  numbers-are : (d : Directory) (st : StandsFor s.cut.bytes d) → row_of o d ≡ numbers_in (there d st).object.value
+  numbers-are : (d : Directory) (st : DenotesCurrent s.cut.bytes d) → row_of o d ≡ numbers_in (there d st).object.value
   numbers-are d st = its-numbers d (ByHandle o.handle) o.kind (there d st).object (there d st).is
       (sym (ap (λ (l : Located). l.kind) (there d st).said))
 
-  module _ (run : ElementRun) (place : Answers s (λ d. run_at d (ByHandle o.handle)) (Ok run))
+  module _ (run : ElementRun) (place : AnswersWith s (λ d. run_at d (ByHandle o.handle)) (Ok run))
       (bytes : IsRunOf s (ByHandle o.handle) run) where
     -- of the kind, and as many
-    run-said : (d : Directory) → StandsFor s.cut.bytes d → (run.kind ≡ k) × (run.count ≡ length (row_of o d))
+    run-said : (d : Directory) → DenotesCurrent s.cut.bytes d → (run.kind ≡ k) × (run.count ≡ length (row_of o d))
     run-said d st =
         let said = run-kind s (ByHandle o.handle) run k place d st (there d st).object (there d st).is (of-kind d st) in
         (said.0, said.1 ∙ ap (λ zs. length zs) (sym (numbers-are d st)))
 
-    values-are : (d : Directory) → StandsFor s.cut.bytes d → IsTrue (list_all (is_value k) (row_of o d))
+    values-are : (d : Directory) → DenotesCurrent s.cut.bytes d → IsTrue (list_all (is_value k) (row_of o d))
     values-are d st = all-from (is_value k) (row_of o d) (λ i z e. (row-element s (ByHandle o.handle) run k bytes d st
-        (there d st).object (there d st).is (of-kind d st) i (ap (λ zs. slice_get zs i) (sym (numbers-are d st)) ∙ e)).value)
+        (there d st).object (there d st).is (of-kind d st) i (ap (λ zs. slice_get zs i) (sym (numbers-are d st))
+        ∙ e)).value)
 
-    spelled-is : (d : Directory) (st : StandsFor s.cut.bytes d) → spelled_at d (ByHandle o.handle) ≡ spelled k (row_of o d)
+    spelled-is : (d : Directory) (st : DenotesCurrent s.cut.bytes d)
+        → spelled_at d (ByHandle o.handle) ≡ spelled k (row_of o d)
     spelled-is d st =
         ap (λ (q : Option Object). elim q as (λ _. List ℕ) [ None ↦ [] | Some p ↦ spelled_in p.value ]) (there d st).is
         ∙ spelled-if k (there d st).object.value (of-kind d st) ∙ ap (spelled k) (sym (numbers-are d st))
 
-    row-inside : (d : Directory) → StandsFor s.cut.bytes d → run.offset + size_of k * run.count ≤ length s.cut.bytes
-    row-inside d st = subst (λ j. run.offset + size_of j * run.count ≤ length s.cut.bytes) (run-said d st).0 bytes.inside
+    row-inside : (d : Directory) → DenotesCurrent s.cut.bytes d
+        → run.offset + size_of k * run.count ≤ length s.cut.bytes
+    row-inside d st = subst (λ j. run.offset + size_of j * run.count ≤ length s.cut.bytes) (run-said d st).0
+        bytes.inside
 
     pub has-row : IsSegment s.cut.bytes → HasRow s o k run
     has-row g = record {
@@ -232,26 +239,33 @@ module _ (s : State) (o : Located) (k : ScalarKind) (located : IsLocated s (ByHa
     }
 
   -- it has a run
-  pub no-run : (why : Refusal) → Answers s (λ d. run_at d (ByHandle o.handle)) (Err why) → IsSegment s.cut.bytes → ⊥
+  pub no-run : (why : Refusal) → AnswersWith s (λ d. run_at d (ByHandle o.handle)) (Err why) → IsSegment s.cut.bytes → ⊥
   no-run why a g =
       let said = there g.0 g.1 in
       run-if said.object (of-kind g.0 g.1) (a.answers g.0 g.1
-      ∙ ap (λ (r : Option Object). elim r as (λ _. Result ElementRun Refusal) [ None ↦ Err NotFound | Some p ↦ run_of p ]) said.is)
+      ∙ ap (λ (r : Option Object). elim r as (λ _. Result ElementRun Refusal) [
+        | None ↦ Err NotFound
+        | Some p ↦ run_of p
+      ]) said.is)
 
 -- so many of them from a place on
-pub row-bytes : (s : State) (o : Located) (k : ScalarKind) (run : ElementRun) (first n : ℕ) (from : List ℕ)
-    → HasRow s o k run → first + n ≤ run.count → from ≡ part s.cut.bytes (run.offset + size_of k * first) (size_of k * n)
-    → (d : Directory) → StandsFor s.cut.bytes d → AreSpelled k (take n (drop first (row_of o d))) from
+pub row-bytes : (s : SegmentState) (o : Located) (k : ScalarKind) (run : ElementRun) (first n : ℕ) (from : List ℕ)
+    → HasRow s o k run → first + n ≤ run.count
+    → from ≡ part s.cut.bytes (run.offset + size_of k * first) (size_of k * n)
+    → (d : Directory) → DenotesCurrent s.cut.bytes d → AreSpelled k (take n (drop first (row_of o d))) from
 row-bytes s o k run first n from row within e d st =
     let fits : size_of k * first + size_of k * n ≤ size_of k * run.count =
-    let all : size_of k * (first + n) ≤ size_of k * run.count = mul-le-mul_left (size_of k) within in omega (arith, all) in
+    let all : size_of k * (first + n) ≤ size_of k * run.count = mul-le-mul_left (size_of k) within
+    in omega (arith, all) in
     subst (λ bs. AreSpelled k (take n (drop first (row_of o d))) bs)
     (part-part s.cut.bytes run.offset (size_of k * run.count) (size_of k * first) (size_of k * n) fits ∙ sym e)
     (range-spelled k (row_of o d) (part s.cut.bytes run.offset (size_of k * run.count)) first n (row.spells d st))
 
-pub row-bytes-inside : (s : State) (o : Located) (k : ScalarKind) (run : ElementRun) (first n : ℕ) → HasRow s o k run
+pub row-bytes-inside : (s : SegmentState) (o : Located) (k : ScalarKind) (run : ElementRun) (first n : ℕ)
+    → HasRow s o k run
     → first + n ≤ run.count → run.offset + size_of k * first + size_of k * n ≤ length s.cut.bytes
 row-bytes-inside s o k run first n row within =
     let fits : size_of k * first + size_of k * n ≤ size_of k * run.count =
-    let all : size_of k * (first + n) ≤ size_of k * run.count = mul-le-mul_left (size_of k) within in omega (arith, all) in
+    let all : size_of k * (first + n) ≤ size_of k * run.count = mul-le-mul_left (size_of k) within
+    in omega (arith, all) in
     let inside = row.inside in omega (arith, fits, inside)

@@ -6,7 +6,7 @@ use Rattle.seg_types.specs.Names.{Key}
 use Rattle.seg_map.specs.Numbers.{NumberPair}
 use Rattle.seg_map.specs.Places.{item_of}
 use Rattle.segment_manager.specs.Directory.{Directory}
-use Rattle.segment_manager.specs.containers.Walks.{Item, pairs_at}
+use Rattle.segment_manager.specs.containers.Walks.{KindedPair, pairs_at}
 use Rattle.segment_manager.specs.Parts.{part_of}
 use Rattle.segment_values.specs.Layouts.{Spelling}
 
@@ -16,7 +16,7 @@ length_in (Ok (len, capacity)) = len
 length_in (Err r) = 0
 
 -- a key and a value, at a place
-abbrev pub walked_text : Spelling → ℕ → Item → List ℕ
+abbrev pub walked_text : Spelling → ℕ → KindedPair → List ℕ
 walked_text s i ((k, x), (v, y)) = s.pair i k v (x, y)
 
 abbrev pub pair_text : Spelling → ScalarKind → ScalarKind → ℕ → NumberPair → List ℕ

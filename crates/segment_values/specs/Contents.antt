@@ -6,17 +6,17 @@ use Rattle.seg_vector.specs.Vector.{OwnedText}
 use Rattle.segment_manager.specs.Directory as directory
 
 -- scalars of one kind; a vector of them; a string; a map, by rising keys; a vector of strings
-pub data Content : Type 0 where
-  Scalars : ScalarKind → List ℤ → Content
-  Vector : ScalarKind → List ℤ → Content
-  String : List ℕ → Content
-  Map : ScalarKind → ScalarKind → List (ℤ × ℤ) → Content
-  Strings : List (List ℕ) → Content
+pub data ValueContent : Type 0 where
+  Scalars : ScalarKind → List ℤ → ValueContent
+  Vector : ScalarKind → List ℤ → ValueContent
+  String : List ℕ → ValueContent
+  Map : ScalarKind → ScalarKind → List (ℤ × ℤ) → ValueContent
+  Strings : List (List ℕ) → ValueContent
 
 abbrev pub bytes_in : OwnedText → List ℕ
 bytes_in p = p.bytes
 
-abbrev pub content_of : directory.Value → Content
+abbrev pub content_of : directory.Value → ValueContent
 content_of (directory.Numbers k zs) = Scalars k zs
 content_of (directory.Elements k zs t) = Vector k zs
 content_of (directory.Bytes bs t) = String bs
@@ -24,7 +24,7 @@ content_of (directory.Pairs k v ps) = Map k v (map item_of ps)
 content_of (directory.Texts ps t) = Strings (map bytes_in ps)
 
 -- how many scalars, texts or pairs it has; a string is one text
-abbrev pub count_of_content : Content → ℕ
+abbrev pub count_of_content : ValueContent → ℕ
 count_of_content (Scalars k zs) = length zs
 count_of_content (Vector k zs) = length zs
 count_of_content (String bs) = 1

@@ -4,7 +4,8 @@ use Rattle.seg_types.specs.declared.kinds.ScalarKind.{ScalarKind}
 use Rattle.seg_types.specs.Names.{Key}
 use Rattle.segment_manager.specs.Directory.{Directory, Object, object_at}
 use Rattle.segment_manager.specs.Parts.{part_of}
-use Rattle.segment_values.specs.Contents.{Content, Scalars, Vector, String, Map, Strings, content_of, count_of_content}
+use Rattle.segment_values.specs.Contents.{ValueContent, Scalars, Vector, String, Map, Strings, content_of}
+use Rattle.segment_values.specs.Contents.{count_of_content}
 
 -- the text of each element, by its place among them from 0 on and its value
 pub record Spelling : Type 0 where
@@ -18,7 +19,7 @@ laid_from f n [] = []
 laid_from f n (x ∷ xs) = f n x ++ laid_from f (suc n) xs
 
 -- all elements of an object; a string is one text
-abbrev pub laid_out : Spelling → Content → List ℕ
+abbrev pub laid_out : Spelling → ValueContent → List ℕ
 laid_out s (Scalars k zs) = laid_from (λ i z. s.scalar i k z) 0 zs
 laid_out s (Vector k zs) = laid_from (λ i z. s.scalar i k z) 0 zs
 laid_out s (String bs) = s.text 0 bs
@@ -41,7 +42,7 @@ count_at d key = elim (object_at d key) [ None ↦ 0 | Some o ↦ object_count o
 -- ---- one element
 
 -- the text of the element at a place, and nothing where there is none
-abbrev pub content_part : Spelling → Content → ℕ → List ℕ
+abbrev pub content_part : Spelling → ValueContent → ℕ → List ℕ
 content_part s (Scalars k zs) i = part_of (s.scalar i k) (slice_get zs i)
 content_part s (Vector k zs) i = part_of (s.scalar i k) (slice_get zs i)
 content_part s (String bs) i = s.text i bs

@@ -9,10 +9,10 @@ use Rattle.seg_types.specs.Kinds.{is_value, size_of}
 use Rattle.seg_types.specs.Names.{ByHandle}
 use Rattle.seg_vector.specs.Vector.{spelled}
 use Rattle.segment_manager.specs.declared.containers.element_runs.ElementRun.{ElementRun}
-use Rattle.segment_manager.specs.declared.objects.targets.Object.{Object as Located}
+use Rattle.segment_manager.specs.declared.objects.object_ref.Object.{Object as Located}
 use Rattle.segment_manager.specs.Directory.{Directory}
 use Rattle.segment_manager.specs.objects.ElementLists.{list_at, numbers_in}
-use Rattle.segment_manager.specs.State.{Answers, State, StandsFor}
+use Rattle.segment_manager.specs.State.{AnswersWith, SegmentState, DenotesCurrent}
 pub use Rattle.segment_manager.specs.containers.Ranges.{is_row, numbers_if, range_at, range_in, range_of}
 
 -- the elements of an object that was located, which is an array or a vector of scalars
@@ -25,11 +25,11 @@ pub record AreSpelled (k : ScalarKind) (zs : List ℤ) (bytes : List ℕ) : Type
   pub spelled_are : bytes ≡ spelled k zs
 
 -- such an object, of a kind, has as many elements as a run says, and they are spelled from its offset on
-pub record HasRow (s : State) (o : Located) (k : ScalarKind) (run : ElementRun) : Type 0 where
+pub record HasRow (s : SegmentState) (o : Located) (k : ScalarKind) (run : ElementRun) : Type 0 where
   pub inside : run.offset + size_of k * run.count ≤ length s.cut.bytes
   pub short : length s.cut.bytes ≤ 1073741824
-  pub many : Answers s (λ d. length (row_of o d)) run.count
-  pub spells : (d : Directory) → StandsFor s.cut.bytes d
+  pub many : AnswersWith s (λ d. length (row_of o d)) run.count
+  pub spells : (d : Directory) → DenotesCurrent s.cut.bytes d
       → AreSpelled k (row_of o d) (part s.cut.bytes run.offset (size_of k * run.count))
 
 -- what a call read into a row, or why it did not

@@ -5,7 +5,7 @@ ghost use Rattle.seg_types.specs.declared.kinds.Kind.TheVariants.{Scalar as Scal
 ghost use Rattle.seg_types.specs.Commands.{ConstructIt};
 ghost use Rattle.seg_types.specs.Keys.{new_key_seen};
 ghost use Rattle.segment_manager.specs.objects.NewObjects.{IsOfKind};
-ghost use Rattle.segment_manager.specs.State.{IsStep, KeepsRefused, handle_answer};
+ghost use Rattle.segment_manager.specs.State.{TakesStep, UnchangedIfRefused, handle_answer};
 
 use seg_types::{Handle, NewKey, Refusal, Scalar};
 use segment_manager::Segment;
@@ -46,10 +46,11 @@ pub fn construct_array<T: Scalar>(
     row: &[T],
 ) -> Result<Handle, Refusal>
     requires kind { IsOfKind (new_key_seen key.now) (ScalarOf T.kind) }
-    requires some { 1 ≤ length row.now }
-    requires few { length row.now ≤ 1048576 }
-    ensures step { IsStep segment.old segment.new (ConstructIt (new_key_seen key.now) T.kind (length row.now) (map T.whole row.now)) (handle_answer result) }
-    ensures refused { KeepsRefused segment.old segment.new result }
+    requires non_empty { 1 ≤ length row.now }
+    requires max_count { length row.now ≤ 1048576 }
+    ensures step { TakesStep segment.old segment.new
+        (ConstructIt (new_key_seen key.now) T.kind (length row.now) (map T.whole row.now)) (handle_answer result) }
+    ensures refused { UnchangedIfRefused segment.old segment.new result }
 {
     let mut items = RowItems { left: row };
     segment.construct_it(key, row.len() as u32, &mut items)

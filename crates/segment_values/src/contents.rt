@@ -8,7 +8,7 @@ ghost use Rattle.segment_manager.specs.containers.Contents.{sizes_at};
 ghost use Rattle.segment_manager.specs.containers.Maps.{pair_above};
 ghost use Rattle.segment_manager.specs.containers.Walks.{IsMap, item_of_kinds, item_seen, pairs_at};
 ghost use Rattle.segment_manager.specs.objects.Located.{IsLocated, IsObject};
-ghost use Rattle.segment_manager.specs.State.{Answers, StandsFor};
+ghost use Rattle.segment_manager.specs.State.{AnswersWith, DenotesCurrent};
 ghost use Rattle.segment_manager.specs.Parts.{parts_until};
 ghost use Rattle.segment_values.specs.Asked.{length_in, pair_part};
 ghost use Rattle.segment_values.specs.Layouts.{count_at, laid_at, part_at};
@@ -17,13 +17,13 @@ ghost use Rattle.segment_values.specs.Writing.{WritesFor};
 use crate::layouts::Layout;
 use raw_region::{DeviceFault, Sink};
 use seg_types::{Kind, ScalarKind, ScalarValue};
-use segment_manager::conditioned::{first_pair, next_pair};
+use segment_manager::unchecked::{first_pair, next_pair};
 use segment_manager::{Object, Segment};
 
 /// How many scalars, texts or pairs an object has. A string is one text.
 pub fn count_of(segment: &Segment, object: Object) -> u64
     requires { IsLocated segment.now (ByHandle object.handle) object }
-    ensures { Answers segment.now (λ d. count_at d (ByHandle object.handle)) result }
+    ensures { AnswersWith segment.now (λ d. count_at d (ByHandle object.handle)) result }
 {
     match object.kind {
         Kind::Scalar(_) => u64::from(object.count),
@@ -35,7 +35,7 @@ pub fn count_of(segment: &Segment, object: Object) -> u64
 /// How many elements a vector, string or map has, and 0 where the object is none of these.
 pub fn length_of(segment: &Segment, object: Object) -> u64
     requires { IsObject object segment.now }
-    ensures { Answers segment.now (λ d. length_in (sizes_at d (ByHandle object.handle))) result }
+    ensures { AnswersWith segment.now (λ d. length_in (sizes_at d (ByHandle object.handle))) result }
 {
     match segment.measure(&object) {
         Ok((len, _)) => len,
@@ -53,8 +53,9 @@ pub fn put_content<L: Layout, W: Sink>(
 ) -> Result<(), DeviceFault>
     requires writer { (W.history out.old).failures < 2 ^ 64 - 1 }
     requires object { IsLocated segment.now (ByHandle object.handle) object }
-    requires count { Answers segment.now (λ d. count_at d (ByHandle object.handle)) count }
-    ensures { WritesFor (W.history out.old) (W.history out.new) result (StandsFor segment.now.cut.bytes) (λ d. laid_at (L.spelling layout.now) d (ByHandle object.handle)) }
+    requires count { AnswersWith segment.now (λ d. count_at d (ByHandle object.handle)) count }
+    ensures { WritesFor (W.history out.old) (W.history out.new) result (DenotesCurrent segment.now.cut.bytes) (λ d.
+        laid_at (L.spelling layout.now) d (ByHandle object.handle)) }
 {
     match object.kind {
         Kind::Map(keys, values) => put_pairs(layout, segment, object, keys, values, count, out),
@@ -73,7 +74,8 @@ fn put_elements<L: Layout, W: Sink>(
     requires writer { (W.history out.old).failures < 2 ^ 64 - 1 }
     requires object { IsLocated segment.now (ByHandle object.handle) object }
     requires kind { (keys values : AnyScalarKind) → object.kind ≡ MapOf keys values → ⊥ }
-    ensures { WritesFor (W.history out.old) (W.history out.new) result (StandsFor segment.now.cut.bytes) (λ d. parts_until (part_at (L.spelling layout.now) d (ByHandle object.handle)) count) }
+    ensures { WritesFor (W.history out.old) (W.history out.new) result (DenotesCurrent segment.now.cut.bytes) (λ d.
+        parts_until (part_at (L.spelling layout.now) d (ByHandle object.handle)) count) }
 {
     'elements: for index in 0..count {
         put_element(layout, segment, object, index, out)?;
@@ -92,7 +94,8 @@ fn put_element<L: Layout, W: Sink>(
     requires writer { (W.history out.old).failures < 2 ^ 64 - 1 }
     requires object { IsLocated segment.now (ByHandle object.handle) object }
     requires kind { (keys values : AnyScalarKind) → object.kind ≡ MapOf keys values → ⊥ }
-    ensures { WritesFor (W.history out.old) (W.history out.new) result (StandsFor segment.now.cut.bytes) (λ d. part_at (L.spelling layout.now) d (ByHandle object.handle) index) }
+    ensures { WritesFor (W.history out.old) (W.history out.new) result (DenotesCurrent segment.now.cut.bytes) (λ d.
+        part_at (L.spelling layout.now) d (ByHandle object.handle) index) }
 {
     match object.kind {
         Kind::String => match segment.string_bytes(&object) {
@@ -123,7 +126,8 @@ fn put_pairs<L: Layout, W: Sink>(
     requires writer { (W.history out.old).failures < 2 ^ 64 - 1 }
     requires object { IsObject object segment.now }
     requires map { IsMap segment.now (ByHandle object.handle) keys values }
-    ensures { WritesFor (W.history out.old) (W.history out.new) result (StandsFor segment.now.cut.bytes) (λ d. parts_until (pair_part (L.spelling layout.now) keys values d (ByHandle object.handle)) count) }
+    ensures { WritesFor (W.history out.old) (W.history out.new) result (DenotesCurrent segment.now.cut.bytes) (λ d.
+        parts_until (pair_part (L.spelling layout.now) keys values d (ByHandle object.handle)) count) }
 {
     let mut next = first_pair(segment, &object, keys, values);
     'pairs: for index in 0..count {
@@ -145,7 +149,9 @@ fn pair_behind(
 ) -> Option<(ScalarValue, ScalarValue)>
     requires object { IsObject object segment.now }
     requires map { IsMap segment.now (ByHandle object.handle) (kind_of_scalar key) values }
-    ensures { more ≡ true → Answers segment.now (λ d. option_map (item_of_kinds (kind_of_scalar key) values) (pair_above (value_of_scalar key) (pairs_at d (ByHandle object.handle)))) (option_map item_seen result) }
+    ensures { more ≡ true → AnswersWith segment.now (λ d.
+        option_map (item_of_kinds (kind_of_scalar key) values)
+        (pair_above (value_of_scalar key) (pairs_at d (ByHandle object.handle)))) (option_map item_seen result) }
 {
     if more {
         next_pair(segment, &object, key, values)

@@ -7,13 +7,13 @@ ghost use Rattle.seg_types.specs.Keys.{key_seen};
 ghost use Rattle.seg_types.specs.Names.{ByHandle};
 ghost use Rattle.segment_manager.specs.{Calls.elements_at, Keeping.ChangesElement};
 ghost use Rattle.segment_manager.specs.objects.Located.{IsObject};
-ghost use Rattle.segment_manager.specs.State.{Answers, IsStep, done_answer};
+ghost use Rattle.segment_manager.specs.State.{AnswersWith, TakesStep, done_answer};
 ghost use Rattle.segment_manager.specs.Step.{is_read_only};
 ghost use Rattle.segment_values.specs.Changes.{IsChangeable};
 
 use crate::objects::object_to_change;
 use seg_types::{Key, Kind, Refusal, ScalarKind, Written};
-use segment_manager::conditioned::set_any;
+use segment_manager::unchecked::set_any;
 use segment_manager::{Object, Segment};
 
 /// Makes what is written the element at `index` in the object of a key: of scalars, of a vector of scalars or of
@@ -33,7 +33,8 @@ pub fn set<L: Written>(
     room: &mut L::Room,
 ) -> Result<(), Refusal>
     requires { L.fits value.now }
-    ensures step { IsStep segment.old segment.new (Set (key_seen key.now) index (L.literal value.now)) (done_answer result) }
+    ensures step { TakesStep segment.old segment.new (Set (key_seen key.now) index (L.literal value.now))
+        (done_answer result) }
     ensures refused { OnErr result (segment.new ≡ segment.old) }
     ensures element { OnOk result ((k : AnyScalarKind)
         → ChangesElement segment.old segment.new (key_seen key.now) k index) }
@@ -59,8 +60,9 @@ fn set_scalar<L: Written>(
 ) -> Result<(), Refusal>
     requires object { IsObject object segment.old }
     requires writing { is_read_only segment.old.mode ≡ false }
-    requires elements { Answers segment.old (λ d. elements_at d (ByHandle object.handle)) (Ok kind) }
-    ensures step { IsStep segment.old segment.new (Set (ByHandle object.handle) index (L.literal value.now)) (done_answer result) }
+    requires elements { AnswersWith segment.old (λ d. elements_at d (ByHandle object.handle)) (Ok kind) }
+    ensures step { TakesStep segment.old segment.new (Set (ByHandle object.handle) index (L.literal value.now))
+        (done_answer result) }
     ensures refused { OnErr result (segment.new ≡ segment.old) }
     ensures element { OnOk result (ChangesElement segment.old segment.new (ByHandle object.handle) kind index) }
 {
@@ -77,9 +79,10 @@ fn set_text<L: Written>(
     room: &mut L::Room,
 ) -> Result<(), Refusal>
     requires object { IsObject object segment.old }
-    requires of_kind { IsChangeable segment.old (ByHandle object.handle) StringsKind }
+    requires kind_fit { IsChangeable segment.old (ByHandle object.handle) StringsKind }
     requires fits { L.fits value.now }
-    ensures step { IsStep segment.old segment.new (Set (ByHandle object.handle) index (L.literal value.now)) (done_answer result) }
+    ensures step { TakesStep segment.old segment.new (Set (ByHandle object.handle) index (L.literal value.now))
+        (done_answer result) }
     ensures refused { OnErr result (segment.new ≡ segment.old) }
 {
     match value.text(room) {

@@ -21,7 +21,8 @@ pub trait Layout {
         out: &mut W,
     ) -> Result<(), DeviceFault>
         requires { (W.history out.old).failures < 2 ^ 64 - 1 }
-        ensures { Writes (W.history out.old) (W.history out.new) result ((spelling self.now).scalar index (kind_of_scalar value) (value_of_scalar value)) };
+        ensures { Writes (W.history out.old) (W.history out.new) result
+            ((spelling self.now).scalar index (kind_of_scalar value) (value_of_scalar value)) };
 
     /// Writes a text.
     fn put_text<W: Sink>(&self, index: u64, text: &[u8], out: &mut W) -> Result<(), DeviceFault>
@@ -37,5 +38,9 @@ pub trait Layout {
         out: &mut W,
     ) -> Result<(), DeviceFault>
         requires { (W.history out.old).failures < 2 ^ 64 - 1 }
-        ensures { Writes (W.history out.old) (W.history out.new) result ((spelling self.now).pair index (kind_of_scalar key) (kind_of_scalar value) (value_of_scalar key, value_of_scalar value)) };
+        ensures { Writes (W.history out.old) (W.history out.new) result
+            ((spelling self.now).pair index (kind_of_scalar key) (kind_of_scalar value) (
+              value_of_scalar key,
+              value_of_scalar value,
+            )) };
 }

@@ -18,4 +18,4 @@ pub use layouts::Layout;
 pub use objects::object_to_change;
 pub use pairs::{erase_pair, look_up, put_pair};
 pub use reads::read_elements;
-pub use vectors::{Spot, add, erase};
+pub use vectors::{InsertSpot, add, erase};

@@ -1,7 +1,7 @@
 //! The object of a key that is to be changed.
 ghost use Rattle.std.specs.Prelude.{MatchResult};
 ghost use Rattle.seg_types.specs.Keys.{key_seen};
-ghost use Rattle.segment_values.specs.Changes.{IsToChange, IsUnchangeable};
+ghost use Rattle.segment_values.specs.Changes.{IsChangeableObject, IsUnchangeable};
 
 use seg_types::{Key, Refusal};
 use segment_manager::{Mode, Object, Segment, locate};
@@ -12,7 +12,8 @@ use segment_manager::{Mode, Object, Segment, locate};
 ///
 /// `ReadOnly` where the segment is open for reading, and else `NotFound` where no object has the key.
 pub fn object_to_change(segment: &Segment, key: &Key) -> Result<Object, Refusal>
-    ensures { MatchResult result (IsToChange segment.now (key_seen key.now)) (IsUnchangeable segment.now (key_seen key.now)) }
+    ensures { MatchResult result (IsChangeableObject segment.now (key_seen key.now))
+        (IsUnchangeable segment.now (key_seen key.now)) }
 {
     if segment.mode() == Mode::ReadOnly {
         return Err(Refusal::ReadOnly);

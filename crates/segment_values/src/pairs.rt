@@ -2,9 +2,9 @@
 ghost use Rattle.std.specs.Prelude.{◌≡◌, OnErr};
 ghost use Rattle.seg_types.specs.Commands.{Lookup, Put, Remove};
 ghost use Rattle.seg_types.specs.Keys.{key_seen};
-ghost use Rattle.segment_manager.specs.Keeping.{KeepsWhere};
+ghost use Rattle.segment_manager.specs.Keeping.{UnchangedWhere};
 ghost use Rattle.segment_manager.specs.containers.Maps.{any_value_answer};
-ghost use Rattle.segment_manager.specs.State.{IsReply, IsStep, truth_answer};
+ghost use Rattle.segment_manager.specs.State.{AnswersQuery, TakesStep, truth_answer};
 ghost use Rattle.segment_values.specs.Absent.{LacksLiteral};
 
 use crate::objects::object_to_change;
@@ -25,7 +25,8 @@ pub fn put_pair<A: Written, B: Written>(
     at: &A,
     value: &B,
 ) -> Result<bool, Refusal>
-    ensures step { IsStep segment.old segment.new (Put (key_seen key.now) (A.literal at.now) (B.literal value.now)) (truth_answer result) }
+    ensures step { TakesStep segment.old segment.new
+        (Put (key_seen key.now) (A.literal at.now) (B.literal value.now)) (truth_answer result) }
     ensures refused { OnErr result (segment.new ≡ segment.old) }
 {
     let object = object_to_change(segment, key)?;
@@ -50,7 +51,7 @@ pub fn look_up<L: Written>(
     key: &Key,
     at: &L,
 ) -> Result<Option<ScalarValue>, Refusal>
-    ensures { IsReply segment.now (Lookup (key_seen key.now) (L.literal at.now)) (any_value_answer result) }
+    ensures { AnswersQuery segment.now (Lookup (key_seen key.now) (L.literal at.now)) (any_value_answer result) }
 {
     let object = locate(segment, key)?;
     match object.kind {
@@ -72,9 +73,10 @@ pub fn look_up<L: Written>(
 /// changes.
 #[inline(never)]
 pub fn erase_pair<L: Written>(segment: &mut Segment, key: &Key, at: &L) -> Result<bool, Refusal>
-    ensures step { IsStep segment.old segment.new (Remove (key_seen key.now) (L.literal at.now)) (truth_answer result) }
+    ensures step { TakesStep segment.old segment.new (Remove (key_seen key.now) (L.literal at.now))
+        (truth_answer result) }
     ensures refused { OnErr result (segment.new ≡ segment.old) }
-    ensures absent { KeepsWhere segment.old segment.new (LacksLiteral (key_seen key.now) (L.literal at.now)) }
+    ensures absent { UnchangedWhere segment.old segment.new (LacksLiteral (key_seen key.now) (L.literal at.now)) }
 {
     let object = object_to_change(segment, key)?;
     match object.kind {

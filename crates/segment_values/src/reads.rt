@@ -5,7 +5,7 @@ ghost use Rattle.seg_types.specs.Kinds.{is_value, spelling};
 ghost use Rattle.seg_types.specs.Names.{ByHandle};
 ghost use Rattle.segment_manager.specs.Directory.{Directory};
 ghost use Rattle.segment_manager.specs.objects.Located.{IsLocated};
-ghost use Rattle.segment_manager.specs.State.{Answers, StandsFor};
+ghost use Rattle.segment_manager.specs.State.{AnswersWith, DenotesCurrent};
 ghost use Rattle.segment_values.specs.Ranges.{AreSpelled, HasRow, is_row, range_at, read_into, row_of};
 
 use seg_types::theorems::scalar_is_number;
@@ -25,8 +25,9 @@ pub fn read_elements<T: Scalar>(
     first: u64,
     row: &mut [T],
 ) -> Result<(), Refusal>
-    ensures read { Answers segment.now (λ d. range_at d (key_seen key.now) T.kind first (length row.old)) (read_into T.whole row.new result) }
-    ensures kept { OnErr result (row.new ≡ row.old) }
+    ensures read { AnswersWith segment.now (λ d. range_at d (key_seen key.now) T.kind first (length row.old))
+        (read_into T.whole row.new result) }
+    ensures unchanged { OnErr result (row.new ≡ row.old) }
 {
     let object = locate(segment, key)?;
     read_object(segment, &object, first, row)
@@ -40,8 +41,9 @@ fn read_object<T: Scalar>(
     row: &mut [T],
 ) -> Result<(), Refusal>
     requires { IsLocated segment.now (ByHandle object.now.handle) object.now }
-    ensures read { Answers segment.now (λ d. range_at d (ByHandle object.now.handle) T.kind first (length row.old)) (read_into T.whole row.new result) }
-    ensures kept { OnErr result (row.new ≡ row.old) }
+    ensures read { AnswersWith segment.now (λ d.
+        range_at d (ByHandle object.now.handle) T.kind first (length row.old)) (read_into T.whole row.new result) }
+    ensures unchanged { OnErr result (row.new ≡ row.old) }
 {
     if !is_row::<T>(object.kind) {
         return Err(Refusal::WrongKind);
@@ -83,8 +85,8 @@ fn copy_row<T: Scalar>(
     row: &mut [T],
 )
     requires row { HasRow segment.now _object.now T.kind run }
-    requires there { first + length row.old ≤ run.count }
-    ensures { (d : Directory) → StandsFor segment.now.cut.bytes d
+    requires presence { first + length row.old ≤ run.count }
+    ensures { (d : Directory) → DenotesCurrent segment.now.cut.bytes d
         → map T.whole row.new ≡ take (length row.old) (drop first (row_of _object.now d)) }
 {
     let from = (run.offset + T::SIZE * first) as usize;

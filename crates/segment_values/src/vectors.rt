@@ -7,8 +7,8 @@ ghost use Rattle.seg_types.specs.Names.{ByHandle};
 ghost use Rattle.seg_types.specs.Values.{kind_of_scalar};
 ghost use Rattle.seg_types.specs.Written.{NoText, literal_seen};
 ghost use Rattle.segment_manager.specs.objects.Located.{IsObject};
-ghost use Rattle.segment_manager.specs.State.{IsStep, IsStepOfKind, KeepsRefused, done_answer};
-ghost use Rattle.segment_values.specs.Changes.{IsNew, IsNoElement, command_at};
+ghost use Rattle.segment_manager.specs.State.{TakesStep, TakesStepOfKind, UnchangedIfRefused, done_answer};
+ghost use Rattle.segment_values.specs.Changes.{IsNewScalar, IsNoElement, command_at};
 
 use crate::objects::object_to_change;
 use seg_types::{Key, Kind, Refusal, ScalarKind, ScalarValue, Written, by_kind, by_value};
@@ -16,7 +16,7 @@ use segment_manager::{Object, Segment};
 
 /// Where a new element of a vector goes.
 #[derive(Clone, Copy)]
-pub enum Spot {
+pub enum InsertSpot {
     /// Behind the last element.
     End,
     /// Where so many others stand before it.
@@ -44,13 +44,14 @@ pub enum NewElement<'a> {
 pub fn add<L: Written>(
     segment: &mut Segment,
     key: &Key,
-    spot: Spot,
+    spot: InsertSpot,
     value: &L,
     room: &mut L::Room,
 ) -> Result<(), Refusal>
     requires { L.fits value.now }
-    ensures step { IsStep segment.old segment.new (command_at spot (key_seen key.now) (L.literal value.now)) (done_answer result) }
-    ensures refused { KeepsRefused segment.old segment.new result }
+    ensures step { TakesStep segment.old segment.new (command_at spot (key_seen key.now) (L.literal value.now))
+        (done_answer result) }
+    ensures refused { UnchangedIfRefused segment.old segment.new result }
     ensures scalar { NoText (L.literal value.now) → OnErr result (segment.new ≡ segment.old) }
 {
     let (object, element) = new_element(segment, key, value, room)?;
@@ -73,7 +74,8 @@ fn new_element<'a, L: Written>(
     room: &'a mut L::Room,
 ) -> Result<(Object, NewElement<'a>), Refusal>
     requires { L.fits value.now }
-    ensures { MatchResult result (IsNew segment.now (key_seen key.now) (L.literal value.now)) (IsNoElement segment.now (key_seen key.now) (L.literal value.now)) }
+    ensures { MatchResult result (IsNewScalar segment.now (key_seen key.now) (L.literal value.now))
+        (IsNoElement segment.now (key_seen key.now) (L.literal value.now)) }
 {
     let object = object_to_change(segment, key)?;
     match object.kind {
@@ -93,30 +95,35 @@ fn new_element<'a, L: Written>(
 fn add_scalar(
     segment: &mut Segment,
     object: Object,
-    spot: Spot,
+    spot: InsertSpot,
     value: ScalarValue,
 ) -> Result<(), Refusal>
     requires { IsObject object segment.old }
-    ensures step { IsStepOfKind segment.old segment.new (ByHandle object.handle) (VectorOf (kind_of_scalar value))
+    ensures step { TakesStepOfKind segment.old segment.new (ByHandle object.handle) (VectorOf (kind_of_scalar value))
         (command_at spot (ByHandle object.handle) (literal_seen value)) (done_answer result) }
     ensures refused { OnErr result (segment.new ≡ segment.old) }
 {
     match spot {
-        Spot::End => by_value!(value, it => segment.vec_push(&object, it)),
-        Spot::Before(index) => by_value!(value, it => segment.vec_insert(&object, index, it)),
+        InsertSpot::End => by_value!(value, it => segment.vec_push(&object, it)),
+        InsertSpot::Before(index) => by_value!(value, it => segment.vec_insert(&object, index, it)),
     }
 }
 
 /// Puts a text into a vector of strings.
-fn add_text(segment: &mut Segment, object: Object, spot: Spot, text: &[u8]) -> Result<(), Refusal>
+fn add_text(
+    segment: &mut Segment,
+    object: Object,
+    spot: InsertSpot,
+    text: &[u8],
+) -> Result<(), Refusal>
     requires { IsObject object segment.old }
-    ensures step { IsStepOfKind segment.old segment.new (ByHandle object.handle) StringsKind
+    ensures step { TakesStepOfKind segment.old segment.new (ByHandle object.handle) StringsKind
         (command_at spot (ByHandle object.handle) (Quoted text.now)) (done_answer result) }
-    ensures refused { KeepsRefused segment.old segment.new result }
+    ensures refused { UnchangedIfRefused segment.old segment.new result }
 {
     match spot {
-        Spot::End => segment.texts_push(&object, text),
-        Spot::Before(index) => segment.texts_insert(&object, index, text),
+        InsertSpot::End => segment.texts_push(&object, text),
+        InsertSpot::Before(index) => segment.texts_insert(&object, index, text),
     }
 }
 
@@ -128,7 +135,7 @@ fn add_text(segment: &mut Segment, object: Object, spot: Spot, text: &[u8]) -> R
 /// it is no vector, `OutOfRange` where it has no element there. Nothing changes.
 #[inline(never)]
 pub fn erase(segment: &mut Segment, key: &Key, index: u64) -> Result<(), Refusal>
-    ensures step { IsStep segment.old segment.new (Erase (key_seen key.now) index) (done_answer result) }
+    ensures step { TakesStep segment.old segment.new (Erase (key_seen key.now) index) (done_answer result) }
     ensures refused { OnErr result (segment.new ≡ segment.old) }
 {
     let object = object_to_change(segment, key)?;
@@ -147,7 +154,8 @@ fn erase_element(
     index: u64,
 ) -> Result<(), Refusal>
     requires { IsObject object segment.old }
-    ensures step { IsStepOfKind segment.old segment.new (ByHandle object.handle) (VectorOf kind) (Erase (ByHandle object.handle) index) (done_answer result) }
+    ensures step { TakesStepOfKind segment.old segment.new (ByHandle object.handle) (VectorOf kind)
+        (Erase (ByHandle object.handle) index) (done_answer result) }
     ensures refused { OnErr result (segment.new ≡ segment.old) }
 {
     macro_rules! erase {

@@ -4,20 +4,23 @@ use Rattle.seg_types.specs.declared.refusals.Refusal.{Refusal}
 use Rattle.seg_types.specs.declared.kinds.Kind.{Kind}
 use Rattle.seg_types.specs.Names.{Key}
 use Rattle.seg_types.specs.Commands.{Command}
-use Rattle.segment_manager.specs.declared.objects.targets.Object.{Object}
+use Rattle.segment_manager.specs.declared.objects.object_ref.Object.{Object}
 use Rattle.segment_manager.specs.Answers.{Answer}
 use Rattle.segment_manager.specs.objects.Located.{IsObject}
 use Rattle.segment_manager.specs.Staying.{is_elementwise}
-use Rattle.segment_manager.specs.State.{IsSegment, IsStepOfKind, State}
+use Rattle.segment_manager.specs.State.{IsSegment, TakesStepOfKind, SegmentState}
 use Rattle.segment_manager.proofs.Laws.{leads_on-stay, objects_stay}
 use Rattle.segment_manager.specs.containers.TextLists.{LeadsOnOfKind}
 
 -- behind a call that is a step of its kind
-pub stays_of_kind : (old new : State) (o : Object) (key : Key) (kind : Kind) (c : Command) (answer : Answer) (b : List ℕ) → b ≡ old.cut.bytes → IsSegment b → is_elementwise c ≡ true
-    → IsStepOfKind old new key kind c answer → IsObject o old → IsObject o new
-stays_of_kind old new o key kind c answer b e g w m is = objects_stay.of_kind old new key kind c answer (subst IsSegment e g) w m o is
+pub stays_of_kind : (old new : SegmentState) (o : Object) (key : Key) (kind : Kind) (c : Command) (answer : Answer)
+    (b : List ℕ) → b ≡ old.cut.bytes → IsSegment b → is_elementwise c ≡ true
+    → TakesStepOfKind old new key kind c answer → IsObject o old → IsObject o new
+stays_of_kind old new o key kind c answer b e g w m is =
+    objects_stay.of_kind old new key kind c answer (subst IsSegment e g) w m o is
 
 -- and behind one that answers less than its command
-pub stays_led : (old new : State) (o : Object) (key : Key) (kind : Kind) (c : Command) (why : Option Refusal) (b : List ℕ) → b ≡ old.cut.bytes → IsSegment b → is_elementwise c ≡ true
+pub stays_led : (old new : SegmentState) (o : Object) (key : Key) (kind : Kind) (c : Command) (why : Option Refusal)
+    (b : List ℕ) → b ≡ old.cut.bytes → IsSegment b → is_elementwise c ≡ true
     → LeadsOnOfKind old new key kind c why → IsObject o old → IsObject o new
 stays_led old new o key kind c why b e g w m is = leads_on-stay old new key kind c why (subst IsSegment e g) w m o is

@@ -21,13 +21,15 @@ use Rattle.segment_manager.specs.Answers.{Answer, Element, TextElement}
 use Rattle.segment_manager.specs.Directory.{Directory}
 use Rattle.segment_manager.specs.objects.ElementLists.{array_at, array_length_at, length_at_kind, number_or_none}
 use Rattle.segment_manager.specs.objects.ElementLists.{texts_at, vector_at}
-use Rattle.segment_manager.specs.State.{Answers, IsReplyOfKind, State, answer_of}
+use Rattle.segment_manager.specs.State.{AnswersWith, AnswersQueryOfKind, SegmentState, answer_of}
 use Rattle.segment_views.specs.Walked.{element_of}
 use Rattle.segment_manager.proofs.Laws.{array-length, array-read, got, text-read, vector-length, vector-read}
 
 -- behind the last element there is none
-pub none-past : {B : Type 0} (elements : Directory → List B) (s : State) (at len : ℕ) → Answers s (λ d. length (elements d)) len → len ≤ at → Answers s (λ d. slice_get (elements d) at) None
-none-past elements s at len h l = record { answers = λ d k. sym (slice_get_past (elements d) at (subst (λ n. n ≤ at) (h.answers d k) l)) }
+pub none-past : {B : Type 0} (elements : Directory → List B) (s : SegmentState) (at len : ℕ)
+    → AnswersWith s (λ d. length (elements d)) len → len ≤ at → AnswersWith s (λ d. slice_get (elements d) at) None
+none-past elements s at len h l =
+    record { answers = λ d k. sym (slice_get_past (elements d) at (subst (λ n. n ≤ at) (h.answers d k) l)) }
 
 -- ---- a result, as it is seen
 
@@ -35,7 +37,8 @@ abbrev mapped : {A B : Type 0} → (A → B) → Result A Refusal → Result B R
 mapped f (Ok a) = Ok (f a)
 mapped f (Err why) = Err why
 
-answer-mapped : {A B : Type 0} (say : B → Answer) (f : A → B) (r : Result A Refusal) → answer_of say (mapped f r) ≡ answer_of (λ a. say (f a)) r
+answer-mapped : {A B : Type 0} (say : B → Answer) (f : A → B) (r : Result A Refusal)
+    → answer_of say (mapped f r) ≡ answer_of (λ a. say (f a)) r
 answer-mapped say f (Ok a) = refl
 answer-mapped say f (Err why) = refl
 
@@ -45,18 +48,30 @@ got-mapped f (Err why) = refl
 
 -- ---- one element
 
-module _ (s : State) (key : Key) (at : ℕ) where
-  pub vector-item : {A : Type 0} (k : ScalarKind) (whole : A → ℤ) (r : Result A Refusal) → IsReplyOfKind s key (VectorOf k) (Get key at) (answer_of (λ x. Element k (whole x)) r)
-      → Answers s (λ d. slice_get (vector_at d key k) at) (element_of whole r)
-  vector-item k whole r a = record { answers = λ d h. sym (got-mapped whole r) ∙ vector-read s.mode d key k at (mapped whole r) (answer-mapped (Element k) whole r ∙ a.answers d h) }
+module _ (s : SegmentState) (key : Key) (at : ℕ) where
+  pub vector-item : {A : Type 0} (k : ScalarKind) (whole : A → ℤ) (r : Result A Refusal)
+      → AnswersQueryOfKind s key (VectorOf k) (Get key at) (answer_of (λ x. Element k (whole x)) r)
+      → AnswersWith s (λ d. slice_get (vector_at d key k) at) (element_of whole r)
+  vector-item k whole r a = record {
+    answers = λ d h. sym (got-mapped whole r)
+        ∙ vector-read s.mode d key k at (mapped whole r) (answer-mapped (Element k) whole r ∙ a.answers d h);
+  }
 
-  pub array-item : {A : Type 0} (k : ScalarKind) (whole : A → ℤ) (r : Result A Refusal) → IsReplyOfKind s key (ScalarOf k) (Get key at) (answer_of (λ x. Element k (whole x)) r)
-      → Answers s (λ d. slice_get (array_at d key k) at) (element_of whole r)
-  array-item k whole r a = record { answers = λ d h. sym (got-mapped whole r) ∙ array-read s.mode d key k at (mapped whole r) (answer-mapped (Element k) whole r ∙ a.answers d h) }
+  pub array-item : {A : Type 0} (k : ScalarKind) (whole : A → ℤ) (r : Result A Refusal)
+      → AnswersQueryOfKind s key (ScalarOf k) (Get key at) (answer_of (λ x. Element k (whole x)) r)
+      → AnswersWith s (λ d. slice_get (array_at d key k) at) (element_of whole r)
+  array-item k whole r a = record {
+    answers = λ d h. sym (got-mapped whole r)
+        ∙ array-read s.mode d key k at (mapped whole r) (answer-mapped (Element k) whole r ∙ a.answers d h);
+  }
 
-  pub text-item : {A : Type 0} (bytes : A → List ℕ) (r : Result A Refusal) → IsReplyOfKind s key StringsKind (Get key at) (answer_of (λ x. TextElement (bytes x)) r)
-      → Answers s (λ d. slice_get (texts_at d key) at) (element_of bytes r)
-  text-item bytes r a = record { answers = λ d h. sym (got-mapped bytes r) ∙ text-read s.mode d key at (mapped bytes r) (answer-mapped TextElement bytes r ∙ a.answers d h) }
+  pub text-item : {A : Type 0} (bytes : A → List ℕ) (r : Result A Refusal)
+      → AnswersQueryOfKind s key StringsKind (Get key at) (answer_of (λ x. TextElement (bytes x)) r)
+      → AnswersWith s (λ d. slice_get (texts_at d key) at) (element_of bytes r)
+  text-item bytes r a = record {
+    answers = λ d h. sym (got-mapped bytes r)
+        ∙ text-read s.mode d key at (mapped bytes r) (answer-mapped TextElement bytes r ∙ a.answers d h);
+  }
 
 -- ---- how many
 
@@ -122,13 +137,15 @@ texts-length : (o : Option Object) → number_or_none (first_size (elim o as (λ
 texts-length None = refl
 texts-length (Some o) = texts-sized o.value
 
-module _ (s : State) (key : Key) (r : Result ℕ Refusal) where
-  pub vector-many : (k : ScalarKind) → Answers s (λ d. length_at_kind d key (VectorOf k)) r → Answers s (λ d. length (vector_at d key k)) (number_or_none r)
+module _ (s : SegmentState) (key : Key) (r : Result ℕ Refusal) where
+  pub vector-many : (k : ScalarKind) → AnswersWith s (λ d. length_at_kind d key (VectorOf k)) r
+      → AnswersWith s (λ d. length (vector_at d key k)) (number_or_none r)
   vector-many k a = record { answers = λ d h. vector-length d key k r (a.answers d h) }
 
-  pub texts-many : Answers s (λ d. length_at_kind d key StringsKind) r
-      → Answers s (λ d. length (texts_at d key)) (number_or_none r)
+  pub texts-many : AnswersWith s (λ d. length_at_kind d key StringsKind) r
+      → AnswersWith s (λ d. length (texts_at d key)) (number_or_none r)
   texts-many a = record { answers = λ d h. ap number_or_none (a.answers d h) ∙ texts-length (object_at d key) }
 
-  pub array-many : (k : ScalarKind) → Answers s (λ d. array_length_at d key k) r → Answers s (λ d. length (array_at d key k)) (number_or_none r)
+  pub array-many : (k : ScalarKind) → AnswersWith s (λ d. array_length_at d key k) r
+      → AnswersWith s (λ d. length (array_at d key k)) (number_or_none r)
   array-many k a = record { answers = λ d h. array-length d key k r (a.answers d h) }

@@ -8,10 +8,10 @@ use Rattle.seg_types.specs.declared.refusals.Refusal.{Refusal}
 use Rattle.seg_types.specs.Names.{Key}
 use Rattle.seg_map.specs.Numbers.{NumberPair}
 use Rattle.seg_map.specs.Places.{item_of}
-use Rattle.segment_manager.specs.declared.objects.targets.Object.{Object as Located}
+use Rattle.segment_manager.specs.declared.objects.object_ref.Object.{Object as Located}
 use Rattle.segment_manager.specs.Directory.{Directory}
 use Rattle.segment_manager.specs.objects.Located.{IsObject}
-use Rattle.segment_manager.specs.State.{State, StandsFor}
+use Rattle.segment_manager.specs.State.{SegmentState, DenotesCurrent}
 use Rattle.segment_manager.specs.containers.Walks.{pairs_at_kinds}
 
 -- ---- bounds
@@ -43,7 +43,7 @@ last_between start end ps = slice_get (range_of start end (reverse ps)) 0
 
 -- of a map the bounds of the pairs that are left, which are so many at most
 pub record PairWalk : Type 0 where
-  pub segment : State
+  pub segment : SegmentState
   pub key : Key
   pub start : Bound ℤ
   pub end : Bound ℤ
@@ -64,21 +64,25 @@ TakesLast seen None before after = (before ≡ []) × (after ≡ [])
 TakesLast seen (Some x) before after = before ≡ after ++ seen x ∷ []
 
 -- it gives the first pair that is left
-pub record GoesOnPairs {A : Type 0} (k v : ScalarKind) (seen : A → ℤ × ℤ) (old : PairWalk) (item : Option A) (new : PairWalk) : Type 0 where
+pub record GoesOnPairs {A : Type 0} (k v : ScalarKind) (seen : A
+    → ℤ × ℤ) (old : PairWalk) (item : Option A) (new : PairWalk) : Type 0 where
   pub segment : new.segment ≡ old.segment
   pub key : new.key ≡ old.key
-  pub pairs : (d : Directory) → StandsFor old.segment.cut.bytes d → TakesFirst seen item (pairs_left k v d old) (pairs_left k v d new)
+  pub pairs : (d : Directory) → DenotesCurrent old.segment.cut.bytes d
+      → TakesFirst seen item (pairs_left k v d old) (pairs_left k v d new)
 
 -- it gives the last pair that is left
-pub record GoesBackPairs {A : Type 0} (k v : ScalarKind) (seen : A → ℤ × ℤ) (old : PairWalk) (item : Option A) (new : PairWalk) : Type 0 where
+pub record GoesBackPairs {A : Type 0} (k v : ScalarKind) (seen : A
+    → ℤ × ℤ) (old : PairWalk) (item : Option A) (new : PairWalk) : Type 0 where
   pub segment : new.segment ≡ old.segment
   pub key : new.key ≡ old.key
-  pub pairs : (d : Directory) → StandsFor old.segment.cut.bytes d → TakesLast seen item (pairs_left k v d old) (pairs_left k v d new)
+  pub pairs : (d : Directory) → DenotesCurrent old.segment.cut.bytes d
+      → TakesLast seen item (pairs_left k v d old) (pairs_left k v d new)
 
 -- the object is there, and so many pairs are left at most
 pub record IsPairWalk (k v : ScalarKind) (o : Located) (w : PairWalk) : Type 0 where
   pub here : IsObject o w.segment
-  pub few : (d : Directory) → StandsFor w.segment.cut.bytes d → length (pairs_left k v d w) ≤ w.left
+  pub few : (d : Directory) → DenotesCurrent w.segment.cut.bytes d → length (pairs_left k v d w) ≤ w.left
 
 -- ---- what is read
 

@@ -2,30 +2,32 @@
 use Rattle.std.specs.Prelude.{◌≡◌, ℕ, Option, Some, None, Result, Ok, Err, List, length, option_map, slice_get}
 use Rattle.seg_types.specs.declared.refusals.Refusal.{Refusal}
 use Rattle.seg_types.specs.Names.{Key}
-use Rattle.segment_manager.specs.declared.objects.targets.Object.{Object as Located}
+use Rattle.segment_manager.specs.declared.objects.object_ref.Object.{Object as Located}
 use Rattle.segment_manager.specs.Directory.{Directory}
 use Rattle.segment_manager.specs.indexes.Iterating.{place_behind}
 use Rattle.segment_manager.specs.objects.Located.{IsObject}
-use Rattle.segment_manager.specs.State.{Answers, State}
+use Rattle.segment_manager.specs.State.{AnswersWith, SegmentState}
 
 -- an iterator over the elements of the object of a key: how many of them it has given
 pub record ElementWalk : Type 0 where
-  pub segment : State
+  pub segment : SegmentState
   pub key : Key
   pub at : ℕ
 
 -- it gives the element that stands where it stood, as it is seen, and stands behind it then; nothing where none stands
 -- there
-pub record GoesOnElements {A B : Type 0} (elements : Directory → Key → List B) (seen : A → B) (old : ElementWalk) (item : Option A) (new : ElementWalk) : Type 0 where
+pub record GoesOnElements {A B : Type 0} (elements : Directory → Key → List B) (seen : A
+    → B) (old : ElementWalk) (item : Option A) (new : ElementWalk) : Type 0 where
   pub segment : new.segment ≡ old.segment
   pub key : new.key ≡ old.key
   pub place : new.at ≡ place_behind old.at item
-  pub says : Answers old.segment (λ d. slice_get (elements d old.key) old.at) (option_map seen item)
+  pub says : AnswersWith old.segment (λ d. slice_get (elements d old.key) old.at) (option_map seen item)
 
 -- the object is there, and has so many elements
-pub record IsWalkOver {B : Type 0} (elements : Directory → List B) (s : State) (o : Located) (len : ℕ) : Type 0 where
+pub record IsWalkOver {B : Type 0} (elements : Directory
+    → List B) (s : SegmentState) (o : Located) (len : ℕ) : Type 0 where
   pub here : IsObject o s
-  pub length_is : Answers s (λ d. length (elements d)) len
+  pub length_is : AnswersWith s (λ d. length (elements d)) len
 
 -- the element that is read, as it is seen; none where the reading is refused
 abbrev pub element_of : {A B : Type 0} → (A → B) → Result A Refusal → Option B

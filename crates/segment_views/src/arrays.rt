@@ -54,7 +54,7 @@ impl Storage for Array {
 }
 
 impl<'a, T: Scalar> View<'a, Row<T, Array>> {
-    ghost use Rattle.segment_views.specs.OfView.{IsSame, key_of, segment_of};
+    ghost use Rattle.segment_views.specs.OfView.{SameView, key_of, segment_of};
 
     /// Makes values its first elements, one after another. No other byte changes.
     ///
@@ -65,8 +65,11 @@ impl<'a, T: Scalar> View<'a, Row<T, Array>> {
     /// Those of `set`, at the first value that is refused, as where there are more values than elements: the values
     /// before it are elements then.
     pub fn copy_from(&mut self, values: &[T]) -> Result<(), Refusal>
-        ensures same { IsSame self.old self.new }
-        ensures steps { StepsOn (key_of self.old) (ScalarOf T.kind) (λ i z. Set (key_of self.old) i (literal_of T.kind z)) (λ old new i. ChangesElement old new (key_of self.old) T.kind i) (map T.whole values.now) (segment_of self.old) (segment_of self.new) result }
+        ensures unchanged { SameView self.old self.new }
+        ensures steps { StepsOn (key_of self.old) (ScalarOf T.kind) (λ i z.
+            Set (key_of self.old) i (literal_of T.kind z)) (λ old new i.
+            ChangesElement old new (key_of self.old) T.kind i) (map T.whole values.now) (segment_of self.old)
+            (segment_of self.new) result }
     {
         'values: for i in 0..values.len() {
             self.set(i as u64, values[i])?;

@@ -3,7 +3,7 @@ ghost use Rattle.std.specs.Prelude.{◌≤◌, get_or, length, map, take};
 ghost use Rattle.seg_types.specs.Names.{ByHandle};
 ghost use Rattle.segment_manager.specs.Directory.{Directory};
 ghost use Rattle.segment_manager.specs.objects.Located.{IsObject};
-ghost use Rattle.segment_manager.specs.State.{Answers, StandsFor};
+ghost use Rattle.segment_manager.specs.State.{AnswersWith, DenotesCurrent};
 
 use crate::rows::Storage;
 use seg_types::Scalar;
@@ -11,9 +11,11 @@ use segment_manager::{Object, Segment};
 
 /// Makes the values of a slice the first elements of a row, which has as many.
 pub(crate) fn copy_row<T: Scalar, S: Storage>(segment: &Segment, object: &Object, values: &mut [T])
-    requires here { IsObject object.now segment.now }
-    requires enough { (d : Directory) → StandsFor segment.now.cut.bytes d → length values.old ≤ length (S.elements d (ByHandle object.now.handle) T.kind) }
-    ensures { Answers segment.now (λ d. take (length values.old) (S.elements d (ByHandle object.now.handle) T.kind)) (map T.whole values.new) }
+    requires in_place { IsObject object.now segment.now }
+    requires enough { (d : Directory) → DenotesCurrent segment.now.cut.bytes d
+        → length values.old ≤ length (S.elements d (ByHandle object.now.handle) T.kind) }
+    ensures { AnswersWith segment.now (λ d.
+        take (length values.old) (S.elements d (ByHandle object.now.handle) T.kind)) (map T.whole values.new) }
 {
     'places: for i in 0..values.len() {
         values[i] = element_or::<T, S>(segment, object, i as u64, values[i]);
@@ -23,7 +25,8 @@ pub(crate) fn copy_row<T: Scalar, S: Storage>(segment: &Segment, object: &Object
 /// The element of a row at `index`, or another value where there is none.
 fn element_or<T: Scalar, S: Storage>(segment: &Segment, object: &Object, index: u64, other: T) -> T
     requires { IsObject object.now segment.now }
-    ensures { Answers segment.now (λ d. get_or (S.elements d (ByHandle object.now.handle) T.kind) index (T.whole other)) (T.whole result) }
+    ensures { AnswersWith segment.now (λ d.
+        get_or (S.elements d (ByHandle object.now.handle) T.kind) index (T.whole other)) (T.whole result) }
 {
     S::get::<T>(segment, object, index).unwrap_or(other)
 }

@@ -31,7 +31,8 @@ impl<'a, T: Scalar, S: Storage> Model for RowItems<'a, T, S> {
 
     ghost view = { λ w. record { segment = w.segment.now; key = ByHandle w.object.handle; at = w.at } };
 
-    ghost invariant = { λ w. IsWalkOver (λ d. S.elements d (ByHandle w.object.handle) T.kind) w.segment.now w.object w.len };
+    ghost invariant = { λ w. IsWalkOver (λ d. S.elements d (ByHandle w.object.handle) T.kind) w.segment.now w.object
+        w.len };
 }
 
 impl<'a, T: Scalar, S: Storage> RowItems<'a, T, S> {

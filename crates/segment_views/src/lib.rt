@@ -19,6 +19,6 @@ pub use maps::{MapView, Pairs};
 pub use ranges::MapItems;
 pub use rows::{Row, Storage};
 pub use string_lists::{StringsView, Texts};
-pub use strings::{StringView, Text};
+pub use strings::{StringBytes, StringView};
 pub use vectors::{Vector, VectorItems, VectorView};
-pub use views::{Content, View};
+pub use views::{View, ViewContent};

@@ -3,17 +3,17 @@ ghost use Rattle.std.specs.Prelude.{◌≡◌, OnErr, option_map};
 ghost use Rattle.seg_types.specs.declared.kinds.Kind.TheVariants.{Map as MapOf};
 ghost use Rattle.seg_types.specs.Commands.{Lookup, Put, Remove, literal_of};
 ghost use Rattle.segment_manager.specs.objects.ElementLists.{length_at_kind};
-ghost use Rattle.segment_manager.specs.Keeping.{KeepsWhere, LacksPair};
+ghost use Rattle.segment_manager.specs.Keeping.{UnchangedWhere, LacksPair};
 ghost use Rattle.segment_manager.specs.containers.Maps.{pair_above, pair_at_end, pair_from, pair_result, told_of_map};
 ghost use Rattle.segment_manager.specs.containers.Maps.{value_answer};
 ghost use Rattle.segment_manager.specs.containers.Walks.{first_of};
 ghost use Rattle.seg_map.specs.Places.{item_of};
 ghost use Rattle.std.specs.Range.Bound.{bound_map};
 ghost use Rattle.std.specs.declared.ops.Bound.TheVariants.{Unbounded};
-ghost use Rattle.segment_manager.specs.State.{Answers, IsReplyOfKind, IsStepOfKind, truth_answer};
+ghost use Rattle.segment_manager.specs.State.{AnswersWith, AnswersQueryOfKind, TakesStepOfKind, truth_answer};
 
 use crate::ranges::{MapItems, first_of_all};
-use crate::views::{Content, View};
+use crate::views::{View, ViewContent};
 use seg_types::{Kind, Refusal, Scalar};
 use segment_manager::Object;
 use std::marker::PhantomData;
@@ -28,7 +28,7 @@ pub struct Pairs<K, V> {
 /// A map of keys and values of two types in a segment that may be changed, looked up once.
 pub type MapView<'a, K, V> = View<'a, Pairs<K, V>>;
 
-impl<K: Scalar, V: Scalar> Content for Pairs<K, V> {
+impl<K: Scalar, V: Scalar> ViewContent for Pairs<K, V> {
     ghost kind = { MapOf K.kind V.kind };
 
     fn kind() -> Kind {
@@ -37,7 +37,7 @@ impl<K: Scalar, V: Scalar> Content for Pairs<K, V> {
 }
 
 impl<'a, K: Scalar, V: Scalar> View<'a, Pairs<K, V>> {
-    ghost use Rattle.segment_views.specs.OfView.{IsSame, key_of, segment_of};
+    ghost use Rattle.segment_views.specs.OfView.{SameView, key_of, segment_of};
 
     /// The value of a key.
     ///
@@ -45,7 +45,8 @@ impl<'a, K: Scalar, V: Scalar> View<'a, Pairs<K, V>> {
     ///
     /// `WrongKind` where the object is no such map.
     pub fn get(&self, key: K) -> Result<Option<V>, Refusal>
-        ensures { IsReplyOfKind (segment_of self.now) (key_of self.now) (MapOf K.kind V.kind) (Lookup (key_of self.now) (literal_of K.kind (K.whole key))) (value_answer V.kind V.whole result) }
+        ensures { AnswersQueryOfKind (segment_of self.now) (key_of self.now) (MapOf K.kind V.kind)
+            (Lookup (key_of self.now) (literal_of K.kind (K.whole key))) (value_answer V.kind V.whole result) }
     {
         self.segment.map_get::<K, V, Object>(&self.object, key)
     }
@@ -58,7 +59,8 @@ impl<'a, K: Scalar, V: Scalar> View<'a, Pairs<K, V>> {
     ///
     /// `WrongKind` where the object is no such map.
     pub fn len(&self) -> Result<u64, Refusal>
-        ensures { Answers (segment_of self.now) (λ d. length_at_kind d (key_of self.now) (MapOf K.kind V.kind)) result }
+        ensures { AnswersWith (segment_of self.now) (λ d.
+            length_at_kind d (key_of self.now) (MapOf K.kind V.kind)) result }
     {
         self.segment.map_len::<K, V, Object>(&self.object)
     }
@@ -71,7 +73,9 @@ impl<'a, K: Scalar, V: Scalar> View<'a, Pairs<K, V>> {
     ///
     /// `WrongKind` where the object is no such map.
     pub fn first(&self) -> Result<Option<(K, V)>, Refusal>
-        ensures { Answers (segment_of self.now) (λ d. told_of_map d (key_of self.now) K.kind V.kind (λ ps. option_map item_of (first_of ps))) (pair_result K.whole V.whole result) }
+        ensures { AnswersWith (segment_of self.now) (λ d.
+            told_of_map d (key_of self.now) K.kind V.kind (λ ps. option_map item_of (first_of ps)))
+            (pair_result K.whole V.whole result) }
     {
         first_of_all(self.segment, &self.object)
     }
@@ -84,7 +88,8 @@ impl<'a, K: Scalar, V: Scalar> View<'a, Pairs<K, V>> {
     ///
     /// `WrongKind` where the object is no such map.
     pub fn last(&self) -> Result<Option<(K, V)>, Refusal>
-        ensures { Answers (segment_of self.now) (λ d. told_of_map d (key_of self.now) K.kind V.kind pair_at_end) (pair_result K.whole V.whole result) }
+        ensures { AnswersWith (segment_of self.now) (λ d.
+            told_of_map d (key_of self.now) K.kind V.kind pair_at_end) (pair_result K.whole V.whole result) }
     {
         self.segment.map_last::<K, V, Object>(&self.object)
     }
@@ -128,7 +133,9 @@ impl<'a, K: Scalar, V: Scalar> View<'a, Pairs<K, V>> {
     ///
     /// `WrongKind` where the object is no such map.
     pub fn first_from(&self, from: K) -> Result<Option<(K, V)>, Refusal>
-        ensures { Answers (segment_of self.now) (λ d. told_of_map d (key_of self.now) K.kind V.kind (pair_from (K.whole from))) (pair_result K.whole V.whole result) }
+        ensures { AnswersWith (segment_of self.now) (λ d.
+            told_of_map d (key_of self.now) K.kind V.kind (pair_from (K.whole from)))
+            (pair_result K.whole V.whole result) }
     {
         self.segment
             .map_first_from::<K, V, Object>(&self.object, from)
@@ -140,7 +147,9 @@ impl<'a, K: Scalar, V: Scalar> View<'a, Pairs<K, V>> {
     ///
     /// `WrongKind` where the object is no such map.
     pub fn next_after(&self, after: K) -> Result<Option<(K, V)>, Refusal>
-        ensures { Answers (segment_of self.now) (λ d. told_of_map d (key_of self.now) K.kind V.kind (pair_above (K.whole after))) (pair_result K.whole V.whole result) }
+        ensures { AnswersWith (segment_of self.now) (λ d.
+            told_of_map d (key_of self.now) K.kind V.kind (pair_above (K.whole after)))
+            (pair_result K.whole V.whole result) }
     {
         self.segment
             .map_next_after::<K, V, Object>(&self.object, after)
@@ -153,8 +162,10 @@ impl<'a, K: Scalar, V: Scalar> View<'a, Pairs<K, V>> {
     /// `ReadOnly` where the segment is open for reading, else `WrongKind` where the object is no such map, `NoSpace`
     /// where the key is new and no gap is long enough for its block. Nothing changes.
     pub fn insert(&mut self, key: K, value: V) -> Result<bool, Refusal>
-        ensures same { IsSame self.old self.new }
-        ensures step { IsStepOfKind (segment_of self.old) (segment_of self.new) (key_of self.old) (MapOf K.kind V.kind) (Put (key_of self.old) (literal_of K.kind (K.whole key)) (literal_of V.kind (V.whole value))) (truth_answer result) }
+        ensures unchanged { SameView self.old self.new }
+        ensures step { TakesStepOfKind (segment_of self.old) (segment_of self.new) (key_of self.old)
+            (MapOf K.kind V.kind) (Put (key_of self.old) (literal_of K.kind (K.whole key))
+            (literal_of V.kind (V.whole value))) (truth_answer result) }
         ensures refused { OnErr result (segment_of self.new ≡ segment_of self.old) }
     {
         let _ = self.segment.as_bytes();
@@ -168,10 +179,11 @@ impl<'a, K: Scalar, V: Scalar> View<'a, Pairs<K, V>> {
     /// `ReadOnly` where the segment is open for reading, else `WrongKind` where the object is no such map. Nothing
     /// changes.
     pub fn erase(&mut self, key: K) -> Result<bool, Refusal>
-        ensures same { IsSame self.old self.new }
-        ensures step { IsStepOfKind (segment_of self.old) (segment_of self.new) (key_of self.old) (MapOf K.kind V.kind) (Remove (key_of self.old) (literal_of K.kind (K.whole key))) (truth_answer result) }
+        ensures unchanged { SameView self.old self.new }
+        ensures step { TakesStepOfKind (segment_of self.old) (segment_of self.new) (key_of self.old)
+            (MapOf K.kind V.kind) (Remove (key_of self.old) (literal_of K.kind (K.whole key))) (truth_answer result) }
         ensures refused { OnErr result (segment_of self.new ≡ segment_of self.old) }
-        ensures absent { KeepsWhere (segment_of self.old) (segment_of self.new)
+        ensures absent { UnchangedWhere (segment_of self.old) (segment_of self.new)
             (LacksPair (key_of self.old) (K.whole key)) }
     {
         let _ = self.segment.as_bytes();

@@ -8,7 +8,7 @@ ghost use Rattle.seg_types.specs.Names.{ByHandle};
 ghost use Rattle.seg_types.specs.Values.{kind_of_scalar, value_of_scalar};
 ghost use Rattle.segment_manager.specs.objects.Located.{IsObject};
 ghost use Rattle.segment_manager.specs.containers.Maps.{numbers_in, pair_result, told_of_map};
-ghost use Rattle.segment_manager.specs.State.{Answers};
+ghost use Rattle.segment_manager.specs.State.{AnswersWith};
 ghost use Rattle.segment_manager.specs.containers.Walks.{first_of, pairs_at_kinds};
 ghost use Rattle.seg_map.specs.Places.{item_of};
 ghost use Rattle.segment_views.specs.Ranged.{GoesBackPairs, GoesOnPairs, is_from as is_from_start};
@@ -47,9 +47,21 @@ impl<'a, K: Scalar, V: Scalar> Model for MapItems<'a, K, V> {
 
     ghost Value = { PairWalk };
 
-    ghost view = { λ w. record { segment = w.segment.now; key = ByHandle w.object.handle; start = bound_map K.whole w.start; end = bound_map K.whole w.end; left = w.left } };
+    ghost view = { λ w. record {
+      segment = w.segment.now;
+      key = ByHandle w.object.handle;
+      start = bound_map K.whole w.start;
+      end = bound_map K.whole w.end;
+      left = w.left;
+    } };
 
-    ghost invariant = { λ w. IsPairWalk K.kind V.kind w.object (record { segment = w.segment.now; key = ByHandle w.object.handle; start = bound_map K.whole w.start; end = bound_map K.whole w.end; left = w.left }) };
+    ghost invariant = { λ w. IsPairWalk K.kind V.kind w.object (record {
+      segment = w.segment.now;
+      key = ByHandle w.object.handle;
+      start = bound_map K.whole w.start;
+      end = bound_map K.whole w.end;
+      left = w.left;
+    }) };
 }
 
 impl<'a, K: Scalar, V: Scalar> MapItems<'a, K, V> {
@@ -118,7 +130,9 @@ fn first_between<K: Scalar, V: Scalar>(
     end: Bound<K>,
 ) -> Option<(K, V)>
     requires { IsObject object.now segment.now }
-    ensures { Answers segment.now (λ d. slice_get (range_of (bound_map K.whole start) (bound_map K.whole end) (pairs_at_kinds d (ByHandle object.now.handle) K.kind V.kind)) 0) (numbers_in K.whole V.whole result) }
+    ensures { AnswersWith segment.now (λ d.
+        slice_get (range_of (bound_map K.whole start) (bound_map K.whole end)
+        (pairs_at_kinds d (ByHandle object.now.handle) K.kind V.kind)) 0) (numbers_in K.whole V.whole result) }
 {
     let pair = pair_or_none(first_from(segment, object, start))?;
     is_up_to(end, pair.0).then_some(pair)
@@ -131,7 +145,10 @@ fn first_from<K: Scalar, V: Scalar>(
     start: Bound<K>,
 ) -> Result<Option<(K, V)>, Refusal>
     requires { IsObject object.now segment.now }
-    ensures { Answers segment.now (λ d. slice_get (range_of (bound_map K.whole start) Unbounded (pairs_at_kinds d (ByHandle object.now.handle) K.kind V.kind)) 0) (numbers_in K.whole V.whole (pair_of result)) }
+    ensures { AnswersWith segment.now (λ d.
+        slice_get (range_of (bound_map K.whole start) Unbounded
+        (pairs_at_kinds d (ByHandle object.now.handle) K.kind V.kind)) 0)
+        (numbers_in K.whole V.whole (pair_of result)) }
 {
     match start {
         Bound::Included(from) => segment.map_first_from::<K, V, Object>(object, from),
@@ -150,7 +167,9 @@ pub(crate) fn first_of_all<K: Scalar, V: Scalar>(
     object: &Object,
 ) -> Result<Option<(K, V)>, Refusal>
     requires { IsObject object.now segment.now }
-    ensures { Answers segment.now (λ d. told_of_map d (ByHandle object.now.handle) K.kind V.kind (λ ps. option_map item_of (first_of ps))) (pair_result K.whole V.whole result) }
+    ensures { AnswersWith segment.now (λ d.
+        told_of_map d (ByHandle object.now.handle) K.kind V.kind (λ ps. option_map item_of (first_of ps)))
+        (pair_result K.whole V.whole result) }
 {
     segment.map_first_from::<K, V, Object>(object, lowest())
 }
@@ -163,7 +182,9 @@ fn last_between<K: Scalar, V: Scalar>(
     end: Bound<K>,
 ) -> Option<(K, V)>
     requires { IsObject object.now segment.now }
-    ensures { Answers segment.now (λ d. last_of (bound_map K.whole start) (bound_map K.whole end) (pairs_at_kinds d (ByHandle object.now.handle) K.kind V.kind)) (numbers_in K.whole V.whole result) }
+    ensures { AnswersWith segment.now (λ d.
+        last_of (bound_map K.whole start) (bound_map K.whole end)
+        (pairs_at_kinds d (ByHandle object.now.handle) K.kind V.kind)) (numbers_in K.whole V.whole result) }
 {
     let pair = pair_or_none(last_up_to(segment, object, end))?;
     is_from(start, pair.0).then_some(pair)
@@ -176,7 +197,9 @@ fn last_up_to<K: Scalar, V: Scalar>(
     end: Bound<K>,
 ) -> Result<Option<(K, V)>, Refusal>
     requires { IsObject object.now segment.now }
-    ensures { Answers segment.now (λ d. last_of Unbounded (bound_map K.whole end) (pairs_at_kinds d (ByHandle object.now.handle) K.kind V.kind)) (numbers_in K.whole V.whole (pair_of result)) }
+    ensures { AnswersWith segment.now (λ d.
+        last_of Unbounded (bound_map K.whole end) (pairs_at_kinds d (ByHandle object.now.handle) K.kind V.kind))
+        (numbers_in K.whole V.whole (pair_of result)) }
 {
     match end {
         Bound::Included(to) => segment.map_last_up_to::<K, V, Object>(object, to),

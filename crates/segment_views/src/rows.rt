@@ -9,14 +9,15 @@ ghost use Rattle.segment_manager.specs.Answers.{Element};
 ghost use Rattle.segment_manager.specs.Directory.{Directory};
 ghost use Rattle.segment_manager.specs.objects.ElementLists.{number_or_none};
 ghost use Rattle.segment_manager.specs.objects.Located.{IsObject};
-ghost use Rattle.segment_manager.specs.State.{Answers, IsReplyOfKind, IsStepOfKind, State, answer_of, done_answer};
+ghost use Rattle.segment_manager.specs.State.{AnswersWith, AnswersQueryOfKind, TakesStepOfKind, SegmentState};
+ghost use Rattle.segment_manager.specs.State.{answer_of, done_answer};
 ghost use Rattle.segment_manager.specs.State.{refusal_in};
 ghost use Rattle.segment_views.specs.Copied.{lacking};
 ghost use Rattle.segment_views.specs.Walked.{element_of};
 
 use crate::copying::copy_row;
 use crate::elements::RowItems;
-use crate::views::{Content, View};
+use crate::views::{View, ViewContent};
 use seg_types::{Kind, Refusal, Scalar, ScalarKind};
 use segment_manager::{Object, Segment};
 use std::marker::PhantomData;
@@ -33,7 +34,7 @@ pub trait Storage {
     ghost count: { Directory → Key → AnyScalarKind → AnyResult ℕ AnyRefusal };
 
     // What a change of the element at an index leaves, of the segment before and after.
-    ghost keeps: { State → State → Key → AnyScalarKind → ℕ → Type 0 };
+    ghost keeps: { SegmentState → SegmentState → Key → AnyScalarKind → ℕ → Type 0 };
 
     /// The kind of the object, by that of its scalars.
     fn kind(of: ScalarKind) -> Kind
@@ -46,8 +47,10 @@ pub trait Storage {
     /// `OutOfRange` where there is none, `WrongKind` where the object is of another kind.
     fn get<T: Scalar>(segment: &Segment, object: &Object, index: u64) -> Result<T, Refusal>
         requires { IsObject object.now segment.now }
-        ensures reply { IsReplyOfKind segment.now (ByHandle object.now.handle) (kind T.kind) (Get (ByHandle object.now.handle) index) (answer_of (λ x. Element T.kind (T.whole x)) result) }
-        ensures stands { Answers segment.now (λ d. slice_get (elements d (ByHandle object.now.handle) T.kind) index) (element_of T.whole result) };
+        ensures reply { AnswersQueryOfKind segment.now (ByHandle object.now.handle) (kind T.kind)
+            (Get (ByHandle object.now.handle) index) (answer_of (λ x. Element T.kind (T.whole x)) result) }
+        ensures object { AnswersWith segment.now (λ d.
+            slice_get (elements d (ByHandle object.now.handle) T.kind) index) (element_of T.whole result) };
 
     /// How many elements an object has that was located.
     ///
@@ -56,8 +59,9 @@ pub trait Storage {
     /// `WrongKind` where it is of another kind.
     fn len<T: Scalar>(segment: &Segment, object: &Object) -> Result<u64, Refusal>
         requires { IsObject object.now segment.now }
-        ensures told { Answers segment.now (λ d. count d (ByHandle object.now.handle) T.kind) result }
-        ensures many { Answers segment.now (λ d. length (elements d (ByHandle object.now.handle) T.kind)) (number_or_none result) };
+        ensures result { AnswersWith segment.now (λ d. count d (ByHandle object.now.handle) T.kind) result }
+        ensures count { AnswersWith segment.now (λ d.
+            length (elements d (ByHandle object.now.handle) T.kind)) (number_or_none result) };
 
     /// Makes a value the element at `index` of an object that was located.
     ///
@@ -71,7 +75,8 @@ pub trait Storage {
         value: T,
     ) -> Result<(), Refusal>
         requires { IsObject object.now segment.old }
-        ensures step { IsStepOfKind segment.old segment.new (ByHandle object.now.handle) (kind T.kind) (Set (ByHandle object.now.handle) index (literal_of T.kind (T.whole value))) (done_answer result) }
+        ensures step { TakesStepOfKind segment.old segment.new (ByHandle object.now.handle) (kind T.kind)
+            (Set (ByHandle object.now.handle) index (literal_of T.kind (T.whole value))) (done_answer result) }
         ensures refused { OnErr result (segment.new ≡ segment.old) }
         ensures others { OnOk result (keeps segment.old segment.new (ByHandle object.now.handle) T.kind index) };
 }
@@ -82,7 +87,7 @@ pub struct Row<T, S> {
     of: PhantomData<(T, S)>,
 }
 
-impl<T: Scalar, S: Storage> Content for Row<T, S> {
+impl<T: Scalar, S: Storage> ViewContent for Row<T, S> {
     ghost kind = { S.kind T.kind };
 
     fn kind() -> Kind {
@@ -91,7 +96,7 @@ impl<T: Scalar, S: Storage> Content for Row<T, S> {
 }
 
 impl<'a, T: Scalar, S: Storage> View<'a, Row<T, S>> {
-    ghost use Rattle.segment_views.specs.OfView.{IsSame, key_of, segment_of};
+    ghost use Rattle.segment_views.specs.OfView.{SameView, key_of, segment_of};
 
     /// The element at `index`.
     ///
@@ -99,7 +104,8 @@ impl<'a, T: Scalar, S: Storage> View<'a, Row<T, S>> {
     ///
     /// `OutOfRange` where there is none, `WrongKind` where the object is of another kind.
     pub fn get(&self, index: u64) -> Result<T, Refusal>
-        ensures { IsReplyOfKind (segment_of self.now) (key_of self.now) (S.kind T.kind) (Get (key_of self.now) index) (answer_of (λ x. Element T.kind (T.whole x)) result) }
+        ensures { AnswersQueryOfKind (segment_of self.now) (key_of self.now) (S.kind T.kind)
+            (Get (key_of self.now) index) (answer_of (λ x. Element T.kind (T.whole x)) result) }
     {
         S::get::<T>(self.segment, &self.object, index)
     }
@@ -112,7 +118,7 @@ impl<'a, T: Scalar, S: Storage> View<'a, Row<T, S>> {
     ///
     /// `WrongKind` where the object is of another kind.
     pub fn len(&self) -> Result<u64, Refusal>
-        ensures { Answers (segment_of self.now) (λ d. S.count d (key_of self.now) T.kind) result }
+        ensures { AnswersWith (segment_of self.now) (λ d. S.count d (key_of self.now) T.kind) result }
     {
         S::len::<T>(self.segment, &self.object)
     }
@@ -135,8 +141,10 @@ impl<'a, T: Scalar, S: Storage> View<'a, Row<T, S>> {
     /// `WrongKind` where the object is of another kind, `OutOfRange` where the slice has more places than there are
     /// elements. The slice does not change.
     pub fn copy_to(&self, values: &mut [T]) -> Result<(), Refusal>
-        ensures refusal { Answers (segment_of self.now) (λ d. lacking (length values.old) (S.count d (key_of self.now) T.kind)) (refusal_in result) }
-        ensures copied { OnOk result (Answers (segment_of self.now) (λ d. take (length values.old) (S.elements d (key_of self.now) T.kind)) (map T.whole values.new)) }
+        ensures refusal { AnswersWith (segment_of self.now) (λ d.
+            lacking (length values.old) (S.count d (key_of self.now) T.kind)) (refusal_in result) }
+        ensures copy { OnOk result (AnswersWith (segment_of self.now) (λ d.
+            take (length values.old) (S.elements d (key_of self.now) T.kind)) (map T.whole values.new)) }
         ensures unchanged { OnErr result (values.new ≡ values.old) }
     {
         let len = S::len::<T>(self.segment, &self.object)?;
@@ -154,10 +162,12 @@ impl<'a, T: Scalar, S: Storage> View<'a, Row<T, S>> {
     /// `ReadOnly` where the segment is open for reading, else `WrongKind` where the object is of another kind,
     /// `OutOfRange` where it has no element there. Nothing changes.
     pub fn set(&mut self, index: u64, value: T) -> Result<(), Refusal>
-        ensures same { IsSame self.old self.new }
-        ensures step { IsStepOfKind (segment_of self.old) (segment_of self.new) (key_of self.old) (S.kind T.kind) (Set (key_of self.old) index (literal_of T.kind (T.whole value))) (done_answer result) }
+        ensures unchanged { SameView self.old self.new }
+        ensures step { TakesStepOfKind (segment_of self.old) (segment_of self.new) (key_of self.old) (S.kind T.kind)
+            (Set (key_of self.old) index (literal_of T.kind (T.whole value))) (done_answer result) }
         ensures refused { OnErr result (segment_of self.new ≡ segment_of self.old) }
-        ensures others { OnOk result (S.keeps (segment_of self.old) (segment_of self.new) (key_of self.old) T.kind index) }
+        ensures others { OnOk result (S.keeps (segment_of self.old) (segment_of self.new) (key_of self.old) T.kind
+            index) }
     {
         let _ = self.segment.as_bytes();
         S::set::<T>(self.segment, &self.object, index, value)

@@ -4,12 +4,13 @@ ghost use Rattle.seg_types.specs.declared.kinds.Kind.TheVariants.{Strings as Str
 ghost use Rattle.seg_types.specs.Commands.{Erase, Get, Insert, Pop, Push, Quoted, Set};
 ghost use Rattle.segment_manager.specs.Answers.{TextElement};
 ghost use Rattle.segment_manager.specs.objects.ElementLists.{length_at_kind};
-ghost use Rattle.segment_manager.specs.State.{Answers, IsReplyOfKind, IsStepOfKind, KeepsRefused, answer_of};
+ghost use Rattle.segment_manager.specs.State.{AnswersWith, AnswersQueryOfKind, TakesStepOfKind, UnchangedIfRefused};
+ghost use Rattle.segment_manager.specs.State.{answer_of};
 ghost use Rattle.segment_manager.specs.State.{done_answer, refusal_in};
 ghost use Rattle.segment_manager.specs.containers.TextLists.{LeadsOnOfKind};
 
 use crate::elements::TextItems;
-use crate::views::{Content, View};
+use crate::views::{View, ViewContent};
 use seg_types::{Kind, Refusal};
 
 /// Strings, one after another.
@@ -19,7 +20,7 @@ pub struct Texts;
 /// A vector of strings in a segment that may be changed, looked up once.
 pub type StringsView<'a> = View<'a, Texts>;
 
-impl Content for Texts {
+impl ViewContent for Texts {
     ghost kind = { StringsKind };
 
     fn kind() -> Kind {
@@ -28,7 +29,7 @@ impl Content for Texts {
 }
 
 impl<'a> View<'a, Texts> {
-    ghost use Rattle.segment_views.specs.OfView.{IsSame, key_of, segment_of};
+    ghost use Rattle.segment_views.specs.OfView.{SameView, key_of, segment_of};
 
     /// The bytes of the string at `index`.
     ///
@@ -36,7 +37,8 @@ impl<'a> View<'a, Texts> {
     ///
     /// `OutOfRange` where there is none, `WrongKind` where the object is no vector of strings.
     pub fn get(&self, index: u64) -> Result<&[u8], Refusal>
-        ensures { IsReplyOfKind (segment_of self.now) (key_of self.now) StringsKind (Get (key_of self.now) index) (answer_of (λ text. TextElement text.now) result) }
+        ensures { AnswersQueryOfKind (segment_of self.now) (key_of self.now) StringsKind
+            (Get (key_of self.now) index) (answer_of (λ text. TextElement text.now) result) }
     {
         self.segment.texts_get(&self.object, index)
     }
@@ -49,7 +51,7 @@ impl<'a> View<'a, Texts> {
     ///
     /// `WrongKind` where the object is no vector of strings.
     pub fn len(&self) -> Result<u64, Refusal>
-        ensures { Answers (segment_of self.now) (λ d. length_at_kind d (key_of self.now) StringsKind) result }
+        ensures { AnswersWith (segment_of self.now) (λ d. length_at_kind d (key_of self.now) StringsKind) result }
     {
         self.segment.texts_len(&self.object)
     }
@@ -70,8 +72,9 @@ impl<'a> View<'a, Texts> {
     /// `ReadOnly` where the segment is open for reading, else `WrongKind` where the object is no vector of strings,
     /// `OutOfRange` where it has no string there, `NoSpace` where the bytes have no fit. Nothing changes.
     pub fn set(&mut self, index: u64, text: &[u8]) -> Result<(), Refusal>
-        ensures same { IsSame self.old self.new }
-        ensures step { IsStepOfKind (segment_of self.old) (segment_of self.new) (key_of self.old) StringsKind (Set (key_of self.old) index (Quoted text.now)) (done_answer result) }
+        ensures unchanged { SameView self.old self.new }
+        ensures step { TakesStepOfKind (segment_of self.old) (segment_of self.new) (key_of self.old) StringsKind
+            (Set (key_of self.old) index (Quoted text.now)) (done_answer result) }
         ensures refused { OnErr result (segment_of self.new ≡ segment_of self.old) }
     {
         let _ = self.segment.as_bytes();
@@ -86,9 +89,10 @@ impl<'a> View<'a, Texts> {
     /// nothing changes; `NoSpace` where its array cannot be regrown or the bytes have no fit: what the segment holds
     /// does not change.
     pub fn push(&mut self, text: &[u8]) -> Result<(), Refusal>
-        ensures same { IsSame self.old self.new }
-        ensures step { IsStepOfKind (segment_of self.old) (segment_of self.new) (key_of self.old) StringsKind (Push (key_of self.old) (Quoted text.now)) (done_answer result) }
-        ensures refused { KeepsRefused (segment_of self.old) (segment_of self.new) result }
+        ensures unchanged { SameView self.old self.new }
+        ensures step { TakesStepOfKind (segment_of self.old) (segment_of self.new) (key_of self.old) StringsKind
+            (Push (key_of self.old) (Quoted text.now)) (done_answer result) }
+        ensures refused { UnchangedIfRefused (segment_of self.old) (segment_of self.new) result }
     {
         let _ = self.segment.as_bytes();
         self.segment.texts_push(&self.object, text)
@@ -102,9 +106,10 @@ impl<'a> View<'a, Texts> {
     /// `OutOfRange` where there are not so many others, and nothing changes; `NoSpace` where its array cannot be
     /// regrown or the bytes have no fit: what the segment holds does not change.
     pub fn insert(&mut self, index: u64, text: &[u8]) -> Result<(), Refusal>
-        ensures same { IsSame self.old self.new }
-        ensures step { IsStepOfKind (segment_of self.old) (segment_of self.new) (key_of self.old) StringsKind (Insert (key_of self.old) index (Quoted text.now)) (done_answer result) }
-        ensures refused { KeepsRefused (segment_of self.old) (segment_of self.new) result }
+        ensures unchanged { SameView self.old self.new }
+        ensures step { TakesStepOfKind (segment_of self.old) (segment_of self.new) (key_of self.old) StringsKind
+            (Insert (key_of self.old) index (Quoted text.now)) (done_answer result) }
+        ensures refused { UnchangedIfRefused (segment_of self.old) (segment_of self.new) result }
     {
         let _ = self.segment.as_bytes();
         self.segment.texts_insert(&self.object, index, text)
@@ -117,8 +122,9 @@ impl<'a> View<'a, Texts> {
     /// `ReadOnly` where the segment is open for reading, else `WrongKind` where the object is no vector of strings,
     /// `OutOfRange` where it has no string there. Nothing changes.
     pub fn erase(&mut self, index: u64) -> Result<(), Refusal>
-        ensures same { IsSame self.old self.new }
-        ensures step { IsStepOfKind (segment_of self.old) (segment_of self.new) (key_of self.old) StringsKind (Erase (key_of self.old) index) (done_answer result) }
+        ensures unchanged { SameView self.old self.new }
+        ensures step { TakesStepOfKind (segment_of self.old) (segment_of self.new) (key_of self.old) StringsKind
+            (Erase (key_of self.old) index) (done_answer result) }
         ensures refused { OnErr result (segment_of self.new ≡ segment_of self.old) }
     {
         let _ = self.segment.as_bytes();
@@ -134,8 +140,9 @@ impl<'a> View<'a, Texts> {
     /// `ReadOnly` where the segment is open for reading, else `WrongKind` where the object is no vector of strings,
     /// `OutOfRange` where it is empty. Nothing changes.
     pub fn pop(&mut self) -> Result<(), Refusal>
-        ensures same { IsSame self.old self.new }
-        ensures step { LeadsOnOfKind (segment_of self.old) (segment_of self.new) (key_of self.old) StringsKind (Pop (key_of self.old)) (refusal_in result) }
+        ensures unchanged { SameView self.old self.new }
+        ensures step { LeadsOnOfKind (segment_of self.old) (segment_of self.new) (key_of self.old) StringsKind
+            (Pop (key_of self.old)) (refusal_in result) }
         ensures refused { OnErr result (segment_of self.new ≡ segment_of self.old) }
     {
         let _ = self.segment.as_bytes();

@@ -4,19 +4,19 @@ ghost use Rattle.seg_types.specs.declared.kinds.Kind.TheVariants.{String as Stri
 ghost use Rattle.seg_types.specs.declared.kinds.ScalarKind.TheVariants.{U8 as ByteKind};
 ghost use Rattle.seg_types.specs.Commands.{Append, Assign, Quoted, Set, literal_of};
 ghost use Rattle.segment_manager.specs.containers.Contents.{bytes_at};
-ghost use Rattle.segment_manager.specs.State.{Answers, IsStepOfKind, done_answer};
+ghost use Rattle.segment_manager.specs.State.{AnswersWith, TakesStepOfKind, done_answer};
 
-use crate::views::{Content, View};
+use crate::views::{View, ViewContent};
 use seg_types::{Kind, Refusal};
 
 /// The bytes of a string.
 #[derive(Drop)]
-pub struct Text;
+pub struct StringBytes;
 
 /// A string in a segment that may be changed, looked up once.
-pub type StringView<'a> = View<'a, Text>;
+pub type StringView<'a> = View<'a, StringBytes>;
 
-impl Content for Text {
+impl ViewContent for StringBytes {
     ghost kind = { StringKind };
 
     fn kind() -> Kind {
@@ -24,8 +24,8 @@ impl Content for Text {
     }
 }
 
-impl<'a> View<'a, Text> {
-    ghost use Rattle.segment_views.specs.OfView.{IsSame, key_of, segment_of};
+impl<'a> View<'a, StringBytes> {
+    ghost use Rattle.segment_views.specs.OfView.{SameView, key_of, segment_of};
 
     /// Its bytes.
     ///
@@ -33,7 +33,9 @@ impl<'a> View<'a, Text> {
     ///
     /// `WrongKind` where the object is no string.
     pub fn as_bytes(&self) -> Result<&[u8], Refusal>
-        ensures { MatchResult result (λ bytes. Answers (segment_of self.now) (λ d. bytes_at d (key_of self.now)) (Ok bytes.now)) (λ why. Answers (segment_of self.now) (λ d. bytes_at d (key_of self.now)) (Err why)) }
+        ensures { MatchResult result (λ bytes.
+            AnswersWith (segment_of self.now) (λ d. bytes_at d (key_of self.now)) (Ok bytes.now)) (λ why.
+            AnswersWith (segment_of self.now) (λ d. bytes_at d (key_of self.now)) (Err why)) }
     {
         self.segment.string_bytes(&self.object)
     }
@@ -45,8 +47,9 @@ impl<'a> View<'a, Text> {
     /// `ReadOnly` where the segment is open for reading, else `WrongKind` where the object is no string, `OutOfRange`
     /// where it has no byte there. Nothing changes.
     pub fn set(&mut self, index: u64, byte: u8) -> Result<(), Refusal>
-        ensures same { IsSame self.old self.new }
-        ensures step { IsStepOfKind (segment_of self.old) (segment_of self.new) (key_of self.old) StringKind (Set (key_of self.old) index (literal_of ByteKind (pos byte))) (done_answer result) }
+        ensures unchanged { SameView self.old self.new }
+        ensures step { TakesStepOfKind (segment_of self.old) (segment_of self.new) (key_of self.old) StringKind
+            (Set (key_of self.old) index (literal_of ByteKind (pos byte))) (done_answer result) }
         ensures refused { OnErr result (segment_of self.new ≡ segment_of self.old) }
     {
         let _ = self.segment.as_bytes();
@@ -60,8 +63,9 @@ impl<'a> View<'a, Text> {
     /// `ReadOnly` where the segment is open for reading, else `WrongKind` where the object is no string, `NoSpace`
     /// where its storage cannot be regrown. Nothing changes.
     pub fn append(&mut self, bytes: &[u8]) -> Result<(), Refusal>
-        ensures same { IsSame self.old self.new }
-        ensures step { IsStepOfKind (segment_of self.old) (segment_of self.new) (key_of self.old) StringKind (Append (key_of self.old) bytes.now) (done_answer result) }
+        ensures unchanged { SameView self.old self.new }
+        ensures step { TakesStepOfKind (segment_of self.old) (segment_of self.new) (key_of self.old) StringKind
+            (Append (key_of self.old) bytes.now) (done_answer result) }
         ensures refused { OnErr result (segment_of self.new ≡ segment_of self.old) }
     {
         let _ = self.segment.as_bytes();
@@ -75,8 +79,9 @@ impl<'a> View<'a, Text> {
     /// `ReadOnly` where the segment is open for reading, else `WrongKind` where the object is no string, `NoSpace`
     /// where its storage cannot be regrown. Nothing changes.
     pub fn assign(&mut self, bytes: &[u8]) -> Result<(), Refusal>
-        ensures same { IsSame self.old self.new }
-        ensures step { IsStepOfKind (segment_of self.old) (segment_of self.new) (key_of self.old) StringKind (Assign (key_of self.old) (Quoted bytes.now ∷ [])) (done_answer result) }
+        ensures unchanged { SameView self.old self.new }
+        ensures step { TakesStepOfKind (segment_of self.old) (segment_of self.new) (key_of self.old) StringKind
+            (Assign (key_of self.old) (Quoted bytes.now ∷ [])) (done_answer result) }
         ensures refused { OnErr result (segment_of self.new ≡ segment_of self.old) }
     {
         let _ = self.segment.as_bytes();

@@ -5,7 +5,7 @@ ghost use Rattle.seg_types.specs.Commands.{Assign, Erase, Insert, Pop, Push, lit
 ghost use Rattle.segment_manager.specs.Answers.{Element};
 ghost use Rattle.segment_manager.specs.containers.Contents.{sizes_at};
 ghost use Rattle.segment_manager.specs.objects.ElementLists.{length_at_kind, vector_at};
-ghost use Rattle.segment_manager.specs.State.{Answers, IsStepOfKind, answer_of, done_answer};
+ghost use Rattle.segment_manager.specs.State.{AnswersWith, TakesStepOfKind, answer_of, done_answer};
 ghost use Rattle.segment_views.specs.Repeated.{StepsOn};
 
 use crate::elements::RowItems;
@@ -56,7 +56,7 @@ impl Storage for Vector {
 }
 
 impl<'a, T: Scalar> View<'a, Row<T, Vector>> {
-    ghost use Rattle.segment_views.specs.OfView.{IsSame, key_of, segment_of};
+    ghost use Rattle.segment_views.specs.OfView.{SameView, key_of, segment_of};
 
     /// How many elements it has, and how many places.
     ///
@@ -64,7 +64,7 @@ impl<'a, T: Scalar> View<'a, Row<T, Vector>> {
     ///
     /// `WrongKind` where the object is no container.
     pub fn measure(&self) -> Result<(u64, u64), Refusal>
-        ensures { Answers (segment_of self.now) (λ d. sizes_at d (key_of self.now)) result }
+        ensures { AnswersWith (segment_of self.now) (λ d. sizes_at d (key_of self.now)) result }
     {
         self.segment.measure(&self.object)
     }
@@ -76,8 +76,9 @@ impl<'a, T: Scalar> View<'a, Row<T, Vector>> {
     /// `ReadOnly` where the segment is open for reading, else `WrongKind` where the object is no vector of the type,
     /// `NoSpace` where it is full and its storage cannot be regrown. Nothing changes.
     pub fn push(&mut self, value: T) -> Result<(), Refusal>
-        ensures same { IsSame self.old self.new }
-        ensures step { IsStepOfKind (segment_of self.old) (segment_of self.new) (key_of self.old) (VectorOf T.kind) (Push (key_of self.old) (literal_of T.kind (T.whole value))) (done_answer result) }
+        ensures unchanged { SameView self.old self.new }
+        ensures step { TakesStepOfKind (segment_of self.old) (segment_of self.new) (key_of self.old)
+            (VectorOf T.kind) (Push (key_of self.old) (literal_of T.kind (T.whole value))) (done_answer result) }
         ensures refused { OnErr result (segment_of self.new ≡ segment_of self.old) }
     {
         let _ = self.segment.as_bytes();
@@ -91,8 +92,9 @@ impl<'a, T: Scalar> View<'a, Row<T, Vector>> {
     /// `ReadOnly` where the segment is open for reading, else `WrongKind` where the object is no vector of the type,
     /// `OutOfRange` where it is empty. Nothing changes.
     pub fn pop(&mut self) -> Result<T, Refusal>
-        ensures same { IsSame self.old self.new }
-        ensures step { IsStepOfKind (segment_of self.old) (segment_of self.new) (key_of self.old) (VectorOf T.kind) (Pop (key_of self.old)) (answer_of (λ x. Element T.kind (T.whole x)) result) }
+        ensures unchanged { SameView self.old self.new }
+        ensures step { TakesStepOfKind (segment_of self.old) (segment_of self.new) (key_of self.old)
+            (VectorOf T.kind) (Pop (key_of self.old)) (answer_of (λ x. Element T.kind (T.whole x)) result) }
         ensures refused { OnErr result (segment_of self.new ≡ segment_of self.old) }
     {
         let _ = self.segment.as_bytes();
@@ -107,8 +109,10 @@ impl<'a, T: Scalar> View<'a, Row<T, Vector>> {
     /// `OutOfRange` where there are not so many others, `NoSpace` where it is full and its storage cannot be regrown.
     /// Nothing changes.
     pub fn insert(&mut self, index: u64, value: T) -> Result<(), Refusal>
-        ensures same { IsSame self.old self.new }
-        ensures step { IsStepOfKind (segment_of self.old) (segment_of self.new) (key_of self.old) (VectorOf T.kind) (Insert (key_of self.old) index (literal_of T.kind (T.whole value))) (done_answer result) }
+        ensures unchanged { SameView self.old self.new }
+        ensures step { TakesStepOfKind (segment_of self.old) (segment_of self.new) (key_of self.old)
+            (VectorOf T.kind) (Insert (key_of self.old) index (literal_of T.kind (T.whole value)))
+            (done_answer result) }
         ensures refused { OnErr result (segment_of self.new ≡ segment_of self.old) }
     {
         let _ = self.segment.as_bytes();
@@ -122,8 +126,9 @@ impl<'a, T: Scalar> View<'a, Row<T, Vector>> {
     /// `ReadOnly` where the segment is open for reading, else `WrongKind` where the object is no vector of the type,
     /// `OutOfRange` where it has no element there. Nothing changes.
     pub fn erase(&mut self, index: u64) -> Result<(), Refusal>
-        ensures same { IsSame self.old self.new }
-        ensures step { IsStepOfKind (segment_of self.old) (segment_of self.new) (key_of self.old) (VectorOf T.kind) (Erase (key_of self.old) index) (done_answer result) }
+        ensures unchanged { SameView self.old self.new }
+        ensures step { TakesStepOfKind (segment_of self.old) (segment_of self.new) (key_of self.old)
+            (VectorOf T.kind) (Erase (key_of self.old) index) (done_answer result) }
         ensures refused { OnErr result (segment_of self.new ≡ segment_of self.old) }
     {
         let _ = self.segment.as_bytes();
@@ -137,8 +142,10 @@ impl<'a, T: Scalar> View<'a, Row<T, Vector>> {
     /// `ReadOnly` where the segment is open for reading, else `WrongKind` where the object is no vector of the type,
     /// `NoSpace` where its storage cannot be regrown. Nothing changes.
     pub fn assign(&mut self, values: &[T]) -> Result<(), Refusal>
-        ensures same { IsSame self.old self.new }
-        ensures step { IsStepOfKind (segment_of self.old) (segment_of self.new) (key_of self.old) (VectorOf T.kind) (Assign (key_of self.old) (map (literal_of T.kind) (map T.whole values.now))) (done_answer result) }
+        ensures unchanged { SameView self.old self.new }
+        ensures step { TakesStepOfKind (segment_of self.old) (segment_of self.new) (key_of self.old)
+            (VectorOf T.kind) (Assign (key_of self.old) (map (literal_of T.kind) (map T.whole values.now)))
+            (done_answer result) }
         ensures refused { OnErr result (segment_of self.new ≡ segment_of self.old) }
     {
         let _ = self.segment.as_bytes();
@@ -153,8 +160,10 @@ impl<'a, T: Scalar> View<'a, Row<T, Vector>> {
     ///
     /// Those of `push`, of the first value that is refused: the values before it are elements then.
     pub fn extend(&mut self, values: &[T]) -> Result<(), Refusal>
-        ensures same { IsSame self.old self.new }
-        ensures steps { StepsOn (key_of self.old) (VectorOf T.kind) (λ i z. Push (key_of self.old) (literal_of T.kind z)) (λ old new i. ⊤) (map T.whole values.now) (segment_of self.old) (segment_of self.new) result }
+        ensures unchanged { SameView self.old self.new }
+        ensures steps { StepsOn (key_of self.old) (VectorOf T.kind) (λ i z.
+            Push (key_of self.old) (literal_of T.kind z)) (λ old new i.
+            ⊤) (map T.whole values.now) (segment_of self.old) (segment_of self.new) result }
     {
         'values: for i in 0..values.len() {
             self.push(values[i])?;

@@ -3,16 +3,16 @@ ghost use Rattle.std.specs.Prelude.{◌≡◌, IfOk};
 ghost use Rattle.std.specs.Borrow.{sem, RestsIfErr};
 ghost use Rattle.seg_types.specs.declared.kinds.Kind.{Kind as AnyKind};
 ghost use Rattle.segment_manager.specs.objects.Located.{IsLocated, IsObject};
-ghost use Rattle.segment_manager.specs.State.{Answers};
+ghost use Rattle.segment_manager.specs.State.{AnswersWith};
 ghost use Rattle.segment_manager.specs.contracts.segment.Segment.{the_row};
 ghost use Rattle.segment_views.specs.Opened.{handle_of, opened_at};
 
 use seg_types::{Kind, Refusal};
-use segment_manager::{Object, Segment, Target, locate};
+use segment_manager::{Object, ObjectRef, Segment, locate};
 use std::marker::PhantomData;
 
 /// What an object holds that a view is of: it says the kind of the object.
-pub trait Content {
+pub trait ViewContent {
     ghost kind: { AnyKind };
 
     /// The kind of the object.
@@ -30,7 +30,7 @@ pub struct View<'a, C> {
     ghost here: { IsObject object segment.now },
 }
 
-impl<'a, C: Content> View<'a, C> {
+impl<'a, C: ViewContent> View<'a, C> {
     ghost use Rattle.segment_views.specs.OfView.{Borrows, loan_of, object_of, segment_of};
 
     /// The view of the object of a key, which is looked up once.
@@ -44,11 +44,12 @@ impl<'a, C: Content> View<'a, C> {
     /// # Errors
     ///
     /// `NotFound` where no object has the key, `WrongKind` where it is of another kind than the view. Nothing changes.
-    pub fn of<O: Target>(segment: &'a mut Segment, key: &O) -> Result<View<'a, C>, Refusal>
+    pub fn of<O: ObjectRef>(segment: &'a mut Segment, key: &O) -> Result<View<'a, C>, Refusal>
         requires { O.stands key.now segment.old }
-        ensures* rests { sem 𝓛 (RestsIfErr the_row segment.entry loan_of result (λ last. last ≡ segment.old)) }
-        ensures opens { Answers segment.old (λ d. opened_at d (O.key key.now) C.kind) (handle_of object_of result) }
-        ensures borrows { IfOk result (λ v. Borrows v segment.entry) }
+        ensures* frame { sem 𝓛 (RestsIfErr the_row segment.entry loan_of result (λ last. last ≡ segment.old)) }
+        ensures opening { AnswersWith segment.old (λ d.
+            opened_at d (O.key key.now) C.kind) (handle_of object_of result) }
+        ensures loan { IfOk result (λ v. Borrows v segment.entry) }
         ensures segment { IfOk result (λ v. segment_of v ≡ segment.old) }
     {
         let object = locate_of_kind(segment, key, C::kind())?;
@@ -65,10 +66,10 @@ impl<'a, C: Content> View<'a, C> {
 /// # Errors
 ///
 /// `NotFound` where no object has the key, `WrongKind` where it is of another kind.
-fn locate_of_kind<O: Target>(segment: &Segment, key: &O, kind: Kind) -> Result<Object, Refusal>
+fn locate_of_kind<O: ObjectRef>(segment: &Segment, key: &O, kind: Kind) -> Result<Object, Refusal>
     requires { O.stands key.now segment.now }
-    ensures opens { Answers segment.now (λ d. opened_at d (O.key key.now) kind) (handle_of (λ o. o) result) }
-    ensures located { IfOk result (IsLocated segment.now (O.key key.now)) }
+    ensures opening { AnswersWith segment.now (λ d. opened_at d (O.key key.now) kind) (handle_of (λ o. o) result) }
+    ensures location { IfOk result (IsLocated segment.now (O.key key.now)) }
 {
     let object = locate(segment, key)?;
     if kind.code() != object.kind.code() {

@@ -4,23 +4,23 @@ ghost use Rattle.raw_region.specs.Memory.{bytes_of, patched};
 ghost use Rattle.raw_region.specs.Regions.{with_bytes};
 ghost use Rattle.offset_link.specs.Link.{link_at};
 ghost use Rattle.offset_link.specs.Moves.{StaysInside, moved_to};
-ghost use Rattle.offset_link.specs.Relinked.{AllLead, AreLinks, KeepTargets, relinked};
+ghost use Rattle.offset_link.specs.Relinked.{AllLinksLead, AreValidLinks, KeepTargets, relinked};
 ghost use Rattle.raw_region.specs.Format.{current};
 ghost use Rattle.best_fit.specs.FreeTree.{is_red};
-ghost use Rattle.best_fit.specs.Heap.{IsChanged, IsRecoloured, has_room, is_live_in, is_node_in, live_of};
+ghost use Rattle.best_fit.specs.Heap.{ChangesBytes, Recolours, has_room, is_live_in, is_node_in, live_of};
 
 use crate::heap::Heap;
-use crate::heap::nodes::{FREE_TREE, set_link};
-use block_tags::{FIRST, TAG, set_red, tile_at};
+use crate::heap::nodes::{FREE_TREE_ROOT, set_link};
+use block_tags::{HEADER_LEN, TAG_LEN, set_red, tile_at};
 use offset_link::{Places, load, shift, shift_non_null};
 use raw_region::Window;
 
 impl Heap {
     /// Where the header's link at `at` leads: a multiple of 8 below 128, and not 24.
     pub fn header_link(&self, at: u64) -> Option<u64>
-        requires whole { at % 8 ≡ 0 }
-        requires below { at < FIRST }
-        requires other { at ≢ FREE_TREE }
+        requires aligned { at % 8 ≡ 0 }
+        requires subtree { at < FIRST }
+        requires peer { at ≢ FREE_TREE }
         ensures { result ≡ link_at (bytes_of self.now.bytes) at }
     {
         load(&self.gaps.window, at)
@@ -28,19 +28,19 @@ impl Heap {
 
     /// Makes the header's link at `at`, a multiple of 8 below 128 and not 24, lead to a multiple of 16, or nowhere.
     pub fn set_header_link(&mut self, at: u64, to: Option<u64>)
-        requires whole { at % 8 ≡ 0 }
-        requires below { at < FIRST }
-        requires other { at ≢ FREE_TREE }
+        requires aligned { at % 8 ≡ 0 }
+        requires subtree { at < FIRST }
+        requires peer { at ≢ FREE_TREE }
         requires target { IfSome to (λ target. target % 16 ≡ 0) }
-        ensures change { IsChanged current self.old self.new at 8 }
-        ensures leads { link_at (bytes_of self.new.bytes) at ≡ to }
+        ensures changes { ChangesBytes current self.old self.new at 8 }
+        ensures link_target { link_at (bytes_of self.new.bytes) at ≡ to }
     {
         set_link(&mut self.gaps.window, at, to);
     }
 
     /// Where the link at `at` in the block of a handle leads.
     pub fn link(&self, handle: u64, at: u64) -> Option<u64>
-        requires whole { at % 8 ≡ 0 }
+        requires aligned { at % 8 ≡ 0 }
         requires room { IsTrue (has_room (live_of self.now.bytes) handle (at + 8)) }
         ensures { result ≡ link_at (bytes_of self.now.bytes) (handle + at) }
     {
@@ -49,11 +49,11 @@ impl Heap {
 
     /// Makes the link at `at` in the block of a handle lead to a multiple of 16, or nowhere.
     pub fn set_link(&mut self, handle: u64, at: u64, to: Option<u64>)
-        requires whole { at % 8 ≡ 0 }
+        requires aligned { at % 8 ≡ 0 }
         requires room { IsTrue (has_room (live_of self.old.bytes) handle (at + 8)) }
         requires target { IfSome to (λ target. target % 16 ≡ 0) }
-        ensures change { IsChanged current self.old self.new (handle + at) 8 }
-        ensures leads { link_at (bytes_of self.new.bytes) (handle + at) ≡ to }
+        ensures changes { ChangesBytes current self.old self.new (handle + at) 8 }
+        ensures link_target { link_at (bytes_of self.new.bytes) (handle + at) ≡ to }
     {
         set_link(&mut self.gaps.window, handle + at, to);
     }
@@ -61,12 +61,12 @@ impl Heap {
     /// Makes the `n` links from `to_at` on in the block `to` lead where those from `from_at` on in the block `from`
     /// lead. It may be one block, and the two ranges may overlap.
     pub fn shift_links(&mut self, from: u64, from_at: u64, to: u64, to_at: u64, n: u64)
-        requires from_whole { from_at % 8 ≡ 0 }
-        requires to_whole { to_at % 8 ≡ 0 }
+        requires from_aligned { from_at % 8 ≡ 0 }
+        requires to_aligned { to_at % 8 ≡ 0 }
         requires source { IsTrue (has_room (live_of self.old.bytes) from (from_at + 8 * n)) }
         requires target { IsTrue (has_room (live_of self.old.bytes) to (to_at + 8 * n)) }
-        requires links { AreLinks (bytes_of self.old.bytes) (from + from_at) n }
-        ensures change { IsChanged current self.old self.new (to + to_at) (8 * n) }
+        requires links { AreValidLinks (bytes_of self.old.bytes) (from + from_at) n }
+        ensures changes { ChangesBytes current self.old self.new (to + to_at) (8 * n) }
         ensures lead { KeepTargets (bytes_of self.old.bytes) (bytes_of self.new.bytes) (from + from_at) (to + to_at) n }
     {
         move_to(&mut self.gaps.window, from + from_at, to + to_at, n);
@@ -74,12 +74,12 @@ impl Heap {
 
     /// The same for links none of which is null, in about half the time.
     pub fn shift_non_null_links(&mut self, from: u64, from_at: u64, to: u64, to_at: u64, n: u64)
-        requires from_whole { from_at % 8 ≡ 0 }
-        requires to_whole { to_at % 8 ≡ 0 }
+        requires from_aligned { from_at % 8 ≡ 0 }
+        requires to_aligned { to_at % 8 ≡ 0 }
         requires source { IsTrue (has_room (live_of self.old.bytes) from (from_at + 8 * n)) }
         requires target { IsTrue (has_room (live_of self.old.bytes) to (to_at + 8 * n)) }
-        requires links { AllLead (bytes_of self.old.bytes) (from + from_at) n }
-        ensures change { IsChanged current self.old self.new (to + to_at) (8 * n) }
+        requires links { AllLinksLead (bytes_of self.old.bytes) (from + from_at) n }
+        ensures changes { ChangesBytes current self.old self.new (to + to_at) (8 * n) }
         ensures lead { KeepTargets (bytes_of self.old.bytes) (bytes_of self.new.bytes) (from + from_at) (to + to_at) n }
     {
         move_non_null_to(&mut self.gaps.window, from + from_at, to + to_at, n);
@@ -90,50 +90,52 @@ impl Heap {
         requires { IsTrue (is_live_in (live_of self.now.bytes) handle) }
         ensures { result ≡ is_red (bytes_of self.now.bytes) handle }
     {
-        tile_at(&self.gaps.window, handle - TAG).red
+        tile_at(&self.gaps.window, handle - TAG_LEN).red
     }
 
     /// Makes the node block of a handle red, or black.
     pub fn set_node_red(&mut self, handle: u64, red: bool)
         requires { IsTrue (is_node_in (live_of self.old.bytes) handle) }
-        ensures { IsRecoloured current self.old self.new handle red }
+        ensures { Recolours current self.old self.new handle red }
     {
-        set_red(&mut self.gaps.window, handle - TAG, red);
+        set_red(&mut self.gaps.window, handle - TAG_LEN, red);
     }
 }
 
 /// Makes the `n` links from `target` on lead where those from `source` on lead.
 fn move_to(window: &mut Window, source: u64, target: u64, n: u64)
-    requires source_whole { source % 8 ≡ 0 }
-    requires target_whole { target % 8 ≡ 0 }
+    requires source_aligned { source % 8 ≡ 0 }
+    requires target_aligned { target % 8 ≡ 0 }
     requires source { source + 8 * n ≤ length window.old.bytes }
     requires target { target + 8 * n ≤ length window.old.bytes }
-    requires links { AreLinks (bytes_of window.old.bytes) source n }
+    requires links { AreValidLinks (bytes_of window.old.bytes) source n }
     ensures lead { KeepTargets (bytes_of window.old.bytes) (bytes_of window.new.bytes) source target n }
-    ensures written { window.new ≡ with_bytes window.old (patched window.old.bytes target (relinked (bytes_of window.old.bytes) source target n)) }
+    ensures output { window.new ≡ with_bytes window.old
+        (patched window.old.bytes target (relinked (bytes_of window.old.bytes) source target n)) }
 {
     shift(window, source, n, way(source, target));
 }
 
 /// The same for links none of which is null.
 fn move_non_null_to(window: &mut Window, source: u64, target: u64, n: u64)
-    requires source_whole { source % 8 ≡ 0 }
-    requires target_whole { target % 8 ≡ 0 }
+    requires source_aligned { source % 8 ≡ 0 }
+    requires target_aligned { target % 8 ≡ 0 }
     requires source { source + 8 * n ≤ length window.old.bytes }
     requires target { target + 8 * n ≤ length window.old.bytes }
-    requires links { AllLead (bytes_of window.old.bytes) source n }
+    requires links { AllLinksLead (bytes_of window.old.bytes) source n }
     ensures lead { KeepTargets (bytes_of window.old.bytes) (bytes_of window.new.bytes) source target n }
-    ensures written { window.new ≡ with_bytes window.old (patched window.old.bytes target (relinked (bytes_of window.old.bytes) source target n)) }
+    ensures output { window.new ≡ with_bytes window.old
+        (patched window.old.bytes target (relinked (bytes_of window.old.bytes) source target n)) }
 {
     shift_non_null(window, source, n, way(source, target));
 }
 
 /// How far it is from one link to another.
 fn way(source: u64, target: u64) -> Places
-    requires source_whole { source % 8 ≡ 0 }
-    requires target_whole { target % 8 ≡ 0 }
-    ensures reaches { moved_to source result ≡ target }
-    ensures stays { StaysInside source result }
+    requires source_aligned { source % 8 ≡ 0 }
+    requires target_aligned { target % 8 ≡ 0 }
+    ensures reach { moved_to source result ≡ target }
+    ensures unchanged { StaysInside source result }
 {
     if target >= source {
         Places::Up((target - source) / 8)

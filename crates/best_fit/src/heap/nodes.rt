@@ -1,34 +1,36 @@
 //! The gaps of a window as the nodes of a tree.
 ghost use Rattle.std.specs.Prelude.{◌≡◌, ◌+◌, ◌%◌, ◌≤◌, IfSome, length};
 ghost use Rattle.std.specs.List.{AllByRecursion};
-ghost use Rattle.raw_region.specs.Memory.{Same, SameBut, SamePlace, bytes_of};
+ghost use Rattle.raw_region.specs.Memory.{SameBytes, SameBytesExcept, SameSurroundings, bytes_of};
 ghost use Rattle.raw_region.specs.Format.{current};
 ghost use Rattle.block_tags.specs.Lists.{laid};
-ghost use Rattle.block_tags.specs.Windows.{SaysTiles};
+ghost use Rattle.block_tags.specs.Windows.{EncodesTiles};
 ghost use Rattle.best_fit.specs.Extents.{gaps};
-ghost use Rattle.best_fit.specs.Heap.{HasNullLinks, LaysOut, no_blocks};
+ghost use Rattle.best_fit.specs.Heap.{HasNullLinks, EncodesLiveSet, no_blocks};
 ghost use Rattle.offset_link.specs.Link.{link_at};
-ghost use Rattle.best_fit.specs.GapNodes.{Kept as WhatStays, comes_before, gap_cells, gaps_in, is_gap_node, kept_of, stands_before};
-ghost use Rattle.best_fit.specs.GapLaws.{comes_agrees, comes_irreflexive, comes_transitive, gaps_finite, gaps_left, gaps_right};
+ghost use Rattle.best_fit.specs.GapNodes.{GapTreeFrame as WhatStays, comes_before, gap_cells, gaps_in, is_gap_node};
+ghost use Rattle.best_fit.specs.GapNodes.{kept_of, stands_before};
+ghost use Rattle.best_fit.specs.GapLaws.{comes_agrees, comes_irreflexive, comes_transitive, gaps_finite, gaps_left};
+ghost use Rattle.best_fit.specs.GapLaws.{gaps_right};
 
-use block_tags::{FIRST, TAG, tile_at};
+use block_tags::{HEADER_LEN, TAG_LEN, tile_at};
 use link_tree::{Nodes, NodesMut};
 use offset_link::{load, store, store_null};
 use raw_region::Window;
 
 /// Where the right link of a node of a tree stands behind the left one, in bytes.
-pub const RIGHT: u64 = 8;
+pub const RIGHT_LINK: u64 = 8;
 
 /// The offset of the header's word that links to the root of the free tree.
-pub const FREE_TREE: u64 = 24;
+pub const FREE_TREE_ROOT: u64 = 24;
 
 /// The payload of the first tile.
-const FIRST_GAP: u64 = FIRST + TAG;
+const FIRST_GAP: u64 = HEADER_LEN + TAG_LEN;
 
 /// What is looked for among the gaps: the first that is longer than `len`, or just so long and has its payload at
 /// `from` or behind it.
 #[derive(Clone, Copy, Debug)]
-pub struct Sought {
+pub struct GapProbe {
     pub len: u64,
     pub from: u64,
 }
@@ -36,12 +38,12 @@ pub struct Sought {
 /// A window whose gaps are nodes, each named by its payload: its links are the first two words there, and its colour is
 /// that of its tile. A gap precedes longer ones, and those as long that stand behind it.
 #[derive(Drop)]
-pub struct Gaps {
+pub struct GapTree {
     pub(super) window: Window,
 }
 
-impl Nodes for Gaps {
-    type Probe = Sought;
+impl Nodes for GapTree {
+    type Probe = GapProbe;
 
     ghost cells = { λ s. gap_cells s.window };
 
@@ -60,21 +62,21 @@ impl Nodes for Gaps {
     }
 
     fn right(&self, node: u64) -> Option<u64> {
-        load(&self.window, node + RIGHT)
+        load(&self.window, node + RIGHT_LINK)
     }
 
     fn red(&self, node: u64) -> bool {
-        tile_at(&self.window, node - TAG).red
+        tile_at(&self.window, node - TAG_LEN).red
     }
 
     fn precedes(&self, a: u64, b: u64) -> bool {
-        let first = tile_at(&self.window, a - TAG).len;
-        let second = tile_at(&self.window, b - TAG).len;
+        let first = tile_at(&self.window, a - TAG_LEN).len;
+        let second = tile_at(&self.window, b - TAG_LEN).len;
         first < second || (first == second && a < b)
     }
 
-    fn before_probe(&self, node: u64, sought: &Sought) -> bool {
-        let len = tile_at(&self.window, node - TAG).len;
+    fn before_probe(&self, node: u64, sought: &GapProbe) -> bool {
+        let len = tile_at(&self.window, node - TAG_LEN).len;
         len < sought.len || (len == sought.len && node < sought.from)
     }
 
@@ -91,29 +93,29 @@ impl Nodes for Gaps {
     ghost agrees = { λ s. comes_agrees (gaps_in s.window) };
 }
 
-impl NodesMut for Gaps {
+impl NodesMut for GapTree {
     fn set_left(&mut self, node: u64, to: Option<u64>) {
         set_link(&mut self.window, node, to);
     }
 
     fn set_right(&mut self, node: u64, to: Option<u64>) {
-        set_link(&mut self.window, node + RIGHT, to);
+        set_link(&mut self.window, node + RIGHT_LINK, to);
     }
 
     fn set_red(&mut self, node: u64, red: bool) {
-        block_tags::set_red(&mut self.window, node - TAG, red);
+        block_tags::set_red(&mut self.window, node - TAG_LEN, red);
     }
 }
 
 /// Makes the link at `at` lead to a multiple of 16, or nowhere.
 pub fn set_link(window: &mut Window, at: u64, to: Option<u64>)
     requires aligned { at % 8 ≡ 0 }
-    requires inside { at + 8 ≤ length window.old.bytes }
+    requires in_bounds { at + 8 ≤ length window.old.bytes }
     requires target { IfSome to (λ target. target % 16 ≡ 0) }
-    ensures leads { link_at (bytes_of window.new.bytes) at ≡ to }
+    ensures link_target { link_at (bytes_of window.new.bytes) at ≡ to }
     ensures len { length window.new.bytes ≡ length window.old.bytes }
-    ensures place { SamePlace window.old window.new }
-    ensures rest { SameBut (bytes_of window.old.bytes) (bytes_of window.new.bytes) at 8 }
+    ensures place { SameSurroundings window.old window.new }
+    ensures frame { SameBytesExcept (bytes_of window.old.bytes) (bytes_of window.new.bytes) at 8 }
 {
     match to {
         Some(target) => store(window, at, target),
@@ -123,20 +125,21 @@ pub fn set_link(window: &mut Window, at: u64, to: Option<u64>)
 
 /// Makes the one gap of a window the tree, or no gap where there is none.
 pub fn plant_first(window: &mut Window)
-    requires laid { SaysTiles window.old (laid (length window.old.bytes)) }
-    ensures live { LaysOut current window.new.bytes (no_blocks (length window.old.bytes)) }
-    ensures links { AllByRecursion (HasNullLinks current (bytes_of window.new.bytes)) (gaps (no_blocks (length window.old.bytes))) }
-    ensures place { SamePlace window.old window.new }
+    requires layout { EncodesTiles window.old (laid (length window.old.bytes)) }
+    ensures live { EncodesLiveSet current window.new.bytes (no_blocks (length window.old.bytes)) }
+    ensures links { AllByRecursion (HasNullLinks current (bytes_of window.new.bytes))
+        (gaps (no_blocks (length window.old.bytes))) }
+    ensures place { SameSurroundings window.old window.new }
     ensures size { length window.new.bytes ≡ length window.old.bytes }
-    ensures front { Same (bytes_of window.old.bytes) (bytes_of window.new.bytes) 0 24 }
-    ensures behind { Same (bytes_of window.old.bytes) (bytes_of window.new.bytes) 32 144 }
-    ensures rest { Same (bytes_of window.old.bytes) (bytes_of window.new.bytes) 160 (length window.old.bytes) }
+    ensures front { SameBytes (bytes_of window.old.bytes) (bytes_of window.new.bytes) 0 24 }
+    ensures after { SameBytes (bytes_of window.old.bytes) (bytes_of window.new.bytes) 32 144 }
+    ensures frame { SameBytes (bytes_of window.old.bytes) (bytes_of window.new.bytes) 160 (length window.old.bytes) }
 {
     if window.size() > FIRST_GAP {
         set_link(window, FIRST_GAP, None);
-        set_link(window, FIRST_GAP + RIGHT, None);
-        set_link(window, FREE_TREE, Some(FIRST_GAP));
+        set_link(window, FIRST_GAP + RIGHT_LINK, None);
+        set_link(window, FREE_TREE_ROOT, Some(FIRST_GAP));
     } else {
-        set_link(window, FREE_TREE, None);
+        set_link(window, FREE_TREE_ROOT, None);
     }
 }

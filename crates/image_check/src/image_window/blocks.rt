@@ -1,11 +1,12 @@
 //! The map of the blocks in use, in which each look-up is counted.
-ghost use Rattle.std.specs.Prelude.{◌≡◌, ◌+◌, ◌^◌, ◌++◌, ◌∷◌, ◌<◌, ◌≤◌, [], nat_eq, length, IfSome, IfNone, None, Some, slice_get};
+ghost use Rattle.std.specs.Prelude.{◌≡◌, ◌+◌, ◌^◌, ◌++◌, ◌∷◌, ◌<◌, ◌≤◌, [], nat_eq, length, IfSome, IfNone, None, Some};
+ghost use Rattle.std.specs.Prelude.{slice_get};
 ghost use Rattle.std.specs.Map.{keys_of, set_value};
 ghost use Rattle.indexmap.specs.IndexMap.{IsEmpty, spare};
 ghost use Rattle.image_check.specs.Owners.{block_at};
 ghost use Rattle.image_check.specs.Rows.{AreBelow, IsRow};
 
-use crate::checking::Visits;
+use crate::checking::VisitCounter;
 use crate::owners::Block;
 use crate::rows::{Row, near};
 use indexmap::IndexMap;
@@ -13,7 +14,7 @@ use std::marker::Model;
 
 /// The blocks in use by payload, in the order of their places.
 #[derive(Drop)]
-pub(crate) struct Blocks {
+pub(crate) struct BlockTable {
     map: IndexMap<u32, Row>,
     /// For each stretch of the image the number of the last block whose payload begins in it: where a look-up begins.
     /// It may be any number, since what is found there is compared.
@@ -22,26 +23,26 @@ pub(crate) struct Blocks {
     shift: u32,
 }
 
-impl Model for Blocks {
+impl Model for BlockTable {
     ghost use Rattle.indexmap.specs.IndexMap.{spare};
     ghost use Rattle.image_check.specs.Owners.{BlockMap};
-    ghost use Rattle.image_check.specs.Rows.{AreInOrder};
+    ghost use Rattle.image_check.specs.Rows.{AreSortedBlocks};
 
     ghost Value = { BlockMap };
 
     ghost view = { λ b. record { entries = b.map.entries; room = spare b.map } };
 
-    ghost invariant = { λ b. AreInOrder b.map.entries };
+    ghost invariant = { λ b. AreSortedBlocks b.map.entries };
 }
 
-impl Blocks {
+impl BlockTable {
     /// No blocks, in a map with its room, and with `lasts` for stretches of 2 to the power of `shift` bytes.
-    pub(crate) fn new(map: IndexMap<u32, Row>, lasts: Vec<u32>, shift: u32) -> Blocks
+    pub(crate) fn new(map: IndexMap<u32, Row>, lasts: Vec<u32>, shift: u32) -> BlockTable
         requires { IsEmpty map }
         ensures entries { result.entries ≡ [] }
         ensures room { result.room ≡ spare map }
     {
-        Blocks { map, lasts, shift }
+        BlockTable { map, lasts, shift }
     }
 
     /// The place among `lasts` of the stretch in which `target` lies.
@@ -58,8 +59,8 @@ impl Blocks {
 
     /// The number of the block whose payload begins at `target`.
     fn number_of(&self, target: u64) -> Option<usize>
-        ensures found { IfSome result (IsRow self.now.entries target) }
-        ensures none { IfNone result (block_at self.now.entries target ≡ None) }
+        ensures search { IfSome result (IsRow self.now.entries target) }
+        ensures absent { IfNone result (block_at self.now.entries target ≡ None) }
     {
         let stretch = self.stretch(target);
         if stretch < self.lasts.len() {
@@ -92,7 +93,7 @@ impl Blocks {
     }
 
     /// The block of number `nth`, in the order of the places, behind its payload. One visit.
-    pub(crate) fn row(&self, nth: usize, visits: &mut Visits) -> (u32, Block)
+    pub(crate) fn row(&self, nth: usize, visits: &mut VisitCounter) -> (u32, Block)
         requires { nth < length self.now.entries }
         ensures row { slice_get self.now.entries nth ≡ Some result }
         ensures block { block_at self.now.entries result.0 ≡ Some result.1 }
@@ -113,11 +114,11 @@ impl Blocks {
     }
 
     /// The block whose payload begins at `target`, behind its number and `target` in four bytes. One visit.
-    pub(crate) fn find(&self, target: u64, visits: &mut Visits) -> Option<(usize, u32, Block)>
+    pub(crate) fn find(&self, target: u64, visits: &mut VisitCounter) -> Option<(usize, u32, Block)>
         ensures number { IfSome result (λ found. IsRow self.now.entries target found.0) }
         ensures payload { IfSome result (λ found. found.1 ≡ target) }
         ensures block { IfSome result (λ found. block_at self.now.entries target ≡ Some found.2) }
-        ensures none { IfNone result (block_at self.now.entries target ≡ None) }
+        ensures absent { IfNone result (block_at self.now.entries target ≡ None) }
         ensures visits { visits.new ≡ visits.old + 1 }
     {
         visits.visit();
@@ -131,7 +132,7 @@ impl Blocks {
     }
 
     /// The block whose payload begins at `target`. One visit.
-    pub(crate) fn block_of(&self, target: u64, visits: &mut Visits) -> Option<Block>
+    pub(crate) fn block_of(&self, target: u64, visits: &mut VisitCounter) -> Option<Block>
         ensures value { result ≡ block_at self.now.entries target }
         ensures visits { visits.new ≡ visits.old + 1 }
     {
@@ -141,7 +142,12 @@ impl Blocks {
 
     /// The same. It is quick where the block is that of number `guess`, in the order of the blocks, and right whatever
     /// the guess is. One visit.
-    pub(crate) fn block_near(&self, guess: usize, target: u64, visits: &mut Visits) -> Option<Block>
+    pub(crate) fn block_near(
+        &self,
+        guess: usize,
+        target: u64,
+        visits: &mut VisitCounter,
+    ) -> Option<Block>
         ensures value { result ≡ block_at self.now.entries target }
         ensures visits { visits.new ≡ visits.old + 1 }
     {
@@ -156,7 +162,13 @@ impl Blocks {
     }
 
     /// Puts another block in the place of the one of this number, at `target`. One visit.
-    pub(crate) fn put(&mut self, number: usize, target: u64, block: Block, visits: &mut Visits)
+    pub(crate) fn put(
+        &mut self,
+        number: usize,
+        target: u64,
+        block: Block,
+        visits: &mut VisitCounter,
+    )
         requires { IsRow self.old.entries target number }
         ensures value { self.new.entries ≡ set_value (nat_eq target) self.old.entries block }
         ensures visits { visits.new ≡ visits.old + 1 }
@@ -166,9 +178,9 @@ impl Blocks {
     }
 
     /// Adds a block at `target`, behind all others, to those of which there is room for one more. One visit.
-    pub(crate) fn add(&mut self, target: u64, block: Block, visits: &mut Visits)
-        requires small { target < 2 ^ 32 }
-        requires below { AreBelow self.old.entries target }
+    pub(crate) fn add(&mut self, target: u64, block: Block, visits: &mut VisitCounter)
+        requires max_size { target < 2 ^ 32 }
+        requires subtree { AreBelow self.old.entries target }
         requires room { 0 < self.old.room }
         ensures entries { self.new.entries ≡ self.old.entries ++ (target, block) ∷ [] }
         ensures room { self.old.room ≤ self.new.room + 1 }

@@ -6,7 +6,7 @@ ghost use Rattle.seg_index.specs.Keys.{class_at, code_at, count_at, name_at, nam
 ghost use Rattle.image_check.specs.ObjectTests.{padding_at, value_offset};
 
 use super::ImageWindow;
-use crate::checking::Visits;
+use crate::checking::VisitCounter;
 use segment_manager::layout::{HALF, HEAD_LEN, NAME_CLASS_AT};
 
 /// The place of an object that was visited.
@@ -23,8 +23,8 @@ pub(crate) struct Value {
 
 impl Object {
     /// The object at `at`. One visit.
-    pub(crate) fn visit(at: u64, visits: &mut Visits) -> Object
-        ensures at { result.at ≡ at }
+    pub(crate) fn visit(at: u64, visits: &mut VisitCounter) -> Object
+        ensures position { result.at ≡ at }
         ensures visits { visits.new ≡ visits.old + 1 }
     {
         visits.visit();
@@ -42,7 +42,7 @@ impl Object {
     pub(crate) fn code(self, window: &ImageWindow) -> u64
         requires { self.at + 8 ≤ length window.now.bytes }
         ensures code { result ≡ code_at (bytes_of window.now.bytes) self.at }
-        ensures small { result < 2 ^ 32 }
+        ensures max_size { result < 2 ^ 32 }
     {
         window.read_u64(self.at) % HALF
     }
@@ -51,15 +51,15 @@ impl Object {
     pub(crate) fn count(self, window: &ImageWindow) -> u64
         requires { self.at + 8 ≤ length window.now.bytes }
         ensures count { result ≡ count_at (bytes_of window.now.bytes) self.at }
-        ensures small { result < 2 ^ 32 }
+        ensures max_size { result < 2 ^ 32 }
     {
         window.read_u64(self.at) / HALF
     }
 
     /// Its class.
     pub(crate) fn class(self, window: &ImageWindow) -> u64
-        requires small { self.at < 2 ^ 63 }
-        requires inside { self.at + 16 ≤ length window.now.bytes }
+        requires max_size { self.at < 2 ^ 63 }
+        requires in_bounds { self.at + 16 ≤ length window.now.bytes }
         ensures { result ≡ class_at (bytes_of window.now.bytes) self.at }
     {
         window.read_u64(self.at + NAME_CLASS_AT) / HALF
@@ -67,18 +67,18 @@ impl Object {
 
     /// How many bytes its name has.
     pub(crate) fn name_len(self, window: &ImageWindow) -> u64
-        requires small { self.at < 2 ^ 63 }
-        requires inside { self.at + 16 ≤ length window.now.bytes }
+        requires max_size { self.at < 2 ^ 63 }
+        requires in_bounds { self.at + 16 ≤ length window.now.bytes }
         ensures len { result ≡ name_len_at (bytes_of window.now.bytes) self.at }
-        ensures small { result < 2 ^ 32 }
+        ensures max_size { result < 2 ^ 32 }
     {
         window.read_u64(self.at + NAME_CLASS_AT) % HALF
     }
 
     /// Its name.
     pub(crate) fn name(self, window: &ImageWindow) -> &[u8]
-        requires small { length window.now.bytes < 2 ^ 63 }
-        requires inside { self.at + 16 + name_len_at (bytes_of window.now.bytes) self.at ≤ length window.now.bytes }
+        requires max_size { length window.now.bytes < 2 ^ 63 }
+        requires in_bounds { self.at + 16 + name_len_at (bytes_of window.now.bytes) self.at ≤ length window.now.bytes }
         ensures name { result.now ≡ name_at (bytes_of window.now.bytes) self.at }
         ensures len { length result.now ≡ name_len_at (bytes_of window.now.bytes) self.at }
     {
@@ -87,8 +87,8 @@ impl Object {
 
     /// The bytes between its name and its value.
     pub(crate) fn padding(self, window: &ImageWindow) -> &[u8]
-        requires small { length window.now.bytes < 2 ^ 63 }
-        requires inside { value_offset (bytes_of window.now.bytes) self.at ≤ length window.now.bytes }
+        requires max_size { length window.now.bytes < 2 ^ 63 }
+        requires in_bounds { value_offset (bytes_of window.now.bytes) self.at ≤ length window.now.bytes }
         ensures { result.now ≡ padding_at (bytes_of window.now.bytes) self.at }
     {
         let len = self.name_len(window);
@@ -97,8 +97,8 @@ impl Object {
 
     /// Its value.
     pub(crate) fn value(self, window: &ImageWindow) -> Value
-        requires small { self.at < 2 ^ 63 }
-        requires inside { self.at + 16 ≤ length window.now.bytes }
+        requires max_size { self.at < 2 ^ 63 }
+        requires in_bounds { self.at + 16 ≤ length window.now.bytes }
         ensures { result.at ≡ value_offset (bytes_of window.now.bytes) self.at }
     {
         let at = self.at + HEAD_LEN + (self.name_len(window) + 7) / 8 * 8;
@@ -117,7 +117,7 @@ impl Value {
     /// Where its link leads.
     pub(crate) fn link(self, window: &ImageWindow) -> Option<u64>
         requires aligned { self.at % 8 ≡ 0 }
-        requires inside { self.at + 8 ≤ length window.now.bytes }
+        requires in_bounds { self.at + 8 ≤ length window.now.bytes }
         ensures { result ≡ link_at (bytes_of window.now.bytes) self.at }
     {
         window.load(self.at)
@@ -125,8 +125,8 @@ impl Value {
 
     /// The second word: how many elements or pairs it has.
     pub(crate) fn len(self, window: &ImageWindow) -> u64
-        requires small { self.at < 2 ^ 63 }
-        requires inside { self.at + 16 ≤ length window.now.bytes }
+        requires max_size { self.at < 2 ^ 63 }
+        requires in_bounds { self.at + 16 ≤ length window.now.bytes }
         ensures { result ≡ word_at (bytes_of window.now.bytes) (self.at + 8) }
     {
         window.read_u64(self.at + 8)
@@ -134,8 +134,8 @@ impl Value {
 
     /// The third word: how many places it has.
     pub(crate) fn capacity(self, window: &ImageWindow) -> u64
-        requires small { self.at < 2 ^ 63 }
-        requires inside { self.at + 24 ≤ length window.now.bytes }
+        requires max_size { self.at < 2 ^ 63 }
+        requires in_bounds { self.at + 24 ≤ length window.now.bytes }
         ensures { result ≡ word_at (bytes_of window.now.bytes) (self.at + 16) }
     {
         window.read_u64(self.at + 16)

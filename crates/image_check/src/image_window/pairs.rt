@@ -8,16 +8,17 @@ ghost use Rattle.block_tags.specs.Format.{is_legal_size};
 ghost use Rattle.seg_types.specs.Kinds.{size_of, is_spelling as is_spelling_of};
 ghost use Rattle.image_check.specs.FreeNodes.{is_place};
 ghost use Rattle.image_check.specs.MapNodes.{is_node_block, is_pair, kept_link, key_before, pair_cells, pair_len};
-ghost use Rattle.image_check.specs.MapLaws.{keys_irreflexive, keys_transitive, nothing_before, pairs_finite, pairs_left, pairs_right};
+ghost use Rattle.image_check.specs.MapLaws.{keys_irreflexive, keys_transitive, nothing_before, pairs_finite};
+ghost use Rattle.image_check.specs.MapLaws.{pairs_left, pairs_right};
 ghost use Rattle.image_check.specs.Owners.{block_at};
 ghost use Rattle.image_check.specs.Containers.{rooted_weight};
 
-use super::{Blocks, ImageWindow, Value};
-use crate::checking::Visits;
+use super::{BlockTable, ImageWindow, Value};
+use crate::checking::VisitCounter;
 use crate::owners::is_same;
-use best_fit::RIGHT;
-use block_tags::{Role, TAG};
-use link_tree::{Checked, Nodes, check};
+use best_fit::RIGHT_LINK;
+use block_tags::{Role, TAG_LEN};
+use link_tree::{CheckedTree, Nodes, check};
 use seg_types::ScalarKind;
 
 /// The two links of a pair, before its key.
@@ -28,9 +29,9 @@ const LINKS: u64 = 16;
 /// A pair is a node of the map with room for a key and a value, both of them spelled. A link that leads to no pair is
 /// read as one to its own node, which no ordered tree has.
 #[derive(Clone, Copy)]
-struct Pairs<'a> {
+struct CheckedPairTree<'a> {
     window: &'a ImageWindow,
-    blocks: &'a Blocks,
+    blocks: &'a BlockTable,
     root: u64,
     key: ScalarKind,
     value: ScalarKind,
@@ -56,10 +57,11 @@ fn is_place_in(window: &ImageWindow, node: u64) -> bool
     window.in_range(node, 32)
 }
 
-impl Pairs<'_> {
+impl CheckedPairTree<'_> {
     /// Whether the payload is that of a node of this map, with room for a key and a value.
     fn has_node(&self, node: u64) -> bool
-        ensures { result ≡ is_node_block self.now.root (pair_len self.now.key self.now.value) (block_at self.now.blocks.now.entries node) }
+        ensures { result ≡ is_node_block self.now.root (pair_len self.now.key self.now.value)
+            (block_at self.now.blocks.now.entries node) }
     {
         let Some(block) = self.blocks.get(node) else {
             return false;
@@ -67,7 +69,7 @@ impl Pairs<'_> {
         if !is_same(Role::Node, block.role) {
             return false;
         }
-        if (block.len as u64) < LINKS + self.key.size() + self.value.size() + TAG {
+        if (block.len as u64) < LINKS + self.key.size() + self.value.size() + TAG_LEN {
             return false;
         }
         match block.owner {
@@ -80,7 +82,8 @@ impl Pairs<'_> {
     #[tactic(auto, unfolding(crate::specs::MapNodes::is_pair))]
     fn is_pair(&self, node: u64) -> bool
         requires { IsTrue (is_legal_size (length self.now.window.now.bytes)) }
-        ensures { result ≡ is_pair self.now.window.now self.now.blocks.now.entries self.now.root self.now.key self.now.value node }
+        ensures { result ≡ is_pair self.now.window.now self.now.blocks.now.entries self.now.root self.now.key
+            self.now.value node }
     {
         if !is_place_in(self.window, node) || !self.has_node(node) {
             return false;
@@ -93,8 +96,9 @@ impl Pairs<'_> {
     fn child(&self, node: u64, at: u64) -> Option<u64>
         requires size { IsTrue (is_legal_size (length self.now.window.now.bytes)) }
         requires aligned { at % 8 ≡ 0 }
-        requires inside { at + 8 ≤ length self.now.window.now.bytes }
-        ensures { result ≡ kept_link (is_pair self.now.window.now self.now.blocks.now.entries self.now.root self.now.key self.now.value) node (link_at (bytes_of self.now.window.now.bytes) at) }
+        requires in_bounds { at + 8 ≤ length self.now.window.now.bytes }
+        ensures { result ≡ kept_link (is_pair self.now.window.now self.now.blocks.now.entries self.now.root
+            self.now.key self.now.value) node (link_at (bytes_of self.now.window.now.bytes) at) }
     {
         match self.window.load(at) {
             Some(target) if self.is_pair(target) => Some(target),
@@ -106,7 +110,8 @@ impl Pairs<'_> {
     /// Whether the link leads to a pair or nowhere.
     fn has_at(&self, link: Option<u64>) -> bool
         requires { IsTrue (is_legal_size (length self.now.window.now.bytes)) }
-        ensures { result ≡ leads (is_pair self.now.window.now self.now.blocks.now.entries self.now.root self.now.key self.now.value) link }
+        ensures { result ≡ leads (is_pair self.now.window.now self.now.blocks.now.entries self.now.root self.now.key
+            self.now.value) link }
     {
         match link {
             Some(target) => self.is_pair(target),
@@ -115,7 +120,7 @@ impl Pairs<'_> {
     }
 }
 
-impl Nodes for Pairs<'_> {
+impl Nodes for CheckedPairTree<'_> {
     type Probe = ();
 
     ghost cells = { λ s. pair_cells s.window.now s.blocks.now.entries s.root s.key s.value };
@@ -133,7 +138,7 @@ impl Nodes for Pairs<'_> {
     }
 
     fn right(&self, node: u64) -> Option<u64> {
-        self.child(node, node + RIGHT)
+        self.child(node, node + RIGHT_LINK)
     }
 
     fn red(&self, node: u64) -> bool {
@@ -170,24 +175,26 @@ impl Nodes for Pairs<'_> {
 /// links.
 pub(crate) fn check_pairs(
     window: &ImageWindow,
-    blocks: &Blocks,
-    visits: &mut Visits,
+    blocks: &BlockTable,
+    visits: &mut VisitCounter,
     key: ScalarKind,
     value: ScalarKind,
     map: Value,
-) -> Checked
+) -> CheckedTree
     requires size { IsTrue (is_legal_size (length window.now.bytes)) }
     requires aligned { map.at % 8 ≡ 0 }
-    requires inside { map.at + 8 ≤ length window.now.bytes }
-    requires few { rooted_weight map.at blocks.now.entries ≤ 2 ^ 40 }
-    ensures counts { (n : ℕ) → (result.nodes ≡ Some n)
-        ↔ ((leads (is_pair window.now blocks.now.entries map.at key value) (link_at (bytes_of window.now.bytes) map.at) ≡ true)
-        × (t : Tree) × IsSearchTree (key_before (bytes_of window.now.bytes) key) (pair_cells window.now blocks.now.entries map.at key value) (link_at (bytes_of window.now.bytes) map.at) t
+    requires in_bounds { map.at + 8 ≤ length window.now.bytes }
+    requires max_count { rooted_weight map.at blocks.now.entries ≤ 2 ^ 40 }
+    ensures count { (n : ℕ) → (result.nodes ≡ Some n)
+        ↔ ((leads (is_pair window.now blocks.now.entries map.at key value)
+        (link_at (bytes_of window.now.bytes) map.at) ≡ true)
+        × (t : Tree) × IsSearchTree (key_before (bytes_of window.now.bytes) key)
+        (pair_cells window.now blocks.now.entries map.at key value) (link_at (bytes_of window.now.bytes) map.at) t
         × (length (nodes_of t) ≡ n)) }
     ensures steps { 5 * result.steps ≤ 25 + rooted_weight map.at blocks.now.entries }
     ensures visits { visits.new ≡ visits.old + 2 + 5 * result.steps }
 {
-    let pairs = Pairs {
+    let pairs = CheckedPairTree {
         window,
         blocks,
         root: map.at,
@@ -197,7 +204,7 @@ pub(crate) fn check_pairs(
     visits.add(2);
     let root = window.load(map.at);
     if !pairs.has_at(root) {
-        return Checked {
+        return CheckedTree {
             nodes: None,
             steps: 0,
         };

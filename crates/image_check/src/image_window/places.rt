@@ -3,32 +3,34 @@
 ghost use Rattle.std.specs.Prelude.{◌≡◌, ◌↔◌, ◌+◌, ◌-◌, ◌*◌, ◌%◌, ◌≤◌, true, ℕ, List, Some, length};
 ghost use Rattle.raw_region.specs.Memory.{bytes_of};
 ghost use Rattle.offset_link.specs.Link.{link_at};
-ghost use Rattle.link_tree.specs.Checking.{IsClosed};
-ghost use Rattle.link_tree.specs.Nodes.{first_not, is_in, leads};
+ghost use Rattle.link_tree.specs.Checking.{IsLinkClosed};
+ghost use Rattle.link_tree.specs.Nodes.{first_not_before, is_in, leads};
 ghost use Rattle.link_tree.specs.Tree.{Tree, IsSearchTree, bits, nodes_of};
-ghost use Rattle.image_check.specs.FreeNodes.{has_good_links, is_before, is_place, len_at as len_there, place_cells, placed, stands_before};
-ghost use Rattle.image_check.specs.FreeLaws.{before_agrees, before_irreflexive, before_transitive, places_finite, places_left, places_right};
+ghost use Rattle.image_check.specs.FreeNodes.{has_good_links, is_before, is_place, len_at as len_there, place_cells};
+ghost use Rattle.image_check.specs.FreeNodes.{placed, stands_before};
+ghost use Rattle.image_check.specs.FreeLaws.{before_agrees, before_irreflexive, before_transitive, places_finite};
+ghost use Rattle.image_check.specs.FreeLaws.{places_left, places_right};
 
 use super::ImageWindow;
-use crate::checking::Visits;
-use best_fit::RIGHT;
-use link_tree::{Checked, Found, Nodes, check, find_first_not_before};
+use crate::checking::VisitCounter;
+use best_fit::RIGHT_LINK;
+use link_tree::{CheckedTree, Nodes, SearchResult, check, find_first_not_before};
 
 /// The places of a window where a payload may begin, as the nodes of a tree. A link that leads to no such place is read
 /// as null. A node precedes longer ones, and those as long that stand behind it, by the lengths in front of them.
 #[derive(Clone, Copy)]
-struct Places<'a> {
+struct PayloadTree<'a> {
     window: &'a ImageWindow,
 }
 
 /// A node that is looked for in the tree: its length and its place.
 #[derive(Clone, Copy)]
-pub(crate) struct Sought {
+pub(crate) struct TileProbe {
     pub(crate) len: u64,
     pub(crate) node: u64,
 }
 
-impl Places<'_> {
+impl PayloadTree<'_> {
     /// The length that the tag of a node says.
     fn len_at(&self, node: u64) -> u64
         requires { is_place self.now.window.now node ≡ true }
@@ -41,7 +43,7 @@ impl Places<'_> {
 /// Where the link at `at` leads, or nowhere where that is no place of a payload.
 fn placed_link(window: &ImageWindow, at: u64) -> Option<u64>
     requires aligned { at % 8 ≡ 0 }
-    requires inside { at + 8 ≤ length window.now.bytes }
+    requires in_bounds { at + 8 ≤ length window.now.bytes }
     ensures { result ≡ placed (length window.now.bytes) (link_at (bytes_of window.now.bytes) at) }
 {
     match window.checked(at) {
@@ -50,8 +52,8 @@ fn placed_link(window: &ImageWindow, at: u64) -> Option<u64>
     }
 }
 
-impl Nodes for Places<'_> {
-    type Probe = Sought;
+impl Nodes for PayloadTree<'_> {
+    type Probe = TileProbe;
 
     ghost cells = { λ s. place_cells s.window.now };
 
@@ -68,7 +70,7 @@ impl Nodes for Places<'_> {
     }
 
     fn right(&self, node: u64) -> Option<u64> {
-        placed_link(self.window, node + RIGHT)
+        placed_link(self.window, node + RIGHT_LINK)
     }
 
     fn red(&self, node: u64) -> bool {
@@ -81,7 +83,7 @@ impl Nodes for Places<'_> {
         first < second || (first == second && a < b)
     }
 
-    fn before_probe(&self, node: u64, probe: &Sought) -> bool {
+    fn before_probe(&self, node: u64, probe: &TileProbe) -> bool {
         let len = self.len_at(node);
         len < probe.len || (len == probe.len && node < probe.node)
     }
@@ -100,14 +102,20 @@ impl Nodes for Places<'_> {
 }
 
 /// The check of the links below `root`, as those of a tree. One visit for each step.
-pub(crate) fn check_places(window: &ImageWindow, root: Option<u64>, visits: &mut Visits) -> Checked
+pub(crate) fn check_places(
+    window: &ImageWindow,
+    root: Option<u64>,
+    visits: &mut VisitCounter,
+) -> CheckedTree
     requires { leads (is_place window.now) root ≡ true }
-    ensures counts { (n : ℕ) → (result.nodes ≡ Some n)
-        ↔ ((t : Tree) × IsSearchTree (stands_before (bytes_of window.now.bytes)) (place_cells window.now) root t × (length (nodes_of t) ≡ n)) }
-    ensures steps { (ns : List ℕ) → IsClosed (place_cells window.now) ns → leads (λ n. is_in n ns) root ≡ true → result.steps ≤ 5 * length ns + 5 }
+    ensures count { (n : ℕ) → (result.nodes ≡ Some n)
+        ↔ ((t : Tree) × IsSearchTree (stands_before (bytes_of window.now.bytes)) (place_cells window.now) root t
+        × (length (nodes_of t) ≡ n)) }
+    ensures steps { (ns : List ℕ) → IsLinkClosed (place_cells window.now) ns → leads (λ n. is_in n ns) root ≡ true
+        → result.steps ≤ 5 * length ns + 5 }
     ensures visits { visits.new ≡ visits.old + result.steps }
 {
-    let checked = check(&Places { window }, root);
+    let checked = check(&PayloadTree { window }, root);
     visits.add(checked.steps);
     checked
 }
@@ -116,28 +124,31 @@ pub(crate) fn check_places(window: &ImageWindow, root: Option<u64>, visits: &mut
 pub(crate) fn find_place(
     window: &ImageWindow,
     root: Option<u64>,
-    sought: Sought,
-    visits: &mut Visits,
-) -> Found
+    sought: TileProbe,
+    visits: &mut VisitCounter,
+) -> SearchResult
     requires root { leads (is_place window.now) root ≡ true }
-    requires tree { (t : Tree) × IsSearchTree (stands_before (bytes_of window.now.bytes)) (place_cells window.now) root t }
-    ensures first { (t : Tree) → IsSearchTree (stands_before (bytes_of window.now.bytes)) (place_cells window.now) root t
-        → result.node ≡ first_not (is_before (bytes_of window.now.bytes) sought.len sought.node) (nodes_of t) }
-    ensures steps { (t : Tree) → IsSearchTree (stands_before (bytes_of window.now.bytes)) (place_cells window.now) root t
+    requires tree { (t : Tree) × IsSearchTree (stands_before (bytes_of window.now.bytes)) (place_cells window.now)
+        root t }
+    ensures first { (t : Tree) → IsSearchTree (stands_before (bytes_of window.now.bytes)) (place_cells window.now)
+        root t
+        → result.node ≡ first_not_before (is_before (bytes_of window.now.bytes) sought.len sought.node) (nodes_of t) }
+    ensures steps { (t : Tree) → IsSearchTree (stands_before (bytes_of window.now.bytes)) (place_cells window.now)
+        root t
         → result.steps ≤ 2 * bits (length (nodes_of t) + 1) }
     ensures visits { visits.new ≡ visits.old + result.steps }
 {
-    let found = find_first_not_before(&Places { window }, root, &sought);
+    let found = find_first_not_before(&PayloadTree { window }, root, &sought);
     visits.add(found.steps);
     found
 }
 
 /// Whether both links of a node are null or lead to places of payloads. One visit.
-pub(crate) fn has_good_links(window: &ImageWindow, node: u64, visits: &mut Visits) -> bool
+pub(crate) fn has_good_links(window: &ImageWindow, node: u64, visits: &mut VisitCounter) -> bool
     requires { is_place window.now node ≡ true }
     ensures value { result ≡ has_good_links window.now node }
     ensures visits { visits.new ≡ visits.old + 1 }
 {
     visits.visit();
-    window.checked(node).is_ok() && window.checked(node + RIGHT).is_ok()
+    window.checked(node).is_ok() && window.checked(node + RIGHT_LINK).is_ok()
 }

@@ -47,7 +47,9 @@ impl Plain for bool {
 
     ghost reads = { laws.bool-reads };
 
-    ghost differs = { λ x y h k e. laws.same_truth x y (laws.differs BoolKind (truth_number x) (truth_number y) (laws.truth-value x) (laws.truth-value y) e) };
+    ghost differs = { λ x y h k e.
+        laws.same_truth x y (laws.differs BoolKind (truth_number x) (truth_number y) (laws.truth-value x)
+        (laws.truth-value y) e) };
 
     ghost irreflexive = { λ x. laws.irreflexive (truth_number x) };
 

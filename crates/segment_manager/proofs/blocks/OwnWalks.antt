@@ -14,8 +14,9 @@ use Rattle.std.proofs.Common.{add-one}
 use Rattle.block_tags.specs.Tiles.{tile_at, tiles_from}
 use Rattle.best_fit.specs.Extents.{Span as LiveSpan}
 use Rattle.best_fit.proofs.Laws.{proper_from-IsFirst, proper_from-reaches}
-use Rattle.segment_manager.specs.indexes.Iterating.{GoesOnOwn, GoesOnTiles, HasPassed, IsOwnBlock, TileWalk, own_before}
-use Rattle.segment_manager.specs.{indexes.Iterating.own_count, declared.blocks.tiles.Span.Span, Calls.as_span}
+use Rattle.segment_manager.specs.indexes.Iterating.{GoesOnOwn, GoesOnTiles, HasPassed, IsObjectTile, TileWalk}
+use Rattle.segment_manager.specs.indexes.Iterating.{own_before}
+use Rattle.segment_manager.specs.{indexes.Iterating.own_count, declared.blocks.tiles.TileInfo.TileInfo, Calls.as_span}
 
 -- ---- places among those that pass
 
@@ -113,7 +114,8 @@ module _ {old cur : TileWalk} (new : TileWalk) (s : IsStill old cur) where
   same-bytes {d} k = subst (λ (t : State). StandsFor t.cut.bytes d) (sym s.segment) k
 
   -- past another block or a gap
-  pub own-past : {span : Span} → GoesOnTiles cur (Some span) new → is_own_span (as_span span) ≡ false → IsStill old new
+  pub own-past : {span : TileInfo} → GoesOnTiles cur (Some span) new → is_own_span (as_span span) ≡ false
+      → IsStill old new
   own-past g e = record {
     segment = g.segment ∙ s.segment;
     count = λ d k. ap (own_before d) (g.place ∙ add-one cur.at)
@@ -121,7 +123,7 @@ module _ {old cur : TileWalk} (new : TileWalk) (s : IsStill old cur) where
   }
 
   -- up to one of an object
-  pub own-found : {span : Span} → GoesOnTiles cur (Some span) new → is_own_span (as_span span) ≡ true
+  pub own-found : {span : TileInfo} → GoesOnTiles cur (Some span) new → is_own_span (as_span span) ≡ true
       → GoesOnOwn old (Some span) new
   own-found g e = record {
     segment = g.segment ∙ s.segment;
@@ -155,7 +157,7 @@ objects-end s at {d} k e = none_more d.objects at (none-mapped (λ (o : Object).
     (ap (λ ss. slice_get ss at) (sym (all-own_spans k.denotes.directory)) ∙ sym e)))
 
 -- the object whose block stands at a place among those of objects
-pub record IsOwner (d : Directory) (at : ℕ) (span : Span) : Type 0 where
+pub record IsOwner (d : Directory) (at : ℕ) (span : TileInfo) : Type 0 where
   pub object : Object
   pub is : slice_get d.objects at ≡ Some object
   pub offset : span.offset ≡ object.extent.offset
@@ -231,7 +233,7 @@ counts-own {b} {d} k = ap (λ (l : LiveSet). length (filter is_own l.extents)) (
 
 -- ---- a call of the iterator
 
-module _ {s : State} {at : ℕ} {span : Span} (own : IsOwnBlock s at span) where
+module _ {s : State} {at : ℕ} {span : TileInfo} (own : IsObjectTile s at span) where
   owner : {d : Directory} → StandsFor s.cut.bytes d → IsOwner d at span
   owner {d} k =
       let o = owner-in d.objects at
@@ -276,14 +278,14 @@ module _ {s : State} {at : ℕ} {span : Span} (own : IsOwnBlock s at span) where
       let within = all-at (λ (p : Object). end_of p.extent ≤ (live d).size - 16) d.objects at (own-within g.1) o.is in
       omega (arith, within, o.offset, segment-short s.cut.bytes g, g.1.denotes.heap.size)
 
-module _ {s : State} {old new : TileWalk} {at : ℕ} {r : Option Span} (h : HasPassed s old at)
+module _ {s : State} {old new : TileWalk} {at : ℕ} {r : Option TileInfo} (h : HasPassed s old at)
     (g : GoesOnOwn old r new) where
   at-own : {d : Directory} → StandsFor s.cut.bytes d → option_map as_span r ≡ slice_get (own_spans d) at
   at-own {d} k = g.says d (subst (λ (t : State). StandsFor t.cut.bytes d) (sym h.segment) k)
       ∙ ap (slice_get (own_spans d)) (sym (h.count.answers d k))
 
   -- a block came
-  pub block-at : {span : Span} → r ≡ Some span → IsOwnBlock s at span
+  pub block-at : {span : TileInfo} → r ≡ Some span → IsObjectTile s at span
   block-at e = record { stands = λ d k. ap (option_map as_span) (sym e) ∙ at-own k }
 
   pub none-left : r ≡ None → (d : Directory) → StandsFor s.cut.bytes d → length d.objects ≤ at

@@ -1,12 +1,14 @@
 -- What the bytes stand for where the end of the heap moves, and then the size is written.
 use Rattle.segment_manager.proofs.Common.{◌≡◌, refl, sym, ap, subst, ◌∙◌, ℕ, ◌+◌, ◌≤◌, inl, inr, List, length, arith}
-use Rattle.segment_manager.proofs.Common.{AllByRecursion, Cut, Same, bytes_of, word_at, current, Same-part, Same-word}
-use Rattle.segment_manager.proofs.Common.{LiveSet, IsChanged, LaysOut, SameBlock, live_of, blocks-trans, lay_out_one}
+use Rattle.segment_manager.proofs.Common.{AllByRecursion, WindowState, SameBytes, bytes_of, word_at, current}
+use Rattle.segment_manager.proofs.Common.{SameBytes-part, SameBytes-word}
+use Rattle.segment_manager.proofs.Common.{LiveSet, ChangesBytes, EncodesLiveSet, SameBlock, live_of, blocks-trans}
+use Rattle.segment_manager.proofs.Common.{lay_out_one}
 use Rattle.segment_manager.proofs.Common.{Directory, by_kind, by_name, live, named_objects, unique_objects, Denotes}
-use Rattle.segment_manager.proofs.Common.{IsHeader, Resizes, grown, shrunk, IsSegment, StandsFor, State}
+use Rattle.segment_manager.proofs.Common.{IsHeader, Resizes, grown, shrunk, IsSegment, DenotesCurrent, SegmentState}
 use Rattle.segment_manager.proofs.Live.{live-size, of_each}
 use Rattle.segment_manager.proofs.{Calling.denotes-live, Denoted.index-stays, Frame.any_objects-same}
-use Rattle.best_fit.specs.Ends.{EndsAt, HasEndMoved, least_size, of_size}
+use Rattle.best_fit.specs.Ends.{EndsAt, MovesEnd, least_size, of_size}
 use Rattle.best_fit.proofs.Laws.{changed-header_blocks, ends-then}
 
 -- the live set of a directory of another size
@@ -14,7 +16,8 @@ live-of_size : (d : Directory) (n : ℕ) → of_size (live d) n ≡ live (record
 unfolding live
 live-of_size d n = refl
 
-module _ (old mid new : Cut) (n : ℕ) (moved : HasEndMoved current old mid n) (change : IsChanged current mid new 16 8)
+module _ (old mid new : WindowState) (n : ℕ) (moved : MovesEnd current old mid n)
+    (change : ChangesBytes current mid new 16 8)
     (word : word_at (bytes_of new.bytes) 16 ≡ n) where
   mid_live : live_of mid.bytes ≡ of_size (live_of old.bytes) n
   mid_live = lay_out_one current mid.bytes (of_size (live_of old.bytes) n) moved.live
@@ -24,22 +27,24 @@ module _ (old mid new : Cut) (n : ℕ) (moved : HasEndMoved current old mid n) (
       moved.keeps.blocks (subst (λ (l : LiveSet). AllByRecursion (SameBlock (bytes_of mid.bytes) (bytes_of new.bytes))
       l.extents) mid_live (changed-header_blocks current mid new 16 8 change (omega arith)))
 
-  front : Same (bytes_of old.bytes) (bytes_of new.bytes) 0 16
+  front : SameBytes (bytes_of old.bytes) (bytes_of new.bytes) 0 16
   front = record { at = λ k low high. change.rest.at k (inl (omega arith)) ∙ moved.keeps.front.at k low (omega arith) }
 
-  behind : Same (bytes_of old.bytes) (bytes_of new.bytes) 32 128
+  behind : SameBytes (bytes_of old.bytes) (bytes_of new.bytes) 32 128
   behind = record { at = λ k low high. change.rest.at k (inr (omega arith)) ∙ moved.keeps.behind.at k low high }
 
-  laid : {d : Directory} → Denotes current old.bytes d → LaysOut current new.bytes (live (record d { size = n }))
-  laid {d} h = subst (LaysOut current new.bytes)
+  laid : {d : Directory} → Denotes current old.bytes d → EncodesLiveSet current new.bytes (live (record d { size = n }))
+  laid {d} h = subst (EncodesLiveSet current new.bytes)
       (mid_live ∙ ap (λ (l : LiveSet). of_size l n) (denotes-live current old.bytes d h) ∙ live-of_size d n) change.live
 
   header : (d : Directory) → Denotes current old.bytes d → IsHeader current (bytes_of new.bytes) n
   header d h = record {
     magic =
-        Same-word (bytes_of old.bytes) (bytes_of new.bytes) 0 16 0 front (omega arith) (omega arith) ∙ h.header.magic;
+        SameBytes-word (bytes_of old.bytes) (bytes_of new.bytes) 0 16 0 front (omega arith) (omega arith)
+        ∙ h.header.magic;
     version =
-        Same-word (bytes_of old.bytes) (bytes_of new.bytes) 0 16 8 front (omega arith) (omega arith) ∙ h.header.version;
+        SameBytes-word (bytes_of old.bytes) (bytes_of new.bytes) 0 16 8 front (omega arith) (omega arith)
+        ∙ h.header.version;
     size_word = word;
     zeros = record { at = λ k a b. behind.at k (omega arith) (omega arith) ∙ h.header.zeros.at k a b };
   }
@@ -60,9 +65,9 @@ module _ (old mid new : Cut) (n : ℕ) (moved : HasEndMoved current old mid n) (
         };
         header = header d h;
         heap = laid h;
-        named = index-stays (named_objects d) by_name h.directory.named (Same-part (bytes_of old.bytes)
+        named = index-stays (named_objects d) by_name h.directory.named (SameBytes-part (bytes_of old.bytes)
             (bytes_of new.bytes) 32 128 32 56 behind (omega arith) (omega arith)) each.named h.named;
-        unique = index-stays (unique_objects d) by_kind h.directory.unique (Same-part (bytes_of old.bytes)
+        unique = index-stays (unique_objects d) by_kind h.directory.unique (SameBytes-part (bytes_of old.bytes)
             (bytes_of new.bytes) 32 128 56 80 behind (omega arith) (omega arith)) each.unique h.unique;
         objects = any_objects-same current (bytes_of old.bytes)
             (bytes_of new.bytes) d.objects h.directory.objects each.objects h.objects;
@@ -79,37 +84,38 @@ module _ (old mid new : Cut) (n : ℕ) (moved : HasEndMoved current old mid n) (
 -- ---- each directory becomes the next
 
 -- a directory's size is that of its bytes
-pub stands-size : {b : List ℕ} {d : Directory} → StandsFor b d → d.size ≡ length b
+pub stands-size : {b : List ℕ} {d : Directory} → DenotesCurrent b d → d.size ≡ length b
 stands-size {d} h = sym (h.denotes.heap.size ∙ live-size d)
 
-pub resizes : {old new : State} {mid : Cut} {n : ℕ} {next : Directory → Directory} → new.mode ≡ old.mode
-    → HasEndMoved current old.cut mid n → IsChanged current mid new.cut 16 8 → word_at (bytes_of new.cut.bytes) 16 ≡ n
-    → ((d : Directory) → StandsFor old.cut.bytes d → record d { size = n } ≡ next d) → Resizes old new next
+pub resizes : {old new : SegmentState} {mid : WindowState} {n : ℕ} {next : Directory → Directory} → new.mode ≡ old.mode
+    → MovesEnd current old.cut mid n → ChangesBytes current mid new.cut 16 8 → word_at (bytes_of new.cut.bytes) 16 ≡ n
+    → ((d : Directory) → DenotesCurrent old.cut.bytes d → record d { size = n } ≡ next d) → Resizes old new next
 resizes {old} {new} {mid} {n} mode moved change word is = record {
   mode = mode;
   place = place-resized old.cut mid new.cut n moved change word;
   blocks = blocks old.cut mid new.cut n moved change word;
-  denotes = λ d h. subst (StandsFor new.cut.bytes) (is d h)
+  denotes = λ d h. subst (DenotesCurrent new.cut.bytes) (is d h)
       (record { denotes = denotes-resized old.cut mid new.cut n moved change word h.denotes });
 }
 
 -- with so many bytes more
-pub grows : {old new : State} {mid : Cut} (extra : ℕ) → new.mode ≡ old.mode
-    → HasEndMoved current old.cut mid (length old.cut.bytes + extra) → IsChanged current mid new.cut 16 8
+pub grows : {old new : SegmentState} {mid : WindowState} (extra : ℕ) → new.mode ≡ old.mode
+    → MovesEnd current old.cut mid (length old.cut.bytes + extra) → ChangesBytes current mid new.cut 16 8
     → word_at (bytes_of new.cut.bytes) 16 ≡ length mid.bytes → Resizes old new (λ d. grown d extra)
 grows extra mode moved change word = resizes mode moved change (word ∙ moved.live.size)
     (λ d h. ap (λ n. let e : Directory = record d { size = n + extra } in e) (sym (stands-size h)))
 
 -- as far as the last extent
-pub shrinks : {old new : State} {mid : Cut} → new.mode ≡ old.mode
-    → HasEndMoved current old.cut mid (least_size (live_of old.cut.bytes)) → IsChanged current mid new.cut 16 8
+pub shrinks : {old new : SegmentState} {mid : WindowState} → new.mode ≡ old.mode
+    → MovesEnd current old.cut mid (least_size (live_of old.cut.bytes)) → ChangesBytes current mid new.cut 16 8
     → word_at (bytes_of new.cut.bytes) 16 ≡ length mid.bytes → Resizes old new (λ d. shrunk d)
 shrinks {old} mode moved change word = resizes mode moved change (word ∙ moved.live.size)
     (λ d h. ap (λ (l : LiveSet). let e : Directory = record d { size = least_size l } in
     e) (denotes-live current old.cut.bytes d h.denotes))
 
 -- and it is still a segment
-pub resized-segment : {old new : State} {next : Directory → Directory} → Resizes old new next → IsSegment old.cut.bytes
+pub resized-segment : {old new : SegmentState} {next : Directory → Directory} → Resizes old new next
+    → IsSegment old.cut.bytes
     → IsSegment new.cut.bytes
 resized-segment {next} r s = (next s.0, r.denotes s.0 s.1)
 
@@ -117,5 +123,5 @@ resized-segment {next} r s = (next s.0, r.denotes s.0 s.1)
 
 -- the size is that of each directory
 pub fits-small : {b : List ℕ} (extra : ℕ) → IsSegment b
-    → ((d : Directory) → StandsFor b d → d.size + extra ≤ 1073741824) → length b + extra ≤ 1073741824
+    → ((d : Directory) → DenotesCurrent b d → d.size + extra ≤ 1073741824) → length b + extra ≤ 1073741824
 fits-small extra s h = let l = h s.0 s.1 in let e = stands-size s.1 in omega arith

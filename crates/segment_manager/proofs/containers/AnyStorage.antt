@@ -2,8 +2,9 @@
 use Rattle.segment_manager.proofs.Common.{◌≡◌, refl, sym, ap, ◌∙◌, ℕ, true, false, Option, Some, None, Result, Ok, Err}
 use Rattle.segment_manager.proofs.Common.{eq-eqb, Kind, Refusal, NotFound, WrongKind, code_of, Key, Command, Answer}
 use Rattle.segment_manager.proofs.Common.{Refused, kind_at, sizes_at, sizes_at_kind, sizes_of, Directory, Object}
-use Rattle.segment_manager.proofs.Common.{kind_of, live, object_at, IsMissing, Refuse, perform, Answers, IsStep}
-use Rattle.segment_manager.proofs.Common.{IsStepOfKind, State, effect, has_storage, is_read_only, step, step_of_kind}
+use Rattle.segment_manager.proofs.Common.{kind_of, live, object_at, IsMissing, Refuse, perform, AnswersWith, TakesStep}
+use Rattle.segment_manager.proofs.Common.{TakesStepOfKind, SegmentState, effect, has_storage, is_read_only, step}
+use Rattle.segment_manager.proofs.Common.{step_of_kind}
 use Rattle.segment_manager.proofs.containers.StorageSteps.{change-refused, no-storage}
 use Rattle.segment_manager.proofs.{Common.Mode, Common.Change, Common.command_of, containers.Refilled.refused-steps}
 use Rattle.segment_manager.proofs.{containers.Refilled.told-some, Steps.step_of_kind-step, Steps.moves-same}
@@ -24,9 +25,9 @@ pub kind-told : (d : Directory) (key : Key) (kind : Kind) → Ok kind ≡ kind_a
 kind-told d key kind e = told-if d key kind (object_at d key) refl e
 
 -- no object has the key: then the call is refused as the command is
-pub nowhere-steps : (s : State) (key : Key) (why : Refusal) (c : Command) → is_read_only s.mode ≡ false
+pub nowhere-steps : (s : SegmentState) (key : Key) (why : Refusal) (c : Command) → is_read_only s.mode ≡ false
     → IsMissing s key why
-    → ((d : Directory) → object_at d key ≡ None → effect d c ≡ Refuse NotFound) → IsStep s s c (Refused why)
+    → ((d : Directory) → object_at d key ≡ None → effect d c ≡ Refuse NotFound) → TakesStep s s c (Refused why)
 nowhere-steps s key why c writing m none = refused-steps s c why writing
     (λ d l. ap (perform d (live d)) (none d (m.missing d l)) ∙ (λ i. (Refused (sym m.is i), d)))
 
@@ -36,15 +37,16 @@ pub of_kind-same : (mode : Mode) (d : Directory) (key : Key) (kind : Kind) (c : 
 of_kind-same mode d key kind c e = step_of_kind-step mode d key kind c e.object e.is
     (eq-eqb (code_of kind) (code_of (kind_of e.object.value)) (ap code_of (sym e.kind_is)))
 
-pub of_kind-steps : (old new : State) (key : Key) (kind : Kind) (c : Command) (answer : Answer)
-    → Answers old (λ d. kind_at d key) (Ok kind) → IsStepOfKind old new key kind c answer → IsStep old new c answer
+pub of_kind-steps : (old new : SegmentState) (key : Key) (kind : Kind) (c : Command) (answer : Answer)
+    → AnswersWith old (λ d. kind_at d key) (Ok kind) → TakesStepOfKind old new key kind c answer
+    → TakesStep old new c answer
 of_kind-steps old new key kind c answer a r = moves-same old new answer (λ d. step_of_kind old.mode d key kind c)
     (λ d. step old.mode d c) (λ d k. of_kind-same old.mode d key kind c (kind-told d key kind (a.answers d k))) r
 
 -- it has no storage
-pub change-other : (change : Change) (s : State) (key : Key) (kind : Kind) → is_read_only s.mode ≡ false
-    → has_storage kind ≡ false → Answers s (λ d. kind_at d key) (Ok kind)
-    → IsStep s s (command_of change key) (Refused WrongKind)
+pub change-other : (change : Change) (s : SegmentState) (key : Key) (kind : Kind) → is_read_only s.mode ≡ false
+    → has_storage kind ≡ false → AnswersWith s (λ d. kind_at d key) (Ok kind)
+    → TakesStep s s (command_of change key) (Refused WrongKind)
 change-other change s key kind writing h a = refused-steps s (command_of change key) WrongKind writing (λ d l.
     let e : IsOfKindAt d key kind = kind-told d key kind (a.answers d l) in
     ap (perform d (live d))
@@ -59,8 +61,9 @@ sizes-found d key kind o e f = told-some d key kind (λ o. sizes_of o.value) o t
     (eq-eqb (code_of kind) (code_of (kind_of o.value)) (ap code_of (sym f)))
 
 -- the sizes of the kind are the object's
-pub measures-kind : (s : State) (key : Key) (kind : Kind) (r : Result (ℕ × ℕ) Refusal) → Answers s (λ d. kind_at d key)
-    (Ok kind) → Answers s (λ d. sizes_at_kind d key kind) r → Answers s (λ d. sizes_at d key) r
+pub measures-kind : (s : SegmentState) (key : Key) (kind : Kind) (r : Result (ℕ × ℕ) Refusal)
+    → AnswersWith s (λ d. kind_at d key)
+    (Ok kind) → AnswersWith s (λ d. sizes_at_kind d key kind) r → AnswersWith s (λ d. sizes_at d key) r
 measures-kind s key kind r a m = record {
   answers = λ d l.
       let e : IsOfKindAt d key kind = kind-told d key kind (a.answers d l) in

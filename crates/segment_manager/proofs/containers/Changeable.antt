@@ -1,22 +1,24 @@
 -- Objects that a command changes: what a crate that calls by kinds learns of them.
 use Rattle.segment_manager.proofs.Common.{◌≡◌, refl, sym, ap, subst, ◌∙◌, false, Result, Ok, Err, MatchResult, Kind}
 use Rattle.segment_manager.proofs.Common.{Refusal, Key, ByHandle, Command, is_changing, Mode, Answer, Refused, kind_at}
-use Rattle.segment_manager.proofs.Common.{IsChangeable, IsToChange, IsUnchangeable, Directory, live, IsMissing}
-use Rattle.segment_manager.proofs.Common.{IsLocated, Plan, Refuse, perform, Answers, IsReply, IsStep, State, StandsFor}
+use Rattle.segment_manager.proofs.Common.{IsChangeable, IsChangeableObject, IsUnchangeable, Directory, live, IsMissing}
+use Rattle.segment_manager.proofs.Common.{IsLocated, Plan, Refuse, perform, AnswersWith, AnswersQuery, TakesStep}
+use Rattle.segment_manager.proofs.Common.{SegmentState, DenotesCurrent}
 use Rattle.segment_manager.proofs.{Common.effect, Common.is_read_only, Steps.open-reading, Steps.step-effect}
 use Rattle.segment_manager.proofs.{Common.step, containers.AnyStorage.nowhere-steps, containers.Refilled.refused-steps}
 use Rattle.segment_manager.proofs.{Steps.refuses-read_only, objects.Locating.kind-by_key, objects.Locating.located-here}
-use Rattle.segment_manager.specs.{declared.modes.Mode.TheVariants.ReadOnly, declared.objects.targets.Object.Object}
+use Rattle.segment_manager.specs.{declared.modes.Mode.TheVariants.ReadOnly, declared.objects.object_ref.Object.Object}
 use Rattle.seg_types.specs.declared.refusals.Refusal.TheVariants as refusal
 
 -- ---- an object that was located
 
 -- it is of the kind that it says
-pub says-kind : {s : State} {key : Key} {o : Object} {kind : Kind} → IsLocated s key o → o.kind ≡ kind
-    → Answers s (λ d. kind_at d key) (Ok kind)
-says-kind {s} {key} {o} l e = subst (λ k. Answers s (λ d. kind_at d key) (Ok k)) e (kind-by_key s key o l)
+pub says-kind : {s : SegmentState} {key : Key} {o : Object} {kind : Kind} → IsLocated s key o → o.kind ≡ kind
+    → AnswersWith s (λ d. kind_at d key) (Ok kind)
+says-kind {s} {key} {o} l e = subst (λ k. AnswersWith s (λ d. kind_at d key) (Ok k)) e (kind-by_key s key o l)
 
-module _ {s : State} {key : Key} {o : Object} (h : IsToChange s key o) {kind : Kind} (e : o.kind ≡ kind) where
+module _ {s : SegmentState} {key : Key} {o : Object} (h : IsChangeableObject s key o) {kind : Kind} (e : o.kind
+    ≡ kind) where
   pub to-change : IsChangeable s key kind
   to-change = record { writing = h.writing; is = says-kind h.located e }
 
@@ -31,12 +33,13 @@ not-reading ReadOnly h = absurd (h refl)
 not-reading mode h = refl
 
 -- the segment is open for reading
-pub reading-unchangeable : (s : State) (key : Key) → s.mode ≡ ReadOnly → IsUnchangeable s key refusal.ReadOnly
+pub reading-unchangeable : (s : SegmentState) (key : Key) → s.mode ≡ ReadOnly → IsUnchangeable s key refusal.ReadOnly
 reading-unchangeable s key e = record { refuses = λ c changes none. refuses-read_only s c (ap is_read_only e) changes }
 
 -- or the object of the key decides
-pub changeable : (s : State) (key : Key) (r : Result Object Refusal) → (s.mode ≡ ReadOnly → ⊥)
-    → MatchResult r (IsLocated s key) (IsMissing s key) → MatchResult r (IsToChange s key) (IsUnchangeable s key)
+pub changeable : (s : SegmentState) (key : Key) (r : Result Object Refusal) → (s.mode ≡ ReadOnly → ⊥)
+    → MatchResult r (IsLocated s key) (IsMissing s key)
+    → MatchResult r (IsChangeableObject s key) (IsUnchangeable s key)
 changeable s key (Ok o) writing l = record { writing = not-reading s.mode writing; located = l }
 changeable s key (Err why) writing m = record
     { refuses = λ c changes none. nowhere-steps s key why c (not-reading s.mode writing) m none }
@@ -44,8 +47,8 @@ changeable s key (Err why) writing m = record
 -- ---- commands by their plans
 
 -- a plan that comes to a refusal
-pub refuses : (s : State) (c : Command) (why : Refusal) → is_read_only s.mode ≡ false
-    → ((d : Directory) → StandsFor s.cut.bytes d → effect d c ≡ Refuse why) → IsStep s s c (Refused why)
+pub refuses : (s : SegmentState) (c : Command) (why : Refusal) → is_read_only s.mode ≡ false
+    → ((d : Directory) → DenotesCurrent s.cut.bytes d → effect d c ≡ Refuse why) → TakesStep s s c (Refused why)
 refuses s c why writing each = refused-steps s c why writing (λ d st. ap (perform d (live d)) (each d st))
 
 -- a command that changes nothing is answered as its plan is, whatever the mode
@@ -53,7 +56,7 @@ pub answered-reads : (mode : Mode) (d : Directory) (c : Command) → is_changing
     → (step mode d c).0 ≡ (perform d (live d) (effect d c)).0
 answered-reads mode d c e = ap (λ (r : Answer × Directory). r.0) (step-effect mode d c (open-reading mode c e))
 
-pub refuses-read : (s : State) (c : Command) (why : Refusal) → is_changing c ≡ false
-    → ((d : Directory) → StandsFor s.cut.bytes d → effect d c ≡ Refuse why) → IsReply s c (Refused why)
+pub refuses-read : (s : SegmentState) (c : Command) (why : Refusal) → is_changing c ≡ false
+    → ((d : Directory) → DenotesCurrent s.cut.bytes d → effect d c ≡ Refuse why) → AnswersQuery s c (Refused why)
 refuses-read s c why e each = record
     { answers = λ d st. sym (answered-reads s.mode d c e ∙ ap (λ (p : Plan). (perform d (live d) p).0) (each d st)) }

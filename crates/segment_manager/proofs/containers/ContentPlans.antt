@@ -4,8 +4,10 @@ use Rattle.segment_manager.proofs.Common.{refl, Option, Refusal, size_of, Litera
 use Rattle.segment_manager.proofs.Common.{ap, ScalarKind, OutOfRange, with_capacity, storage_of, with_items, with_table}
 use Rattle.segment_manager.proofs.Common.{ℕ, Bool, true, Some, None, List, ◌++◌, take, Done, Value, Bytes, Texts, Reply}
 use Rattle.segment_manager.proofs.Common.{nat_abs, if◌then◌else◌, value_of_literal, capacity_for_one, capacity_for_text}
-use Rattle.segment_manager.proofs.Common.{false, Result, length, insert, remove, nat_lt, Table, Object, Refuse, effect}
-use Rattle.segment_manager.proofs.Common.{slice_get, slice_set, cut_table, WrongKind, Directory, object_at, values_of}
+use Rattle.segment_manager.proofs.Common.{false, Result, length, insert, remove, nat_lt, BackingArray, Object, Refuse}
+use Rattle.segment_manager.proofs.Common.{effect}
+use Rattle.segment_manager.proofs.Common.{slice_get, slice_set, shrunk_backing, WrongKind, Directory, object_at}
+use Rattle.segment_manager.proofs.Common.{values_of}
 use Rattle.segment_manager.proofs.Steps.{with-found}
 use Rattle.segment_manager.specs.Step.{text_among, text_of}
 use Rattle.seg_types.specs.Commands as asked
@@ -22,7 +24,7 @@ by-value d key o v next e f = with-found d key o (λ o. next o o.value) e ∙ ap
 
 -- ---- vectors of numbers
 
-module _ (d : Directory) (key : Key) (o : Object) (k : ScalarKind) (zs : List ℤ) (t : Table)
+module _ (d : Directory) (key : Key) (o : Object) (k : ScalarKind) (zs : List ℤ) (t : BackingArray)
     (e : object_at d key ≡ Some o) (f : o.value ≡ Elements k zs t) where
   -- an element more, behind the last
   abbrev pub push_with : ℤ → Plan
@@ -90,11 +92,11 @@ module _ (d : Directory) (key : Key) (o : Object) (k : ScalarKind) (zs : List �
 
 -- ---- texts
 
-abbrev append_with : Directory → Object → List ℕ → List ℕ × Table → Plan
+abbrev append_with : Directory → Object → List ℕ → List ℕ × BackingArray → Plan
 append_with d o more (bs, t) = with_capacity 1 (capacity_for_text (length (bs ++ more)) t.capacity) t
     (λ u. Reply Done (changed d o (Bytes (bs ++ more) u)))
 
-module _ (d : Directory) (key : Key) (o : Object) (bs : List ℕ) (t : Table) (e : object_at d key ≡ Some o)
+module _ (d : Directory) (key : Key) (o : Object) (bs : List ℕ) (t : BackingArray) (e : object_at d key ≡ Some o)
     (f : o.value ≡ Bytes bs t) where
   -- more bytes behind the last
   pub append-plan : (more : List ℕ) → effect d (asked.Append key more) ≡ with_capacity 1
@@ -132,15 +134,16 @@ module _ (d : Directory) (key : Key) (o : Object) (bs : List ℕ) (t : Table) (e
 
 -- ---- whatever has storage
 
-abbrev pub reserve_with : Directory → Object → Value → ℕ → ℕ × ℕ × Table → Plan
+abbrev pub reserve_with : Directory → Object → Value → ℕ → ℕ × ℕ × BackingArray → Plan
 reserve_with d o v n (each, len, t) = with_capacity each n t (λ u. Reply Done (changed d o (with_table v u)))
 
-abbrev pub shrink_with : Directory → Object → Value → ℕ × ℕ × Table → Plan
-shrink_with d o v (each, len, t) = Reply Done (changed d o (with_table v (cut_table (live d) each len t)))
+abbrev pub shrink_with : Directory → Object → Value → ℕ × ℕ × BackingArray → Plan
+shrink_with d o v (each, len, t) = Reply Done (changed d o (with_table v (shrunk_backing (live d) each len t)))
 
-module _ (d : Directory) (key : Key) (o : Object) (e : object_at d key ≡ Some o) (r : Result (ℕ × ℕ × Table) Refusal)
+module _ (d : Directory) (key : Key) (o : Object) (e : object_at d key
+    ≡ Some o) (r : Result (ℕ × ℕ × BackingArray) Refusal)
     (f : storage_of o.value ≡ r) where
-  by-storage : (next : Object → ℕ × ℕ × Table → Plan)
+  by-storage : (next : Object → ℕ × ℕ × BackingArray → Plan)
       → with (found_at d key) (λ o. with (storage_of o.value) (next o)) ≡ with r (next o)
   by-storage next = with-found d key o (λ o. with (storage_of o.value) (next o)) e ∙ ap (λ r. with r (next o)) f
 

@@ -13,7 +13,7 @@ use Rattle.segment_manager.specs.objects.Located.{located, located_at}
 use Rattle.segment_manager.proofs.objects.Standings.{standing-room, standing-short}
 use Rattle.segment_manager.proofs.containers.Contained.{contents-stand}
 use Rattle.segment_manager.proofs.Calling.{denotes-heap}
-use Rattle.segment_manager.proofs.{Frame.object-roomy, blocks.Blocks.spelling-length, objects.Rows.Has-element}
+use Rattle.segment_manager.proofs.{Frame.object-roomy, blocks.Blocks.spelling-length, objects.Rows.HasBytesAt-element}
 use Rattle.raw_region.proofs.Facts.{first, second}
 use Rattle.segment_manager.specs.objects.ElementLists.{numbers_in}
 use Rattle.best_fit.proofs.Laws.{block_aligned}
@@ -264,7 +264,7 @@ element-in : (m : Memory) (at : ℕ) (k : ScalarKind) (zs : List ℤ) (i : ℕ) 
 element-in m at k zs i {z} good h e = record {
   value = all-at (is_value k) zs i good e;
   spelled_there = ap (read m (at + size_of k * i)) (sym (spelling-length k z))
-      ∙ Has-element (spelling k) (spelling-length k) m at zs i h e;
+      ∙ HasBytesAt-element (spelling k) (spelling-length k) m at zs i h e;
 }
 
 -- an array or a vector of scalars of a kind

@@ -1,15 +1,19 @@
 -- Elements that one call puts behind the last of a vector: what comes of it in each directory.
 use Rattle.segment_manager.proofs.Common as common
-use common.{◌≡◌, refl, sym, ap, subst, ◌∙◌, ℕ, ℤ, Bool, true, false, Option, Some, None, Result, Ok, Err, List, ◌++◌, length}
+use common.{◌≡◌, refl, sym, ap, subst, ◌∙◌, ℕ, ℤ, Bool, true, false, Option, Some, None, Result, Ok, Err, List, ◌++◌}
+use common.{length}
 use common.{if◌then◌else◌, eq-eqb, Cut, SamePlace, current, ScalarKind, Vector, code_of, same_kind, size_of, Kind, Key}
 use common.{Refusal, NotFound, NoSpace, ReadOnly, WrongKind, Mode, Answer, Done, Refused, Directory, Object, Value}
-use common.{Elements, kind_of, object_at, changed, is_read_only, State, StandsFor, Denotes, IsSegment, OnErr, done_answer}
-use common.{Plan, Refuse, Reply, perform, with, with_capacity, found_at, live, live_of, grown_table, Table, Place, Answers}
+use common.{Elements, kind_of, object_at, changed, is_read_only, State, StandsFor, Denotes, IsSegment, OnErr}
+use common.{done_answer}
+use common.{Plan, Refuse, Reply, perform, with, with_capacity, found_at, live, live_of, grown_table, Table, Place}
+use common.{Answers}
 use common.{container_at}
 use Rattle.seg_vector.specs.Vector.{capacity_for_more}
 use Rattle.segment_manager.specs.containers.Ranges.{ExtendsVector, extend, extended}
 use Rattle.segment_manager.proofs.Calling.{denotes-live}
-use Rattle.segment_manager.proofs.containers.Refilled.{by-kind, not-Err, placed, room-grown, same_Err, then_room, told-none}
+use Rattle.segment_manager.proofs.containers.Refilled.{by-kind, not-Err, placed, room-grown, same_Err, then_room}
+use Rattle.segment_manager.proofs.containers.Refilled.{told-none}
 use Rattle.segment_manager.proofs.containers.Refilled.{told-some}
 use Rattle.segment_manager.proofs.containers.Safely.{seen-refused}
 

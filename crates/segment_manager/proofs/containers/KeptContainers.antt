@@ -1,20 +1,23 @@
 -- What calls on vectors, strings and maps leave to the last byte.
 use Rattle.segment_manager.proofs.Common.{◌≡◌, sym, ap, subst, ◌∙◌, ℕ, ◌≤◌, ℤ, Bool, Option, Some, None, Result, Ok}
-use Rattle.segment_manager.proofs.Common.{Err, List, [], MatchOption, int_lt, none-some, Cut, ScalarKind, StringsKind}
-use Rattle.segment_manager.proofs.Common.{Plain, Refusal, NotFound, Key, Map, Erases, pair_at, NumberPair, Place}
-use Rattle.segment_manager.proofs.Common.{container_at, sizes_of, Object, Directory, object_at, HasPlaces, KeepsWhere}
-use Rattle.segment_manager.proofs.Common.{Answers, State, StandsFor, pairs_of, Change, HasEnough, Reserve}
+use Rattle.segment_manager.proofs.Common.{Err, List, [], MatchOption, int_lt, none-some, WindowState, ScalarKind}
+use Rattle.segment_manager.proofs.Common.{StringsKind}
+use Rattle.segment_manager.proofs.Common.{Plain, Refusal, NotFound, Key, Map, ErasesKey, pair_at, NumberPair, Place}
+use Rattle.segment_manager.proofs.Common.{container_at, sizes_of, Object, Directory, object_at, HasPlaces}
+use Rattle.segment_manager.proofs.Common.{UnchangedWhere}
+use Rattle.segment_manager.proofs.Common.{AnswersWith, SegmentState, DenotesCurrent, pairs_of, Change, HasEnough}
+use Rattle.segment_manager.proofs.Common.{Reserve}
 use Rattle.segment_manager.proofs.containers.TextsHeld.{HoldsTexts, holds-texts}
 use Rattle.segment_manager.proofs.containers.PairNumbers.{IsScalarOf, erases-numbers, puts-numbers}
 use Rattle.segment_manager.proofs.containers.MapCalls.{HoldsPairs, holds-pairs}
 use Rattle.segment_manager.proofs.containers.ToChange.{seen-found}
-use Rattle.segment_manager.proofs.{Common.Puts}
+use Rattle.segment_manager.proofs.{Common.PutsPair}
 use Rattle.segment_manager.specs.{containers.Stored.ChangesTexts, Keeping.ChangesValue, Keeping.LacksPair}
 
 -- the window is as it was, and so is the segment
-pub keeps-cut : (s t : State) (view : s ≡ t) (new : Cut) (P : Directory → Type 0)
-    → ((d : Directory) → StandsFor s.cut.bytes d → P d → new ≡ s.cut) → KeepsWhere t (record s { cut = new }) P
-keeps-cut s t view new P each = subst (λ (u : State). KeepsWhere u (record s { cut = new }) P) view
+pub keeps-cut : (s t : SegmentState) (view : s ≡ t) (new : WindowState) (P : Directory → Type 0)
+    → ((d : Directory) → DenotesCurrent s.cut.bytes d → P d → new ≡ s.cut) → UnchangedWhere t (record s { cut = new }) P
+keeps-cut s t view new P each = subst (λ (u : SegmentState). UnchangedWhere u (record s { cut = new }) P) view
     (λ d l has. let e = each d l has in λ j. record s { cut = e j })
 
 -- ---- places
@@ -31,13 +34,14 @@ enough-places d key o n len capacity is sizes has =
     (λ _. Result (ℕ × ℕ) Refusal) [ None ↦ Err NotFound | Some p ↦ sizes_of p.value ]) is ∙ sizes in
     subst (λ m. n ≤ m) (ap places_in same) has.enough
 
-pub texts-kept : {s t : State} (view : s ≡ t) (key : Key) {p : Place} → Answers t (λ d. container_at d key StringsKind)
-    (Ok p) → (new : Cut) (change : Change) (r : Result (Unit {0}) Refusal) → ChangesTexts change s.cut new p r
-    → KeepsWhere t (record s { cut = new }) (HasEnough change key)
+pub texts-kept : {s t : SegmentState} (view : s ≡ t) (key : Key) {p : Place}
+    → AnswersWith t (λ d. container_at d key StringsKind)
+    (Ok p) → (new : WindowState) (change : Change) (r : Result (Unit {0}) Refusal) → ChangesTexts change s.cut new p r
+    → UnchangedWhere t (record s { cut = new }) (HasEnough change key)
 texts-kept {s} {t} view key {p} found new change r each =
     keeps-cut s t view new (HasEnough change key) (λ d l has. same change each d l has)
   where
-    same : (change : Change) → ChangesTexts change s.cut new p r → (d : Directory) → StandsFor s.cut.bytes d
+    same : (change : Change) → ChangesTexts change s.cut new p r → (d : Directory) → DenotesCurrent s.cut.bytes d
         → HasEnough change key d → new ≡ s.cut
     same (Reserve n) each d l has =
         let h : HoldsTexts s.cut.bytes d key p =
@@ -53,12 +57,12 @@ none-erased P Q None e m = m
 none-erased P Q (Some q) e m = absurd (none-some q (sym e))
 
 pub map-kept : {K V : Type 0} {k v : ScalarKind} {kp : Plain K} {vp : Plain V} {kw : K → ℤ} {vw : V → ℤ}
-    → IsScalarOf k kp kw → IsScalarOf v vp vw → (s t : State) (view : s ≡ t) (key : Key) (p q : Place) → q ≡ p
-    → Answers t (λ d. container_at d key (Map k v)) (Ok p) → (new : Cut) (x : K) (r : Bool)
-    → Erases kp vp s.cut new q.handle q.at x r → KeepsWhere t (record s { cut = new }) (LacksPair key (kw x))
+    → IsScalarOf k kp kw → IsScalarOf v vp vw → (s t : SegmentState) (view : s ≡ t) (key : Key) (p q : Place) → q ≡ p
+    → AnswersWith t (λ d. container_at d key (Map k v)) (Ok p) → (new : WindowState) (x : K) (r : Bool)
+    → ErasesKey kp vp s.cut new q.handle q.at x r → UnchangedWhere t (record s { cut = new }) (LacksPair key (kw x))
 map-kept {k = k} {v = v} {kp = kp} {vp = vp} {kw = kw} kl vl s t view key p q same found new x r each =
-    let there : Answers s (λ d. container_at d key (Map k v)) (Ok q) =
-    subst (λ (q : Place). Answers s (λ d. container_at d key (Map k v)) (Ok q)) (sym same)
+    let there : AnswersWith s (λ d. container_at d key (Map k v)) (Ok q) =
+    subst (λ (q : Place). AnswersWith s (λ d. container_at d key (Map k v)) (Ok q)) (sym same)
     (seen-found s t view key (Map k v) p found) in
     keeps-cut s t view new (LacksPair key (kw x)) (λ d l lacks.
     let h : HoldsPairs s.cut.bytes d key k v q = holds-pairs s.cut.bytes d key k v q l.denotes (there.answers d l) in
@@ -74,14 +78,14 @@ pair-written P Q None p e m = absurd (none-some p e)
 pair-written P Q (Some q) p e m = let same : q ≡ p = cc in subst Q same m
 
 pub map-again : {K V E : Type 0} {k v : ScalarKind} {kp : Plain K} {vp : Plain V} {kw : K → ℤ} {vw : V → ℤ}
-    → IsScalarOf k kp kw → IsScalarOf v vp vw → (s t : State) (view : s ≡ t) (key : Key) (p q : Place) → q ≡ p
-    → Answers t (λ d. container_at d key (Map k v)) (Ok p) → (new : Cut) (x : K) (y : V) (r : Result Bool E)
-    → Puts kp vp s.cut new q.handle q.at x y r → ChangesValue t (record s { cut = new }) key k (kw x) v
+    → IsScalarOf k kp kw → IsScalarOf v vp vw → (s t : SegmentState) (view : s ≡ t) (key : Key) (p q : Place) → q ≡ p
+    → AnswersWith t (λ d. container_at d key (Map k v)) (Ok p) → (new : WindowState) (x : K) (y : V) (r : Result Bool E)
+    → PutsPair kp vp s.cut new q.handle q.at x y r → ChangesValue t (record s { cut = new }) key k (kw x) v
 map-again {k = k} {v = v} {kw = kw} kl vl s t view key p q same found new x y r each =
-    let there : Answers s (λ d. container_at d key (Map k v)) (Ok q) =
-    subst (λ (q : Place). Answers s (λ d. container_at d key (Map k v)) (Ok q)) (sym same)
+    let there : AnswersWith s (λ d. container_at d key (Map k v)) (Ok q) =
+    subst (λ (q : Place). AnswersWith s (λ d. container_at d key (Map k v)) (Ok q)) (sym same)
     (seen-found s t view key (Map k v) p found) in
-    subst (λ (u : State). ChangesValue u (record s { cut = new }) key k (kw x) v) view (λ d l pair has.
+    subst (λ (u : SegmentState). ChangesValue u (record s { cut = new }) key k (kw x) v) view (λ d l pair has.
     let h : HoldsPairs s.cut.bytes d key k v q = holds-pairs s.cut.bytes d key k v q l.denotes (there.answers d l) in
     let pairs : (elim (object_at d key) as (λ _. List NumberPair) [ None ↦ [] | Some o ↦ pairs_of o.value ]) ≡ h.pairs =
     ap (λ (o : Option Object). elim o as (λ _. List NumberPair) [ None ↦ [] | Some o ↦ pairs_of o.value ]) h.is

@@ -1,10 +1,12 @@
 -- What the calls of seg_map ensure of the map at the place that was found, as the steps of the calls on the object's
 -- map.
 use Rattle.segment_manager.proofs.Common.{◌≡◌, sym, subst, ◌∙◌, ℤ, Bool, true, false, Option, Result, Ok, option_map}
-use Rattle.segment_manager.proofs.Common.{Cut, Map, ScalarKind, Plain, Refusal, is_value, Key, Lookup, Put, Remove}
-use Rattle.segment_manager.proofs.Common.{literal_of, Erases, Puts, FindsItem, FindsItemBefore, FindsLastItem}
+use Rattle.segment_manager.proofs.Common.{WindowState, Map, ScalarKind, Plain, Refusal, is_value, Key, Lookup, Put}
+use Rattle.segment_manager.proofs.Common.{Remove}
+use Rattle.segment_manager.proofs.Common.{literal_of, ErasesKey, PutsPair, FindsItem, FindsItemBefore, FindsLastItem}
 use Rattle.segment_manager.proofs.Common.{FindsValue, IsSomeMap, container_at, numbers_in, pair_at_end, told_of_map}
-use Rattle.segment_manager.proofs.Common.{value_or_absent, Answers, IsReplyOfKind, IsSegment, State, is_read_only, List}
+use Rattle.segment_manager.proofs.Common.{value_or_absent, AnswersWith, AnswersQueryOfKind, IsSegment, SegmentState}
+use Rattle.segment_manager.proofs.Common.{is_read_only, List}
 use Rattle.segment_manager.proofs.containers.MapCalls.{TellsSafely, map-erased, map-got, map-put, map-told, put_result}
 use Rattle.segment_manager.proofs.containers.PairNumbers.{IsScalarOf, erases-numbers, finds-back, finds-item}
 use Rattle.segment_manager.proofs.containers.PairNumbers.{finds-last, finds-value, puts-numbers, some-map}
@@ -21,10 +23,10 @@ as-value : {T : Type 0} {j : ScalarKind} {tp : Plain T} {w : T → ℤ} → IsSc
 as-value l x e = sym (l.values x) ∙ e
 
 module _ {K V : Type 0} {k v : ScalarKind} {kp : Plain K} {vp : Plain V} {kw : K → ℤ} {vw : V → ℤ}
-    (kl : IsScalarOf k kp kw) (vl : IsScalarOf v vp vw) {s t : State} (view : s ≡ t) (key : Key) {p q : Place}
-    (same : q ≡ p) (b : IsSegment s.cut.bytes) (found : Answers t (λ d. container_at d key (Map k v)) (Ok p)) where
-  found-there : Answers s (λ d. container_at d key (Map k v)) (Ok q)
-  found-there = subst (λ (r : Place). Answers s (λ d. container_at d key (Map k v)) (Ok r)) (sym same)
+    (kl : IsScalarOf k kp kw) (vl : IsScalarOf v vp vw) {s t : SegmentState} (view : s ≡ t) (key : Key) {p q : Place}
+    (same : q ≡ p) (b : IsSegment s.cut.bytes) (found : AnswersWith t (λ d. container_at d key (Map k v)) (Ok p)) where
+  found-there : AnswersWith s (λ d. container_at d key (Map k v)) (Ok q)
+  found-there = subst (λ (r : Place). AnswersWith s (λ d. container_at d key (Map k v)) (Ok r)) (sym same)
       (seen-found s t view key (Map k v) p found)
 
   -- some map of the types stands there
@@ -34,48 +36,51 @@ module _ {K V : Type 0} {k v : ScalarKind} {kp : Plain K} {vp : Plain V} {kw : K
   -- ---- what is read
 
   pub got-there : (x : K) (r : Option V) → kp.is_value x ≡ true → FindsValue kp vp s.cut.bytes q.handle q.at x r
-      → IsReplyOfKind t key (Map k v) (Lookup key (literal_of k (kw x))) (value_or_absent v (option_map vw r))
-  got-there x r good each = subst (λ (u : State). IsReplyOfKind u key (Map k v) (Lookup key (literal_of k (kw x)))
+      → AnswersQueryOfKind t key (Map k v) (Lookup key (literal_of k (kw x))) (value_or_absent v (option_map vw r))
+  got-there x r good each = subst (λ (u : SegmentState).
+      AnswersQueryOfKind u key (Map k v) (Lookup key (literal_of k (kw x)))
       (value_or_absent v (option_map vw r))) view (map-got s key k v q b found-there (kw x) (option_map vw r)
       (as-value kl x good) (finds-value kl vl s.cut.bytes q.handle q.at x r each))
 
   told-there : (say : List NumberPair → Option (ℤ × ℤ)) (r : Option (K × V))
       → ((ps : List NumberPair) → IsPairs k v s.cut.bytes q ps → numbers_in kw vw r ≡ say ps)
-      → Answers t (λ d. told_of_map d key k v say) (Ok (numbers_in kw vw r))
-  told-there say r each = subst (λ (u : State). Answers u (λ d. told_of_map d key k v say) (Ok (numbers_in kw vw r)))
+      → AnswersWith t (λ d. told_of_map d key k v say) (Ok (numbers_in kw vw r))
+  told-there say r each = subst (λ (u : SegmentState).
+      AnswersWith u (λ d. told_of_map d key k v say) (Ok (numbers_in kw vw r)))
       view (map-told s key k v q b found-there say (numbers_in kw vw r) each)
 
   pub past-there : (above said : Bool) → said ≡ above → (x : K) (r : Option (K × V)) → FindsItem kp vp s.cut.bytes
-      q.handle q.at above x r → Answers t (λ d. told_of_map d key k v (pair_past said (kw x))) (Ok (numbers_in kw vw r))
+      q.handle q.at above x r → AnswersWith t (λ d.
+      told_of_map d key k v (pair_past said (kw x))) (Ok (numbers_in kw vw r))
   past-there above said is x r each =
-      subst (λ (b : Bool). Answers t (λ d. told_of_map d key k v (pair_past b (kw x))) (Ok (numbers_in kw vw r)))
+      subst (λ (b : Bool). AnswersWith t (λ d. told_of_map d key k v (pair_past b (kw x))) (Ok (numbers_in kw vw r)))
       (sym is) (told-there (pair_past above (kw x)) r (finds-item kl vl s.cut.bytes q.handle q.at above x r each))
 
   pub back-there : (reached : Bool) (x : K) (r : Option (K × V)) → FindsItemBefore kp vp s.cut.bytes q.handle q.at
-      reached x r → Answers t (λ d. told_of_map d key k v (λ ps. option_map item_of (last_pair int_lt reached (kw x)
+      reached x r → AnswersWith t (λ d. told_of_map d key k v (λ ps. option_map item_of (last_pair int_lt reached (kw x)
       ps))) (Ok (numbers_in kw vw r))
   back-there reached x r each = told-there _ r (finds-back kl vl s.cut.bytes q.handle q.at reached x r each)
 
   pub last-there : (r : Option (K × V)) → FindsLastItem kp vp s.cut.bytes q.handle q.at r
-      → Answers t (λ d. told_of_map d key k v pair_at_end) (Ok (numbers_in kw vw r))
+      → AnswersWith t (λ d. told_of_map d key k v pair_at_end) (Ok (numbers_in kw vw r))
   last-there r each = told-there pair_at_end r (finds-last kl vl s.cut.bytes q.handle q.at r each)
 
   -- ---- what is changed
 
-  module _ (new : Cut) (writing : is_read_only t.mode ≡ false) where
+  module _ (new : WindowState) (writing : is_read_only t.mode ≡ false) where
     writing-there : is_read_only s.mode ≡ false
-    writing-there = subst (λ (u : State). is_read_only u.mode ≡ false) (sym view) writing
+    writing-there = subst (λ (u : SegmentState). is_read_only u.mode ≡ false) (sym view) writing
 
     -- as the call answers it
     pub put-there : {E : Type 0} (x : K) (y : V) (r : Result Bool E) (out : Result Bool Refusal) → out ≡ put_result r
-        → kp.is_value x ≡ true → vp.is_value y ≡ true → Puts kp vp s.cut new q.handle q.at x y r
+        → kp.is_value x ≡ true → vp.is_value y ≡ true → PutsPair kp vp s.cut new q.handle q.at x y r
         → Answered truth_answer s t new key (Map k v) (Put key (literal_of k (kw x)) (literal_of v (vw y))) out
     put-there x y r out told good fair each = answered s t view b new key (Map k v) _ out
         (subst (TellsSafely s new key (Map k v) (Put key (literal_of k (kw x)) (literal_of v (vw y)))) (sym told)
         (map-put s key k v q b found-there new writing-there (kw x) (vw y) r (as-value kl x good) (as-value vl y fair)
         (puts-numbers kl vl s.cut new q.handle q.at x y r each)))
 
-    pub erased-there : (x : K) (r : Bool) → kp.is_value x ≡ true → Erases kp vp s.cut new q.handle q.at x r
+    pub erased-there : (x : K) (r : Bool) → kp.is_value x ≡ true → ErasesKey kp vp s.cut new q.handle q.at x r
         → Answered truth_answer s t new key (Map k v) (Remove key (literal_of k (kw x))) (Ok r)
     erased-there x r good each = answered s t view b new key (Map k v) _ (Ok r) (map-erased s key k v q b found-there
         new writing-there (kw x) r (as-value kl x good) (erases-numbers kl vl s.cut new q.handle q.at x r each))

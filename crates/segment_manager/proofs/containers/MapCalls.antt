@@ -4,7 +4,8 @@ use Rattle.segment_manager.proofs.Common as common
 use common.{◌≡◌, is_value, IsErased, node_len, put_pair, Directory, object_at, HasPairs, IsSegment, StandsFor, and_then}
 use common.{refl, Option, Result, int_lt, eq-eqb, Erases, told_of, Request, perform, Answers, changed, live_of, LiveSet}
 use common.{sym, ◌∙◌, ℕ, ℤ, Bool, true, Some, None, Ok, Err, List, [], Cut, Node, Kind, Map, Key, Puts, New, Plan, with}
-use common.{ap, subst, false, IsFull, IsPut, Truth, Pairs, Object, container_place, Reply, State, effect, map_of, Answer, Extent}
+use common.{ap, subst, false, IsFull, IsPut, Truth, Pairs, Object, container_place, Reply, State, effect, map_of}
+use common.{Answer, Extent}
 use common.{option_map, value_of_literal, nodes_of_pairs, value_of_pair, AnswersSafely, value_or_absent}
 use common.{current, Refusal, NoSpace, code_of, size_of, Command, Literal, pair_at, Element, Refused, Denotes, kind_of}
 use common.{SamePlace, remove_pair, container_at, IsReplyOfKind, IsStepOfKind, is_read_only, step_of_kind, truth_answer}

@@ -10,7 +10,7 @@ use common.{IsMadeValue, IsNoValue, MakesValue, Plan, bare, perform, with_storag
 use Rattle.segment_manager.proofs.containers.Contained.{contents-good, value-said}
 use Rattle.segment_manager.proofs.objects.MadeValues.{storage-met, storage-none, stored}
 use Rattle.segment_manager.proofs.Whole.{IsOfKind, whole-spelled, whole-values}
-use Rattle.seg_vector.specs.{TextCalls.StartsText, VectorCalls.Starts}
+use Rattle.seg_vector.specs.{TextCalls.StartsText, VectorCalls.InitsVector}
 use Rattle.seg_types.specs.Commands as asked
 
 abbrev contents : ℕ → ℕ → List ℕ → Table → Contents
@@ -93,7 +93,7 @@ module _ {T : Type 0} (k : ScalarKind) (w : T → ℤ) (size : ℕ) (test : T �
 
   -- it is made, and then its values are put there
   pub vector-made : (old mid new : Cut) (p q : Place) (ys : List T) (r : Result (Unit {0}) Refusal) → q ≡ p
-      → IsChanged current old mid (place_at p) 24 → Starts size test sp old mid p
+      → IsChanged current old mid (place_at p) 24 → InitsVector size test sp old mid p
       → Assigns size test sp mid new q ys r → MakesValue (asked.Elements k (map w ys)) old new p r
   vector-made old mid new p q ys r e change begun a =
       made r (subst (λ (x : Place). Assigns size test sp mid new x ys r) e a [] no_table begun.vector)

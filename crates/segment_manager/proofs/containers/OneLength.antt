@@ -19,7 +19,7 @@ use Rattle.segment_manager.proofs.{objects.Standings.standing-short, containers.
 use Rattle.segment_manager.proofs.{objects.Rewritten.value_start, objects.Here.standing, containers.ItemSteps.one-kind}
 use Rattle.segment_manager.proofs.{containers.Safely.done-so, containers.Safely.stays, Calling.denotes-live}
 use Rattle.best_fit.proofs.Laws.{room-less}
-use Rattle.seg_vector.specs.{Elements.IsFitted, Elements.IsRewritten, Standing.IsGrown}
+use Rattle.seg_vector.specs.{Elements.ShrinksStorageOk, Elements.RewritesElements, Containers.ReservesStorageOk}
 use Rattle.segment_manager.specs.containers.Stored.{ChangesElements, IsElements, each_of}
 use Rattle.seg_types.specs.Commands as asked
 
@@ -243,7 +243,7 @@ module _ {s t : State} (view : s ≡ t) (key : Key) (kind : Kind) (p : Place) (b
     pub elements-changed : (change : Change) (r : Result (Unit {0}) Refusal)
         → ChangesElements change s.cut new p (each_of kind) r → StepsSafely s new key kind (command_of change key) r
     elements-changed (Reserve n) (Ok u) a = becomes-so (asked.Reserve key n) (λ d l h.
-        let g : IsGrown s.cut new p (each_of kind) n h.len h.table h.bytes =
+        let g : ReservesStorageOk s.cut new p (each_of kind) n h.len h.table h.bytes =
         a h.len h.table h.bytes h.stands in record {
           value = with_table h.found.object.value g.table;
           next = contents_at kind h.len g.table h.bytes;
@@ -262,7 +262,7 @@ module _ {s t : State} (view : s ≡ t) (key : Key) (kind : Kind) (p : Place) (b
     elements-changed Shrink r a =
         subst (StepsSafely s new key kind (asked.Shrink key)) (sym a.0) (becomes-so (asked.Shrink key) (λ d l h.
         let cut : LiveSet → Table = λ (m : LiveSet). cut_table m (each_of kind) h.len h.table in
-        let f : IsFitted s.cut new p (each_of kind) h.len h.table h.bytes =
+        let f : ShrinksStorageOk s.cut new p (each_of kind) h.len h.table h.bytes =
         a.1 h.len h.table h.bytes h.stands in record {
           value = with_table h.found.object.value (cut (live_of s.cut.bytes));
           next = contents_at kind h.len (cut (live_of s.cut.bytes)) h.bytes;
@@ -274,7 +274,7 @@ module _ {s t : State} (view : s ≡ t) (key : Key) (kind : Kind) (p : Place) (b
         }))
     elements-changed Clear r a =
         subst (StepsSafely s new key kind (asked.Clear key)) (sym a.0) (becomes-so (asked.Clear key) (λ d l h.
-        let r : IsRewritten s.cut new p (each_of kind) 0 h.table (take (each_of kind * 0) h.bytes) =
+        let r : RewritesElements s.cut new p (each_of kind) 0 h.table (take (each_of kind * 0) h.bytes) =
         a.1 h.len h.table h.bytes h.stands in record {
           value = with_items h.found.object.value [];
           next = contents_at kind 0 h.table [];

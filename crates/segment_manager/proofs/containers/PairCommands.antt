@@ -12,7 +12,7 @@ use Rattle.segment_manager.proofs.objects.Locating.{kind-by_key, reply_of_kind-b
 use Rattle.segment_manager.proofs.{Steps.with-found, Steps.with-not_found, objects.Stored.literal-read}
 use Rattle.segment_manager.proofs.{ElementLaws.same_plan-steps, containers.MapSteps.map-only}
 use Rattle.segment_manager.specs.Answers.{Absent}
-use Rattle.seg_types.specs.Literals.{IsPairOf}
+use Rattle.seg_types.specs.Literals.{ConvertsPair}
 use Rattle.seg_types.specs.Commands as asked
 use Rattle.segment_manager.specs.Step as step
 
@@ -159,7 +159,8 @@ module _ {s : State} {key : Key} {o : Located} (h : IsToChange s key o) {k v : S
 
   -- a pair of the map's kinds
   pub puts-pair : {new : State} (at value : Literal) (p : ScalarValue × ScalarValue) {answer : Answer}
-      → IsPairOf k v (pair_of k v at value) (Ok p) → IsStepOfKind s new (ByHandle o.handle) (Map (kind_of_scalar p.0)
+      → ConvertsPair k v (pair_of k v at value) (Ok p)
+      → IsStepOfKind s new (ByHandle o.handle) (Map (kind_of_scalar p.0)
       (kind_of_scalar p.1)) (asked.Put (ByHandle o.handle) (literal_of (kind_of_scalar p.0) (value_of_scalar p.0))
       (literal_of (kind_of_scalar p.1) (value_of_scalar p.1))) answer → IsStep s new (asked.Put key at value) answer
   puts-pair {new} at value (x, y) {answer} ((same, good), (other, fair), read) r =

@@ -11,7 +11,7 @@ use common.{if◌then◌else◌, MatchOption, AllByRecursion, IsNumberPairAt, is
 use Rattle.raw_region.proofs.Facts.{first, second}
 use mathlib.Core.List.{reverse}
 use Rattle.seg_map.specs.Places.{final_pair, is_passed, last_pair}
-use Rattle.seg_map.specs.{Changing.IsGivenUp, Map.IsPairAt, Map.Pair, Map.is_pair}
+use Rattle.seg_map.specs.{Changing.FreesAllPairs, Map.IsPairAt, Map.Pair, Map.is_pair}
 use Rattle.seg_map.proofs.Laws.{last_mapped, map_reversed}
 
 -- what a type's laws say of its values and their numbers
@@ -323,8 +323,8 @@ module _ {K V : Type 0} {k v : ScalarKind} {kp : Plain K} {vp : Plain V} {kw : K
     no-pairs (p ∷ ps) e = absurd (cc)
 
     pub releases-numbers : Releases kp vp old new h at → Releases (numbers_of k) (numbers_of v) old new h at
-    releases-numbers each = of-values old.bytes h at (IsGivenUp (numbers_of k) (numbers_of v) old new h at) (λ ps s.
-        let r : IsGivenUp kp vp old new h at ps = each ps s in
+    releases-numbers each = of-values old.bytes h at (FreesAllPairs (numbers_of k) (numbers_of v) old new h at) (λ ps s.
+        let r : FreesAllPairs kp vp old new h at ps = each ps s in
         let none : List (Pair K V) = [] in record {
           change = subst (λ xs. IsExchanged current old new (h + at) 24 xs []) (sym (numbers-extents ps)) r.change;
           empty = map-numbers new.bytes h at none r.empty;

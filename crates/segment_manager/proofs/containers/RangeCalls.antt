@@ -1,7 +1,9 @@
 -- Elements of arrays and vectors that one call writes: what comes of it in each directory.
 use Rattle.segment_manager.proofs.Common as common
-use common.{◌≡◌, refl, sym, ap, subst, ◌∙◌, ℕ, ◌+◌, ◌*◌, ◌<◌, ◌≤◌, ℤ, Bool, true, false, ◌||◌, Option, Some, None, Result}
-use common.{Ok, Err, List, ◌++◌, length, map, take, drop, if◌then◌else◌, arith, IsTrue, list_all, nat_le, le-leb, lt-leb}
+use common.{◌≡◌, refl, sym, ap, subst, ◌∙◌, ℕ, ◌+◌, ◌*◌, ◌<◌, ◌≤◌, ℤ, Bool, true, false, ◌||◌, Option, Some, None}
+use common.{Result}
+use common.{Ok, Err, List, ◌++◌, length, map, take, drop, if◌then◌else◌, arith, IsTrue, list_all, nat_le, le-leb}
+use common.{lt-leb}
 use common.{length-append, length-map, map-append, take-map, eq-eqb, ne_eqb, append_assoc, Cut, SameBut, Has, bytes_of}
 use common.{current, handle, Kind, ScalarKind, Scalar, Vector, code_of, same_kind, is_value, size_of, spelled, spelling}
 use common.{Refusal, NotFound, OutOfRange, ReadOnly, WrongKind, Key, ByHandle, Mode, Answer, Done, Refused, Directory}
@@ -17,7 +19,7 @@ use Rattle.segment_manager.specs.objects.Located.{container_in, located, value_i
 use Rattle.std.specs.Prelude.{IfOk, OnOk}
 use Rattle.std.proofs.lemmas.List.{drop-map, length-drop, length-take}
 use Rattle.raw_region.specs.Memory.{patched}
-use Rattle.raw_region.proofs.Bytes.{Has-patched}
+use Rattle.raw_region.proofs.Bytes.{HasBytesAt-patched}
 use Rattle.seg_vector.proofs.Typed.{all-both, flat-replaced}
 use Rattle.std.proofs.lemmas.{Bool.and_parts, List.Folds.list_all-append, List.take-append-drop}
 use Rattle.segment_manager.specs.containers.Ranges.{ChangesRange, WritesRange, is_row, numbers_if, range_at, range_in}
@@ -182,7 +184,8 @@ module _ (s : State) (key : Key) (k : ScalarKind) (first : ℕ) (zs : List ℤ) 
 pub why-missing : (s : State) (key : Key) (k : ScalarKind) (first : ℕ) (zs : List ℤ) → is_read_only s.mode ≡ false
     → {why : Refusal} → IsMissing s key why → WritesRange s s key k first zs (Refused why)
 why-missing s key k first zs writing m =
-    subst (λ (r : Refusal). WritesRange s s key k first zs (Refused r)) (sym m.is) (range-stays s key k first zs NotFound
+    subst (λ (r : Refusal). WritesRange s s key k first zs (Refused r)) (sym m.is)
+    (range-stays s key k first zs NotFound
     (λ d st. range-nowhere s.mode d key k first zs writing (m.missing d st)))
 
 -- under a key as under the handle of its object
@@ -257,7 +260,7 @@ module _ (old new : Cut) (d : Directory) (key : Key) (o : Object) (k : ScalarKin
       let at : IsValueAt (bytes_of new.bytes) (value_start o) (Numbers k (replaced ns first zs)) =
       subst (Has (bytes_of new.bytes) (value_start o)) (flat-replaced (size_of k) (is_value k) (spelling k)
       (λ z v. spelling-length k z) ns first zs (numbers-good o k ns s.good value) good)
-      (Has-patched (value_start o) (size_of k * first) (spelled k ns) (spelled k zs)
+      (HasBytesAt-patched (value_start o) (size_of k * first) (spelled k ns) (spelled k zs)
       (omega (arith, many, all, step, inside)) rest was w) in
       denotes-rewritten o (Numbers k (replaced ns first zs)) den f (ap kind_of (sym value))
       (replaced-length ns first zs fits ∙ ap count_of (sym value)) (ap value_extents (sym value)) new_good
@@ -333,7 +336,8 @@ module _ (s : State) (o : Located) (l : IsLocated s (ByHandle o.handle) o) (k : 
           let h = numbers-of d st in
           subst (Denotes current new.bytes)
           (sym (range-numbers d (ByHandle o.handle) h.object k h.numbers first zs h.is h.value))
-          (array-denotes s.cut new d (ByHandle o.handle) h.object k h.numbers first zs st.denotes h.is h.value (inside h)
+          (array-denotes s.cut new d (ByHandle o.handle) h.object k h.numbers first zs st.denotes h.is h.value
+          (inside h)
           good (subst (λ at. IsChanged current s.cut new at (size_of k * length zs)) (same-spot h) c)
           (subst (λ at. Has (bytes_of new.bytes) at (spelled k zs)) (same-spot h) w)))
 
@@ -377,7 +381,8 @@ place_of r k i = elim r as (λ _. Result Place Refusal) [
 pub but-by_key : (s t : State) (key : Key) (o : Located) → IsLocated s key o → (k : ScalarKind) (first n : ℕ)
     → ChangesRange s t (ByHandle o.handle) k first n → ChangesRange s t key k first n
 but-by_key s t key o l k first n m = λ d st.
-    subst (λ (r : Option Object). But s t (size_of k * n) (place_of r k first)) (sym (same-object s key o l d st)) (m d st)
+    subst (λ (r : Option Object). But s t (size_of k * n) (place_of r k first)) (sym (same-object s key o l d st))
+    (m d st)
 
 pub on_ok-map : {P Q : Type 0} (r : Result (Unit {0}) Refusal) → (P → Q) → OnOk r P → OnOk r Q
 on_ok-map (Ok a) f p = f p
@@ -469,7 +474,8 @@ module _ {T : Type 0} {k : ScalarKind} {w : T → ℤ} {size : ℕ} {test : T �
   pub array-spelled : Has (bytes_of new.bytes) (o.handle + (at + each * first)) (flat_map sp values)
       → RangeWritten s t new (ByHandle o.handle) k first wholes (Ok tt)
   array-spelled h =
-      array-written s o (subst (λ (u : State). IsLocated u (ByHandle o.handle) o) (sym view) l) k first wholes is t view b new
+      array-written s o (subst (λ (u : State). IsLocated u (ByHandle o.handle) o) (sym view) l) k first wholes is t
+      view b new
       writing fits (sym (whole-values k w size test sp law values) ∙ good) change
       (subst (λ m. Has (bytes_of new.bytes) m (spelled k wholes)) spot-is
       (subst (Has (bytes_of new.bytes) (o.handle + (at + each * first))) (whole-spelled k w size test sp law values) h))

@@ -16,8 +16,9 @@ use Rattle.segment_manager.proofs.containers.TextsHeld.{HoldsTexts, holds-texts}
 use Rattle.segment_manager.proofs.objects.Rewritten.{value_start, with_value}
 use Rattle.segment_manager.proofs.containers.Refilled.{placed, told-some}
 use Rattle.segment_manager.proofs.{Frame.object-roomy, objects.Here.IsReadAt, objects.Here.standing, Live.IsIn}
-use Rattle.seg_map.specs.Changing.{IsGivenUp}
-use Rattle.seg_vector.specs.{Elements.GivesBack, Elements.IsGivenBack, Standing.IsStanding, TextsCalls.ReleasesTexts}
+use Rattle.seg_map.specs.Changing.{FreesAllPairs}
+use Rattle.seg_vector.specs.{Elements.FreesStorage, Elements.FreesStorageOk, Containers.IsStanding}
+use Rattle.seg_vector.specs.{TextsCalls.ReleasesTexts}
 use Rattle.segment_manager.specs.{containers.Contents.has_storage, containers.Stored.each_of}
 
 -- ---- the object of a handle
@@ -125,11 +126,11 @@ container-released old new d key o p v k e is at len change said =
 module _ (old new : Cut) (h at : ℕ) (head : Head) (said : IsReadAt old.bytes h head)
     (behind : at ≡ head_len + padded head.name_len) where
   pub elements-contents : has_storage head.kind ≡ true → (head.kind ≡ StringsKind → ⊥)
-      → GivesBack old new (place_behind h at) (each_of head.kind) → Empties old new h
+      → FreesStorage old new (place_behind h at) (each_of head.kind) → Empties old new h
   elements-contents stored no_texts released d o s e =
       let x = read-elements said behind s e stored no_texts in let p : Object = x.found.object in
       let same : p ≡ o = same_Some p o (sym x.found.is ∙ e) in
-      let now : IsGivenBack old new (place_behind h at) (each_of head.kind) x.table =
+      let now : FreesStorageOk old new (place_behind h at) (each_of head.kind) x.table =
       released x.len x.table x.bytes x.stands in
       let shape : Shape p.value _ = contents-shape p.value _ x.held in
       subst (λ p. Becomes old new (changed d p (emptied p.value))) same (container-released old new d (ByHandle h) p
@@ -151,7 +152,7 @@ module _ (old new : Cut) (h at : ℕ) (head : Head) (said : IsReadAt old.bytes h
       → Empties old new h
   pairs-contents k l is released d o s e =
       let x = read-pairs said behind s e k l is in let same : x.object ≡ o = same_Some x.object o (sym x.is ∙ e) in
-      let now : IsGivenUp (numbers_of k) (numbers_of l) old new h at x.pairs = released.each x.pairs x.map in
+      let now : FreesAllPairs (numbers_of k) (numbers_of l) old new h at x.pairs = released.each x.pairs x.map in
       subst (λ p. Becomes old new (changed d p (emptied p.value))) same
       (container-released old new d (ByHandle h) x.object (place_behind h at)
       (Pairs k l x.pairs) s.denotes x.is x.known.value x.at refl now.change now.empty.map)

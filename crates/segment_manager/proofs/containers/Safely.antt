@@ -1,7 +1,8 @@
 -- A call on the container of an object that answers nothing: its step, and that it changes nothing where it is refused.
 use Rattle.segment_manager.proofs.Common as common
 use common.{NoSpace, OutOfRange, ◌⊎◌, inl, inr, IsStep, is_read_only, ◌≡◌, refl, sym, ap, subst, ◌∙◌, Bool, true}
-use common.{false, Option, Some, None, Result, Ok, Err, OnErr, Cut, Kind, Refusal, NotFound, Key, Command, Place, Answer}
+use common.{false, Option, Some, None, Result, Ok, Err, OnErr, Cut, Kind, Refusal, NotFound, Key, Command, Place}
+use common.{Answer}
 use common.{Done, Refused, container_at, place_of_kind, Object, object_at, option_map, Answers, IsSegment, IsStepOfKind}
 use common.{State, AnswersSafely, StepsSafely, MatchResult, live_of, Located}
 use Rattle.best_fit.proofs.Laws.{gaps-refl}

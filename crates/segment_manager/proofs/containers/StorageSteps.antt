@@ -1,8 +1,9 @@
 -- The calls on whatever has storage where they are refused, reserve, shrink and clear; and calls that read.
 use Rattle.segment_manager.proofs.Common.{Err, None, Some, false, refl, subst, true, ◌≡◌, Command, is_changing, Key}
 use Rattle.segment_manager.proofs.Common.{Kind, Refusal, NotFound, WrongKind, Answer, Refused, container_at, Directory}
-use Rattle.segment_manager.proofs.Common.{Numbers, Object, Pairs, Value, kind_of, object_at, Refuse, Answers}
-use Rattle.segment_manager.proofs.Common.{IsReplyOfKind, IsStepOfKind, State, effect, storage_of, command_of}
+use Rattle.segment_manager.proofs.Common.{Numbers, Object, Pairs, Value, kind_of, object_at, Refuse, AnswersWith}
+use Rattle.segment_manager.proofs.Common.{AnswersQueryOfKind, TakesStepOfKind, SegmentState, effect, storage_of}
+use Rattle.segment_manager.proofs.Common.{command_of}
 use Rattle.segment_manager.proofs.Common.{has_storage, Change, Clear, Reserve, Shrink}
 use Rattle.segment_manager.proofs.containers.ContentPlans.{clear-plan, reserve-plan, shrink-plan}
 use Rattle.segment_manager.proofs.{containers.Refilled.finds-no_container, Steps.open-reading, Steps.with-not_found}
@@ -36,18 +37,19 @@ change-changes Clear key = refl
 -- ---- calls that read
 
 -- a step that leaves the segment is the machine's answer
-pub step_of_kind-reply : (s : State) (key : Key) (kind : Kind) (c : Command) (answer : Answer)
-    → IsStepOfKind s s key kind c answer → IsReplyOfKind s key kind c answer
+pub step_of_kind-reply : (s : SegmentState) (key : Key) (kind : Kind) (c : Command) (answer : Answer)
+    → TakesStepOfKind s s key kind c answer → AnswersQueryOfKind s key kind c answer
 step_of_kind-reply s key kind c answer r = record { answers = r.answers }
 
 -- the same in the segment, as its view before the call is named
-pub seen-reply : (s t : State) (view : s ≡ t) (key : Key) (kind : Kind) (c : Command) (answer : Answer)
-    → IsStepOfKind s s key kind c answer → IsReplyOfKind t key kind c answer
+pub seen-reply : (s t : SegmentState) (view : s ≡ t) (key : Key) (kind : Kind) (c : Command) (answer : Answer)
+    → TakesStepOfKind s s key kind c answer → AnswersQueryOfKind t key kind c answer
 seen-reply s t view key kind c answer r =
-    subst (λ (u : State). IsReplyOfKind u key kind c answer) view (step_of_kind-reply s key kind c answer r)
+    subst (λ (u : SegmentState). AnswersQueryOfKind u key kind c answer) view (step_of_kind-reply s key kind c answer r)
 
 -- there is no such container
-pub no_container-reply : (s : State) (key : Key) (kind : Kind) (c : Command) (why : Refusal) → is_changing c ≡ false
-    → Answers s (λ d. container_at d key kind) (Err why) → IsReplyOfKind s key kind c (Refused why)
+pub no_container-reply : (s : SegmentState) (key : Key) (kind : Kind) (c : Command) (why : Refusal)
+    → is_changing c ≡ false
+    → AnswersWith s (λ d. container_at d key kind) (Err why) → AnswersQueryOfKind s key kind c (Refused why)
 no_container-reply s key kind c why reads a =
     step_of_kind-reply s key kind c (Refused why) (finds-no_container s key kind c why (open-reading s.mode c reads) a)

@@ -19,7 +19,7 @@ use Rattle.segment_manager.proofs.{Steps.open-reading, objects.Stored.literal-re
 use Rattle.raw_region.proofs.{Bytes.fits-are_bytes, Facts.first, Facts.second}
 use Rattle.std.proofs.Common.{Fits, w8}
 use Rattle.seg_vector.specs.TextCalls.{AppendsText, GetsByte, ReadsText, SetsByte}
-use Rattle.segment_manager.specs.{containers.Contents.text_bytes, containers.ToChange.IsToChange}
+use Rattle.segment_manager.specs.{containers.Contents.text_bytes, containers.ToChange.IsChangeableContainer}
 
 -- ---- bytes
 
@@ -127,7 +127,7 @@ module _ {s t : State} (view : s ≡ t) (key : Key) (p : Place) (b : IsSegment s
 
 -- the same, where it may be changed
 module _ {s t : State} (view : s ≡ t) (b : IsSegment s.cut.bytes) {key : Key} {p : Place}
-    (to : IsToChange t key String p) (new : Cut) where
+    (to : IsChangeableContainer t key String p) (new : Cut) where
   found : Answers s (λ d. container_at d key String) (Ok p)
   found = seen-found s t view key String p to.at
 

@@ -1,8 +1,9 @@
 -- The blocks of a vector of texts among all others: each is in use, and no two are one. And what becomes of them where
 -- a part of the texts is replaced.
 use Rattle.segment_manager.proofs.Common.{◌≡◌, sym, ap, subst, ◌∙◌, ℕ, ◌≢◌, List, [], ◌∷◌, ◌++◌, append_assoc, arith}
-use Rattle.segment_manager.proofs.Common.{option_to_list, AllByRecursion, Extent, handle, Table, SameSpread}
-use Rattle.segment_manager.proofs.Common.{middle-first, AreOthers, text_blocks, OwnedText, Object, Texts, value_extents}
+use Rattle.segment_manager.proofs.Common.{option_to_list, AllByRecursion, Extent, handle, BackingArray, SameSpread}
+use Rattle.segment_manager.proofs.Common.{middle-first, AreDistinct, text_blocks, OwnedText, Object, Texts}
+use Rattle.segment_manager.proofs.Common.{value_extents}
 use Rattle.seg_vector.proofs.TextBlocks.{blocks-three}
 use Rattle.best_fit.proofs.Laws.{spread-behind}
 use Rattle.segment_manager.proofs.{objects.Exchanged.Exchange, objects.Rewritten.with_value}
@@ -16,7 +17,7 @@ differ-handles x [] h = tt
 differ-handles x (y ∷ ys) h = ((λ e. h.0 (omega (arith, e))), differ-handles x ys h.1)
 
 -- no two of those that are put in are one
-pub others-apart : (n : ℕ) (xs zs : List Extent) → Rising n (inserted xs zs) → AreOthers xs
+pub others-apart : (n : ℕ) (xs zs : List Extent) → Rising n (inserted xs zs) → AreDistinct xs
 others-apart n [] zs r = tt
 others-apart n (x ∷ xs) zs r =
     let f : IsFresh n x (inserted xs zs) = rising-insert n x (inserted xs zs) r in (
@@ -46,7 +47,7 @@ pub record IsPartOther (ps qs out in_place : List OwnedText) : Type 0 where
   pub is : qs ≡ front ++ (in_place ++ back)
 
 -- Then the array and the blocks of the old ones are gone, and the array and the blocks of the new ones come.
-pub part-exchange : (o : Object) (ps qs out in_place : List OwnedText) (t u : Table) (gone come : List Extent)
+pub part-exchange : (o : Object) (ps qs out in_place : List OwnedText) (t u : BackingArray) (gone come : List Extent)
     → o.value ≡ Texts ps t → IsPartOther ps qs out in_place → gone ≡ option_to_list t.extent ++ text_blocks out
     → come ≡ option_to_list u.extent ++ text_blocks in_place → Exchange o (with_value o (Texts qs u)) gone come
 part-exchange o ps qs out in_place t u gone come e p f g =

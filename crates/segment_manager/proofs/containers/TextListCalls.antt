@@ -24,12 +24,12 @@ use Rattle.segment_manager.proofs.{containers.TextLists.part-inserted, container
 use Rattle.segment_manager.proofs.{containers.TextLists.part-set, containers.Refilled.then_room, Steps.open-writing}
 use Rattle.segment_manager.proofs.{containers.Refilled.room-grown, Calling.denotes-live, containers.ToChange.seen-found}
 use Rattle.std.proofs.Common.{Fits, w8}
-use Rattle.segment_manager.specs.{containers.Stored.ChangesTexts, containers.ToChange.IsToChange}
-use Rattle.best_fit.specs.Exchange.{IsRestored}
-use Rattle.seg_vector.specs.TextsCalls.{ClearsTexts, ErasesText, GetsText, InsertsText, IsTextLeftOut, IsTextPutIn}
-use Rattle.seg_vector.specs.TextsCalls.{IsStillAtFirst, IsTextSet, IsWithoutFit, PopsText, PushesText, SetsText}
+use Rattle.segment_manager.specs.{containers.Stored.ChangesTexts, containers.ToChange.IsChangeableContainer}
+use Rattle.best_fit.specs.Exchange.{KeepsLiveSet}
+use Rattle.seg_vector.specs.TextsCalls.{ClearsTexts, ErasesText, GetsText, InsertsText, RemovesTextOk, InsertsTextOk}
+use Rattle.seg_vector.specs.TextsCalls.{RefusesFirstBlock, SetsTextOk, LacksFit, PopsText, PushesText, SetsText}
 use Rattle.seg_vector.specs.{TextsCalls.StaysAtFirst, TextsCalls.new_array, Vector.capacity_for_one}
-use Rattle.segment_manager.specs.Keeping.{KeepsWhere, LacksArray, LacksFirst}
+use Rattle.segment_manager.specs.Keeping.{UnchangedWhere, LacksArray, LacksFirst}
 use Rattle.segment_manager.specs.Directory.{Object, Texts, live}
 use Rattle.seg_types.specs.Commands as asked
 
@@ -71,7 +71,7 @@ module _ {s t : State} (view : s ≡ t) (key : Key) (p : Place) (b : IsSegment s
 
 -- the same, where they may be changed
 module _ {s t : State} (view : s ≡ t) (b : IsSegment s.cut.bytes) {key : Key} {p : Place}
-    (to : IsToChange t key StringsKind p) (new : Cut) where
+    (to : IsChangeableContainer t key StringsKind p) (new : Cut) where
   found : Answers s (λ d. container_at d key StringsKind) (Ok p)
   found = seen-found s t view key StringsKind p to.at
 
@@ -109,7 +109,7 @@ module _ {s t : State} (view : s ≡ t) (b : IsSegment s.cut.bytes) {key : Key} 
       (texts-stay s key p b found c _ (open-writing s.mode c writing) each)
 
   -- a refusal for want of space, after which the blocks are as they were
-  given-up : {c : Command} {e : Refusal} → e ≡ NoSpace → IsRestored current s.cut new → ((d : Directory) (h : Holds d)
+  given-up : {c : Command} {e : Refusal} → e ≡ NoSpace → KeepsLiveSet current s.cut new → ((d : Directory) (h : Holds d)
       → perform d heap (effect d c) ≡ (Refused NoSpace, d)) → StepsKeeping s new key c (Err e)
   given-up {c} is back each = record {
     step = subst (λ (r : Refusal). IsStepOfKind s (record s { cut = new }) key StringsKind c (Refused r)) (sym is)
@@ -128,7 +128,7 @@ module _ {s t : State} (view : s ≡ t) (b : IsSegment s.cut.bytes) {key : Key} 
   pub text-set : (i : ℕ) (bs : List ℕ) (r : Result (Unit {0}) Refusal) → ((k : ℕ) → Fits w8 (get_or bs k 0))
       → SetsText s.cut new p i bs r → Answered done_answer s t new key StringsKind (asked.Set key i (asked.Quoted bs)) r
   text-set i bs (Ok u) small a = seen (done-so (does (λ d l h.
-      let r : IsTextSet s.cut new p h.texts h.table i bs = a h.texts h.table h.stand in record {
+      let r : SetsTextOk s.cut new p h.texts h.table i bs = a h.texts h.table h.stand in record {
         texts = slice_set h.texts i r.text;
         table = h.table;
         move = moved (part-set h.texts i r.before r.text r.found)
@@ -142,7 +142,7 @@ module _ {s t : State} (view : s ≡ t) (b : IsSegment s.cut.bytes) {key : Key} 
         pick-outside e (λ w. w.1.refusal) o.refusal (a h.texts h.table h.stand) in
         ap (perform d heap) (set-text h i bs None (slice_get_past h.texts i q.outside)))
     | inr o ↦ turned-down o.1.refusal o.1.same (λ d h.
-        let q : (i < length h.texts) × IsWithoutFit s.cut new (placed_text heap bs) e =
+        let q : (i < length h.texts) × LacksFit s.cut new (placed_text heap bs) e =
         pick-space e (λ w. w.refusal) o.1.refusal (a h.texts h.table h.stand) in
         let empty : OwnedText = record { bytes = []; extent = None } in
         set-comes h i bs (slice_get-get_or h.texts i empty q.0) q.1.none)
@@ -151,11 +151,11 @@ module _ {s t : State} (view : s ≡ t) (b : IsSegment s.cut.bytes) {key : Key} 
   -- ---- one more
 
   put-steps : (c : Command) (at : List OwnedText → ℕ) (bs : List ℕ) → ((k : ℕ) → Fits w8 (get_or bs k 0))
-      → ((d : Directory) (h : Holds d) → IsTextPutIn s.cut new p h.texts h.table (at h.texts) bs
+      → ((d : Directory) (h : Holds d) → InsertsTextOk s.cut new p h.texts h.table (at h.texts) bs
       × (effect d c ≡ insert_plan h (at h.texts) bs)) → StepsKeeping s new key c (Ok tt)
   put-steps c at bs small each = record {
     step = does (λ d l h.
-        let r : IsTextPutIn s.cut new p h.texts h.table (at h.texts) bs = (each d h).0 in record {
+        let r : InsertsTextOk s.cut new p h.texts h.table (at h.texts) bs = (each d h).0 in record {
           texts = insert h.texts (at h.texts) r.text;
           table = r.table;
           move = moved (part-inserted h.texts (at h.texts) r.text)
@@ -183,17 +183,17 @@ module _ {s t : State} (view : s ≡ t) (b : IsSegment s.cut.bytes) {key : Key} 
 
   -- where the first block has no space, nothing changes
   pub text-first : (bs : List ℕ) → StaysAtFirst s.cut new p bs
-      → KeepsWhere t (record s { cut = new }) (LacksFirst key bs)
-  text-first bs a = subst (λ (u : State). KeepsWhere u (record s { cut = new }) (LacksFirst key bs)) view (λ d l w.
+      → UnchangedWhere t (record s { cut = new }) (LacksFirst key bs)
+  text-first bs a = subst (λ (u : State). UnchangedWhere u (record s { cut = new }) (LacksFirst key bs)) view (λ d l w.
       let h : Holds d = holds d l in
       let object : h.object ≡ w.object = same_Some h.object w.object (sym h.is ∙ w.is) in
       let value : Texts h.texts h.table ≡ Texts w.texts w.table =
       sym h.value ∙ ap (λ (o : Object). o.value) object ∙ w.value in
       let texts : h.texts ≡ w.texts = cc in let table : h.table ≡ w.table = cc in
       let lives : live d ≡ heap = sym (denotes-live current s.cut.bytes d l.denotes) in
-      let still : IsStillAtFirst s.cut new w.texts w.table bs =
-      subst (λ (u : Table). IsStillAtFirst s.cut new w.texts u bs) table
-      (subst (λ (ps : List OwnedText). IsStillAtFirst s.cut new ps h.table bs) texts (a h.texts h.table h.stand)) in
+      let still : RefusesFirstBlock s.cut new w.texts w.table bs =
+      subst (λ (u : Table). RefusesFirstBlock s.cut new w.texts u bs) table
+      (subst (λ (ps : List OwnedText). RefusesFirstBlock s.cut new ps h.table bs) texts (a h.texts h.table h.stand)) in
       let same : new ≡ s.cut = elim w.none [
         | inl x ↦ still.text x.0 (subst (λ (m : LiveSet). placed_text m bs ≡ None) lives x.1)
         | inr x ↦ still.array (subst (λ (m : LiveSet).
@@ -202,8 +202,8 @@ module _ {s t : State} (view : s ≡ t) (b : IsSegment s.cut.bytes) {key : Key} 
       (λ i. record s { cut = same i }))
 
   pub array-first : (n : ℕ) → (new_array heap n ≡ None → new ≡ s.cut)
-      → KeepsWhere t (record s { cut = new }) (LacksArray n)
-  array-first n a = subst (λ (u : State). KeepsWhere u (record s { cut = new }) (LacksArray n)) view (λ d l w.
+      → UnchangedWhere t (record s { cut = new }) (LacksArray n)
+  array-first n a = subst (λ (u : State). UnchangedWhere u (record s { cut = new }) (LacksArray n)) view (λ d l w.
       let lives : live d ≡ heap = sym (denotes-live current s.cut.bytes d l.denotes) in
       let same : new ≡ s.cut = a (subst (λ (m : LiveSet). new_array m n ≡ None) lives w) in
       (λ i. record s { cut = same i }))
@@ -215,7 +215,7 @@ module _ {s t : State} (view : s ≡ t) (b : IsSegment s.cut.bytes) {key : Key} 
   pub text-inserted : (i : ℕ) (bs : List ℕ) (r : Result (Unit {0}) Refusal) → ((k : ℕ) → Fits w8 (get_or bs k 0))
       → InsertsText s.cut new p i bs r → Kept s t new key (asked.Insert key i (asked.Quoted bs)) r
   text-inserted i bs (Ok u) small a = seen-kept (put-steps _ (λ ps. i) bs small (λ d h.
-      let r : (i ≤ length h.texts) × IsTextPutIn s.cut new p h.texts h.table i bs = a h.texts h.table h.stand in
+      let r : (i ≤ length h.texts) × InsertsTextOk s.cut new p h.texts h.table i bs = a h.texts h.table h.stand in
       (r.1, insert-put h i bs r.0)))
   text-inserted i bs (Err e) small a = seen-kept (elim (a some.texts some.table some.stand) [
     | inl o ↦
@@ -237,7 +237,7 @@ module _ {s t : State} (view : s ≡ t) (b : IsSegment s.cut.bytes) {key : Key} 
   pub text-erased : (i : ℕ) (r : Result (Unit {0}) Refusal) → ErasesText s.cut new p i r
       → Answered done_answer s t new key StringsKind (asked.Erase key i) r
   text-erased i (Ok u) a = seen (done-so (does (λ d l h.
-      let r : IsTextLeftOut s.cut new p h.texts h.table i = a h.texts h.table h.stand in record {
+      let r : RemovesTextOk s.cut new p h.texts h.table i = a h.texts h.table h.stand in record {
         texts = remove h.texts i;
         table = h.table;
         move = left-out r;
@@ -252,7 +252,7 @@ module _ {s t : State} (view : s ≡ t) (b : IsSegment s.cut.bytes) {key : Key} 
       → Led s t new key (asked.Pop key) r (refusal_in r)
   text-popped (Ok u) a =
       let out : (d : Directory) → (l : StandsFor s.cut.bytes d)
-      → IsTextLeftOut s.cut new p (holds d l).texts (holds d l).table (length (holds d l).texts - 1) =
+      → RemovesTextOk s.cut new p (holds d l).texts (holds d l).table (length (holds d l).texts - 1) =
       λ d l. a (holds d l).texts (holds d l).table (holds d l).stand in
       led s t view b new key (asked.Pop key) (Ok u) None (texts-lead-on s key p b found new (asked.Pop key)
       (λ d l. TextElement (out d l).before.bytes) writing (λ d l. refl) (λ d l.
@@ -323,7 +323,7 @@ module _ {s t : State} (view : s ≡ t) (b : IsSegment s.cut.bytes) {key : Key} 
       let r = a.0 h.texts h.table h.stand in
       record { texts = h.texts; table = r.0; move = in-array r.2; outcome = reserve-comes h n r.1 }))
   texts-changed (Reserve n) (Err e) a =
-      let o : IsWithoutFit s.cut new (grown_table heap 16 n some.table) e = a.0 some.texts some.table some.stand in
+      let o : LacksFit s.cut new (grown_table heap 16 n some.table) e = a.0 some.texts some.table some.stand in
       turned-down o.refusal o.same (λ d h. reserve-comes h n (a.0 h.texts h.table h.stand).none)
   texts-changed Shrink r a =
       subst (StepsSafely s new key StringsKind (asked.Shrink key)) (sym a.0) (done-so (does (λ d l h. record {

@@ -14,8 +14,8 @@ use Rattle.segment_manager.proofs.containers.AnyStorage.{kind-told, of_kind-same
 use Rattle.segment_manager.proofs.{Calling.denotes-live, objects.Constructed.restored-denotes}
 use Rattle.segment_manager.proofs.{containers.Safely.seen-refused, containers.TextBlocks.IsPartOther}
 use Rattle.std.proofs.lemmas.Result.{IfErr-weaker}
-use Rattle.seg_vector.specs.TextsCalls.{IsTextLeftOut}
-use Rattle.best_fit.specs.Exchange.{IsRestored}
+use Rattle.seg_vector.specs.TextsCalls.{RemovesTextOk}
+use Rattle.best_fit.specs.Exchange.{KeepsLiveSet}
 
 -- ---- one directory
 
@@ -53,7 +53,7 @@ all-other {ps = ps} {qs = qs} small e now = moved (part-all ps qs) small refl e 
 
 -- one of them is left out
 pub left-out : {old new : Cut} {p : Place} {i : ℕ} {ps : List OwnedText} {t : Table}
-    → (r : IsTextLeftOut old new p ps t i) → IsTextsMove old new p ps t (remove ps i) t
+    → (r : RemovesTextOk old new p ps t i) → IsTextsMove old new p ps t (remove ps i) t
 left-out {i = i} {ps = ps} {t = t} r = moved (part-removed ps i r.before r.found) tt
     (one-block (option_to_list t.extent) r.before.extent) (sym (append-nil (option_to_list t.extent))) r.now
 
@@ -127,7 +127,7 @@ module _ (s : State) (key : Key) (p : Place) (b : IsSegment s.cut.bytes)
       by_no_change_of_kind s key StringsKind c answer (λ d l. texts-plan d l c may ∙ each d (texts_in d l))
 
   -- it answers so, and all blocks are as they were
-  pub texts-restored : (new : Cut) (c : Command) (answer : Answer) → IsOpenFor s.mode c → IsRestored current s.cut new
+  pub texts-restored : (new : Cut) (c : Command) (answer : Answer) → IsOpenFor s.mode c → KeepsLiveSet current s.cut new
       → ((d : Directory) (h : Holds d) → perform d (live_of s.cut.bytes) (effect d c) ≡ (answer, d))
       → IsStepOfKind s (record s { cut = new }) key StringsKind c answer
   texts-restored new c answer may back each = by_step_of_kind s (record s { cut = new }) key StringsKind c answer

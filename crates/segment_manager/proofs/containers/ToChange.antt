@@ -1,27 +1,31 @@
 -- The container that is to be changed, as the calls that change it find it.
 use Rattle.segment_manager.proofs.Common.{◌≡◌, true, false, sym, subst, Result, Ok, Err, MatchResult, Kind, Refusal}
-use Rattle.segment_manager.proofs.Common.{Key, Command, Place, Refused, container_at, Answers, State, IsStepOfKind}
+use Rattle.segment_manager.proofs.Common.{Key, Command, Place, Refused, container_at, AnswersWith, SegmentState}
+use Rattle.segment_manager.proofs.Common.{TakesStepOfKind}
 use Rattle.segment_manager.proofs.Common.{Answer, answer_of, is_changing, is_read_only, IsNotToChange, exit-is}
 use Rattle.segment_manager.proofs.{containers.Refilled.finds-no_container, Steps.open-writing}
 use Rattle.std.specs.Prelude.{IsErrAnd}
-use Rattle.segment_manager.specs.containers.ToChange.{IsToChange}
+use Rattle.segment_manager.specs.containers.ToChange.{IsChangeableContainer}
 
 -- a segment that may be changed
-pub to_change : (s : State) (key : Key) (kind : Kind) (r : Result Place Refusal) → is_read_only s.mode ≡ false
-    → Answers s (λ d. container_at d key kind) r → MatchResult r (IsToChange s key kind) (IsNotToChange s key kind)
+pub to_change : (s : SegmentState) (key : Key) (kind : Kind) (r : Result Place Refusal) → is_read_only s.mode ≡ false
+    → AnswersWith s (λ d. container_at d key kind) r
+    → MatchResult r (IsChangeableContainer s key kind) (IsNotToChange s key kind)
 to_change s key kind (Ok p) w a = record { writing = w; at = a }
 to_change s key kind (Err why) w a = record {
   refused = λ c e. finds-no_container s key kind c why (open-writing s.mode c w) a;
 }
 
 -- as the view before the call is named
-pub seen-found : (s t : State) (view : s ≡ t) (key : Key) (kind : Kind) (p : Place)
-    → Answers t (λ d. container_at d key kind) (Ok p) → Answers s (λ d. container_at d key kind) (Ok p)
-seen-found s t view key kind p = subst (λ (u : State). Answers u (λ d. container_at d key kind) (Ok p)) (sym view)
+pub seen-found : (s t : SegmentState) (view : s ≡ t) (key : Key) (kind : Kind) (p : Place)
+    → AnswersWith t (λ d. container_at d key kind) (Ok p) → AnswersWith s (λ d. container_at d key kind) (Ok p)
+seen-found s t view key kind p =
+    subst (λ (u : SegmentState). AnswersWith u (λ d. container_at d key kind) (Ok p)) (sym view)
 
 -- where there is none, the call that would change it answers why
-pub not-changed : {R : Type 0} {s : State} {key : Key} {l k : Kind} {why : Refusal} (says : R → Answer) (c : Command)
+pub not-changed : {R : Type 0} {s : SegmentState} {key : Key} {l k : Kind} {why : Refusal} (says : R
+    → Answer) (c : Command)
     (r : Result R Refusal) → l ≡ k → IsErrAnd r (λ e. e ≡ why) → is_changing c ≡ true → IsNotToChange s key l why
-    → IsStepOfKind s s key k c (answer_of says r)
+    → TakesStepOfKind s s key k c (answer_of says r)
 not-changed {s = s} {key = key} {why = why} says c r same is changing not = rw (exit-is r why is)
-    (subst (λ (kind : Kind). IsStepOfKind s s key kind c (Refused why)) same (not.refused c changing))
+    (subst (λ (kind : Kind). TakesStepOfKind s s key kind c (Refused why)) same (not.refused c changing))

@@ -318,7 +318,8 @@ module _ {T : Type 0} {k : ScalarKind} {w : T → ℤ} {size : ℕ} {test : T �
         extends-to : (l : StandsFor s.cut.bytes d) (r : Option Table) → grown_table (live_of s.cut.bytes) size
             (capacity_for_more (length h.items) (length ys) h.table.capacity) h.table ≡ r
             → extended s.mode d key k (map w ys) ≡ then_room d (live d) h.table behind_last r
-        extends-to l r e = extended-found s.mode d key k (map w ys) writing h.object h.is (map w h.items) h.table h.value
+        extends-to l r e = extended-found s.mode d key k (map w ys) writing h.object h.is (map w h.items) h.table
+            h.value
             ∙ extended-room d l.denotes k wanted_places h.table behind_last r (asked-places e)
 
       pub vector-extended : (ys : List T) (r : Result (Unit {0}) Refusal) → ExtendsBy size test sp s.cut new p ys r

@@ -1,6 +1,6 @@
 -- Bytes that denote a directory hold its two indexes: each stands in its heap with its block, and its entries lead to
 -- rising keys.
-use Rattle.segment_manager.proofs.Common.{◌≡◌, sym, ◌∙◌, ℕ, ◌+◌, ◌≤◌, ◌%◌, [], ◌∷◌, Less, Cut, live}
+use Rattle.segment_manager.proofs.Common.{◌≡◌, sym, ◌∙◌, ℕ, ◌+◌, ◌≤◌, ◌%◌, [], ◌∷◌, Less, WindowState, live}
 use Rattle.segment_manager.proofs.Common.{subst, true, Some, List, arith, Memory, handle, Index, Named, Unique, Object}
 use Rattle.segment_manager.proofs.Common.{length, bytes_of, place_of, is_class, is_index, is_object, order_of}
 use Rattle.segment_manager.proofs.Common.{IsTrue, IfSome, le-leb, current, Denotes, handles, IsEntry, table_of}
@@ -18,7 +18,7 @@ use Rattle.raw_region.proofs.Facts.{AllByRecursion-filter}
 use Rattle.segment_manager.proofs.Common.{ObjectRole, and_from, and_parts, ap, has_good_name, holds, is_good_value}
 use Rattle.segment_manager.proofs.Common.{◌&&◌, is_kind_of, kind_of, object_len, same_role, serves}
 use Rattle.raw_region.proofs.Facts.{second}
-use Rattle.seg_index.specs.Sorted.{AreSorted, HasSortKey, HasSortedIndex, sort_key_end, sort_order}
+use Rattle.seg_index.specs.Sorted.{AreSortedHandles, HasSortKey, HasSortedIndex, sort_key_end, sort_order}
 use Rattle.std.specs.List.Sorted.{IsStrictlySortedBy}
 
 -- ---- an index of a directory
@@ -58,13 +58,13 @@ in_use-some : (i : Index) {d : Directory} {format : ℕ} → IsDirectory format 
 in_use-some Named {d} h = named-in_use d h.proper
 in_use-some Unique {d} h = unique-in_use d h.proper
 
-stands-in : (i : Index) (c : Cut) {d : Directory} → Denotes current c.bytes d
+stands-in : (i : Index) (c : WindowState) {d : Directory} → Denotes current c.bytes d
     → IsIndexAt (bytes_of c.bytes) (place_of i) (table_of i d) (entries_of i d)
 stands-in Named c k = k.named
 stands-in Unique c k = k.unique
 
 -- the index stands in its heap
-pub denotes-index : (i : Index) (c : Cut) {d : Directory} → Denotes current c.bytes d
+pub denotes-index : (i : Index) (c : WindowState) {d : Directory} → Denotes current c.bytes d
     → IsIndexOf c (place_of i) (table_of i d) (entries_of i d)
 denotes-index i c {d} k = record {
   heap = denotes-heap current c.bytes d k;
@@ -81,12 +81,12 @@ denotes-index i c {d} k = record {
 -- ---- each entry leads to a key
 
 -- what is known of an object
-record IsKnown (c : Cut) (d : Directory) (o : Object) : Type 0 where
+record IsKnown (c : WindowState) (d : Directory) (o : Object) : Type 0 where
   live_block : IsInUse (live d) o.extent
   good : IsTrue (is_object current o)
   at : IsObjectAt (bytes_of c.bytes) o
 
-all-known : (c : Cut) {d : Directory} → Denotes current c.bytes d → AllByRecursion (IsKnown c d) d.objects
+all-known : (c : WindowState) {d : Directory} → Denotes current c.bytes d → AllByRecursion (IsKnown c d) d.objects
 all-known c {d} k = all-both (λ (o : Object). IsInUse (live d) o.extent) (λ (o : Object). IsTrue (is_object current o)
     × IsObjectAt (bytes_of c.bytes) o) (IsKnown c d) (λ o u g. record { live_block = u; good = g.0; at = g.1 })
     d.objects (objects-in_use d k.directory.proper) (all-both (λ o. IsTrue (is_object current o))
@@ -113,7 +113,7 @@ key-fits i {m} o good at =
 -- ---- and the keys rise
 
 -- each entry of an index is what the words of its object say
-pub entries-in : (i : Index) (c : Cut) {d : Directory} → Denotes current c.bytes d
+pub entries-in : (i : Index) (c : WindowState) {d : Directory} → Denotes current c.bytes d
     → AllByRecursion (IsEntry (bytes_of c.bytes)) (objects_of i d)
 entries-in i c {d} k = all-in (IsEntry (bytes_of c.bytes)) i d (entries_say_objects current c.bytes d k)
 
@@ -139,7 +139,8 @@ unfolding IsStrictlySortedBy
 sorted-handles i m [] es a = tt
 sorted-handles i m (o ∷ os) es a = (less-all i m o os es.0 es.1 a.0, sorted-handles i m os es.1 a.1)
 
-pub denotes-sorted : (i : Index) (c : Cut) {d : Directory} → Denotes current c.bytes d → AreSorted c i (entries_of i d)
+pub denotes-sorted : (i : Index) (c : WindowState) {d : Directory} → Denotes current c.bytes d
+    → AreSortedHandles c i (entries_of i d)
 denotes-sorted i c {d} k = record {
   keys = all-handles (HasSortKey c i) (objects_of i d) (all-in (λ (o : Object). HasSortKey c i (handle o.extent)) i d
       (all-each (IsKnown c d) (λ (o : Object). HasSortKey c i (handle o.extent)) (λ o u. record {
@@ -150,7 +151,8 @@ denotes-sorted i c {d} k = record {
   rises = sorted-handles i (bytes_of c.bytes) (objects_of i d) (entries-in i c k) (objects-ascend i k.directory);
 }
 
-pub denotes-sorted_index : (i : Index) {c : Cut} {d : Directory} → Denotes current c.bytes d → HasSortedIndex c i
+pub denotes-sorted_index : (i : Index) {c : WindowState} {d : Directory} → Denotes current c.bytes d
+    → HasSortedIndex c i
 denotes-sorted_index i {c} {d} k = record {
   table = table_of i d;
   handles = entries_of i d;

@@ -52,7 +52,8 @@ module _ (c : Cut) (d : Directory) (k : Denotes current c.bytes d) (s : Bor (Lis
       record {
         within = omega (arith, slice_get_within (named_objects d) at t.object t.is);
         ahead = λ j o f l. subst (λ n. is_lt (slice_cmp nat_cmp o.name n) ≡ true)
-            (exact_bytes t.object.name s.now equal) (ascends-at (λ o p. by_name o p ≡ true) (named_objects d) j at (objects-ascend Named k.directory) l f t.is);
+            (exact_bytes t.object.name s.now equal)
+            (ascends-at (λ o p. by_name o p ≡ true) (named_objects d) j at (objects-ascend Named k.directory) l f t.is);
         from = λ j o f l. from-there at j t.is f equal l (cases_lt at j);
       }
 

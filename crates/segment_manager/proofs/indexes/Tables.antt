@@ -2,7 +2,8 @@
 use Rattle.segment_manager.proofs.Common.{◌≡◌, refl, sym, ap, subst, ◌∙◌, ℕ, ◌+◌, ◌≢◌, Some, None, Option, List, []}
 use Rattle.segment_manager.proofs.Common.{◌∷◌, ◌++◌, append_assoc, IsTrue, flat_map, option_to_list, option_map}
 use Rattle.segment_manager.proofs.Common.{AllByRecursion, Extent, LiveSet, handle, is_proper, others, added, released}
-use Rattle.segment_manager.proofs.Common.{resized, Table, no_table, Index, without_link, Directory, sorted, live}
+use Rattle.segment_manager.proofs.Common.{resized, BackingArray, no_backing, Index, without_link, Directory, sorted}
+use Rattle.segment_manager.proofs.Common.{live}
 use Rattle.segment_manager.proofs.Common.{extents_of, table_extents, table_of, with_table_of}
 use Rattle.segment_manager.proofs.Order.{Differs, Rising, inserted, insert-inserted, sorted-append, all_of-sorted}
 use Rattle.segment_manager.proofs.Order.{live-rises, rising-insert, rising-inserted, apart-inserted, others-insert}
@@ -94,7 +95,7 @@ exchanged front back ys (Some y) x h =
 record Around (i : Index) (d : Directory) : Type 0 where
   front : List Extent
   back : List Extent
-  all : (t : Table) → (live (with_table_of i d t)).extents ≡ sorted (front ++ (table_extents t ++ back))
+  all : (t : BackingArray) → (live (with_table_of i d t)).extents ≡ sorted (front ++ (table_extents t ++ back))
 
 around : (i : Index) (d : Directory) → Around i d
 unfolding live
@@ -111,7 +112,7 @@ around index.Unique d = record {
 abbrev of_extents : Directory → List Extent → LiveSet
 of_extents d xs = record { size = d.size; extents = xs }
 
-live-of_extents : (i : Index) (d : Directory) (t : Table)
+live-of_extents : (i : Index) (d : Directory) (t : BackingArray)
     → live (with_table_of i d t) ≡ of_extents d (live (with_table_of i d t)).extents
 unfolding live
 live-of_extents index.Named d t = refl
@@ -122,17 +123,17 @@ pub same-table : (i : Index) {d : Directory} → with_table_of i d (table_of i d
 same-table index.Named = refl
 same-table index.Unique = refl
 
-pub last-table : (i : Index) (d : Directory) (t u : Table)
+pub last-table : (i : Index) (d : Directory) (t u : BackingArray)
     → with_table_of i (with_table_of i d t) u ≡ with_table_of i d u
 last-table index.Named d t u = refl
 last-table index.Unique d t u = refl
 
-pub table-of : (i : Index) (d : Directory) {t : Table} → table_of i (with_table_of i d t) ≡ t
+pub table-of : (i : Index) (d : Directory) {t : BackingArray} → table_of i (with_table_of i d t) ≡ t
 table-of index.Named d = refl
 table-of index.Unique d = refl
 
 -- the live set of a directory, with the block of one of its indexes in its place
-split : (i : Index) (d : Directory) (t : Table)
+split : (i : Index) (d : Directory) (t : BackingArray)
     → live (with_table_of i d t) ≡ of_extents d (sorted ((around i d).front ++ (table_extents t ++ (around i d).back)))
 split i d t = live-of_extents i d t ∙ ap (of_extents d) ((around i d).all t)
 
@@ -148,16 +149,17 @@ leaving d (Some y) xs = refl
 -- all blocks but that of an index, among others that were put in
 pub index-left_out : (i : Index) (d : Directory) (ys : List Extent) → Rising 128 (inserted ys (live d).extents)
     → left_out (table_of i d).extent (inserted ys (live d).extents) ≡ inserted ys
-    (live (with_table_of i d no_table)).extents
+    (live (with_table_of i d no_backing)).extents
 index-left_out i d ys h =
     let f : List Extent = (around i d).front in let b : List Extent = (around i d).back in
     let old : Option Extent = (table_of i d).extent in
     let e : (live d).extents ≡ sorted (f ++ (option_to_list old ++ b)) = ap (λ (l : LiveSet). l.extents) (here i d) in
     ap (λ zs. left_out old (inserted ys zs)) e ∙ dropped f b ys old (subst (λ zs. Rising 128 (inserted ys zs)) e h)
-    ∙ ap (inserted ys) (sym ((around i d).all no_table))
+    ∙ ap (inserted ys) (sym ((around i d).all no_backing))
 
 -- Another block is taken for an index, and then these, and then the old one is released.
-pub live-moved_index : (i : Index) (d : Directory) (t : Table) (x : Extent) (ys : List Extent) → t.extent ≡ Some x
+pub live-moved_index : (i : Index) (d : Directory) (t : BackingArray) (x : Extent) (ys : List Extent)
+    → t.extent ≡ Some x
     → IsTrue (is_proper (adding (added (live d) x) ys))
     → without_link (adding (added (live d) x) ys) (table_link (table_of i d)) ≡ adding (live (with_table_of i d t)) ys
 live-moved_index i d t x ys e h =
@@ -171,7 +173,7 @@ live-moved_index i d t x ys e h =
     ∙ ap (of_extents d) (exchanged f b ys old x r) ∙ ap (λ l. adding l ys) (sym is)
 
 -- the block of an index is released
-pub live-no_index : (i : Index) (d : Directory) (t : Table) {y : Extent} → (table_of i d).extent ≡ Some y
+pub live-no_index : (i : Index) (d : Directory) (t : BackingArray) {y : Extent} → (table_of i d).extent ≡ Some y
     → t.extent ≡ None → IsTrue (is_proper (live d)) → released (live d) (handle y) ≡ live (with_table_of i d t)
 live-no_index i d t {y} e g h =
     let f : List Extent = (around i d).front in let b : List Extent = (around i d).back in
@@ -181,7 +183,7 @@ live-no_index i d t {y} e g h =
     ap (λ l. released l (handle y)) was ∙ ap (of_extents d) (middle-dropped f b y r) ∙ sym is
 
 -- it is given another length where it stands
-pub live-resized_index : (i : Index) (d : Directory) (t : Table) (x : Extent) {y : Extent}
+pub live-resized_index : (i : Index) (d : Directory) (t : BackingArray) (x : Extent) {y : Extent}
     → (table_of i d).extent ≡ Some y → t.extent ≡ Some x → x.offset ≡ y.offset → IsTrue (is_proper (live d))
     → resized (live d) x ≡ live (with_table_of i d t)
 live-resized_index i d t x {y} e g o h =
@@ -192,7 +194,7 @@ live-resized_index i d t x {y} e g o h =
     ap (λ l. resized l x) was ∙ ap (of_extents d) (middle-resized f b x y o r) ∙ sym is
 
 -- a directory whose index has no block before or after has the same live set
-pub live-same_index : (i : Index) (d : Directory) (t : Table) → t.extent ≡ (table_of i d).extent
+pub live-same_index : (i : Index) (d : Directory) (t : BackingArray) → t.extent ≡ (table_of i d).extent
     → live (with_table_of i d t) ≡ live d
 live-same_index i d t e = split i d t ∙ ap (λ (o : Option Extent). of_extents d
     (sorted ((around i d).front ++ (option_to_list o ++ (around i d).back)))) e ∙ sym (here i d)

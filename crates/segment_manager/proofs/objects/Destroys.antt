@@ -215,7 +215,8 @@ destroys-entered {s} {t} view b {c} i e key at may q p r =
     })))
 
 -- or there is none
-pub destroys-none : {s t : State} (view : s ≡ t) (i : Index) (e : Entry) (key : names.Key) (at : ℕ) → is_read_only t.mode
+pub destroys-none : {s t : State} (view : s ≡ t) (i : Index) (e : Entry) (key : names.Key) (at : ℕ)
+    → is_read_only t.mode
     ≡ false → Seeks i e key → Ends s.cut i e (Absent at) → IsStep t t (asked.Destroy key) (Truth false)
 destroys-none {s} view i e key at may q p =
     let writing : is_read_only s.mode ≡ false = subst (λ (u : State). is_read_only u.mode ≡ false) (sym view) may in

@@ -12,9 +12,11 @@ use Rattle.segment_manager.proofs.objects.NewValues.{IsMadeNever, IsMadeNow, awa
 use Rattle.segment_manager.proofs.objects.NewValues.{value-not_built, value-ready}
 use Rattle.segment_manager.proofs.objects.NotBegun.{key-taken, value-not_begun}
 use Rattle.segment_manager.proofs.{Steps.step-segment, indexes.Bridge.lookup-absent, objects.NewKeys.key-seeks}
-use Rattle.segment_manager.specs.containers.Filled.{HasBegun, Builds, IsShapeOf}
-use Rattle.segment_manager.specs.{objects.Begun.Ends, objects.Begun.IsEnding, objects.Found.pair_found, Answers.Found}
-use Rattle.segment_manager.specs.{declared.objects.beginning.Begun.Begun, declared.containers.fillings.Shape.Shape}
+use Rattle.segment_manager.specs.containers.Filled.{HasBegun, FillsObject, IsShapeOf}
+use Rattle.segment_manager.specs.{objects.PendingObjects.Ends, objects.PendingObjects.IsEnding}
+use Rattle.segment_manager.specs.{objects.Found.pair_found, Answers.Found}
+use Rattle.segment_manager.specs.{declared.objects.pending_object.PendingObject.PendingObject}
+use Rattle.segment_manager.specs.{declared.containers.fillings.ObjectShape.ObjectShape}
 use Rattle.seg_index.specs.declared.keys.Entry.{Entry}
 use Rattle.seg_types.specs.Names as names
 use Rattle.seg_types.specs.Commands as asked
@@ -22,14 +24,16 @@ use Rattle.seg_types.specs.Commands as asked
 -- ---- begun
 
 -- what the shape says of an object that was begun is what the content says
-pub begun-for : (old new : Cut) (key : names.Key) {content : Content} {s : Shape} (r : Result Begun Refusal)
+pub begun-for : (old new : Cut) (key : names.Key) {content : Content} {s : ObjectShape}
+    (r : Result PendingObject Refusal)
     → IsShapeOf content s → Begins old new key s.kind s.count s.len r
     → Begins old new key (kind_of (bare content)) (count_of (bare content)) (value_len (bare content)) r
 begun-for old new key {content} {s} r is g = subst (λ (k : Kind). Begins old new key k (count_of (bare content))
     (value_len (bare content)) r) is.kind (subst (λ n. Begins old new key s.kind n (value_len (bare content)) r)
     is.count (subst (λ n. Begins old new key s.kind s.count n r) is.len g))
 
-pub has-begun : (old new : Cut) (key : names.Key) {content : Content} {s : Shape} (r : Begun) → IsSegment old.bytes
+pub has-begun : (old new : Cut) (key : names.Key) {content : Content} {s : ObjectShape} (r : PendingObject)
+    → IsSegment old.bytes
     → IsShapeOf content s → Begins old new key s.kind s.count s.len (Ok r) → HasBegun new content r.handle r.at r.entry
 has-begun old new key r b is g = (old, (b, (key, begun-for old new key (Ok r) is g)))
 
@@ -46,11 +50,11 @@ module _ (content : Content) where
   -- the value is made, and then the object gets its entry; or all is given back
   pub builds : (m w c : Cut) (h at : ℕ) (entry : Option NewEntry) (filled : Result (Unit {0}) Refusal)
       (result : Result ℕ Refusal) → MakesValue content m w (record { handle = h; at = at }) filled
-      → Ends w c h entry filled result → Builds m c h at entry content result
+      → Ends w c h entry filled result → FillsObject m c h at entry content result
   builds m w c h at entry (Ok u) result made e =
-      subst (Builds m c h at entry content) (sym e.0) (record { made = w; value = made; is = refl; entered = e.1 })
+      subst (FillsObject m c h at entry content) (sym e.0) (record { made = w; value = made; is = refl; entered = e.1 })
   builds m w c h at entry (Err why) result made e =
-      subst (Builds m c h at entry content) (sym e.0) (record { left = w; none = made; back = e.1 })
+      subst (FillsObject m c h at entry content) (sym e.0) (record { left = w; none = made; back = e.1 })
 
 -- ---- the steps
 
@@ -75,18 +79,18 @@ module _ {a : Cut} (b : IsSegment a.bytes) (key : names.Key) (content : Content)
   none-found = no-space pair_found found (λ d e. ap (finds d key content) e)
 
   module _ (entry : Option NewEntry) (m : Cut) {c : Cut} (h at : ℕ) where
-    made-now : {n : ℕ} → IsBegunFor a m key content h at entry → Builds m c h at entry content (let r = Ok n in r)
+    made-now : {n : ℕ} → IsBegunFor a m key content h at entry → FillsObject m c h at entry content (let r = Ok n in r)
         → IsMadeNow a c key content n
     made-now {n} g r =
         subst (λ (n : ℕ). IsMadeNow a c key content n) (sym r.is) (value-built content b h at entry g r.value r.entered)
 
     made-never : (why : Refusal) → IsBegunFor a m key content h at entry
-        → Builds m c h at entry content (let r = Err why in r) → IsMadeNever a c key content
+        → FillsObject m c h at entry content (let r = Err why in r) → IsMadeNever a c key content
     made-never why g r = value-not_built content b h at entry g r.none r.back
 
     -- what was begun is built, or is refused its blocks
     pub construct-built : (r : Result ℕ Refusal) → IsBegunFor a m key content h at entry
-        → Builds m c h at entry content r → Constructs a c (asked.Construct key content) handle_answer r
+        → FillsObject m c h at entry content r → Constructs a c (asked.Construct key content) handle_answer r
     construct-built (Ok n) g r =
         let d = made-now g r in
         record {
@@ -96,7 +100,8 @@ module _ {a : Cut} (b : IsSegment a.bytes) (key : names.Key) (content : Content)
         }
     construct-built (Err why) g r = none-constructed c why r.none.refusal (made-never why g r)
 
-    pub found-built : (r : Result ℕ Refusal) → IsBegunFor a m key content h at entry → Builds m c h at entry content r
+    pub found-built : (r : Result ℕ Refusal) → IsBegunFor a m key content h at entry
+        → FillsObject m c h at entry content r
         → Constructs a c (asked.FindOrConstruct key content) pair_answer (with_count (count_of (bare content)) r)
     found-built (Ok n) g r =
         let d = made-now g r in

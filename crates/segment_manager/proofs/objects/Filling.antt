@@ -1,14 +1,15 @@
 -- Items taken from an iterator and written one behind another.
-use Rattle.segment_manager.proofs.Common.{◌≡◌, sym, ap, ◌∙◌, ◌+◌, ◌*◌, ℤ, [], ◌∷◌, ◌++◌, map, Cut, Has}
+use Rattle.segment_manager.proofs.Common.{◌≡◌, sym, ap, ◌∙◌, ◌+◌, ◌*◌, ℤ, [], ◌∷◌, ◌++◌, map, WindowState, HasBytesAt}
 use Rattle.segment_manager.proofs.Common.{refl, subst, ℕ, Bool, true, Some, Option, List, length, arith, IsTrue, Yields}
 use Rattle.segment_manager.proofs.Common.{length-append, AllByRecursion, flat_map_more, length-map, current, ScalarKind}
-use Rattle.segment_manager.proofs.Common.{list_all, and_from, bytes_of, IsChanged, is_value, size_of, spelling, spelled}
+use Rattle.segment_manager.proofs.Common.{list_all, and_from, bytes_of, ChangesBytes, is_value, size_of, spelling}
+use Rattle.segment_manager.proofs.Common.{spelled}
 use Rattle.segment_manager.proofs.blocks.Blocks.{spelled-length, spelling-length}
 use Rattle.segment_manager.proofs.{blocks.NewBlocks.changed-trans, objects.Pieces.bytes-stay}
-use Rattle.raw_region.proofs.{Facts.AllByRecursion-behind, Facts.first, Facts.second, Bytes.Has-append}
+use Rattle.raw_region.proofs.{Facts.AllByRecursion-behind, Facts.first, Facts.second, Bytes.HasBytesAt-append}
 use Rattle.std.specs.Iterator.{HoldsAlong}
 use Rattle.std.proofs.lemmas.List.{map_push}
-use Rattle.segment_manager.specs.objects.Begun.{IsItemWritten}
+use Rattle.segment_manager.specs.objects.PendingObjects.{WritesItem}
 
 -- ---- calls, and then one more
 
@@ -33,28 +34,30 @@ all-more t (y ∷ ys) z h e = and_from (t y) (list_all t (ys ++ z ∷ [])) (firs
 -- ---- so many items were written
 
 pub record IsFilling {S A : Type 0} (gives : S → Option A → S → Type 0) (can : S → Type 0) (whole : A → ℤ)
-    (old now : Cut) (k : ScalarKind) (from i : ℕ) (before at : S) : Type 0 where
+    (old now : WindowState) (k : ScalarKind) (from i : ℕ) (before at : S) : Type 0 where
   pub items : List A
   pub ran : Yields gives before items at
   pub long : length items ≡ i
   pub callable : can at
   pub values : IsTrue (list_all (is_value k) (map whole items))
-  pub change : IsChanged current old now from (size_of k * i)
-  pub content : Has (bytes_of now.bytes) from (spelled k (map whole items))
+  pub change : ChangesBytes current old now from (size_of k * i)
+  pub content : HasBytesAt (bytes_of now.bytes) from (spelled k (map whole items))
 
-module _ (S : Type 0) {A : Type 0} {gives : S → Option A → S → Type 0} {can : S → Type 0} {whole : A → ℤ} {old : Cut}
+module _ (S : Type 0) {A : Type 0} {gives : S → Option A → S → Type 0} {can : S → Type 0} {whole : A
+    → ℤ} {old : WindowState}
     {k : ScalarKind} {from : ℕ} {before : S} where
   -- and one more
-  pub filling-more : {b c : Cut} {i to : ℕ} {s t : S} → IsFilling gives can whole old b k from i before s → can t
-      → to ≡ from + size_of k * i → IsItemWritten gives whole b c k to s t
+  pub filling-more : {b c : WindowState} {i to : ℕ} {s t : S} → IsFilling gives can whole old b k from i before s
+      → can t
+      → to ≡ from + size_of k * i → WritesItem gives whole b c k to s t
       → IsFilling gives can whole old c k from (i + 1) before t
   filling-more {b} {c} {i} {to} {s} {t} f go at w =
       let zs = map whole f.items in let bytes = spelling k (whole w.item) in
       let more = map_push whole f.items w.item in let each = spelling-length k (whole w.item) in
       let all = spelled-length k zs ∙ ap (λ m. size_of k * m) (length-map f.items whole ∙ f.long) in
       let sum : size_of k * i + size_of k ≡ size_of k * (i + 1) = omega arith in
-      let change' : IsChanged current b c (from + size_of k * i) (size_of k) =
-      subst (λ p. IsChanged current b c p (size_of k)) at w.change in
+      let change' : ChangesBytes current b c (from + size_of k * i) (size_of k) =
+      subst (λ p. ChangesBytes current b c p (size_of k)) at w.change in
       let front = bytes-stay from (spelled k zs) change' (omega arith) f.content in
       let place : to ≡ from + length (spelled k zs) = omega arith in
       record {
@@ -64,8 +67,8 @@ module _ (S : Type 0) {A : Type 0} {gives : S → Option A → S → Type 0} {ca
         callable = go;
         values = subst (λ ys. IsTrue (list_all (is_value k) ys)) (sym more)
             (all-more (is_value k) zs (whole w.item) f.values w.value);
-        change = subst (IsChanged current old c from) sum (changed-trans f.change change');
-        content = subst (Has (bytes_of c.bytes) from) (flat_map_more (spelling k) [] zs (whole w.item)
-            ∙ ap (spelled k) (sym more)) (Has-append (bytes_of c.bytes) from (spelled k zs) bytes front
-            (subst (λ p. Has (bytes_of c.bytes) p bytes) place w.content));
+        change = subst (ChangesBytes current old c from) sum (changed-trans f.change change');
+        content = subst (HasBytesAt (bytes_of c.bytes) from) (flat_map_more (spelling k) [] zs (whole w.item)
+            ∙ ap (spelled k) (sym more)) (HasBytesAt-append (bytes_of c.bytes) from (spelled k zs) bytes front
+            (subst (λ p. HasBytesAt (bytes_of c.bytes) p bytes) place w.content));
       }

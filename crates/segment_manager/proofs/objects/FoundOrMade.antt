@@ -1,9 +1,13 @@
 -- An object found under a key, or constructed where there is none, as a step of the machine.
-use Rattle.segment_manager.proofs.Common.{◌≡◌, sym, ap, ◌∙◌, ℕ, None, Cut, Key, Made, Plan, Reply, bare, State, found}
+use Rattle.segment_manager.proofs.Common.{◌≡◌, sym, ap, ◌∙◌, ℕ, None, WindowState, Key, Made, Plan, Reply, bare}
+use Rattle.segment_manager.proofs.Common.{SegmentState, found}
 use Rattle.segment_manager.proofs.Common.{refl, if◌then◌else◌, pair_answer, with_new_object, pair_of_kind, is_read_only}
-use Rattle.segment_manager.proofs.Common.{false, Option, Result, handle, Exists, Answer, Object, Refuse, IsStep, effect}
-use Rattle.segment_manager.proofs.Common.{Some, Refusal, NoSpace, Content, Refused, kind_of, StandsAt, Answers, Command}
-use Rattle.segment_manager.proofs.Common.{SamePlace, WrongKind, same_kind, Directory, object_at, handle_at, StandsFor}
+use Rattle.segment_manager.proofs.Common.{false, Option, Result, handle, Exists, Answer, Object, Refuse, TakesStep}
+use Rattle.segment_manager.proofs.Common.{effect}
+use Rattle.segment_manager.proofs.Common.{Some, Refusal, NoSpace, Content, Refused, kind_of, IsObjectInBlock}
+use Rattle.segment_manager.proofs.Common.{AnswersWith, Command}
+use Rattle.segment_manager.proofs.Common.{SameSurroundings, WrongKind, same_kind, Directory, object_at, handle_at}
+use Rattle.segment_manager.proofs.Common.{DenotesCurrent}
 use Rattle.segment_manager.proofs.Steps.{by_no_change, by_step, lands, open-writing, step-plan, step-refuse}
 use Rattle.segment_manager.proofs.objects.Constructed.{IsNewObject, IsNoObject}
 use Rattle.segment_manager.proofs.{objects.Here.here, objects.KeyCalls.kind-step}
@@ -19,13 +23,13 @@ made_for d key content r =
       | None ↦ with_new_object d key content (λ o e. Reply (Made (handle o.extent)) e)
     ]
 
-module _ {old : State} {new : Cut} {key : Key} {content : Content} (c : Command) (say : Object → Answer)
-    (writing : is_read_only old.mode ≡ false) (place : SamePlace old.cut new) (asks : ((d : Directory)
+module _ {old : SegmentState} {new : WindowState} {key : Key} {content : Content} (c : Command) (say : Object → Answer)
+    (writing : is_read_only old.mode ≡ false) (place : SameSurroundings old.cut new) (asks : ((d : Directory)
     → object_at d key ≡ None → effect d c ≡ with_new_object d key content (λ o e. Reply (say o) e))) where
   -- A command asks for a new object where no object has the key, and says this of it: it is made.
   pub makes : {h : ℕ} {answer : Answer} → ((d : Directory) → (n : IsNewObject new d key content h)
-      → say n.object ≡ answer) → ((d : Directory) → StandsFor old.cut.bytes d → (object_at d key ≡ None)
-      × IsNewObject new d key content h) → IsStep old (record old { cut = new }) c answer
+      → say n.object ≡ answer) → ((d : Directory) → DenotesCurrent old.cut.bytes d → (object_at d key ≡ None)
+      × IsNewObject new d key content h) → TakesStep old (record old { cut = new }) c answer
   makes {h} said each = by_step c (record { mode = refl; place = place }) (λ d k.
       let n : IsNewObject new d key content h = (each d k).1 in
       lands n.after (record {
@@ -35,8 +39,8 @@ module _ {old : State} {new : Cut} {key : Key} {content : Content} (c : Command)
       }))
 
   -- or a request is refused
-  pub makes-nothing : ((d : Directory) → StandsFor old.cut.bytes d → (object_at d key ≡ None)
-      × IsNoObject new d key content) → IsStep old (record old { cut = new }) c (Refused NoSpace)
+  pub makes-nothing : ((d : Directory) → DenotesCurrent old.cut.bytes d → (object_at d key ≡ None)
+      × IsNoObject new d key content) → TakesStep old (record old { cut = new }) c (Refused NoSpace)
   makes-nothing each = by_step c (record { mode = refl; place = place }) (λ d k. lands d (record {
     is = step-plan old.mode d c (open-writing old.mode c writing) (asks d (each d k).0)
         ∙ (each d k).1.refused (λ o e. Reply (say o) e);
@@ -47,9 +51,9 @@ abbrev pub made_handle : Object → Answer
 made_handle o = Made (handle o.extent)
 
 -- an object has the key
-pub constructs-exists : {s : State} (key : Key) (content : Content) → is_read_only s.mode ≡ false
-    → ((d : Directory) → StandsFor s.cut.bytes d → (o : Object) × (object_at d key ≡ Some o))
-    → IsStep s s (asked.Construct key content) (Refused Exists)
+pub constructs-exists : {s : SegmentState} (key : Key) (content : Content) → is_read_only s.mode ≡ false
+    → ((d : Directory) → DenotesCurrent s.cut.bytes d → (o : Object) × (object_at d key ≡ Some o))
+    → TakesStep s s (asked.Construct key content) (Refused Exists)
 constructs-exists {s} key content writing each = by_no_change s (asked.Construct key content) (Refused Exists) (λ d k.
     step-refuse s.mode d (asked.Construct key content) Exists
     (open-writing s.mode (asked.Construct key content) writing) (ap (made_for d key content) (each d k).1))
@@ -64,10 +68,10 @@ finds d key content r = elim r as (λ _. Plan) [
 -- ---- an object has the key
 
 -- it is answered where it is of the kind
-pub found-there : {s : State} (key : Key) (content : Content) {h : ℕ} {result : Result (ℕ × ℕ) Refusal}
-    → is_read_only s.mode ≡ false → Answers s (λ d. handle_at d key) (Some h)
-    → ((o : Object) → StandsAt s.cut.bytes h o → result ≡ pair_of_kind o (kind_of (bare content)))
-    → IsStep s s (asked.FindOrConstruct key content) (pair_answer result)
+pub found-there : {s : SegmentState} (key : Key) (content : Content) {h : ℕ} {result : Result (ℕ × ℕ) Refusal}
+    → is_read_only s.mode ≡ false → AnswersWith s (λ d. handle_at d key) (Some h)
+    → ((o : Object) → IsObjectInBlock s.cut.bytes h o → result ≡ pair_of_kind o (kind_of (bare content)))
+    → TakesStep s s (asked.FindOrConstruct key content) (pair_answer result)
 found-there {s} key content {h} {result} writing a each =
     by_no_change s (asked.FindOrConstruct key content) (pair_answer result) (λ d st.
     let o = here s.cut.bytes d key h st.denotes (a.answers d st) in

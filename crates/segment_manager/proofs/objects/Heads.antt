@@ -6,7 +6,7 @@ use common.{and_parts, eqb-true, leb-true, Memory, bytes_of, read, Has, word_at,
 use common.{BoolKind, Kind, Scalar, Vector, Map, scalar_code, code_of, class_code, is_kind_of, is_name}
 use common.{is_printable_name, is_text_name, is_control, name_len_at, Object, kind_of, count_of, padded, is_class}
 use common.{has_good_name, is_good_value, is_object, object_len, IsObjectAt, IsEntry, subst, length-append}
-use Rattle.raw_region.proofs.{Facts.first, Facts.second, Bytes.Has-take}
+use Rattle.raw_region.proofs.{Facts.first, Facts.second, Bytes.HasBytesAt-take}
 use Rattle.seg_types.specs.declared.kinds.Class.TheVariants.{Named}
 use Rattle.segment_manager.specs.objects.Heads.{EntriesSayObjects}
 use Rattle.std.proofs.Math.Seq.{take-append_seam}
@@ -58,7 +58,7 @@ good_name-short format o h = good-if format o (is_class Named o) h
 -- the first of two rows of bytes
 pub Has-front : (m : Memory) (at : ℕ) (xs ys : List ℕ) → Has m at (xs ++ ys) → Has m at xs
 Has-front m at xs ys h = subst (Has m at) (take-append_seam xs ys)
-    (Has-take m at (length xs) (xs ++ ys) (omega (arith, length-append xs ys)) h)
+    (HasBytesAt-take m at (length xs) (xs ++ ys) (omega (arith, length-append xs ys)) h)
 
 -- the length of the name
 pub entry-name_len : (m : Memory) (o : Object) → length o.name ≤ 255 → IsObjectAt m o

@@ -1,8 +1,10 @@
 -- The object of a key as it stands in its block, and what is said of it.
-use Rattle.segment_manager.proofs.Common.{◌≡◌, sym, ap, ◌∙◌, ℕ, ◌+◌, Some, None, Ok, Err, List, Key, State, Head}
-use Rattle.segment_manager.proofs.Common.{refl, subst, Option, Result, IsTrue, le-leb, handle, Object, Denotes, Answers}
+use Rattle.segment_manager.proofs.Common.{◌≡◌, sym, ap, ◌∙◌, ℕ, ◌+◌, Some, None, Ok, Err, List, Key, SegmentState, Head}
+use Rattle.segment_manager.proofs.Common.{refl, subst, Option, Result, IsTrue, le-leb, handle, Object, Denotes}
+use Rattle.segment_manager.proofs.Common.{AnswersWith}
 use Rattle.segment_manager.proofs.Common.{option_map, Directory, is_object, object_at, object_len, handle_at, HasObject}
-use Rattle.segment_manager.proofs.Common.{current, has_room, Refusal, NotFound, has_key, StandsAt, IsSegment, IsHeadOf}
+use Rattle.segment_manager.proofs.Common.{current, has_room, Refusal, NotFound, has_key, IsObjectInBlock, IsSegment}
+use Rattle.segment_manager.proofs.Common.{IsHeadOf}
 use Rattle.segment_manager.proofs.objects.ObjectLists.{all-found, each-true, key-found}
 use Rattle.segment_manager.proofs.{Calling.denotes-live, Calling.object-at, Calling.object-room, Frame.object-roomy}
 use Rattle.segment_manager.specs.Calls.{told_at}
@@ -11,7 +13,7 @@ use Rattle.segment_manager.specs.Calls.{told_at}
 
 -- it stands in its block
 pub standing : (b : List ℕ) (d : Directory) (key : Key) (o : Object) → Denotes current b d → object_at d key ≡ Some o
-    → StandsAt b (handle o.extent) o
+    → IsObjectInBlock b (handle o.extent) o
 standing b d key o k e =
     let f = key-found current d key o k.directory e in
     let good = all-found (λ p. IsTrue (is_object current p)) (has_key key) d.objects o
@@ -27,20 +29,20 @@ standing b d key o k e =
 
 -- a head was read of each object that stands at a handle
 abbrev pub IsReadAt : List ℕ → ℕ → Head → Type 0
-IsReadAt b h head = (o : Object) → StandsAt b h o → IsHeadOf o head
+IsReadAt b h head = (o : Object) → IsObjectInBlock b h o → IsHeadOf o head
 
 -- the object that has the handle which a key means
 pub record IsHere (b : List ℕ) (d : Directory) (key : Key) (h : ℕ) : Type 0 where
   pub object : Object
   pub is : object_at d key ≡ Some object
-  pub stands : StandsAt b h object
+  pub stands : IsObjectInBlock b h object
 
 here-if : {b : List ℕ} {d : Directory} {key : Key} {h : ℕ} (r : Option Object) → Denotes current b d
     → object_at d key ≡ r → Some h ≡ option_map (λ (o : Object). handle o.extent) r → IsHere b d key h
 here-if None k e f = absurd (cc)
 here-if {b} {d} {key} {h} (Some o) k e f =
     let same : handle o.extent ≡ h = cc in
-    record { object = o; is = e; stands = subst (λ g. StandsAt b g o) same (standing b d key o k e) }
+    record { object = o; is = e; stands = subst (λ g. IsObjectInBlock b g o) same (standing b d key o k e) }
 
 pub here : (b : List ℕ) (d : Directory) (key : Key) (h : ℕ) → Denotes current b d → Some h ≡ handle_at d key
     → IsHere b d key h
@@ -52,15 +54,18 @@ nothing-if None e = refl
 nothing-if (Some o) e = absurd (cc)
 
 -- some object stands at the handle that was found
-pub has-object : {s : State} (key : Key) {h : ℕ} → IsSegment s.cut.bytes → Answers s (λ d. handle_at d key) (Some h)
+pub has-object : {s : SegmentState} (key : Key) {h : ℕ} → IsSegment s.cut.bytes
+    → AnswersWith s (λ d. handle_at d key) (Some h)
     → HasObject s.cut.bytes h
 has-object {s} key {h} i a =
     let o = here s.cut.bytes i.0 key h i.1.denotes (a.answers i.0 i.1) in
     (o.object, o.stands)
 
 -- what is said of each object that stands there is said of the key's
-pub tells : {A : Type 0} {s : State} (key : Key) {h : ℕ} (say : Object → A) {x : A} → Answers s (λ d. handle_at d key)
-    (Some h) → ((o : Object) → StandsAt s.cut.bytes h o → x ≡ say o) → Answers s (λ d. told_at d key say) (Ok x)
+pub tells : {A : Type 0} {s : SegmentState} (key : Key) {h : ℕ} (say : Object → A) {x : A}
+    → AnswersWith s (λ d. handle_at d key)
+    (Some h) → ((o : Object) → IsObjectInBlock s.cut.bytes h o → x ≡ say o)
+    → AnswersWith s (λ d. told_at d key say) (Ok x)
 tells {A} {s} key {h} say a each = record {
   answers = λ d k.
       let o = here s.cut.bytes d key h k.denotes (a.answers d k) in
@@ -71,16 +76,18 @@ tells {A} {s} key {h} say a each = record {
 -- ---- the same, as the view of the segment is named
 
 -- where a look-up ended, there it ended in the view
-pub seen-handle : (s t : State) (view : s ≡ t) (key : Key) (r : Option ℕ) → Answers t (λ d. handle_at d key) r
-    → Answers s (λ d. handle_at d key) r
-seen-handle s t view key r = subst (λ (u : State). Answers u (λ d. handle_at d key) r) (sym view)
+pub seen-handle : (s t : SegmentState) (view : s ≡ t) (key : Key) (r : Option ℕ)
+    → AnswersWith t (λ d. handle_at d key) r
+    → AnswersWith s (λ d. handle_at d key) r
+seen-handle s t view key r = subst (λ (u : SegmentState). AnswersWith u (λ d. handle_at d key) r) (sym view)
 
-pub seen-object : (s t : State) (view : s ≡ t) (key : Key) (h : ℕ) → IsSegment s.cut.bytes
-    → Answers t (λ d. handle_at d key) (Some h) → HasObject s.cut.bytes h
+pub seen-object : (s t : SegmentState) (view : s ≡ t) (key : Key) (h : ℕ) → IsSegment s.cut.bytes
+    → AnswersWith t (λ d. handle_at d key) (Some h) → HasObject s.cut.bytes h
 seen-object s t view key h i a = has-object key i (seen-handle s t view key (Some h) a)
 
-pub seen-tells : {A : Type 0} {s t : State} (view : s ≡ t) (key : Key) {h : ℕ} (say : Object → A) {x : A}
-    → Answers t (λ d. handle_at d key) (Some h) → ((o : Object) → StandsAt s.cut.bytes h o → x ≡ say o)
-    → Answers t (λ d. told_at d key say) (Ok x)
-seen-tells {A} {s} {t} view key {h} say {x} a each = subst (λ (u : State). Answers u (λ d. told_at d key say) (Ok x))
+pub seen-tells : {A : Type 0} {s t : SegmentState} (view : s ≡ t) (key : Key) {h : ℕ} (say : Object → A) {x : A}
+    → AnswersWith t (λ d. handle_at d key) (Some h) → ((o : Object) → IsObjectInBlock s.cut.bytes h o → x ≡ say o)
+    → AnswersWith t (λ d. told_at d key say) (Ok x)
+seen-tells {A} {s} {t} view key {h} say {x} a each =
+    subst (λ (u : SegmentState). AnswersWith u (λ d. told_at d key say) (Ok x))
     view (tells key say (seen-handle s t view key (Some h) a) each)

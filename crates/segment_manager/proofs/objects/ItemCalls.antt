@@ -21,9 +21,10 @@ use Rattle.segment_manager.proofs.{Steps.step-plan, objects.MadeValues.headed-ch
 use Rattle.segment_manager.proofs.{Steps.step-refuse, objects.Loose.begun-room, objects.NewKeys.key-seeks}
 use Rattle.segment_manager.proofs.{objects.FoundOrMade.makes, objects.Here.here, indexes.Bridge.lookup-absent}
 use Rattle.segment_manager.proofs.{objects.NewKeys.numbers-value, Calling.denotes-live}
-use Rattle.segment_manager.specs.objects.Begun.{Ends, IsEnding, Fills}
+use Rattle.segment_manager.specs.objects.PendingObjects.{Ends, IsEnding, Fills}
 use Rattle.segment_manager.specs.objects.Items.{FindsOrTakes, FindsOrTakesIn, TakesItemsIn}
-use Rattle.segment_manager.specs.{containers.Filled.IsMadeValue, containers.Filled.numbers_shape, declared.containers.fillings.Shape.Shape}
+use Rattle.segment_manager.specs.{containers.Filled.MakesValueOk, containers.Filled.numbers_shape}
+use Rattle.segment_manager.specs.{declared.containers.fillings.ObjectShape.ObjectShape}
 use Rattle.seg_types.specs.Names as names
 use Rattle.seg_types.specs.Commands as asked
 
@@ -129,7 +130,7 @@ module _ (S : Type 0) {A : Type 0} (gives : S → Option A → S → Type 0) (wh
 
   -- the value is that of the items
   made-items : {m w : Cut} (h at : ℕ) → (f : Fills gives whole m w k (h + at) count before after (Ok tt))
-      → IsMadeValue (asked.Numbers k (map whole f.items)) m w (record { handle = h; at = at })
+      → MakesValueOk (asked.Numbers k (map whole f.items)) m w (record { handle = h; at = at })
   made-items {m} {w} h at f =
       numbers-made k (map whole f.items) (good-items f.items f.taken.1 f.values) (subst (λ n. IsChanged current m w
       (h + at) (size_of k * n)) (sym (length-map f.items whole)) f.change) f.content
@@ -272,15 +273,15 @@ module _ (S : Type 0) {A : Type 0} (gives : S → Option A → S → Type 0) (wh
 
 -- a shape of so many numbers
 pub begun-numbers : (a m : Cut) (key : names.Key) {k : ScalarKind} {count : ℕ} (h at : ℕ) (entry : Option NewEntry)
-    {shape : Shape} → shape ≡ numbers_shape k count → IsBegun a m key shape.kind shape.count shape.len h at entry
+    {shape : ObjectShape} → shape ≡ numbers_shape k count → IsBegun a m key shape.kind shape.count shape.len h at entry
     → IsBegun a m key (Scalar k) count (size_of k * count) h at entry
 begun-numbers a m key h at entry same begun =
-    subst (λ (j : Shape). IsBegun a m key j.kind j.count j.len h at entry) same begun
+    subst (λ (j : ObjectShape). IsBegun a m key j.kind j.count j.len h at entry) same begun
 
 -- ---- the same, as the segment is named before the call, and its shape is made for it
 
 module _ (S : Type 0) {A : Type 0} (gives : S → Option A → S → Type 0) (whole : A → ℤ) {s t : State} (view : s ≡ t)
-    (b : IsSegment s.cut.bytes) (key : names.Key) (k : ScalarKind) (count : ℕ) {shape : Shape}
+    (b : IsSegment s.cut.bytes) (key : names.Key) (k : ScalarKind) (count : ℕ) {shape : ObjectShape}
     (same : shape ≡ numbers_shape k count) (writing : is_read_only t.mode ≡ false) (low : 1 ≤ count) (before : S) where
   writes : is_read_only s.mode ≡ false
   writes = subst (λ (u : State). is_read_only u.mode ≡ false) (sym view) writing
@@ -288,7 +289,7 @@ module _ (S : Type 0) {A : Type 0} (gives : S → Option A → S → Type 0) (wh
   none-taken : {why : Refusal} (c : Cut) → IsNotBegun s.cut c key shape.kind shape.len why
       → TakesItems gives whole s (record s { cut = c }) key k count before before (Err why)
   none-taken {why} c not = takes-none S gives whole key k count before why c writes low
-      (subst (λ (j : Shape). IsNotBegun s.cut c key j.kind j.len why) same not)
+      (subst (λ (j : ObjectShape). IsNotBegun s.cut c key j.kind j.len why) same not)
 
   pub refused-segment : (why : Refusal) (c : Cut) → IsNotBegun s.cut c key shape.kind shape.len why → IsSegment c.bytes
   refused-segment why c not = step-segment s (record s { cut = c }) _ _ (none-taken c not).step b
@@ -346,18 +347,21 @@ module _ (S : Type 0) {A : Type 0} (gives : S → Option A → S → Type 0) (wh
       inr (inr (record { writing = writing; missing = none; takes = done mode writing; counted = tt }))
 
   -- it is not begun, with a shape of so many numbers
-  pub none-items : {c : Cut} {shape : Shape} {j : ScalarKind} {why : Refusal} → shape ≡ numbers_shape j count → j ≡ k
+  pub none-items : {c : Cut} {shape : ObjectShape} {j : ScalarKind} {why : Refusal} → shape ≡ numbers_shape j count
+      → j ≡ k
       → 1 ≤ count → IsNotBegun a c key shape.kind shape.len why
       → TakesItemsIn gives whole a c key k count before before (Err why)
-  none-items {c} {why = why} same is low not mode writing = takes-none S gives whole key k count before why c writing low
+  none-items {c} {why = why} same is low not mode writing =
+      takes-none S gives whole key k count before why c writing low
       (subst (λ (l : ScalarKind). IsNotBegun a c key (Scalar l) (size_of l * count) why) is
-      (subst (λ (q : Shape). IsNotBegun a c key q.kind q.len why) same not))
+      (subst (λ (q : ObjectShape). IsNotBegun a c key q.kind q.len why) same not))
 
 -- the key of an entry suits it
-pub shaped-key : (i : Index) (e : Entry) (key : names.Key) (name : List ℕ) {shape : Shape} {j k : ScalarKind} {count : ℕ}
+pub shaped-key : (i : Index) (e : Entry) (key : names.Key) (name : List ℕ) {shape : ObjectShape} {j k : ScalarKind}
+    {count : ℕ}
     → shape ≡ numbers_shape j count → j ≡ k → IsNewKeyOf i e key name (Scalar k) → IsNewKeyOf i e key name shape.kind
 shaped-key i e key name same is new =
-    subst (IsNewKeyOf i e key name) (sym (ap (λ (q : Shape). q.kind) same ∙ ap Scalar is)) new
+    subst (IsNewKeyOf i e key name) (sym (ap (λ (q : ObjectShape). q.kind) same ∙ ap Scalar is)) new
 
 -- no object has the key of an entry that is not there
 pub no-objects : {a : Cut} (i : Index) (e : Entry) (at : ℕ) (key : names.Key) (name : List ℕ) (kind : Kind)

@@ -18,7 +18,8 @@ IsMadeHere a d = (h : ℕ) → a ≡ Made h → is_object_at d h ≡ true
 -- so it is of each reply of a plan
 data MakesHere : Plan → Type 0 where
   by_refusal : {r : Refusal} → MakesHere (Refuse r)
-  by_request : {need : Need} {next : Extent → Plan} → ((x : Extent) → MakesHere (next x)) → MakesHere (Request need next)
+  by_request : {need : Need} {next : Extent → Plan} → ((x : Extent) → MakesHere (next x))
+      → MakesHere (Request need next)
   by_reply : {a : Answer} {d : Directory} → IsMadeHere a d → MakesHere (Reply a d)
 
 refused-here : {r : Refusal} (d : Directory) → IsMadeHere (Refused r) d

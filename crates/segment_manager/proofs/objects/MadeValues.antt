@@ -13,7 +13,7 @@ use Rattle.segment_manager.proofs.objects.Taking.{IsTaken, requested-taken, take
 use Rattle.segment_manager.proofs.{objects.Exchanged.all-but-beside, blocks.NewBlocks.allocated-serves, Order.inserted}
 use Rattle.segment_manager.proofs.{objects.Exchanged.put-first, blocks.NewBlocks.changed-trans, Order.all_of-insert}
 use Rattle.segment_manager.proofs.{Order.live-rises, Order.resized-fresh, Order.rising-insert, Frame.padded_name-length}
-use Rattle.raw_region.proofs.{Facts.second, Facts.no_more, Laws.SameBut-wider}
+use Rattle.raw_region.proofs.{Facts.second, Facts.no_more, Laws.SameBytesExcept-wider}
 use Rattle.best_fit.specs.Fit.{insert}
 
 -- ---- storage that is asked for
@@ -123,7 +123,7 @@ changed-wider : {a b : Cut} {from m : ℕ} {n : ℕ} → m ≤ n → IsChanged c
 changed-wider {a} {b} {from} {m} {n} l c = record {
   place = c.place;
   live = c.live;
-  rest = SameBut-wider (bytes_of a.bytes) (bytes_of b.bytes) from m from n c.rest (omega arith) (omega arith);
+  rest = SameBytesExcept-wider (bytes_of a.bytes) (bytes_of b.bytes) from m from n c.rest (omega arith) (omega arith);
 }
 
 -- what was written behind the head stands in the payload

@@ -3,7 +3,8 @@ use Rattle.segment_manager.proofs.Common as common
 use common.{◌≡◌, sym, ◌∙◌, zero, suc, ◌≤◌, Bool, true, ◌&&◌, ◌==◌, None, List, Kind, Name, Code, Seeks, refl, subst}
 use common.{arith, IsTrue, nat_le, eq-eqb, le-leb, Extent, serves, Index, Named, Unique, Value, Object, ap, length}
 use common.{and_from, current, code_of, is_value, is_name, Numbers, has_key, kind_of, class_of, name_of, ℕ}
-use common.{Memory, handle, IsEntry, length-replicate, ObjectRole, ScalarKind, is_text_name, has_good_name, is_good_value, class_of_index, ℤ}
+use common.{Memory, handle, IsEntry, length-replicate, ObjectRole, ScalarKind, is_text_name, has_good_name}
+use common.{is_good_value, class_of_index, ℤ}
 use common.{replicate, list_all, is_kind_of, Directory, is_object, object_at, object_len, same_bytes, IsNewKeyOf}
 use Rattle.segment_manager.proofs.{indexes.Entered.key_in, indexes.KeyOrder.same-itself, objects.Heads.name-short}
 use Rattle.segment_manager.proofs.indexes.Bridge.{seeks-sort}

@@ -1,22 +1,25 @@
 -- Numbers as the value of a new object, and a map without pairs: they ask for no block but the object's own.
 use Rattle.segment_manager.proofs.Common.{◌≡◌, refl, sym, ap, subst, ◌∙◌, ℕ, ◌*◌, ◌≤◌, ◌∷◌, ◌++◌, ℤ, Option, None, List}
-use Rattle.segment_manager.proofs.Common.{[], length, replicate, IsTrue, AllByRecursion, length-replicate, current, Cut}
-use Rattle.segment_manager.proofs.Common.{Has, Memory, bytes_of, Tree, fork, leaf, nodes_of, IsExchanged, SameBlockBut}
-use Rattle.segment_manager.proofs.Common.{Extent, cells_of, IsChanged, LaysOut, live_of, laid-heap, ScalarKind, Plain}
+use Rattle.segment_manager.proofs.Common.{[], length, replicate, IsTrue, AllByRecursion, length-replicate, current}
+use Rattle.segment_manager.proofs.Common.{WindowState}
+use Rattle.segment_manager.proofs.Common.{HasBytesAt, Memory, bytes_of, Tree, fork, leaf, nodes_of, ExchangesBlocks}
+use Rattle.segment_manager.proofs.Common.{SameBlockExcept}
+use Rattle.segment_manager.proofs.Common.{Extent, cells_of, ChangesBytes, EncodesLiveSet, live_of, laid-heap}
+use Rattle.segment_manager.proofs.Common.{ScalarKind, Plain}
 use Rattle.segment_manager.proofs.Common.{is_value, size_of, spelling, Place, place_at, spelled, Numbers}
-use Rattle.segment_manager.proofs.{Common.Pairs, Common.IsMadeValue, Common.repeated, objects.NewKeys.equal-good}
+use Rattle.segment_manager.proofs.{Common.Pairs, Common.MakesValueOk, Common.repeated, objects.NewKeys.equal-good}
 use Rattle.segment_manager.proofs.{Common.is_good_value, blocks.Blocks.spelling-length, objects.Rows.repeated-spelled}
 use Rattle.link_tree.specs.Tree.{IsTree}
-use Rattle.seg_map.specs.Changing.{IsNew}
+use Rattle.seg_map.specs.Changing.{InitsMap}
 use Rattle.seg_types.specs.Commands as asked
 
-all-stay : (m : Memory) (from n : ℕ) (xs : List Extent) → AllByRecursion (SameBlockBut m m from n) xs
+all-stay : (m : Memory) (from n : ℕ) (xs : List Extent) → AllByRecursion (SameBlockExcept m m from n) xs
 all-stay m from n [] = tt
 all-stay m from n (x ∷ xs) = (record { payload = λ k f g h. refl; colour = refl }, all-stay m from n xs)
 
 -- no block is taken
-nothing-exchanged : {c : Cut} {from n : ℕ} → LaysOut current c.bytes (live_of c.bytes)
-    → IsExchanged current c c from n [] []
+nothing-exchanged : {c : WindowState} {from n : ℕ} → EncodesLiveSet current c.bytes (live_of c.bytes)
+    → ExchangesBlocks current c c from n [] []
 nothing-exchanged {c} {from} {n} laid = record {
   live = laid;
   place = record { before = refl; after = refl };
@@ -28,9 +31,10 @@ nothing-exchanged {c} {from} {n} laid = record {
 -- ---- numbers
 
 -- they are written
-pub numbers-made : (k : ScalarKind) (zs : List ℤ) {old new : Cut} {p : Place} → IsTrue (is_good_value (Numbers k zs))
-    → IsChanged current old new (place_at p) (size_of k * length zs)
-    → Has (bytes_of new.bytes) (place_at p) (spelled k zs) → IsMadeValue (asked.Numbers k zs) old new p
+pub numbers-made : (k : ScalarKind) (zs : List ℤ) {old new : WindowState} {p : Place}
+    → IsTrue (is_good_value (Numbers k zs))
+    → ChangesBytes current old new (place_at p) (size_of k * length zs)
+    → HasBytesAt (bytes_of new.bytes) (place_at p) (spelled k zs) → MakesValueOk (asked.Numbers k zs) old new p
 numbers-made k zs {old} {new} good change says = record {
   empty = new;
   change = change;
@@ -46,15 +50,15 @@ numbers-made k zs {old} {new} good change says = record {
 }
 
 -- the spelling of one number, so many times
-pub equal-made : (k : ScalarKind) (count : ℕ) (z : ℤ) (old new : Cut) (p : Place) (bytes : List ℕ) → 1 ≤ count
-    → count ≤ 1048576 → IsTrue (is_value k z) → bytes ≡ spelling k z → IsChanged current old new (place_at p)
-    (length bytes * count) → Has (bytes_of new.bytes) (place_at p) (repeated count bytes)
-    → IsMadeValue (asked.Numbers k (replicate count z)) old new p
+pub equal-made : (k : ScalarKind) (count : ℕ) (z : ℤ) (old new : WindowState) (p : Place) (bytes : List ℕ) → 1 ≤ count
+    → count ≤ 1048576 → IsTrue (is_value k z) → bytes ≡ spelling k z → ChangesBytes current old new (place_at p)
+    (length bytes * count) → HasBytesAt (bytes_of new.bytes) (place_at p) (repeated count bytes)
+    → MakesValueOk (asked.Numbers k (replicate count z)) old new p
 equal-made k count z old new p bytes low high value spelt change says =
     let size : length bytes ≡ size_of k = ap (λ (bs : List ℕ). length bs) spelt ∙ spelling-length k z in
     numbers-made k (replicate count z) (equal-good k count z low high value)
-    (subst (IsChanged current old new (place_at p)) (λ j. size j * sym (length-replicate count z) j) change)
-    (subst (Has (bytes_of new.bytes) (place_at p)) (ap (repeated count) spelt ∙ repeated-spelled k count z) says)
+    (subst (ChangesBytes current old new (place_at p)) (λ j. size j * sym (length-replicate count z) j) change)
+    (subst (HasBytesAt (bytes_of new.bytes) (place_at p)) (ap (repeated count) spelt ∙ repeated-spelled k count z) says)
 
 -- ---- a map without pairs
 
@@ -67,8 +71,8 @@ no-root m (fork red left n right) k e = absurd (not-empty (nodes_of left) n (nod
     not-empty (x ∷ xs) n ys f = cc
 
 -- it is one of any types
-pub map-made : {K V : Type 0} (k v : ScalarKind) (kp : Plain K) (vp : Plain V) {old new : Cut} {p : Place}
-    → IsNew kp vp old new p.handle p.at → IsMadeValue (asked.NoPairs k v) old new p
+pub map-made : {K V : Type 0} (k v : ScalarKind) (kp : Plain K) (vp : Plain V) {old new : WindowState} {p : Place}
+    → InitsMap kp vp old new p.handle p.at → MakesValueOk (asked.NoPairs k v) old new p
 map-made k v kp vp {new} r =
     let s = r.map in
     record {

@@ -20,7 +20,7 @@ use Rattle.segment_manager.proofs.{objects.Heads.object-entry, blocks.NewBlocks.
 use Rattle.segment_manager.proofs.objects.NewKeys.{key-object, key-of, key-seeks, key-short, key-sort, object_of}
 use Rattle.segment_manager.proofs.{Live.adding, Steps.perform-new, indexes.HeldIndexes.denotes-sorted}
 use Rattle.seg_index.specs.declared.keys.Entry.{Entry}
-use Rattle.segment_manager.specs.objects.Begun.{GivesAllBack, IsEntryAdded}
+use Rattle.segment_manager.specs.objects.PendingObjects.{GivesAllBack, IsEntryAdded}
 use Rattle.seg_index.proofs.Laws.{ObjectStays, belongs-at, keeps-sorted, place_behind, place_small, stays-trans}
 use Rattle.seg_index.specs.Sorted.{BelongsAt}
 use Rattle.seg_types.specs.Names as names
@@ -41,7 +41,8 @@ no_key-none [] = refl
 no_key-none (o ∷ os) = no_key-none os
 
 -- what a look-up that finds no entry says of each directory
-pub away-in : (i : Index) {a : Cut} {d : Directory} (e : Entry) (at : ℕ) → Denotes current a.bytes d → IsAbsentAt a i e at
+pub away-in : (i : Index) {a : Cut} {d : Directory} (e : Entry) (at : ℕ) → Denotes current a.bytes d
+    → IsAbsentAt a i e at
     → IsPlace (bytes_of a.bytes) e (entries_of i d) (Absent at)
 away-in i {a} {d} e at said away = away (table_of i d) (entries_of i d) (denotes-index i a said)
 
@@ -227,7 +228,8 @@ module _ (content : Content) where
         let short = key-short i g.entry key g.name (kind_of r.value) new in
         let belongs = belongs-at {a = a} {b = w} g.entry e.place (handle took.extent)
         (key-sort i g.entry key g.name (kind_of r.value) new) sorted stay (made-key i made)
-        (key-of i g.entry key {m = bytes_of w.bytes} g.name o new refl (object-entry (bytes_of w.bytes) o short made.at))
+        (key-of i g.entry key {m = bytes_of w.bytes} g.name o new refl
+        (object-entry (bytes_of w.bytes) o short made.at))
         (g.absent t hs x) in
         record {
           entry = record {

@@ -1,20 +1,24 @@
 -- An object that is not begun: why, and what the directory is then.
-use Rattle.segment_manager.proofs.Common.{◌≡◌, sym, ap, subst, ◌∙◌, inl, inr, Some, [], Cut, place, Object, live, bare}
-use Rattle.segment_manager.proofs.Common.{refl, ObjectRole, IsNotBegun, IsTakenKey, object_len, with_object, entries_of}
-use Rattle.segment_manager.proofs.Common.{current, NoSpace, Content, Denotes, kind_of, table_of, room_for, StandsFor}
-use Rattle.segment_manager.proofs.Common.{SamePlace, IsRefused, Anonymous, Directory, object_at, value_len, with_value}
+use Rattle.segment_manager.proofs.Common.{◌≡◌, sym, ap, subst, ◌∙◌, inl, inr, Some, [], WindowState, place, Object}
+use Rattle.segment_manager.proofs.Common.{live, bare}
+use Rattle.segment_manager.proofs.Common.{refl, ObjectRole, IsNotBegun, RefusesKey, object_len, with_object, entries_of}
+use Rattle.segment_manager.proofs.Common.{current, NoSpace, Content, Denotes, kind_of, table_of, room_for}
+use Rattle.segment_manager.proofs.Common.{DenotesCurrent}
+use Rattle.segment_manager.proofs.Common.{SameSurroundings, AllocatesNoSpace, Anonymous, Directory, object_at}
+use Rattle.segment_manager.proofs.Common.{value_len, with_value}
 use Rattle.segment_manager.proofs.objects.Constructed.{content-none, restored-denotes}
 use Rattle.segment_manager.proofs.objects.NewValues.{no_key-none, away-in, IsMadeNever}
 use Rattle.segment_manager.proofs.{indexes.Bridge.lookup-absent, indexes.Bridge.lookup-found, Calling.denotes-live}
 use Rattle.segment_manager.proofs.{indexes.HeldIndexes.denotes-index, objects.NewKeys.key-seeks, Steps.perform-no_space}
-use Rattle.segment_manager.specs.objects.Begun.{IsUnmetEntry}
+use Rattle.segment_manager.specs.objects.PendingObjects.{BeginsEntryErr}
 use Rattle.seg_types.specs.Names as names
 
 -- ---- it is not begun
 
-module _ {a : Cut} (key : names.Key) (content : Content) where
+module _ {a : WindowState} (key : names.Key) (content : Content) where
   -- an object has the key
-  pub key-taken : {c : Cut} → (t : IsTakenKey a c key (kind_of (bare content))) → (d : Directory) → StandsFor a.bytes d
+  pub key-taken : {c : WindowState} → (t : RefusesKey a c key (kind_of (bare content))) → (d : Directory)
+      → DenotesCurrent a.bytes d
       → (o : Object) × (object_at d key ≡ Some o)
   key-taken t d st =
       let f = lookup-found t.index a t.entry key st.denotes
@@ -22,10 +26,10 @@ module _ {a : Cut} (key : names.Key) (content : Content) where
       (t.found (table_of t.index d) (entries_of t.index d) (denotes-index t.index a st.denotes)) in
       (f.object, f.is)
 
-  none-alone : {c : Cut} → IsRefused a c (room_for [] (value_len (bare content))) ObjectRole
+  none-alone : {c : WindowState} → AllocatesNoSpace a c (room_for [] (value_len (bare content))) ObjectRole
       → IsMadeNever a c names.NoKey content
   none-alone r = record {
-    place = subst (SamePlace a) (sym r.same) (record { before = refl; after = refl });
+    place = subst (SameSurroundings a) (sym r.same) (record { before = refl; after = refl });
     each = λ d st. (
       no_key-none d.objects,
       record {
@@ -33,12 +37,12 @@ module _ {a : Cut} (key : names.Key) (content : Content) where
             (λ w. let o : Object = record { class = Anonymous; name = []; value = w; extent = x } in
             next o (with_object d o))) (ap (λ l. place l (object_len [] (bare content)) ObjectRole)
             (sym (denotes-live current a.bytes d st.denotes)) ∙ r.none);
-        denotes = subst (λ (u : Cut). Denotes current u.bytes d) (sym r.same) st.denotes;
+        denotes = subst (λ (u : WindowState). Denotes current u.bytes d) (sym r.same) st.denotes;
       },
     );
   }
 
-  none-entry : {c : Cut} → IsUnmetEntry a c key (kind_of (bare content)) (value_len (bare content))
+  none-entry : {c : WindowState} → BeginsEntryErr a c key (kind_of (bare content)) (value_len (bare content))
       → IsMadeNever a c key content
   none-entry {c} u = record {
     place = u.unmet.restored.keeps.place;
@@ -55,7 +59,8 @@ module _ {a : Cut} (key : names.Key) (content : Content) where
   }
 
   -- a block is refused
-  pub value-not_begun : {c : Cut} → IsNotBegun a c key (kind_of (bare content)) (value_len (bare content)) NoSpace
+  pub value-not_begun : {c : WindowState}
+      → IsNotBegun a c key (kind_of (bare content)) (value_len (bare content)) NoSpace
       → IsMadeNever a c key content
   value-not_begun {c} (inl r) = subst (λ (q : names.Key). IsMadeNever a c q content) (sym r.0) (none-alone r.1)
   value-not_begun (inr u) = none-entry u

@@ -1,9 +1,10 @@
 -- The object of a handle, and the entry that it has.
 use Rattle.segment_manager.proofs.Common.{◌≡◌, refl, sym, ap, subst, ◌∙◌, ℕ, true, false, ◌==◌, Some, None, Option}
 use Rattle.segment_manager.proofs.Common.{List, is_some, none-some, bytes_of, handle, Class, class_code, code_of, Index}
-use Rattle.segment_manager.proofs.Common.{Absent, IsPlace, Head, Object, Directory, is_class, kind_of, object_at}
-use Rattle.segment_manager.proofs.Common.{handle_at, is_object_at, HasEntries, HasEntry, IsAnonymousAt, Answers}
-use Rattle.segment_manager.proofs.Common.{IsSegment, State, HasObject, StandsAt, StandsFor}
+use Rattle.segment_manager.proofs.Common.{Absent, FindsPosition, Head, Object, Directory, is_class, kind_of, object_at}
+use Rattle.segment_manager.proofs.Common.{handle_at, is_object_at, HasEntries, HasIndexEntry, IsAnonymousAt}
+use Rattle.segment_manager.proofs.Common.{AnswersWith}
+use Rattle.segment_manager.proofs.Common.{IsSegment, SegmentState, HasObject, IsObjectInBlock, DenotesCurrent}
 use Rattle.segment_manager.proofs.objects.Here.{IsHere, IsReadAt, here, has-object}
 use Rattle.segment_manager.proofs.indexes.Bridge.{lookup-absent, own-kind, own-name}
 use Rattle.segment_manager.proofs.objects.KeyCalls.{handle-answers, of-directory, ForIndex}
@@ -16,21 +17,21 @@ use Rattle.seg_index.specs.declared.keys.Entry.TheVariants as entry
 -- ---- the object of a handle
 
 -- the handle means itself
-itself : {s : State} {h : ℕ} → Answers s (λ d. is_object_at d h) true
-    → Answers s (λ d. handle_at d (names.ByHandle h)) (Some h)
+itself : {s : SegmentState} {h : ℕ} → AnswersWith s (λ d. is_object_at d h) true
+    → AnswersWith s (λ d. handle_at d (names.ByHandle h)) (Some h)
 itself {h} a = handle-answers h a
 
-pub object-here : {s : State} {h : ℕ} → Answers s (λ d. is_object_at d h) true → (d : Directory)
-    → StandsFor s.cut.bytes d → IsHere s.cut.bytes d (names.ByHandle h) h
+pub object-here : {s : SegmentState} {h : ℕ} → AnswersWith s (λ d. is_object_at d h) true → (d : Directory)
+    → DenotesCurrent s.cut.bytes d → IsHere s.cut.bytes d (names.ByHandle h) h
 object-here {s} {h} a d k = here s.cut.bytes d (names.ByHandle h) h k.denotes ((itself a).answers d k)
 
 -- as the view before the call names the segment
-pub seen-there : {s t : State} (view : s ≡ t) (h : ℕ) → Answers t (λ d. is_object_at d h) true
-    → Answers s (λ d. is_object_at d h) true
-seen-there view h = subst (λ (u : State). Answers u (λ d. is_object_at d h) true) (sym view)
+pub seen-there : {s t : SegmentState} (view : s ≡ t) (h : ℕ) → AnswersWith t (λ d. is_object_at d h) true
+    → AnswersWith s (λ d. is_object_at d h) true
+seen-there view h = subst (λ (u : SegmentState). AnswersWith u (λ d. is_object_at d h) true) (sym view)
 
-pub has-own_object : {s t : State} (view : s ≡ t) (h : ℕ) → IsSegment s.cut.bytes
-    → Answers t (λ d. is_object_at d h) true → HasObject s.cut.bytes h
+pub has-own_object : {s t : SegmentState} (view : s ≡ t) (h : ℕ) → IsSegment s.cut.bytes
+    → AnswersWith t (λ d. is_object_at d h) true → HasObject s.cut.bytes h
 has-own_object view h i a = has-object (names.ByHandle h) i (itself (seen-there view h a))
 
 none-if : (r : Option Object) → false ≡ is_some r → r ≡ None
@@ -38,8 +39,8 @@ none-if None e = refl
 none-if (Some o) e = absurd (cc)
 
 -- or no object has it
-pub no-object : {s : State} (h : ℕ) → Answers s (λ d. is_object_at d h) false → (d : Directory)
-    → StandsFor s.cut.bytes d → object_at d (names.ByHandle h) ≡ None
+pub no-object : {s : SegmentState} (h : ℕ) → AnswersWith s (λ d. is_object_at d h) false → (d : Directory)
+    → DenotesCurrent s.cut.bytes d → object_at d (names.ByHandle h) ≡ None
 no-object h a d k = none-if (object_at d (names.ByHandle h)) (a.answers d k)
 
 -- ---- what its head says of its entry
@@ -56,21 +57,23 @@ abbrev pub IsNamed : Entry → List ℕ → Type 0
 IsNamed (entry.Name bytes) name = bytes.now ≡ name
 IsNamed (entry.Code n) name = ⊥
 
-module _ {s t : State} (view : s ≡ t) {h : ℕ} {head : Head} (a : Answers t (λ d. is_object_at d h) true)
+module _ {s t : SegmentState} (view : s ≡ t) {h : ℕ} {head : Head} (a : AnswersWith t (λ d. is_object_at d h) true)
     (r : IsReadAt s.cut.bytes h head) where
-  here-in : (d : Directory) → StandsFor s.cut.bytes d → IsHere s.cut.bytes d (names.ByHandle h) h
+  here-in : (d : Directory) → DenotesCurrent s.cut.bytes d → IsHere s.cut.bytes d (names.ByHandle h) h
   here-in = object-here (seen-there view h a)
 
   -- it has no key
   pub listed-none : head.class ≡ class.Anonymous → IsAnonymousAt t h
-  listed-none e = subst (λ (u : State). IsAnonymousAt u h) view (λ d k.
+  listed-none e = subst (λ (u : SegmentState). IsAnonymousAt u h) view (λ d k.
       let o = here-in d k in
       (o.object, o.is, sym (r o.object o.stands).class ∙ e))
 
   -- it has a name
-  pub listed-name : (e : Entry) → head.class ≡ class.Named → ((o : Object) → StandsAt s.cut.bytes h o → IsNamed e o.name)
+  pub listed-name : (e : Entry) → head.class ≡ class.Named
+      → ((o : Object) → IsObjectInBlock s.cut.bytes h o → IsNamed e o.name)
       → HasEntries t index.Named e h
-  listed-name (entry.Name bytes) e n = subst (λ (u : State). HasEntries u index.Named (entry.Name bytes) h) view (λ d k.
+  listed-name (entry.Name bytes) e n =
+      subst (λ (u : SegmentState). HasEntries u index.Named (entry.Name bytes) h) view (λ d k.
       let o = here-in d k in
       record {
         object = o.object;
@@ -80,13 +83,13 @@ module _ {s t : State} (view : s ≡ t) {h : ℕ} {head : Head} (a : Answers t (
         found = own-name k.denotes.directory (by-own_handle d o.stands.at o.is)
             (own-class o.object (sym (r o.object o.stands).class ∙ e) refl);
       })
-  listed-name (entry.Code n) e m = subst (λ (u : State). HasEntries u index.Named (entry.Code n) h) view
+  listed-name (entry.Code n) e m = subst (λ (u : SegmentState). HasEntries u index.Named (entry.Code n) h) view
       (λ d k. absurd (m (here-in d k).object (here-in d k).stands))
 
   -- it is the only one of its kind
   pub listed-kind : {n : ℕ} → head.class ≡ class.Unique → n ≡ code_of head.kind
       → HasEntries t index.Unique (entry.Code n) h
-  listed-kind {n} e f = subst (λ (u : State). HasEntries u index.Unique (entry.Code n) h) view (λ d k.
+  listed-kind {n} e f = subst (λ (u : SegmentState). HasEntries u index.Unique (entry.Code n) h) view (λ d k.
       let o = here-in d k in let said = r o.object o.stands in
       record {
         object = o.object;
@@ -98,9 +101,10 @@ module _ {s t : State} (view : s ≡ t) {h : ℕ} {head : Head} (a : Answers t (
       })
 
 -- an entry that an object has is found
-pub listed-found : {s t : State} (view : s ≡ t) (i : Index) (e : Entry) (h at : ℕ)
-    → ForIndex s.cut i (λ hs. IsPlace (bytes_of s.cut.bytes) e hs (Absent at)) → HasEntries t i e h → IsAnonymousAt t h
-listed-found {s} view i e h at f each = subst (λ (u : State). IsAnonymousAt u h) view (λ d k.
-    let x : HasEntry i e d h = subst (λ (u : State). HasEntries u i e h) (sym view) each d k in
+pub listed-found : {s t : SegmentState} (view : s ≡ t) (i : Index) (e : Entry) (h at : ℕ)
+    → ForIndex s.cut i (λ hs. FindsPosition (bytes_of s.cut.bytes) e hs (Absent at)) → HasEntries t i e h
+    → IsAnonymousAt t h
+listed-found {s} view i e h at f each = subst (λ (u : SegmentState). IsAnonymousAt u h) view (λ d k.
+    let x : HasIndexEntry i e d h = subst (λ (u : SegmentState). HasEntries u i e h) (sym view) each d k in
     absurd (none-some x.object (sym (lookup-absent i s.cut e x.key k.denotes x.seeks
-    (of-directory s i (λ hs. IsPlace (bytes_of s.cut.bytes) e hs (Absent at)) k f)).none ∙ x.found)))
+    (of-directory s i (λ hs. FindsPosition (bytes_of s.cut.bytes) e hs (Absent at)) k f)).none ∙ x.found)))

@@ -1,7 +1,9 @@
 -- An object with another value: where the value stands, and that its head and name stay.
-use Rattle.segment_manager.proofs.Common.{◌≡◌, sym, ◌∙◌, ℕ, ◌+◌, length, arith, Memory, Same, handle, code_of, Value}
+use Rattle.segment_manager.proofs.Common.{◌≡◌, sym, ◌∙◌, ℕ, ◌+◌, length, arith, Memory, SameBytes, handle, code_of}
+use Rattle.segment_manager.proofs.Common.{Value}
 use Rattle.segment_manager.proofs.Common.{Object, count_of, kind_of, padded, IsObjectAt, IsValueAt, padded_name}
-use Rattle.segment_manager.proofs.{Common.two_halves, Common.Has-same, Common.Same-word, Frame.padded_name-length}
+use Rattle.segment_manager.proofs.{Common.two_halves, Common.HasBytesAt-same, Common.SameBytes-word}
+use Rattle.segment_manager.proofs.{Frame.padded_name-length}
 
 -- where the value of an object stands
 abbrev pub value_start : Object → ℕ
@@ -15,14 +17,15 @@ with_value o v = record o { value = v }
 
 -- its head and name stay, and the value is another, of the same kind and count
 pub object-held : (m m' : Memory) (o : Object) (v : Value) → IsObjectAt m o → kind_of v ≡ kind_of o.value
-    → count_of v ≡ count_of o.value → Same m m' (handle o.extent) (value_start o) → IsValueAt m' (value_start o) v
+    → count_of v ≡ count_of o.value → SameBytes m m' (handle o.extent) (value_start o) → IsValueAt m' (value_start o) v
     → IsObjectAt m' (with_value o v)
 object-held m m' o v h kind count s w = record {
-  kind_count = Same-word m m' (handle o.extent) (value_start o) (handle o.extent) s (omega arith) (omega arith)
+  kind_count = SameBytes-word m m' (handle o.extent) (value_start o) (handle o.extent) s (omega arith) (omega arith)
       ∙ h.kind_count ∙ (λ i. two_halves (code_of (sym kind i)) (sym count i));
-  name_class = Same-word m m' (handle o.extent) (value_start o) (handle o.extent + 8) s (omega arith) (omega arith)
+  name_class = SameBytes-word m m' (handle o.extent) (value_start o) (handle o.extent + 8) s (omega arith) (omega arith)
       ∙ h.name_class;
-  name = Has-same m m' (handle o.extent) (value_start o) (handle o.extent + 16) (padded_name o.name) s (omega arith)
+  name = HasBytesAt-same m m' (handle o.extent) (value_start o) (handle o.extent + 16) (padded_name o.name) s
+      (omega arith)
       (omega (arith, padded_name-length o.name)) h.name;
   value = w;
 }

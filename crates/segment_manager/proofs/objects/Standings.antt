@@ -1,7 +1,8 @@
 -- What is known of an object that stands in its block.
 use Rattle.segment_manager.proofs.Common.{◌≡◌, ap, ◌∙◌, ◌+◌, ◌-◌, ◌*◌, ◌/◌, ◌%◌, ◌≤◌, List, arith, read, Object, padded}
 use Rattle.segment_manager.proofs.Common.{ℕ, replicate, bytes_of, has_room, class_code, count_of, object_len, value_len}
-use Rattle.segment_manager.proofs.Common.{length, IsTrue, current, word_at, handle, live_of, code_of, kind_of, StandsAt}
+use Rattle.segment_manager.proofs.Common.{length, IsTrue, current, word_at, handle, live_of, code_of, kind_of}
+use Rattle.segment_manager.proofs.Common.{IsObjectInBlock}
 use Rattle.segment_manager.proofs.Common.{sym, Kind, kind_of_code, same_Some}
 use Rattle.segment_manager.proofs.Codes.{code-read}
 use Rattle.segment_manager.proofs.objects.Heads.{Has-front, good-name, good_name-short, object-entry}
@@ -9,7 +10,7 @@ use Rattle.best_fit.proofs.Laws.{room-less}
 use Rattle.segment_manager.specs.objects.Located.{located}
 
 -- its name is short
-pub standing-short : (b : List ℕ) (h : ℕ) (o : Object) → StandsAt b h o → length o.name ≤ 255
+pub standing-short : (b : List ℕ) (h : ℕ) (o : Object) → IsObjectInBlock b h o → length o.name ≤ 255
 standing-short b h o s = good_name-short current o (good-name current o s.good)
 
 -- the two words at its handle
@@ -19,7 +20,7 @@ pub record HeadWords (b : List ℕ) (h : ℕ) (o : Object) : Type 0 where
   pub name_len : word_at (bytes_of b) (h + 8) % 4294967296 ≡ length o.name
   pub class : word_at (bytes_of b) (h + 8) / 4294967296 ≡ class_code o.class
 
-pub head-words : {b : List ℕ} {h : ℕ} {o : Object} → StandsAt b h o → HeadWords b h o
+pub head-words : {b : List ℕ} {h : ℕ} {o : Object} → IsObjectInBlock b h o → HeadWords b h o
 head-words {b} {h} {o} s =
     let e = object-entry (bytes_of b) o (standing-short b h o s) s.said in
     let behind : word_at (bytes_of b) (handle o.extent + 8) ≡ length o.name + 4294967296 * class_code o.class =
@@ -36,7 +37,7 @@ one-kind : {k l : Kind} → code_of k ≡ code_of l → k ≡ l
 one-kind {k} {l} e = same_Some k l (sym (code-read k) ∙ ap kind_of_code e ∙ code-read l)
 
 -- so the same is said of all that stands there
-pub alike : {b : List ℕ} {h : ℕ} {o p : Object} → StandsAt b h o → StandsAt b h p → located o ≡ located p
+pub alike : {b : List ℕ} {h : ℕ} {o p : Object} → IsObjectInBlock b h o → IsObjectInBlock b h p → located o ≡ located p
 alike s t =
     let u = head-words s in let v = head-words t in let kind = one-kind (sym u.code ∙ v.code) in λ i. record {
       handle = (sym s.at ∙ t.at) i;
@@ -46,12 +47,12 @@ alike s t =
     }
 
 -- its block has room for its head and name, and for its value
-pub standing-room : (b : List ℕ) (h n : ℕ) (o : Object) → StandsAt b h o
+pub standing-room : (b : List ℕ) (h n : ℕ) (o : Object) → IsObjectInBlock b h o
     → n ≤ 16 + padded (length o.name) + value_len o.value → IsTrue (has_room (live_of b) h n)
 standing-room b h n o s l = room-less (live_of b) h (object_len o.name o.value) n l s.room
 
 -- its name stands behind the two words
-pub standing-name : {b : List ℕ} {h : ℕ} {o : Object} → StandsAt b h o
+pub standing-name : {b : List ℕ} {h : ℕ} {o : Object} → IsObjectInBlock b h o
     → read (bytes_of b) (h + 16) (length o.name) ≡ o.name
 standing-name {b} {o} s =
     ap (λ a. read (bytes_of b) (a + 16) (length o.name)) s.at ∙ (Has-front (bytes_of b) (handle o.extent + 16) o.name

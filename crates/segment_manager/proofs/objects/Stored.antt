@@ -3,7 +3,8 @@ use Rattle.segment_manager.proofs.Common as common
 use common.{◌≡◌, Option, Result, length, IsTrue, nat_lt, handle, Scalar, Object, padded, eq-eqb, Answer, Refuse, effect}
 use common.{refl, subst, zero, Bool, true, false, Some, None, List, arith, read, State, Mode, Done, live, Reply, with}
 use common.{sym, ap, ◌∙◌, suc, ◌+◌, ◌*◌, ◌<◌, ◌≤◌, pos, Ok, Err, [], ◌∷◌, Has, Key, get, map}
-use common.{ℕ, list_all, ltb-true, bytes_of, has_room, option_map, Located, slice_set, ltb-false, IsSegment, answer_of, values_of}
+use common.{ℕ, list_all, ltb-true, bytes_of, has_room, option_map, Located, slice_set, ltb-false, IsSegment, answer_of}
+use common.{values_of}
 use common.{ℤ, live_of, Refusal, NotFound, is_value, size_of, spelling, spelled, count_of, StandsAt, BoolKind, and_then}
 use common.{get_or, Numbers, kind_of, Denotes, Answers, code_of, Literal, Element, Refused, perform, changed, Command}
 use common.{if◌then◌else◌, ScalarKind, OutOfRange, is_good_value, MatchOption, false≢true, IsReplyOfKind, step_of_kind}
@@ -12,7 +13,8 @@ use common.{mul-le-mul_left, slice_get-get_or, slice_get_within, slice_get_past,
 use Rattle.segment_manager.proofs.Steps.{open-reading, step_of_kind-found, step_of_kind-not_found, step_of_kind-other}
 use Rattle.segment_manager.proofs.{Steps.with-found, Steps.IsOpenFor, Codes.numbers-only, Frame.object-roomy}
 use Rattle.segment_manager.proofs.{objects.Standings.standing-room, containers.ContentPlans.of_slice}
-use Rattle.segment_manager.proofs.{objects.Here.standing, objects.Rows.Has-element, blocks.Blocks.spelling-length}
+use Rattle.segment_manager.proofs.{objects.Here.standing, objects.Rows.HasBytesAt-element}
+use Rattle.segment_manager.proofs.{blocks.Blocks.spelling-length}
 use Rattle.raw_region.proofs.Facts.{first, second}
 use Rattle.best_fit.specs.declared.places.Place.{Place}
 use Rattle.segment_manager.specs.objects.Located.{element_in, located, located_at}
@@ -161,7 +163,7 @@ module _ (b : List ℕ) (d : Directory) (key : Key) (k : ScalarKind) (i : ℕ) (
       let at : p.handle + p.at ≡ p.handle + (16 + padded (length e.object.name)) + size_of k * i = let f = e.at in
       omega arith in
       (λ j. read (bytes_of b) (at j) (sym (spelling-length k e.number) j))
-      ∙ (Has-element (spelling k) (spelling-length k) (bytes_of b)
+      ∙ (HasBytesAt-element (spelling k) (spelling-length k) (bytes_of b)
       (p.handle + (16 + padded (length e.object.name))) e.numbers i numbers-stand e.there)
 
   -- its block has the room for it

@@ -12,7 +12,7 @@ use Rattle.segment_manager.proofs.objects.Stored.{ElementAt, numbers-good, eleme
 use Rattle.segment_manager.proofs.objects.Stored.{numbers-stand, set-effect, element-kind, missing-steps, literal-read}
 use Rattle.segment_manager.proofs.containers.Safely.{Answered, answered, done-so}
 use Rattle.segment_manager.proofs.objects.Rewritten.{value_start, with_value}
-use Rattle.segment_manager.proofs.{objects.Rows.Has-set, Frame.object-roomy, blocks.Blocks.spelling-length}
+use Rattle.segment_manager.proofs.{objects.Rows.HasBytesAt-set, Frame.object-roomy, blocks.Blocks.spelling-length}
 use Rattle.segment_manager.proofs.{objects.ObjectLists.key-found, objects.Exchanged.denotes-rewritten}
 use Rattle.raw_region.proofs.Facts.{second, first}
 use Rattle.best_fit.specs.declared.places.Place.{Place}
@@ -30,7 +30,8 @@ list_all-set t (y ∷ ys) (suc i) z h v = and_from (t y) (list_all t (set ys i z
     (list_all-set t ys i z (second (t y) (list_all t ys) h) v)
 
 -- as many values make the object another
-pub numbers-object : (o : Object) (k : ScalarKind) (zs new : List ℤ) → IsTrue (is_object current o) → o.value ≡ Numbers k zs
+pub numbers-object : (o : Object) (k : ScalarKind) (zs new : List ℤ) → IsTrue (is_object current o)
+    → o.value ≡ Numbers k zs
     → length new ≡ length zs → IsTrue (list_all (is_value k) new)
     → IsTrue (is_object current (with_value o (Numbers k new)))
 numbers-object o k zs new h e many all =
@@ -77,7 +78,7 @@ module _ (old new : Cut) (d : Directory) (key : Key) (k : ScalarKind) (i : ℕ) 
       → IsValueAt (bytes_of new.bytes) (value_start e.object) (Numbers k (set e.numbers i z))
   written z s w =
       let m = bytes_of old.bytes in let m' = bytes_of new.bytes in
-      Has-set (spelling k) (spelling-length k) (value_start e.object) e.numbers i z
+      HasBytesAt-set (spelling k) (spelling-length k) (value_start e.object) e.numbers i z
       (subst (λ a. Has m a (spelled k e.numbers)) (sym start) (numbers-stand old.bytes d key k i p e)) below
       (subst (λ a. SameBut m m' a (size_of k)) spot s) (subst (λ a. Has m' a (spelling k z)) spot w)
 

@@ -1,11 +1,11 @@
 -- A segment that becomes longer or shorter at its end.
 use Rattle.std.specs.Prelude.{◌≡◌, ℕ, ◌+◌, ◌-◌, length}
 use Rattle.std.specs.List.{AllByRecursion}
-use Rattle.raw_region.specs.Memory.{Cut, bytes_of, whole}
+use Rattle.raw_region.specs.Memory.{WindowState, bytes_of, whole}
 use Rattle.best_fit.specs.Ends.{EndsAt, least_size}
 use Rattle.best_fit.specs.Heap.{SameBlock, live_of}
 use Rattle.segment_manager.specs.Directory.{Directory, live}
-use Rattle.segment_manager.specs.State.{State, StandsFor}
+use Rattle.segment_manager.specs.State.{SegmentState, DenotesCurrent}
 
 -- with so many bytes more
 abbrev pub grown : Directory → ℕ → Directory
@@ -16,14 +16,14 @@ abbrev pub shrunk : Directory → Directory
 shrunk d = record d { size = least_size (live d) }
 
 -- how many bytes the region has behind the window
-abbrev pub room_behind : Cut → ℕ
+abbrev pub room_behind : WindowState → ℕ
 room_behind c = length (whole c) - (length c.before + length c.bytes)
 
 -- open as it was, and at its place in its region, of which nothing changes behind both ends; the payload and the colour
 -- of each block stay, and of each directory the bytes denote the next one
-pub record Resizes (old new : State) (next : Directory → Directory) : Type 0 where
+pub record Resizes (old new : SegmentState) (next : Directory → Directory) : Type 0 where
   pub mode : new.mode ≡ old.mode
   pub place : EndsAt old.cut new.cut (length new.cut.bytes)
   pub blocks : AllByRecursion (SameBlock (bytes_of old.cut.bytes) (bytes_of new.cut.bytes))
       (live_of old.cut.bytes).extents
-  pub denotes : (d : Directory) → StandsFor old.cut.bytes d → StandsFor new.cut.bytes (next d)
+  pub denotes : (d : Directory) → DenotesCurrent old.cut.bytes d → DenotesCurrent new.cut.bytes (next d)

@@ -10,41 +10,41 @@ use Rattle.seg_types.specs.Kinds.{is_value}
 use Rattle.seg_types.specs.Names.{Key}
 use Rattle.seg_types.specs.Commands.{Command, Insert, Literal, Push, is_changing, value_of_literal}
 use Rattle.seg_types.specs.Values.{kind_of_scalar, value_of_scalar}
-use Rattle.segment_manager.specs.declared.objects.targets.Object.{Object}
+use Rattle.segment_manager.specs.declared.objects.object_ref.Object.{Object}
 use Rattle.segment_manager.specs.Answers.{Refused}
 use Rattle.segment_manager.specs.Calls.{kind_at}
 use Rattle.segment_manager.specs.Directory.{Directory, object_at}
 use Rattle.segment_manager.specs.objects.Located.{IsLocated}
 use Rattle.segment_manager.specs.Plan.{Refuse}
-use Rattle.segment_manager.specs.State.{Answers, IsStep, State}
+use Rattle.segment_manager.specs.State.{AnswersWith, TakesStep, SegmentState}
 use Rattle.segment_manager.specs.Step.{effect, is_read_only}
 
 -- ---- what is known of the object
 
 -- the segment may be changed, and the object of the key is of the kind
-pub record IsChangeable (s : State) (key : Key) (kind : Kind) : Type 0 where
+pub record IsChangeable (s : SegmentState) (key : Key) (kind : Kind) : Type 0 where
   pub writing : is_read_only s.mode ≡ false
-  pub is : Answers s (λ d. kind_at d key) (Ok kind)
+  pub is : AnswersWith s (λ d. kind_at d key) (Ok kind)
 
 -- the same of an object of the key, which was located
-pub record IsToChange (s : State) (key : Key) (o : Object) : Type 0 where
+pub record IsChangeableObject (s : SegmentState) (key : Key) (o : Object) : Type 0 where
   pub writing : is_read_only s.mode ≡ false
   pub located : IsLocated s key o
 
 -- for this reason each command is refused that changes an object, and needs one of the key
-pub record IsUnchangeable (s : State) (key : Key) (why : Refusal) : Type 0 where
+pub record IsUnchangeable (s : SegmentState) (key : Key) (why : Refusal) : Type 0 where
   pub refuses : (c : Command) → is_changing c ≡ true
-      → ((d : Directory) → object_at d key ≡ None → effect d c ≡ Refuse NotFound) → IsStep s s c (Refused why)
+      → ((d : Directory) → object_at d key ≡ None → effect d c ≡ Refuse NotFound) → TakesStep s s c (Refused why)
 
 -- ---- what is known of literals
 
 -- the literal is a value for the vector of the key
-pub record IsElement (s : State) (key : Key) (l : Literal) (v : ScalarValue) : Type 0 where
-  pub is : Answers s (λ d. kind_at d key) (Ok (Vector (kind_of_scalar v)))
+pub record IsElement (s : SegmentState) (key : Key) (l : Literal) (v : ScalarValue) : Type 0 where
+  pub is : AnswersWith s (λ d. kind_at d key) (Ok (Vector (kind_of_scalar v)))
   pub value : value_of_literal (kind_of_scalar v) l ≡ Ok (value_of_scalar v)
   pub range : is_value (kind_of_scalar v) (value_of_scalar v) ≡ true
 
 -- or for this reason it can be no new element
-pub record IsNoElement (s : State) (key : Key) (l : Literal) (why : Refusal) : Type 0 where
-  pub push : IsStep s s (Push key l) (Refused why)
-  pub insert : (i : ℕ) → IsStep s s (Insert key i l) (Refused why)
+pub record IsNoElement (s : SegmentState) (key : Key) (l : Literal) (why : Refusal) : Type 0 where
+  pub push : TakesStep s s (Push key l) (Refused why)
+  pub insert : (i : ℕ) → TakesStep s s (Insert key i l) (Refused why)

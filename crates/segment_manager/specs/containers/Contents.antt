@@ -3,10 +3,10 @@ use Rattle.std.specs.Prelude.{ℕ, ◌+◌, Bool, true, false, Option, Some, Non
 use Rattle.std.specs.Prelude.{option_to_list, nat_lt, if◌then◌else◌}
 use Rattle.std.specs.List.{list_all}
 use Rattle.raw_region.specs.Format.{current}
-use Rattle.raw_region.specs.Memory.{Cut, are_bytes}
-use Rattle.best_fit.specs.Exchange.{IsExchanged}
+use Rattle.raw_region.specs.Memory.{WindowState, are_bytes}
+use Rattle.best_fit.specs.Exchange.{ExchangesBlocks}
 use Rattle.best_fit.specs.Extents.{handle}
-use Rattle.best_fit.specs.Table.{Table}
+use Rattle.best_fit.specs.Table.{BackingArray}
 use Rattle.seg_types.specs.declared.kinds.Kind.{Kind}
 use Rattle.seg_types.specs.declared.kinds.Kind.TheVariants.{Map, Scalar}
 use Rattle.seg_types.specs.declared.refusals.Refusal.{Refusal}
@@ -14,7 +14,7 @@ use Rattle.seg_types.specs.declared.refusals.Refusal.TheVariants.{NotFound, Wron
 use Rattle.seg_types.specs.Kinds.{is_value, same_kind, size_of}
 use Rattle.seg_types.specs.Names.{Key}
 use Rattle.best_fit.specs.declared.places.Place.{Place}
-use Rattle.seg_vector.specs.Standing.{Stands, place_at}
+use Rattle.seg_vector.specs.Containers.{IsContainer, place_at}
 use Rattle.seg_vector.specs.Vector.{spelled}
 use Rattle.segment_manager.specs.Directory.{Value, Numbers, Elements, Bytes, Pairs, Texts, Object, Directory, kind_of}
 use Rattle.segment_manager.specs.Directory.{object_at, padded}
@@ -24,7 +24,7 @@ use Rattle.segment_manager.specs.Layout.{head_len}
 pub record Contents : Type 0 where
   pub each : ℕ
   pub len : ℕ
-  pub table : Table
+  pub table : BackingArray
   pub bytes : List ℕ
 
 -- those of a value that is a vector of numbers or a text
@@ -99,7 +99,7 @@ has_storage (Map k v) = false
 has_storage kind = true
 
 -- The contents of a container are others. Of all blocks that stay no byte changes but its own 24.
-pub record IsRefilled (old new : Cut) (p : Place) (was is : Contents) : Type 0 where
-  pub change : IsExchanged current old new (place_at p) 24 (option_to_list was.table.extent)
+pub record RefillsContainer (old new : WindowState) (p : Place) (was is : Contents) : Type 0 where
+  pub change : ExchangesBlocks current old new (place_at p) 24 (option_to_list was.table.extent)
       (option_to_list is.table.extent)
-  pub stands : Stands new.bytes p is.each is.len is.table is.bytes
+  pub stands : IsContainer new.bytes p is.each is.len is.table is.bytes

@@ -1,8 +1,8 @@
 -- Where the elements of an array, a vector or a string of scalars stand in the image, one after another.
 use Rattle.std.specs.Prelude.{◌≡◌, ℕ, ◌+◌, ◌*◌, ◌%◌, ◌≤◌, Some, None, Result, Ok, Err, List, [], length}
-use Rattle.raw_region.specs.Memory.{Has, bytes_of}
+use Rattle.raw_region.specs.Memory.{HasBytesAt, bytes_of}
 use Rattle.best_fit.specs.Extents.{handle}
-use Rattle.best_fit.specs.Table.{Table}
+use Rattle.best_fit.specs.Table.{BackingArray}
 use Rattle.seg_types.specs.declared.kinds.ScalarKind.TheVariants.{U8}
 use Rattle.seg_types.specs.declared.refusals.Refusal.{Refusal}
 use Rattle.seg_types.specs.declared.refusals.Refusal.TheVariants.{NotFound, WrongKind}
@@ -13,10 +13,10 @@ use Rattle.segment_manager.specs.declared.containers.element_runs.ElementRun.{El
 use Rattle.segment_manager.specs.Directory.{Value, Numbers, Elements, Bytes, Pairs, Texts, Object, Directory}
 use Rattle.segment_manager.specs.Directory.{object_at, padded}
 use Rattle.segment_manager.specs.Layout.{head_len}
-use Rattle.segment_manager.specs.State.{State, StandsFor}
+use Rattle.segment_manager.specs.State.{SegmentState, DenotesCurrent}
 
 -- where the storage of a container begins, or 0 where it has none
-abbrev pub storage_offset : Table → ℕ
+abbrev pub storage_offset : BackingArray → ℕ
 storage_offset t = elim t.extent as (λ _. ℕ) [ None ↦ 0 | Some x ↦ handle x ]
 
 -- the run of the elements of a value whose own bytes begin at an offset
@@ -47,7 +47,8 @@ abbrev pub spelled_at : Directory → Key → List ℕ
 spelled_at d key = elim (object_at d key) as (λ _. List ℕ) [ None ↦ [] | Some o ↦ spelled_in o.value ]
 
 -- A run lies in the image, at a multiple of 8, and its bytes there spell the elements of the object of a key.
-pub record IsRunOf (s : State) (key : Key) (run : ElementRun) : Type 0 where
+pub record IsRunOf (s : SegmentState) (key : Key) (run : ElementRun) : Type 0 where
   pub inside : run.offset + size_of run.kind * run.count ≤ length s.cut.bytes
   pub aligned : run.offset % 8 ≡ 0
-  pub spells : (d : Directory) → StandsFor s.cut.bytes d → Has (bytes_of s.cut.bytes) run.offset (spelled_at d key)
+  pub spells : (d : Directory) → DenotesCurrent s.cut.bytes d
+      → HasBytesAt (bytes_of s.cut.bytes) run.offset (spelled_at d key)

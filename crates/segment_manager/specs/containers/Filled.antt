@@ -3,10 +3,10 @@
 use Rattle.std.specs.Prelude.{◌≡◌, ℕ, ℤ, ◌<◌, ◌^◌, ◌*◌, false, true, [], replicate, Option, Result, Ok, Err, IfErr}
 use Rattle.std.specs.Prelude.{MatchResult, IsTrue}
 use Rattle.raw_region.specs.Format.{current}
-use Rattle.raw_region.specs.Memory.{Cut, bytes_of}
-use Rattle.best_fit.specs.Exchange.{IsExchanged}
+use Rattle.raw_region.specs.Memory.{WindowState, bytes_of}
+use Rattle.best_fit.specs.Exchange.{ExchangesBlocks}
 use Rattle.best_fit.specs.Extents.{LiveSet}
-use Rattle.best_fit.specs.Heap.{IsChanged, live_of}
+use Rattle.best_fit.specs.Heap.{ChangesBytes, live_of}
 use Rattle.seg_types.specs.declared.kinds.Kind.{Kind}
 use Rattle.seg_types.specs.declared.kinds.Kind.TheVariants.{Scalar}
 use Rattle.seg_types.specs.declared.kinds.ScalarKind.{ScalarKind}
@@ -16,36 +16,36 @@ use Rattle.seg_types.specs.Kinds.{size_of}
 use Rattle.seg_types.specs.Names as names
 use Rattle.seg_types.specs.Commands.{Command, Construct, Content, FindOrConstruct, Numbers}
 use Rattle.best_fit.specs.declared.places.Place.{Place}
-use Rattle.seg_vector.specs.Standing.{place_at}
-use Rattle.segment_manager.specs.declared.objects.beginning.NewEntry.{NewEntry}
-use Rattle.segment_manager.specs.declared.containers.fillings.Shape.{Shape}
+use Rattle.seg_vector.specs.Containers.{place_at}
+use Rattle.segment_manager.specs.declared.objects.pending_object.PendingEntry.{PendingEntry}
+use Rattle.segment_manager.specs.declared.containers.fillings.ObjectShape.{ObjectShape}
 use Rattle.segment_manager.specs.declared.modes.Mode.{Mode}
 use Rattle.segment_manager.specs.Answers.{Answer, Refused, is_untouched}
-use Rattle.segment_manager.specs.objects.Begun.{GivesAllBack, IsBegun, LeadsThere}
+use Rattle.segment_manager.specs.objects.PendingObjects.{GivesAllBack, BeginsObjectOk, LeadsThere}
 use Rattle.segment_manager.specs.Denotes.{IsValueAt}
 use Rattle.segment_manager.specs.Directory.{Value, Directory, count_of, is_good_value, kind_of, value_extents}
 use Rattle.segment_manager.specs.Directory.{value_len}
 use Rattle.segment_manager.specs.objects.Found.{pair_answer}
-use Rattle.segment_manager.specs.Keeping.{HasKey}
-use Rattle.segment_manager.specs.objects.NewObjects.{IsRestored}
+use Rattle.segment_manager.specs.Keeping.{IsBoundKey}
+use Rattle.segment_manager.specs.objects.NewObjects.{RestoresBlocks}
 use Rattle.segment_manager.specs.Plan.{Plan, bare, perform, with_value}
-use Rattle.segment_manager.specs.State.{IsSegment, IsStep, StandsFor, State, handle_answer}
+use Rattle.segment_manager.specs.State.{IsSegment, TakesStep, DenotesCurrent, SegmentState, handle_answer}
 use Rattle.segment_manager.specs.Step.{is_read_only}
 
 -- ---- the value
 
 -- what is known of an object before a block is asked for
-pub record IsShapeOf (content : Content) (s : Shape) : Type 0 where
+pub record IsShapeOf (content : Content) (s : ObjectShape) : Type 0 where
   pub kind : s.kind ≡ kind_of (bare content)
   pub count : s.count ≡ count_of (bare content)
   pub len : s.len ≡ value_len (bare content)
   pub small : s.len < 2 ^ 40
 
 -- so many numbers of a kind, and a container
-abbrev pub numbers_shape : ScalarKind → ℕ → Shape
+abbrev pub numbers_shape : ScalarKind → ℕ → ObjectShape
 numbers_shape k count = record { kind = Scalar k; count = count; len = size_of k * count }
 
-abbrev pub container_shape : Kind → Shape
+abbrev pub container_shape : Kind → ObjectShape
 container_shape kind = record { kind = kind; count = 1; len = 24 }
 
 -- what a content asks for behind the object's own block, and the value that it becomes
@@ -57,9 +57,9 @@ abbrev pub IsDenied : Directory → LiveSet → Content → Type 0
 IsDenied d l content = (next : Value → Plan) → perform d l (with_value content next) ≡ (Refused NoSpace, d)
 
 -- The bytes at the place were written, and then the value was made, which takes what the content asks for.
-pub record IsMadeValue (content : Content) (old new : Cut) (p : Place) : Type 0 where
-  pub empty : Cut
-  pub change : IsChanged current old empty (place_at p) (value_len (bare content))
+pub record MakesValueOk (content : Content) (old new : WindowState) (p : Place) : Type 0 where
+  pub empty : WindowState
+  pub change : ChangesBytes current old empty (place_at p) (value_len (bare content))
   pub value : Value
   pub is_kind : kind_of value ≡ kind_of (bare content)
   pub len : value_len value ≡ value_len (bare content)
@@ -67,65 +67,66 @@ pub record IsMadeValue (content : Content) (old new : Cut) (p : Place) : Type 0 
   pub good : IsTrue (is_good_value value)
   pub left : LiveSet
   pub given : (d : Directory) → IsGiven d (live_of empty.bytes) content value left
-  pub storage : IsExchanged current empty new (place_at p) (value_len (bare content)) [] (value_extents value)
+  pub storage : ExchangesBlocks current empty new (place_at p) (value_len (bare content)) [] (value_extents value)
   pub said : IsValueAt (bytes_of new.bytes) (place_at p) value
 
 -- or it was not, and what was taken for it was given back
-pub record IsNoValue (content : Content) (old new : Cut) (p : Place) (why : Refusal) : Type 0 where
-  pub empty : Cut
-  pub change : IsChanged current old empty (place_at p) (value_len (bare content))
-  pub restored : IsRestored empty new
+pub record MakesValueErr (content : Content) (old new : WindowState) (p : Place) (why : Refusal) : Type 0 where
+  pub empty : WindowState
+  pub change : ChangesBytes current old empty (place_at p) (value_len (bare content))
+  pub restored : RestoresBlocks empty new
   pub denied : (d : Directory) → IsDenied d (live_of empty.bytes) content
   pub refusal : why ≡ NoSpace
 
-abbrev pub MakesValue : Content → Cut → Cut → Place → Result (Unit {0}) Refusal → Type 0
+abbrev pub MakesValue : Content → WindowState → WindowState → Place → Result (Unit {0}) Refusal → Type 0
 MakesValue content old new p result =
-    MatchResult result (λ u. IsMadeValue content old new p) (IsNoValue content old new p)
+    MatchResult result (λ u. MakesValueOk content old new p) (MakesValueErr content old new p)
 
 -- ---- in an object that was begun
 
 -- an object was begun, for the content
-abbrev pub IsBegunFor : Cut → Cut → names.Key → Content → ℕ → ℕ → Option NewEntry → Type 0
+abbrev pub IsBegunFor : WindowState → WindowState → names.Key → Content → ℕ → ℕ → Option PendingEntry → Type 0
 IsBegunFor old now key content h at entry =
-    IsBegun old now key (kind_of (bare content)) (count_of (bare content)) (value_len (bare content)) h at entry
+    BeginsObjectOk old now key (kind_of (bare content)) (count_of (bare content)) (value_len (bare content)) h at entry
 
-abbrev pub HasBegun : Cut → Content → ℕ → ℕ → Option NewEntry → Type 0
+abbrev pub HasBegun : WindowState → Content → ℕ → ℕ → Option PendingEntry → Type 0
 HasBegun now content h at entry =
-    (old : Cut) × (IsSegment old.bytes × ((key : names.Key) × IsBegunFor old now key content h at entry))
+    (old : WindowState) × (IsSegment old.bytes × ((key : names.Key) × IsBegunFor old now key content h at entry))
 
 -- its value is made, and an entry leads to it, if it is to have one
-pub record IsBuilt (now new : Cut) (h at : ℕ) (entry : Option NewEntry) (content : Content) (handle : ℕ) : Type 0 where
-  pub made : Cut
-  pub value : IsMadeValue content now made (record { handle = h; at = at })
+pub record FillsObjectOk (now new : WindowState) (h at : ℕ) (entry : Option PendingEntry) (content : Content)
+    (handle : ℕ) : Type 0 where
+  pub made : WindowState
+  pub value : MakesValueOk content now made (record { handle = h; at = at })
   pub is : handle ≡ h
   pub entered : LeadsThere made new h entry
 
 -- or all is given back
-pub record IsNotBuilt (now new : Cut) (h at : ℕ) (entry : Option NewEntry) (content : Content)
+pub record IsNotBuilt (now new : WindowState) (h at : ℕ) (entry : Option PendingEntry) (content : Content)
     (why : Refusal) : Type 0 where
-  pub left : Cut
-  pub none : IsNoValue content now left (record { handle = h; at = at }) why
+  pub left : WindowState
+  pub none : MakesValueErr content now left (record { handle = h; at = at }) why
   pub back : GivesAllBack left new h entry
 
-abbrev pub Builds : Cut → Cut → ℕ → ℕ → Option NewEntry → Content → Result ℕ Refusal → Type 0
-Builds now new h at entry content result =
-    MatchResult result (IsBuilt now new h at entry content) (IsNotBuilt now new h at entry content)
+abbrev pub FillsObject : WindowState → WindowState → ℕ → ℕ → Option PendingEntry → Content → Result ℕ Refusal → Type 0
+FillsObject now new h at entry content result =
+    MatchResult result (FillsObjectOk now new h at entry content) (IsNotBuilt now new h at entry content)
 
 -- ---- a construction
 
 -- On the heap of a segment that may be changed: it is one step, and where it is refused before it asks for a block
 -- nothing changes.
-pub record Constructs {A : Type 0} (old new : Cut) (command : Command) (answer : Result A Refusal → Answer)
+pub record Constructs {A : Type 0} (old new : WindowState) (command : Command) (answer : Result A Refusal → Answer)
     (result : Result A Refusal) : Type 0 where
   pub step : (mode : Mode) → is_read_only mode ≡ false
       → IsStep (record { cut = old; mode = mode }) (record { cut = new; mode = mode }) command (answer result)
   pub refused : IfErr result (λ why. is_untouched (Refused why) ≡ true → new ≡ old)
 
 -- and nothing changes where an object has the key
-pub record FindsOrConstructs (old new : Cut) (key : names.Key) (content : Content)
+pub record FindsOrConstructs (old new : WindowState) (key : names.Key) (content : Content)
     (result : Result (ℕ × ℕ) Refusal) : Type 0 where
   pub constructs : Constructs old new (FindOrConstruct key content) pair_answer result
-  pub found : (d : Directory) → StandsFor old.bytes d → HasKey key d → new ≡ old
+  pub found : (d : Directory) → DenotesCurrent old.bytes d → IsBoundKey key d → new ≡ old
 
 -- a handle with the count of its object
 abbrev pub with_count : ℕ → Result ℕ Refusal → Result (ℕ × ℕ) Refusal
@@ -135,12 +136,12 @@ with_count n (Err why) = Err why
 -- ---- as calls on a segment say it
 
 -- an object of the content is made under the key
-abbrev pub Makes : State → State → names.Key → Content → Result ℕ Refusal → Type 0
-Makes old new key content result = IsStep old new (Construct key content) (handle_answer result)
+abbrev pub ConstructsObject : SegmentState → SegmentState → names.Key → Content → Result ℕ Refusal → Type 0
+ConstructsObject old new key content result = TakesStep old new (Construct key content) (handle_answer result)
 
 -- or one is found there
-abbrev pub FindsOrMakes : State → State → names.Key → Content → Result (ℕ × ℕ) Refusal → Type 0
-FindsOrMakes old new key content result = IsStep old new (FindOrConstruct key content) (pair_answer result)
+abbrev pub FindsOrMakes : SegmentState → SegmentState → names.Key → Content → Result (ℕ × ℕ) Refusal → Type 0
+FindsOrMakes old new key content result = TakesStep old new (FindOrConstruct key content) (pair_answer result)
 
 -- so many times the same number
 abbrev pub alike : ScalarKind → ℕ → ℤ → Content

@@ -1,7 +1,7 @@
 -- Maps of numbers as values of objects: where they stand, what is read of them, and what becomes of them.
 use Rattle.std.specs.Prelude.{ℕ, ℤ, int_lt, true, false, Option, Some, None, Result, Ok, Err, List, option_map}
 use Rattle.std.specs.Prelude.{if◌then◌else◌}
-use Rattle.raw_region.specs.Memory.{Cut}
+use Rattle.raw_region.specs.Memory.{WindowState}
 use Rattle.byteorder.specs.Endian.{little_number}
 use Rattle.seg_types.specs.declared.kinds.Kind.TheVariants.{Map}
 use Rattle.seg_types.specs.declared.kinds.ScalarKind.{ScalarKind}
@@ -43,8 +43,8 @@ abbrev pub HasPairs : ScalarKind → ScalarKind → List ℕ → Place → Type 
 HasPairs k v b p = (ps : List NumberPair) × IsPairs k v b p ps
 
 -- it has no pair now, and their blocks are given back
-pub record ReleasesPairs (k v : ScalarKind) (old new : Cut) (p : Place) : Type 0 where
-  pub each : maps.Releases (numbers_of k) (numbers_of v) old new p.handle p.at
+pub record ReleasesPairs (k v : ScalarKind) (old new : WindowState) (p : Place) : Type 0 where
+  pub each : maps.ReleasesMap (numbers_of k) (numbers_of v) old new p.handle p.at
 
 -- ---- what is read of them
 

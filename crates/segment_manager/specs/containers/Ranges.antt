@@ -1,7 +1,7 @@
 -- Elements of an array or a vector of scalars that are read, written or put in by one call.
 use Rattle.std.specs.Prelude.{◌≡◌, ℕ, ◌+◌, ◌*◌, ℤ, Bool, ◌&&◌, ◌||◌, IsTrue, None, Some, Result, Ok, Err, List, [], ◌∷◌}
 use Rattle.std.specs.Prelude.{◌++◌, IfOk, drop, length, max, nat_le, slice_set, take, if◌then◌else◌}
-use Rattle.raw_region.specs.Memory.{SameBut, bytes_of}
+use Rattle.raw_region.specs.Memory.{SameBytesExcept, bytes_of}
 use Rattle.best_fit.specs.declared.places.Place.{Place}
 use Rattle.seg_types.specs.declared.kinds.Kind.{Kind}
 use Rattle.seg_types.specs.declared.kinds.Kind.TheVariants.{Scalar, Vector}
@@ -16,7 +16,7 @@ use Rattle.segment_manager.specs.Answers.{Answer, Done, Refused}
 use Rattle.segment_manager.specs.Directory.{Directory, Elements, Object, Value, kind_of, live, object_at}
 use Rattle.segment_manager.specs.{objects.ElementLists.numbers_in, objects.Standing.place_at}
 use Rattle.segment_manager.specs.Plan.{Plan, Refuse, Reply, perform, with, with_capacity}
-use Rattle.segment_manager.specs.State.{Moves, State, StandsFor}
+use Rattle.segment_manager.specs.State.{Transitions, SegmentState, DenotesCurrent}
 use Rattle.segment_manager.specs.Step.{changed, found_at, is_read_only, vector_of, with_items}
 
 -- ---- reading
@@ -39,13 +39,19 @@ range_in (Err why) first n = Err why
 
 -- so many of those of the object of a key
 abbrev pub range_at : Directory → Key → ScalarKind → ℕ → ℕ → Result (List ℤ) Refusal
-range_at d key k first n = range_in (elim (object_at d key) as (λ _. Result (List ℤ) Refusal) [ None ↦ Err NotFound | Some o ↦ numbers_if k o.value ]) first n
+range_at d key k first n = range_in (elim (object_at d key) as (λ _. Result (List ℤ) Refusal) [
+  | None ↦ Err NotFound
+  | Some o ↦ numbers_if k o.value
+]) first n
 
 -- ---- writing
 
 -- the directory in which the object of a key has these elements from a place on
 abbrev pub with_range : Directory → Key → ℕ → List ℤ → Directory
-with_range d key first zs = elim (object_at d key) as (λ _. Directory) [ None ↦ d | Some o ↦ changed d o (with_items o.value (replaced (numbers_in o.value) first zs)) ]
+with_range d key first zs = elim (object_at d key) as (λ _. Directory) [
+  | None ↦ d
+  | Some o ↦ changed d o (with_items o.value (replaced (numbers_in o.value) first zs))
+]
 
 abbrev pub written_if : Result (List ℤ) Refusal → Directory → Directory → Answer × Directory
 written_if (Ok old) d after = (Done, after)
@@ -53,24 +59,29 @@ written_if (Err why) d after = (Refused why, d)
 
 -- what is answered, and the directory behind it: all are written, or none
 abbrev pub written : Mode → Directory → Key → ScalarKind → ℕ → List ℤ → Answer × Directory
-written mode d key k first zs = if is_read_only mode then (Refused ReadOnly, d) else written_if (range_at d key k first (length zs)) d (with_range d key first zs)
+written mode d key k first zs =
+    if is_read_only mode then (
+      Refused ReadOnly,
+      d,
+    ) else written_if (range_at d key k first (length zs)) d (with_range d key first zs)
 
-abbrev pub WritesRange : State → State → Key → ScalarKind → ℕ → List ℤ → Answer → Type 0
-WritesRange old new key k first zs answer = Moves old new answer (λ d. written old.mode d key k first zs)
+abbrev pub WritesRange : SegmentState → SegmentState → Key → ScalarKind → ℕ → List ℤ → Answer → Type 0
+WritesRange old new key k first zs answer = Transitions old new answer (λ d. written old.mode d key k first zs)
 
 -- no byte changes but those of so many elements from a place on in the object of the key, an array of scalars of the
 -- kind
-abbrev pub ChangesRange : State → State → Key → ScalarKind → ℕ → ℕ → Type 0
-ChangesRange old new key k first n = (d : Directory) → StandsFor old.cut.bytes d
+abbrev pub ChangesRange : SegmentState → SegmentState → Key → ScalarKind → ℕ → ℕ → Type 0
+ChangesRange old new key k first n = (d : Directory) → DenotesCurrent old.cut.bytes d
     → IfOk (place_at d key k first) (λ (p : Place).
-    SameBut (bytes_of old.cut.bytes) (bytes_of new.cut.bytes) (p.handle + p.at) (size_of k * n))
+    SameBytesExcept (bytes_of old.cut.bytes) (bytes_of new.cut.bytes) (p.handle + p.at) (size_of k * n))
 
 -- ---- putting in
 
 -- a vector with these behind its last element
 abbrev pub extend : Directory → Object → Value → List ℤ → Plan
 extend d o v more =
-    with (vector_of v) (λ (k, zs, t). with_capacity (size_of k) (capacity_for_more (length zs) (length more) t.capacity) t
+    with (vector_of v) (λ (k, zs, t).
+    with_capacity (size_of k) (capacity_for_more (length zs) (length more) t.capacity) t
     (λ u. Reply Done (changed d o (Elements k (zs ++ more) u))))
 
 abbrev pub extended : Mode → Directory → Key → ScalarKind → List ℤ → Answer × Directory
@@ -79,5 +90,5 @@ extended mode d key k more =
     with (found_at d key) (λ o. if same_kind (Vector k) (kind_of o.value) then extend d o o.value more
     else Refuse WrongKind))
 
-abbrev pub ExtendsVector : State → State → Key → ScalarKind → List ℤ → Answer → Type 0
-ExtendsVector old new key k more answer = Moves old new answer (λ d. extended old.mode d key k more)
+abbrev pub ExtendsVector : SegmentState → SegmentState → Key → ScalarKind → List ℤ → Answer → Type 0
+ExtendsVector old new key k more answer = Transitions old new answer (λ d. extended old.mode d key k more)

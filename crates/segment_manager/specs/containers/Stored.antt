@@ -1,6 +1,6 @@
 -- Containers with storage of their own, at a place: what calls on one answer and leave, whichever key has its object.
 use Rattle.std.specs.Prelude.{◌≡◌, ◌≤◌, ℕ, List, Result, Ok, OnErr}
-use Rattle.raw_region.specs.Memory.{Cut}
+use Rattle.raw_region.specs.Memory.{WindowState}
 use Rattle.seg_types.specs.declared.kinds.Kind.{Kind}
 use Rattle.seg_types.specs.declared.refusals.Refusal.{Refusal}
 use Rattle.seg_types.specs.declared.kinds.Kind.TheVariants.{Vector}
@@ -9,24 +9,25 @@ use Rattle.seg_types.specs.Commands as asked
 use Rattle.seg_types.specs.Commands.{Command}
 use Rattle.seg_types.specs.Names.{Key}
 use Rattle.best_fit.specs.declared.places.Place.{Place}
-use Rattle.seg_vector.specs.Elements.{Fits, Truncates}
-use Rattle.seg_vector.specs.Standing.{Grows, IsStanding}
+use Rattle.seg_vector.specs.Elements.{ShrinksStorage, Truncates}
+use Rattle.seg_vector.specs.Containers.{ReservesStorage, IsStanding}
 use Rattle.seg_vector.specs.TextsCalls.{ClearsTexts, ReservesNoTexts, ReservesTexts, ShrinksTexts}
 use Rattle.segment_manager.specs.declared.containers.storages.Change.{Change}
 use Rattle.segment_manager.specs.declared.containers.storages.Change.TheVariants.{Clear, Reserve, Shrink}
 use Rattle.segment_manager.specs.Answers.{Answer}
 use Rattle.segment_manager.specs.Directory.{Directory}
 use Rattle.segment_manager.specs.Keeping.{HasPlaces}
-use Rattle.segment_manager.specs.State.{IsStepOfKind, State, done_answer}
+use Rattle.segment_manager.specs.State.{TakesStepOfKind, SegmentState, done_answer}
 
 -- A call that changes a container is one step of the machine, and where it is refused nothing changes.
-pub record AnswersSafely {R : Type 0} (says : Result R Refusal → Answer) (s : State) (new : Cut) (key : Key)
+pub record AnswersSafely {R : Type 0} (says : Result R Refusal
+    → Answer) (s : SegmentState) (new : WindowState) (key : Key)
     (kind : Kind) (c : Command) (r : Result R Refusal) : Type 0 where
-  pub step : IsStepOfKind s (record s { cut = new }) key kind c (says r)
+  pub step : TakesStepOfKind s (record s { cut = new }) key kind c (says r)
   pub refused : OnErr r (new ≡ s.cut)
 
 -- one that answers nothing
-abbrev pub StepsSafely : State → Cut → Key → Kind → Command → Result (Unit {0}) Refusal → Type 0
+abbrev pub StepsSafely : SegmentState → WindowState → Key → Kind → Command → Result (Unit {0}) Refusal → Type 0
 StepsSafely = AnswersSafely done_answer
 
 -- ---- what is done with storage
@@ -57,13 +58,13 @@ pub record IsElements (b : List ℕ) (p : Place) (each : ℕ) : Type 0 where
   pub short : each ≤ 8
 
 -- what is done with their storage
-abbrev pub ChangesElements : Change → Cut → Cut → Place → ℕ → Result (Unit {0}) Refusal → Type 0
-ChangesElements (Reserve n) old new p each result = Grows old new p each n result
-ChangesElements Shrink old new p each result = (result ≡ Ok tt) × Fits old new p each
+abbrev pub ChangesElements : Change → WindowState → WindowState → Place → ℕ → Result (Unit {0}) Refusal → Type 0
+ChangesElements (Reserve n) old new p each result = ReservesStorage old new p each n result
+ChangesElements Shrink old new p each result = (result ≡ Ok tt) × ShrinksStorage old new p each
 ChangesElements Clear old new p each result = (result ≡ Ok tt) × Truncates old new p each 0
 
 -- and with that of a vector of texts
-abbrev pub ChangesTexts : Change → Cut → Cut → Place → Result (Unit {0}) Refusal → Type 0
+abbrev pub ChangesTexts : Change → WindowState → WindowState → Place → Result (Unit {0}) Refusal → Type 0
 ChangesTexts (Reserve n) old new p result = ReservesTexts old new p n result × ReservesNoTexts old new p n result
 ChangesTexts Shrink old new p result = (result ≡ Ok tt) × ShrinksTexts old new p
 ChangesTexts Clear old new p result = (result ≡ Ok tt) × ClearsTexts old new p

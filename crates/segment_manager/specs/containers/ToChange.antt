@@ -7,14 +7,14 @@ use Rattle.seg_types.specs.Commands.{Command, is_changing}
 use Rattle.best_fit.specs.declared.places.Place.{Place}
 use Rattle.segment_manager.specs.Answers.{Refused}
 use Rattle.segment_manager.specs.containers.Contents.{container_at}
-use Rattle.segment_manager.specs.State.{Answers, IsStepOfKind, State}
+use Rattle.segment_manager.specs.State.{AnswersWith, TakesStepOfKind, SegmentState}
 use Rattle.segment_manager.specs.Step.{is_read_only}
 
 -- the segment may be changed, and the container of the key's object is there
-pub record IsToChange (s : State) (key : Key) (kind : Kind) (p : Place) : Type 0 where
+pub record IsChangeableContainer (s : SegmentState) (key : Key) (kind : Kind) (p : Place) : Type 0 where
   pub writing : is_read_only s.mode ≡ false
-  pub at : Answers s (λ d. container_at d key kind) (Ok p)
+  pub at : AnswersWith s (λ d. container_at d key kind) (Ok p)
 
 -- each command that would change the container is refused
-pub record IsNotToChange (s : State) (key : Key) (kind : Kind) (why : Refusal) : Type 0 where
-  pub refused : (c : Command) → is_changing c ≡ true → IsStepOfKind s s key kind c (Refused why)
+pub record IsNotToChange (s : SegmentState) (key : Key) (kind : Kind) (why : Refusal) : Type 0 where
+  pub refused : (c : Command) → is_changing c ≡ true → TakesStepOfKind s s key kind c (Refused why)

@@ -11,13 +11,13 @@ use Rattle.seg_map.specs.Places.{first_pair, item_of}
 use Rattle.segment_manager.specs.Calls.{kind_at}
 use Rattle.segment_manager.specs.Directory.{Value, Numbers, Elements, Bytes, Pairs, Texts, Directory, object_at}
 use Rattle.segment_manager.specs.objects.ElementLists.{list_at}
-use Rattle.segment_manager.specs.State.{Answers, State}
+use Rattle.segment_manager.specs.State.{AnswersWith, SegmentState}
 
 -- ---- the map
 
 -- the object of a key is a map of the kinds
-abbrev pub IsMap : State → Key → ScalarKind → ScalarKind → Type 0
-IsMap s key k v = Answers s (λ d. kind_at d key) (Ok (Map k v))
+abbrev pub IsMap : SegmentState → Key → ScalarKind → ScalarKind → Type 0
+IsMap s key k v = AnswersWith s (λ d. kind_at d key) (Ok (Map k v))
 
 -- the pairs of a value, which has none where it is no map
 abbrev pub pairs_of : Value → List NumberPair
@@ -47,14 +47,14 @@ pair_past above z ps = option_map item_of (first_pair int_lt above z ps)
 -- ---- a pair of it
 
 -- a key and a value, each with its kind
-abbrev pub Item : Type 0
-Item = (ScalarKind × ℤ) × (ScalarKind × ℤ)
+abbrev pub KindedPair : Type 0
+KindedPair = (ScalarKind × ℤ) × (ScalarKind × ℤ)
 
-abbrev pub item_of_kinds : ScalarKind → ScalarKind → ℤ × ℤ → Item
+abbrev pub item_of_kinds : ScalarKind → ScalarKind → ℤ × ℤ → KindedPair
 item_of_kinds k v (x, y) = ((k, x), (v, y))
 
 -- the same as values of the code
-abbrev pub item_seen : ScalarValue × ScalarValue → Item
+abbrev pub item_seen : ScalarValue × ScalarValue → KindedPair
 item_seen (x, y) = ((kind_of_scalar x, value_of_scalar x), (kind_of_scalar y, value_of_scalar y))
 
 -- ---- what is read of a map of which it is not known whether it is one

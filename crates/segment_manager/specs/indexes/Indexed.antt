@@ -1,6 +1,6 @@
 -- The two indexes of a directory, by which of them is meant.
 use Rattle.std.specs.Prelude.{◌≡◌, ℕ, Bool, List, [], filter, fold}
-use Rattle.best_fit.specs.Table.{Table}
+use Rattle.best_fit.specs.Table.{BackingArray}
 use Rattle.seg_types.specs.declared.kinds.Class.{Class}
 use Rattle.seg_types.specs.declared.kinds.Class.TheVariants.{Named, Unique}
 use Rattle.seg_index.specs.declared.index.Index.{Index}
@@ -19,12 +19,12 @@ class_of_index index.Named = Named
 class_of_index index.Unique = Unique
 
 -- its capacity and its block
-abbrev pub table_of : Index → Directory → Table
+abbrev pub table_of : Index → Directory → BackingArray
 table_of index.Named d = d.named
 table_of index.Unique d = d.unique
 
 -- the directory with another capacity and block of it
-abbrev pub with_table_of : Index → Directory → Table → Directory
+abbrev pub with_table_of : Index → Directory → BackingArray → Directory
 with_table_of index.Named d t = record d { named = t }
 with_table_of index.Unique d t = record d { unique = t }
 

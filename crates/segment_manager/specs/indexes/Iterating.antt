@@ -6,17 +6,17 @@ use Rattle.best_fit.specs.Extents.{Extent, Span as LiveSpan, spans}
 use Rattle.best_fit.specs.Heap.{live_of}
 use Rattle.best_fit.specs.Table.{same_role}
 use Rattle.seg_index.specs.declared.index.Index.{Index}
-use Rattle.segment_manager.specs.declared.objects.telling.Instance.{Instance}
-use Rattle.segment_manager.specs.declared.blocks.tiles.Span.{Span}
+use Rattle.segment_manager.specs.declared.objects.instance_info.Instance.{Instance}
+use Rattle.segment_manager.specs.declared.blocks.tiles.TileInfo.{TileInfo}
 use Rattle.segment_manager.specs.Calls.{as_span}
 use Rattle.segment_manager.specs.Directory.{Object, Directory, live, named_objects}
 use Rattle.segment_manager.specs.indexes.Indexed.{objects_of}
 use Rattle.segment_manager.specs.objects.Instances.{SaysAt}
-use Rattle.segment_manager.specs.State.{Answers, State, StandsFor}
+use Rattle.segment_manager.specs.State.{AnswersWith, SegmentState, DenotesCurrent}
 
 -- an iterator over the objects of an index: how many of them it has given
 pub record Walk : Type 0 where
-  pub segment : State
+  pub segment : SegmentState
   pub index : Index
   pub at : ℕ
 
@@ -26,12 +26,12 @@ place_behind at None = at
 place_behind at (Some x) = at + 1
 
 -- what is said is said of the object at a place, and nothing is said where no object stands there
-abbrev pub SaysNext : State → (Directory → List Object) → ℕ → Option Instance → Type 0
-SaysNext s objects at None = (d : Directory) → StandsFor s.cut.bytes d → length (objects d) ≤ at
+abbrev pub SaysNext : SegmentState → (Directory → List Object) → ℕ → Option Instance → Type 0
+SaysNext s objects at None = (d : Directory) → DenotesCurrent s.cut.bytes d → length (objects d) ≤ at
 SaysNext s objects at (Some said) = SaysAt s objects at said
 
 -- the iterator gives what stands where it stood, and stands behind it then
-pub record GoesOn (old : Walk) (item : Option Instance) (new : Walk) : Type 0 where
+pub record YieldsInstance (old : Walk) (item : Option Instance) (new : Walk) : Type 0 where
   pub segment : new.segment ≡ old.segment
   pub index : new.index ≡ old.index
   pub place : new.at ≡ place_behind old.at item
@@ -43,7 +43,7 @@ names_of d = map (λ (o : Object). o.name) (named_objects d)
 
 -- an iterator over them: how many of them it has given
 pub record NameWalk : Type 0 where
-  pub segment : State
+  pub segment : SegmentState
   pub at : ℕ
 
 -- it gives the name that stands where it stood, as it is seen, and stands behind it then
@@ -51,24 +51,24 @@ pub record GoesOnNames {A : Type 0} (seen : A → List ℕ) (old : NameWalk) (it
     (new : NameWalk) : Type 0 where
   pub segment : new.segment ≡ old.segment
   pub place : new.at ≡ place_behind old.at item
-  pub says : Answers old.segment (λ d. slice_get (names_of d) old.at) (option_map seen item)
+  pub says : AnswersWith old.segment (λ d. slice_get (names_of d) old.at) (option_map seen item)
 
 -- an iterator over the blocks and gaps: how many of them it has given
 pub record TileWalk : Type 0 where
-  pub segment : State
+  pub segment : SegmentState
   pub at : ℕ
 
 -- the same of these
-pub record GoesOnTiles (old : TileWalk) (item : Option Span) (new : TileWalk) : Type 0 where
+pub record GoesOnTiles (old : TileWalk) (item : Option TileInfo) (new : TileWalk) : Type 0 where
   pub segment : new.segment ≡ old.segment
   pub place : new.at ≡ place_behind old.at item
-  pub says : Answers old.segment (λ d. slice_get (spans (live d)) old.at) (option_map as_span item)
+  pub says : AnswersWith old.segment (λ d. slice_get (spans (live d)) old.at) (option_map as_span item)
 
 -- ---- all objects, by their offsets
 
 -- an iterator over all objects: how many of them it has given
 pub record ObjectWalk : Type 0 where
-  pub segment : State
+  pub segment : SegmentState
   pub at : ℕ
 
 -- the same of these
@@ -94,21 +94,21 @@ abbrev pub own_before : Directory → ℕ → ℕ
 own_before d i = length (filter is_own_span (take i (spans (live d))))
 
 -- the blocks and gaps that were passed are those of so many objects
-pub record HasPassed (s : State) (tiles : TileWalk) (at : ℕ) : Type 0 where
+pub record HasPassed (s : SegmentState) (tiles : TileWalk) (at : ℕ) : Type 0 where
   pub segment : tiles.segment ≡ s
-  pub count : Answers s (λ d. own_before d tiles.at) at
+  pub count : AnswersWith s (λ d. own_before d tiles.at) at
 
 -- the next block of an object, and the blocks and gaps up to it are passed
-pub record GoesOnOwn (old : TileWalk) (item : Option Span) (new : TileWalk) : Type 0 where
+pub record GoesOnOwn (old : TileWalk) (item : Option TileInfo) (new : TileWalk) : Type 0 where
   pub segment : new.segment ≡ old.segment
-  pub says : (d : Directory) → StandsFor old.segment.cut.bytes d
+  pub says : (d : Directory) → DenotesCurrent old.segment.cut.bytes d
       → option_map as_span item ≡ slice_get (own_spans d) (own_before d old.at)
-  pub count : (d : Directory) → StandsFor old.segment.cut.bytes d
+  pub count : (d : Directory) → DenotesCurrent old.segment.cut.bytes d
       → own_before d new.at ≡ place_behind (own_before d old.at) item
 
 -- the block is that of the object at a place
-pub record IsOwnBlock (s : State) (at : ℕ) (block : Span) : Type 0 where
-  pub stands : (d : Directory) → StandsFor s.cut.bytes d → Some (as_span block) ≡ slice_get (own_spans d) at
+pub record IsObjectTile (s : SegmentState) (at : ℕ) (block : TileInfo) : Type 0 where
+  pub stands : (d : Directory) → DenotesCurrent s.cut.bytes d → Some (as_span block) ≡ slice_get (own_spans d) at
 
 -- how many objects the bytes have, as their tags say
 abbrev pub own_count : List ℕ → ℕ

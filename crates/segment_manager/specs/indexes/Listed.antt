@@ -1,21 +1,21 @@
 -- Where the entry of an object stands that is known by its handle.
 use Rattle.std.specs.Prelude.{◌≡◌, ℕ, Option, Some, None, List}
 use Rattle.raw_region.specs.Memory.{bytes_of}
-use Rattle.best_fit.specs.Table.{Table}
+use Rattle.best_fit.specs.Table.{BackingArray}
 use Rattle.seg_types.specs.declared.kinds.Class.TheVariants.{Anonymous}
 use Rattle.seg_types.specs.Names as names
 use Rattle.seg_index.specs.declared.index.Index.{Index}
 use Rattle.seg_index.specs.declared.keys.Entry.{Entry}
 use Rattle.seg_index.specs.declared.keys.Lookup.TheVariants.{Found}
 use Rattle.seg_index.specs.Held.{IsIndexOf, place_of}
-use Rattle.seg_index.specs.Lookups.{IsPlace}
+use Rattle.seg_index.specs.Lookups.{FindsPosition}
 use Rattle.segment_manager.specs.declared.objects.destroying.Listed.{Listed}
 use Rattle.segment_manager.specs.Directory.{Object, Directory, object_at}
 use Rattle.segment_manager.specs.indexes.Indexed.{Seeks}
-use Rattle.segment_manager.specs.State.{StandsFor, State}
+use Rattle.segment_manager.specs.State.{DenotesCurrent, SegmentState}
 
 -- the object of the handle has an entry, which is found by its own key
-pub record HasEntry (i : Index) (e : Entry) (d : Directory) (h : ℕ) : Type 0 where
+pub record HasIndexEntry (i : Index) (e : Entry) (d : Directory) (h : ℕ) : Type 0 where
   pub object : Object
   pub is : object_at d (names.ByHandle h) ≡ Some object
   pub key : names.Key
@@ -23,23 +23,23 @@ pub record HasEntry (i : Index) (e : Entry) (d : Directory) (h : ℕ) : Type 0 w
   pub found : object_at d key ≡ Some object
 
 -- it has one in each directory that the bytes stand for
-abbrev pub HasEntries : State → Index → Entry → ℕ → Type 0
-HasEntries s i e h = (d : Directory) → StandsFor s.cut.bytes d → HasEntry i e d h
+abbrev pub HasEntries : SegmentState → Index → Entry → ℕ → Type 0
+HasEntries s i e h = (d : Directory) → DenotesCurrent s.cut.bytes d → HasIndexEntry i e d h
 
 -- it stands at this place of the index
-pub record IsEntryAt (s : State) (h : ℕ) (i : Index) (at : ℕ) : Type 0 where
+pub record IsEntryAt (s : SegmentState) (h : ℕ) (i : Index) (at : ℕ) : Type 0 where
   pub entry : Entry
   pub leads : HasEntries s i entry h
-  pub found : (t : Table) (handles : List ℕ) → IsIndexOf s.cut (place_of i) t handles
+  pub found : (t : BackingArray) (handles : List ℕ) → IsIndexOf s.cut (place_of i) t handles
       → IsPlace (bytes_of s.cut.bytes) entry handles (Found at)
 
 -- or it has none, since it has no key
-abbrev pub IsAnonymousAt : State → ℕ → Type 0
+abbrev pub IsAnonymousAt : SegmentState → ℕ → Type 0
 IsAnonymousAt s h =
-    (d : Directory) → StandsFor s.cut.bytes d → (o : Object) × (object_at d (names.ByHandle h) ≡ Some o)
+    (d : Directory) → DenotesCurrent s.cut.bytes d → (o : Object) × (object_at d (names.ByHandle h) ≡ Some o)
     × (o.class ≡ Anonymous)
 
 -- where the entry of the object of a handle stands, if it has one
-abbrev pub IsListed : State → ℕ → Option Listed → Type 0
+abbrev pub IsListed : SegmentState → ℕ → Option Listed → Type 0
 IsListed s h None = IsAnonymousAt s h
 IsListed s h (Some l) = IsEntryAt s h l.index l.place

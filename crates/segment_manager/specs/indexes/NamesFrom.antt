@@ -3,7 +3,7 @@ use Rattle.std.specs.Prelude.{◌≡◌, ℕ, ◌<◌, ◌≤◌, Bool, true, fa
 use Rattle.std.specs.Cmp.Lexicographic.{slice_cmp}
 use Rattle.std.specs.Ordering.{nat_cmp, is_lt}
 use Rattle.segment_manager.specs.Directory.{Directory, Object, named_objects}
-use Rattle.segment_manager.specs.State.{State, StandsFor}
+use Rattle.segment_manager.specs.State.{SegmentState, DenotesCurrent}
 
 -- whether the name of an object stands before a text
 abbrev pub is_before : List ℕ → Object → Bool
@@ -16,5 +16,5 @@ pub record PartsNames (text : List ℕ) (os : List Object) (at : ℕ) : Type 0 w
   pub from : (j : ℕ) (o : Object) → slice_get os j ≡ Some o → at ≤ j → is_before text o ≡ false
 
 -- the place is that of the first name that does not stand before the text, or their number where all do
-pub record IsFirstFrom (s : State) (text : List ℕ) (at : ℕ) : Type 0 where
-  pub parts : (d : Directory) → StandsFor s.cut.bytes d → PartsNames text (named_objects d) at
+pub record IsFirstFrom (s : SegmentState) (text : List ℕ) (at : ℕ) : Type 0 where
+  pub parts : (d : Directory) → DenotesCurrent s.cut.bytes d → PartsNames text (named_objects d) at

@@ -2,8 +2,8 @@
 -- own.
 use Rattle.std.specs.Prelude.{◌≡◌, ℕ, Some, List, [], slice_get}
 use Rattle.raw_region.specs.Format.{current}
-use Rattle.raw_region.specs.Memory.{Cut, SamePlace}
-use Rattle.best_fit.specs.Table.{no_table}
+use Rattle.raw_region.specs.Memory.{WindowState, SameSurroundings}
+use Rattle.best_fit.specs.Table.{no_backing}
 use Rattle.seg_types.specs.declared.kinds.Class.TheVariants.{Anonymous}
 use Rattle.seg_types.specs.Names.{ByHandle}
 use Rattle.seg_index.specs.declared.index.Index.{Index}
@@ -11,20 +11,20 @@ use Rattle.segment_manager.specs.Denotes.{Denotes}
 use Rattle.segment_manager.specs.Directory.{Value, Numbers, Elements, Bytes, Pairs, Texts, Object, Directory, object_at}
 use Rattle.segment_manager.specs.Directory.{without_object}
 use Rattle.segment_manager.specs.indexes.Indexed.{objects_of}
-use Rattle.segment_manager.specs.State.{StandsFor}
+use Rattle.segment_manager.specs.State.{DenotesCurrent}
 use Rattle.segment_manager.specs.Step.{changed}
 
 -- the value without a block: a container with nothing in it and no place
 abbrev pub emptied : Value → Value
 emptied (Numbers k zs) = Numbers k zs
-emptied (Elements k zs t) = Elements k [] no_table
-emptied (Bytes bs t) = Bytes [] no_table
+emptied (Elements k zs t) = Elements k [] no_backing
+emptied (Bytes bs t) = Bytes [] no_backing
 emptied (Pairs k v ps) = Pairs k v []
-emptied (Texts ps t) = Texts [] no_table
+emptied (Texts ps t) = Texts [] no_backing
 
 -- the new bytes denote the directory, in the place of the old ones
-pub record Becomes (old new : Cut) (after : Directory) : Type 0 where
-  pub place : SamePlace old new
+pub record Becomes (old new : WindowState) (after : Directory) : Type 0 where
+  pub place : SameSurroundings old new
   pub denotes : Denotes current new.bytes after
 
 -- ---- its contents
@@ -32,14 +32,14 @@ pub record Becomes (old new : Cut) (after : Directory) : Type 0 where
 -- an object has the handle
 pub record HoldsObject (b : List ℕ) (h : ℕ) : Type 0 where
   pub directory : Directory
-  pub stands : StandsFor b directory
+  pub stands : DenotesCurrent b directory
   pub object : Object
   pub is : object_at directory (ByHandle h) ≡ Some object
 
 -- it has an emptied value
-abbrev pub Empties : Cut → Cut → ℕ → Type 0
+abbrev pub Empties : WindowState → WindowState → ℕ → Type 0
 Empties old new h =
-    (d : Directory) (o : Object) → StandsFor old.bytes d → object_at d (ByHandle h) ≡ Some o
+    (d : Directory) (o : Object) → DenotesCurrent old.bytes d → object_at d (ByHandle h) ≡ Some o
     → Becomes old new (changed d o (emptied o.value))
 
 -- ---- the object
@@ -47,18 +47,18 @@ Empties old new h =
 -- an object has the entry at a place of an index
 pub record HoldsEntry (b : List ℕ) (i : Index) (at : ℕ) : Type 0 where
   pub directory : Directory
-  pub stands : StandsFor b directory
+  pub stands : DenotesCurrent b directory
   pub object : Object
   pub is : slice_get (objects_of i directory) at ≡ Some object
 
 -- it is gone with its entry
-abbrev pub RemovesEntry : Cut → Cut → Index → ℕ → Type 0
+abbrev pub RemovesEntry : WindowState → WindowState → Index → ℕ → Type 0
 RemovesEntry old new i at =
-    (d : Directory) (o : Object) → StandsFor old.bytes d → slice_get (objects_of i d) at ≡ Some o
+    (d : Directory) (o : Object) → DenotesCurrent old.bytes d → slice_get (objects_of i d) at ≡ Some o
     → Becomes old new (without_object d o)
 
 -- the object of a handle is gone, if it has no key
-abbrev pub RemovesAnonymous : Cut → Cut → ℕ → Type 0
+abbrev pub RemovesAnonymous : WindowState → WindowState → ℕ → Type 0
 RemovesAnonymous old new h =
-    (d : Directory) (o : Object) → StandsFor old.bytes d → object_at d (ByHandle h) ≡ Some o → o.class ≡ Anonymous
+    (d : Directory) (o : Object) → DenotesCurrent old.bytes d → object_at d (ByHandle h) ≡ Some o → o.class ≡ Anonymous
     → Becomes old new (without_object d o)

@@ -5,7 +5,7 @@ use Rattle.seg_types.specs.declared.refusals.Refusal.{Refusal}
 use Rattle.seg_types.specs.Names.{Key, ByHandle}
 use Rattle.segment_manager.specs.Directory.{Object, Directory, object_at}
 use Rattle.segment_manager.specs.Answers.{Answer, Absent, Found}
-use Rattle.segment_manager.specs.State.{State, StandsFor, answer_of}
+use Rattle.segment_manager.specs.State.{SegmentState, DenotesCurrent, answer_of}
 
 -- the handle of the object of a key
 abbrev pub handle_at : Directory → Key → Option ℕ
@@ -16,8 +16,8 @@ abbrev pub is_object_at : Directory → ℕ → Bool
 is_object_at d h = is_some (object_at d (ByHandle h))
 
 -- the number is below this one of the directory
-pub record IsBelow (s : State) (count : Directory → ℕ) (n : ℕ) : Type 0 where
-  pub below : (d : Directory) → StandsFor s.cut.bytes d → n < count d
+pub record IsBelow (s : SegmentState) (count : Directory → ℕ) (n : ℕ) : Type 0 where
+  pub below : (d : Directory) → DenotesCurrent s.cut.bytes d → n < count d
 
 -- a handle and a count, or nothing, as an answer
 abbrev pub found_or_absent : Option (ℕ × ℕ) → Answer

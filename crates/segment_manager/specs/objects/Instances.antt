@@ -6,9 +6,9 @@ use Rattle.seg_types.specs.declared.kinds.Class.TheVariants.{Anonymous, Named, U
 use Rattle.seg_types.specs.declared.refusals.Refusal.{Refusal}
 use Rattle.seg_types.specs.declared.refusals.Refusal.TheVariants.{NotFound}
 use Rattle.seg_types.specs.Names.{Key}
-use Rattle.segment_manager.specs.declared.objects.telling.Instance.{Instance}
+use Rattle.segment_manager.specs.declared.objects.instance_info.Instance.{Instance}
 use Rattle.segment_manager.specs.Directory.{Object, Directory, count_of, kind_of, object_at}
-use Rattle.segment_manager.specs.State.{State, StandsFor}
+use Rattle.segment_manager.specs.State.{SegmentState, DenotesCurrent}
 
 -- a name, of an object of a class that has one
 abbrev pub name_in : Class → List ℕ → Option (List ℕ)
@@ -29,15 +29,16 @@ pub record IsInstance (o : Object) (said : Instance) : Type 0 where
   pub at : said.handle ≡ handle o.extent
 
 -- it is said of the object of a key
-pub record SaysOf (s : State) (key : Key) (said : Instance) : Type 0 where
-  pub says : (d : Directory) → StandsFor s.cut.bytes d → (o : Object) × (object_at d key ≡ Some o) × IsInstance o said
+pub record SaysOf (s : SegmentState) (key : Key) (said : Instance) : Type 0 where
+  pub says : (d : Directory) → DenotesCurrent s.cut.bytes d → (o : Object) × (object_at d key ≡ Some o)
+      × IsInstance o said
 
 -- it is said of the object at a place in a list
-pub record SaysAt (s : State) (objects : Directory → List Object) (i : ℕ) (said : Instance) : Type 0 where
-  pub says : (d : Directory) → StandsFor s.cut.bytes d → (o : Object) × (slice_get (objects d) i ≡ Some o)
+pub record SaysAt (s : SegmentState) (objects : Directory → List Object) (i : ℕ) (said : Instance) : Type 0 where
+  pub says : (d : Directory) → DenotesCurrent s.cut.bytes d → (o : Object) × (slice_get (objects d) i ≡ Some o)
       × IsInstance o said
 
 -- no object has the key
-pub record IsMissing (s : State) (key : Key) (why : Refusal) : Type 0 where
+pub record IsMissing (s : SegmentState) (key : Key) (why : Refusal) : Type 0 where
   pub is : why ≡ NotFound
-  pub missing : (d : Directory) → StandsFor s.cut.bytes d → object_at d key ≡ None
+  pub missing : (d : Directory) → DenotesCurrent s.cut.bytes d → object_at d key ≡ None

@@ -1,7 +1,7 @@
 -- What a construction takes from an iterator.
 use Rattle.std.specs.Prelude.{◌≡◌, ◌⊎◌, ℕ, ◌<◌, ℤ, true, false, None, Some, Option, Result, Ok, Err, IfErr, IfOk}
 use Rattle.std.specs.Prelude.{MatchResult, List, [], length, map, option_map, ⊤}
-use Rattle.raw_region.specs.Memory.{Cut}
+use Rattle.raw_region.specs.Memory.{WindowState}
 use Rattle.std.specs.Iterator.{Yields, YieldsThen}
 use Rattle.seg_types.specs.declared.kinds.ScalarKind.{ScalarKind}
 use Rattle.seg_types.specs.declared.refusals.Refusal.{Refusal}
@@ -12,7 +12,7 @@ use Rattle.seg_types.specs.Commands.{ConstructIt}
 use Rattle.segment_manager.specs.Directory.{Directory, object_at}
 use Rattle.segment_manager.specs.objects.Standing.{pair_of_kind}
 use Rattle.segment_manager.specs.declared.modes.Mode.{Mode}
-use Rattle.segment_manager.specs.State.{Answers, IsStep, StandsFor, State, handle_answer}
+use Rattle.segment_manager.specs.State.{AnswersWith, TakesStep, DenotesCurrent, SegmentState, handle_answer}
 use Rattle.segment_manager.specs.Step.{is_read_only}
 
 -- Too few items came, or it is refused before one is taken.
@@ -21,26 +21,29 @@ TakesUntil gives count before xs after OutOfRange = YieldsThen gives before xs N
 TakesUntil gives count before xs after why = (xs ≡ []) × (after ≡ before)
 
 -- Nothing changed, but where blocks were asked for, which were given back.
-abbrev pub KeepsUnasked : State → State → Refusal → Type 0
+abbrev pub KeepsUnasked : SegmentState → SegmentState → Refusal → Type 0
 KeepsUnasked old new NoSpace = ⊤
 KeepsUnasked old new OutOfRange = ⊤
 KeepsUnasked old new why = new ≡ old
 
 -- The call is the step of the items that it took, as whole numbers: as many as the count says, or fewer where no more
 -- came. It is refused for another reason before it takes one.
-pub record TakesItems {S A : Type 0} (gives : S → Option A → S → Type 0) (whole : A → ℤ) (old new : State) (key : Key)
+pub record ConstructsFromItems {S A : Type 0} (gives : S → Option A → S → Type 0) (whole : A
+    → ℤ) (old new : SegmentState) (key : Key)
     (k : ScalarKind) (count : ℕ) (before after : S) (result : Result ℕ Refusal) : Type 0 where
   pub items : List A
-  pub step : IsStep old new (ConstructIt key k count (map whole items)) (handle_answer result)
+  pub step : TakesStep old new (ConstructIt key k count (map whole items)) (handle_answer result)
   pub taken : MatchResult result (λ h. Yields gives before items after × (length items ≡ count))
       (TakesUntil gives count before items after)
   pub unchanged : IfErr result (KeepsUnasked old new)
 
 -- the same on the heap of a segment that may be changed
-abbrev pub TakesItemsIn : {S A : Type 0} → (S → Option A → S → Type 0) → (A → ℤ) → Cut → Cut → Key → ScalarKind → ℕ → S
+abbrev pub TakesItemsIn : {S A : Type 0} → (S → Option A → S → Type 0) → (A → ℤ) → WindowState → WindowState → Key
+    → ScalarKind → ℕ → S
     → S → Result ℕ Refusal → Type 0
 TakesItemsIn gives whole old new key k count before after result = (mode : Mode) → is_read_only mode ≡ false
-    → TakesItems gives whole (record { cut = old; mode = mode }) (record { cut = new; mode = mode }) key k count before
+    → ConstructsFromItems gives whole (record { cut = old; mode = mode }) (record { cut = new; mode = mode }) key k
+    count before
     after result
 
 -- ---- found, or made of items
@@ -54,39 +57,44 @@ handle_in (Ok (h, n)) = Ok h
 handle_in (Err why) = Err why
 
 -- Nothing changes, and no item is taken.
-pub record StaysUntaken {S : Type 0} (old new : State) (before after : S) : Type 0 where
+pub record StaysUntaken {S : Type 0} (old new : SegmentState) (before after : S) : Type 0 where
   pub segment : new ≡ old
   pub items : after ≡ before
 
 -- the segment is open for reading
-pub record IsOnlyRead {S : Type 0} (old new : State) (before after : S) (result : Result (ℕ × ℕ) Refusal) : Type 0 where
+pub record RefusesReadOnly {S : Type 0} (old new : SegmentState) (before after : S) (result : Result (ℕ
+    × ℕ) Refusal) : Type 0 where
   pub reading : is_read_only old.mode ≡ true
   pub is : result ≡ Err ReadOnly
   pub stays : StaysUntaken old new before after
 
 -- an object has the key
-pub record IsThere {S : Type 0} (old new : State) (key : Key) (k : ScalarKind) (before after : S)
+pub record FindsExisting {S : Type 0} (old new : SegmentState) (key : Key) (k : ScalarKind) (before after : S)
     (result : Result (ℕ × ℕ) Refusal) : Type 0 where
   pub writing : is_read_only old.mode ≡ false
-  pub is : Answers old (found_at k key) (Some result)
+  pub is : AnswersWith old (found_at k key) (Some result)
   pub stays : StaysUntaken old new before after
 
 -- none has, and one is made of items
-pub record IsTakenFrom {S A : Type 0} (gives : S → Option A → S → Type 0) (whole : A → ℤ) (old new : State) (key : Key)
+pub record ConstructsFromItemsOk {S A : Type 0} (gives : S → Option A → S → Type 0) (whole : A
+    → ℤ) (old new : SegmentState) (key : Key)
     (k : ScalarKind) (count : ℕ) (before after : S) (result : Result (ℕ × ℕ) Refusal) : Type 0 where
   pub writing : is_read_only old.mode ≡ false
-  pub missing : (d : Directory) → StandsFor old.cut.bytes d → object_at d key ≡ None
-  pub takes : TakesItems gives whole old new key k count before after (handle_in result)
+  pub missing : (d : Directory) → DenotesCurrent old.cut.bytes d → object_at d key ≡ None
+  pub takes : ConstructsFromItems gives whole old new key k count before after (handle_in result)
   pub counted : IfOk result (λ (h, n). n ≡ count)
 
-abbrev pub FindsOrTakes : {S A : Type 0} → (S → Option A → S → Type 0) → (A → ℤ) → State → State → Key → ScalarKind → ℕ
+abbrev pub FindsOrTakes : {S A : Type 0} → (S → Option A → S → Type 0) → (A → ℤ) → SegmentState → SegmentState → Key
+    → ScalarKind → ℕ
     → S → S → Result (ℕ × ℕ) Refusal → Type 0
 FindsOrTakes gives whole old new key k count before after result =
-    IsOnlyRead old new before after result
-    ⊎ (IsThere old new key k before after result ⊎ IsTakenFrom gives whole old new key k count before after result)
+    RefusesReadOnly old new before after result
+    ⊎ (FindsExisting old new key k before after result
+    ⊎ ConstructsFromItemsOk gives whole old new key k count before after result)
 
 -- the same on the heap of a segment that may be changed
-abbrev pub FindsOrTakesIn : {S A : Type 0} → (S → Option A → S → Type 0) → (A → ℤ) → Cut → Cut → Key → ScalarKind → ℕ
+abbrev pub FindsOrTakesIn : {S A : Type 0} → (S → Option A → S → Type 0) → (A → ℤ) → WindowState → WindowState → Key
+    → ScalarKind → ℕ
     → S → S → Result (ℕ × ℕ) Refusal → Type 0
 FindsOrTakesIn gives whole old new key k count before after result = (mode : Mode) → is_read_only mode ≡ false
     → FindsOrTakes gives whole (record { cut = old; mode = mode }) (record { cut = new; mode = mode }) key k count

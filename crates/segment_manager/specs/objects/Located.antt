@@ -1,5 +1,6 @@
 -- An object as it was located: what calls take that look nothing up again.
-use Rattle.std.specs.Prelude.{ℕ, ◌+◌, ◌*◌, Option, Some, None, Result, Ok, Err, length, nat_lt, option_map, if◌then◌else◌}
+use Rattle.std.specs.Prelude.{ℕ, ◌+◌, ◌*◌, Option, Some, None, Result, Ok, Err, length, nat_lt, option_map}
+use Rattle.std.specs.Prelude.{if◌then◌else◌}
 use Rattle.best_fit.specs.Extents.{handle}
 use Rattle.seg_types.specs.declared.kinds.Kind.{Kind}
 use Rattle.seg_types.specs.declared.kinds.Kind.TheVariants.{Scalar}
@@ -8,9 +9,9 @@ use Rattle.seg_types.specs.declared.refusals.Refusal.{Refusal}
 use Rattle.seg_types.specs.declared.refusals.Refusal.TheVariants.{OutOfRange, WrongKind}
 use Rattle.seg_types.specs.{Kinds.same_kind, Kinds.size_of, Names.ByHandle, Names.Key}
 use Rattle.best_fit.specs.declared.places.Place.{Place}
-use Rattle.segment_manager.specs.declared.objects.targets.Object.{Object as Located}
+use Rattle.segment_manager.specs.declared.objects.object_ref.Object.{Object as Located}
 use Rattle.segment_manager.specs.Directory.{Object, Directory, count_of, kind_of, object_at, padded}
-use Rattle.segment_manager.specs.{Layout.head_len, State.Answers, State.State}
+use Rattle.segment_manager.specs.{Layout.head_len, State.AnswersWith, State.SegmentState}
 
 -- what is said of an object when it is located
 abbrev pub located : Object → Located
@@ -25,12 +26,12 @@ abbrev pub located_at : Directory → Key → Option Located
 located_at d key = option_map located (object_at d key)
 
 -- an object of the segment has the handle, and this is said of it
-abbrev pub IsObject : Located → State → Type 0
-IsObject o s = Answers s (λ d. located_at d (ByHandle o.handle)) (Some o)
+abbrev pub IsObject : Located → SegmentState → Type 0
+IsObject o s = AnswersWith s (λ d. located_at d (ByHandle o.handle)) (Some o)
 
 -- it is the object of the key, and nothing else is said of it than what is so
-pub record IsLocated (s : State) (key : Key) (o : Located) : Type 0 where
-  pub at : Answers s (λ d. located_at d key) (Some o)
+pub record IsLocated (s : SegmentState) (key : Key) (o : Located) : Type 0 where
+  pub at : AnswersWith s (λ d. located_at d key) (Some o)
   pub here : IsObject o s
 
 -- where its value begins

@@ -1,10 +1,10 @@
 -- How an object comes to be: its blocks are taken into use, they are written, and then an entry leads to it.
 use Rattle.std.specs.Prelude.{◌≡◌, ℕ, ◌≤◌, ◌⊎◌, Option, None, Result, MatchResult, List, [], IsTrue, ⊤}
 use Rattle.raw_region.specs.Format.{current}
-use Rattle.raw_region.specs.Memory.{Cut}
+use Rattle.raw_region.specs.Memory.{WindowState}
 use Rattle.block_tags.specs.declared.tile.Role.TheVariants.{Object as ObjectRole, Index as IndexRole}
 use Rattle.best_fit.specs.Fit.{place}
-use Rattle.best_fit.specs.Heap.{IsAllocated, Keeps, LaysOut, live_of}
+use Rattle.best_fit.specs.Heap.{AllocatesOk, KeepsBlocks, EncodesLiveSet, live_of}
 use Rattle.seg_types.specs.declared.kinds.ScalarKind.{ScalarKind}
 use Rattle.seg_types.specs.declared.kinds.Kind.{Kind}
 use Rattle.seg_types.specs.declared.kinds.Kind.TheVariants.{Scalar}
@@ -22,30 +22,31 @@ use Rattle.segment_manager.specs.declared.blocks.requesting.Requested.{Requested
 -- ---- requests
 
 -- what the index grows into where it is full, and the block of the object, with n bytes
-pub record IsRequested (old new : Cut) (at n : ℕ) (growth : Option ℕ) (h : ℕ) : Type 0 where
-  pub between : Cut
+pub record RequestsBlocksOk (old new : WindowState) (at n : ℕ) (growth : Option ℕ) (h : ℕ) : Type 0 where
+  pub between : WindowState
   pub grows : IsGrowth old between at growth
-  pub takes : IsAllocated current between new n ObjectRole h
+  pub takes : AllocatesOk current between new n ObjectRole h
 
 -- the index is full and finds no block; or the object finds none
-abbrev pub FindsNone : Cut → ℕ → ℕ → Type 0
+abbrev pub FindsNone : WindowState → ℕ → ℕ → Type 0
 FindsNone old at n =
     ((capacity_at old at ≤ entry_count old at) × (place (live_of old.bytes) (grown_bytes old at) IndexRole ≡ None))
-    ⊎ ((growth : Option ℕ) × (between : Cut) × IsGrowth old between at growth
+    ⊎ ((growth : Option ℕ) × (between : WindowState) × IsGrowth old between at growth
     × (place (live_of between.bytes) n ObjectRole ≡ None))
 
 -- the same blocks are in use as before, and nothing in them changed
-pub record IsRestored (old new : Cut) : Type 0 where
-  pub laid : LaysOut current new.bytes (live_of old.bytes)
-  pub keeps : Keeps old new (live_of old.bytes).extents
+pub record RestoresBlocks (old new : WindowState) : Type 0 where
+  pub laid : EncodesLiveSet current new.bytes (live_of old.bytes)
+  pub keeps : KeepsBlocks old new (live_of old.bytes).extents
 
-pub record IsUnmet (old new : Cut) (at n : ℕ) : Type 0 where
-  pub restored : IsRestored old new
+pub record RequestsBlocksErr (old new : WindowState) (at n : ℕ) : Type 0 where
+  pub restored : RestoresBlocks old new
   pub none : FindsNone old at n
 
-abbrev pub Requests : {E : Type 0} → Cut → Cut → ℕ → ℕ → Result Requested E → Type 0
+abbrev pub Requests : {E : Type 0} → WindowState → WindowState → ℕ → ℕ → Result Requested E → Type 0
 Requests old new at n result =
-    MatchResult result (λ r. IsRequested old new at n r.growth.block r.handle) (λ e. IsUnmet old new at n)
+    MatchResult result (λ r. RequestsBlocksOk old new at n r.growth.block r.handle) (λ e.
+    RequestsBlocksErr old new at n)
 
 -- ---- keys of new objects
 

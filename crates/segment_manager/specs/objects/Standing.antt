@@ -2,7 +2,7 @@
 use Rattle.std.specs.Prelude.{◌≡◌, ℕ, ◌+◌, ◌*◌, List, length, replicate, flat_map, IsTrue, Some, None, Result, Ok}
 use Rattle.std.specs.Prelude.{Err, if◌then◌else◌, nat_lt}
 use Rattle.raw_region.specs.Format.{current}
-use Rattle.raw_region.specs.Memory.{Memory, bytes_of, word_at, Has}
+use Rattle.raw_region.specs.Memory.{Memory, bytes_of, word_at, HasBytesAt}
 use Rattle.best_fit.specs.Extents.{handle}
 use Rattle.best_fit.specs.Heap.{live_of, has_room}
 use Rattle.seg_types.specs.declared.kinds.ScalarKind.{ScalarKind}
@@ -21,7 +21,7 @@ use Rattle.segment_manager.specs.Directory.{padded}
 use Rattle.segment_manager.specs.Denotes.{IsObjectAt, padded_name, two_halves}
 
 -- the object stands in the block of a handle, which has the room for it
-pub record StandsAt (b : List ℕ) (h : ℕ) (o : Object) : Type 0 where
+pub record IsObjectInBlock (b : List ℕ) (h : ℕ) (o : Object) : Type 0 where
   pub at : h ≡ handle o.extent
   pub good : IsTrue (is_object current o)
   pub room : IsTrue (has_room (live_of b) h (object_len o.name o.value))
@@ -29,7 +29,7 @@ pub record StandsAt (b : List ℕ) (h : ℕ) (o : Object) : Type 0 where
 
 -- some object does
 abbrev pub HasObject : List ℕ → ℕ → Type 0
-HasObject b h = (o : Object) × StandsAt b h o
+HasObject b h = (o : Object) × IsObjectInBlock b h o
 
 -- what is read of a head is what it says of the object
 pub record IsHeadOf (o : Object) (head : Head) : Type 0 where
@@ -42,7 +42,7 @@ pub record IsHeadOf (o : Object) (head : Head) : Type 0 where
 pub record IsHeadAt (m : Memory) (h : ℕ) (kind : Kind) (count : ℕ) (class : Class) (bytes : List ℕ) : Type 0 where
   pub kind_count : word_at m h ≡ two_halves (code_of kind) count
   pub name_class : word_at m (h + name_class_at) ≡ two_halves (length bytes) (class_code class)
-  pub name : Has m (h + head_len) (padded_name bytes)
+  pub name : HasBytesAt m (h + head_len) (padded_name bytes)
 
 -- the same bytes, n times
 abbrev pub repeated : ℕ → List ℕ → List ℕ

@@ -1,6 +1,6 @@
 //! A segment whose end moves in its region.
 ghost use Rattle.std.specs.Prelude.{◌≡◌, ◌+◌, ◌%◌, ◌≤◌, false};
-ghost use Rattle.segment_manager.specs.{Directory.Directory, State.StandsFor, Step.is_read_only};
+ghost use Rattle.segment_manager.specs.{Directory.Directory, State.DenotesCurrent, Step.is_read_only};
 ghost use Rattle.segment_manager.specs.blocks.Resized.{Resizes, grown, room_behind, shrunk};
 
 use crate::layout::SIZE_AT;
@@ -18,10 +18,10 @@ use raw_region::Steps;
 /// bytes then, and its region has room for them. `grow_shrink::grow` tests all this and refuses.
 pub fn extend_end(segment: &mut Segment, extra: u64)
     requires writing { is_read_only segment.old.mode ≡ false }
-    requires long { 32 ≤ extra }
+    requires min_len { 32 ≤ extra }
     requires multiple { extra % 16 ≡ 0 }
-    requires small { (d : Directory) → StandsFor segment.old.cut.bytes d → d.size + extra ≤ 1073741824 }
-    requires inside { extra ≤ room_behind segment.old.cut }
+    requires max_size { (d : Directory) → DenotesCurrent segment.old.cut.bytes d → d.size + extra ≤ 1073741824 }
+    requires in_bounds { extra ≤ room_behind segment.old.cut }
     ensures { Resizes segment.old segment.new (λ d. grown d extra) }
 {
     segment.heap.extend_end(extra, &mut Steps::new());

@@ -2,11 +2,11 @@
 ghost use Rattle.std.specs.Prelude.{◌≡◌, ◌+◌, ℕ, Some, OnErr, OnOk, length, option_map, slice_get};
 ghost use Rattle.raw_region.specs.{Format.current, Memory.bytes_of};
 ghost use Rattle.block_tags.specs.Tiles.{tiles_of};
-ghost use Rattle.best_fit.specs.{Extents.spans, FreeTree.span, Heap.IsTileOf, Heap.IsZeroed};
+ghost use Rattle.best_fit.specs.{Extents.spans, FreeTree.span, Heap.IsTileOf, Heap.ZeroesFree};
 ghost use Rattle.seg_types.specs.Commands.{AllDeallocated, Sanity, ZeroFree};
 ghost use Rattle.segment_manager.specs.{Answers.Truth, Directory.live, indexes.Iterating.is_own_span};
 ghost use Rattle.segment_manager.specs.Calls.{HasZeroGaps, IsTileOfIndex, as_span};
-ghost use Rattle.segment_manager.specs.State.{Answers, IsReply, IsStep, done_answer};
+ghost use Rattle.segment_manager.specs.State.{AnswersWith, AnswersQuery, TakesStep, done_answer};
 
 use crate::segment::Segment;
 use block_tags::{Role, Tile};
@@ -14,7 +14,7 @@ use seg_types::Refusal;
 
 /// A block in use or a gap.
 #[derive(Clone, Copy, Debug, PartialEq, Eq)]
-pub struct Span {
+pub struct TileInfo {
     /// Where its tag begins, in bytes from the segment's start: a multiple of 16.
     pub offset: u64,
     /// The number of bytes with the tag: a multiple of 16, at least 32.
@@ -23,12 +23,12 @@ pub struct Span {
     pub use_of: Option<Role>,
 }
 
-impl Span {
+impl TileInfo {
     /// The block or gap of a tile.
-    pub fn of(tile: Tile) -> Span
+    pub fn of(tile: Tile) -> TileInfo
         ensures { as_span result ≡ span tile }
     {
-        Span {
+        TileInfo {
             offset: tile.offset,
             len: tile.len,
             use_of: tile.use_of,
@@ -60,18 +60,18 @@ impl Segment {
     /// first one on.
     ///
     /// Example: `let span = segment.tile(0)`.
-    pub fn tile(&self, index: u64) -> Option<Span>
-        ensures { Answers self.now (λ d. slice_get (spans (live d)) index) (option_map as_span result) }
+    pub fn tile(&self, index: u64) -> Option<TileInfo>
+        ensures { AnswersWith self.now (λ d. slice_get (spans (live d)) index) (option_map as_span result) }
     {
         let tile = self.heap.tile(index)?;
-        Some(Span::of(tile))
+        Some(TileInfo::of(tile))
     }
 
     /// Whether the segment is whole, as each segment is.
     ///
     /// Example: `if segment.sanity()`.
     pub fn sanity(&self) -> bool
-        ensures { IsReply self.now Sanity (Truth result) }
+        ensures { AnswersQuery self.now Sanity (Truth result) }
     {
         self.heap.sanity()
     }
@@ -80,7 +80,7 @@ impl Segment {
     ///
     /// Example: `if segment.all_deallocated()`.
     pub fn all_deallocated(&self) -> bool
-        ensures { IsReply self.now AllDeallocated (Truth result) }
+        ensures { AnswersQuery self.now AllDeallocated (Truth result) }
     {
         self.heap.live_count() == 0
     }
@@ -93,9 +93,9 @@ impl Segment {
     ///
     /// `ReadOnly` where the segment is open for reading. Nothing changes.
     pub fn zero_free(&mut self) -> Result<(), Refusal>
-        ensures step { IsStep self.old self.new ZeroFree (done_answer result) }
+        ensures step { TakesStep self.old self.new ZeroFree (done_answer result) }
         ensures zeros { OnOk result (HasZeroGaps self.new) }
-        ensures zeroed { OnOk result (IsZeroed current self.old.cut self.new.cut) }
+        ensures changes { OnOk result (ZeroesFree current self.old.cut self.new.cut) }
         ensures refused { OnErr result (self.new ≡ self.old) }
     {
         if self.is_read_only() {

@@ -4,7 +4,7 @@ ghost use Rattle.raw_region.specs.Memory.{bytes_of};
 ghost use Rattle.block_tags.specs.Tiles.{tiles_of};
 ghost use Rattle.segment_manager.specs.indexes.Iterating.{GoesOnTiles};
 
-use crate::blocks::tiles::{Span, next_tile};
+use crate::blocks::tiles::{TileInfo, next_tile};
 use crate::segment::Segment;
 use block_tags::Tile;
 use std::marker::Model;
@@ -31,21 +31,21 @@ impl<'a> Model for Tiles<'a> {
 }
 
 impl<'a> Iterator for Tiles<'a> {
-    type Item = Span;
+    type Item = TileInfo;
 
     ghost next_gives = { GoesOnTiles };
 
     ghost remaining = { λ w. at_most
         (length (tiles_of (bytes_of w.segment.cut.bytes) (length w.segment.cut.bytes)) - w.at) };
 
-    fn next(&mut self) -> Option<Span> {
+    fn next(&mut self) -> Option<TileInfo> {
         let tile = self.tile?;
         let segment = self.segment;
         // No segment has so many tiles that 64 bits do not count them, which its bytes say.
         let _ = segment.as_bytes();
         self.at += 1;
         self.tile = next_tile(segment, tile);
-        Some(Span::of(tile))
+        Some(TileInfo::of(tile))
     }
 }
 

@@ -5,9 +5,10 @@ ghost use Rattle.seg_types.specs.Commands.{Get, Set, literal_of};
 ghost use Rattle.seg_types.specs.Values.{kind_of_scalar, value_of_scalar};
 ghost use Rattle.segment_manager.specs.Calls.{elements_at, scalar_reply};
 ghost use Rattle.segment_manager.specs.Keeping.{ChangesElement};
-ghost use Rattle.segment_manager.specs.State.{Answers, IsReplyOfKind, IsStep, IsStepOfKind, done_answer, scalar_answer};
+ghost use Rattle.segment_manager.specs.State.{AnswersWith, AnswersQueryOfKind, TakesStep, TakesStepOfKind, done_answer};
+ghost use Rattle.segment_manager.specs.State.{scalar_answer};
 
-use crate::objects::targets::{Target, locate};
+use crate::objects::object_ref::{ObjectRef, locate};
 use crate::segment::Segment;
 use seg_types::{Kind, Refusal, ScalarKind, ScalarValue, by_kind, by_value};
 use seg_vector::SegString;
@@ -22,9 +23,9 @@ impl Segment {
     ///
     /// `NotFound` where no object has the key, `WrongKind` where its elements are no scalars, `OutOfRange` where it has
     /// none there.
-    pub fn get_any<O: Target>(&self, key: &O, index: u64) -> Result<ScalarValue, Refusal>
+    pub fn get_any<O: ObjectRef>(&self, key: &O, index: u64) -> Result<ScalarValue, Refusal>
         requires { O.stands key.now self.now }
-        ensures { Answers self.now (λ d. scalar_reply self.now.mode d (O.key key.now) (Get (O.key key.now) index))
+        ensures { AnswersWith self.now (λ d. scalar_reply self.now.mode d (O.key key.now) (Get (O.key key.now) index))
             (scalar_answer result) }
     {
         let object = locate(self, key)?;
@@ -41,14 +42,14 @@ impl Segment {
     }
 
     /// The same of a vector of scalars of a kind.
-    fn get_in_vector<O: Target>(
+    fn get_in_vector<O: ObjectRef>(
         &self,
         key: &O,
         kind: ScalarKind,
         index: u64,
     ) -> Result<ScalarValue, Refusal>
         requires { O.stands key.now self.now }
-        ensures { IsReplyOfKind self.now (O.key key.now) (VectorOf kind)
+        ensures { AnswersQueryOfKind self.now (O.key key.now) (VectorOf kind)
             (Get (O.key key.now) index) (scalar_answer result) }
     {
         macro_rules! got {
@@ -60,14 +61,14 @@ impl Segment {
     }
 
     /// `vec_set` of a value's kind.
-    fn set_in_vector<O: Target>(
+    fn set_in_vector<O: ObjectRef>(
         &mut self,
         key: &O,
         index: u64,
         value: ScalarValue,
     ) -> Result<(), Refusal>
         requires { O.stands key.now self.old }
-        ensures step { IsStepOfKind self.old self.new (O.key key.now) (VectorOf (kind_of_scalar value))
+        ensures step { TakesStepOfKind self.old self.new (O.key key.now) (VectorOf (kind_of_scalar value))
             (Set (O.key key.now) index (literal_of (kind_of_scalar value) (value_of_scalar value)))
             (done_answer result) }
         ensures refused { OnErr result (self.new ≡ self.old) }
@@ -90,15 +91,15 @@ impl Segment {
 ///
 /// `ReadOnly` where the segment is open for reading, and else `OutOfRange` where it has no element there. Nothing
 /// changes.
-pub fn set_any<O: Target>(
+pub fn set_any<O: ObjectRef>(
     segment: &mut Segment,
     key: &O,
     index: u64,
     value: ScalarValue,
 ) -> Result<(), Refusal>
     requires target { O.stands key.now segment.old }
-    requires of_kind { Answers segment.old (λ d. elements_at d (O.key key.now)) (Ok (kind_of_scalar value)) }
-    ensures step { IsStep segment.old segment.new
+    requires kind_fit { AnswersWith segment.old (λ d. elements_at d (O.key key.now)) (Ok (kind_of_scalar value)) }
+    ensures step { TakesStep segment.old segment.new
         (Set (O.key key.now) index (literal_of (kind_of_scalar value) (value_of_scalar value))) (done_answer result) }
     ensures refused { OnErr result (segment.new ≡ segment.old) }
     ensures element { OnOk result

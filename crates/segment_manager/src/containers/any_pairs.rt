@@ -2,10 +2,10 @@
 ghost use Rattle.std.specs.Prelude.{◌≡◌, OnErr, option_map};
 ghost use Rattle.seg_types.specs.{declared.kinds.Kind.TheVariants.Map as MapOf, Commands.Lookup, Commands.Put};
 ghost use Rattle.seg_types.specs.{Commands.Remove, Commands.literal_of, Values.kind_of_scalar, Values.value_of_scalar};
-ghost use Rattle.segment_manager.specs.{Keeping.KeepsWhere, Keeping.LacksPair, containers.Maps.any_value_answer};
-ghost use Rattle.segment_manager.specs.State.{IsReplyOfKind, IsStepOfKind, truth_answer};
+ghost use Rattle.segment_manager.specs.{Keeping.UnchangedWhere, Keeping.LacksPair, containers.Maps.any_value_answer};
+ghost use Rattle.segment_manager.specs.State.{AnswersQueryOfKind, TakesStepOfKind, truth_answer};
 
-use crate::objects::targets::Target;
+use crate::objects::object_ref::ObjectRef;
 use crate::segment::Segment;
 use seg_types::{Refusal, ScalarKind, ScalarValue, by_kind, by_value};
 
@@ -17,14 +17,14 @@ impl Segment {
     /// # Errors
     ///
     /// `NotFound` where no object has the key, `WrongKind` where it is of another kind.
-    pub fn map_get_any<O: Target>(
+    pub fn map_get_any<O: ObjectRef>(
         &self,
         key: &O,
         at: ScalarValue,
         values: ScalarKind,
     ) -> Result<Option<ScalarValue>, Refusal>
         requires { O.stands key.now self.now }
-        ensures { IsReplyOfKind self.now (O.key key.now) (MapOf (kind_of_scalar at) values)
+        ensures { AnswersQueryOfKind self.now (O.key key.now) (MapOf (kind_of_scalar at) values)
             (Lookup (O.key key.now) (literal_of (kind_of_scalar at) (value_of_scalar at))) (any_value_answer result) }
     {
         macro_rules! got {
@@ -45,14 +45,15 @@ impl Segment {
     /// `ReadOnly` where the segment is open for reading, and else `NotFound` where no object has the key, `WrongKind`
     /// where it is of another kind, `NoSpace` where the key is new and no gap is long enough for its block. Nothing
     /// changes.
-    pub fn map_put_any<O: Target>(
+    pub fn map_put_any<O: ObjectRef>(
         &mut self,
         key: &O,
         at: ScalarValue,
         value: ScalarValue,
     ) -> Result<bool, Refusal>
         requires { O.stands key.now self.old }
-        ensures step { IsStepOfKind self.old self.new (O.key key.now) (MapOf (kind_of_scalar at) (kind_of_scalar value))
+        ensures step { TakesStepOfKind self.old self.new (O.key key.now)
+            (MapOf (kind_of_scalar at) (kind_of_scalar value))
             (Put (O.key key.now) (literal_of (kind_of_scalar at) (value_of_scalar at))
             (literal_of (kind_of_scalar value) (value_of_scalar value))) (truth_answer result) }
         ensures refused { OnErr result (self.new ≡ self.old) }
@@ -69,17 +70,17 @@ impl Segment {
     ///
     /// `ReadOnly` where the segment is open for reading, and else `NotFound` where no object has the key, `WrongKind`
     /// where it is of another kind. Nothing changes.
-    pub fn map_erase_any<O: Target>(
+    pub fn map_erase_any<O: ObjectRef>(
         &mut self,
         key: &O,
         at: ScalarValue,
         values: ScalarKind,
     ) -> Result<bool, Refusal>
         requires { O.stands key.now self.old }
-        ensures step { IsStepOfKind self.old self.new (O.key key.now) (MapOf (kind_of_scalar at) values)
+        ensures step { TakesStepOfKind self.old self.new (O.key key.now) (MapOf (kind_of_scalar at) values)
             (Remove (O.key key.now) (literal_of (kind_of_scalar at) (value_of_scalar at))) (truth_answer result) }
         ensures refused { OnErr result (self.new ≡ self.old) }
-        ensures absent { KeepsWhere self.old self.new (LacksPair (O.key key.now) (value_of_scalar at)) }
+        ensures absent { UnchangedWhere self.old self.new (LacksPair (O.key key.now) (value_of_scalar at)) }
     {
         macro_rules! erased {
             ($type:ty, $kind:ident) => {

@@ -3,12 +3,13 @@ ghost use Rattle.std.specs.Prelude.{map};
 ghost use Rattle.seg_types.specs.declared.kinds.Kind.TheVariants.{Map as MapOf, String as StringKind};
 ghost use Rattle.seg_types.specs.declared.kinds.Kind.TheVariants.{Strings as StringsKind, Vector as VectorOf};
 ghost use Rattle.seg_types.specs.Commands.{Bytes, Elements, NoPairs, Strings};
-ghost use Rattle.segment_manager.specs.{containers.Filled.FindsOrMakes, containers.Filled.Makes, Keeping.HasKey};
-ghost use Rattle.segment_manager.specs.{Keeping.KeepsWhere};
-ghost use Rattle.segment_manager.specs.State.{KeepsRefused};
+ghost use Rattle.segment_manager.specs.{containers.Filled.FindsOrMakes, containers.Filled.ConstructsObject};
+ghost use Rattle.segment_manager.specs.{Keeping.IsBoundKey};
+ghost use Rattle.segment_manager.specs.{Keeping.UnchangedWhere};
+ghost use Rattle.segment_manager.specs.State.{UnchangedIfRefused};
 
 use crate::containers::fillings::{NewMap, NewString, NewTexts, NewVector};
-use crate::objects::destinations::{Destination, IndexDestination};
+use crate::objects::construct_keys::{ConstructKey, FindOrConstructKey};
 use crate::segment::Segment;
 use seg_types::{Handle, Refusal, Scalar, ScalarKind};
 
@@ -17,15 +18,15 @@ impl Segment {
     /// vectors. Conditions and errors: as of `construct`, but for the count.
     ///
     /// Example: `segment.construct_vec::<i64, _>(&name, &[])?`.
-    pub fn construct_vec<T: Scalar, D: Destination>(
+    pub fn construct_vec<T: Scalar, D: ConstructKey>(
         &mut self,
         key: &D,
         values: &[T],
     ) -> Result<Handle, Refusal>
         requires kind { D.suits key.now (VectorOf T.kind) }
-        ensures step { Makes self.old self.new (D.key key.now (VectorOf T.kind))
+        ensures step { ConstructsObject self.old self.new (D.key key.now (VectorOf T.kind))
             (Elements T.kind (map T.whole values.now)) result }
-        ensures refused { KeepsRefused self.old self.new result }
+        ensures refused { UnchangedIfRefused self.old self.new result }
     {
         self.construct_under(key, &NewVector { values })
     }
@@ -34,14 +35,14 @@ impl Segment {
     /// strings. Conditions and errors: as of `construct`, but for the count.
     ///
     /// Example: `segment.construct_string(&name, b"red")?`.
-    pub fn construct_string<D: Destination>(
+    pub fn construct_string<D: ConstructKey>(
         &mut self,
         key: &D,
         bytes: &[u8],
     ) -> Result<Handle, Refusal>
         requires kind { D.suits key.now StringKind }
-        ensures step { Makes self.old self.new (D.key key.now StringKind) (Bytes bytes.now) result }
-        ensures refused { KeepsRefused self.old self.new result }
+        ensures step { ConstructsObject self.old self.new (D.key key.now StringKind) (Bytes bytes.now) result }
+        ensures refused { UnchangedIfRefused self.old self.new result }
     {
         self.construct_under(key, &NewString { bytes })
     }
@@ -51,7 +52,7 @@ impl Segment {
     /// of `find_or_construct`, but for the count.
     ///
     /// Example: `segment.find_or_construct_vec(&name, &[1i64, 2])?`.
-    pub fn find_or_construct_vec<T: Scalar, D: IndexDestination>(
+    pub fn find_or_construct_vec<T: Scalar, D: FindOrConstructKey>(
         &mut self,
         key: &D,
         values: &[T],
@@ -59,8 +60,8 @@ impl Segment {
         requires kind { D.suits key.now (VectorOf T.kind) }
         ensures step { FindsOrMakes self.old self.new (D.key key.now (VectorOf T.kind))
             (Elements T.kind (map T.whole values.now)) result }
-        ensures refused { KeepsRefused self.old self.new result }
-        ensures found { KeepsWhere self.old self.new (HasKey (D.key key.now (VectorOf T.kind))) }
+        ensures refused { UnchangedIfRefused self.old self.new result }
+        ensures search { UnchangedWhere self.old self.new (IsBoundKey (D.key key.now (VectorOf T.kind))) }
     {
         self.find_or_construct_under(key, &NewVector { values })
     }
@@ -70,15 +71,15 @@ impl Segment {
     /// `find_or_construct`, but for the count.
     ///
     /// Example: `segment.find_or_construct_string(&name, b"red")?`.
-    pub fn find_or_construct_string<D: IndexDestination>(
+    pub fn find_or_construct_string<D: FindOrConstructKey>(
         &mut self,
         key: &D,
         bytes: &[u8],
     ) -> Result<(Handle, u32), Refusal>
         requires kind { D.suits key.now StringKind }
         ensures step { FindsOrMakes self.old self.new (D.key key.now StringKind) (Bytes bytes.now) result }
-        ensures refused { KeepsRefused self.old self.new result }
-        ensures found { KeepsWhere self.old self.new (HasKey (D.key key.now StringKind)) }
+        ensures refused { UnchangedIfRefused self.old self.new result }
+        ensures search { UnchangedWhere self.old self.new (IsBoundKey (D.key key.now StringKind)) }
     {
         self.find_or_construct_under(key, &NewString { bytes })
     }
@@ -87,15 +88,15 @@ impl Segment {
     /// that is a kind is that of such vectors. Conditions and errors: as of `construct`, but for the count.
     ///
     /// Example: `segment.construct_texts(&name, &[b"apples", b"pears"])?`.
-    pub fn construct_texts<D: Destination>(
+    pub fn construct_texts<D: ConstructKey>(
         &mut self,
         key: &D,
         texts: &[&[u8]],
     ) -> Result<Handle, Refusal>
         requires kind { D.suits key.now StringsKind }
-        ensures step { Makes self.old self.new (D.key key.now StringsKind)
+        ensures step { ConstructsObject self.old self.new (D.key key.now StringsKind)
             (Strings (map (λ text. text.now) texts.now)) result }
-        ensures refused { KeepsRefused self.old self.new result }
+        ensures refused { UnchangedIfRefused self.old self.new result }
     {
         self.construct_under(key, &NewTexts { texts })
     }
@@ -105,7 +106,7 @@ impl Segment {
     /// errors: as of `find_or_construct`, but for the count.
     ///
     /// Example: `segment.find_or_construct_texts(&name, &[])?`.
-    pub fn find_or_construct_texts<D: IndexDestination>(
+    pub fn find_or_construct_texts<D: FindOrConstructKey>(
         &mut self,
         key: &D,
         texts: &[&[u8]],
@@ -113,8 +114,8 @@ impl Segment {
         requires kind { D.suits key.now StringsKind }
         ensures step { FindsOrMakes self.old self.new (D.key key.now StringsKind)
             (Strings (map (λ text. text.now) texts.now)) result }
-        ensures refused { KeepsRefused self.old self.new result }
-        ensures found { KeepsWhere self.old self.new (HasKey (D.key key.now StringsKind)) }
+        ensures refused { UnchangedIfRefused self.old self.new result }
+        ensures search { UnchangedWhere self.old self.new (IsBoundKey (D.key key.now StringsKind)) }
     {
         self.find_or_construct_under(key, &NewTexts { texts })
     }
@@ -123,13 +124,14 @@ impl Segment {
     /// errors: as of `construct`, but for the count.
     ///
     /// Example: `segment.construct_map::<i32, i64, _>(&name)?`.
-    pub fn construct_map<K: Scalar, V: Scalar, D: Destination>(
+    pub fn construct_map<K: Scalar, V: Scalar, D: ConstructKey>(
         &mut self,
         key: &D,
     ) -> Result<Handle, Refusal>
         requires kind { D.suits key.now (MapOf K.kind V.kind) }
-        ensures step { Makes self.old self.new (D.key key.now (MapOf K.kind V.kind)) (NoPairs K.kind V.kind) result }
-        ensures refused { KeepsRefused self.old self.new result }
+        ensures step { ConstructsObject self.old self.new (D.key key.now (MapOf K.kind V.kind))
+            (NoPairs K.kind V.kind) result }
+        ensures refused { UnchangedIfRefused self.old self.new result }
     {
         self.construct_map_of(key, K::kind(), V::kind())
     }
@@ -137,15 +139,16 @@ impl Segment {
     /// The same of two kinds. Conditions and errors: as of `construct`, but for the count.
     ///
     /// Example: `segment.construct_map_of(&name, ScalarKind::I32, ScalarKind::I64)?`.
-    pub fn construct_map_of<D: Destination>(
+    pub fn construct_map_of<D: ConstructKey>(
         &mut self,
         key: &D,
         keys: ScalarKind,
         values: ScalarKind,
     ) -> Result<Handle, Refusal>
         requires kind { D.suits key.now (MapOf keys values) }
-        ensures step { Makes self.old self.new (D.key key.now (MapOf keys values)) (NoPairs keys values) result }
-        ensures refused { KeepsRefused self.old self.new result }
+        ensures step { ConstructsObject self.old self.new (D.key key.now (MapOf keys values)) (NoPairs keys values)
+            result }
+        ensures refused { UnchangedIfRefused self.old self.new result }
     {
         self.construct_under(key, &NewMap { keys, values })
     }
@@ -155,15 +158,15 @@ impl Segment {
     /// `find_or_construct`, but for the count.
     ///
     /// Example: `segment.find_or_construct_map::<i32, i64, _>(&name)?`.
-    pub fn find_or_construct_map<K: Scalar, V: Scalar, D: IndexDestination>(
+    pub fn find_or_construct_map<K: Scalar, V: Scalar, D: FindOrConstructKey>(
         &mut self,
         key: &D,
     ) -> Result<(Handle, u32), Refusal>
         requires kind { D.suits key.now (MapOf K.kind V.kind) }
         ensures step { FindsOrMakes self.old self.new (D.key key.now (MapOf K.kind V.kind))
             (NoPairs K.kind V.kind) result }
-        ensures refused { KeepsRefused self.old self.new result }
-        ensures found { KeepsWhere self.old self.new (HasKey (D.key key.now (MapOf K.kind V.kind))) }
+        ensures refused { UnchangedIfRefused self.old self.new result }
+        ensures search { UnchangedWhere self.old self.new (IsBoundKey (D.key key.now (MapOf K.kind V.kind))) }
     {
         self.find_or_construct_map_of(key, K::kind(), V::kind())
     }
@@ -171,7 +174,7 @@ impl Segment {
     /// The same of two kinds. Conditions and errors: as of `find_or_construct`, but for the count.
     ///
     /// Example: `segment.find_or_construct_map_of(&name, ScalarKind::I32, ScalarKind::I64)?`.
-    pub fn find_or_construct_map_of<D: IndexDestination>(
+    pub fn find_or_construct_map_of<D: FindOrConstructKey>(
         &mut self,
         key: &D,
         keys: ScalarKind,
@@ -179,8 +182,8 @@ impl Segment {
     ) -> Result<(Handle, u32), Refusal>
         requires kind { D.suits key.now (MapOf keys values) }
         ensures step { FindsOrMakes self.old self.new (D.key key.now (MapOf keys values)) (NoPairs keys values) result }
-        ensures refused { KeepsRefused self.old self.new result }
-        ensures found { KeepsWhere self.old self.new (HasKey (D.key key.now (MapOf keys values))) }
+        ensures refused { UnchangedIfRefused self.old self.new result }
+        ensures search { UnchangedWhere self.old self.new (IsBoundKey (D.key key.now (MapOf keys values))) }
     {
         self.find_or_construct_under(key, &NewMap { keys, values })
     }

@@ -5,11 +5,11 @@ ghost use Rattle.raw_region.specs.{Format.current, Memory.bytes_of, Memory.word_
 ghost use Rattle.offset_link.specs.Link.{link_at};
 ghost use Rattle.best_fit.specs.Heap.{IsHeap, has_room, live_of};
 ghost use Rattle.segment_manager.specs.containers.ElementRuns.{IsRunOf, run_at, run_of};
-ghost use Rattle.segment_manager.specs.{Directory.Object as DirectoryObject, State.Answers};
+ghost use Rattle.segment_manager.specs.{Directory.Object as DirectoryObject, State.AnswersWith};
 ghost use Rattle.segment_manager.specs.{objects.Located.located, objects.Standing.HasObject};
-ghost use Rattle.segment_manager.specs.{objects.Standing.StandsAt};
+ghost use Rattle.segment_manager.specs.{objects.Standing.IsObjectInBlock};
 
-use crate::objects::targets::{Object, Target};
+use crate::objects::object_ref::{Object, ObjectRef};
 use crate::segment::Segment;
 use best_fit::Heap;
 use seg_types::{Kind, Refusal, ScalarKind};
@@ -34,9 +34,9 @@ impl Segment {
     /// # Errors
     ///
     /// `NotFound` where no object has the key, `WrongKind` where its elements are no scalars.
-    pub fn element_run<O: Target>(&self, key: &O) -> Result<ElementRun, Refusal>
+    pub fn element_run<O: ObjectRef>(&self, key: &O) -> Result<ElementRun, Refusal>
         requires { O.stands key.now self.now }
-        ensures run { Answers self.now (λ d. run_at d (O.key key.now)) result }
+        ensures run { AnswersWith self.now (λ d. run_at d (O.key key.now)) result }
         ensures bytes { IfOk result (λ run. IsRunOf self.now (O.key key.now) run) }
     {
         match key.find(self) {
@@ -50,8 +50,8 @@ impl Segment {
 fn read_run(heap: &Heap, object: Object) -> Result<ElementRun, Refusal>
     requires heap { IsHeap current heap.now.bytes }
     requires object { HasObject heap.now.bytes object.handle }
-    requires said { (o : DirectoryObject) → StandsAt heap.now.bytes object.handle o → object ≡ located o }
-    ensures { (o : DirectoryObject) → StandsAt heap.now.bytes object.handle o → result ≡ run_of o }
+    requires text { (o : DirectoryObject) → IsObjectInBlock heap.now.bytes object.handle o → object ≡ located o }
+    ensures { (o : DirectoryObject) → IsObjectInBlock heap.now.bytes object.handle o → result ≡ run_of o }
 {
     let handle = object.handle;
     let at = object.value_at();
@@ -69,8 +69,8 @@ fn read_run(heap: &Heap, object: Object) -> Result<ElementRun, Refusal>
 
 /// The elements in the storage of the container whose three words stand at `at` in the block of a handle.
 fn storage_run(heap: &Heap, handle: u64, at: u64, kind: ScalarKind) -> ElementRun
-    requires whole { at % 8 ≡ 0 }
-    requires near { at ≤ 4096 }
+    requires aligned { at % 8 ≡ 0 }
+    requires near_end { at ≤ 4096 }
     requires room { IsTrue (has_room (live_of heap.now.bytes) handle (at + 24)) }
     ensures offset { result.offset ≡ unwrap_or (link_at (bytes_of heap.now.bytes) (handle + at)) 0 }
     ensures count { result.count ≡ word_at (bytes_of heap.now.bytes) (handle + (at + 8)) }

@@ -19,19 +19,19 @@ use seg_vector::{Place, SegString, SegTexts, SegVec};
 pub(crate) const LONGEST: usize = 8;
 
 /// The most elements of an object of scalars.
-pub(crate) const MOST: u32 = MAX_ARRAY_LEN as u32;
+pub(crate) const MAX_COUNT: u32 = MAX_ARRAY_LEN as u32;
 
 /// What is known of an object before a block is asked for: its kind, how many elements it has, and the bytes of its
 /// value in its own block.
 #[derive(Clone, Copy)]
-pub(crate) struct Shape {
+pub(crate) struct ObjectShape {
     pub(crate) kind: Kind,
     pub(crate) count: u32,
     pub(crate) len: u64,
 }
 
 /// What fills a new object.
-pub(crate) trait Filling {
+pub(crate) trait ObjectInit {
     // What it makes of the object, as commands say it.
     ghost content: { Self → Content };
 
@@ -39,7 +39,7 @@ pub(crate) trait Filling {
     ghost stands: { Self → Type 0 };
 
     /// The object that it fills.
-    fn shape(&self) -> Shape
+    fn shape(&self) -> ObjectShape
         requires { stands self.now }
         ensures { IsShapeOf (content self.now) result };
 
@@ -49,7 +49,7 @@ pub(crate) trait Filling {
     ///
     /// `NoSpace` where no gap is long enough for its elements. What was taken for them is given back.
     fn fill(&self, heap: &mut Heap, place: Place) -> Result<(), Refusal>
-        requires stands { stands self.now }
+        requires object { stands self.now }
         requires heap { IsHeap current heap.old.bytes }
         requires aligned { place.at % 8 ≡ 0 }
         requires room { IsTrue
@@ -64,13 +64,13 @@ pub(crate) struct NewNumbers<T> {
     pub(crate) value: T,
 }
 
-impl<T: Scalar> Filling for NewNumbers<T> {
+impl<T: Scalar> ObjectInit for NewNumbers<T> {
     ghost content = { λ f. Numbers T.kind (replicate f.count (T.whole f.value)) };
 
     ghost stands = { λ f. (1 ≤ f.count) × (f.count ≤ 1048576) };
 
     #[inline(always)]
-    fn shape(&self) -> Shape {
+    fn shape(&self) -> ObjectShape {
         numbers(T::kind(), self.count)
     }
 
@@ -90,13 +90,13 @@ pub(crate) struct NewVector<'a, T> {
     pub(crate) values: &'a [T],
 }
 
-impl<T: Scalar> Filling for NewVector<'_, T> {
+impl<T: Scalar> ObjectInit for NewVector<'_, T> {
     ghost content = { λ f. Elements T.kind (map T.whole f.values.now) };
 
     ghost stands = { λ f. ⊤ };
 
     #[inline(always)]
-    fn shape(&self) -> Shape {
+    fn shape(&self) -> ObjectShape {
         container(Kind::Vector(T::kind()))
     }
 
@@ -112,13 +112,13 @@ pub(crate) struct NewString<'a> {
     pub(crate) bytes: &'a [u8],
 }
 
-impl Filling for NewString<'_> {
+impl ObjectInit for NewString<'_> {
     ghost content = { λ f. Bytes f.bytes.now };
 
     ghost stands = { λ f. ⊤ };
 
     #[inline(always)]
-    fn shape(&self) -> Shape {
+    fn shape(&self) -> ObjectShape {
         container(Kind::String)
     }
 
@@ -135,13 +135,13 @@ pub(crate) struct NewTexts<'a> {
     pub(crate) texts: &'a [&'a [u8]],
 }
 
-impl Filling for NewTexts<'_> {
+impl ObjectInit for NewTexts<'_> {
     ghost content = { λ f. Strings (map (λ text. text.now) f.texts.now) };
 
     ghost stands = { λ f. ⊤ };
 
     #[inline(always)]
-    fn shape(&self) -> Shape {
+    fn shape(&self) -> ObjectShape {
         container(Kind::Strings)
     }
 
@@ -159,13 +159,13 @@ pub(crate) struct NewMap {
     pub(crate) values: ScalarKind,
 }
 
-impl Filling for NewMap {
+impl ObjectInit for NewMap {
     ghost content = { λ f. NoPairs f.keys f.values };
 
     ghost stands = { λ f. ⊤ };
 
     #[inline(always)]
-    fn shape(&self) -> Shape {
+    fn shape(&self) -> ObjectShape {
         container(Kind::Map(self.keys, self.values))
     }
 
@@ -179,11 +179,11 @@ impl Filling for NewMap {
 
 /// An object of `count` numbers of a kind.
 #[inline(always)]
-pub(crate) fn numbers(kind: ScalarKind, count: u32) -> Shape
+pub(crate) fn numbers(kind: ScalarKind, count: u32) -> ObjectShape
     requires { count ≤ 1048576 }
     ensures { result ≡ numbers_shape kind count }
 {
-    Shape {
+    ObjectShape {
         kind: Kind::Scalar(kind),
         count,
         len: kind.size() * u64::from(count),
@@ -192,10 +192,10 @@ pub(crate) fn numbers(kind: ScalarKind, count: u32) -> Shape
 
 /// An object that is a container of a kind.
 #[inline(always)]
-fn container(kind: Kind) -> Shape
+fn container(kind: Kind) -> ObjectShape
     ensures { result ≡ container_shape kind }
 {
-    Shape {
+    ObjectShape {
         kind,
         count: 1,
         len: CONTAINER_LEN,

@@ -1,9 +1,9 @@
 //! The containers of objects: where each stands in its object's block.
 ghost use Rattle.std.specs.Prelude.{MatchResult};
-ghost use Rattle.segment_manager.specs.{containers.Contents.container_at, State.Answers};
-ghost use Rattle.segment_manager.specs.containers.ToChange.{IsNotToChange, IsToChange};
+ghost use Rattle.segment_manager.specs.{containers.Contents.container_at, State.AnswersWith};
+ghost use Rattle.segment_manager.specs.containers.ToChange.{IsNotToChange, IsChangeableContainer};
 
-use crate::objects::targets::Target;
+use crate::objects::object_ref::ObjectRef;
 use crate::segment::Segment;
 use seg_types::{Kind, Refusal};
 use seg_vector::Place;
@@ -12,9 +12,9 @@ impl Segment {
     /// Where the container stands of the object of a key: `NotFound` where there is none, `WrongKind` where it is of
     /// another kind.
     #[inline(always)]
-    pub(crate) fn find_container<O: Target>(&self, key: &O, kind: Kind) -> Result<Place, Refusal>
+    pub(crate) fn find_container<O: ObjectRef>(&self, key: &O, kind: Kind) -> Result<Place, Refusal>
         requires { O.stands key.now self.now }
-        ensures { Answers self.now (λ d. container_at d (O.key key.now) kind) result }
+        ensures { AnswersWith self.now (λ d. container_at d (O.key key.now) kind) result }
     {
         match key.find(self) {
             None => Err(Refusal::NotFound),
@@ -24,9 +24,9 @@ impl Segment {
 
     /// The same, where the container is to be changed: `ReadOnly` where the segment is open for reading.
     #[inline(always)]
-    pub(crate) fn find_to_change<O: Target>(&self, key: &O, kind: Kind) -> Result<Place, Refusal>
+    pub(crate) fn find_to_change<O: ObjectRef>(&self, key: &O, kind: Kind) -> Result<Place, Refusal>
         requires { O.stands key.now self.now }
-        ensures { MatchResult result (IsToChange self.now (O.key key.now) kind)
+        ensures { MatchResult result (IsChangeableContainer self.now (O.key key.now) kind)
             (IsNotToChange self.now (O.key key.now) kind) }
     {
         if self.is_read_only() {

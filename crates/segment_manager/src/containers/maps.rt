@@ -5,12 +5,12 @@ ghost use Rattle.seg_types.specs.declared.kinds.Kind.TheVariants.{Map as MapOf};
 ghost use Rattle.segment_manager.specs.containers.Contents.{container_at};
 ghost use Rattle.segment_manager.specs.containers.Maps.{pair_above, pair_at_end, pair_below, pair_from};
 ghost use Rattle.segment_manager.specs.containers.Maps.{pair_result};
-ghost use Rattle.segment_manager.specs.State.{Answers, IsReplyOfKind, IsStepOfKind, truth_answer};
+ghost use Rattle.segment_manager.specs.State.{AnswersWith, AnswersQueryOfKind, TakesStepOfKind, truth_answer};
 ghost use Rattle.segment_manager.specs.{containers.Maps.pair_up_to, containers.Maps.told_of_map};
 ghost use Rattle.segment_manager.specs.{containers.Maps.value_answer, containers.Walks.pair_past};
-ghost use Rattle.segment_manager.specs.Keeping.{ChangesValue, KeepsWhere, LacksPair};
+ghost use Rattle.segment_manager.specs.Keeping.{ChangesValue, UnchangedWhere, LacksPair};
 
-use crate::objects::targets::Target;
+use crate::objects::object_ref::ObjectRef;
 use crate::segment::Segment;
 use raw_region::Steps;
 use seg_map::{Place, SegMap};
@@ -25,13 +25,13 @@ impl Segment {
     /// # Errors
     ///
     /// `NotFound` where no object has the key, `WrongKind` where it is of another kind.
-    pub fn map_get<K: Scalar, V: Scalar, O: Target>(
+    pub fn map_get<K: Scalar, V: Scalar, O: ObjectRef>(
         &self,
         key: &O,
         at: K,
     ) -> Result<Option<V>, Refusal>
         requires { O.stands key.now self.now }
-        ensures { IsReplyOfKind self.now (O.key key.now) (MapOf K.kind V.kind)
+        ensures { AnswersQueryOfKind self.now (O.key key.now) (MapOf K.kind V.kind)
             (Lookup (O.key key.now) (literal_of K.kind (K.whole at))) (value_answer V.kind V.whole result) }
     {
         holds_value(at);
@@ -46,13 +46,13 @@ impl Segment {
     /// # Errors
     ///
     /// `NotFound` where no object has the key, `WrongKind` where it is of another kind.
-    pub fn map_first_from<K: Scalar, V: Scalar, O: Target>(
+    pub fn map_first_from<K: Scalar, V: Scalar, O: ObjectRef>(
         &self,
         key: &O,
         from: K,
     ) -> Result<Option<(K, V)>, Refusal>
         requires { O.stands key.now self.now }
-        ensures { Answers self.now (λ d. told_of_map d (O.key key.now) K.kind V.kind (pair_from (K.whole from)))
+        ensures { AnswersWith self.now (λ d. told_of_map d (O.key key.now) K.kind V.kind (pair_from (K.whole from)))
             (pair_result K.whole V.whole result) }
     {
         self.pair_past(key, from, false)
@@ -65,13 +65,13 @@ impl Segment {
     /// # Errors
     ///
     /// `NotFound` where no object has the key, `WrongKind` where it is of another kind.
-    pub fn map_next_after<K: Scalar, V: Scalar, O: Target>(
+    pub fn map_next_after<K: Scalar, V: Scalar, O: ObjectRef>(
         &self,
         key: &O,
         after: K,
     ) -> Result<Option<(K, V)>, Refusal>
         requires { O.stands key.now self.now }
-        ensures { Answers self.now (λ d. told_of_map d (O.key key.now) K.kind V.kind (pair_above (K.whole after)))
+        ensures { AnswersWith self.now (λ d. told_of_map d (O.key key.now) K.kind V.kind (pair_above (K.whole after)))
             (pair_result K.whole V.whole result) }
     {
         self.pair_past(key, after, true)
@@ -80,14 +80,15 @@ impl Segment {
     /// The pair with the least key that is above a bound, or not below it. It is inlined, so which of the two costs no
     /// test.
     #[inline(always)]
-    pub(crate) fn pair_past<K: Scalar, V: Scalar, O: Target>(
+    pub(crate) fn pair_past<K: Scalar, V: Scalar, O: ObjectRef>(
         &self,
         key: &O,
         bound: K,
         above: bool,
     ) -> Result<Option<(K, V)>, Refusal>
         requires { O.stands key.now self.now }
-        ensures { Answers self.now (λ d. told_of_map d (O.key key.now) K.kind V.kind (pair_past above (K.whole bound)))
+        ensures { AnswersWith self.now (λ d.
+            told_of_map d (O.key key.now) K.kind V.kind (pair_past above (K.whole bound)))
             (pair_result K.whole V.whole result) }
     {
         let place = self.find_map::<K, V, O>(key)?;
@@ -106,12 +107,12 @@ impl Segment {
     /// # Errors
     ///
     /// `NotFound` where no object has the key, `WrongKind` where it is of another kind.
-    pub fn map_last<K: Scalar, V: Scalar, O: Target>(
+    pub fn map_last<K: Scalar, V: Scalar, O: ObjectRef>(
         &self,
         key: &O,
     ) -> Result<Option<(K, V)>, Refusal>
         requires { O.stands key.now self.now }
-        ensures { Answers self.now (λ d. told_of_map d (O.key key.now) K.kind V.kind pair_at_end)
+        ensures { AnswersWith self.now (λ d. told_of_map d (O.key key.now) K.kind V.kind pair_at_end)
             (pair_result K.whole V.whole result) }
     {
         let place = self.find_map::<K, V, O>(key)?;
@@ -125,13 +126,13 @@ impl Segment {
     /// # Errors
     ///
     /// `NotFound` where no object has the key, `WrongKind` where it is of another kind.
-    pub fn map_last_up_to<K: Scalar, V: Scalar, O: Target>(
+    pub fn map_last_up_to<K: Scalar, V: Scalar, O: ObjectRef>(
         &self,
         key: &O,
         to: K,
     ) -> Result<Option<(K, V)>, Refusal>
         requires { O.stands key.now self.now }
-        ensures { Answers self.now (λ d. told_of_map d (O.key key.now) K.kind V.kind (pair_up_to (K.whole to)))
+        ensures { AnswersWith self.now (λ d. told_of_map d (O.key key.now) K.kind V.kind (pair_up_to (K.whole to)))
             (pair_result K.whole V.whole result) }
     {
         let place = self.find_map::<K, V, O>(key)?;
@@ -146,13 +147,13 @@ impl Segment {
     /// # Errors
     ///
     /// `NotFound` where no object has the key, `WrongKind` where it is of another kind.
-    pub fn map_previous_before<K: Scalar, V: Scalar, O: Target>(
+    pub fn map_previous_before<K: Scalar, V: Scalar, O: ObjectRef>(
         &self,
         key: &O,
         before: K,
     ) -> Result<Option<(K, V)>, Refusal>
         requires { O.stands key.now self.now }
-        ensures { Answers self.now (λ d. told_of_map d (O.key key.now) K.kind V.kind (pair_below (K.whole before)))
+        ensures { AnswersWith self.now (λ d. told_of_map d (O.key key.now) K.kind V.kind (pair_below (K.whole before)))
             (pair_result K.whole V.whole result) }
     {
         let place = self.find_map::<K, V, O>(key)?;
@@ -169,18 +170,18 @@ impl Segment {
     /// `ReadOnly` where the segment is open for reading, and else `NotFound` where no object has the key, `WrongKind`
     /// where it is of another kind, `NoSpace` where the key is new and no gap is long enough for its block. Nothing
     /// changes.
-    pub fn map_put<K: Scalar, V: Scalar, O: Target>(
+    pub fn map_put<K: Scalar, V: Scalar, O: ObjectRef>(
         &mut self,
         key: &O,
         at: K,
         value: V,
     ) -> Result<bool, Refusal>
         requires { O.stands key.now self.old }
-        ensures step { IsStepOfKind self.old self.new (O.key key.now) (MapOf K.kind V.kind)
+        ensures step { TakesStepOfKind self.old self.new (O.key key.now) (MapOf K.kind V.kind)
             (Put (O.key key.now) (literal_of K.kind (K.whole at)) (literal_of V.kind (V.whole value)))
             (truth_answer result) }
         ensures refused { OnErr result (self.new ≡ self.old) }
-        ensures again { ChangesValue self.old self.new (O.key key.now) K.kind (K.whole at) V.kind }
+        ensures repeat { ChangesValue self.old self.new (O.key key.now) K.kind (K.whole at) V.kind }
     {
         if self.is_read_only() {
             return Err(Refusal::ReadOnly);
@@ -203,16 +204,16 @@ impl Segment {
     ///
     /// `ReadOnly` where the segment is open for reading, and else `NotFound` where no object has the key, `WrongKind`
     /// where it is of another kind. Nothing changes.
-    pub fn map_erase<K: Scalar, V: Scalar, O: Target>(
+    pub fn map_erase<K: Scalar, V: Scalar, O: ObjectRef>(
         &mut self,
         key: &O,
         at: K,
     ) -> Result<bool, Refusal>
         requires { O.stands key.now self.old }
-        ensures step { IsStepOfKind self.old self.new (O.key key.now) (MapOf K.kind V.kind)
+        ensures step { TakesStepOfKind self.old self.new (O.key key.now) (MapOf K.kind V.kind)
             (Remove (O.key key.now) (literal_of K.kind (K.whole at))) (truth_answer result) }
         ensures refused { OnErr result (self.new ≡ self.old) }
-        ensures absent { KeepsWhere self.old self.new (LacksPair (O.key key.now) (K.whole at)) }
+        ensures absent { UnchangedWhere self.old self.new (LacksPair (O.key key.now) (K.whole at)) }
     {
         if self.is_read_only() {
             return Err(Refusal::ReadOnly);
@@ -223,9 +224,9 @@ impl Segment {
     }
 
     /// Where the map of a key stands, a map of the types.
-    fn find_map<K: Scalar, V: Scalar, O: Target>(&self, key: &O) -> Result<Place, Refusal>
+    fn find_map<K: Scalar, V: Scalar, O: ObjectRef>(&self, key: &O) -> Result<Place, Refusal>
         requires { O.stands key.now self.now }
-        ensures { Answers self.now (λ d. container_at d (O.key key.now) (MapOf K.kind V.kind)) result }
+        ensures { AnswersWith self.now (λ d. container_at d (O.key key.now) (MapOf K.kind V.kind)) result }
     {
         self.find_container(key, Kind::Map(K::kind(), V::kind()))
     }

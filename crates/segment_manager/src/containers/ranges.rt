@@ -5,7 +5,7 @@ ghost use Rattle.seg_types.specs.{declared.kinds.ScalarKind.ScalarKind as AnySca
 ghost use Rattle.segment_manager.specs.{Step.is_read_only, objects.Located.IsLocated, State.done_answer};
 ghost use Rattle.segment_manager.specs.containers.Ranges.{ChangesRange, ExtendsVector, WritesRange};
 
-use crate::objects::targets::{Object, Target, locate};
+use crate::objects::object_ref::{Object, ObjectRef, locate};
 use crate::segment::Segment;
 use seg_types::{Kind, Refusal, Scalar};
 use seg_vector::{SegVec, spell};
@@ -21,7 +21,7 @@ impl Segment {
     ///
     /// `ReadOnly` where the segment is open for reading, and else `NotFound` where no object has the key, `WrongKind`
     /// where it is of another kind, `OutOfRange` where it has not so many elements there. Nothing changes.
-    pub fn write_range<T: Scalar, O: Target>(
+    pub fn write_range<T: Scalar, O: ObjectRef>(
         &mut self,
         key: &O,
         first: u64,
@@ -31,7 +31,7 @@ impl Segment {
         ensures step { WritesRange self.old self.new (O.key key.now) T.kind first (map T.whole values.now)
             (done_answer result) }
         ensures refused { OnErr result (self.new ≡ self.old) }
-        ensures none { length values.now ≡ 0 → self.new ≡ self.old }
+        ensures absent { length values.now ≡ 0 → self.new ≡ self.old }
         ensures frame { OnOk result (ChangesRange self.old self.new (O.key key.now) T.kind first (length values.now)) }
     {
         if self.is_read_only() {
@@ -57,7 +57,7 @@ impl Segment {
         ensures step { WritesRange self.old self.new (ByHandle object.now.handle) T.kind first (map T.whole values.now)
             (done_answer result) }
         ensures refused { OnErr result (self.new ≡ self.old) }
-        ensures none { length values.now ≡ 0 → self.new ≡ self.old }
+        ensures absent { length values.now ≡ 0 → self.new ≡ self.old }
     {
         let place = object.container(Kind::Vector(T::kind()))?;
         SegVec::<T>::at(place).overwrite(&mut self.heap, first, values)
@@ -72,11 +72,11 @@ impl Segment {
     ) -> Result<(), Refusal>
         requires object { IsLocated self.old (ByHandle object.now.handle) object.now }
         requires writing { is_read_only self.old.mode ≡ false }
-        requires other { (k : AnyScalarKind) → object.now.kind ≡ VectorOf k → ⊥ }
+        requires peer { (k : AnyScalarKind) → object.now.kind ≡ VectorOf k → ⊥ }
         ensures step { WritesRange self.old self.new (ByHandle object.now.handle) T.kind first (map T.whole values.now)
             (done_answer result) }
         ensures refused { OnErr result (self.new ≡ self.old) }
-        ensures none { length values.now ≡ 0 → self.new ≡ self.old }
+        ensures absent { length values.now ≡ 0 → self.new ≡ self.old }
         ensures frame { OnOk result (ChangesRange self.old self.new (ByHandle object.now.handle) T.kind first
             (length values.now)) }
     {
@@ -104,7 +104,11 @@ impl Segment {
     ///
     /// `ReadOnly` where the segment is open for reading, and else `NotFound` where no object has the key, `WrongKind`
     /// where it is of another kind, `NoSpace` where its storage cannot be regrown. Nothing changes.
-    pub fn vec_extend<T: Scalar, O: Target>(&mut self, key: &O, values: &[T]) -> Result<(), Refusal>
+    pub fn vec_extend<T: Scalar, O: ObjectRef>(
+        &mut self,
+        key: &O,
+        values: &[T],
+    ) -> Result<(), Refusal>
         requires { O.stands key.now self.old }
         ensures step { ExtendsVector self.old self.new (O.key key.now) T.kind (map T.whole values.now)
             (done_answer result) }

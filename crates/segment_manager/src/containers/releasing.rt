@@ -8,7 +8,7 @@ use crate::objects::head::read_head;
 use best_fit::Heap;
 use seg_map::SegMap;
 use seg_types::{Kind, Scalar, ScalarKind, by_kind};
-use seg_vector::{Place, SegTexts, give_back};
+use seg_vector::{Place, SegTexts, free_storage};
 
 /// Gives back the blocks that the value of the object of a handle has. A container has nothing in it and no place then,
 /// and numbers stay as they are.
@@ -25,7 +25,7 @@ pub(crate) fn release_contents(heap: &mut Heap, handle: u64)
         Kind::Scalar(_) => {}
         Kind::Map(keys, values) => release_pairs(heap, place, keys, values),
         Kind::Strings => SegTexts { place }.release(heap),
-        kind => give_back(heap, place, element_len(kind)),
+        kind => free_storage(heap, place, element_len(kind)),
     }
 }
 

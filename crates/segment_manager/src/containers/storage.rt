@@ -6,11 +6,11 @@ ghost use Rattle.seg_types.specs.declared.kinds.Kind.TheVariants.{Strings as Str
 ghost use Rattle.seg_types.specs.Commands.{Clear, Reserve, Shrink};
 ghost use Rattle.segment_manager.specs.containers.Contents.{has_sizes, sizes_at, sizes_at_kind};
 ghost use Rattle.segment_manager.specs.{Keeping.HasPlaces, containers.Stored.HasEnough, containers.Stored.command_of};
-ghost use Rattle.segment_manager.specs.{Keeping.KeepsWhere, State.Answers, State.IsStep, State.done_answer};
+ghost use Rattle.segment_manager.specs.{Keeping.UnchangedWhere, State.AnswersWith, State.TakesStep, State.done_answer};
 ghost use Rattle.segment_manager.specs.objects.ElementLists.{array_length_at, length_at_kind};
 
 use crate::containers::storages::{Change, change_elements, change_texts, element_len};
-use crate::objects::targets::{Target, locate};
+use crate::objects::object_ref::{ObjectRef, locate};
 use crate::segment::Segment;
 use seg_types::{Kind, Refusal, Scalar};
 use seg_vector::SegTexts;
@@ -28,9 +28,9 @@ impl Segment {
     /// # Errors
     ///
     /// `NotFound` where no object has the key, `WrongKind` where it is no container.
-    pub fn measure<O: Target>(&self, key: &O) -> Result<(u64, u64), Refusal>
+    pub fn measure<O: ObjectRef>(&self, key: &O) -> Result<(u64, u64), Refusal>
         requires { O.stands key.now self.now }
-        ensures { Answers self.now (λ d. sizes_at d (O.key key.now)) result }
+        ensures { AnswersWith self.now (λ d. sizes_at d (O.key key.now)) result }
     {
         let object = locate(self, key)?;
         match object.kind {
@@ -40,10 +40,10 @@ impl Segment {
     }
 
     /// The same of a container of a kind.
-    fn measure_kind<O: Target>(&self, key: &O, kind: Kind) -> Result<(u64, u64), Refusal>
+    fn measure_kind<O: ObjectRef>(&self, key: &O, kind: Kind) -> Result<(u64, u64), Refusal>
         requires target { O.stands key.now self.now }
         requires container { has_sizes kind ≡ true }
-        ensures { Answers self.now (λ d. sizes_at_kind d (O.key key.now) kind) result }
+        ensures { AnswersWith self.now (λ d. sizes_at_kind d (O.key key.now) kind) result }
     {
         let place = self.find_container(key, kind)?;
         let len = self.heap.word(place.handle, place.at + LEN);
@@ -62,11 +62,11 @@ impl Segment {
     /// `ReadOnly` where the segment is open for reading, and else `NotFound` where no object has the key, `WrongKind`
     /// where it has no storage, `NoSpace` where its storage cannot be regrown. Nothing changes.
     #[inline(never)]
-    pub fn reserve<O: Target>(&mut self, key: &O, n: u64) -> Result<(), Refusal>
+    pub fn reserve<O: ObjectRef>(&mut self, key: &O, n: u64) -> Result<(), Refusal>
         requires { O.stands key.now self.old }
-        ensures step { IsStep self.old self.new (Reserve (O.key key.now) n) (done_answer result) }
+        ensures step { TakesStep self.old self.new (Reserve (O.key key.now) n) (done_answer result) }
         ensures refused { OnErr result (self.new ≡ self.old) }
-        ensures enough { KeepsWhere self.old self.new (HasPlaces (O.key key.now) n) }
+        ensures noop { UnchangedWhere self.old self.new (HasPlaces (O.key key.now) n) }
     {
         self.change_storage(key, Change::Reserve(n))
     }
@@ -80,9 +80,9 @@ impl Segment {
     /// `ReadOnly` where the segment is open for reading, and else `NotFound` where no object has the key, `WrongKind`
     /// where it has no storage. Nothing changes.
     #[inline(never)]
-    pub fn shrink<O: Target>(&mut self, key: &O) -> Result<(), Refusal>
+    pub fn shrink<O: ObjectRef>(&mut self, key: &O) -> Result<(), Refusal>
         requires { O.stands key.now self.old }
-        ensures step { IsStep self.old self.new (Shrink (O.key key.now)) (done_answer result) }
+        ensures step { TakesStep self.old self.new (Shrink (O.key key.now)) (done_answer result) }
         ensures refused { OnErr result (self.new ≡ self.old) }
     {
         self.change_storage(key, Change::Shrink)
@@ -97,9 +97,9 @@ impl Segment {
     /// `ReadOnly` where the segment is open for reading, and else `NotFound` where no object has the key, `WrongKind`
     /// where it has no storage. Nothing changes.
     #[inline(never)]
-    pub fn clear<O: Target>(&mut self, key: &O) -> Result<(), Refusal>
+    pub fn clear<O: ObjectRef>(&mut self, key: &O) -> Result<(), Refusal>
         requires { O.stands key.now self.old }
-        ensures step { IsStep self.old self.new (Clear (O.key key.now)) (done_answer result) }
+        ensures step { TakesStep self.old self.new (Clear (O.key key.now)) (done_answer result) }
         ensures refused { OnErr result (self.new ≡ self.old) }
     {
         self.change_storage(key, Change::Clear)
@@ -107,11 +107,11 @@ impl Segment {
 
     /// Changes the storage of the vector or string of a key. It is inlined, so the change costs no test.
     #[inline(always)]
-    fn change_storage<O: Target>(&mut self, key: &O, change: Change) -> Result<(), Refusal>
+    fn change_storage<O: ObjectRef>(&mut self, key: &O, change: Change) -> Result<(), Refusal>
         requires { O.stands key.now self.old }
-        ensures step { IsStep self.old self.new (command_of change (O.key key.now)) (done_answer result) }
+        ensures step { TakesStep self.old self.new (command_of change (O.key key.now)) (done_answer result) }
         ensures refused { OnErr result (self.new ≡ self.old) }
-        ensures enough { KeepsWhere self.old self.new (HasEnough change (O.key key.now)) }
+        ensures noop { UnchangedWhere self.old self.new (HasEnough change (O.key key.now)) }
     {
         if self.is_read_only() {
             return Err(Refusal::ReadOnly);
@@ -137,9 +137,9 @@ impl Segment {
     /// # Errors
     ///
     /// `NotFound` where no object has the key, `WrongKind` where it is of another kind.
-    pub fn array_len<T: Scalar, O: Target>(&self, key: &O) -> Result<u64, Refusal>
+    pub fn array_len<T: Scalar, O: ObjectRef>(&self, key: &O) -> Result<u64, Refusal>
         requires { O.stands key.now self.now }
-        ensures { Answers self.now (λ d. array_length_at d (O.key key.now) T.kind) result }
+        ensures { AnswersWith self.now (λ d. array_length_at d (O.key key.now) T.kind) result }
     {
         let object = locate(self, key)?;
         if Kind::Scalar(T::kind()).code() != object.kind.code() {
@@ -155,9 +155,9 @@ impl Segment {
     /// # Errors
     ///
     /// `NotFound` where no object has the key, `WrongKind` where it is of another kind.
-    pub fn vec_len<T: Scalar, O: Target>(&self, key: &O) -> Result<u64, Refusal>
+    pub fn vec_len<T: Scalar, O: ObjectRef>(&self, key: &O) -> Result<u64, Refusal>
         requires { O.stands key.now self.now }
-        ensures { Answers self.now (λ d. length_at_kind d (O.key key.now) (VectorOf T.kind)) result }
+        ensures { AnswersWith self.now (λ d. length_at_kind d (O.key key.now) (VectorOf T.kind)) result }
     {
         Ok(self.measure_kind(key, Kind::Vector(T::kind()))?.0)
     }
@@ -169,9 +169,9 @@ impl Segment {
     /// # Errors
     ///
     /// `NotFound` where no object has the key, `WrongKind` where it is of another kind.
-    pub fn texts_len<O: Target>(&self, key: &O) -> Result<u64, Refusal>
+    pub fn texts_len<O: ObjectRef>(&self, key: &O) -> Result<u64, Refusal>
         requires { O.stands key.now self.now }
-        ensures { Answers self.now (λ d. length_at_kind d (O.key key.now) StringsKind) result }
+        ensures { AnswersWith self.now (λ d. length_at_kind d (O.key key.now) StringsKind) result }
     {
         Ok(self.measure_kind(key, Kind::Strings)?.0)
     }
@@ -183,9 +183,9 @@ impl Segment {
     /// # Errors
     ///
     /// `NotFound` where no object has the key, `WrongKind` where it is of another kind.
-    pub fn map_len<K: Scalar, V: Scalar, O: Target>(&self, key: &O) -> Result<u64, Refusal>
+    pub fn map_len<K: Scalar, V: Scalar, O: ObjectRef>(&self, key: &O) -> Result<u64, Refusal>
         requires { O.stands key.now self.now }
-        ensures { Answers self.now (λ d. length_at_kind d (O.key key.now) (MapOf K.kind V.kind)) result }
+        ensures { AnswersWith self.now (λ d. length_at_kind d (O.key key.now) (MapOf K.kind V.kind)) result }
     {
         Ok(self.measure_kind(key, Kind::Map(K::kind(), V::kind()))?.0)
     }

@@ -1,12 +1,12 @@
 //! The storage of containers of objects: reserved, given back and left empty. What has elements in it differs in their
 //! length alone.
 ghost use Rattle.std.specs.Prelude.{◌≡◌};
-ghost use Rattle.seg_vector.specs.TextsCalls.{IsSomeTexts};
+ghost use Rattle.seg_vector.specs.TextsCalls.{IsTextsContainer};
 ghost use Rattle.segment_manager.specs.containers.Stored.{ChangesElements, ChangesTexts, IsElements, each_of};
 
 use best_fit::Heap;
 use seg_types::{Kind, Refusal};
-use seg_vector::{Place, SegTexts, fit, reserve, truncate};
+use seg_vector::{Place, SegTexts, reserve, shrink_storage, truncate};
 
 /// What is done with the storage of a container.
 #[derive(Clone, Copy)]
@@ -32,7 +32,7 @@ pub(crate) fn element_len(kind: Kind) -> u64
 /// Changes the storage of a vector of strings.
 #[inline(always)]
 pub(crate) fn change_texts(heap: &mut Heap, texts: SegTexts, change: Change) -> Result<(), Refusal>
-    requires { IsSomeTexts heap.old.bytes texts.place }
+    requires { IsTextsContainer heap.old.bytes texts.place }
     ensures { ChangesTexts change heap.old heap.new texts.place result }
 {
     match change {
@@ -56,7 +56,7 @@ pub(crate) fn change_elements(
 {
     match change {
         Change::Reserve(n) => return reserve(heap, place, each, n),
-        Change::Shrink => fit(heap, place, each),
+        Change::Shrink => shrink_storage(heap, place, each),
         Change::Clear => truncate(heap, place, each, 0),
     }
     Ok(())

@@ -5,11 +5,12 @@ ghost use Rattle.seg_types.specs.Commands.{Assign, Erase, Get, Insert, Pop, Push
 ghost use Rattle.raw_region.specs.Memory.{are_bytes};
 ghost use Rattle.segment_manager.specs.Answers.{TextElement};
 ghost use Rattle.segment_manager.specs.{containers.TextLists.LeadsOnOfKind};
-ghost use Rattle.segment_manager.specs.Keeping.{KeepsWhere, LacksArray, LacksFirst};
-ghost use Rattle.segment_manager.specs.State.{IsReplyOfKind, IsStepOfKind, KeepsRefused, answer_of, done_answer};
+ghost use Rattle.segment_manager.specs.Keeping.{UnchangedWhere, LacksArray, LacksFirst};
+ghost use Rattle.segment_manager.specs.State.{AnswersQueryOfKind, TakesStepOfKind, UnchangedIfRefused, answer_of};
+ghost use Rattle.segment_manager.specs.State.{done_answer};
 ghost use Rattle.segment_manager.specs.State.{refusal_in};
 
-use crate::objects::targets::Target;
+use crate::objects::object_ref::ObjectRef;
 use crate::segment::Segment;
 use raw_region::hold_bytes;
 use seg_types::{Kind, Refusal};
@@ -24,9 +25,9 @@ impl Segment {
     ///
     /// `NotFound` where no object has the key, `WrongKind` where it is of another kind, `OutOfRange` where it has no
     /// text there.
-    pub fn texts_get<O: Target>(&self, key: &O, index: u64) -> Result<&[u8], Refusal>
+    pub fn texts_get<O: ObjectRef>(&self, key: &O, index: u64) -> Result<&[u8], Refusal>
         requires { O.stands key.now self.now }
-        ensures { IsReplyOfKind self.now (O.key key.now) StringsKind
+        ensures { AnswersQueryOfKind self.now (O.key key.now) StringsKind
             (Get (O.key key.now) index) (answer_of (λ text. TextElement text.now) result) }
     {
         let place = self.find_container(key, Kind::Strings)?;
@@ -43,9 +44,14 @@ impl Segment {
     /// `ReadOnly` where the segment is open for reading, and else `NotFound` where no object has the key, `WrongKind`
     /// where it is of another kind, `OutOfRange` where it has no text there, `NoSpace` where the text has no fit.
     /// Nothing changes.
-    pub fn texts_set<O: Target>(&mut self, key: &O, index: u64, text: &[u8]) -> Result<(), Refusal>
+    pub fn texts_set<O: ObjectRef>(
+        &mut self,
+        key: &O,
+        index: u64,
+        text: &[u8],
+    ) -> Result<(), Refusal>
         requires { O.stands key.now self.old }
-        ensures step { IsStepOfKind self.old self.new (O.key key.now) StringsKind
+        ensures step { TakesStepOfKind self.old self.new (O.key key.now) StringsKind
             (Set (O.key key.now) index (Quoted text.now)) (done_answer result) }
         ensures refused { OnErr result (self.new ≡ self.old) }
     {
@@ -63,12 +69,12 @@ impl Segment {
     /// `ReadOnly` where the segment is open for reading, and else `NotFound` where no object has the key, `WrongKind`
     /// where it is of another kind, and nothing changes; `NoSpace` where it is full and its array cannot be regrown, or
     /// the text has no fit: all objects and blocks are as they were. Bytes of gaps may differ where an array was had.
-    pub fn texts_push<O: Target>(&mut self, key: &O, text: &[u8]) -> Result<(), Refusal>
+    pub fn texts_push<O: ObjectRef>(&mut self, key: &O, text: &[u8]) -> Result<(), Refusal>
         requires { O.stands key.now self.old }
-        ensures step { IsStepOfKind self.old self.new (O.key key.now) StringsKind
+        ensures step { TakesStepOfKind self.old self.new (O.key key.now) StringsKind
             (Push (O.key key.now) (Quoted text.now)) (done_answer result) }
-        ensures refused { KeepsRefused self.old self.new result }
-        ensures first { KeepsWhere self.old self.new (LacksFirst (O.key key.now) text.now) }
+        ensures refused { UnchangedIfRefused self.old self.new result }
+        ensures first { UnchangedWhere self.old self.new (LacksFirst (O.key key.now) text.now) }
     {
         let place = self.find_to_change(key, Kind::Strings)?;
         SegTexts { place }.push(&mut self.heap, text)
@@ -84,12 +90,12 @@ impl Segment {
     /// `ReadOnly` where the segment is open for reading, and else `NotFound` where no object has the key, `WrongKind`
     /// where it is of another kind, and nothing changes; `NoSpace` where the array or a text has no fit: all objects
     /// and blocks are as they were. Bytes of gaps may differ where an array was had.
-    pub fn texts_assign<O: Target>(&mut self, key: &O, texts: &[&[u8]]) -> Result<(), Refusal>
+    pub fn texts_assign<O: ObjectRef>(&mut self, key: &O, texts: &[&[u8]]) -> Result<(), Refusal>
         requires { O.stands key.now self.old }
-        ensures step { IsStepOfKind self.old self.new (O.key key.now) StringsKind
+        ensures step { TakesStepOfKind self.old self.new (O.key key.now) StringsKind
             (Assign (O.key key.now) (map Quoted (map (λ text. text.now) texts.now))) (done_answer result) }
-        ensures refused { KeepsRefused self.old self.new result }
-        ensures first { KeepsWhere self.old self.new (LacksArray (length texts.now)) }
+        ensures refused { UnchangedIfRefused self.old self.new result }
+        ensures first { UnchangedWhere self.old self.new (LacksArray (length texts.now)) }
     {
         judge_all(texts);
         let place = self.find_to_change(key, Kind::Strings)?;
@@ -104,7 +110,7 @@ impl Segment {
     ///
     /// `ReadOnly` where the segment is open for reading, and else `NotFound` where no object has the key, `WrongKind`
     /// where it is of another kind, `OutOfRange` where it is empty. Nothing changes.
-    pub fn texts_pop<O: Target>(&mut self, key: &O) -> Result<(), Refusal>
+    pub fn texts_pop<O: ObjectRef>(&mut self, key: &O) -> Result<(), Refusal>
         requires { O.stands key.now self.old }
         ensures step { LeadsOnOfKind self.old self.new (O.key key.now) StringsKind (Pop (O.key key.now))
             (refusal_in result) }
@@ -125,17 +131,17 @@ impl Segment {
     /// where it is of another kind, `OutOfRange` where there are not so many others, and nothing changes; `NoSpace`
     /// where it is full and its array cannot be regrown, or the text has no fit: all objects and blocks are as they
     /// were. Bytes of gaps may differ where an array was had.
-    pub fn texts_insert<O: Target>(
+    pub fn texts_insert<O: ObjectRef>(
         &mut self,
         key: &O,
         index: u64,
         text: &[u8],
     ) -> Result<(), Refusal>
         requires { O.stands key.now self.old }
-        ensures step { IsStepOfKind self.old self.new (O.key key.now) StringsKind
+        ensures step { TakesStepOfKind self.old self.new (O.key key.now) StringsKind
             (Insert (O.key key.now) index (Quoted text.now)) (done_answer result) }
-        ensures refused { KeepsRefused self.old self.new result }
-        ensures first { KeepsWhere self.old self.new (LacksFirst (O.key key.now) text.now) }
+        ensures refused { UnchangedIfRefused self.old self.new result }
+        ensures first { UnchangedWhere self.old self.new (LacksFirst (O.key key.now) text.now) }
     {
         let place = self.find_to_change(key, Kind::Strings)?;
         SegTexts { place }.insert(&mut self.heap, index, text)
@@ -150,9 +156,9 @@ impl Segment {
     ///
     /// `ReadOnly` where the segment is open for reading, and else `NotFound` where no object has the key, `WrongKind`
     /// where it is of another kind, `OutOfRange` where it has no text there. Nothing changes.
-    pub fn texts_erase<O: Target>(&mut self, key: &O, index: u64) -> Result<(), Refusal>
+    pub fn texts_erase<O: ObjectRef>(&mut self, key: &O, index: u64) -> Result<(), Refusal>
         requires { O.stands key.now self.old }
-        ensures step { IsStepOfKind self.old self.new (O.key key.now) StringsKind
+        ensures step { TakesStepOfKind self.old self.new (O.key key.now) StringsKind
             (Erase (O.key key.now) index) (done_answer result) }
         ensures refused { OnErr result (self.new ≡ self.old) }
     {

@@ -3,11 +3,11 @@ ghost use Rattle.std.specs.Prelude.{◌≡◌, Ok, Err, MatchResult, [], ◌∷�
 ghost use Rattle.seg_types.specs.declared.kinds.Kind.TheVariants.{String as StringKind};
 ghost use Rattle.seg_types.specs.declared.kinds.ScalarKind.TheVariants.{U8 as ByteKind};
 ghost use Rattle.seg_types.specs.Commands.{Append, Assign, Quoted, Set, literal_of};
-ghost use Rattle.segment_manager.specs.{containers.Contents.bytes_at, State.Answers, State.IsStepOfKind};
+ghost use Rattle.segment_manager.specs.{containers.Contents.bytes_at, State.AnswersWith, State.TakesStepOfKind};
 ghost use Rattle.segment_manager.specs.{Keeping.KeepsUnused, State.done_answer};
 ghost use Rattle.best_fit.specs.Heap.{KeepsGaps};
 
-use crate::objects::targets::Target;
+use crate::objects::object_ref::ObjectRef;
 use crate::segment::Segment;
 use seg_types::{Kind, Refusal};
 use seg_vector::SegString;
@@ -20,10 +20,10 @@ impl Segment {
     /// # Errors
     ///
     /// `NotFound` where no object has the key, `WrongKind` where it is no string.
-    pub fn string_bytes<O: Target>(&self, key: &O) -> Result<&[u8], Refusal>
+    pub fn string_bytes<O: ObjectRef>(&self, key: &O) -> Result<&[u8], Refusal>
         requires { O.stands key.now self.now }
-        ensures { MatchResult result (λ bytes. Answers self.now (λ d. bytes_at d (O.key key.now)) (Ok bytes.now))
-            (λ why. Answers self.now (λ d. bytes_at d (O.key key.now)) (Err why)) }
+        ensures { MatchResult result (λ bytes. AnswersWith self.now (λ d. bytes_at d (O.key key.now)) (Ok bytes.now))
+            (λ why. AnswersWith self.now (λ d. bytes_at d (O.key key.now)) (Err why)) }
     {
         let place = self.find_container(key, Kind::String)?;
         Ok(SegString { place }.as_bytes(&self.heap))
@@ -37,9 +37,9 @@ impl Segment {
     ///
     /// `ReadOnly` where the segment is open for reading, and else `NotFound` where no object has the key, `WrongKind`
     /// where it is no string, `OutOfRange` where it has no byte there. Nothing changes.
-    pub fn string_set<O: Target>(&mut self, key: &O, index: u64, byte: u8) -> Result<(), Refusal>
+    pub fn string_set<O: ObjectRef>(&mut self, key: &O, index: u64, byte: u8) -> Result<(), Refusal>
         requires { O.stands key.now self.old }
-        ensures step { IsStepOfKind self.old self.new (O.key key.now) StringKind
+        ensures step { TakesStepOfKind self.old self.new (O.key key.now) StringKind
             (Set (O.key key.now) index (literal_of ByteKind (pos byte))) (done_answer result) }
         ensures refused { OnErr result (self.new ≡ self.old) }
         ensures gaps { KeepsGaps self.old.cut self.new.cut }
@@ -57,9 +57,9 @@ impl Segment {
     ///
     /// `ReadOnly` where the segment is open for reading, and else `NotFound` where no object has the key, `WrongKind`
     /// where it is no string, `NoSpace` where its storage cannot be regrown. Nothing changes.
-    pub fn string_append<O: Target>(&mut self, key: &O, bytes: &[u8]) -> Result<(), Refusal>
+    pub fn string_append<O: ObjectRef>(&mut self, key: &O, bytes: &[u8]) -> Result<(), Refusal>
         requires { O.stands key.now self.old }
-        ensures step { IsStepOfKind self.old self.new (O.key key.now) StringKind
+        ensures step { TakesStepOfKind self.old self.new (O.key key.now) StringKind
             (Append (O.key key.now) bytes.now) (done_answer result) }
         ensures refused { OnErr result (self.new ≡ self.old) }
         ensures gaps { KeepsUnused self.old self.new }
@@ -76,9 +76,9 @@ impl Segment {
     ///
     /// `ReadOnly` where the segment is open for reading, and else `NotFound` where no object has the key, `WrongKind`
     /// where it is no string, `NoSpace` where its storage cannot be regrown. Nothing changes.
-    pub fn string_assign<O: Target>(&mut self, key: &O, bytes: &[u8]) -> Result<(), Refusal>
+    pub fn string_assign<O: ObjectRef>(&mut self, key: &O, bytes: &[u8]) -> Result<(), Refusal>
         requires { O.stands key.now self.old }
-        ensures step { IsStepOfKind self.old self.new (O.key key.now) StringKind
+        ensures step { TakesStepOfKind self.old self.new (O.key key.now) StringKind
             (Assign (O.key key.now) (Quoted bytes.now ∷ [])) (done_answer result) }
         ensures refused { OnErr result (self.new ≡ self.old) }
         ensures gaps { KeepsUnused self.old self.new }

@@ -4,9 +4,9 @@ ghost use Rattle.seg_types.specs.declared.kinds.Kind.TheVariants.{Vector as Vect
 ghost use Rattle.seg_types.specs.Commands.{Assign, Erase, Get, Insert, Pop, Push, Set, literal_of};
 ghost use Rattle.best_fit.specs.Heap.{KeepsGaps};
 ghost use Rattle.segment_manager.specs.{Answers.Element, Keeping.KeepsUnused};
-ghost use Rattle.segment_manager.specs.State.{IsReplyOfKind, IsStepOfKind, answer_of, done_answer};
+ghost use Rattle.segment_manager.specs.State.{AnswersQueryOfKind, TakesStepOfKind, answer_of, done_answer};
 
-use crate::objects::targets::Target;
+use crate::objects::object_ref::ObjectRef;
 use crate::segment::Segment;
 use seg_types::theorems::holds_value;
 use seg_types::{Kind, Refusal, Scalar};
@@ -21,9 +21,9 @@ impl Segment {
     ///
     /// `NotFound` where no object has the key, `WrongKind` where it is of another kind, `OutOfRange` where it has no
     /// element there.
-    pub fn vec_get<T: Scalar, O: Target>(&self, key: &O, index: u64) -> Result<T, Refusal>
+    pub fn vec_get<T: Scalar, O: ObjectRef>(&self, key: &O, index: u64) -> Result<T, Refusal>
         requires { O.stands key.now self.now }
-        ensures { IsReplyOfKind self.now (O.key key.now) (VectorOf T.kind)
+        ensures { AnswersQueryOfKind self.now (O.key key.now) (VectorOf T.kind)
             (Get (O.key key.now) index) (answer_of (λ x. Element T.kind (T.whole x)) result) }
     {
         let place = self.find_container(key, Kind::Vector(T::kind()))?;
@@ -38,14 +38,14 @@ impl Segment {
     ///
     /// `ReadOnly` where the segment is open for reading, and else `NotFound` where no object has the key, `WrongKind`
     /// where it is of another kind, `OutOfRange` where it has no element there. Nothing changes.
-    pub fn vec_set<T: Scalar, O: Target>(
+    pub fn vec_set<T: Scalar, O: ObjectRef>(
         &mut self,
         key: &O,
         index: u64,
         value: T,
     ) -> Result<(), Refusal>
         requires { O.stands key.now self.old }
-        ensures step { IsStepOfKind self.old self.new (O.key key.now) (VectorOf T.kind)
+        ensures step { TakesStepOfKind self.old self.new (O.key key.now) (VectorOf T.kind)
             (Set (O.key key.now) index (literal_of T.kind (T.whole value))) (done_answer result) }
         ensures refused { OnErr result (self.new ≡ self.old) }
         ensures gaps { KeepsGaps self.old.cut self.new.cut }
@@ -64,9 +64,9 @@ impl Segment {
     ///
     /// `ReadOnly` where the segment is open for reading, and else `NotFound` where no object has the key, `WrongKind`
     /// where it is of another kind, `NoSpace` where it is full and its storage cannot be regrown. Nothing changes.
-    pub fn vec_push<T: Scalar, O: Target>(&mut self, key: &O, value: T) -> Result<(), Refusal>
+    pub fn vec_push<T: Scalar, O: ObjectRef>(&mut self, key: &O, value: T) -> Result<(), Refusal>
         requires { O.stands key.now self.old }
-        ensures step { IsStepOfKind self.old self.new (O.key key.now) (VectorOf T.kind)
+        ensures step { TakesStepOfKind self.old self.new (O.key key.now) (VectorOf T.kind)
             (Push (O.key key.now) (literal_of T.kind (T.whole value))) (done_answer result) }
         ensures refused { OnErr result (self.new ≡ self.old) }
         ensures gaps { KeepsUnused self.old self.new }
@@ -85,9 +85,13 @@ impl Segment {
     ///
     /// `ReadOnly` where the segment is open for reading, and else `NotFound` where no object has the key, `WrongKind`
     /// where it is of another kind, `NoSpace` where its storage cannot be regrown. Nothing changes.
-    pub fn vec_assign<T: Scalar, O: Target>(&mut self, key: &O, values: &[T]) -> Result<(), Refusal>
+    pub fn vec_assign<T: Scalar, O: ObjectRef>(
+        &mut self,
+        key: &O,
+        values: &[T],
+    ) -> Result<(), Refusal>
         requires { O.stands key.now self.old }
-        ensures step { IsStepOfKind self.old self.new (O.key key.now) (VectorOf T.kind)
+        ensures step { TakesStepOfKind self.old self.new (O.key key.now) (VectorOf T.kind)
             (Assign (O.key key.now) (map (literal_of T.kind) (map T.whole values.now))) (done_answer result) }
         ensures refused { OnErr result (self.new ≡ self.old) }
         ensures gaps { KeepsUnused self.old self.new }
@@ -105,9 +109,9 @@ impl Segment {
     ///
     /// `ReadOnly` where the segment is open for reading, and else `NotFound` where no object has the key, `WrongKind`
     /// where it is of another kind, `OutOfRange` where it is empty. Nothing changes.
-    pub fn vec_pop<T: Scalar, O: Target>(&mut self, key: &O) -> Result<T, Refusal>
+    pub fn vec_pop<T: Scalar, O: ObjectRef>(&mut self, key: &O) -> Result<T, Refusal>
         requires { O.stands key.now self.old }
-        ensures step { IsStepOfKind self.old self.new (O.key key.now) (VectorOf T.kind)
+        ensures step { TakesStepOfKind self.old self.new (O.key key.now) (VectorOf T.kind)
             (Pop (O.key key.now)) (answer_of (λ x. Element T.kind (T.whole x)) result) }
         ensures refused { OnErr result (self.new ≡ self.old) }
         ensures gaps { KeepsGaps self.old.cut self.new.cut }
@@ -126,14 +130,14 @@ impl Segment {
     /// `ReadOnly` where the segment is open for reading, and else `NotFound` where no object has the key, `WrongKind`
     /// where it is of another kind, `OutOfRange` where there are not so many others, `NoSpace` where it is full and its
     /// storage cannot be regrown. Nothing changes.
-    pub fn vec_insert<T: Scalar, O: Target>(
+    pub fn vec_insert<T: Scalar, O: ObjectRef>(
         &mut self,
         key: &O,
         index: u64,
         value: T,
     ) -> Result<(), Refusal>
         requires { O.stands key.now self.old }
-        ensures step { IsStepOfKind self.old self.new (O.key key.now) (VectorOf T.kind)
+        ensures step { TakesStepOfKind self.old self.new (O.key key.now) (VectorOf T.kind)
             (Insert (O.key key.now) index (literal_of T.kind (T.whole value))) (done_answer result) }
         ensures refused { OnErr result (self.new ≡ self.old) }
         ensures gaps { KeepsUnused self.old self.new }
@@ -152,9 +156,9 @@ impl Segment {
     ///
     /// `ReadOnly` where the segment is open for reading, and else `NotFound` where no object has the key, `WrongKind`
     /// where it is of another kind, `OutOfRange` where it has no element there. Nothing changes.
-    pub fn vec_erase<T: Scalar, O: Target>(&mut self, key: &O, index: u64) -> Result<(), Refusal>
+    pub fn vec_erase<T: Scalar, O: ObjectRef>(&mut self, key: &O, index: u64) -> Result<(), Refusal>
         requires { O.stands key.now self.old }
-        ensures step { IsStepOfKind self.old self.new (O.key key.now) (VectorOf T.kind)
+        ensures step { TakesStepOfKind self.old self.new (O.key key.now) (VectorOf T.kind)
             (Erase (O.key key.now) index) (done_answer result) }
         ensures refused { OnErr result (self.new ≡ self.old) }
         ensures gaps { KeepsGaps self.old.cut self.new.cut }

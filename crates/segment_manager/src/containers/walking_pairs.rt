@@ -2,11 +2,11 @@
 ghost use Rattle.std.specs.Prelude.{◌≡◌, option_map};
 ghost use Rattle.seg_types.specs.{Kinds.lowest, Values.kind_of_scalar, Values.value_of_scalar};
 ghost use Rattle.seg_map.specs.Places.{item_of};
-ghost use Rattle.segment_manager.specs.{containers.Maps.pair_above, containers.Maps.told_of_map, State.Answers};
+ghost use Rattle.segment_manager.specs.{containers.Maps.pair_above, containers.Maps.told_of_map, State.AnswersWith};
 ghost use Rattle.segment_manager.specs.containers.Walks.{AreOfKinds, HasValueOf, IsMap, first_of, item_of_kinds};
 ghost use Rattle.segment_manager.specs.containers.Walks.{item_seen, numbers_read, pair_past, pairs_at};
 
-use crate::objects::targets::Target;
+use crate::objects::object_ref::ObjectRef;
 use crate::segment::Segment;
 use seg_types::{Refusal, Scalar, ScalarKind, ScalarValue, by_kind, by_value};
 
@@ -14,7 +14,7 @@ impl Segment {
     /// The pair with the least key that is above a bound, or not below it, of the map of a key, a map with keys of the
     /// kind of the bound and values of a kind. It is inlined, so which of the two costs no test.
     #[inline(always)]
-    fn pair_of_kinds<O: Target>(
+    fn pair_of_kinds<O: ObjectRef>(
         &self,
         key: &O,
         bound: ScalarValue,
@@ -22,7 +22,7 @@ impl Segment {
         values: ScalarKind,
     ) -> Result<Option<(ScalarValue, ScalarValue)>, Refusal>
         requires { O.stands key.now self.now }
-        ensures pair { Answers self.now
+        ensures pair { AnswersWith self.now
             (λ d. told_of_map d (O.key key.now) (kind_of_scalar bound) values (pair_past above (value_of_scalar bound)))
             (numbers_read value_of_scalar value_of_scalar result) }
         ensures kinds { AreOfKinds (kind_of_scalar bound) values result }
@@ -35,7 +35,7 @@ impl Segment {
 
     /// The same of keys of a type.
     #[inline(always)]
-    fn pair_by_key<K: Scalar, O: Target>(
+    fn pair_by_key<K: Scalar, O: ObjectRef>(
         &self,
         key: &O,
         bound: K,
@@ -43,7 +43,7 @@ impl Segment {
         values: ScalarKind,
     ) -> Result<Option<(K, ScalarValue)>, Refusal>
         requires { O.stands key.now self.now }
-        ensures pair { Answers self.now
+        ensures pair { AnswersWith self.now
             (λ d. told_of_map d (O.key key.now) K.kind values (pair_past above (K.whole bound)))
             (numbers_read K.whole value_of_scalar result) }
         ensures kind { HasValueOf values result }
@@ -84,7 +84,7 @@ fn least(kind: ScalarKind) -> ScalarValue
 ///
 /// The object of the key is a map of these kinds, as `kind_of` or `locate` say. `map_first_from` takes types,
 /// refuses every other object, and has no condition.
-pub fn first_pair<O: Target>(
+pub fn first_pair<O: ObjectRef>(
     segment: &Segment,
     key: &O,
     keys: ScalarKind,
@@ -92,7 +92,7 @@ pub fn first_pair<O: Target>(
 ) -> Option<(ScalarValue, ScalarValue)>
     requires target { O.stands key.now segment.now }
     requires map { IsMap segment.now (O.key key.now) keys values }
-    ensures { Answers segment.now (λ d. option_map (item_of_kinds keys values)
+    ensures { AnswersWith segment.now (λ d. option_map (item_of_kinds keys values)
         (option_map item_of (first_of (pairs_at d (O.key key.now))))) (option_map item_seen result) }
 {
     match segment.pair_of_kinds(key, least(keys), false, values) {
@@ -111,7 +111,7 @@ pub fn first_pair<O: Target>(
 ///
 /// The object of the key is a map of these kinds, as `kind_of` or `locate` say. `map_next_after` takes types,
 /// refuses every other object, and has no condition.
-pub fn next_pair<O: Target>(
+pub fn next_pair<O: ObjectRef>(
     segment: &Segment,
     key: &O,
     after: ScalarValue,
@@ -119,7 +119,7 @@ pub fn next_pair<O: Target>(
 ) -> Option<(ScalarValue, ScalarValue)>
     requires target { O.stands key.now segment.now }
     requires map { IsMap segment.now (O.key key.now) (kind_of_scalar after) values }
-    ensures { Answers segment.now (λ d. option_map (item_of_kinds (kind_of_scalar after) values)
+    ensures { AnswersWith segment.now (λ d. option_map (item_of_kinds (kind_of_scalar after) values)
         (pair_above (value_of_scalar after) (pairs_at d (O.key key.now)))) (option_map item_seen result) }
 {
     match segment.pair_of_kinds(key, after, true, values) {

@@ -3,10 +3,10 @@ ghost use Rattle.std.specs.{Prelude.◌≡◌, Prelude.◌-◌, Prelude.IfSome, 
 ghost use Rattle.std.specs.Iterator.SizeHint.{IsExactHint, IsWithinCount};
 ghost use Rattle.seg_index.specs.declared.index.Index.TheVariants.{Named, Unique};
 ghost use Rattle.seg_index.specs.Held.{entry_count, place_of};
-ghost use Rattle.segment_manager.specs.{indexes.Indexed.objects_of, indexes.Iterating.GoesOn};
-ghost use Rattle.segment_manager.specs.{indexes.Iterating.GoesOnNames, State.Answers};
+ghost use Rattle.segment_manager.specs.{indexes.Indexed.objects_of, indexes.Iterating.YieldsInstance};
+ghost use Rattle.segment_manager.specs.{indexes.Iterating.GoesOnNames, State.AnswersWith};
 
-use crate::objects::telling::Instance;
+use crate::objects::instance_info::Instance;
 use crate::segment::Segment;
 use seg_index::Index;
 use std::marker::Model;
@@ -33,7 +33,7 @@ impl<'a> Model for Instances<'a> {
 impl<'a> Iterator for Instances<'a> {
     type Item = Instance<'a>;
 
-    ghost next_gives = { GoesOn };
+    ghost next_gives = { YieldsInstance };
 
     ghost remaining = { λ w. at_most (entry_count w.segment.cut (place_of w.index) - w.at) };
 
@@ -143,7 +143,7 @@ impl Segment {
     /// How many objects an index has.
     fn count_of(&self, index: Index) -> u64
         ensures word { result ≡ entry_count self.now.cut (place_of index) }
-        ensures count { Answers self.now (λ d. length (objects_of index d)) result }
+        ensures count { AnswersWith self.now (λ d. length (objects_of index d)) result }
     {
         index.len(&self.heap)
     }

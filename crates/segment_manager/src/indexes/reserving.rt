@@ -1,8 +1,8 @@
 //! Places of the two indexes, reserved and given back.
 ghost use Rattle.std.specs.Prelude.{◌≡◌, ◌≤◌, OnErr};
 ghost use Rattle.seg_types.specs.Commands.{ReserveNamed, ReserveUnique, ShrinkIndexes};
-ghost use Rattle.segment_manager.specs.{indexes.Indexed.reserve_of, indexes.Indexed.table_of, Keeping.KeepsWhere};
-ghost use Rattle.segment_manager.specs.State.{IsStep, done_answer};
+ghost use Rattle.segment_manager.specs.{indexes.Indexed.reserve_of, indexes.Indexed.table_of, Keeping.UnchangedWhere};
+ghost use Rattle.segment_manager.specs.State.{TakesStep, done_answer};
 
 use crate::segment::Segment;
 use best_fit::NoSpace;
@@ -21,9 +21,9 @@ impl Segment {
     /// `ReadOnly` where the segment is open for reading, and else `NoSpace` where no gap is long enough. Nothing
     /// changes.
     pub fn reserve_named(&mut self, n: u64) -> Result<(), Refusal>
-        ensures step { IsStep self.old self.new (ReserveNamed n) (done_answer result) }
+        ensures step { TakesStep self.old self.new (ReserveNamed n) (done_answer result) }
         ensures refused { OnErr result (self.new ≡ self.old) }
-        ensures enough { KeepsWhere self.old self.new (λ d. n ≤ d.named.capacity) }
+        ensures noop { UnchangedWhere self.old self.new (λ d. n ≤ d.named.capacity) }
     {
         self.reserve_index(Index::Named, n)
     }
@@ -37,18 +37,18 @@ impl Segment {
     /// `ReadOnly` where the segment is open for reading, and else `NoSpace` where no gap is long enough. Nothing
     /// changes.
     pub fn reserve_unique(&mut self, n: u64) -> Result<(), Refusal>
-        ensures step { IsStep self.old self.new (ReserveUnique n) (done_answer result) }
+        ensures step { TakesStep self.old self.new (ReserveUnique n) (done_answer result) }
         ensures refused { OnErr result (self.new ≡ self.old) }
-        ensures enough { KeepsWhere self.old self.new (λ d. n ≤ d.unique.capacity) }
+        ensures noop { UnchangedWhere self.old self.new (λ d. n ≤ d.unique.capacity) }
     {
         self.reserve_index(Index::Unique, n)
     }
 
     /// The same for either.
     fn reserve_index(&mut self, index: Index, n: u64) -> Result<(), Refusal>
-        ensures step { IsStep self.old self.new (reserve_of index n) (done_answer result) }
+        ensures step { TakesStep self.old self.new (reserve_of index n) (done_answer result) }
         ensures refused { OnErr result (self.new ≡ self.old) }
-        ensures enough { KeepsWhere self.old self.new (λ d. n ≤ (table_of index d).capacity) }
+        ensures noop { UnchangedWhere self.old self.new (λ d. n ≤ (table_of index d).capacity) }
     {
         if self.is_read_only() {
             return Err(Refusal::ReadOnly);
@@ -68,7 +68,7 @@ impl Segment {
     ///
     /// `ReadOnly` where the segment is open for reading. Nothing changes.
     pub fn shrink_indexes(&mut self) -> Result<(), Refusal>
-        ensures step { IsStep self.old self.new ShrinkIndexes (done_answer result) }
+        ensures step { TakesStep self.old self.new ShrinkIndexes (done_answer result) }
         ensures refused { OnErr result (self.new ≡ self.old) }
     {
         if self.is_read_only() {

@@ -4,12 +4,13 @@ ghost use Rattle.seg_types.specs.declared.kinds.Kind.TheVariants.{Scalar as Scal
 ghost use Rattle.seg_types.specs.Commands.{Get, Set, literal_of};
 ghost use Rattle.seg_types.specs.Values.{kind_of_scalar, value_of_scalar};
 ghost use Rattle.segment_manager.specs.{Answers.Element, Keeping.ChangesElement, objects.Standing.place_at};
-ghost use Rattle.segment_manager.specs.{State.Answers};
-ghost use Rattle.segment_manager.specs.State.{IsReplyOfKind, IsStepOfKind, answer_of, done_answer, scalar_answer};
+ghost use Rattle.segment_manager.specs.{State.AnswersWith};
+ghost use Rattle.segment_manager.specs.State.{AnswersQueryOfKind, TakesStepOfKind, answer_of, done_answer};
+ghost use Rattle.segment_manager.specs.State.{scalar_answer};
 
 use crate::containers::fillings::LONGEST;
 use crate::objects::element::element;
-use crate::objects::targets::Target;
+use crate::objects::object_ref::ObjectRef;
 use crate::segment::Segment;
 use seg_types::theorems::scalar_is_number;
 use seg_types::{Refusal, Scalar, ScalarKind, ScalarValue, by_kind, by_value};
@@ -24,9 +25,9 @@ impl Segment {
     ///
     /// `NotFound` where no object has the key, `WrongKind` where it is of another kind, `OutOfRange` where it has no
     /// element there.
-    pub fn get<T: Scalar, O: Target>(&self, key: &O, index: u64) -> Result<T, Refusal>
+    pub fn get<T: Scalar, O: ObjectRef>(&self, key: &O, index: u64) -> Result<T, Refusal>
         requires { O.stands key.now self.now }
-        ensures { IsReplyOfKind self.now (O.key key.now) (ScalarOf T.kind) (Get (O.key key.now) index)
+        ensures { AnswersQueryOfKind self.now (O.key key.now) (ScalarOf T.kind) (Get (O.key key.now) index)
             (answer_of (λ x. Element T.kind (T.whole x)) result) }
     {
         let place = self.find_element(key, T::kind(), index)?;
@@ -36,14 +37,14 @@ impl Segment {
     }
 
     /// The same of a kind.
-    pub(crate) fn get_value<O: Target>(
+    pub(crate) fn get_value<O: ObjectRef>(
         &self,
         key: &O,
         kind: ScalarKind,
         index: u64,
     ) -> Result<ScalarValue, Refusal>
         requires { O.stands key.now self.now }
-        ensures { IsReplyOfKind self.now (O.key key.now) (ScalarOf kind) (Get (O.key key.now) index)
+        ensures { AnswersQueryOfKind self.now (O.key key.now) (ScalarOf kind) (Get (O.key key.now) index)
             (scalar_answer result) }
     {
         macro_rules! typed {
@@ -63,14 +64,14 @@ impl Segment {
     ///
     /// `ReadOnly` where the segment is open for reading, and else `NotFound` where no object has the key, `WrongKind`
     /// where it is of another kind, `OutOfRange` where it has no element there. Nothing changes.
-    pub fn set<T: Scalar, O: Target>(
+    pub fn set<T: Scalar, O: ObjectRef>(
         &mut self,
         key: &O,
         index: u64,
         value: T,
     ) -> Result<(), Refusal>
         requires { O.stands key.now self.old }
-        ensures step { IsStepOfKind self.old self.new (O.key key.now) (ScalarOf T.kind)
+        ensures step { TakesStepOfKind self.old self.new (O.key key.now) (ScalarOf T.kind)
             (Set (O.key key.now) index (literal_of T.kind (T.whole value))) (done_answer result) }
         ensures refused { OnErr result (self.new ≡ self.old) }
         ensures element { OnOk result (ChangesElement self.old self.new (O.key key.now) T.kind index) }
@@ -87,14 +88,14 @@ impl Segment {
     }
 
     /// The same of a value's kind.
-    pub(crate) fn set_value<O: Target>(
+    pub(crate) fn set_value<O: ObjectRef>(
         &mut self,
         key: &O,
         index: u64,
         value: ScalarValue,
     ) -> Result<(), Refusal>
         requires { O.stands key.now self.old }
-        ensures step { IsStepOfKind self.old self.new (O.key key.now) (ScalarOf (kind_of_scalar value))
+        ensures step { TakesStepOfKind self.old self.new (O.key key.now) (ScalarOf (kind_of_scalar value))
             (Set (O.key key.now) index (literal_of (kind_of_scalar value) (value_of_scalar value)))
             (done_answer result) }
         ensures refused { OnErr result (self.new ≡ self.old) }
@@ -104,14 +105,14 @@ impl Segment {
     }
 
     /// Where the element at `index` stands in the object of a key, an object of scalars of a kind.
-    fn find_element<O: Target>(
+    fn find_element<O: ObjectRef>(
         &self,
         key: &O,
         kind: ScalarKind,
         index: u64,
     ) -> Result<Place, Refusal>
         requires { O.stands key.now self.now }
-        ensures { Answers self.now (λ d. place_at d (O.key key.now) kind index) result }
+        ensures { AnswersWith self.now (λ d. place_at d (O.key key.now) kind index) result }
     {
         match key.find(self) {
             None => Err(Refusal::NotFound),

@@ -4,12 +4,13 @@ ghost use Rattle.seg_types.specs.declared.kinds.Kind.TheVariants.{Scalar as Scal
 ghost use Rattle.seg_types.specs.Values.{kind_of_scalar, value_of_scalar};
 ghost use Rattle.segment_manager.specs.{objects.Counted.RefusesCount, objects.Counted.is_count, Directory.kind_of};
 ghost use Rattle.segment_manager.specs.objects.Counted.{refusal_of_count};
-ghost use Rattle.segment_manager.specs.{containers.Filled.Builds, containers.Filled.HasBegun, containers.Filled.Makes};
-ghost use Rattle.segment_manager.specs.{containers.Filled.alike, Plan.bare, State.KeepsRefused};
+ghost use Rattle.segment_manager.specs.{containers.Filled.FillsObject, containers.Filled.HasBegun};
+ghost use Rattle.segment_manager.specs.{containers.Filled.ConstructsObject};
+ghost use Rattle.segment_manager.specs.{containers.Filled.alike, Plan.bare, State.UnchangedIfRefused};
 
-use crate::containers::fillings::{Filling, MOST, NewNumbers};
-use crate::objects::beginning::{Begun, begin, end};
-use crate::objects::destinations::Destination;
+use crate::containers::fillings::{MAX_COUNT, NewNumbers, ObjectInit};
+use crate::objects::construct_keys::ConstructKey;
+use crate::objects::pending_object::{PendingObject, begin_object, finish_object};
 use crate::segment::Segment;
 use best_fit::Heap;
 use seg_types::{Handle, Refusal, Scalar, ScalarValue, by_value};
@@ -25,24 +26,24 @@ impl Segment {
     ///
     /// `count` is from 1 to 1048576. `construct_array` has no such condition, and refuses another count.
     ///
-    /// The key suits the kind: one that says a kind says this one ([`Destination`]).
+    /// The key suits the kind: one that says a kind says this one ([`ConstructKey`]).
     ///
     /// # Errors
     ///
     /// `ReadOnly` where the segment is open for reading, else `Exists` where an object has the key: nothing changes.
     /// Else `NoSpace` where no gap is long enough: what the segment holds does not change, and the bytes of gaps may.
-    pub fn construct<T: Scalar, D: Destination>(
+    pub fn construct<T: Scalar, D: ConstructKey>(
         &mut self,
         key: &D,
         count: u32,
         value: T,
     ) -> Result<Handle, Refusal>
         requires kind { D.suits key.now (ScalarOf T.kind) }
-        requires some { 1 ≤ count }
-        requires few { count ≤ 1048576 }
-        ensures step { Makes self.old self.new (D.key key.now (ScalarOf T.kind))
+        requires non_empty { 1 ≤ count }
+        requires max_count { count ≤ 1048576 }
+        ensures step { ConstructsObject self.old self.new (D.key key.now (ScalarOf T.kind))
             (alike T.kind count (T.whole value)) result }
-        ensures refused { KeepsRefused self.old self.new result }
+        ensures refused { UnchangedIfRefused self.old self.new result }
     {
         self.construct_under(key, &NewNumbers { count, value })
     }
@@ -55,7 +56,7 @@ impl Segment {
     ///
     /// `ReadOnly` where the segment is open for reading, and else `OutOfRange` where `count` is 0 or above 1048576:
     /// nothing changes. Else as of `construct`, but for the count.
-    pub fn construct_array<T: Scalar, D: Destination>(
+    pub fn construct_array<T: Scalar, D: ConstructKey>(
         &mut self,
         key: &D,
         count: u32,
@@ -63,11 +64,12 @@ impl Segment {
     ) -> Result<Handle, Refusal>
         requires kind { D.suits key.now (ScalarOf T.kind) }
         ensures step { is_count count ≡ true
-            → Makes self.old self.new (D.key key.now (ScalarOf T.kind)) (alike T.kind count (T.whole value)) result }
+            → ConstructsObject self.old self.new (D.key key.now (ScalarOf T.kind))
+            (alike T.kind count (T.whole value)) result }
         ensures count { RefusesCount count self.old self.new result }
-        ensures refused { KeepsRefused self.old self.new result }
+        ensures refused { UnchangedIfRefused self.old self.new result }
     {
-        if count == 0 || count > MOST {
+        if count == 0 || count > MAX_COUNT {
             return Err(self.refusal_of_count());
         }
         self.construct(key, count, value)
@@ -76,18 +78,18 @@ impl Segment {
     /// The same for a value of a kind. Conditions and errors: as of `construct`.
     ///
     /// Example: `segment.construct_value(&name, 1, ScalarValue::I64(640))?`.
-    pub fn construct_value<D: Destination>(
+    pub fn construct_value<D: ConstructKey>(
         &mut self,
         key: &D,
         count: u32,
         value: ScalarValue,
     ) -> Result<Handle, Refusal>
         requires kind { D.suits key.now (ScalarOf (kind_of_scalar value)) }
-        requires some { 1 ≤ count }
-        requires few { count ≤ 1048576 }
-        ensures step { Makes self.old self.new (D.key key.now (ScalarOf (kind_of_scalar value)))
+        requires non_empty { 1 ≤ count }
+        requires max_count { count ≤ 1048576 }
+        ensures step { ConstructsObject self.old self.new (D.key key.now (ScalarOf (kind_of_scalar value)))
             (alike (kind_of_scalar value) count (value_of_scalar value)) result }
-        ensures refused { KeepsRefused self.old self.new result }
+        ensures refused { UnchangedIfRefused self.old self.new result }
     {
         by_value!(value, it => self.construct(key, count, it))
     }
@@ -105,23 +107,23 @@ impl Segment {
 
     /// The same of what fills an object.
     #[inline(always)]
-    pub(crate) fn construct_under<F: Filling, D: Destination>(
+    pub(crate) fn construct_under<F: ObjectInit, D: ConstructKey>(
         &mut self,
         key: &D,
         filling: &F,
     ) -> Result<Handle, Refusal>
-        requires stands { F.stands filling.now }
+        requires object { F.stands filling.now }
         requires kind { D.suits key.now (kind_of (bare (F.content filling.now))) }
-        ensures step { Makes self.old self.new (D.key key.now (kind_of (bare (F.content filling.now))))
+        ensures step { ConstructsObject self.old self.new (D.key key.now (kind_of (bare (F.content filling.now))))
             (F.content filling.now) result }
-        ensures refused { KeepsRefused self.old self.new result }
+        ensures refused { UnchangedIfRefused self.old self.new result }
     {
         if self.is_read_only() {
             return Err(Refusal::ReadOnly);
         }
         let shape = filling.shape();
         let key = key.key_for(shape.kind);
-        let begun = begin(&mut self.heap, &key, shape)?;
+        let begun = begin_object(&mut self.heap, &key, shape)?;
         build(&mut self.heap, begun, filling)
     }
 }
@@ -129,19 +131,19 @@ impl Segment {
 /// Fills an object that was begun, and has its entry lead there. Where its elements have no gap, all that was taken for
 /// it is given back.
 #[inline(always)]
-pub(crate) fn build<F: Filling>(
+pub(crate) fn build<F: ObjectInit>(
     heap: &mut Heap,
-    begun: Begun,
+    begun: PendingObject,
     filling: &F,
 ) -> Result<Handle, Refusal>
-    requires begun { HasBegun heap.old (F.content filling.now) begun.handle begun.at begun.entry }
-    requires stands { F.stands filling.now }
-    ensures { Builds heap.old heap.new begun.handle begun.at begun.entry (F.content filling.now) result }
+    requires start { HasBegun heap.old (F.content filling.now) begun.handle begun.at begun.entry }
+    requires object { F.stands filling.now }
+    ensures { FillsObject heap.old heap.new begun.handle begun.at begun.entry (F.content filling.now) result }
 {
     let place = Place {
         handle: begun.handle,
         at: begun.at,
     };
     let filled = filling.fill(heap, place);
-    end(heap, begun, filled)
+    finish_object(heap, begun, filled)
 }

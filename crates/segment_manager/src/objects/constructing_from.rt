@@ -1,19 +1,20 @@
 //! Objects of numbers constructed from the items of an iterator.
 ghost use Rattle.std.specs.Prelude.{◌≡◌, ℤ, ◌+◌, ◌*◌, ◌≤◌, IsTrue, OnOk, length, true, false};
 ghost use Rattle.std.specs.{Iterator.HoldsAlong, List.AllByRecursion};
-ghost use Rattle.raw_region.specs.{Format.current, Memory.Cut as ACut};
+ghost use Rattle.raw_region.specs.{Format.current, Memory.WindowState as ACut};
 ghost use Rattle.best_fit.specs.Heap.{IsHeap, has_room, live_of};
 ghost use Rattle.seg_types.specs.declared.kinds.{Kind.TheVariants.Scalar as ScalarOf, ScalarKind.ScalarKind as AnyKind};
-ghost use Rattle.seg_types.specs.{Names.Key as AnyKey, Keys.new_key_seen, Kinds.is_value, Kinds.size_of, Kinds.spelling as spelling_of};
+ghost use Rattle.seg_types.specs.{Names.Key as AnyKey, Keys.new_key_seen, Kinds.is_value, Kinds.size_of};
+ghost use Rattle.seg_types.specs.{Kinds.spelling as spelling_of};
 ghost use Rattle.seg_types.specs.Values.{kind_of_scalar, value_of_scalar};
-ghost use Rattle.segment_manager.specs.objects.Begun.{Fills, IsBegun, IsNextOfKind, WritesNext};
+ghost use Rattle.segment_manager.specs.objects.PendingObjects.{Fills, BeginsObjectOk, IsNextOfKind, WritesNext};
 ghost use Rattle.segment_manager.specs.objects.Counted.{RefusesCount, is_count};
-ghost use Rattle.segment_manager.specs.{objects.Items.TakesItems, objects.Items.TakesItemsIn};
+ghost use Rattle.segment_manager.specs.{objects.Items.ConstructsFromItems, objects.Items.TakesItemsIn};
 ghost use Rattle.segment_manager.specs.{objects.NewObjects.IsOfItsKind, State.IsSegment};
 
-use crate::containers::fillings::{LONGEST, MOST, numbers};
-use crate::objects::beginning::{Begun, begin, end};
-use crate::objects::destinations::Destination;
+use crate::containers::fillings::{LONGEST, MAX_COUNT, numbers};
+use crate::objects::construct_keys::ConstructKey;
+use crate::objects::pending_object::{PendingObject, begin_object, finish_object};
 use crate::segment::Segment;
 use best_fit::Heap;
 use seg_types::{Handle, Kind, NewKey, Refusal, Scalar, ScalarKind, ScalarValue};
@@ -26,27 +27,27 @@ impl Segment {
     ///
     /// # Conditions
     ///
-    /// The key suits the kind: one that says a kind says this one ([`Destination`]).
+    /// The key suits the kind: one that says a kind says this one ([`ConstructKey`]).
     ///
     /// # Errors
     ///
     /// `ReadOnly` where the segment is open for reading, else `OutOfRange` where `count` is 0 or above 1048576, else
     /// `Exists` where an object has the key, and else `NoSpace` where no gap is long enough; then no item is taken.
     /// `OutOfRange` where fewer items come. What the segment holds does not change.
-    pub fn construct_it<T: Scalar, I: Iterator<Item = T>, D: Destination>(
+    pub fn construct_it<T: Scalar, I: Iterator<Item = T>, D: ConstructKey>(
         &mut self,
         key: &D,
         count: u32,
         items: &mut I,
     ) -> Result<Handle, Refusal>
         requires kind { D.suits key.now (ScalarOf T.kind) }
-        requires ready { I.can_next items.old }
+        requires well_formed { I.can_next items.old }
         ensures count { RefusesCount count self.old self.new result }
-        ensures untaken { is_count count ≡ false → items.new ≡ items.old }
-        ensures items { is_count count ≡ true → TakesItems I.next_gives T.whole self.old self.new
+        ensures not_taken { is_count count ≡ false → items.new ≡ items.old }
+        ensures items { is_count count ≡ true → ConstructsFromItems I.next_gives T.whole self.old self.new
             (D.key key.now (ScalarOf T.kind)) T.kind count items.old items.new result }
     {
-        if count == 0 || count > MOST {
+        if count == 0 || count > MAX_COUNT {
             return Err(self.refusal_of_count());
         }
         let key = key.key_for(Kind::Scalar(T::kind()));
@@ -61,7 +62,7 @@ impl Segment {
     ///
     /// `count` is from 1 to 1048576, and each item is of the kind. `construct_it` takes items of a type and has no such
     /// condition. The other conditions are as of `construct_it`, and the errors are its others.
-    pub fn construct_values<I: Iterator<Item = ScalarValue>, D: Destination>(
+    pub fn construct_values<I: Iterator<Item = ScalarValue>, D: ConstructKey>(
         &mut self,
         key: &D,
         kind: ScalarKind,
@@ -69,11 +70,12 @@ impl Segment {
         items: &mut I,
     ) -> Result<Handle, Refusal>
         requires kind { D.suits key.now (ScalarOf kind) }
-        requires some { 1 ≤ count }
-        requires few { count ≤ 1048576 }
-        requires ready { I.can_next items.old }
-        requires of_kind { HoldsAlong I.next_gives items.old (AllByRecursion (λ v. kind_of_scalar v ≡ kind)) }
-        ensures { TakesItems I.next_gives value_of_scalar self.old self.new (D.key key.now (ScalarOf kind)) kind count
+        requires non_empty { 1 ≤ count }
+        requires max_count { count ≤ 1048576 }
+        requires well_formed { I.can_next items.old }
+        requires kind_fit { HoldsAlong I.next_gives items.old (AllByRecursion (λ v. kind_of_scalar v ≡ kind)) }
+        ensures { ConstructsFromItems I.next_gives value_of_scalar self.old self.new (D.key key.now (ScalarOf kind))
+            kind count
             items.old items.new result }
     {
         let key = key.key_for(Kind::Scalar(kind));
@@ -89,17 +91,17 @@ impl Segment {
         items: &mut I,
     ) -> Result<Handle, Refusal>
         requires kind { IsOfItsKind (new_key_seen key.now) kind }
-        requires some { 1 ≤ count }
-        requires few { count ≤ 1048576 }
-        requires ready { I.can_next items.old }
-        requires of_kind { HoldsAlong I.next_gives items.old (AllByRecursion (λ item. S.kind item ≡ kind)) }
-        ensures { TakesItems I.next_gives S.whole self.old self.new (new_key_seen key.now) kind count
+        requires non_empty { 1 ≤ count }
+        requires max_count { count ≤ 1048576 }
+        requires well_formed { I.can_next items.old }
+        requires kind_fit { HoldsAlong I.next_gives items.old (AllByRecursion (λ item. S.kind item ≡ kind)) }
+        ensures { ConstructsFromItems I.next_gives S.whole self.old self.new (new_key_seen key.now) kind count
             items.old items.new result }
     {
         if self.is_read_only() {
             return Err(Refusal::ReadOnly);
         }
-        let begun = begin(&mut self.heap, key, numbers(kind, count))?;
+        let begun = begin_object(&mut self.heap, key, numbers(kind, count))?;
         take_items::<S, A, I>(&mut self.heap, begun, kind, count, items)
     }
 }
@@ -108,23 +110,24 @@ impl Segment {
 /// come all that was taken for it is given back.
 pub(crate) fn take_items<S: Spelling<A>, A, I: Iterator<Item = A>>(
     heap: &mut Heap,
-    begun: Begun,
+    begun: PendingObject,
     kind: ScalarKind,
     count: u32,
     items: &mut I,
 ) -> Result<Handle, Refusal>
-    requires begun { (old : ACut) × (IsSegment old.bytes × ((key : AnyKey)
-        × IsBegun old heap.old key (ScalarOf kind) count (size_of kind * count) begun.handle begun.at begun.entry)) }
-    requires some { 1 ≤ count }
-    requires few { count ≤ 1048576 }
-    requires ready { I.can_next items.old }
-    requires of_kind { HoldsAlong I.next_gives items.old (AllByRecursion (λ item. S.kind item ≡ kind)) }
+    requires start { (old : ACut) × (IsSegment old.bytes × ((key : AnyKey)
+        × BeginsObjectOk old heap.old key (ScalarOf kind) count (size_of kind * count) begun.handle begun.at
+        begun.entry)) }
+    requires non_empty { 1 ≤ count }
+    requires max_count { count ≤ 1048576 }
+    requires well_formed { I.can_next items.old }
+    requires kind_fit { HoldsAlong I.next_gives items.old (AllByRecursion (λ item. S.kind item ≡ kind)) }
     ensures { (old : ACut) (key : AnyKey) → IsSegment old.bytes
-        → IsBegun old heap.old key (ScalarOf kind) count (size_of kind * count) begun.handle begun.at begun.entry
+        → BeginsObjectOk old heap.old key (ScalarOf kind) count (size_of kind * count) begun.handle begun.at begun.entry
         → TakesItemsIn I.next_gives S.whole old heap.new key kind count items.old items.new result }
 {
     let filled = fill_items::<S, A, I>(heap, begun.handle, begun.at, kind, count, items);
-    end(heap, begun, filled)
+    finish_object(heap, begun, filled)
 }
 
 /// How the items of an iterator are spelled.
@@ -178,8 +181,8 @@ fn fill_items<S: Spelling<A>, A, I: Iterator<Item = A>>(
 ) -> Result<(), Refusal>
     requires heap { IsHeap current heap.old.bytes }
     requires room { IsTrue (has_room (live_of heap.old.bytes) handle (at + size_of kind * count)) }
-    requires ready { I.can_next items.old }
-    requires of_kind { HoldsAlong I.next_gives items.old (AllByRecursion (λ item. S.kind item ≡ kind)) }
+    requires well_formed { I.can_next items.old }
+    requires kind_fit { HoldsAlong I.next_gives items.old (AllByRecursion (λ item. S.kind item ≡ kind)) }
     ensures { Fills I.next_gives S.whole heap.old heap.new kind (handle + at) count items.old items.new result }
 {
     let size = kind.size();
@@ -198,10 +201,10 @@ fn write_item<S: Spelling<A>, A, I: Iterator<Item = A>>(
     items: &mut I,
 ) -> Result<(), Refusal>
     requires room { IsTrue (has_room (live_of heap.old.bytes) handle (at + size_of kind)) }
-    requires ready { I.can_next items.old }
-    requires of_kind { IsNextOfKind I.next_gives S.kind items.old kind }
+    requires well_formed { I.can_next items.old }
+    requires kind_fit { IsNextOfKind I.next_gives S.kind items.old kind }
     ensures next { WritesNext I.next_gives S.whole heap.old heap.new kind (handle + at) items.old items.new result }
-    ensures ready { OnOk result (I.can_next items.new) }
+    ensures well_formed { OnOk result (I.can_next items.new) }
 {
     let Some(item) = items.next() else {
         return Err(Refusal::OutOfRange);

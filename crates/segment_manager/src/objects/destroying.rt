@@ -3,10 +3,10 @@ ghost use Rattle.std.specs.Prelude.{◌≡◌, ℕ, OnErr, true, false};
 ghost use Rattle.seg_types.specs.Commands.{Destroy, DestroyPtr};
 ghost use Rattle.seg_types.specs.{Keys.index_key_seen, Names.ByHandle};
 ghost use Rattle.seg_index.specs.Sorted.{index_of};
-ghost use Rattle.segment_manager.specs.{objects.Found.is_object_at, Keeping.KeepsWhere, Keeping.LacksKey};
+ghost use Rattle.segment_manager.specs.{objects.Found.is_object_at, Keeping.UnchangedWhere, Keeping.LacksKey};
 ghost use Rattle.segment_manager.specs.indexes.Listed.{HasEntries, IsListed};
 ghost use Rattle.segment_manager.specs.objects.Destroyed.{HoldsEntry, HoldsObject, RemovesAnonymous, RemovesEntry};
-ghost use Rattle.segment_manager.specs.State.{Answers, IsStep, gone_answer, truth_answer};
+ghost use Rattle.segment_manager.specs.State.{AnswersWith, TakesStep, gone_answer, truth_answer};
 
 use crate::containers::releasing::release_contents;
 use crate::objects::finding::entry_of;
@@ -35,9 +35,9 @@ impl Segment {
     ///
     /// `ReadOnly` where the segment is open for reading. Nothing changes.
     pub fn destroy(&mut self, key: &IndexKey) -> Result<bool, Refusal>
-        ensures step { IsStep self.old self.new (Destroy (index_key_seen key.now)) (truth_answer result) }
+        ensures step { TakesStep self.old self.new (Destroy (index_key_seen key.now)) (truth_answer result) }
         ensures refused { OnErr result (self.new ≡ self.old) }
-        ensures absent { KeepsWhere self.old self.new (LacksKey (index_key_seen key.now)) }
+        ensures absent { UnchangedWhere self.old self.new (LacksKey (index_key_seen key.now)) }
     {
         if self.is_read_only() {
             return Err(Refusal::ReadOnly);
@@ -61,14 +61,14 @@ impl Segment {
     /// `ReadOnly` where the segment is open for reading, and else `NotFound` where no object has the handle. Nothing
     /// changes.
     pub fn destroy_ptr(&mut self, handle: Handle) -> Result<(), Refusal>
-        ensures step { IsStep self.old self.new (DestroyPtr handle) (gone_answer result) }
+        ensures step { TakesStep self.old self.new (DestroyPtr handle) (gone_answer result) }
         ensures refused { OnErr result (self.new ≡ self.old) }
-        ensures absent { KeepsWhere self.old self.new (LacksKey (ByHandle handle)) }
+        ensures absent { UnchangedWhere self.old self.new (LacksKey (ByHandle handle)) }
     {
         if self.is_read_only() {
             return Err(Refusal::ReadOnly);
         }
-        if !self.belongs(handle) {
+        if !self.is_object_handle(handle) {
             return Err(Refusal::NotFound);
         }
         match self.listed(handle) {
@@ -80,7 +80,7 @@ impl Segment {
 
     /// Where the entry of the object of a handle stands, or nothing where it has no key.
     fn listed(&self, handle: Handle) -> Option<Listed>
-        requires { Answers self.now (λ d. is_object_at d handle) true }
+        requires { AnswersWith self.now (λ d. is_object_at d handle) true }
         ensures { IsListed self.now handle result }
     {
         let head = read_head(&self.heap, handle);

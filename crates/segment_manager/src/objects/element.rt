@@ -1,8 +1,8 @@
 //! The elements of an object of scalars: each is the bytes that spell it, one after another behind the head and the
 //! name.
 ghost use Rattle.std.specs.Prelude.{◌≡◌, ◌+◌, ◌*◌, IsTrue, length};
-ghost use Rattle.raw_region.specs.{Format.current, Memory.Has, Memory.bytes_of, Memory.read};
-ghost use Rattle.best_fit.specs.Heap.{IsChanged, IsHeap, has_room, live_of};
+ghost use Rattle.raw_region.specs.{Format.current, Memory.HasBytesAt, Memory.bytes_of, Memory.read};
+ghost use Rattle.best_fit.specs.Heap.{ChangesBytes, IsHeap, has_room, live_of};
 ghost use Rattle.segment_manager.specs.objects.Standing.{repeated};
 
 use best_fit::Heap;
@@ -11,8 +11,8 @@ use best_fit::Heap;
 pub(crate) fn write_elements(heap: &mut Heap, handle: u64, at: u64, count: u32, bytes: &[u8])
     requires heap { IsHeap current heap.old.bytes }
     requires room { IsTrue (has_room (live_of heap.old.bytes) handle (at + length bytes.now * count)) }
-    ensures change { IsChanged current heap.old heap.new (handle + at) (length bytes.now * count) }
-    ensures content { Has (bytes_of heap.new.bytes) (handle + at) (repeated count bytes.now) }
+    ensures changes { ChangesBytes current heap.old heap.new (handle + at) (length bytes.now * count) }
+    ensures content { HasBytesAt (bytes_of heap.new.bytes) (handle + at) (repeated count bytes.now) }
 {
     let len = bytes.len() as u64;
     for i in 0..u64::from(count) {

@@ -4,7 +4,7 @@ ghost use Rattle.seg_types.specs.declared.kinds.{Kind.Kind as AnyKind, Kind.TheV
 ghost use Rattle.seg_types.specs.{Commands.Find, Commands.NumNamed, Commands.NumUnique, Keys.index_key_seen};
 ghost use Rattle.seg_types.specs.{Keys.key_seen, Names.Key as AnyKey};
 ghost use Rattle.seg_index.specs.Sorted.{index_of};
-ghost use Rattle.segment_manager.specs.{Answers.Number, Denotes.handles, State.Answers, State.IsReply};
+ghost use Rattle.segment_manager.specs.{Answers.Number, Denotes.handles, State.AnswersWith, State.AnswersQuery};
 ghost use Rattle.segment_manager.specs.{indexes.Indexed.Seeks, objects.NewObjects.IsNewKeyOf};
 ghost use Rattle.segment_manager.specs.{objects.NewObjects.IsOfKind};
 ghost use Rattle.segment_manager.specs.Directory.{named_objects, unique_objects};
@@ -26,7 +26,7 @@ impl Segment {
     ///
     /// `WrongKind` where the object is of another kind.
     pub fn find_kind(&self, key: &Key, kind: Kind) -> Result<Option<(Handle, u32)>, Refusal>
-        ensures { IsReply self.now (Find (key_seen key.now) kind) (found_answer result) }
+        ensures { AnswersQuery self.now (Find (key_seen key.now) kind) (found_answer result) }
     {
         let Some(handle) = self.handle_of(key) else {
             return Ok(None);
@@ -44,7 +44,7 @@ impl Segment {
     ///
     /// `WrongKind` where the object is of another kind.
     pub fn find<T: Scalar>(&self, key: &Key) -> Result<Option<(Handle, u32)>, Refusal>
-        ensures { IsReply self.now (Find (key_seen key.now) (ScalarOf T.kind)) (found_answer result) }
+        ensures { AnswersQuery self.now (Find (key_seen key.now) (ScalarOf T.kind)) (found_answer result) }
     {
         self.find_kind(key, Kind::Scalar(T::kind()))
     }
@@ -53,7 +53,7 @@ impl Segment {
     ///
     /// Example: `let count = segment.num_named()`.
     pub fn num_named(&self) -> u64
-        ensures { IsReply self.now NumNamed (Number result) }
+        ensures { AnswersQuery self.now NumNamed (Number result) }
     {
         Index::Named.len(&self.heap)
     }
@@ -62,19 +62,19 @@ impl Segment {
     ///
     /// Example: `let count = segment.num_unique()`.
     pub fn num_unique(&self) -> u64
-        ensures { IsReply self.now NumUnique (Number result) }
+        ensures { AnswersQuery self.now NumUnique (Number result) }
     {
         Index::Unique.len(&self.heap)
     }
 
     /// The handle of the object that a key means, or nothing where no object has the key.
     pub(crate) fn handle_of(&self, key: &Key) -> Option<Handle>
-        ensures { Answers self.now (λ d. handle_at d (key_seen key.now)) result }
+        ensures { AnswersWith self.now (λ d. handle_at d (key_seen key.now)) result }
     {
         match key {
             Key::Name(name) => self.look_up(Index::Named, Entry::Name(name.as_bytes())),
             Key::Unique(kind) => self.look_up(Index::Unique, Entry::Code(kind.code())),
-            Key::Handle(handle) => self.belongs(*handle).then_some(*handle),
+            Key::Handle(handle) => self.is_object_handle(*handle).then_some(*handle),
             Key::Anonymous => None,
         }
     }
@@ -82,7 +82,7 @@ impl Segment {
     /// The handle of the object under an entry of an index, or nothing where there is none.
     fn look_up(&self, index: Index, entry: Entry<'_>) -> Option<Handle>
         requires { index_of entry ≡ index }
-        ensures { (key : AnyKey) → Seeks index entry.entry key → Answers self.now (λ d. handle_at d key) result }
+        ensures { (key : AnyKey) → Seeks index entry.entry key → AnswersWith self.now (λ d. handle_at d key) result }
     {
         match index.lookup(&self.heap, entry, &mut Steps::new()) {
             Lookup::Found(place) => Some(index.at(&self.heap, place)),
@@ -94,7 +94,7 @@ impl Segment {
 /// The index that has the entry of a key, the entry, and the name of the object that it leads to.
 #[inline(always)]
 pub(crate) fn entry_of<'a>(key: &IndexKey<'a>) -> (Index, Entry<'a>, &'a [u8])
-    ensures seeks { Seeks result.0 result.1 (index_key_seen key.now) }
+    ensures search { Seeks result.0 result.1 (index_key_seen key.now) }
     ensures new { (kind : AnyKind) → IsOfKind (index_key_seen key.now) kind
         → IsNewKeyOf result.0 result.1 (index_key_seen key.now) result.2.now kind }
 {
@@ -117,7 +117,7 @@ pub(crate) fn entry_of<'a>(key: &IndexKey<'a>) -> (Index, Entry<'a>, &'a [u8])
 /// `i` is below `num_named`. `named_instances` goes over all of them without a condition.
 pub fn named_at(segment: &Segment, i: u64) -> Handle
     requires { IsBelow segment.now (λ d. length (named_objects d)) i }
-    ensures { Answers segment.now (λ d. slice_get (handles (named_objects d)) i) (Some result) }
+    ensures { AnswersWith segment.now (λ d. slice_get (handles (named_objects d)) i) (Some result) }
 {
     Index::Named.at(&segment.heap, i)
 }
@@ -132,7 +132,7 @@ pub fn named_at(segment: &Segment, i: u64) -> Handle
 /// `i` is below `num_unique`. `unique_instances` goes over all of them without a condition.
 pub fn unique_at(segment: &Segment, i: u64) -> Handle
     requires { IsBelow segment.now (λ d. length (unique_objects d)) i }
-    ensures { Answers segment.now (λ d. slice_get (handles (unique_objects d)) i) (Some result) }
+    ensures { AnswersWith segment.now (λ d. slice_get (handles (unique_objects d)) i) (Some result) }
 {
     Index::Unique.at(&segment.heap, i)
 }

@@ -3,18 +3,18 @@ ghost use Rattle.std.specs.Prelude.{◌≡◌, ◌≤◌, true};
 ghost use Rattle.seg_types.specs.{declared.kinds.Kind.TheVariants.Scalar as ScalarOf, Names.Key as AnyKey};
 ghost use Rattle.seg_types.specs.Values.{kind_of_scalar, value_of_scalar};
 ghost use Rattle.segment_manager.specs.{objects.Counted.RefusesCount, objects.Counted.is_count, Directory.Object};
-ghost use Rattle.segment_manager.specs.{Directory.kind_of, Keeping.HasKey, Keeping.KeepsWhere};
+ghost use Rattle.segment_manager.specs.{Directory.kind_of, Keeping.IsBoundKey, Keeping.UnchangedWhere};
 ghost use Rattle.segment_manager.specs.{objects.NewObjects.IsNewKeyOf, Plan.bare, objects.Standing.HasObject};
-ghost use Rattle.segment_manager.specs.{objects.Standing.StandsAt, objects.Standing.pair_of_kind};
+ghost use Rattle.segment_manager.specs.{objects.Standing.IsObjectInBlock, objects.Standing.pair_of_kind};
 ghost use Rattle.segment_manager.specs.containers.Filled.{FindsOrConstructs, FindsOrMakes, alike, with_count};
-ghost use Rattle.segment_manager.specs.State.{IsSegment, KeepsRefused};
+ghost use Rattle.segment_manager.specs.State.{IsSegment, UnchangedIfRefused};
 
-use crate::containers::fillings::{Filling, MOST, NewNumbers};
-use crate::objects::beginning::begin_at;
+use crate::containers::fillings::{MAX_COUNT, NewNumbers, ObjectInit};
+use crate::objects::construct_keys::FindOrConstructKey;
 use crate::objects::constructing::build;
-use crate::objects::destinations::IndexDestination;
 use crate::objects::finding::entry_of;
 use crate::objects::head::read_head;
+use crate::objects::pending_object::begin_at;
 use crate::segment::Segment;
 use best_fit::Heap;
 use raw_region::Steps;
@@ -32,26 +32,26 @@ impl Segment {
     ///
     /// `count` is from 1 to 1048576. `find_or_construct_array` has no such condition, and refuses another count.
     ///
-    /// The key suits the kind: one that says a kind says this one ([`Destination`]).
+    /// The key suits the kind: one that says a kind says this one ([`ConstructKey`]).
     ///
     /// # Errors
     ///
     /// `ReadOnly` where the segment is open for reading, else `WrongKind` where the object is of another kind: nothing
     /// changes. Else `NoSpace` where none is there and no gap is long enough: what the segment holds does not change,
     /// and the bytes of gaps may.
-    pub fn find_or_construct<T: Scalar, D: IndexDestination>(
+    pub fn find_or_construct<T: Scalar, D: FindOrConstructKey>(
         &mut self,
         key: &D,
         count: u32,
         value: T,
     ) -> Result<(Handle, u32), Refusal>
         requires kind { D.suits key.now (ScalarOf T.kind) }
-        requires some { 1 ≤ count }
-        requires few { count ≤ 1048576 }
+        requires non_empty { 1 ≤ count }
+        requires max_count { count ≤ 1048576 }
         ensures step { FindsOrMakes self.old self.new (D.key key.now (ScalarOf T.kind))
             (alike T.kind count (T.whole value)) result }
-        ensures refused { KeepsRefused self.old self.new result }
-        ensures found { KeepsWhere self.old self.new (HasKey (D.key key.now (ScalarOf T.kind))) }
+        ensures refused { UnchangedIfRefused self.old self.new result }
+        ensures search { UnchangedWhere self.old self.new (IsBoundKey (D.key key.now (ScalarOf T.kind))) }
     {
         self.find_or_construct_under(key, &NewNumbers { count, value })
     }
@@ -64,7 +64,7 @@ impl Segment {
     ///
     /// `ReadOnly` where the segment is open for reading, and else `OutOfRange` where `count` is 0 or above 1048576:
     /// nothing changes. Else as of `find_or_construct`, but for the count.
-    pub fn find_or_construct_array<T: Scalar, D: IndexDestination>(
+    pub fn find_or_construct_array<T: Scalar, D: FindOrConstructKey>(
         &mut self,
         key: &D,
         count: u32,
@@ -75,10 +75,10 @@ impl Segment {
             → FindsOrMakes self.old self.new (D.key key.now (ScalarOf T.kind))
             (alike T.kind count (T.whole value)) result }
         ensures count { RefusesCount count self.old self.new result }
-        ensures refused { KeepsRefused self.old self.new result }
-        ensures found { KeepsWhere self.old self.new (HasKey (D.key key.now (ScalarOf T.kind))) }
+        ensures refused { UnchangedIfRefused self.old self.new result }
+        ensures search { UnchangedWhere self.old self.new (IsBoundKey (D.key key.now (ScalarOf T.kind))) }
     {
-        if count == 0 || count > MOST {
+        if count == 0 || count > MAX_COUNT {
             return Err(self.refusal_of_count());
         }
         self.find_or_construct(key, count, value)
@@ -87,36 +87,38 @@ impl Segment {
     /// The same for a value of a kind. Conditions and errors: as of `find_or_construct`.
     ///
     /// Example: `segment.find_or_construct_value(&name, 1, ScalarValue::I64(640))?`.
-    pub fn find_or_construct_value<D: IndexDestination>(
+    pub fn find_or_construct_value<D: FindOrConstructKey>(
         &mut self,
         key: &D,
         count: u32,
         value: ScalarValue,
     ) -> Result<(Handle, u32), Refusal>
         requires kind { D.suits key.now (ScalarOf (kind_of_scalar value)) }
-        requires some { 1 ≤ count }
-        requires few { count ≤ 1048576 }
+        requires non_empty { 1 ≤ count }
+        requires max_count { count ≤ 1048576 }
         ensures step { FindsOrMakes self.old self.new (D.key key.now (ScalarOf (kind_of_scalar value)))
             (alike (kind_of_scalar value) count (value_of_scalar value)) result }
-        ensures refused { KeepsRefused self.old self.new result }
-        ensures found { KeepsWhere self.old self.new (HasKey (D.key key.now (ScalarOf (kind_of_scalar value)))) }
+        ensures refused { UnchangedIfRefused self.old self.new result }
+        ensures search { UnchangedWhere self.old self.new
+            (IsBoundKey (D.key key.now (ScalarOf (kind_of_scalar value)))) }
     {
         by_value!(value, it => self.find_or_construct(key, count, it))
     }
 
     /// The same of what fills an object.
     #[inline(always)]
-    pub(crate) fn find_or_construct_under<F: Filling, D: IndexDestination>(
+    pub(crate) fn find_or_construct_under<F: ObjectInit, D: FindOrConstructKey>(
         &mut self,
         key: &D,
         filling: &F,
     ) -> Result<(Handle, u32), Refusal>
-        requires stands { F.stands filling.now }
+        requires object { F.stands filling.now }
         requires kind { D.suits key.now (kind_of (bare (F.content filling.now))) }
         ensures step { FindsOrMakes self.old self.new (D.key key.now (kind_of (bare (F.content filling.now))))
             (F.content filling.now) result }
-        ensures refused { KeepsRefused self.old self.new result }
-        ensures found { KeepsWhere self.old self.new (HasKey (D.key key.now (kind_of (bare (F.content filling.now))))) }
+        ensures refused { UnchangedIfRefused self.old self.new result }
+        ensures search { UnchangedWhere self.old self.new
+            (IsBoundKey (D.key key.now (kind_of (bare (F.content filling.now))))) }
     {
         if self.is_read_only() {
             return Err(Refusal::ReadOnly);
@@ -128,7 +130,7 @@ impl Segment {
 }
 
 /// The same under an entry of an index, on the heap of a segment that may be changed.
-fn find_or_construct_entered<F: Filling>(
+fn find_or_construct_entered<F: ObjectInit>(
     heap: &mut Heap,
     index: Index,
     entry: Entry<'_>,
@@ -136,7 +138,7 @@ fn find_or_construct_entered<F: Filling>(
     filling: &F,
 ) -> Result<(Handle, u32), Refusal>
     requires segment { IsSegment heap.old.bytes }
-    requires stands { F.stands filling.now }
+    requires object { F.stands filling.now }
     requires key { (key : AnyKey) × IsNewKeyOf index entry key name.now (kind_of (bare (F.content filling.now))) }
     ensures { (key : AnyKey) → IsNewKeyOf index entry.entry key name.now (kind_of (bare (F.content filling.now)))
         → FindsOrConstructs heap.old heap.new key (F.content filling.now) result }
@@ -163,7 +165,7 @@ pub(crate) fn counted(made: Result<Handle, Refusal>, count: u32) -> Result<(Hand
 /// kind.
 pub(crate) fn found_of(heap: &Heap, handle: u64, kind: Kind) -> Result<(Handle, u32), Refusal>
     requires { HasObject heap.now.bytes handle }
-    ensures { (o : Object) → StandsAt heap.now.bytes handle o → result ≡ pair_of_kind o kind }
+    ensures { (o : Object) → IsObjectInBlock heap.now.bytes handle o → result ≡ pair_of_kind o kind }
 {
     let head = read_head(heap, handle);
     if head.kind.code() != kind.code() {

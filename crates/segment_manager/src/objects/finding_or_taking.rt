@@ -6,12 +6,12 @@ ghost use Rattle.segment_manager.specs.{objects.Counted.RefusesCount, objects.Co
 ghost use Rattle.segment_manager.specs.{objects.Items.FindsOrTakes, objects.Items.FindsOrTakesIn, State.IsSegment};
 ghost use Rattle.segment_manager.specs.{objects.NewObjects.IsNewKeyOf};
 
-use crate::containers::fillings::{MOST, numbers};
-use crate::objects::beginning::begin_at;
+use crate::containers::fillings::{MAX_COUNT, numbers};
+use crate::objects::construct_keys::FindOrConstructKey;
 use crate::objects::constructing_from::{OfType, take_items};
-use crate::objects::destinations::IndexDestination;
 use crate::objects::finding::entry_of;
 use crate::objects::finding_or_constructing::{counted, found_of};
+use crate::objects::pending_object::begin_at;
 use crate::segment::Segment;
 use best_fit::Heap;
 use raw_region::Steps;
@@ -27,20 +27,20 @@ impl Segment {
     /// # Conditions and errors
     ///
     /// As of `construct_it`, with `WrongKind` in the place of `Exists`, where the object is of another kind.
-    pub fn find_or_construct_it<T: Scalar, I: Iterator<Item = T>, D: IndexDestination>(
+    pub fn find_or_construct_it<T: Scalar, I: Iterator<Item = T>, D: FindOrConstructKey>(
         &mut self,
         key: &D,
         count: u32,
         items: &mut I,
     ) -> Result<(Handle, u32), Refusal>
         requires kind { D.suits key.now (ScalarOf T.kind) }
-        requires ready { I.can_next items.old }
+        requires well_formed { I.can_next items.old }
         ensures count { RefusesCount count self.old self.new result }
-        ensures untaken { is_count count ≡ false → items.new ≡ items.old }
+        ensures not_taken { is_count count ≡ false → items.new ≡ items.old }
         ensures items { is_count count ≡ true → FindsOrTakes I.next_gives T.whole self.old self.new
             (D.key key.now (ScalarOf T.kind)) T.kind count items.old items.new result }
     {
-        if count == 0 || count > MOST {
+        if count == 0 || count > MAX_COUNT {
             return Err(self.refusal_of_count());
         }
         if self.is_read_only() {
@@ -63,9 +63,9 @@ fn find_or_take<T: Scalar, I: Iterator<Item = T>>(
 ) -> Result<(Handle, u32), Refusal>
     requires segment { IsSegment heap.old.bytes }
     requires key { (key : AnyKey) × IsNewKeyOf index entry key name.now (ScalarOf T.kind) }
-    requires some { 1 ≤ count }
-    requires few { count ≤ 1048576 }
-    requires ready { I.can_next items.old }
+    requires non_empty { 1 ≤ count }
+    requires max_count { count ≤ 1048576 }
+    requires well_formed { I.can_next items.old }
     ensures { (key : AnyKey) → IsNewKeyOf index entry.entry key name.now (ScalarOf T.kind)
         → FindsOrTakesIn I.next_gives T.whole heap.old heap.new key T.kind count items.old items.new result }
 {

@@ -1,11 +1,11 @@
 //! The head of an object, at the front of its block: its kind and count, its name and its class.
 ghost use Rattle.std.specs.Prelude.{◌≡◌, ◌+◌, ◌<◌, ◌≤◌, ◌^◌, IsTrue, length};
-ghost use Rattle.raw_region.specs.{Format.current, Memory.Has, Memory.bytes_of};
-ghost use Rattle.best_fit.specs.Heap.{IsChanged, IsHeap, has_room, live_of};
+ghost use Rattle.raw_region.specs.{Format.current, Memory.HasBytesAt, Memory.bytes_of};
+ghost use Rattle.best_fit.specs.Heap.{ChangesBytes, IsHeap, has_room, live_of};
 ghost use Rattle.seg_types.specs.declared.kinds.Class.{Class as ClassOf};
 ghost use Rattle.seg_types.specs.{declared.kinds.Kind.Kind as KindOf, Kinds.class_code, Kinds.code_of};
 ghost use Rattle.segment_manager.specs.{Denotes.padded_name, Directory.Object, Directory.padded, Layout.head_len};
-ghost use Rattle.segment_manager.specs.objects.Standing.{HasObject, IsHeadAt, IsHeadOf, StandsAt};
+ghost use Rattle.segment_manager.specs.objects.Standing.{HasObject, IsHeadAt, IsHeadOf, IsObjectInBlock};
 
 use crate::layout::{HALF, HEAD_LEN, NAME_CLASS_AT, padded};
 use best_fit::Heap;
@@ -25,7 +25,7 @@ pub(crate) struct Head {
 /// The head of the object of a handle.
 pub(crate) fn read_head(heap: &Heap, handle: u64) -> Head
     requires { HasObject heap.now.bytes handle }
-    ensures { (o : Object) → StandsAt heap.now.bytes handle o → IsHeadOf o result }
+    ensures { (o : Object) → IsObjectInBlock heap.now.bytes handle o → IsHeadOf o result }
 {
     let first = heap.word(handle, 0);
     let second = heap.word(handle, NAME_CLASS_AT);
@@ -42,7 +42,7 @@ pub(crate) fn read_head(heap: &Heap, handle: u64) -> Head
 pub(crate) fn read_name(heap: &Heap, handle: u64) -> &[u8]
     requires heap { IsHeap current heap.now.bytes }
     requires object { HasObject heap.now.bytes handle }
-    ensures { (o : Object) → StandsAt heap.now.bytes handle o → result.now ≡ o.name }
+    ensures { (o : Object) → IsObjectInBlock heap.now.bytes handle o → result.now ≡ o.name }
 {
     let len = heap.word(handle, NAME_CLASS_AT) % HALF;
     let payload = heap.block(handle);
@@ -59,8 +59,8 @@ pub(crate) fn write_head(
     name: &[u8],
 )
     requires room { IsTrue (has_room (live_of heap.old.bytes) handle (head_len + padded (length name.now))) }
-    requires short { length name.now ≤ 255 }
-    ensures change { IsChanged current heap.old heap.new handle (head_len + padded (length name.now)) }
+    requires max_len { length name.now ≤ 255 }
+    ensures changes { ChangesBytes current heap.old heap.new handle (head_len + padded (length name.now)) }
     ensures head { IsHeadAt (bytes_of heap.new.bytes) handle kind count class name.now }
 {
     let len = name.len() as u64;
@@ -73,9 +73,9 @@ pub(crate) fn write_head(
 /// Writes a name behind the two words of a head, with zeros up to a multiple of 8 bytes.
 fn write_name(heap: &mut Heap, handle: u64, name: &[u8])
     requires room { IsTrue (has_room (live_of heap.old.bytes) handle (head_len + padded (length name.now))) }
-    requires short { length name.now ≤ 255 }
-    ensures change { IsChanged current heap.old heap.new (handle + head_len) (padded (length name.now)) }
-    ensures name { Has (bytes_of heap.new.bytes) (handle + head_len) (padded_name name.now) }
+    requires max_len { length name.now ≤ 255 }
+    ensures changes { ChangesBytes current heap.old heap.new (handle + head_len) (padded (length name.now)) }
+    ensures name { HasBytesAt (bytes_of heap.new.bytes) (handle + head_len) (padded_name name.now) }
 {
     let len = name.len() as u64;
     heap.write(handle, HEAD_LEN, name);

@@ -2,11 +2,11 @@
 ghost use Rattle.std.specs.{Prelude.◌≡◌, Prelude.◌-◌, Iterator.at_most};
 ghost use Rattle.segment_manager.specs.indexes.Iterating.{GoesOnObjects, GoesOnOwn, own_count};
 
-use crate::blocks::tiles::Span;
+use crate::blocks::tiles::TileInfo;
 use crate::blocks::walking_tiles::Tiles;
-use crate::objects::telling::{Instance, instance_here};
+use crate::objects::instance_info::{Instance, instance_here};
 use crate::segment::Segment;
-use block_tags::TAG;
+use block_tags::TAG_LEN;
 use std::marker::Model;
 
 /// All objects of a segment by their offsets, one after another: what each says of itself. Those without a key are
@@ -43,12 +43,12 @@ impl<'a> Iterator for Objects<'a> {
         // A block lies within the segment, and 64 bits count its objects, which its bytes say.
         let _ = segment.as_bytes();
         self.at += 1;
-        Some(instance_here(segment, block.offset + TAG))
+        Some(instance_here(segment, block.offset + TAG_LEN))
     }
 }
 
 /// The next block of an object among the blocks and gaps that are left, or nothing where there is no more.
-fn next_own(tiles: &mut Tiles<'_>) -> Option<Span>
+fn next_own(tiles: &mut Tiles<'_>) -> Option<TileInfo>
     ensures { GoesOnOwn tiles.old result tiles.new }
 {
     'spans: while let Some(span) = tiles.next() {

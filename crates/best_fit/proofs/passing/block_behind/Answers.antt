@@ -1,5 +1,6 @@
 -- The tile behind a block is one in use, or a gap, behind which another one in use stands.
-use Rattle.best_fit.proofs.Common.{◌≡◌, sym, subst, ◌∙◌, ◌-◌, List, arith, Cut, Tile, next_in, HasTileAt, SaysTiles}
+use Rattle.best_fit.proofs.Common.{◌≡◌, sym, subst, ◌∙◌, ◌-◌, List, arith, WindowState, Tile, next_in, HasTileAt}
+use Rattle.best_fit.proofs.Common.{EncodesTiles}
 use Rattle.best_fit.proofs.Walks.{left_goes_on, left_next}
 use Rattle.best_fit.proofs.HintedBlocks.{Beyond, beyond_next, beyond_other, left_behind, used_is_live}
 use Rattle.best_fit.proofs.Writes.{block_tile, live_block}
@@ -34,7 +35,7 @@ next-requires-2-clause-tile c =
     let w = c.args.touches.now.gaps.now.window in let h = c.args.handle in let t = c.in_ok-behind.behind in
     let n = left_next w c.next.result (Beyond w h) (left_behind w h c.requires.heap c.requires.live c.next.result
     c.next.ensures.tile) t c.in_ok-behind.was in
-    let e : w ≡ c.next.new.self.gaps.now.window = cc in subst (λ (v : Cut). HasTileAt v t.offset) e n.meets.has
+    let e : w ≡ c.next.new.self.gaps.now.window = cc in subst (λ (v : WindowState). HasTileAt v t.offset) e n.meets.has
 
 pub overflow_add-result-then-is_some-2 : goal.overflow_add-result-then-is_some-2
 overflow_add-result-then-is_some-2 c =
@@ -43,7 +44,7 @@ overflow_add-result-then-is_some-2 c =
     let n = left_next w c.next.result (Beyond w h) (left_behind w h c.requires.heap c.requires.live c.next.result
     c.next.ensures.tile) t c.in_ok-behind.was in
     let e : c.next.new.self.gaps.now.window ≡ w = cc in
-    let is = subst (λ (v : Cut). (ts : List Tile) → SaysTiles v ts → c.next-2.result ≡ next_in ts t.offset) e
+    let is = subst (λ (v : WindowState). (ts : List Tile) → EncodesTiles v ts → c.next-2.result ≡ next_in ts t.offset) e
     c.next-2.ensures.tile in
     let m = left_next w c.next-2.result (Beyond w h) (left_goes_on w (Beyond w h) (Beyond w h) t n c.next-2.result is
     (beyond_next w h t n.back n.holds)) u c.in_ok-behind-2.was in
@@ -56,7 +57,7 @@ returns-then-is_some-2-clause-block c =
     let n = left_next w c.next.result (Beyond w h) (left_behind w h c.requires.heap c.requires.live c.next.result
     c.next.ensures.tile) t c.in_ok-behind.was in
     let e : c.next.new.self.gaps.now.window ≡ w = cc in
-    let is = subst (λ (v : Cut). (ts : List Tile) → SaysTiles v ts → c.next-2.result ≡ next_in ts t.offset) e
+    let is = subst (λ (v : WindowState). (ts : List Tile) → EncodesTiles v ts → c.next-2.result ≡ next_in ts t.offset) e
     c.next-2.ensures.tile in
     let m = left_next w c.next-2.result (Beyond w h) (left_goes_on w (Beyond w h) (Beyond w h) t n c.next-2.result is
     (beyond_next w h t n.back n.holds)) u c.in_ok-behind-2.was in

@@ -4,7 +4,8 @@ use Rattle.block_tags.proofs.Cutting.{splits, split_says, split_rest}
 use Rattle.block_tags.proofs.changing.split.Goals as goal
 
 pub tile_there-tile-requires : goal.tile_there-tile-requires
-tile_there-tile-requires c = let f = fits_in _ _ _ _ c.requires.said c.requires.stands in record { small = omega arith; inside = omega arith }
+tile_there-tile-requires c = let f = fits_in _ _ _ _ c.requires.said c.requires.stands
+    in record { max_size = omega arith; in_bounds = omega arith }
 
 pub overflow_add-rest : goal.overflow_add-rest
 overflow_add-rest c = let f = splits _ _ _ c.requires _ c.tile_there-tile.ensures in omega arith
@@ -22,7 +23,8 @@ pub put_word-requires : goal.put_word-requires
 put_word-requires c = let f = splits _ _ _ c.requires _ c.tile_there-tile.ensures in omega arith
 
 pub put_word-requires-2 : goal.put_word-requires-2
-put_word-requires-2 c = let f = splits _ _ _ c.requires _ c.tile_there-tile.ensures in let p = c.put_word.ensures.size in omega arith
+put_word-requires-2 c = let f = splits _ _ _ c.requires _ c.tile_there-tile.ensures in let p =
+    c.put_word.ensures.size in omega arith
 
 pub overflow_add-rest-2 : goal.overflow_add-rest-2
 overflow_add-rest-2 c = let f = splits _ _ _ c.requires _ c.tile_there-tile.ensures in omega arith
@@ -44,7 +46,7 @@ returns-clause-tags c =
     split_says _ _ _ _ _ _ _ c.requires _ c.tile_there-tile.ensures _ _ c.tag_word.ensures c.tag_word-2.ensures
     c.put_word.ensures c.put_word-2.ensures c.put_word-3.ensures c.put_word-4.ensures
 
-pub returns-clause-rest : goal.returns-clause-rest
-returns-clause-rest c =
+pub returns-clause-frame : goal.returns-clause-frame
+returns-clause-frame c =
     split_rest _ _ _ _ _ _ _ c.requires _ c.tile_there-tile.ensures _ _ c.tag_word.ensures c.tag_word-2.ensures
     c.put_word.ensures c.put_word-2.ensures c.put_word-3.ensures c.put_word-4.ensures

@@ -14,8 +14,8 @@ pub returns-then-not-is_good-clause-read : goal.returns-then-not-is_good-clause-
 returns-then-not-is_good-clause-read c = (stops _ _ _ _ _ _ _ _ c.tags.invariant.0 c.tags-test.true (sym
     c.is_good.ensures ∙ c.if-not-is_good.true)).1
 
-pub returns-then-not-is_good-clause-stops : goal.returns-then-not-is_good-clause-stops
-returns-then-not-is_good-clause-stops c = λ _. (stops _ _ _ _ _ _ _ _ c.tags.invariant.0 c.tags-test.true (sym
+pub returns-then-not-is_good-clause-stop : goal.returns-then-not-is_good-clause-stop
+returns-then-not-is_good-clause-stop c = λ _. (stops _ _ _ _ _ _ _ _ c.tags.invariant.0 c.tags-test.true (sym
     c.is_good.ensures ∙ c.if-not-is_good.true)).2
 
 pub overflow_add-at : goal.overflow_add-at
@@ -36,13 +36,15 @@ tags-preserved c =
     ∙ c.if-not-is_good.false) _ c.tile_there-tile.ensures in
     let t = c.tile_there-tile.result in
     let b = c.args.window.now.bytes in (
-      subst (λ (f : Bool). Walking c.args.format (bytes_of b) (length b) (c.size-end.result - 16) (c.tags.at + t.len) t.len f
+      subst (λ (f : Bool). Walking c.args.format (bytes_of b) (length b) (c.size-end.result - 16)
+          (c.tags.at + t.len) t.len f
           (c.tags.tags + 1)) (none_of t.use_of _ c.is_none-behind_free.ensures) g.next,
       omega arith,
     )
 
 pub returns-clause-good : goal.returns-clause-good
-returns-clause-good c = c.ends_well-are_good.ensures ∙ sym (ends _ _ _ _ _ _ _ _ c.tags.invariant.0 c.tags-test.false).said
+returns-clause-good c = c.ends_well-are_good.ensures
+    ∙ sym (ends _ _ _ _ _ _ _ _ c.tags.invariant.0 c.tags-test.false).said
 
 pub returns-clause-read : goal.returns-clause-read
 returns-clause-read c = (ends _ _ _ _ _ _ _ _ c.tags.invariant.0 c.tags-test.false).good
@@ -50,5 +52,6 @@ returns-clause-read c = (ends _ _ _ _ _ _ _ _ c.tags.invariant.0 c.tags-test.fal
 pub returns-clause-tiles : goal.returns-clause-tiles
 returns-clause-tiles c = λ _. (ends _ _ _ _ _ _ _ _ c.tags.invariant.0 c.tags-test.false).tiles
 
-pub returns-clause-stops : goal.returns-clause-stops
-returns-clause-stops c = λ f. (ends _ _ _ _ _ _ _ _ c.tags.invariant.0 c.tags-test.false).stops (sym c.ends_well-are_good.ensures ∙ f)
+pub returns-clause-stop : goal.returns-clause-stop
+returns-clause-stop c = λ f. (ends _ _ _ _ _ _ _ _ c.tags.invariant.0 c.tags-test.false).stops
+    (sym c.ends_well-are_good.ensures ∙ f)

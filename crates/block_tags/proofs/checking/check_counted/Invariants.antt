@@ -5,7 +5,8 @@ use Rattle.block_tags.proofs.checking.check_counted.Given as goal
 
 -- the tags so far were good, and each took 32 bytes at least
 abbrev pub invariant-tags : goal.invariant-tags
-invariant-tags l = Walking l.format (bytes_of l.window.bytes) (length l.window.bytes) l.end l.at l.before l.behind_free l.tags
+invariant-tags l = Walking l.format (bytes_of l.window.bytes) (length l.window.bytes) l.end l.at l.before
+    l.behind_free l.tags
     × (32 * l.tags + 96 ≤ l.at)
 
 abbrev pub decreases-tags : goal.decreases-tags

@@ -7,15 +7,17 @@ pub read_u64-before-requires : goal.read_u64-before-requires
 read_u64-before-requires c = let f = fits_in _ _ _ _ c.requires.said c.requires.stands in omega arith
 
 pub overflow_sub-at : goal.overflow_sub-at
-overflow_sub-at c = let p = previous_found _ _ c.requires _ c.read_u64-before.ensures (omega arith) c.requires.tiles c.requires.said in omega arith
+overflow_sub-at c = let p = previous_found _ _ c.requires _ c.read_u64-before.ensures (omega arith) c.requires.tiles
+    c.requires.said in omega arith
 
 pub tile_there-requires : goal.tile_there-requires
 tile_there-requires c =
     let f = fits_in _ _ _ _ c.requires.said c.requires.stands in
-    record { small = omega arith; inside = omega arith }
+    record { max_size = omega arith; in_bounds = omega arith }
 
 pub returns-then-before-eq0 : goal.returns-then-before-eq0
-returns-then-before-eq0 c = λ ts said. previous_none _ _ c.requires _ c.read_u64-before.ensures c.if-before-eq0.true ts said
+returns-then-before-eq0 c = λ ts said.
+    previous_none _ _ c.requires _ c.read_u64-before.ensures c.if-before-eq0.true ts said
 
 pub returns-else-before-eq0 : goal.returns-else-before-eq0
 returns-else-before-eq0 c = λ ts said.

@@ -3,4 +3,4 @@ use Rattle.block_tags.proofs.Puts.{put}
 use Rattle.block_tags.proofs.words.put_word.Goals as goal
 
 pub returns : goal.returns
-returns c = put _ _ c.args.at c.args.word c.requires (omega arith) c.write_u64.ensures.written
+returns c = put _ _ c.args.at c.args.word c.requires (omega arith) c.write_u64.ensures.output

@@ -4,4 +4,5 @@ use Rattle.examples.proofs.timetable.note.Goals as goal
 
 pub returns : goal.returns
 returns g c =
-    after_push g.T.Plain.SIZE g.T.Plain.is_value g.T.Plain.spelling c.args.heap.now c.push.new.heap c.args.vector.place c.args.value c.push.result c.requires c.push.ensures
+    after_push g.T.Plain.SIZE g.T.Plain.is_value g.T.Plain.spelling c.args.heap.now c.push.new.heap
+    c.args.vector.place c.args.value c.push.result c.requires c.push.ensures

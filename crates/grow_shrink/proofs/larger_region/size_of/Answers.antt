@@ -3,4 +3,5 @@ use Rattle.grow_shrink.proofs.Sizes.{segment-most}
 use Rattle.grow_shrink.proofs.larger_region.size_of.Goals as goal
 
 pub returns-clause-most : goal.returns-clause-most
-returns-clause-most c = let most = segment-most c.as_bytes.result.now c.as_bytes.ensures.denotes in omega (arith, most)
+returns-clause-most c = let most = segment-most c.as_bytes.result.now c.as_bytes.ensures.denotation
+    in omega (arith, most)

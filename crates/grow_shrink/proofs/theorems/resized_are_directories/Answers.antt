@@ -3,4 +3,4 @@ use Rattle.grow_shrink.proofs.Sizes.{grown-directory, shrunk-directory}
 use Rattle.grow_shrink.proofs.theorems.resized_are_directories.Goals as goal
 
 pub returns : goal.returns
-returns c = record { grown = grown-directory; shrunk = shrunk-directory }
+returns c = record { growth = grown-directory; shrinking = shrunk-directory }

@@ -10,7 +10,8 @@ use Rattle.image_check.proofs.arrays.are_elements.Given as goal
 abbrev pub invariant-elements : goal.invariant-elements
 invariant-elements l =
     record {
-      lead : (ts : List Tile) → AreBlocks ts l.blocks.entries → list_all (λ j. is_element_at (bytes_of l.window.bytes) ts (l.at + 16 * j)) (range_with_len 0 l.i) ≡ true;
+      lead : (ts : List Tile) → AreBlocks ts l.blocks.entries
+          → list_all (λ j. is_element_at (bytes_of l.window.bytes) ts (l.at + 16 * j)) (range_with_len 0 l.i) ≡ true;
       least : l.initial.visits ≤ l.visits;
       most : l.visits ≤ l.initial.visits + 2 * l.i;
     }

@@ -14,8 +14,8 @@ as-steps b r old before new after e f h =
     subst (λ x. IfErr r (λ why. is_late (error_for why) ≡ true → CountsTiles b x after)) e
     (subst (λ y. IfErr r (λ why. is_late (error_for why) ≡ true → CountsTiles b before y)) (sym f) h)
 
-pub returns-clause-late : goal.returns-clause-late
-returns-clause-late c =
+pub returns-clause-visits_on_error : goal.returns-clause-visits_on_error
+returns-clause-visits_on_error c =
     as-steps c.args.window.now.bytes c.check_counted-checked.result c.args.steps.now c.new-visits.result
     c.check_counted-checked.new.visits c.into_steps.result (c.new-visits.ensures ∙ c.replace.ensures.value)
-    c.into_steps.ensures c.check_counted-checked.ensures.late
+    c.into_steps.ensures c.check_counted-checked.ensures.visits_on_error

@@ -7,13 +7,15 @@ use Rattle.image_check.proofs.Gathered.{frame-AreBlocks, tags-blocks}
 use Rattle.image_check.proofs.OwnedRows.{rows-count, rows-weigh}
 use Rattle.image_check.proofs.checking.note_counted.Goals as goal
 
-pub returns-in-Ok-clause-answers : goal.returns-in-Ok-clause-answers
-returns-in-Ok-clause-answers c =
+pub returns-in-Ok-clause-outcome : goal.returns-in-Ok-clause-outcome
+returns-in-Ok-clause-outcome c =
     let b = c.args.window.now.bytes in
     let p = c.in-Ok.ensures.passed in
     record {
       image = c.in-Ok.ensures.answers;
-      lead = c.note_blocks.ensures.points b (frame-AreBlocks (tiles_in b) c.in-Ok.owners.blocks.entries (entries_of (tiles_in b)) p.frame (tags-blocks b p.tiles));
+      lead = c.note_blocks.ensures.points b
+          (frame-AreBlocks (tiles_in b) c.in-Ok.owners.blocks.entries (entries_of (tiles_in b)) p.frame
+          (tags-blocks b p.tiles));
     }
 
 pub returns-in-Ok-clause-visits : goal.returns-in-Ok-clause-visits

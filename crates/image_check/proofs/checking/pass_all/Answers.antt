@@ -5,58 +5,59 @@ use Rattle.image_check.proofs.Early.{frame-no_early_class}
 use Rattle.image_check.proofs.Checked.{no-memory-used, blocks-image, frame-tiles}
 use Rattle.image_check.proofs.checking.pass_all.Goals as goal
 
-pub gather-requires : goal.gather-requires
-gather-requires c = record {
+pub collect_blocks-requires : goal.collect_blocks-requires
+collect_blocks-requires c = record {
   tiles = frame-tiles c.args.format c.args.window.now.bytes c.in-Ok.ensures.finds;
-  counted =
+  steps_lower =
       c.in-Ok.ensures.counted;
 }
 
-pub returns-in-Err-gather-clause-answers : goal.returns-in-Err-gather-clause-answers
-returns-in-Err-gather-clause-answers c = (
+pub returns-in-Err-collect_blocks-clause-outcome : goal.returns-in-Err-collect_blocks-clause-outcome
+returns-in-Err-collect_blocks-clause-outcome c = (
   frame-no_early_class c.args.format c.args.window.now.bytes c.in-Ok.ensures.finds,
-  no-memory-used c.args.window.now.bytes c.gather.result c.in-Err-gather.refusal c.gather.ensures.memory c.in-Err-gather.is,
-  c.in-Err-gather.ensures.refused,
+  no-memory-used c.args.window.now.bytes c.collect_blocks.result c.in-Err-collect_blocks.refusal
+      c.collect_blocks.ensures.memory c.in-Err-collect_blocks.is,
+  c.in-Err-collect_blocks.ensures.refused,
 )
 
-pub returns-in-Err-gather-clause-visits : goal.returns-in-Err-gather-clause-visits
-returns-in-Err-gather-clause-visits c =
+pub returns-in-Err-collect_blocks-clause-visits : goal.returns-in-Err-collect_blocks-clause-visits
+returns-in-Err-collect_blocks-clause-visits c =
     gathered-raised c.args.window.now _ _ _
     (frame-tiles c.args.format c.args.window.now.bytes c.in-Ok.ensures.finds)
-    c.in-Ok.ensures.visits c.in-Err-gather.ensures.visits
+    c.in-Ok.ensures.visits c.in-Err-collect_blocks.ensures.visits
 
 pub check_blocks-requires-clause-frame : goal.check_blocks-requires-clause-frame
 check_blocks-requires-clause-frame c = c.in-Ok.ensures.finds
 
-pub returns-in-Err-check_blocks-clause-answers : goal.returns-in-Err-check_blocks-clause-answers
-returns-in-Err-check_blocks-clause-answers c = c.in-Err-check_blocks.ensures.finds
+pub returns-in-Err-check_blocks-clause-outcome : goal.returns-in-Err-check_blocks-clause-outcome
+returns-in-Err-check_blocks-clause-outcome c = c.in-Err-check_blocks.ensures.finds
 
 pub returns-in-Err-check_blocks-clause-visits : goal.returns-in-Err-check_blocks-clause-visits
 returns-in-Err-check_blocks-clause-visits c =
     blocks-raised c.args.window.now _ _ _ (frame-tiles c.args.format c.args.window.now.bytes c.in-Ok.ensures.finds)
-    c.in-Ok.ensures.visits c.in-Ok-gather.ensures.visits
+    c.in-Ok.ensures.visits c.in-Ok-collect_blocks.ensures.visits
     _ c.in-Err-check_blocks.ensures.visits
 
-pub returns-clause-answers : goal.returns-clause-answers
-returns-clause-answers c = blocks-image c.args.format c.args.window.now.bytes c.requires.format c.in-Ok.ensures.bytes
-    c.in_default.ensures.finds
+pub returns-clause-outcome : goal.returns-clause-outcome
+returns-clause-outcome c = blocks-image c.args.format c.args.window.now.bytes c.requires.format c.in-Ok.ensures.bytes
+    c.in_default.ensures.verdict
 
 pub returns-clause-visits : goal.returns-clause-visits
 returns-clause-visits c =
     blocks-raised c.args.window.now _ _ _ (frame-tiles c.args.format c.args.window.now.bytes c.in-Ok.ensures.finds)
-    c.in-Ok.ensures.visits c.in-Ok-gather.ensures.visits
+    c.in-Ok.ensures.visits c.in-Ok-collect_blocks.ensures.visits
     _ c.in_default.ensures.visits
 
-pub returns-clause-passed : goal.returns-clause-passed
-returns-clause-passed c =
+pub returns-clause-pass : goal.returns-clause-pass
+returns-clause-pass c =
     let tiles = frame-tiles c.args.format c.args.window.now.bytes c.in-Ok.ensures.finds in
     let raised = c.in_default.ensures.visits.0 in
     let before = c.in-Ok.ensures.visits.0 in
-    let counted = c.in-Ok-gather.ensures.tiles in
+    let counted = c.in-Ok-collect_blocks.ensures.tiles in
     record {
       tiles = tiles;
       frame = c.in_default.ensures.frame;
-      spent = blocks-spent c.args.window.now _ _ _ tiles c.in-Ok.ensures.visits c.in-Ok-gather.ensures.visits _
+      spent = blocks-spent c.args.window.now _ _ _ tiles c.in-Ok.ensures.visits c.in-Ok-collect_blocks.ensures.visits _
           c.in_default.ensures.visits;
       counted = omega arith;
     }

@@ -2,40 +2,44 @@ use Rattle.std.proofs.Common.{Bool, subst, sym, arith}
 use Rattle.raw_region.specs.Memory.{bytes_of}
 use Rattle.image_check.specs.Containers.{has_container}
 use Rattle.image_check.specs.ObjectPlaces.{IsFirstWrongTile}
-use Rattle.image_check.specs.Passes.{Finds, tiles_in}
+use Rattle.image_check.specs.Passes.{ChecksClass, tiles_in}
 use Rattle.image_check.proofs.ContainerWalks.{containers-same, marked-followed, marked-ready}
 use Rattle.image_check.proofs.ContainerWeights.{blocks-weigh, both-weigh, few-blocks}
 use Rattle.image_check.proofs.CountedFields.{Contains-Mem}
 use Rattle.image_check.proofs.containers.check_containers.Goals as goal
 
 pub are_right-requires-clause-rows : goal.are_right-requires-clause-rows
-are_right-requires-clause-rows c = c.requires.whole.marking.frame
+are_right-requires-clause-rows c = c.requires.aligned.marking.frame
 
-pub are_right-requires-clause-followed : goal.are_right-requires-clause-followed
-are_right-requires-clause-followed c =
+pub are_right-requires-clause-observed : goal.are_right-requires-clause-observed
+are_right-requires-clause-observed c =
     let b = c.args.window.now.bytes in
-    marked-followed c.args.format (bytes_of b) (tiles_in b) c.args.owners.now.blocks.entries c.args.owners.now.waiting c.requires.whole
+    marked-followed c.args.format (bytes_of b) (tiles_in b) c.args.owners.now.blocks.entries
+    c.args.owners.now.waiting c.requires.aligned
 
-pub are_right-requires-clause-ready : goal.are_right-requires-clause-ready
-are_right-requires-clause-ready c t k =
+pub are_right-requires-clause-well_formed : goal.are_right-requires-clause-well_formed
+are_right-requires-clause-well_formed c t k =
     let b = c.args.window.now.bytes in
-    marked-ready c.args.format (bytes_of b) (tiles_in b) c.args.owners.now.blocks.entries c.args.owners.now.waiting c.requires.whole c.requires.objects t (Contains-Mem (tiles_in b) t k)
+    marked-ready c.args.format (bytes_of b) (tiles_in b) c.args.owners.now.blocks.entries c.args.owners.now.waiting
+    c.requires.aligned c.requires.objects t (Contains-Mem (tiles_in b) t k)
 
-pub are_right-requires-clause-few : goal.are_right-requires-clause-few
-are_right-requires-clause-few c =
-    let few = few-blocks c.args.window.now.bytes c.args.owners.now.blocks.entries c.requires.tiles c.requires.whole.marking.frame in
+pub are_right-requires-clause-max_count : goal.are_right-requires-clause-max_count
+are_right-requires-clause-max_count c =
+    let few = few-blocks c.args.window.now.bytes c.args.owners.now.blocks.entries c.requires.tiles
+    c.requires.aligned.marking.frame in
     omega arith
 
-pub returns-clause-finds : goal.returns-clause-finds
-returns-clause-finds c =
+pub returns-clause-verdict : goal.returns-clause-verdict
+returns-clause-verdict c =
     let b = c.args.window.now.bytes in
     let right = has_container c.args.format (bytes_of b) (tiles_in b) in
-    subst (λ (fine : Bool). Finds fine (IsFirstWrongTile right (tiles_in b)) c.are_right.result)
-    (sym (containers-same c.args.format (bytes_of b) (tiles_in b))) c.are_right.ensures.finds
+    subst (λ (fine : Bool). ChecksClass fine (IsFirstWrongTile right (tiles_in b)) c.are_right.result)
+    (sym (containers-same c.args.format (bytes_of b) (tiles_in b))) c.are_right.ensures.verdict
 
 pub returns-clause-visits : goal.returns-clause-visits
 returns-clause-visits c =
-    let blocks = blocks-weigh (tiles_in c.args.window.now.bytes) c.args.owners.now.blocks.entries c.requires.whole.marking.frame in
+    let blocks = blocks-weigh (tiles_in c.args.window.now.bytes) c.args.owners.now.blocks.entries
+    c.requires.aligned.marking.frame in
     let both = both-weigh (tiles_in c.args.window.now.bytes) in
-    let most = c.are_right.ensures.most in
-    (c.are_right.ensures.least, omega arith)
+    let most = c.are_right.ensures.visits_on_error in
+    (c.are_right.ensures.min_size, omega arith)

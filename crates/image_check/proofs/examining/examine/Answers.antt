@@ -1,31 +1,32 @@
 use Rattle.std.proofs.lemmas.Result.{err_from_is_err_and}
-use Rattle.raw_region.specs.Device.{given_since}
+use Rattle.raw_region.specs.Device.{read_delta}
 use Rattle.raw_region.specs.Format.{current}
 use Rattle.image_check.proofs.Refused.{examined, not-examined, unread}
 use Rattle.image_check.proofs.examining.examine.Goals as goal
 
-pub returns-in_err-window-clause-examines : goal.returns-in_err-window-clause-examines
+pub returns-in_err-window-clause-examination : goal.returns-in_err-window-clause-examination
 unfolding current
-returns-in_err-window-clause-examines g c =
+returns-in_err-window-clause-examination g c =
     let p = err_from_is_err_and c.from_residual.result c.from_residual.ensures.1 in
     rw (p.1, p.2)
-    (unread current (given_since (g.S.Source.history c.args.reader.now) (g.S.Source.history c.read_image.new.reader)) c.args.region c.args.base
-    c.in_err-window.field-0.0 c.in_err-window.ensures.reads c.in_err-window.ensures.shown)
+    (unread current (read_delta (g.S.Source.history c.args.reader.now) (g.S.Source.history c.read_image.new.reader))
+    c.args.region c.args.base
+    c.in_err-window.field-0.0 c.in_err-window.ensures.reading c.in_err-window.ensures.output)
 
 pub check-requires-clause-front : goal.check-requires-clause-front
 unfolding current
-check-requires-clause-front g c = c.in_ok-window.ensures.reads.front
+check-requires-clause-front g c = c.in_ok-window.ensures.reading.front
 
-pub returns-in-Ok-clause-examines : goal.returns-in-Ok-clause-examines
+pub returns-in-Ok-clause-examination : goal.returns-in-Ok-clause-examination
 unfolding current
-returns-in-Ok-clause-examines g c =
-    let given = given_since (g.S.Source.history c.args.reader.now) (g.S.Source.history c.read_image.new.reader) in
-    examined current given c.args.region c.args.base c.in_ok-window.window c.in_ok-window.ensures.reads
+returns-in-Ok-clause-examination g c =
+    let given = read_delta (g.S.Source.history c.args.reader.now) (g.S.Source.history c.read_image.new.reader) in
+    examined current given c.args.region c.args.base c.in_ok-window.window c.in_ok-window.ensures.reading
     c.into_region.result c.in-Ok.ensures.answers c.into_region.ensures
 
-pub returns-in-Err-clause-examines : goal.returns-in-Err-clause-examines
+pub returns-in-Err-clause-examination : goal.returns-in-Err-clause-examination
 unfolding current
-returns-in-Err-clause-examines g c =
-    let given = given_since (g.S.Source.history c.args.reader.now) (g.S.Source.history c.read_image.new.reader) in
-    not-examined current given c.args.region c.args.base c.in_ok-window.window c.in_ok-window.ensures.reads
+returns-in-Err-clause-examination g c =
+    let given = read_delta (g.S.Source.history c.args.reader.now) (g.S.Source.history c.read_image.new.reader) in
+    not-examined current given c.args.region c.args.base c.in_ok-window.window c.in_ok-window.ensures.reading
     c.in-Err.cause c.into_region-in-Err.result c.in-Err.ensures.answers c.into_region-in-Err.ensures

@@ -2,14 +2,14 @@
 use Rattle.std.proofs.Common.{◌≡◌, refl, sym, ap, subst, ◌∙◌, ◌+◌, ◌*◌, ◌≤◌, true, List, length, ℕ}
 use Rattle.std.specs.Prelude.{Option, is_some}
 use Rattle.std.proofs.lemmas.Bool.{both_ways}
-use Rattle.raw_region.specs.Memory.{Cut, bytes_of}
+use Rattle.raw_region.specs.Memory.{WindowState, bytes_of}
 use Rattle.offset_link.specs.Link.{link_at}
 use Rattle.offset_link.specs.Relinked.{is_bad}
 use Rattle.link_tree.specs.Tree.{IsSearchTree, nodes_of}
 use Rattle.image_check.specs.FreeNodes.{is_place, place_cells, stands_before}
 use Rattle.image_check.specs.Passes.{HasTiles, Spends}
 use Rattle.image_check.specs.Visits.{planting_rates, tree_rates}
-use Rattle.link_tree.specs.Checking.{IsClosed}
+use Rattle.link_tree.specs.Checking.{IsLinkClosed}
 use Rattle.link_tree.specs.Nodes.{is_in, leads}
 use Rattle.link_tree.proofs.Laws.{some_same}
 use Rattle.image_check.proofs.Budget.{check-short, tree-planted, tree-steps}
@@ -24,7 +24,7 @@ returns-in_default-clause-value c =
     let w = c.args.window.now in
     sym (tree-false w (λ t.
     both_ways (is_bad (length w.bytes) (link_at (bytes_of w.bytes) 24))
-    (planted w (tagged w c.requires.size c.requires.tags) t).root (sym c.in_default.ensures.err)))
+    (planted w (tagged w c.requires.size c.requires.tags) t).root (sym c.in_default.ensures.on_error)))
 
 pub check_places-tree-requires : goal.check_places-tree-requires
 check_places-tree-requires c =
@@ -41,7 +41,7 @@ returns-in_default-nodes-clause-value c =
     let s = subst (λ (o : Option ℕ). IsSearchTree (stands_before m) (place_cells w) o p.tree) (sym c.in-Ok.ensures.ok)
     p.search in
     c.in_default-nodes.not-Some (length (nodes_of p.tree))
-    ((c.check_places-tree.ensures.counts (length (nodes_of p.tree))).1 (p.tree, s, refl))))
+    ((c.check_places-tree.ensures.count (length (nodes_of p.tree))).1 (p.tree, s, refl))))
 
 pub count_planted-requires-clause-root : goal.count_planted-requires-clause-root
 count_planted-requires-clause-root c =
@@ -54,7 +54,7 @@ count_planted-requires-clause-tree c =
     let w = c.args.window.now in
     let good = good-leads w c.in-Ok.root c.requires.size (ap (is_bad (length w.bytes)) c.in-Ok.ensures.ok
     ∙ sym c.in-Ok.ensures.err) in
-    let x = (c.check_places-tree.ensures.counts c.in-Some.nodes).0 c.in-Some.is in
+    let x = (c.check_places-tree.ensures.count c.in-Some.nodes).0 c.in-Some.is in
     (x.0, x.1, nodes-few w c.in-Ok.root x.0 c.requires.size good x.1)
 
 -- not all free tiles are planted
@@ -79,7 +79,7 @@ returns-then-counts-nodes-clause-value c =
     let s = subst (λ (o : Option ℕ). IsSearchTree (stands_before m) (place_cells w) o p.tree) (sym c.in-Ok.ensures.ok)
     p.search in
     let n = some_same c.in-Some.nodes (length (nodes_of p.tree)) (sym c.in-Some.is
-    ∙ (c.check_places-tree.ensures.counts (length (nodes_of p.tree))).1 (p.tree, s, refl)) in
+    ∙ (c.check_places-tree.ensures.count (length (nodes_of p.tree))).1 (p.tree, s, refl)) in
     c.if-counts-nodes.true (c.in-Some-count_planted.ensures.counted.free ∙ sym p.few ∙ sym n)))
 
 -- they are the nodes
@@ -88,7 +88,7 @@ returns-clause-value c =
     let w = c.args.window.now in
     let m = bytes_of w.bytes in
     let g = tagged w c.requires.size c.requires.tags in
-    let x = (c.check_places-tree.ensures.counts c.in-Some.nodes).0 c.in-Some.is in
+    let x = (c.check_places-tree.ensures.count c.in-Some.nodes).0 c.in-Some.is in
     sym (tree-true w
     (unplanted w x.0 g (subst (λ (o : Option ℕ). IsSearchTree (stands_before m) (place_cells w) o x.0)
     c.in-Ok.ensures.ok x.1)
@@ -106,9 +106,10 @@ returns-in_default-nodes-clause-visits c =
     tree-steps w _ c.check_places-tree.new.visits steps
 
 -- the search for the free tiles is counted too
-planted-spends : (w : Cut) (root : Option ℕ) (old steps stepped new : ℕ) → HasTiles w.bytes
+planted-spends : (w : WindowState) (root : Option ℕ) (old steps stepped new : ℕ) → HasTiles w.bytes
     → leads (is_place w) root ≡ true
-    → ((ns : List ℕ) → IsClosed (place_cells w) ns → leads (λ n. is_in n ns) root ≡ true → steps ≤ 5 * length ns + 5)
+    → ((ns : List ℕ) → IsLinkClosed (place_cells w) ns → leads (λ n. is_in n ns) root ≡ true
+    → steps ≤ 5 * length ns + 5)
     → stepped ≡ old + steps
     → Spends planting_rates 0 w.bytes stepped new → Spends tree_rates 50 w.bytes old new
 planted-spends w root old steps stepped new h good most e x = tree-planted w old stepped new

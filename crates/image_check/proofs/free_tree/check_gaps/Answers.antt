@@ -15,7 +15,8 @@ later-some f e = omega arith
 pub returns-then-format-ne0-clause-value : goal.returns-then-format-ne0-clause-value
 returns-then-format-ne0-clause-value c =
     let b = c.args.window.now.bytes in
-    c.check_free_tree.ensures.value ∙ sym (later-free_tree c.args.format (bytes_of b) (tiles_in b) (later-some c.args.format c.if-format-ne0.true))
+    c.check_free_tree.ensures.value
+    ∙ sym (later-free_tree c.args.format (bytes_of b) (tiles_in b) (later-some c.args.format c.if-format-ne0.true))
 
 pub returns-then-header_word-ne-NULL-clause-value : goal.returns-then-header_word-ne-NULL-clause-value
 returns-then-header_word-ne-NULL-clause-value c =

@@ -8,18 +8,18 @@ use Rattle.block_tags.proofs.Laws.{tiles_are_read_off}
 use Rattle.image_check.proofs.CountedTiles.{counted-few}
 use Rattle.image_check.proofs.Budget.{search-for-tile, within-all, within-more, within-none, within-stop}
 use Rattle.image_check.proofs.ReadTiles.{read-at, read-met, read-nearer}
-use Rattle.image_check.proofs.WalkedTiles.{all-fails, all-more, at-meets, tags-IsTiled, walk-end}
+use Rattle.image_check.proofs.WalkedTiles.{all-fails, all-more, at-meets, tags-IsTiledWindow, walk-end}
 use Rattle.image_check.proofs.WalkedTiles.{walk-on, walk-start}
 use Rattle.image_check.proofs.FreeTiles.{at-len, at-place}
 use Rattle.image_check.proofs.free_tree.count_planted.Goals as goal
 
 pub first-tile-requires : goal.first-tile-requires
-first-tile-requires c = tags-IsTiled c.args.window.now c.requires.size c.requires.tags
+first-tile-requires c = tags-IsTiledWindow c.args.window.now c.requires.size c.requires.tags
 
 pub tiles-init : goal.tiles-init
 tiles-init c =
     let w = c.args.window.now in
-    let tiled = tags-IsTiled w c.requires.size c.requires.tags in (
+    let tiled = tags-IsTiledWindow w c.requires.size c.requires.tags in (
       λ t s. walk-start w (λ (ts : List Tile). list_all (is_planted w (nodes_of t)) ts ≡ true) c.first-tile.result tiled
           c.first-tile.ensures refl,
       walk-start w _ c.first-tile.result tiled c.first-tile.ensures (
@@ -58,8 +58,8 @@ returns-then-not-is_planted-clause-visits c =
     let a = read-at w _ c.tiles.tile c.in-Some.unread here c.tiles.invariant.1 c.in-Some.is c.read-here.ensures.tile in
     let worth = search-for-tile here.use_of here.len (at-meets w _ here a).long in
     let one = c.read-here.ensures.visits in
-    let less = c.is_planted.ensures.raised in
-    let more = c.is_planted.ensures.most in
+    let less = c.is_planted.ensures.visits in
+    let more = c.is_planted.ensures.visits_on_error in
     within-stop w planting_rates _ c.tiles.visits _ a.front here a.back a.said a.kept.1 (omega arith) (omega arith)
 
 pub add-requires-clause-free : goal.add-requires-clause-free
@@ -69,8 +69,8 @@ add-requires-clause-free c =
     c.read-here.ensures.tile in
     (counted-few w _ c.read-here.result c.tiles.counts c.requires.size a a.kept.0).0
 
-pub add-requires-clause-used : goal.add-requires-clause-used
-add-requires-clause-used c =
+pub add-requires-clause-usage : goal.add-requires-clause-usage
+add-requires-clause-usage c =
     let w = c.args.window.now in
     let a = read-at w _ c.tiles.tile c.in-Some.unread c.read-here.result c.tiles.invariant.1 c.in-Some.is
     c.read-here.ensures.tile in
@@ -93,8 +93,8 @@ tiles-preserved c =
     let a = read-at w _ c.tiles.tile c.in-Some.unread here c.tiles.invariant.1 c.in-Some.is c.read-here.ensures.tile in
     let worth = search-for-tile here.use_of here.len (at-meets w _ here a).long in
     let one = c.read-here.ensures.visits in
-    let less = c.is_planted.ensures.raised in
-    let more = c.is_planted.ensures.most in (
+    let less = c.is_planted.ensures.visits in
+    let more = c.is_planted.ensures.visits_on_error in (
       λ t s.
           let test = is_planted w (nodes_of t) in
           let kept = λ (ts : List Tile). list_all test ts ≡ true in
@@ -115,8 +115,8 @@ returns-clause-value c t s =
     sym (walk-end w (λ (ts : List Tile). list_all (is_planted w (nodes_of t)) ts ≡ true) c.tiles.tile
     (c.tiles.invariant.0 t s) c.in_default.not-Some)
 
-pub returns-clause-counted : goal.returns-clause-counted
-returns-clause-counted c = (walk-end c.args.window.now _ c.tiles.tile c.tiles.invariant.1 c.in_default.not-Some).0
+pub returns-clause-steps_lower : goal.returns-clause-steps_lower
+returns-clause-steps_lower c = (walk-end c.args.window.now _ c.tiles.tile c.tiles.invariant.1 c.in_default.not-Some).0
 
 pub returns-clause-visits : goal.returns-clause-visits
 returns-clause-visits c =

@@ -3,16 +3,17 @@ use Rattle.image_check.specs.Visits.{tag_rates}
 use Rattle.image_check.proofs.CountedTiles.{counted-few}
 use Rattle.image_check.proofs.Budget.{two-for-tile, within-all, within-more, within-none}
 use Rattle.image_check.proofs.ReadTiles.{read-at, read-met, read-nearer}
-use Rattle.image_check.proofs.WalkedTiles.{at-meets, tags-IsTiled, walk-end, walk-on, walk-start}
+use Rattle.image_check.proofs.WalkedTiles.{at-meets, tags-IsTiledWindow, walk-end, walk-on, walk-start}
 use Rattle.image_check.proofs.free_tree.count_tiles.Goals as goal
 
 pub first-tile-requires : goal.first-tile-requires
-first-tile-requires c = tags-IsTiled c.args.window.now c.requires.tiles.size c.requires.tiles.tags
+first-tile-requires c = tags-IsTiledWindow c.args.window.now c.requires.tiles.size c.requires.tiles.tags
 
 pub tiles-init : goal.tiles-init
 tiles-init c =
     let w = c.args.window.now in
-    walk-start w _ c.first-tile.result (tags-IsTiled w c.requires.tiles.size c.requires.tiles.tags) c.first-tile.ensures
+    walk-start w _ c.first-tile.result (tags-IsTiledWindow w c.requires.tiles.size c.requires.tiles.tags)
+    c.first-tile.ensures
     (c.new-counts.ensures, within-none tag_rates _)
 
 pub add-requires-clause-free : goal.add-requires-clause-free
@@ -22,8 +23,8 @@ add-requires-clause-free c =
     c.read-one.ensures.tile in
     (counted-few w _ c.read-one.result c.tiles.counts c.requires.tiles.size a a.kept.0).0
 
-pub add-requires-clause-used : goal.add-requires-clause-used
-add-requires-clause-used c =
+pub add-requires-clause-usage : goal.add-requires-clause-usage
+add-requires-clause-usage c =
     let w = c.args.window.now in
     let a = read-at w _ c.tiles.tile c.in-Some.unread c.read-one.result c.tiles.invariant c.in-Some.is
     c.read-one.ensures.tile in
@@ -51,8 +52,8 @@ tiles-preserved c =
       within-more tag_rates _ c.tiles.visits _ front here k.1 (omega arith) (omega arith),
     ))
 
-pub returns-clause-counted : goal.returns-clause-counted
-returns-clause-counted c = (walk-end c.args.window.now _ c.tiles.tile c.tiles.invariant c.in_default.not-Some).0
+pub returns-clause-steps_lower : goal.returns-clause-steps_lower
+returns-clause-steps_lower c = (walk-end c.args.window.now _ c.tiles.tile c.tiles.invariant c.in_default.not-Some).0
 
 pub returns-clause-visits : goal.returns-clause-visits
 returns-clause-visits c = within-all c.args.window.now.bytes tag_rates _ _

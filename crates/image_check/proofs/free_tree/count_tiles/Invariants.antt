@@ -8,7 +8,8 @@ use Rattle.image_check.proofs.free_tree.count_tiles.Given as goal
 
 -- the tiles that the walk has passed and the visits to them are counted
 abbrev pub invariant-tiles : goal.invariant-tiles
-invariant-tiles l = Walks l.window (λ (ts : List Tile). AreCounted ts l.counts × Within tag_rates l.initial.visits l.visits ts) l.tile
+invariant-tiles l = Walks l.window (λ (ts : List Tile). AreCounted ts l.counts
+    × Within tag_rates l.initial.visits l.visits ts) l.tile
 
 abbrev pub decreases-tiles : goal.decreases-tiles
 decreases-tiles l = left_from l.window l.tile

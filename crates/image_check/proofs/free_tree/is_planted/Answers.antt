@@ -1,11 +1,11 @@
 use Rattle.std.proofs.Common.{arith, length, ◌+◌}
-use Rattle.image_check.specs.FreeLaws.{is_place-Place, small_size}
+use Rattle.image_check.specs.FreeLaws.{is_place-PayloadBounds, small_size}
 use Rattle.image_check.proofs.free_tree.is_planted.Goals as goal
 
 pub overflow_add-node : goal.overflow_add-node
 overflow_add-node c =
     let w = c.args.window.now in
-    let p = is_place-Place w (c.args.tile.offset + 16) c.requires.place in
+    let p = is_place-PayloadBounds w (c.args.tile.offset + 16) c.requires.place in
     let high = p.high in
     let small = small_size (length w.bytes) p.size in
     omega arith

@@ -8,32 +8,47 @@ use Rattle.image_check.proofs.Fronts.{IsReadOf, front-version, front-size, front
 use Rattle.image_check.proofs.ReadFormats.{other-format, taken-format}
 use Rattle.image_check.proofs.header.judge_front.Goals as goal
 
-pub other_place-place-requires-clause-other : goal.other_place-place-requires-clause-other
-other_place-place-requires-clause-other c =
-    ne_eqb (word_at (bytes_of c.args.front.now) 0) magic_number (λ e. c.if-word_in-ne-MAGIC.true (c.word_in.ensures ∙ e))
+pub other_place-place-requires-clause-peer : goal.other_place-place-requires-clause-peer
+other_place-place-requires-clause-peer c =
+    ne_eqb (word_at (bytes_of c.args.front.now) 0) magic_number (λ e.
+    c.if-word_in-ne-MAGIC.true (c.word_in.ensures ∙ e))
 
-pub returns-then-not-has-clause-says : goal.returns-then-not-has-clause-says
-returns-then-not-has-clause-says c =
+pub returns-then-not-has-clause-text : goal.returns-then-not-has-clause-text
+returns-then-not-has-clause-text c =
     let b = c.args.front.now in
-    front-version (format_in c.args.versions b) b c.word_in.result c.version_in.result c.requires c.word_in.ensures c.version_in.ensures
-    c.if-word_in-ne-MAGIC.false (other-format c.args.versions b c.version_in.result c.version_in.ensures (sym c.has.ensures ∙ c.if-not-has.true))
+    front-version (format_in c.args.versions b) b c.word_in.result c.version_in.result c.requires c.word_in.ensures
+    c.version_in.ensures
+    c.if-word_in-ne-MAGIC.false (other-format c.args.versions b c.version_in.result c.version_in.ensures
+    (sym c.has.ensures ∙ c.if-not-has.true))
 
-pub returns-then-not-is_legal_size-clause-says : goal.returns-then-not-is_legal_size-clause-says
-returns-then-not-is_legal_size-clause-says c =
+pub returns-then-not-is_legal_size-clause-text : goal.returns-then-not-is_legal_size-clause-text
+returns-then-not-is_legal_size-clause-text c =
     let b = c.args.front.now in
     let r : IsReadOf b c.word_in.result c.version_in.result c.word_in-size.result =
-    record { long = c.requires; magic_is = c.word_in.ensures; version_is = c.version_in.ensures; size_is = c.word_in-size.ensures } in
-    front-size (format_in c.args.versions b) b _ _ _ r c.if-word_in-ne-MAGIC.false (taken-format c.args.versions b c.version_in.result c.version_in.ensures (sym c.has.ensures ∙ c.if-not-has.false))
+    record {
+      long = c.requires;
+      magic_is = c.word_in.ensures;
+      version_is = c.version_in.ensures;
+      size_is = c.word_in-size.ensures;
+    } in
+    front-size (format_in c.args.versions b) b _ _ _ r c.if-word_in-ne-MAGIC.false
+    (taken-format c.args.versions b c.version_in.result c.version_in.ensures (sym c.has.ensures ∙ c.if-not-has.false))
     (sym c.is_legal_size.ensures ∙ c.if-not-is_legal_size.true)
 
-pub returns-clause-says : goal.returns-clause-says
-returns-clause-says c =
+pub returns-clause-text : goal.returns-clause-text
+returns-clause-text c =
     let b = c.args.front.now in
     let r : IsReadOf b c.word_in.result c.version_in.result c.word_in-size.result =
-    record { long = c.requires; magic_is = c.word_in.ensures; version_is = c.version_in.ensures; size_is = c.word_in-size.ensures } in
-    front-right (format_in c.args.versions b) b _ _ _ r c.if-word_in-ne-MAGIC.false (taken-format c.args.versions b c.version_in.result c.version_in.ensures (sym c.has.ensures ∙ c.if-not-has.false))
+    record {
+      long = c.requires;
+      magic_is = c.word_in.ensures;
+      version_is = c.version_in.ensures;
+      size_is = c.word_in-size.ensures;
+    } in
+    front-right (format_in c.args.versions b) b _ _ _ r c.if-word_in-ne-MAGIC.false
+    (taken-format c.args.versions b c.version_in.result c.version_in.ensures (sym c.has.ensures ∙ c.if-not-has.false))
     (sym c.is_legal_size.ensures ∙ c.if-not-is_legal_size.false)
 
-pub returns-then-not-is_legal_size-clause-shown : goal.returns-then-not-is_legal_size-clause-shown
-returns-then-not-is_legal_size-clause-shown c =
+pub returns-then-not-is_legal_size-clause-output : goal.returns-then-not-is_legal_size-clause-output
+returns-then-not-is_legal_size-clause-output c =
     (refl, ap is_legal_size (sym c.word_in-size.ensures) ∙ sym c.is_legal_size.ensures ∙ c.if-not-is_legal_size.true)

@@ -20,4 +20,4 @@ all-magic b h = eq-eqb (word_at (bytes_of b) 0) magic_number (ap (little_number 
 
 pub returns : goal.returns
 returns c = absurd (true≢false (sym (all-magic c.args.front.now (λ i lt. c.bytes.invariant.same i (omega
-    (arith, c.bytes-test.false, lt)))) ∙ c.requires.other))
+    (arith, c.bytes-test.false, lt)))) ∙ c.requires.peer))

@@ -6,5 +6,6 @@ use Rattle.image_check.proofs.heads.has_name.Goals as goal
 pub returns-then-name-le-LONGEST_NAME : goal.returns-then-name-le-LONGEST_NAME
 returns-then-name-le-LONGEST_NAME c =
     c.is_name.ensures
-    ∙ named-right c.args.format (bytes_of c.args.window.now.bytes) c.args.object.at (length c.name-name.result.now) c.name-name.result.now (sym c.class-class.ensures ∙ c.if-class-eq-NAMED.true)
+    ∙ named-right c.args.format (bytes_of c.args.window.now.bytes) c.args.object.at (length c.name-name.result.now)
+    c.name-name.result.now (sym c.class-class.ensures ∙ c.if-class-eq-NAMED.true)
     c.name-name.ensures.len c.if-name-le-LONGEST_NAME.true c.name-name.ensures.name

@@ -11,10 +11,14 @@ use Rattle.image_check.proofs.indexes.enter_all.Given as goal
 abbrev pub invariant-entries : goal.invariant-entries
 invariant-entries l = record {
   within : l.i ≤ l.count;
-  entered : (ts : List Tile) → AreBlocks ts l.fn.owners.blocks.entries → (are_enterable ts l.fn.owners.blocks.entries (links_in (bytes_of l.window.bytes) l.block l.i) ≡ true)
-      × AreAdded ts l.fn.owners.blocks.entries l.owners.blocks.entries l.root (first_targets (bytes_of l.window.bytes) l.block l.i);
-  new : (ts : List Tile) → AreBlocks ts l.fn.owners.blocks.entries → (earlier : List ℕ) → HaveEntries l.fn.owners.blocks.entries earlier → (i : ℕ) → i < l.i
-      → is_new ts (earlier ++ first_targets (bytes_of l.window.bytes) l.block i) (link_at (bytes_of l.window.bytes) (l.block + 8 * i)) ≡ true;
+  entered : (ts : List Tile) → AreBlocks ts l.fn.owners.blocks.entries
+      → (are_enterable ts l.fn.owners.blocks.entries (links_in (bytes_of l.window.bytes) l.block l.i) ≡ true)
+      × AreAdded ts l.fn.owners.blocks.entries l.owners.blocks.entries l.root
+      (first_targets (bytes_of l.window.bytes) l.block l.i);
+  new : (ts : List Tile) → AreBlocks ts l.fn.owners.blocks.entries → (earlier : List ℕ)
+      → HaveEntries l.fn.owners.blocks.entries earlier → (i : ℕ) → i < l.i
+      → is_new ts (earlier ++ first_targets (bytes_of l.window.bytes) l.block i)
+      (link_at (bytes_of l.window.bytes) (l.block + 8 * i)) ≡ true;
   pending : l.owners.pending ≡ l.fn.owners.pending;
   waiting : l.owners.waiting ≡ l.fn.owners.waiting;
   more : l.fn.visits ≤ l.visits;

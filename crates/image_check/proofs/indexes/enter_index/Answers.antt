@@ -9,10 +9,12 @@ use Rattle.image_check.proofs.IndexPlaces.{IsIndexRoom, rows, in-row, room-of, w
 use Rattle.image_check.proofs.indexes.enter_index.Goals as goal
 use Rattle.image_check.proofs.indexes.enter_index.Goals.{In-Some}
 
-room : (c : In-Some) → IsIndexRoom (tiles_in c.args.window.now.bytes) c.in-Some.block (word_at (bytes_of c.args.window.now.bytes) (c.args.at + 8))
+room : (c : In-Some) → IsIndexRoom (tiles_in c.args.window.now.bytes) c.in-Some.block
+    (word_at (bytes_of c.args.window.now.bytes) (c.args.at + 8))
 room c =
     let w = c.args.window.now in
-    room-of (bytes_of w.bytes) (tiles_in w.bytes) c.args.at c.in-Some.block c.in_default.ensures.finds (sym c.header_link.ensures ∙ c.in-Some.is)
+    room-of (bytes_of w.bytes) (tiles_in w.bytes) c.args.at c.in-Some.block c.in_default.ensures.verdict
+    (sym c.header_link.ensures ∙ c.in-Some.is)
 
 pub enter_all-requires-clause-aligned : goal.enter_all-requires-clause-aligned
 enter_all-requires-clause-aligned c =
@@ -23,10 +25,10 @@ enter_all-requires-clause-aligned c =
     let at = r.at in
     omega arith
 
-pub enter_all-requires-clause-inside : goal.enter_all-requires-clause-inside
-enter_all-requires-clause-inside c =
+pub enter_all-requires-clause-in_bounds : goal.enter_all-requires-clause-in_bounds
+enter_all-requires-clause-in_bounds c =
     let w = c.args.window.now in
-    let r = room (goal.at.enter_all-requires-clause-inside c).In-Some in
+    let r = room (goal.at.enter_all-requires-clause-in_bounds c).In-Some in
     let i = in-row 128 (tiles_in w.bytes) (length w.bytes - 16) r.tile (rows w c.requires.tiles) r.mem in
     let in_it = i.within in
     let at = r.at in
@@ -34,25 +36,29 @@ enter_all-requires-clause-inside c =
     let count = c.header_word.ensures in
     omega arith
 
-pub returns-in-Err-clause-entered : goal.returns-in-Err-clause-entered
-returns-in-Err-clause-entered c =
+pub returns-in-Err-clause-entry : goal.returns-in-Err-clause-entry
+returns-in-Err-clause-entry c =
     let w = c.args.window.now in
     let e = c.in-Err.ensures.finds in
     (wrong-head (bytes_of w.bytes) (tiles_in w.bytes) c.args.owners.now.blocks.entries c.args.at e.0, inl e.1)
 
-pub returns-in-Some-clause-entered : goal.returns-in-Some-clause-entered
-returns-in-Some-clause-entered c =
+pub returns-in-Some-clause-entry : goal.returns-in-Some-clause-entry
+returns-in-Some-clause-entry c =
     let w = c.args.window.now in
-    index-entered (bytes_of w.bytes) (tiles_in w.bytes) c.args.owners.now.blocks.entries c.args.at c.enter_all.new.owners.blocks.entries c.in-Some.block c.header_word.result c.enter_all.result
-    c.in_default.ensures.finds (sym c.header_link.ensures ∙ c.in-Some.is) c.header_word.ensures c.requires.earlier (c.enter_all.ensures.entered (tiles_in w.bytes) c.requires.blocks)
+    index-entered (bytes_of w.bytes) (tiles_in w.bytes) c.args.owners.now.blocks.entries c.args.at
+    c.enter_all.new.owners.blocks.entries c.in-Some.block c.header_word.result c.enter_all.result
+    c.in_default.ensures.verdict (sym c.header_link.ensures
+    ∙ c.in-Some.is) c.header_word.ensures c.requires.previous
+    (c.enter_all.ensures.entry (tiles_in w.bytes) c.requires.blocks)
 
-pub returns-in-Some-clause-spends : goal.returns-in-Some-clause-spends
-returns-in-Some-clause-spends c =
+pub returns-in-Some-clause-visits : goal.returns-in-Some-clause-visits
+returns-in-Some-clause-visits c =
     let w = c.args.window.now in
-    let r = room (goal.at.returns-in-Some-clause-spends c).In-Some in
-    let weight : 12 * (r.tile.len / 16) ≤ weigh index_rates (tiles_in w.bytes) = weigh-one index_rates (tiles_in w.bytes) r.tile Index r.mem r.use_of in
+    let r = room (goal.at.returns-in-Some-clause-visits c).In-Some in
+    let weight : 12 * (r.tile.len / 16) ≤ weigh index_rates (tiles_in w.bytes) =
+    weigh-one index_rates (tiles_in w.bytes) r.tile Index r.mem r.use_of in
     let long = r.room in
     let count = c.header_word.ensures in
-    let a = c.check_head.ensures.spends in
-    let b = c.enter_all.ensures.spends in
+    let a = c.check_head.ensures.visits in
+    let b = c.enter_all.ensures.visits in
     (omega arith, omega arith)

@@ -1,6 +1,6 @@
 -- What is noted counts, and what was noted before stays. Each turn there is less left to follow.
 use Rattle.std.proofs.Common.{◌+◌, ◌*◌}
-use Rattle.image_check.specs.Owners.{debt}
+use Rattle.image_check.specs.Owners.{unspent_budget}
 use Rattle.image_check.proofs.Following.{IsGoing}
 use Rattle.image_check.proofs.marks.follow.Given as goal
 
@@ -8,7 +8,8 @@ abbrev pub ghost-follow_next : goal.ghost-follow_next
 ghost-follow_next g a = g.format
 
 abbrev pub invariant-nodes : goal.invariant-nodes
-invariant-nodes g l = IsGoing g.format l.window.bytes l.initial.owners.blocks.entries l.initial.owners.waiting l.initial.visits l.owners.blocks.entries l.owners.pending l.owners.waiting l.visits
+invariant-nodes g l = IsGoing g.format l.window.bytes l.initial.owners.blocks.entries l.initial.owners.waiting
+    l.initial.visits l.owners.blocks.entries l.owners.pending l.owners.waiting l.visits
 
 abbrev pub decreases-nodes : goal.decreases-nodes
-decreases-nodes g l = 6 * l.owners.waiting + debt l.owners.blocks.entries
+decreases-nodes g l = 6 * l.owners.waiting + unspent_budget l.owners.blocks.entries

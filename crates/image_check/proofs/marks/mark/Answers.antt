@@ -1,42 +1,53 @@
 use Rattle.std.proofs.Common.{sym, subst, ◌∙◌, ℕ, ◌+◌, Some}
 use Rattle.block_tags.specs.declared.tile.Role.TheVariants.{Node}
-use Rattle.image_check.specs.Owners.{IsMarked, Blocks}
+use Rattle.image_check.specs.Owners.{MarksLink, Blocks}
 use Rattle.image_check.proofs.Standing.{same_role-is}
 use Rattle.image_check.proofs.Lookups.{differ}
 use Rattle.image_check.proofs.Marking.{no-block, other-role, shared, node-owned, other-owned}
 use Rattle.image_check.proofs.marks.mark.Goals as goal
 
-pub returns-in_default-find-clause-marked : goal.returns-in_default-find-clause-marked
-returns-in_default-find-clause-marked c format m ts now k e may start =
-    no-block format m ts now c.args.owners.now.blocks.entries c.args.owners.now.pending c.args.owners.now.waiting c.args.role c.args.link c.requires.role k c.in-Some.target (sym c.in-Some.is ∙ e)
-    c.in_default-find.ensures.none
+pub returns-in_default-find-clause-marks : goal.returns-in_default-find-clause-marks
+returns-in_default-find-clause-marks c format m ts now k e may start =
+    no-block format m ts now c.args.owners.now.blocks.entries c.args.owners.now.pending c.args.owners.now.waiting
+    c.args.role c.args.link c.requires.role k c.in-Some.target (sym c.in-Some.is ∙ e)
+    c.in_default-find.ensures.absent
 
-pub returns-then-not-is_same-clause-marked : goal.returns-then-not-is_same-clause-marked
-returns-then-not-is_same-clause-marked c format m ts now k e may start =
-    other-role format m ts now c.args.owners.now.blocks.entries c.args.owners.now.pending c.args.owners.now.waiting c.args.role c.args.link c.requires.role k c.in-Some.target (sym c.in-Some.is ∙ e)
-    c.in-Some-find.block c.in-Some-find.ensures.block (differ c.in-Some-find.block.role c.args.role (sym c.is_same.ensures ∙ c.if-not-is_same.true))
+pub returns-then-not-is_same-clause-marks : goal.returns-then-not-is_same-clause-marks
+returns-then-not-is_same-clause-marks c format m ts now k e may start =
+    other-role format m ts now c.args.owners.now.blocks.entries c.args.owners.now.pending c.args.owners.now.waiting
+    c.args.role c.args.link c.requires.role k c.in-Some.target (sym c.in-Some.is ∙ e)
+    c.in-Some-find.block c.in-Some-find.ensures.block
+    (differ c.in-Some-find.block.role c.args.role (sym c.is_same.ensures ∙ c.if-not-is_same.true))
 
-pub returns-in-Some-owner-clause-marked : goal.returns-in-Some-owner-clause-marked
-returns-in-Some-owner-clause-marked c format m ts now k e may start =
-    shared format m ts now c.args.owners.now.blocks.entries c.args.owners.now.pending c.args.owners.now.waiting c.args.role c.args.link c.requires.role k c.in-Some.target (sym c.in-Some.is ∙ e)
-    c.in-Some-find.block c.in-Some-find.ensures.block (same_role-is c.in-Some-find.block.role c.args.role (sym c.is_same.ensures ∙ c.if-not-is_same.false)) may
+pub returns-in-Some-owner-clause-marks : goal.returns-in-Some-owner-clause-marks
+returns-in-Some-owner-clause-marks c format m ts now k e may start =
+    shared format m ts now c.args.owners.now.blocks.entries c.args.owners.now.pending c.args.owners.now.waiting
+    c.args.role c.args.link c.requires.role k c.in-Some.target (sym c.in-Some.is ∙ e)
+    c.in-Some-find.block c.in-Some-find.ensures.block
+    (same_role-is c.in-Some-find.block.role c.args.role (sym c.is_same.ensures ∙ c.if-not-is_same.false)) may
     c.in-Some-owner.owner c.in-Some-owner.is c.if-owner-link.false
 
-pub returns-then-is_same-clause-marked : goal.returns-then-is_same-clause-marked
-returns-then-is_same-clause-marked c format m ts now k e may start =
+pub returns-then-is_same-clause-marks : goal.returns-then-is_same-clause-marks
+returns-then-is_same-clause-marks c format m ts now k e may start =
     let was = c.args.owners.now in
     let same = same_role-is c.in-Some-find.block.role c.args.role (sym c.is_same.ensures ∙ c.if-not-is_same.false) in
-    subst (λ (n : ℕ). IsMarked format m ts now c.args.role c.args.link was.blocks.entries was.waiting c.put.new.self.entries (Some n) (was.waiting + 1))
+    subst (λ (n : ℕ). MarksLink format m ts now c.args.role c.args.link was.blocks.entries was.waiting
+    c.put.new.self.entries (Some n) (was.waiting + 1))
     (sym c.in-Some-find.ensures.payload)
-    (subst (λ (es : Blocks). IsMarked format m ts now c.args.role c.args.link was.blocks.entries was.waiting es (Some c.in-Some.target) (was.waiting + 1))
+    (subst (λ (es : Blocks). MarksLink format m ts now c.args.role c.args.link was.blocks.entries was.waiting es
+    (Some c.in-Some.target) (was.waiting + 1))
     (sym c.put.ensures.value)
-    (node-owned format m ts now was.blocks.entries was.pending was.waiting c.args.role c.args.link c.requires.role k c.in-Some.target (sym c.in-Some.is ∙ e)
+    (node-owned format m ts now was.blocks.entries was.pending was.waiting c.args.role c.args.link c.requires.role k
+    c.in-Some.target (sym c.in-Some.is ∙ e)
     c.in-Some-find.block c.in-Some-find.ensures.block same may start
     c.in_default-owner.is (same_role-is c.args.role Node (sym c.is_same-2.ensures ∙ c.if-is_same.true))))
 
-pub returns-else-is_same-clause-marked : goal.returns-else-is_same-clause-marked
-returns-else-is_same-clause-marked c format m ts now k e may start =
-    subst (λ (es : Blocks). IsMarked format m ts now c.args.role c.args.link c.args.owners.now.blocks.entries c.args.owners.now.waiting es c.args.owners.now.pending c.args.owners.now.waiting) (sym c.put.ensures.value)
-    (other-owned format m ts now c.args.owners.now.blocks.entries c.args.owners.now.pending c.args.owners.now.waiting c.args.role c.args.link c.requires.role k c.in-Some.target (sym c.in-Some.is ∙ e)
-    c.in-Some-find.block c.in-Some-find.ensures.block (same_role-is c.in-Some-find.block.role c.args.role (sym c.is_same.ensures ∙ c.if-not-is_same.false)) may start
+pub returns-else-is_same-clause-marks : goal.returns-else-is_same-clause-marks
+returns-else-is_same-clause-marks c format m ts now k e may start =
+    subst (λ (es : Blocks). MarksLink format m ts now c.args.role c.args.link c.args.owners.now.blocks.entries
+    c.args.owners.now.waiting es c.args.owners.now.pending c.args.owners.now.waiting) (sym c.put.ensures.value)
+    (other-owned format m ts now c.args.owners.now.blocks.entries c.args.owners.now.pending
+    c.args.owners.now.waiting c.args.role c.args.link c.requires.role k c.in-Some.target (sym c.in-Some.is ∙ e)
+    c.in-Some-find.block c.in-Some-find.ensures.block
+    (same_role-is c.in-Some-find.block.role c.args.role (sym c.is_same.ensures ∙ c.if-not-is_same.false)) may start
     c.in_default-owner.is (differ c.args.role Node (sym c.is_same-2.ensures ∙ c.if-is_same.false)))

@@ -16,7 +16,8 @@ rows-preserved c =
     let counted = inv.counted in
     record {
       within = omega arith;
-      lead = λ b blocks. noted-lead c.rows.points c.note.new.self b c.row-payload.result.0 (inv.lead b blocks)
-          (block_live b c.args.blocks.now.entries c.row-payload.result.0 c.row-payload.result.1 blocks c.row-payload.ensures.block) c.note.ensures;
+      lead = λ b blocks. noted-lead c.rows.points c.insert.new.self b c.row-payload.result.0 (inv.lead b blocks)
+          (block_live b c.args.blocks.now.entries c.row-payload.result.0 c.row-payload.result.1 blocks
+          c.row-payload.ensures.block) c.insert.ensures;
       counted = omega arith;
     }

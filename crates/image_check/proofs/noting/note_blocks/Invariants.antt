@@ -1,5 +1,5 @@
 use Rattle.std.proofs.Common.{◌≡◌, ℕ, ◌+◌, ◌-◌, ◌≤◌, List, length}
-use Rattle.best_fit.specs.WayPoints.{LeadToBlocks}
+use Rattle.best_fit.specs.BlockHints.{LeadToBlocks}
 use Rattle.image_check.specs.Owners.{AreBlocks}
 use Rattle.image_check.specs.Passes.{tiles_in}
 use Rattle.image_check.proofs.noting.note_blocks.Given as goal

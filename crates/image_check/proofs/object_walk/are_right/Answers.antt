@@ -1,9 +1,10 @@
 -- Each turn of the walk passes one tile in use.
-use Rattle.std.proofs.Common.{◌≡◌, ◌+◌, ◌-◌, ◌*◌, ◌/◌, ◌≤◌, refl, sym, ap, ◌∙◌, ℕ, true, inl, List, ◌∷◌, ◌++◌, length, arith}
+use Rattle.std.proofs.Common.{◌≡◌, ◌+◌, ◌-◌, ◌*◌, ◌/◌, ◌≤◌, refl, sym, ap, ◌∙◌, ℕ, true, inl, List, ◌∷◌, ◌++◌, length}
+use Rattle.std.proofs.Common.{arith}
 use Rattle.std.specs.Prelude.{None}
 use Rattle.std.specs.List.{list_all}
 use Rattle.std.proofs.lemmas.Bool.{cond-false}
-use Rattle.raw_region.specs.Memory.{Cut, Memory, bytes_of}
+use Rattle.raw_region.specs.Memory.{WindowState, Memory, bytes_of}
 use Rattle.block_tags.specs.declared.tile.Role.TheVariants.{Object}
 use Rattle.block_tags.specs.declared.tile.Tile.{Tile}
 use Rattle.block_tags.proofs.Laws.{tiles_are_read_off}
@@ -14,21 +15,23 @@ use Rattle.image_check.specs.Owners.{frame_of}
 use Rattle.image_check.specs.Visits.{rate_of, weigh}
 use Rattle.image_check.proofs.IndexPlaces.{InRow, in-row}
 use Rattle.image_check.proofs.Members.{mem_right}
-use Rattle.image_check.proofs.RowWalks.{PassesGaps, RowAt, free-object, recoloured, row-at, rows-end, rows-on, rows-start}
-use Rattle.image_check.proofs.WalkedTiles.{all-more, fails-there, tags-IsTiled}
+use Rattle.image_check.proofs.RowWalks.{PassesGaps, RowAt, free-object, recoloured, row-at, rows-end, rows-on}
+use Rattle.image_check.proofs.RowWalks.{rows-start}
+use Rattle.image_check.proofs.WalkedTiles.{all-more, fails-there, tags-IsTiledWindow}
 use Rattle.image_check.proofs.Weights.{weigh-more, weigh-front}
 use Rattle.image_check.proofs.object_walk.are_right.Goals as goal
 use Rattle.image_check.proofs.object_walk.are_right.Goals.{After-row-payload}
 
 -- what is kept of the tiles behind the walk
-abbrev Kept : ℕ → Cut → ℕ → ℕ → List Tile → Type 0
-Kept format w before visits ts = (list_all (is_right_tile format (bytes_of w.bytes)) ts ≡ true) × (before ≤ visits) × (visits ≤ before + weigh object_walk_rates ts)
+abbrev Kept : ℕ → WindowState → ℕ → ℕ → List Tile → Type 0
+Kept format w before visits ts = (list_all (is_right_tile format (bytes_of w.bytes)) ts ≡ true) × (before ≤ visits)
+    × (visits ≤ before + weigh object_walk_rates ts)
 
 free-right : (format : ℕ) (m : Memory) (t : Tile) → t.use_of ≡ None → is_right_tile format m t ≡ true
 free-right format m t e =
     cond-false (is_use Object t) (is_object_tile format m t) true (free-object t e)
 
-gaps : (format : ℕ) (w : Cut) (before visits : ℕ) → PassesGaps w (Kept format w before visits)
+gaps : (format : ℕ) (w : WindowState) (before visits : ℕ) → PassesGaps w (Kept format w before visits)
 gaps format w before visits g u a =
     let more = weigh-more object_walk_rates a.front g in
     let most = a.kept.2 in (
@@ -67,22 +70,22 @@ pub rows-init : goal.rows-init
 rows-init c =
     let w = c.args.window.now in
     rows-start w (Kept c.args.format w c.args.visits.now c.args.visits.now)
-    (tags-IsTiled w c.requires.tiles.size c.requires.tiles.tags) (refl, omega arith, omega arith)
+    (tags-IsTiledWindow w c.requires.tiles.size c.requires.tiles.tags) (refl, omega arith, omega arith)
 
 pub tile_of-tile-requires : goal.tile_of-tile-requires
 tile_of-tile-requires c = let at = (row (goal.at.tile_of-tile-requires c).After-row-payload).place in omega arith
 
-pub is_right-requires-clause-long : goal.is_right-requires-clause-long
-is_right-requires-clause-long c =
-    let k = (goal.at.is_right-requires-clause-long c).After-row-payload in
+pub is_right-requires-clause-min_len : goal.is_right-requires-clause-min_len
+is_right-requires-clause-min_len c =
+    let k = (goal.at.is_right-requires-clause-min_len c).After-row-payload in
     let long = (place k).long in
     let same = (row k).len in
     let len = c.tile_of-tile.ensures.len in
     omega arith
 
-pub is_right-requires-clause-within : goal.is_right-requires-clause-within
-is_right-requires-clause-within c =
-    let k = (goal.at.is_right-requires-clause-within c).After-row-payload in
+pub is_right-requires-clause-in_bounds : goal.is_right-requires-clause-in_bounds
+is_right-requires-clause-in_bounds c =
+    let k = (goal.at.is_right-requires-clause-in_bounds c).After-row-payload in
     let within = (place k).within in
     let same = (row k).len in
     let len = c.tile_of-tile.ensures.len in
@@ -90,29 +93,29 @@ is_right-requires-clause-within c =
     let there = c.tile_of-tile.ensures.place in
     omega arith
 
-pub returns-then-not-is_right-clause-finds : goal.returns-then-not-is_right-clause-finds
-returns-then-not-is_right-clause-finds c =
+pub returns-then-not-is_right-clause-verdict : goal.returns-then-not-is_right-clause-verdict
+returns-then-not-is_right-clause-verdict c =
     let w = c.args.window.now in
     let m = bytes_of w.bytes in
-    let r = row (goal.at.returns-then-not-is_right-clause-finds c).After-row-payload in
+    let r = row (goal.at.returns-then-not-is_right-clause-verdict c).After-row-payload in
     let t = c.tile_of-tile.result in
     let at = r.place in
     let there = c.tile_of-tile.ensures.place in
     let wrong = right-same c.args.format m r.here t (omega arith) (r.len ∙ sym c.tile_of-tile.ensures.len)
-    (r.use_of ∙ sym c.tile_of-tile.ensures.used) ∙ sym c.is_right.ensures.is ∙ c.if-not-is_right.true in
+    (r.use_of ∙ sym c.tile_of-tile.ensures.usage) ∙ sym c.is_right.ensures.test ∙ c.if-not-is_right.true in
     fails-there w _ (is_right_tile c.args.format m) r.here c.row-payload.result.0 r.at r.at.kept.0 wrong at
 
-pub returns-then-not-is_right-clause-spends : goal.returns-then-not-is_right-clause-spends
-returns-then-not-is_right-clause-spends c =
+pub returns-then-not-is_right-clause-visits : goal.returns-then-not-is_right-clause-visits
+returns-then-not-is_right-clause-visits c =
     let w = c.args.window.now in
-    let r = row (goal.at.returns-then-not-is_right-clause-spends c).After-row-payload in
+    let r = row (goal.at.returns-then-not-is_right-clause-visits c).After-row-payload in
     let t = c.tile_of-tile.result in
     let cost = cost-same r.here t (r.len ∙ sym c.tile_of-tile.ensures.len)
-    (r.use_of ∙ sym c.tile_of-tile.ensures.used) in
+    (r.use_of ∙ sym c.tile_of-tile.ensures.usage) in
     let all = ap (weigh object_walk_rates) (tiles_are_read_off w (r.at.front ++ r.here ∷ r.at.back) r.at.said) in
     let part = weigh-front object_walk_rates r.at.front r.here r.at.back in
     let k = r.at.kept in
-    let s = c.is_right.ensures.spends c.rows.visits c.row-payload.ensures.visits in
+    let s = c.is_right.ensures.visits c.rows.visits c.row-payload.ensures.visits in
     (omega arith, omega arith)
 
 pub rows-preserved : goal.rows-preserved
@@ -124,26 +127,26 @@ rows-preserved c =
     let at = r.place in
     let there = c.tile_of-tile.ensures.place in
     let right = right-same c.args.format m r.here t (omega arith) (r.len ∙ sym c.tile_of-tile.ensures.len)
-    (r.use_of ∙ sym c.tile_of-tile.ensures.used) ∙ sym c.is_right.ensures.is ∙ c.if-not-is_right.false in
+    (r.use_of ∙ sym c.tile_of-tile.ensures.usage) ∙ sym c.is_right.ensures.test ∙ c.if-not-is_right.false in
     let cost = cost-same r.here t (r.len ∙ sym c.tile_of-tile.ensures.len)
-    (r.use_of ∙ sym c.tile_of-tile.ensures.used) in
+    (r.use_of ∙ sym c.tile_of-tile.ensures.usage) in
     let more = weigh-more object_walk_rates r.at.front r.here in
-    let s = c.is_right.ensures.spends c.rows.visits c.row-payload.ensures.visits in
+    let s = c.is_right.ensures.visits c.rows.visits c.row-payload.ensures.visits in
     let k = r.at.kept in
     rows-on w (Kept c.args.format w c.args.visits.now c.rows.visits)
     (Kept c.args.format w c.args.visits.now c.is_right.new.visits) c.rows.number (frame_of c.row-payload.result) r
     (all-more (is_right_tile c.args.format m) r.at.front r.here r.at.kept.0 right, omega arith, omega arith)
 
-pub returns-clause-finds : goal.returns-clause-finds
-returns-clause-finds c =
+pub returns-clause-verdict : goal.returns-clause-verdict
+returns-clause-verdict c =
     let w = c.args.window.now in
     let all = rows-end w (Kept c.args.format w c.args.visits.now c.rows.visits)
     (gaps c.args.format w c.args.visits.now c.rows.visits) c.args.blocks.now.entries c.requires.rows c.rows.number
     c.rows.invariant (omega arith) in
     all.0
 
-pub returns-clause-spends : goal.returns-clause-spends
-returns-clause-spends c =
+pub returns-clause-visits : goal.returns-clause-visits
+returns-clause-visits c =
     let w = c.args.window.now in
     let k = rows-end w (Kept c.args.format w c.args.visits.now c.rows.visits)
     (gaps c.args.format w c.args.visits.now c.rows.visits) c.args.blocks.now.entries c.requires.rows c.rows.number

@@ -6,10 +6,11 @@ use Rattle.image_check.specs.OpeningBytes.{OpensBytes}
 use Rattle.image_check.proofs.PlacedBytes.{not-placed, opened-bytes, refused-bytes}
 use Rattle.image_check.proofs.opening_bytes.open_bytes.Goals as goal
 
-pub returns-in-Err-clause-opens : goal.returns-in-Err-clause-opens
-returns-in-Err-clause-opens c =
+pub returns-in-Err-clause-opening : goal.returns-in-Err-clause-opening
+returns-in-Err-clause-opening c =
     let b = c.args.image.now in
-    subst (λ (r : OpenRefused). OpensBytes current b c.args.region c.args.base c.args.mode (Err r)) (sym c.into_opened.ensures)
+    subst (λ (r : OpenRefused). OpensBytes current b c.args.region c.args.base c.args.mode (Err r))
+    (sym c.into_opened.ensures)
     (not-placed current b c.args.region c.args.base c.args.mode (opened_as c.in-Err.refused) c.in-Err.ensures.placed)
 
 pub check_noting-requires-clause-front : goal.check_noting-requires-clause-front
@@ -20,15 +21,16 @@ pub into_segment-requires-clause-image : goal.into_segment-requires-clause-image
 unfolding current
 into_segment-requires-clause-image c = c.in-Ok-check_noting.ensures.answers.image
 
-pub returns-in-Ok-check_noting-clause-opens : goal.returns-in-Ok-check_noting-clause-opens
+pub returns-in-Ok-check_noting-clause-opening : goal.returns-in-Ok-check_noting-clause-opening
 unfolding current
-returns-in-Ok-check_noting-clause-opens c =
+returns-in-Ok-check_noting-clause-opening c =
     opened-bytes current c.args.image.now c.args.region c.args.base c.in-Ok.window c.in-Ok.ensures.placed
     c.args.mode c.into_segment.result refl c.in-Ok-check_noting.ensures.answers.image
-    c.into_segment.ensures.place c.into_segment.ensures.renewed c.into_segment.ensures.mode
+    c.into_segment.ensures.place c.into_segment.ensures.upgrade c.into_segment.ensures.mode
 
-pub returns-in-Err-check_noting-clause-opens : goal.returns-in-Err-check_noting-clause-opens
+pub returns-in-Err-check_noting-clause-opening : goal.returns-in-Err-check_noting-clause-opening
 unfolding current
-returns-in-Err-check_noting-clause-opens c =
+returns-in-Err-check_noting-clause-opening c =
     refused-bytes current c.args.image.now c.args.region c.args.base c.in-Ok.window c.in-Ok.ensures.placed
-    c.args.mode c.in-Err-check_noting.cause c.into_error.result c.into_region.result c.in-Err-check_noting.ensures.answers c.into_error.ensures c.into_region.ensures
+    c.args.mode c.in-Err-check_noting.cause c.into_error.result c.into_region.result
+    c.in-Err-check_noting.ensures.answers c.into_error.ensures c.into_region.ensures

@@ -1,30 +1,30 @@
 use Rattle.std.proofs.Common.{◌≡◌, ℕ, ap, refl, sym, ◌∙◌, true, List, Some, arith}
 use Rattle.std.specs.List.{list_all}
-use Rattle.raw_region.specs.Memory.{Cut}
+use Rattle.raw_region.specs.Memory.{WindowState}
 use Rattle.block_tags.specs.declared.tile.Tile.{Tile}
 use Rattle.image_check.specs.declared.owners.Block.{Block}
 use Rattle.image_check.specs.Orphans.{is_owned}
 use Rattle.image_check.specs.Owners.{Blocks, block_at, frame_of, has_owner}
 use Rattle.image_check.proofs.OwnedRows.{free-tests, tile-tests}
 use Rattle.image_check.proofs.RowWalks.{PassesGaps, RowAt, row-at, rows-end, rows-on, rows-start}
-use Rattle.image_check.proofs.WalkedTiles.{all-more, fails-there, tags-IsTiled}
+use Rattle.image_check.proofs.WalkedTiles.{all-more, fails-there, tags-IsTiledWindow}
 use Rattle.image_check.proofs.orphans.are_owned.Goals as goal
 
 -- what is kept of the tiles behind the walk
 abbrev Kept : Blocks → List Tile → Type 0
 Kept es ts = list_all (has_owner es) ts ≡ true
 
-gaps : (w : Cut) (es : Blocks) → PassesGaps w (Kept es)
+gaps : (w : WindowState) (es : Blocks) → PassesGaps w (Kept es)
 gaps w es t u a = all-more (has_owner es) a.front t a.kept (free-tests es t u)
 
 -- the tile of a row has an owner where its block has
-same : (w : Cut) (es : Blocks) (number : ℕ) (x : ℕ × Block) → (r : RowAt w (Kept es) number (frame_of x))
+same : (w : WindowState) (es : Blocks) (number : ℕ) (x : ℕ × Block) → (r : RowAt w (Kept es) number (frame_of x))
     → block_at es x.0 ≡ Some x.1 → has_owner es r.here ≡ is_owned x.1
 same w es number x r is = tile-tests es r.here x.1 r.use_of (ap (block_at es) r.place ∙ is)
 
 pub rows-init : goal.rows-init
 rows-init c = record {
-  walk = λ w h f. rows-start w (Kept c.args.blocks.now.entries) (tags-IsTiled w h.size h.tags) refl;
+  walk = λ w h f. rows-start w (Kept c.args.blocks.now.entries) (tags-IsTiledWindow w h.size h.tags) refl;
   within = omega arith;
   more = omega arith;
   most = omega arith;
@@ -40,7 +40,8 @@ rows-preserved c =
     record {
       walk = λ w h f.
           let r = row-at w (Kept es) (gaps w es) es f c.rows.number (inv.walk w h f) x c.row-payload.ensures.row in
-          let owned = same w es c.rows.number x r c.row-payload.ensures.block ∙ sym c.is_owned.ensures ∙ c.if-not-is_owned.false in
+          let owned = same w es c.rows.number x r c.row-payload.ensures.block ∙ sym c.is_owned.ensures
+          ∙ c.if-not-is_owned.false in
           rows-on w (Kept es) (Kept es) c.rows.number (frame_of x) r
           (all-more (has_owner es) r.at.front r.here r.at.kept owned);
       within = omega arith;
@@ -48,15 +49,17 @@ rows-preserved c =
       most = omega arith;
     }
 
-pub returns-then-not-is_owned-clause-finds : goal.returns-then-not-is_owned-clause-finds
-returns-then-not-is_owned-clause-finds c w h f =
+pub returns-then-not-is_owned-clause-verdict : goal.returns-then-not-is_owned-clause-verdict
+returns-then-not-is_owned-clause-verdict c w h f =
     let es = c.args.blocks.now.entries in
     let x = c.row-payload.result in
-    let r = row-at w (Kept es) (gaps w es) es f c.rows.number (c.rows.invariant.walk w h f) x c.row-payload.ensures.row in
-    let lacks = same w es c.rows.number x r c.row-payload.ensures.block ∙ sym c.is_owned.ensures ∙ c.if-not-is_owned.true in
+    let r = row-at w (Kept es) (gaps w es) es f c.rows.number (c.rows.invariant.walk w h f) x
+    c.row-payload.ensures.row in
+    let lacks = same w es c.rows.number x r c.row-payload.ensures.block ∙ sym c.is_owned.ensures
+    ∙ c.if-not-is_owned.true in
     fails-there w (Kept es) (has_owner es) r.here x.0 r.at r.at.kept lacks r.place
 
-pub returns-clause-finds : goal.returns-clause-finds
-returns-clause-finds c w h f =
+pub returns-clause-verdict : goal.returns-clause-verdict
+returns-clause-verdict c w h f =
     let es = c.args.blocks.now.entries in
     rows-end w (Kept es) (gaps w es) es f c.rows.number (c.rows.invariant.walk w h f) (omega arith)

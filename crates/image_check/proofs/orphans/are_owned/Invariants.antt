@@ -1,7 +1,7 @@
 use Rattle.std.proofs.Common.{◌≡◌, ◌+◌, ◌-◌, ◌≤◌, true, length, List}
 use Rattle.std.specs.List.{list_all}
 use Rattle.block_tags.specs.declared.tile.Tile.{Tile}
-use Rattle.raw_region.specs.Memory.{Cut}
+use Rattle.raw_region.specs.Memory.{WindowState}
 use Rattle.image_check.specs.Owners.{entries_of, frames, has_owner}
 use Rattle.image_check.specs.Passes.{HasTiles, tiles_in}
 use Rattle.image_check.proofs.RowWalks.{RowWalks}
@@ -10,7 +10,7 @@ use Rattle.image_check.proofs.orphans.are_owned.Given as goal
 -- the blocks that the walk has passed need no owner or have one
 abbrev pub invariant-rows : goal.invariant-rows
 invariant-rows l = record {
-  walk : (w : Cut) → HasTiles w.bytes → frames l.blocks.entries ≡ frames (entries_of (tiles_in w.bytes))
+  walk : (w : WindowState) → HasTiles w.bytes → frames l.blocks.entries ≡ frames (entries_of (tiles_in w.bytes))
       → RowWalks w (λ (ts : List Tile). list_all (has_owner l.blocks.entries) ts ≡ true) l.number;
   within : l.number ≤ length l.blocks.entries;
   more : l.initial.visits ≤ l.visits;

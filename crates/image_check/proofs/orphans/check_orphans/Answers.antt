@@ -3,10 +3,10 @@ use Rattle.image_check.proofs.Owned.{orphan-found}
 use Rattle.image_check.proofs.OwnedRows.{rows-weigh}
 use Rattle.image_check.proofs.orphans.check_orphans.Goals as goal
 
-pub returns-clause-finds : goal.returns-clause-finds
-returns-clause-finds c format window h whole =
+pub returns-clause-verdict : goal.returns-clause-verdict
+returns-clause-verdict c format window h whole =
     orphan-found format window.bytes c.args.owners.now.blocks.entries c.args.owners.now.waiting h whole
-    c.are_owned.result (c.are_owned.ensures.finds window h whole.marking.frame)
+    c.are_owned.result (c.are_owned.ensures.verdict window h whole.marking.frame)
 
 pub returns-clause-visits : goal.returns-clause-visits
 returns-clause-visits c image h f =

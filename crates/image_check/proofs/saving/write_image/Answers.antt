@@ -2,5 +2,5 @@ use Rattle.std.proofs.Common.{arith}
 use Rattle.image_check.proofs.SavedImages.{accepted_image}
 use Rattle.image_check.proofs.saving.write_image.Goals as goal
 
-pub returns-clause-accepted : goal.returns-clause-accepted
-returns-clause-accepted g c = accepted_image c.args.bytes.now (λ k. omega (arith, c.type_inv.bytes k))
+pub returns-clause-acceptance : goal.returns-clause-acceptance
+returns-clause-acceptance g c = accepted_image c.args.bytes.now (λ k. omega (arith, c.type_inv.bytes k))

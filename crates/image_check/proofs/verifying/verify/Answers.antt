@@ -1,15 +1,15 @@
 use Rattle.std.proofs.Common.{Err, subst, sym}
-use Rattle.raw_region.specs.Device.{given_since}
+use Rattle.raw_region.specs.Device.{read_delta}
 use Rattle.raw_region.specs.Format.{current}
 use Rattle.image_check.specs.declared.errors.OpenRefused.{OpenRefused}
 use Rattle.image_check.specs.Opening.{Verifies}
 use Rattle.image_check.proofs.verifying.verify.Goals as goal
 
-pub returns-in-Ok-clause-verifies : goal.returns-in-Ok-clause-verifies
-returns-in-Ok-clause-verifies g c = c.in-Ok.ensures.examines.verifies
+pub returns-in-Ok-clause-verdict : goal.returns-in-Ok-clause-verdict
+returns-in-Ok-clause-verdict g c = c.in-Ok.ensures.examines.verifies
 
-pub returns-in-Err-clause-verifies : goal.returns-in-Err-clause-verifies
-returns-in-Err-clause-verifies g c =
-    let given = given_since (g.S.Source.history c.args.reader.now) (g.S.Source.history c.examine.new.reader) in
+pub returns-in-Err-clause-verdict : goal.returns-in-Err-clause-verdict
+returns-in-Err-clause-verdict g c =
+    let given = read_delta (g.S.Source.history c.args.reader.now) (g.S.Source.history c.examine.new.reader) in
     subst (λ (r : OpenRefused). Verifies current given c.args.region c.args.base (Err r)) (sym c.into_opened.ensures)
     c.in-Err.ensures.examines.verifies

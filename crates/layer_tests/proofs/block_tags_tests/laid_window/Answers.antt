@@ -3,8 +3,9 @@ use Rattle.raw_region.proofs.Laws.{length-zeros}
 use Rattle.layer_tests.proofs.FreshWindows.{legal_fresh, laid_fresh}
 use Rattle.layer_tests.proofs.block_tags_tests.laid_window.Goals as goal
 
-pub new-window-requires-clause-inside : goal.new-window-requires-clause-inside
-new-window-requires-clause-inside c = let l = ap (λ (b : List ℕ). length b) c.in_ok-region.ensures.zeros in omega (arith, length-zeros 1024, l)
+pub new-window-requires-clause-in_bounds : goal.new-window-requires-clause-in_bounds
+new-window-requires-clause-in_bounds c = let l = ap (λ (b : List ℕ). length b) c.in_ok-region.ensures.zeros
+    in omega (arith, length-zeros 1024, l)
 
 pub lay-requires : goal.lay-requires
 lay-requires c = legal_fresh 1024 _ _ c.in_ok-region.ensures.zeros c.new-window.ensures.cut refl

@@ -5,11 +5,12 @@ use Rattle.std.proofs.lemmas.Bool.{true≢false}
 use Rattle.link_tree.specs.Tree.{Tree, fork, height, nodes_of}
 use Rattle.link_tree.specs.Nodes.{is_in, leads}
 use Rattle.link_tree.specs.Between.{is_above, is_below, count_between}
-use Rattle.link_tree.specs.Checking.{IsClosed, IsSound}
+use Rattle.link_tree.specs.Checking.{IsLinkClosed, IsSound}
 use Rattle.link_tree.proofs.Soundness.{sound_fork, parts_of, HasParts, one_height, closed_link, counts_split, part_size}
 use Rattle.link_tree.proofs.Keepers.{strict}
 use Rattle.link_tree.proofs.checking.+check_below.Goals as goal
-use Rattle.link_tree.proofs.checking.+check_below.Goals.{After-red-red, After-right-right, else-red-via-then-red+else-red_above}
+use Rattle.link_tree.proofs.checking.+check_below.Goals.{After-red-red, After-right-right}
+use Rattle.link_tree.proofs.checking.+check_below.Goals.{else-red-via-then-red+else-red_above}
 use Rattle.link_tree.proofs.checking.+check_below.Goals.{else-red-via-else-red}
 use Rattle.link_tree.proofs.checking.+check_below.Given.{Over}
 
@@ -82,12 +83,13 @@ abbrev count : (g : Over) → g.row.N.Denot → (low high : Option ℕ) → List
 count g s = count_between (g.N.Nodes.order s)
 
 abbrev Room : (g : Over) → g.row.N.Denot → (link low high : Option ℕ) → ℕ → Type 0
-Room g s link low high steps = (ns : List ℕ) × IsClosed (g.N.Nodes.cells s) ns × (leads (λ m. is_in m ns) link ≡ true)
+Room g s link low high steps = (ns : List ℕ) × IsLinkClosed (g.N.Nodes.cells s) ns
+    × (leads (λ m. is_in m ns) link ≡ true)
     × (steps + 5 * count g s low high ns + 5 < 2 ^ 64)
 
 abbrev Spends : (g : Over) → g.row.N.Denot → (link low high : Option ℕ) → ℕ → ℕ → Bool → Type 0
 Spends g s link low high steps steps' found =
-    (ns : List ℕ) → IsClosed (g.N.Nodes.cells s) ns → leads (λ m. is_in m ns) link ≡ true
+    (ns : List ℕ) → IsLinkClosed (g.N.Nodes.cells s) ns → leads (λ m. is_in m ns) link ≡ true
     → steps' ≤ steps + 5 * count g s low high ns + (if found then 0 else 5)
 
 -- what is known of a node that stands between the bounds, once it is read
@@ -127,8 +129,10 @@ read g t c =
       left_is = c.left-left.ensures.value ∙ ap (λ (x : g.row.N.Denot). (g.N.Nodes.cells x n).left) e3;
       right_is = c.right-right.ensures.value ∙ ap (λ (x : g.row.N.Denot). (g.N.Nodes.cells x n).right) e4;
       red_is = c.red-red.ensures.value ∙ ap (λ (x : g.row.N.Denot). (g.N.Nodes.cells x n).red) e2;
-      few = five _ _ _ _ _ _ c.stands_above.ensures.most c.stands_below.ensures.most c.red-red.ensures.most
-          (c.left-left.ensures.stays c.red-red.ensures.at) (c.right-right.ensures.stays c.left-left.ensures.at);
+      few = five _ _ _ _ _ _ c.stands_above.ensures.steps_upper c.stands_below.ensures.steps_upper
+          c.red-red.ensures.steps_upper
+          (c.left-left.ensures.unchanged c.red-red.ensures.position)
+          (c.right-right.ensures.unchanged c.left-left.ensures.position);
     }
 
 -- ---- what the node says of the parts below it, which calls see through equal values
@@ -149,7 +153,7 @@ module _ {g : Over} {s now : g.row.N.Denot} {link : Option ℕ} {n : ℕ} {low h
       parts_of (strict g.met.N.Nodes s) (g.N.Nodes.cells s) n low
       high red_above t b (subst (λ (o : Option ℕ). Sound g s o low high red_above t b) r.is k)
 
-  closed_on : (ns : List ℕ) → IsClosed (g.N.Nodes.cells s) ns → leads (λ m. is_in m ns) link ≡ true
+  closed_on : (ns : List ℕ) → IsLinkClosed (g.N.Nodes.cells s) ns → leads (λ m. is_in m ns) link ≡ true
       → (leads (λ m. is_in m ns) (g.N.Nodes.cells s n).left ≡ true)
       × (leads (λ m. is_in m ns) (g.N.Nodes.cells s n).right ≡ true)
   closed_on ns closed k =
@@ -190,14 +194,14 @@ module _ {g : Over} {s now : g.row.N.Denot} {link : Option ℕ} {n : ℕ} {low h
   finds_on later part part' from to levels found e is finds = rw (e, r.here, is, r.red_is) at finds
 
   spent_on : (later : g.row.N.Denot) (part part' from to : Option ℕ) (ns : List ℕ) (end' end'' : ℕ) (found is : Bool)
-      → later ≡ now → part ≡ part' → IsClosed (g.N.Nodes.cells s) ns → leads (λ m. is_in m ns) part' ≡ true
+      → later ≡ now → part ≡ part' → IsLinkClosed (g.N.Nodes.cells s) ns → leads (λ m. is_in m ns) part' ≡ true
       → found ≡ is → Spends g later part from to end' end'' found
       → end'' ≤ end' + 5 * count g s from to ns + (if is then 0 else 5)
   spent_on later part part' from to ns end' end'' found is e p closed k f told =
       let here = rw (e, r.here, p, f) at told in here ns closed k
 
   spent_both : (ns : List ℕ) (later : g.row.N.Denot) (end' end'' : ℕ) (found found' is : Bool)
-      → IsClosed (g.N.Nodes.cells s) ns → leads (λ m. is_in m ns) link ≡ true → found ≡ true → later ≡ now
+      → IsLinkClosed (g.N.Nodes.cells s) ns → leads (λ m. is_in m ns) link ≡ true → found ≡ true → later ≡ now
       → found' ≡ is → Spends g now left low (Some n) end end' found
       → Spends g later right (Some n) high end' end'' found'
       → end'' ≤ start + 5 * count g s low high ns + (if is then 0 else 5)
@@ -208,7 +212,7 @@ module _ {g : Over} {s now : g.row.N.Denot} {link : Option ℕ} {n : ℕ} {low h
       (spent_on later right _ (Some n) high ns end' end'' found' is e r.right_is closed c.1 f' told') (split ns k)
 
   -- two parts have no more nodes than the closed list has on both sides of the node
-  sizes : (ns : List ℕ) (b b' k k' : ℕ) → IsClosed (g.N.Nodes.cells s) ns → leads (λ m. is_in m ns) link ≡ true
+  sizes : (ns : List ℕ) (b b' k k' : ℕ) → IsLinkClosed (g.N.Nodes.cells s) ns → leads (λ m. is_in m ns) link ≡ true
       → Found g s (g.N.Nodes.cells s n).left low (Some n) (g.N.Nodes.cells s n).red b k
       → Found g s (g.N.Nodes.cells s n).right (Some n) high (g.N.Nodes.cells s n).red b' k'
       → k + k' ≤ count g s low (Some n) ns + count g s (Some n) high ns
@@ -250,35 +254,36 @@ returns-then-not-stands_above-clause-complete g t c = λ u b k lower.
 
 -- the node parts those of the closed list
 counted : (g : Over) (t : ℕ) (c : After-red-red g t)
-    → count g c.args.visits.now.nodes.now c.args.low (Some c.in-Some.node) c.requires.room.0
-    + count g c.args.visits.now.nodes.now (Some c.in-Some.node) c.args.high c.requires.room.0 + 1
-    ≤ count g c.args.visits.now.nodes.now c.args.low c.args.high c.requires.room.0
+    → count g c.args.visits.now.nodes.now c.args.low (Some c.in-Some.node) c.requires.no_overflow.0
+    + count g c.args.visits.now.nodes.now (Some c.in-Some.node) c.args.high c.requires.no_overflow.0 + 1
+    ≤ count g c.args.visits.now.nodes.now c.args.low c.args.high c.requires.no_overflow.0
 counted g t c =
     let s = c.args.visits.now.nodes.now in
     let n = c.in-Some.node in
-    let ns = c.requires.room.0 in
+    let ns = c.requires.no_overflow.0 in
     let h = g.N.Nodes.cells s in
-    let listed = closed_link (strict g.met.N.Nodes s) h ns n c.args.link c.in-Some.is c.requires.room.2 in
+    let listed = closed_link (strict g.met.N.Nodes s) h ns n c.args.link c.in-Some.is c.requires.no_overflow.2 in
     let below = is_below_at g s c.stands_above.new.visits.nodes.now n c.args.high c.stands_below.result
     c.stands_above.ensures.nodes c.stands_below.ensures.value c.if-not-stands_below.false in
     counts_split (strict g.met.N.Nodes s) h ns n c.args.low c.args.high listed
     (sym c.stands_above.ensures.value ∙ c.if-not-stands_above.false) below
 
-pub left-left-requires-clause-room : goal.left-left-requires-clause-room
-left-left-requires-clause-room g t c =
-    room_read _ _ _ _ _ _ _ c.stands_above.ensures.most c.stands_below.ensures.most c.red-red.ensures.most
-    (counted g t (goal.at.left-left-requires-clause-room g t c).After-red-red) c.requires.room.3
+pub left-left-requires-clause-no_overflow : goal.left-left-requires-clause-no_overflow
+left-left-requires-clause-no_overflow g t c =
+    room_read _ _ _ _ _ _ _ c.stands_above.ensures.steps_upper c.stands_below.ensures.steps_upper
+    c.red-red.ensures.steps_upper
+    (counted g t (goal.at.left-left-requires-clause-no_overflow g t c).After-red-red) c.requires.no_overflow.3
 
-pub right-right-requires-clause-room : goal.right-right-requires-clause-room
-right-right-requires-clause-room g t c =
-    room_read _ _ _ _ _ _ _ c.stands_above.ensures.most c.stands_below.ensures.most
-    (rw (c.left-left.ensures.stays c.red-red.ensures.at) c.red-red.ensures.most)
-    (counted g t (goal.at.right-right-requires-clause-room g t c).After-red-red) c.requires.room.3
+pub right-right-requires-clause-no_overflow : goal.right-right-requires-clause-no_overflow
+right-right-requires-clause-no_overflow g t c =
+    room_read _ _ _ _ _ _ _ c.stands_above.ensures.steps_upper c.stands_below.ensures.steps_upper
+    (rw (c.left-left.ensures.unchanged c.red-red.ensures.position) c.red-red.ensures.steps_upper)
+    (counted g t (goal.at.right-right-requires-clause-no_overflow g t c).After-red-red) c.requires.no_overflow.3
 
 pub check_below-requires : goal.check_below-requires
 check_below-requires g t c =
     let r = read g t (goal.at.check_below-requires g t c).After-right-right in
-    let asked = asked_left r c.requires.link c.requires.low c.requires.room in
+    let asked = asked_left r c.requires.link c.requires.min_value c.requires.no_overflow in
     λ κs lives. (falls _ _ c.decreases c.if-levels-eq0.false, (lives.0, (lives.1, asked)))
 
 pub returns-in_default-check_below-clause-complete : goal.returns-in_default-check_below-clause-complete
@@ -300,14 +305,14 @@ returns-in_default-check_below-clause-steps g t c = λ ns closed k.
 pub check_below-requires-2 : goal.check_below-requires-2
 check_below-requires-2 g t c =
     let r = read g t (goal.at.check_below-requires-2 g t c).After-right-right in
-    let ns = c.requires.room.0 in
-    let closed = c.requires.room.1 in
-    let k = c.requires.room.2 in
+    let ns = c.requires.no_overflow.0 in
+    let closed = c.requires.no_overflow.1 in
+    let k = c.requires.no_overflow.2 in
     let first = spent_on r _ _ _ c.args.low (Some c.in-Some.node) ns _ _ _ true refl r.left_is closed
     (closed_on r ns closed k).0
     (ap is_some c.in-Some-check_below.is) c.check_below.ensures.steps in
     let asked = asked_right r c.check_below.new.visits.nodes.now c.check_below.new.visits.steps
-    c.check_below.ensures.nodes c.requires.link c.requires.high c.requires.room first in
+    c.check_below.ensures.nodes c.requires.link c.requires.max_value c.requires.no_overflow first in
     λ κs lives. (falls _ _ c.decreases c.if-levels-eq0.false, (lives.0, (lives.1, asked)))
 
 pub returns-in_default-check_below-2-clause-complete : goal.returns-in_default-check_below-2-clause-complete
@@ -355,8 +360,10 @@ overflow_add-nodes g t c =
     let before = found_on r _ _ _ _ _ _ _ refl r.left_is c.in-Some-check_below.ensures.sound in
     let behind = found_on r _ _ _ _ _ _ _ c.check_below.ensures.nodes r.right_is
     c.in-Some-check_below-2.ensures.sound in
-    let few = sizes r c.requires.room.0 _ _ _ _ c.requires.room.1 c.requires.room.2 before behind in
-    fits_less _ (fits_nodes _ _ _ _ _ _ few (split r c.requires.room.0 c.requires.room.2) c.requires.room.3)
+    let few = sizes r c.requires.no_overflow.0 _ _ _ _ c.requires.no_overflow.1 c.requires.no_overflow.2 before
+    behind in
+    fits_less _ (fits_nodes _ _ _ _ _ _ few (split r c.requires.no_overflow.0 c.requires.no_overflow.2)
+    c.requires.no_overflow.3)
 
 pub overflow_add-nodes-2 : goal.overflow_add-nodes-2
 overflow_add-nodes-2 g t c =
@@ -364,8 +371,9 @@ overflow_add-nodes-2 g t c =
     let before = found_on r _ _ _ _ _ _ _ refl r.left_is c.in-Some-check_below.ensures.sound in
     let behind = found_on r _ _ _ _ _ _ _ c.check_below.ensures.nodes r.right_is
     c.in-Some-check_below-2.ensures.sound in
-    let few = sizes r c.requires.room.0 _ _ _ _ c.requires.room.1 c.requires.room.2 before behind in
-    fits_nodes _ _ _ _ _ _ few (split r c.requires.room.0 c.requires.room.2) c.requires.room.3
+    let few = sizes r c.requires.no_overflow.0 _ _ _ _ c.requires.no_overflow.1 c.requires.no_overflow.2 before
+    behind in
+    fits_nodes _ _ _ _ _ _ few (split r c.requires.no_overflow.0 c.requires.no_overflow.2) c.requires.no_overflow.3
 
 pub returns-then-red-2-clause-sound : goal.returns-then-red-2-clause-sound
 returns-then-red-2-clause-sound g t c =

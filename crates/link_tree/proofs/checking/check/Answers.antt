@@ -7,8 +7,8 @@ use Rattle.link_tree.proofs.Soundness.{only, length-only, leads_only, only_close
 use Rattle.link_tree.proofs.Keepers.{low_tree, strict}
 use Rattle.link_tree.proofs.checking.check.Goals as goal
 
-pub check_below-requires-clause-room : goal.check_below-requires-clause-room
-check_below-requires-clause-room g c =
+pub check_below-requires-clause-no_overflow : goal.check_below-requires-clause-no_overflow
+check_below-requires-clause-no_overflow g c =
     let s = c.args.nodes.now in
     let f = g.met.N.Nodes.finite s in
     let good = g.N.Nodes.is_node s in
@@ -22,8 +22,8 @@ check_below-requires-clause-room g c =
     let e = c.new-visits.ensures.nodes in
     (ns, rw e closed, leads_only good f.0 f.2 c.args.root c.requires, rw e (omega arith))
 
-pub returns-in_default-clause-counts : goal.returns-in_default-clause-counts
-returns-in_default-clause-counts g c = λ m. (
+pub returns-in_default-clause-count : goal.returns-in_default-clause-count
+returns-in_default-clause-count g c = λ m. (
   λ e. absurd (none_some m e),
   λ w.
       let s = c.args.nodes.now in
@@ -43,8 +43,8 @@ returns-in_default-clause-steps g c = λ ns closed k.
     let zero = c.new-visits.ensures.steps in
     omega arith
 
-pub returns-clause-counts : goal.returns-clause-counts
-returns-clause-counts g c = λ m.
+pub returns-clause-count : goal.returns-clause-count
+returns-clause-count g c = λ m.
     let s = c.args.nodes.now in
     let sound = rw c.new-visits.ensures.nodes at c.in-Some.ensures.sound in
     let whole = whole_sound (strict g.met.N.Nodes s) (g.N.Nodes.cells s) c.args.root sound.0 c.in-Some.part.blacks

@@ -31,21 +31,23 @@ loop-link-init g c = record {
   same = cc;
   good = c.requires.root;
   room = omega (arith, c.new-visits.ensures.steps);
-  seeks = λ t k. seek_start c.args.root _ _ k c.new-visits.ensures.at c.new-visits.ensures.steps;
+  seeks = λ t k. seek_start c.args.root _ _ k c.new-visits.ensures.position c.new-visits.ensures.steps;
 }
 
 pub loop-link-smaller-then-before : goal.loop-link-smaller-then-before
 loop-link-smaller-then-before g c =
     let t = c.requires.tree in
-    let goes = c.before_probe-before.ensures.goes ((c.loop-link.invariant.seeks t.0 t.1).away _ c.in-Some.is) in
-    let stays = c.right-link.ensures.stays c.pass-notes.ensures.at in
+    let goes = c.before_probe-before.ensures.progress_on_step
+    ((c.loop-link.invariant.seeks t.0 t.1).away _ c.in-Some.is) in
+    let stays = c.right-link.ensures.unchanged c.fold_node-notes.ensures.position in
     omega arith
 
 pub loop-link-smaller : goal.loop-link-smaller
 loop-link-smaller g c =
     let t = c.requires.tree in
-    let goes = c.before_probe-before.ensures.goes ((c.loop-link.invariant.seeks t.0 t.1).away _ c.in-Some.is) in
-    let stays = c.left-link.ensures.stays c.pass-notes.ensures.at in
+    let goes = c.before_probe-before.ensures.progress_on_step
+    ((c.loop-link.invariant.seeks t.0 t.1).away _ c.in-Some.is) in
+    let stays = c.left-link.ensures.unchanged c.fold_node-notes.ensures.position in
     omega arith
 
 pub loop-link-preserved-then-before : goal.loop-link-preserved-then-before
@@ -56,11 +58,11 @@ loop-link-preserved-then-before g c =
     let here : g.N.Nodes.is_node s n ≡ true = rw c.in-Some.is at c.loop-link.invariant.good in
     let is : c.right-link.result ≡ (g.N.Nodes.cells s n).right = cc in
     let seeks = further g s c.args.probe.now c.args.root c.args.start true n c.right-link.result _ _ _
-    c.pass-notes.result _ c.right-link.new.self.steps (rw c.in-Some.is at c.loop-link.invariant.seeks) (cc) (cc)
+    c.fold_node-notes.result _ c.right-link.new.self.steps (rw c.in-Some.is at c.loop-link.invariant.seeks) (cc) (cc)
     (λ away.
-    let goes = c.before_probe-before.ensures.goes away in
-    let stays = c.right-link.ensures.stays c.pass-notes.ensures.at in
-    omega arith) c.right-link.ensures.at is in
+    let goes = c.before_probe-before.ensures.progress_on_step away in
+    let stays = c.right-link.ensures.unchanged c.fold_node-notes.ensures.position in
+    omega arith) c.right-link.ensures.position is in
     let low = low_tree g.met.N.Nodes s t.1 c.requires.root in
     let taken = (seeks t.0 t.1).taken in
     record { same = cc; good = rw is (g.met.N.Nodes.right_closed s n here); room = omega arith; seeks = seeks }
@@ -73,17 +75,17 @@ loop-link-preserved g c =
     let here : g.N.Nodes.is_node s n ≡ true = rw c.in-Some.is at c.loop-link.invariant.good in
     let is : c.left-link.result ≡ (g.N.Nodes.cells s n).left = cc in
     let seeks = further g s c.args.probe.now c.args.root c.args.start false n c.left-link.result _ _ _
-    c.pass-notes.result _ c.left-link.new.self.steps (rw c.in-Some.is at c.loop-link.invariant.seeks)
+    c.fold_node-notes.result _ c.left-link.new.self.steps (rw c.in-Some.is at c.loop-link.invariant.seeks)
     (cc) (cc) (λ away.
-    let goes = c.before_probe-before.ensures.goes away in
-    let stays = c.left-link.ensures.stays c.pass-notes.ensures.at in
-    omega arith) c.left-link.ensures.at is in
+    let goes = c.before_probe-before.ensures.progress_on_step away in
+    let stays = c.left-link.ensures.unchanged c.fold_node-notes.ensures.position in
+    omega arith) c.left-link.ensures.position is in
     let low = low_tree g.met.N.Nodes s t.1 c.requires.root in
     let taken = (seeks t.0 t.1).taken in
     record { same = cc; good = rw is (g.met.N.Nodes.left_closed s n here); room = omega arith; seeks = seeks }
 
-pub returns-clause-noted : goal.returns-clause-noted
-returns-clause-noted g c = λ t k. (seek_end _ _ _ _ (cc) (c.loop-link.invariant.seeks t k)).0
+pub returns-clause-mark : goal.returns-clause-mark
+returns-clause-mark g c = λ t k. (seek_end _ _ _ _ (cc) (c.loop-link.invariant.seeks t k)).0
 
 pub returns-clause-steps : goal.returns-clause-steps
 returns-clause-steps g c = λ t k.
@@ -91,5 +93,5 @@ returns-clause-steps g c = λ t k.
     let low = bounds_height t k.red_black in
     omega (arith, c.steps.ensures)
 
-pub returns-clause-exact : goal.returns-clause-exact
-returns-clause-exact g c = λ t k. c.steps.ensures ∙ (seek_end _ _ _ _ (cc) (c.loop-link.invariant.seeks t k)).1
+pub returns-clause-steps_exact : goal.returns-clause-steps_exact
+returns-clause-steps_exact g c = λ t k. c.steps.ensures ∙ (seek_end _ _ _ _ (cc) (c.loop-link.invariant.seeks t k)).1

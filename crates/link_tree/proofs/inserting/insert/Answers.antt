@@ -12,12 +12,12 @@ few : (digits search change : ℕ) → digits ≤ 41 → search ≤ 2 * digits �
 few digits search change a b c = omega arith
 
 taken : (g : Over) (c : After-insert_at-changed g)
-    → 2 * c.find_way_in-way.result.steps + c.insert_at-changed.result.steps < 2 ^ 64
+    → 2 * c.find_insert_point-way.result.steps + c.insert_at-changed.result.steps < 2 ^ 64
 taken g c =
     let t = c.requires.tree in
     let low = low_tree g.met.N.Nodes c.args.nodes.now t.1 c.requires.root in
     few (bits (length (nodes_of t.0) + 1)) _ _ (bits_most (length (nodes_of t.0)) low.1)
-    (c.find_way_in-way.ensures.steps t.0 t.1) (c.insert_at-changed.ensures.steps t.0 t.1)
+    (c.find_insert_point-way.ensures.steps t.0 t.1) (c.insert_at-changed.ensures.steps t.0 t.1)
 
 pub overflow_mul-result : goal.overflow_mul-result
 overflow_mul-result g c = omega (arith, taken g (goal.at.overflow_mul-result g c).After-insert_at-changed)

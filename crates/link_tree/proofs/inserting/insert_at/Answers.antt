@@ -1,10 +1,10 @@
 use Rattle.std.proofs.Common.{◌≡◌, ℕ, Bool, true, not, ◌∷◌, Option, Some, arith, refl, subst, rules}
 use Rattle.std.specs.Prelude.{IfSome, IsTrue}
-use Rattle.link_tree.specs.Tree.{Cell, Tree, IsTree, IsSearchTree, nodes_of, rises}
-use Rattle.link_tree.specs.Nodes.{has_place, put}
+use Rattle.link_tree.specs.Tree.{Cell, Tree, IsTree, IsSearchTree, nodes_of, is_sorted}
+use Rattle.link_tree.specs.Nodes.{is_ordered_with, put}
 use Rattle.link_tree.specs.Turning.{Turned, blackened}
-use Rattle.link_tree.specs.Growing.{Grows, grown}
-use Rattle.link_tree.specs.Ways.{entry_of}
+use Rattle.link_tree.specs.Growing.{CanInsert, after_insert}
+use Rattle.link_tree.specs.Ways.{insert_point_of}
 use Rattle.link_tree.proofs.Trees.{IsChanged, one_tree, root_in}
 use Rattle.link_tree.proofs.Heights.{height_bits}
 use Rattle.link_tree.proofs.Keepers.{low_tree, node_of, strict}
@@ -16,26 +16,26 @@ use Rattle.link_tree.proofs.inserting.insert_at.Given.{Over}
 -- what the call asks for
 abbrev Asked : (g : Over) → g.row.N.Denot → (root entry : Option ℕ) → ℕ → Type 0
 Asked g s root entry x = (t : Tree) × IsSearchTree (g.N.Nodes.order s) (g.N.Nodes.cells s) root t
-    × IsTrue (has_place (g.N.Nodes.order s) x (nodes_of t))
-    × IfSome entry (λ n. entry_of (λ m. not (g.N.Nodes.order s x m)) t ≡ Some n)
+    × IsTrue (is_ordered_with (g.N.Nodes.order s) x (nodes_of t))
+    × IfSome entry (λ n. insert_point_of (λ m. not (g.N.Nodes.order s x m)) t ≡ Some n)
 
 module _ (g : Over) (s : g.row.N.Denot) (root entry : Option ℕ) (x : ℕ) (asked : Asked g s root entry x) (u : Tree)
     (k : IsSearchTree (g.N.Nodes.order s) (g.N.Nodes.cells s) root u) where
   -- the node has its place in each tree of the root, since there is but one
-  grows : Grows (g.N.Nodes.order s) (g.N.Nodes.cells s) root x u
+  grows : CanInsert (g.N.Nodes.order s) (g.N.Nodes.cells s) root x u
   grows =
       let e = one_tree (g.N.Nodes.cells s) root asked.0 u asked.1.tree k.tree in
       record {
         tree = k.tree;
         ordered = k.ordered;
-        placed = subst (λ v. has_place (g.N.Nodes.order s) x (nodes_of v) ≡ true) e asked.2;
+        placed = subst (λ v. is_ordered_with (g.N.Nodes.order s) x (nodes_of v) ≡ true) e asked.2;
       }
 
   -- the insertion begins at a node of it
   begins : (p : ℕ) → entry ≡ Some p → IsBegun (g.N.Nodes.order s) (g.N.Nodes.cells s) x u p
   begins p is =
       let e = one_tree (g.N.Nodes.cells s) root asked.0 u asked.1.tree k.tree in
-      let at : entry_of (λ m. not (g.N.Nodes.order s x m)) asked.0 ≡ Some p = rw is at asked.3 in
+      let at : insert_point_of (λ m. not (g.N.Nodes.order s x m)) asked.0 ≡ Some p = rw is at asked.3 in
       subst (λ v. IsBegun (g.N.Nodes.order s) (g.N.Nodes.cells s) x v p) e
       (begun_whole (strict g.met.N.Nodes s) (g.N.Nodes.cells s) x root asked.0 p asked.1 asked.2 at)
 
@@ -63,8 +63,9 @@ grow-requires-clause-tree g c =
 
 -- what an insertion below a node of the tree made
 entered_at : (g : Over) (s s' : g.row.N.Denot) (root entry : Option ℕ) (x p top : ℕ) → Asked g s root entry x
-    → entry ≡ Some p → ((v : Tree) → Grows (g.N.Nodes.order s) (g.N.Nodes.cells s) (Some p) x v
-    → Turned (g.N.Nodes.cells s) (g.N.Nodes.cells s') (x ∷ nodes_of v) (Some top) (grown (g.N.Nodes.order s) x v))
+    → entry ≡ Some p → ((v : Tree) → CanInsert (g.N.Nodes.order s) (g.N.Nodes.cells s) (Some p) x v
+    → Turned (g.N.Nodes.cells s) (g.N.Nodes.cells s') (x ∷ nodes_of v) (Some top)
+    (after_insert (g.N.Nodes.order s) x v))
     → (lt' : ℕ → ℕ → Bool) (h' : ℕ → Cell) → h' ≡ g.N.Nodes.cells s' → lt' ≡ g.N.Nodes.order s → (u : Tree)
     → IsSearchTree (g.N.Nodes.order s) (g.N.Nodes.cells s) root u
     → IsChanged lt' (g.N.Nodes.cells s) h' root (x ∷ nodes_of u) (put (g.N.Nodes.order s) x (nodes_of u))
@@ -76,15 +77,15 @@ entered_at g s s' root entry x p top asked is grow lt' h' eh el u k =
 
 pub returns-in-Some-clause-tree : goal.returns-in-Some-clause-tree
 returns-in-Some-clause-tree g c = λ u k.
-    let grown = rw c.new-visits.ensures.nodes at c.grow.ensures.grown in
+    let after_insert = rw c.new-visits.ensures.nodes at c.grow.ensures.growth in
     (entered_at g c.args.nodes.now c.grow.new.visits.nodes.now c.args.root c.args.entry c.args.node c.in-Some.start
-    c.grow.result c.requires.tree c.in-Some.is grown _ _ (search rules) (search rules) u k).tree
+    c.grow.result c.requires.tree c.in-Some.is after_insert _ _ (search rules) (search rules) u k).tree
 
 pub returns-in-Some-clause-frame : goal.returns-in-Some-clause-frame
 returns-in-Some-clause-frame g c = λ u k.
-    let grown = rw c.new-visits.ensures.nodes at c.grow.ensures.grown in
+    let after_insert = rw c.new-visits.ensures.nodes at c.grow.ensures.growth in
     frame_beside (entered_at g c.args.nodes.now c.grow.new.visits.nodes.now c.args.root c.args.entry c.args.node
-    c.in-Some.start c.grow.result c.requires.tree c.in-Some.is grown _ _ (search rules) refl u k)
+    c.in-Some.start c.grow.result c.requires.tree c.in-Some.is after_insert _ _ (search rules) refl u k)
 
 pub returns-in-Some-clause-steps : goal.returns-in-Some-clause-steps
 returns-in-Some-clause-steps g c = λ u k.
@@ -104,8 +105,8 @@ grow-top-requires-clause-tree g c =
     let zero = c.new-visits.ensures.steps in
     (t.0, rw c.new-visits.ensures.nodes (grows g s c.args.root c.args.entry c.args.node t t.0 t.1), omega arith)
 
-pub paint-requires-clause-room : goal.paint-requires-clause-room
-paint-requires-clause-room g c =
+pub paint-requires-clause-no_overflow : goal.paint-requires-clause-no_overflow
+paint-requires-clause-no_overflow g c =
     let t = c.requires.tree in
     let s = c.args.nodes.now in
     let low = low_tree g.met.N.Nodes s t.1 c.requires.root in
@@ -115,10 +116,11 @@ paint-requires-clause-room g c =
 
 -- what an insertion below the root made
 inserted_at : (g : Over) (s s' s'' : g.row.N.Denot) (root entry : Option ℕ) (x top : ℕ) → Asked g s root entry x
-    → ((v : Tree) → Grows (g.N.Nodes.order s) (g.N.Nodes.cells s) root x v
-    → Turned (g.N.Nodes.cells s) (g.N.Nodes.cells s') (x ∷ nodes_of v) (Some top) (grown (g.N.Nodes.order s) x v))
+    → ((v : Tree) → CanInsert (g.N.Nodes.order s) (g.N.Nodes.cells s) root x v
+    → Turned (g.N.Nodes.cells s) (g.N.Nodes.cells s') (x ∷ nodes_of v) (Some top)
+    (after_insert (g.N.Nodes.order s) x v))
     → g.N.Nodes.order s' ≡ g.N.Nodes.order s
-    → ((v : Tree) → IsTree (g.N.Nodes.cells s') (Some top) v → rises (g.N.Nodes.order s') (nodes_of v) ≡ true
+    → ((v : Tree) → IsTree (g.N.Nodes.cells s') (Some top) v → is_sorted (g.N.Nodes.order s') (nodes_of v) ≡ true
     → Turned (g.N.Nodes.cells s') (g.N.Nodes.cells s'') (nodes_of v) (Some top) (blackened v))
     → (lt' : ℕ → ℕ → Bool) (h' : ℕ → Cell) → h' ≡ g.N.Nodes.cells s'' → lt' ≡ g.N.Nodes.order s → (u : Tree)
     → IsSearchTree (g.N.Nodes.order s) (g.N.Nodes.cells s) root u
@@ -131,16 +133,16 @@ inserted_at g s s' s'' root entry x top asked grow eo blacken lt' h' eh el u k =
 
 pub returns-clause-tree : goal.returns-clause-tree
 returns-clause-tree g c = λ u k.
-    let grown = rw c.new-visits.ensures.nodes at c.grow-top.ensures.grown in
+    let after_insert = rw c.new-visits.ensures.nodes at c.grow-top.ensures.growth in
     (inserted_at g c.args.nodes.now c.grow-top.new.visits.nodes.now c.paint.new.visits.nodes.now c.args.root
-    c.args.entry c.args.node c.grow-top.result c.requires.tree grown (cc) c.paint.ensures.painted _ _
+    c.args.entry c.args.node c.grow-top.result c.requires.tree after_insert (cc) c.paint.ensures.colour _ _
     (search rules) (search rules) u k).tree
 
 pub returns-clause-frame : goal.returns-clause-frame
 returns-clause-frame g c = λ u k.
-    let grown = rw c.new-visits.ensures.nodes at c.grow-top.ensures.grown in
+    let after_insert = rw c.new-visits.ensures.nodes at c.grow-top.ensures.growth in
     frame_beside (inserted_at g c.args.nodes.now c.grow-top.new.visits.nodes.now c.paint.new.visits.nodes.now
-    c.args.root c.args.entry c.args.node c.grow-top.result c.requires.tree grown (cc) c.paint.ensures.painted _ _
+    c.args.root c.args.entry c.args.node c.grow-top.result c.requires.tree after_insert (cc) c.paint.ensures.colour _ _
     (search rules) refl u k)
 
 pub returns-clause-steps : goal.returns-clause-steps

@@ -1,7 +1,7 @@
 use Rattle.std.proofs.Common.{◌≡◌, ℕ, ◌+◌, ◌*◌, ◌<◌, ◌^◌, Some, refl, ap, ◌∙◌, arith, rules}
 use Rattle.link_tree.specs.Tree.{Tree, height}
 use Rattle.link_tree.specs.Sides.{side_of}
-use Rattle.link_tree.specs.Shrinking.{Shrinks}
+use Rattle.link_tree.specs.Shrinking.{IsOrderedTree}
 use Rattle.link_tree.proofs.Keepers.{strict}
 use Rattle.link_tree.proofs.Taking.{cut_step}
 use Rattle.link_tree.proofs.TakingLeast.{shrinks_below, ShrinksBelow}
@@ -10,7 +10,7 @@ use Rattle.link_tree.proofs.removing.+cut.Given.{Over}
 
 -- the tree below, on the side that the node goes to
 below : (g : Over) (s : g.row.N.Denot) (x at : ℕ) (t : Tree)
-    → Shrinks (g.N.Nodes.order s) (g.N.Nodes.cells s) (Some at) t
+    → IsOrderedTree (g.N.Nodes.order s) (g.N.Nodes.cells s) (Some at) t
     → ShrinksBelow (strict g.met.N.Nodes s) (g.N.Nodes.cells s) (side_of (g.N.Nodes.order s x at)) at t
 below g s x at t w =
     shrinks_below (strict g.met.N.Nodes s) (side_of (g.N.Nodes.order s x at)) (g.N.Nodes.cells s) at t w
@@ -19,13 +19,14 @@ pub cut-below-requires : goal.cut-below-requires
 cut-below-requires g t c =
     let way = c.toward-way in
     let b = below g _ c.args.node _ c.requires.tree.0 (rw c.in-Some.is at c.requires.tree.1) in
-    let tree : (u : Tree) × Shrinks (g.N.Nodes.order way.new.self.nodes.now) (g.N.Nodes.cells way.new.self.nodes.now)
+    let tree : (u : Tree) × IsOrderedTree (g.N.Nodes.order way.new.self.nodes.now)
+    (g.N.Nodes.cells way.new.self.nodes.now)
     way.result.link u × (way.new.self.steps + 15 * height u + 60 < 2 ^ 64) =
     (b.tree, rw (way.ensures.nodes, way.ensures.link) b.shrinks, omega arith) in
     λ κs lives. (omega (arith, c.decreases), (search rules, (search rules, (search rules, (search rules, tree)))))
 
-pub settle-requires-clause-room : goal.settle-requires-clause-room
-settle-requires-clause-room g t c =
+pub settle-requires-clause-no_overflow : goal.settle-requires-clause-no_overflow
+settle-requires-clause-no_overflow g t c =
     let b = below g _ c.args.node _ c.requires.tree.0 (rw c.in-Some.is at c.requires.tree.1) in
     let steps = rw (c.toward-way.ensures.nodes, c.toward-way.ensures.link) at c.cut-below.ensures.steps in
     omega (arith, steps b.tree b.shrinks)
@@ -43,7 +44,7 @@ returns-clause-rest g t c = λ u w.
     let x = c.args.node in
     let way = c.toward-way.ensures in
     let eo : g.N.Nodes.order c.cut-below.new.visits.nodes.now ≡ g.N.Nodes.order s =
-    c.cut-below.ensures.same.order ∙ ap (λ (x : g.row.N.Denot). g.N.Nodes.order x) way.nodes in
+    c.cut-below.ensures.keeper.order ∙ ap (λ (x : g.row.N.Denot). g.N.Nodes.order x) way.nodes in
     let cut = rw (way.nodes, way.link) at c.cut-below.ensures.rest in
     let settle = rw (eo, way.side) at c.settle.ensures.settled in
     cut_step (strict g.met.N.Nodes s) (side_of (g.N.Nodes.order s x n)) (g.N.Nodes.cells s)

@@ -1,8 +1,8 @@
 use Rattle.std.proofs.Common.{◌≡◌, ℕ, Bool, List, Option, Some, arith, refl, subst, rules}
 use Rattle.std.specs.Prelude.{IfSome}
 use Rattle.link_tree.specs.Tree.{Cell, Tree, IsSearchTree}
-use Rattle.link_tree.specs.Shrinking.{Shrinks}
-use Rattle.link_tree.specs.Ways.{exit_of}
+use Rattle.link_tree.specs.Shrinking.{IsOrderedTree}
+use Rattle.link_tree.specs.Ways.{remove_point_of}
 use Rattle.link_tree.proofs.Trees.{one_tree, root_in}
 use Rattle.link_tree.proofs.Beginnings.{Begins}
 use Rattle.link_tree.proofs.Exits.{IsTurned, left, turned_whole}
@@ -14,22 +14,22 @@ use Rattle.link_tree.proofs.removing.remove_at.Given.{Over}
 
 shrinks : (g : Over) (s : g.row.N.Denot) (link : Option ℕ) (t : Tree)
     → IsSearchTree (g.N.Nodes.order s) (g.N.Nodes.cells s) link t
-    → Shrinks (g.N.Nodes.order s) (g.N.Nodes.cells s) link t
+    → IsOrderedTree (g.N.Nodes.order s) (g.N.Nodes.cells s) link t
 shrinks g s link t k = record { tree = k.tree; ordered = k.ordered }
 
 below_of : {lt : ℕ → ℕ → Bool} {h : ℕ → Cell} {xs : List ℕ} {change : Tree → Tree} {link : Option ℕ} {t : Tree}
-    (b : Begins lt h xs change link t) → Shrinks lt h link b.below
+    (b : Begins lt h xs change link t) → IsOrderedTree lt h link b.below
 below_of b = record { tree = b.is_tree; ordered = b.ordered }
 
 -- the removal begins at a node of each tree of the root
 begins : (g : Over) (s : g.row.N.Denot) (root exit : Option ℕ) (x p : ℕ) (t u : Tree)
     → IsSearchTree (g.N.Nodes.order s) (g.N.Nodes.cells s) root t
-    → IfSome exit (λ n. exit_of (g.N.Nodes.order s) x t ≡ Some n) → exit ≡ Some p
+    → IfSome exit (λ n. remove_point_of (g.N.Nodes.order s) x t ≡ Some n) → exit ≡ Some p
     → IsSearchTree (g.N.Nodes.order s) (g.N.Nodes.cells s) root u
     → IsTurned (g.N.Nodes.order s) (g.N.Nodes.cells s) x u p
 begins g s root exit x p t u k way is m =
     let e = one_tree (g.N.Nodes.cells s) root t u k.tree m.tree in
-    let at : exit_of (g.N.Nodes.order s) x t ≡ Some p = rw is at way in
+    let at : remove_point_of (g.N.Nodes.order s) x t ≡ Some p = rw is at way in
     subst (λ v. IsTurned (g.N.Nodes.order s) (g.N.Nodes.cells s) x v p) e
     (turned_whole (strict g.met.N.Nodes s) (g.N.Nodes.cells s) x root t p k at)
 
@@ -104,8 +104,8 @@ cut-rest-requires-clause-tree g c =
     let zero = c.new-visits.ensures.steps in
     (t.0, rw c.new-visits.ensures.nodes (shrinks g s c.args.root t.0 t.1), omega arith)
 
-pub paint-requires-clause-room : goal.paint-requires-clause-room
-paint-requires-clause-room g c =
+pub paint-requires-clause-no_overflow : goal.paint-requires-clause-no_overflow
+paint-requires-clause-no_overflow g c =
     let t = c.requires.tree in
     let s = c.args.nodes.now in
     let low = low_tree g.met.N.Nodes s t.1 c.requires.root in
@@ -118,7 +118,7 @@ returns-clause-tree g c = λ u k.
     let s = c.args.nodes.now in
     let cut = rw c.new-visits.ensures.nodes at c.cut-rest.ensures.rest in
     let eo : g.N.Nodes.order c.cut-rest.new.visits.nodes.now ≡ g.N.Nodes.order s = cc in
-    let black = rw eo at c.paint.ensures.painted in
+    let black = rw eo at c.paint.ensures.colour in
     (removed (strict g.met.N.Nodes s) _ (g.N.Nodes.cells s) (g.N.Nodes.cells c.cut-rest.new.visits.nodes.now)
     (g.N.Nodes.cells c.paint.new.visits.nodes.now) _ c.args.root c.cut-rest.result.root c.cut-rest.result.fell
     c.args.node u k (cut u (shrinks g s c.args.root u k)) black (search rules) (search rules)).tree
@@ -128,7 +128,7 @@ returns-clause-frame g c = λ u k.
     let s = c.args.nodes.now in
     let cut = rw c.new-visits.ensures.nodes at c.cut-rest.ensures.rest in
     let eo : g.N.Nodes.order c.cut-rest.new.visits.nodes.now ≡ g.N.Nodes.order s = cc in
-    let black = rw eo at c.paint.ensures.painted in
+    let black = rw eo at c.paint.ensures.colour in
     (removed (strict g.met.N.Nodes s) _ (g.N.Nodes.cells s) (g.N.Nodes.cells c.cut-rest.new.visits.nodes.now)
     (g.N.Nodes.cells c.paint.new.visits.nodes.now) _ c.args.root c.cut-rest.result.root c.cut-rest.result.fell
     c.args.node u k (cut u (shrinks g s c.args.root u k)) black (search rules) refl).frame

@@ -7,9 +7,9 @@ use Rattle.link_tree.proofs.removing.settle.Goals as goal
 pub returns-then-below-clause-settled : goal.returns-then-below-clause-settled
 returns-then-below-clause-settled g c = λ near far wn wf o.
     let s = c.args.visits.now.nodes.now in
-    let eo : g.N.Nodes.order c.set_child.new.self.nodes.now ≡ g.N.Nodes.order s = c.set_child.ensures.same.order in
+    let eo : g.N.Nodes.order c.set_child.new.self.nodes.now ≡ g.N.Nodes.order s = c.set_child.ensures.keeper.order in
     let es : c.other.result ≡ opposite c.args.side = c.other.ensures in
-    let mend = rw (eo, es) at c.mend.ensures.mended in
+    let mend = rw (eo, es) at c.mend.ensures.repair in
     rw c.if-below.true (settle_mended (strict g.met.N.Nodes s) c.args.side (g.N.Nodes.cells s)
     (g.N.Nodes.cells c.set_child.new.self.nodes.now) (g.N.Nodes.cells c.mend.new.visits.nodes.now)
     c.args.parent near far c.args.below.root c.mend.result.root c.mend.result.fell wn wf o c.set_child.ensures.cells

@@ -1,18 +1,18 @@
 use Rattle.std.proofs.Common.{refl, ◌≡◌, Bool, ℕ, ◌+◌, ◌*◌, ◌≤◌, Option, Some, sym, ap, subst, ◌∙◌, arith}
 use Rattle.link_tree.specs.Tree.{Tree, height}
 use Rattle.link_tree.specs.Nodes.{with_left, with_red}
-use Rattle.link_tree.specs.Shrinking.{Shrinks, uprooted}
+use Rattle.link_tree.specs.Shrinking.{IsOrderedTree, uprooted}
 use Rattle.link_tree.proofs.Trees.{some_same}
 use Rattle.link_tree.proofs.Taking.{uproot_more}
 use Rattle.link_tree.proofs.TakingLeast.{child_tree, HasChild, sink_far}
-use Rattle.link_tree.specs.declared.visits.Side.TheVariants.{Right}
+use Rattle.link_tree.specs.declared.cursor.Side.TheVariants.{Right}
 use Rattle.link_tree.proofs.Keepers.{strict}
 use Rattle.link_tree.proofs.removing.uproot.Goals as goal
 use Rattle.link_tree.proofs.removing.uproot.Goals.{After-child}
 use Rattle.link_tree.proofs.removing.uproot.Given.{Over}
 
 right_tree : (g : Over) (s : g.row.N.Denot) (at right : ℕ) (t : Tree)
-    → Shrinks (g.N.Nodes.order s) (g.N.Nodes.cells s) (Some at) t → (g.N.Nodes.cells s at).right ≡ Some right
+    → IsOrderedTree (g.N.Nodes.order s) (g.N.Nodes.cells s) (Some at) t → (g.N.Nodes.cells s at).right ≡ Some right
     → HasChild (strict g.met.N.Nodes s) (g.N.Nodes.cells s) Right at right t
 right_tree g s at right t w e = child_tree (strict g.met.N.Nodes s) Right (g.N.Nodes.cells s) at right t w e
 
@@ -41,18 +41,18 @@ returns-in_default-clause-rest g c = λ u w.
     let r = read g (goal.at.returns-in_default-clause-rest g c).After-child in
     let s = c.args.visits.now.nodes.now in
     let h = g.N.Nodes.cells s in
-    let sink = rw (r.here, r.left_is, r.red_is) at c.sink.ensures.sunk in
+    let sink = rw (r.here, r.left_is, r.red_is) at c.sink.ensures.descent in
     sink_far (strict g.met.N.Nodes s) Right uprooted h (g.N.Nodes.cells c.sink.new.visits.nodes.now) c.args.at
     c.sink.result.root c.sink.result.fell u w (sym r.right_is ∙ c.in_default.is) (λ r x. refl) sink
 
-pub take_least-next-requires-clause-away : goal.take_least-next-requires-clause-away
-take_least-next-requires-clause-away g c = λ k.
-    let r = read g (goal.at.take_least-next-requires-clause-away g c).After-child in
+pub take_least-next-requires-clause-removal : goal.take_least-next-requires-clause-removal
+take_least-next-requires-clause-removal g c = λ k.
+    let r = read g (goal.at.take_least-next-requires-clause-removal g c).After-child in
     let s = c.args.visits.now.nodes.now in
     let right = c.in-Some.right in
     let is_right : (g.N.Nodes.cells s c.args.at).right ≡ Some right = sym r.right_is ∙ c.in-Some.is in
     let b = right_tree g s c.args.at right c.requires.tree.0 c.requires.tree.1 is_right in
-    b.apart (some_same right c.args.at (sym k ∙ c.child.ensures.at))
+    b.apart (some_same right c.args.at (sym k ∙ c.child.ensures.position))
 
 pub take_least-next-requires-clause-tree : goal.take_least-next-requires-clause-tree
 take_least-next-requires-clause-tree g c =
@@ -61,40 +61,43 @@ take_least-next-requires-clause-tree g c =
     let right = c.in-Some.right in
     let is_right : (g.N.Nodes.cells s c.args.at).right ≡ Some right = sym r.right_is ∙ c.in-Some.is in
     let b = right_tree g s c.args.at right c.requires.tree.0 c.requires.tree.1 is_right in
-    let shrinks : Shrinks (g.N.Nodes.order c.child.new.self.nodes.now) (g.N.Nodes.cells c.child.new.self.nodes.now)
-    (Some right) b.tree = subst (λ (x : g.row.N.Denot). Shrinks (g.N.Nodes.order x) (g.N.Nodes.cells x) (Some right)
+    let shrinks : IsOrderedTree (g.N.Nodes.order c.child.new.self.nodes.now)
+    (g.N.Nodes.cells c.child.new.self.nodes.now)
+    (Some right) b.tree = subst (λ (x : g.row.N.Denot).
+    IsOrderedTree (g.N.Nodes.order x) (g.N.Nodes.cells x) (Some right)
     b.tree) (sym r.here) b.shrinks in
     (b.tree, shrinks, omega arith)
 
 -- the steps of `take_least`
-spent : (g : Over) (s s' : g.row.N.Denot) (at right : ℕ) (t : Tree) (steps steps' more : ℕ) → Shrinks
+spent : (g : Over) (s s' : g.row.N.Denot) (at right : ℕ) (t : Tree) (steps steps' more : ℕ) → IsOrderedTree
     (g.N.Nodes.order s) (g.N.Nodes.cells s) (Some at) t
-    → ((u : Tree) → Shrinks (g.N.Nodes.order s') (g.N.Nodes.cells s') (Some right) u → steps' + more ≤ steps + 14 *
+    → ((u : Tree) → IsOrderedTree (g.N.Nodes.order s') (g.N.Nodes.cells s') (Some right) u
+    → steps' + more ≤ steps + 14 *
     height u + 9) → (g.N.Nodes.cells s at).right ≡ Some right → s' ≡ s → steps' + 5 ≤ steps + 14 * height t
 spent g s s' at right t steps steps' more w told e same =
     let b = right_tree g s at right t w e in
     let here = rw same at told in
     omega (arith, here b.tree b.shrinks)
 
-pub set_child-requires-clause-room : goal.set_child-requires-clause-room
-set_child-requires-clause-room g c =
-    let r = read g (goal.at.set_child-requires-clause-room g c).After-child in
+pub set_child-requires-clause-no_overflow : goal.set_child-requires-clause-no_overflow
+set_child-requires-clause-no_overflow g c =
+    let r = read g (goal.at.set_child-requires-clause-no_overflow g c).After-child in
     let few = spent g c.args.visits.now.nodes.now _ c.args.at c.in-Some.right c.requires.tree.0 _ _ _ c.requires.tree.1
     c.take_least-next.ensures.steps (sym r.right_is ∙ c.in-Some.is) r.here in
     let room = c.requires.tree.2 in
     omega arith
 
-pub set_red-requires-clause-room : goal.set_red-requires-clause-room
-set_red-requires-clause-room g c =
-    let r = read g (goal.at.set_red-requires-clause-room g c).After-child in
+pub set_red-requires-clause-no_overflow : goal.set_red-requires-clause-no_overflow
+set_red-requires-clause-no_overflow g c =
+    let r = read g (goal.at.set_red-requires-clause-no_overflow g c).After-child in
     let few = spent g c.args.visits.now.nodes.now _ c.args.at c.in-Some.right c.requires.tree.0 _ _ _ c.requires.tree.1
     c.take_least-next.ensures.steps (sym r.right_is ∙ c.in-Some.is) r.here in
     let room = c.requires.tree.2 in
     omega arith
 
-pub settle-requires-clause-room : goal.settle-requires-clause-room
-settle-requires-clause-room g c =
-    let r = read g (goal.at.settle-requires-clause-room g c).After-child in
+pub settle-requires-clause-no_overflow : goal.settle-requires-clause-no_overflow
+settle-requires-clause-no_overflow g c =
+    let r = read g (goal.at.settle-requires-clause-no_overflow g c).After-child in
     let few = spent g c.args.visits.now.nodes.now _ c.args.at c.in-Some.right c.requires.tree.0 _ _ _ c.requires.tree.1
     c.take_least-next.ensures.steps (sym r.right_is ∙ c.in-Some.is) r.here in
     let room = c.requires.tree.2 in
@@ -108,7 +111,7 @@ returns-clause-rest g c = λ u w.
     let right = c.in-Some.right in
     let is_right : (h c.args.at).right ≡ Some right = sym r.right_is ∙ c.in-Some.is in
     let eo : g.N.Nodes.order c.set_red.new.self.nodes.now ≡ g.N.Nodes.order s =
-    c.set_red.ensures.same.order ∙ (c.set_child.ensures.same.order ∙ (c.take_least-next.ensures.same.order
+    c.set_red.ensures.keeper.order ∙ (c.set_child.ensures.keeper.order ∙ (c.take_least-next.ensures.keeper.order
     ∙ ap (λ (x : g.row.N.Denot). g.N.Nodes.order x) r.here)) in
     let node = rw r.here at c.take_least-next.ensures.node in
     let take = rw r.here at c.take_least-next.ensures.rest in

@@ -28,7 +28,7 @@ walk_below-requires g t c =
     let tree : (u : Tree) × IsAhead (g.N.Nodes.order c.right-right.new.self.nodes.now)
     (g.N.Nodes.cells c.right-right.new.self.nodes.now) c.left-left.result (c.args.levels - 1) c.right-right.new.self.at
     u × (c.right-right.new.self.steps + length (nodes_of u) + 1 < 2 ^ 64) =
-    (p.left, rw (e, left) (p.left_ahead c.right-right.new.self.at c.right-right.ensures.at), omega arith) in
+    (p.left, rw (e, left) (p.left_ahead c.right-right.new.self.at c.right-right.ensures.position), omega arith) in
     let good : leads (g.N.Nodes.is_node c.right-right.new.self.nodes.now) c.left-left.result ≡ true = rw (e, left)
     (g.met.N.Nodes.left_closed s n (rw c.in-Some.is at c.requires.link)) in
     λ κs lives. (
@@ -48,8 +48,8 @@ both g t c u a =
     let n = c.in-Some.node in
     let same : c.right-right.new.self.nodes.now ≡ s = c.right-right.ensures.nodes ∙ c.left-left.ensures.nodes in
     both_ahead g.N.Nodes.order g.N.Nodes.cells n c.args.levels (nodes_of u) s _ _ _ _ _ _ c.args.visits.now.at
-    (ahead g s n c.args.levels c.args.link c.args.visits.now.at u c.in-Some.is a) c.right-right.ensures.at
-    c.walk_below.ensures.at same (c.walk_below.ensures.nodes ∙ same) c.left-left.ensures.value
+    (ahead g s n c.args.levels c.args.link c.args.visits.now.at u c.in-Some.is a) c.right-right.ensures.position
+    c.walk_below.ensures.position same (c.walk_below.ensures.nodes ∙ same) c.left-left.ensures.value
     (c.right-right.ensures.value ∙ ap (λ (x : g.row.N.Denot). (g.N.Nodes.cells x n).right) c.left-left.ensures.nodes)
 
 pub walk_below-requires-2 : goal.walk_below-requires-2
@@ -62,7 +62,7 @@ walk_below-requires-2 g t c =
     c.right-right.ensures.value ∙ ap (λ (x : g.row.N.Denot). (g.N.Nodes.cells x c.in-Some.node).right)
     c.left-left.ensures.nodes in
     let spent = c.walk_below.ensures.steps b.left b.left_ahead in
-    let stays = c.right-right.ensures.stays c.left-left.ensures.at in
+    let stays = c.right-right.ensures.unchanged c.left-left.ensures.position in
     let room = c.requires.tree.2 in
     let size = b.size in
     let positive = b.positive in
@@ -85,31 +85,32 @@ walk_below-requires-2 g t c =
       ),
     )
 
-pub returns-clause-walked : goal.returns-clause-walked
-returns-clause-walked g t c = λ u a.
-    let b = both g t (goal.at.returns-clause-walked g t c).After-walk_below u a in
+pub returns-clause-walk : goal.returns-clause-walk
+returns-clause-walk g t c = λ u a.
+    let b = both g t (goal.at.returns-clause-walk g t c).After-walk_below u a in
     rw b.nodes (folds_join (λ x k y. goal.F-step g x k tt y) c.args.visit.now (nodes_of b.left) c.walk_below.new.visit
     c.in-Some.node c.visit.new.self (nodes_of b.right) c.walk_below-2.new.visit
-    (c.walk_below.ensures.walked b.left b.left_ahead) (search (rules, c.visit.ensures))
-    (c.walk_below-2.ensures.walked b.right b.right_ahead))
+    (c.walk_below.ensures.walk b.left b.left_ahead) (search (rules, c.visit.ensures))
+    (c.walk_below-2.ensures.walk b.right b.right_ahead))
 
 pub returns-clause-steps : goal.returns-clause-steps
 returns-clause-steps g t c = λ u a.
     let b = both g t (goal.at.returns-clause-steps g t c).After-walk_below u a in
     let comes = (ahead g c.args.visits.now.nodes.now c.in-Some.node c.args.levels c.args.link c.args.visits.now.at u
     c.in-Some.is a).comes in
-    let goes = c.left-left.ensures.goes comes in
-    let stays = c.right-right.ensures.stays c.left-left.ensures.at in
+    let goes = c.left-left.ensures.progress_on_step comes in
+    let stays = c.right-right.ensures.unchanged c.left-left.ensures.position in
     let spent = c.walk_below.ensures.steps b.left b.left_ahead in
     let spent-2 = c.walk_below-2.ensures.steps b.right b.right_ahead in
     let size = b.size in
     omega arith
 
-pub returns-clause-at : goal.returns-clause-at
-returns-clause-at g t c = λ u a m out here.
+pub returns-clause-position : goal.returns-clause-position
+returns-clause-position g t c = λ u a m out here.
     let n = c.in-Some.node in
-    let b = both g t (goal.at.returns-clause-at g t c).After-walk_below u a in
+    let b = both g t (goal.at.returns-clause-position g t c).After-walk_below u a in
     let o = outside_parts m (nodes_of b.left) n (nodes_of b.right) (rw b.nodes at out) in
-    let at_node = c.right-right.ensures.at in
-    c.walk_below-2.ensures.at b.right b.right_ahead m o.right (c.walk_below.ensures.at b.left b.left_ahead m o.left
+    let at_node = c.right-right.ensures.position in
+    c.walk_below-2.ensures.position b.right b.right_ahead m o.right
+    (c.walk_below.ensures.position b.left b.left_ahead m o.left
     (λ f. o.middle (some_same m n (sym f ∙ at_node))))

@@ -1,13 +1,17 @@
 use Rattle.std.proofs.Common.{◌≡◌, ◌+◌, ◌-◌, ◌*◌, ◌≤◌, false, ◌==◌, not}
 use Rattle.raw_region.specs.Memory.{bytes_of, patched}
-use Rattle.offset_link.specs.Relinked.{by_distance, reworded, AreEven, NoneIsNull}
+use Rattle.offset_link.specs.Relinked.{word_by_distance, reworded, BothEven, HasNoNullLink}
 use Rattle.offset_link.proofs.moves.turns_up.Given as goal
 
 abbrev pub invariant-runs : goal.invariant-runs
 invariant-runs g l = record {
   some : l.left ≤ l.n;
-  moved : l.bytes ≡ patched l.initial.bytes (l.at + l.by + 64 * l.left) (reworded by_distance (bytes_of l.initial.bytes) (l.at + 64 * l.left) (l.at + l.by + 64 * l.left) (8 * (l.n - l.left)));
-  seen : not (g.row.NON_NULL == 0) ≡ false → AreEven l.seen.first l.seen.second → AreEven l.fn.before.first l.fn.before.second × NoneIsNull (bytes_of l.initial.bytes) (l.at + 64 * l.left) (8 * (l.n - l.left));
+  moved : l.bytes ≡ patched l.initial.bytes (l.at + l.by + 64 * l.left)
+      (reworded word_by_distance (bytes_of l.initial.bytes) (l.at + 64 * l.left) (l.at + l.by + 64 * l.left)
+      (8 * (l.n - l.left)));
+  seen : not (g.row.NON_NULL == 0) ≡ false → BothEven l.seen.first l.seen.second
+      → BothEven l.fn.before.first l.fn.before.second
+      × HasNoNullLink (bytes_of l.initial.bytes) (l.at + 64 * l.left) (8 * (l.n - l.left));
 }
 
 abbrev pub decreases-runs : goal.decreases-runs

@@ -9,6 +9,7 @@ pieces-preserved g c =
     let none_failed = took_some n (length (take (length b - i) (drop i b))) c.if-count-eq0.false in
     record {
       within = grind (arith, common_steps);
-      taken = took_more (g.S.Sink.history c.args.sink.now).bytes (g.S.Sink.history c.pieces.sink).bytes (g.S.Sink.history c.write.new.self).bytes b i n c.pieces.invariant.taken c.in_ok-count.ensures.bytes;
-      failures = omega (arith, none_failed, c.in_ok-count.ensures.counted, c.pieces.invariant.failures);
+      taken = took_more (g.S.Sink.history c.args.sink.now).bytes (g.S.Sink.history c.pieces.sink).bytes
+          (g.S.Sink.history c.write.new.self).bytes b i n c.pieces.invariant.taken c.in_ok-count.ensures.bytes;
+      failures = omega (arith, none_failed, c.in_ok-count.ensures.failures, c.pieces.invariant.failures);
     }

@@ -5,4 +5,7 @@ use Rattle.raw_region.proofs.slices.hold_bytes.Goals as goal
 
 pub returns : goal.returns
 returns c =
-    record { each = λ k. omega (arith, c.type_inv.bytes k); all = fits-are_bytes c.args.bytes.now (λ k. omega (arith, c.type_inv.bytes k)) }
+    record {
+      each_element = λ k. omega (arith, c.type_inv.bytes k);
+      every = fits-are_bytes c.args.bytes.now (λ k. omega (arith, c.type_inv.bytes k));
+    }

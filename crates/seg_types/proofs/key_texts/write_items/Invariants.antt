@@ -6,4 +6,5 @@ use Rattle.seg_types.proofs.key_texts.write_items.Given as goal
 
 abbrev pub invariant-items : goal.invariant-items
 invariant-items g l =
-    IsPlainFormatter l.initial.f → HasWritten g.W.Write.write_str_gives l.initial.f (flat_map item_text (take l.byte-index l.text)) l.f
+    IsPlainFormatter l.initial.f → HasWritten g.W.Write.write_str_gives l.initial.f
+    (flat_map item_text (take l.byte-index l.text)) l.f

@@ -1,6 +1,8 @@
 -- One value more is spelled behind the others.
-use Rattle.seg_vector.proofs.{◌≡◌, ◌≤◌, sym, ap, subst, ◌∙◌, refl, ℕ, suc, ◌+◌, ◌*◌, ◌++◌, ◌∷◌, [], arith, length, IsTrue}
-use Rattle.seg_vector.proofs.{all-next, flat_map, length-take, more-times, list_all, patched, spelled-next, take, take-suc}
+use Rattle.seg_vector.proofs.{◌≡◌, ◌≤◌, sym, ap, subst, ◌∙◌, refl, ℕ, suc, ◌+◌, ◌*◌, ◌++◌, ◌∷◌, [], arith, length}
+use Rattle.seg_vector.proofs.{IsTrue}
+use Rattle.seg_vector.proofs.{all-next, flat_map, length-take, more-times, list_all, patched, spelled-next, take}
+use Rattle.seg_vector.proofs.{take-suc}
 use Rattle.seg_vector.proofs.elements.put_spellings.Goals as goal
 
 pub values-preserved : goal.values-preserved
@@ -13,7 +15,8 @@ values-preserved g c =
     ∙ ap (λ z. front ++ z ∷ []) (sym c.index-values-i.is) in
     let many : length front ≡ i = omega (arith, length-take i vs, c.values-test.true) in
     let step : size * (i + 1) ≡ size * i + size = omega arith in
-    let within : size * (i + 1) ≤ size * length vs = more-times size (i + 1) (length vs) (omega (arith, c.values-test.true))
+    let within : size * (i + 1) ≤ size * length vs =
+    more-times size (i + 1) (length vs) (omega (arith, c.values-test.true))
     in
     let at : c.args.from + c.SIZE-each.result * i ≡ c.args.from + size * length front =
     λ k. c.args.from + c.SIZE-each.ensures k * sym many k in

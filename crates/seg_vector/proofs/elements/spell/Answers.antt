@@ -1,5 +1,6 @@
 -- The values are spelled into the payload of the block, which the heap has then.
-use Rattle.seg_vector.proofs.{◌+◌, ◌*◌, ◌≤◌, ap, sym, subst, ◌∙◌, ℕ, List, Has, IsChanged, IsTrue, bytes_of, current}
+use Rattle.seg_vector.proofs.{◌+◌, ◌*◌, ◌≤◌, ap, sym, subst, ◌∙◌, ℕ, List, HasBytesAt, ChangesBytes, IsTrue, bytes_of}
+use Rattle.seg_vector.proofs.{current}
 use Rattle.seg_vector.proofs.{flat-long, flat_map, has_room, length, live-if, live_of, patched, payload-room}
 use Rattle.seg_vector.proofs.{payload-spelled}
 use Rattle.best_fit.specs.Heap.{with_payload}
@@ -15,14 +16,15 @@ put_spellings-requires g c =
     subst (λ (bs : List ℕ). n ≤ length bs) (sym c.block_mut.ensures.bytes)
     (payload-room c.args.heap.now c.args.handle n c.requires.heap c.requires.room)
 
-pub returns-clause-change : goal.returns-clause-change
-returns-clause-change g c =
+pub returns-clause-changes : goal.returns-clause-changes
+returns-clause-changes g c =
     let bs = flat_map g.T.Plain.spelling c.args.values.now in
     let long = flat-long g.T.Plain.SIZE g.T.Plain.is_value g.T.Plain.spelling g.met.T.Plain.spells c.args.values.now
     c.put_spellings.ensures.values in
     let room = subst (λ k. IsTrue (has_room (live_of c.args.heap.now.bytes) c.args.handle (c.args.at + k))) (sym long)
     c.requires.room in
-    subst (λ k. IsChanged current c.args.heap.now (with_payload c.args.heap.now c.args.handle c.put_spellings.new.row)
+    subst (λ k. ChangesBytes current c.args.heap.now
+    (with_payload c.args.heap.now c.args.handle c.put_spellings.new.row)
     (c.args.handle + c.args.at) k) long (payload-spelled c.loans_write_one_block.ensures c.args.heap.now c.args.handle
     c.args.at bs c.requires.heap room c.put_spellings.new.row (c.put_spellings.ensures.row
     ∙ ap (λ (p : List ℕ). patched p c.args.at bs) c.block_mut.ensures.bytes)).0

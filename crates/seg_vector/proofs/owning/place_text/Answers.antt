@@ -10,4 +10,4 @@ write-requires c = allocated-room _ _ _ _ _ _ (0 + length c.args.text.now) c.in_
 
 pub returns : goal.returns
 returns c = placed-some c.args.text.now (omega (arith, c.if-len-eq0.false)) c.in_ok-block.ensures
-    c.write.ensures.change c.write.ensures.content
+    c.write.ensures.changes c.write.ensures.content

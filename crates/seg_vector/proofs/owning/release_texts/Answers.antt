@@ -1,5 +1,6 @@
 -- The next text is released, and those behind it are left.
-use Rattle.seg_vector.proofs.{arith, refl, element-left, released-nothing-next, releases-begin, releases-next, has-element}
+use Rattle.seg_vector.proofs.{arith, refl, element-left, released-nothing-next, releases-begin, releases-next}
+use Rattle.seg_vector.proofs.{has-element}
 use Rattle.seg_vector.proofs.owning.release_texts.Goals as goal
 
 pub loop-i-init : goal.loop-i-init

@@ -2,8 +2,8 @@
 use Rattle.seg_vector.proofs.{sym, ap, length, err_from_is_err_and, within, within-err, within-ok}
 use Rattle.seg_vector.proofs.text_arrays.insert_within.Goals as goal
 
-pub put_in-requires : goal.put_in-requires
-put_in-requires c =
+pub insert_element-requires : goal.insert_element-requires
+insert_element-requires c =
     let r = c.requires in let w = within r.texts r.space c.in_ok-block.ensures in
     record {
       first = c.args.heap.now;
@@ -25,5 +25,6 @@ returns-in_err-block c ps t s inside space =
 pub returns : goal.returns
 returns c ps t s inside space =
     let pl = c.in_ok-block.ensures in let w = within s space pl in
-    within-ok ps c.args.index t.extent space pl w.extent (c.put_in.ensures c.args.heap.now ps t w.array t.capacity
+    within-ok ps c.args.index t.extent space pl w.extent
+    (c.insert_element.ensures c.args.heap.now ps t w.array t.capacity
     pl.text w.ready inside pl.at (ap length (sym pl.same)))

@@ -18,8 +18,13 @@ told_in r = elim r as (λ _. Result Kind Refusal) [ None ↦ Err NotFound | Some
 
 pub returns-in-Ok : goal.returns-in-Ok
 returns-in-Ok c = record {
-  answers = λ d st. c.element_kind.ensures ∙ ap kind_in ((kind-by_key c.args.segment.now (key_seen c.args.key.now) c.in-Ok.object c.in-Ok.ensures).answers d st);
+  answers = λ d st. c.element_kind.ensures
+      ∙ ap kind_in ((kind-by_key c.args.segment.now (key_seen c.args.key.now) c.in-Ok.object
+      c.in-Ok.ensures).answers d st);
 }
 
 pub returns-in-Err : goal.returns-in-Err
-returns-in-Err c = record { answers = λ d st. ap (λ (r : Option Object). kind_in (told_in r)) (sym (c.in-Err.ensures.missing d st)) }
+returns-in-Err c = record {
+  answers = λ d st.
+      ap (λ (r : Option Object). kind_in (told_in r)) (sym (c.in-Err.ensures.missing d st));
+}

@@ -2,7 +2,7 @@ use Rattle.std.proofs.Common.{◌∙◌, ap, subst}
 use Rattle.seg_types.specs.declared.kinds.Kind.TheVariants.{Vector}
 use Rattle.seg_types.specs.Commands.{Pop}
 use Rattle.seg_types.specs.Keys.{key_seen}
-use Rattle.segment_manager.specs.State.{StandsFor}
+use Rattle.segment_manager.specs.State.{DenotesCurrent}
 use Rattle.segment_manager.specs.Step.{step_of_kind}
 use Rattle.segment_c.proofs.elements.pop.Goals as goal
 
@@ -13,6 +13,9 @@ returns-clause-step c =
     let r = c.pop_of_kind.ensures.step in
     record {
       stays = r.stays;
-      answers = λ d st. r.answers d st ∙ ap (λ k. (step_of_kind s.mode d key (Vector k) (Pop key)).0) (c.kind_of_vector-kind.ensures.answers d st);
-      denotes = λ d st. subst (λ k. StandsFor c.pop_of_kind.new.segment.cut.bytes (step_of_kind s.mode d key (Vector k) (Pop key)).1) (c.kind_of_vector-kind.ensures.answers d st) (r.denotes d st);
+      answers = λ d st. r.answers d st
+          ∙ ap (λ k. (step_of_kind s.mode d key (Vector k) (Pop key)).0) (c.kind_of_vector-kind.ensures.answers d st);
+      denotes = λ d st. subst (λ k. DenotesCurrent c.pop_of_kind.new.segment.cut.bytes
+          (step_of_kind s.mode d key (Vector k) (Pop key)).1) (c.kind_of_vector-kind.ensures.answers d st)
+          (r.denotes d st);
     }

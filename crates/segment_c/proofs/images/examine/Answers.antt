@@ -5,8 +5,8 @@ use Rattle.image_check.specs.declared.classes.ImageClass.TheVariants.{Truncated}
 use Rattle.segment_c.proofs.OpenedImages.{said_more}
 use Rattle.segment_c.proofs.images.examine.Goals as goal
 
-pub returns-then-len-size-clause-why : goal.returns-then-len-size-clause-why
-returns-then-len-size-clause-why c = λ _.
+pub returns-then-len-size-clause-cause : goal.returns-then-len-size-clause-cause
+returns-then-len-size-clause-cause c = λ _.
     inr (
       Truncated,
       c.class_code.ensures,

@@ -3,12 +3,12 @@ use Rattle.std.proofs.Common.{length}
 use Rattle.segment_c.proofs.OpenedImages.{explained, not_small}
 use Rattle.segment_c.proofs.images.examine_in.Goals as goal
 
-pub returns-in-Ok-clause-holds : goal.returns-in-Ok-clause-holds
-returns-in-Ok-clause-holds c = λ _.
+pub returns-in-Ok-clause-owner : goal.returns-in-Ok-clause-owner
+returns-in-Ok-clause-owner c = λ _.
     let d = c.in-Ok.ensures.examines.answers.opened.denotes in (d.0, record { denotes = d.1 })
 
-pub returns-in-Image-clause-why : goal.returns-in-Image-clause-why
-returns-in-Image-clause-why c = λ _.
+pub returns-in-Image-clause-cause : goal.returns-in-Image-clause-cause
+returns-in-Image-clause-cause c = λ _.
     explained c.args.image.now (length c.args.region) _ c.in-Err.ensures.examines.answers.why c.in-Image.verdict
     c.class_code.result c.args.place.now c.in-Image.is c.in-Err.ensures.examines.shown c.class_code.ensures
 

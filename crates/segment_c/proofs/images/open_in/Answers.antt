@@ -5,8 +5,11 @@ use Rattle.segment_c.proofs.images.open_in.Goals as goal
 pub returns-in-Image : goal.returns-in-Image
 returns-in-Image c =
     let o = c.in-Err.ensures.opens in
-    let code = c.class_code.ensures in
-    (omega (arith, code), why_class c.args.image.now (length c.args.region) _ o.answers.why o.too_small c.in-Image.class c.class_code.result c.in-Image.is code)
+    let code = c.class_code.ensures in (
+      omega (arith, code),
+      why_class c.args.image.now (length c.args.region) _ o.answers.why o.too_small
+          c.in-Image.class c.class_code.result c.in-Image.is code,
+    )
 
 pub returns-in-RegionTooSmall : goal.returns-in-RegionTooSmall
 returns-in-RegionTooSmall c =

@@ -2,5 +2,5 @@
 use Rattle.segment_c.proofs.OpenedImages.{without_place}
 use Rattle.segment_c.proofs.images.zx_check.Goals as goal
 
-pub returns-clause-why : goal.returns-clause-why
-returns-clause-why c = λ l. without_place c.args.image.now c.examine.result _ _ (c.examine.ensures.why l)
+pub returns-clause-cause : goal.returns-clause-cause
+returns-clause-cause c = λ l. without_place c.args.image.now c.examine.result _ _ (c.examine.ensures.cause l)

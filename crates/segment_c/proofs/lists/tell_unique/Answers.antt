@@ -7,15 +7,23 @@ use Rattle.segment_c.proofs.lists.tell_unique.Goals as goal
 
 pub unique_instance-requires : goal.unique_instance-requires
 unique_instance-requires c = record {
-  below = λ d st. omega (arith, c.if-index-num_unique.false, unique_is c.args.segment.now.mode d c.num_unique.result (c.num_unique.ensures.answers d st));
+  below = λ d st. omega (
+    arith,
+    c.if-index-num_unique.false,
+    unique_is c.args.segment.now.mode d c.num_unique.result (c.num_unique.ensures.answers d st),
+  );
 }
 
-pub returns-then-index-num_unique-clause-told : goal.returns-then-index-num_unique-clause-told
-returns-then-index-num_unique-clause-told c = λ d st.
+pub returns-then-index-num_unique-clause-read : goal.returns-then-index-num_unique-clause-read
+returns-then-index-num_unique-clause-read c = λ d st.
     subst (TellsAlone c.args.info.now 8)
-    (sym (slice_get_past (unique_objects d) c.args.index (omega (arith, c.if-index-num_unique.true, unique_is c.args.segment.now.mode d c.num_unique.result (c.num_unique.ensures.answers d st))))) refl
+    (sym (slice_get_past (unique_objects d) c.args.index (omega (
+      arith,
+      c.if-index-num_unique.true,
+      unique_is c.args.segment.now.mode d c.num_unique.result (c.num_unique.ensures.answers d st),
+    )))) refl
 
-pub returns-clause-told : goal.returns-clause-told
-returns-clause-told c = λ d st.
+pub returns-clause-read : goal.returns-clause-read
+returns-clause-read c = λ d st.
     let said = c.unique_instance.ensures.says d st in
     subst (TellsAlone c.of.result 0) (sym said.1) (refl, c.of.ensures said.0 said.2)

@@ -6,17 +6,18 @@ use Rattle.segment_c.proofs.resizing.grow.Goals as goal
 pub returns-in-Ok-clause-code : goal.returns-in-Ok-clause-code
 returns-in-Ok-clause-code c = grown_code c.args.segment.now c.grow_or_move.new.segment c.args.extra c.in-Ok.ensures
 
-pub returns-in-Ok-clause-grown : goal.returns-in-Ok-clause-grown
-returns-in-Ok-clause-grown c = λ _. record { mode = c.in-Ok.ensures.mode; denotes = c.in-Ok.ensures.denotes }
+pub returns-in-Ok-clause-growth : goal.returns-in-Ok-clause-growth
+returns-in-Ok-clause-growth c = λ _. record { mode = c.in-Ok.ensures.mode; denotes = c.in-Ok.ensures.denotes }
 
 pub returns-in-Err-clause-code : goal.returns-in-Err-clause-code
 returns-in-Err-clause-code c = λ d st.
     subst (λ n. IsGrowthCode c.args.segment.now.mode c.args.extra n d) (sym c.code_of_growing.ensures.code)
     (refused_code c.args.segment.now c.grow_or_move.new.segment c.args.extra c.in-Err.why c.in-Err.ensures d st)
 
-pub returns-in-Err-clause-grown : goal.returns-in-Err-clause-grown
-returns-in-Err-clause-grown c = λ e.
+pub returns-in-Err-clause-growth : goal.returns-in-Err-clause-growth
+returns-in-Err-clause-growth c = λ e.
     let some = is_code c.in-Err.why in let same = c.code_of_growing.ensures.code in absurd (omega arith)
 
-pub returns-in-Err-clause-kept : goal.returns-in-Err-clause-kept
-returns-in-Err-clause-kept c = λ _. kept_same c.args.segment.now c.grow_or_move.new.segment c.args.extra c.in-Err.why c.in-Err.ensures
+pub returns-in-Err-clause-unchanged_on_error : goal.returns-in-Err-clause-unchanged_on_error
+returns-in-Err-clause-unchanged_on_error c =
+    λ _. kept_same c.args.segment.now c.grow_or_move.new.segment c.args.extra c.in-Err.why c.in-Err.ensures

@@ -53,20 +53,33 @@ module _ {M : Type 1} {𝓤 : Ura M} (𝓛 : Logic 𝓤) (at_mem : Memory → SP
     abbrev Post : Val → SProp 𝓤
     Post = (walk_of 𝓛 F.ended stayed clauses).post bound
 
-    walk : Room u8 (length xs) → ent 𝓤 (on_entry 𝓛 F.ended.signature (κ, tt) (q, tt) (self, tt) (shr_slice_vals self, tt))
+    walk : Room u8 (length xs) → ent 𝓤 (on_entry 𝓛 F.ended.signature (κ, tt) (q, tt) (
+      self,
+      tt,
+    ) (shr_slice_vals self, tt))
         (WpFn 𝓤 H C Λ code.function (slice_val (b, o) (length xs) ∷ []) Post)
     walk room =
-        qed 𝓛 ((‵ (flft κ q) ⊛ ‵ ftrue) ∷ ‵ (owns (ShrSlice (named 0) κ u8 ∷ []) (self, tt) (shr_slice_vals self, tt)) ∷ []) ∵
+        qed 𝓛 ((‵ (flft κ q) ⊛ ‵ ftrue) ∷ ‵ (owns (ShrSlice (named 0) κ u8 ∷ []) (self, tt) (
+          shr_slice_vals self,
+          tt,
+        )) ∷ []) ∵
         enter ! C Λ code.function (slice_val (b, o) (length xs) ∷ []) _ $
         alloc_all ! (λ l. pass_all ! refl ((tt, (tt, (record { fits = room.0 }, tt))), tt) $
         sets ! (addr ! (from ! (fld ! refl (hop ! (look_in_at ! 1 (sub ! 0 refl (whole !))) (stop !))))) refl (tt, tt) $
         returns ! (look_at ! 0 refl) $ free_all ! refl $ keep ! (0 ∷ []) $
-        suffices ! _ (ends_at 𝓛 F.ended stayed clauses bound (ptr_val (block_ptr b o)) (block_ptr b o) (tt, tt) (tt, tt)) $ says ! refl $ frame ! $ nothing ! $ nothing ! $ fjoin ! $ frame ! $
+        suffices ! _ (ends_at 𝓛 F.ended stayed clauses bound (ptr_val (block_ptr b o)) (block_ptr b o) (tt, tt) (
+          tt,
+          tt,
+        )) $ says ! refl $ frame ! $ nothing ! $ nothing ! $ fjoin ! $ frame ! $
         feq_i ! (List Val) (ptr_val (block_ptr b o) ∷ []) (ptr_val (block_ptr b o) ∷ []) refl $ done !)
 
   meets : (𝓣 : Tables 𝓤 H) → Meets 𝓛 F.ended.signature (WpFn 𝓤 H 𝓣.C 𝓣.Λ code.function) (closing 𝓛 F.ended clauses)
   meets 𝓣 =
-      walk_Meets 𝓛 F.ended stayed (Goes-dropped 𝓛 1 (shr_slice_of (0 ∷ []) tt (plain (λ _. u8))) yes (λ κs x f. refl), tt)
+      walk_Meets 𝓛 F.ended stayed (
+        Goes-dropped 𝓛 1 (shr_slice_of (0 ∷ []) tt (plain (λ _. u8))) yes (λ κs x f.
+            refl),
+        tt,
+      )
       clauses (WpFn 𝓤 H 𝓣.C 𝓣.Λ code.function) (WpFn-mono 𝓤 H 𝓛.laws 𝓣 code.function)
       (walked 𝓛 F.ended stayed clauses (WpFn 𝓤 H 𝓣.C 𝓣.Λ code.function) (λ κs. (shr_slice_vals, tt))
       (λ κs. (shr_slice_Tells (named 0) κs.0 u8, tt))
@@ -79,5 +92,6 @@ pub start_of_spec : {M : Type 1} → stated.statement M
 unfolding tables_of
 start_of_spec 𝓤 𝓛 𝓜 𝓡 wired =
     let 𝓣 : Tables 𝓤 𝓛.H = tables_of 𝓤 𝓛.H 𝓜 (tables 𝓤 𝓛.H 𝓜 𝓡 𝓡.env) in
-    entered 𝓤 𝓛.H (triple_of 𝓛 F.ended.signature (closing 𝓛 F.ended (clauses 𝓛 𝓜.mem 𝓡.returns))) 𝓣.C 𝓣.Λ #self code.function
+    entered 𝓤 𝓛.H (triple_of 𝓛 F.ended.signature (closing 𝓛 F.ended (clauses 𝓛 𝓜.mem 𝓡.returns))) 𝓣.C 𝓣.Λ #self
+    code.function
     (code.unfolded 𝓤 𝓛.H 𝓜 𝓡 wired) (meets 𝓛 𝓜.mem 𝓡.returns 𝓣)

@@ -5,18 +5,18 @@ use Rattle.segment_cli.proofs.Endings.{front_added, not_written}
 use Rattle.segment_cli.proofs.Migrated.{migrated, not-migrated, unmigrated}
 use Rattle.segment_cli.proofs.migrations.migrate.Goals as goal
 
-pub returns-in_err-segment-clause-migrates : goal.returns-in_err-segment-clause-migrates
-returns-in_err-segment-clause-migrates g c =
+pub returns-in_err-segment-clause-migration : goal.returns-in_err-segment-clause-migration
+returns-in_err-segment-clause-migration g c =
     let p = err_from_is_err_and c.from_residual.result c.from_residual.ensures.1 in
-    rw (p.1, p.2) (not-migrated _ _ _ _ _ c.in_err-segment.field-0.0 c.in_err-segment.ensures.opens
+    rw (p.1, p.2) (not-migrated _ _ _ _ _ c.in_err-segment.field-0.0 c.in_err-segment.ensures.opening
     (not_written (g.W.Sink.history c.args.image_out.now)))
 
-pub returns-in-Ok-clause-migrates : goal.returns-in-Ok-clause-migrates
-returns-in-Ok-clause-migrates g c = migrated _ _ _ _ _ c.in_ok-segment.segment c.in_ok-segment.ensures.opens
-    c.save.ensures.accepted (added _ _ _ c.in-Ok.ensures.writes.ok)
+pub returns-in-Ok-clause-migration : goal.returns-in-Ok-clause-migration
+returns-in-Ok-clause-migration g c = migrated _ _ _ _ _ c.in_ok-segment.segment c.in_ok-segment.ensures.opening
+    c.save.ensures.acceptance (added _ _ _ c.in-Ok.ensures.writes.ok)
     (none_failed _ _ (let counted = c.in-Ok.ensures.writes.counted in omega arith))
 
-pub returns-clause-migrates : goal.returns-clause-migrates
-returns-clause-migrates g c =
-    unmigrated _ _ _ _ _ c.in_ok-segment.segment c.in_ok-segment.ensures.opens c.save.ensures.accepted
+pub returns-clause-migration : goal.returns-clause-migration
+returns-clause-migration g c =
+    unmigrated _ _ _ _ _ c.in_ok-segment.segment c.in_ok-segment.ensures.opening c.save.ensures.acceptance
     (front_added _ _ _ c.in-Err.ensures.writes.err) (one_failed _ _ c.in-Err.ensures.writes.counted)

@@ -8,43 +8,44 @@ use Rattle.segment_cli.proofs.sessions.session.Goals as goal
 pub returns-in_err-segment-clause-session : goal.returns-in_err-segment-clause-session
 returns-in_err-segment-clause-session g c =
     let p = err_from_is_err_and c.from_residual.result c.from_residual.ensures.1 in
-    rw (p.1, p.2) (unbegun_session _ _ _ _ _ c.in_err-segment.field-0.0 c.in_err-segment.ensures.starts
+    rw (p.1, p.2) (unbegun_session _ _ _ _ _ c.in_err-segment.field-0.0 c.in_err-segment.ensures.start
     (not_asked (g.S.Source.history c.args.script.now)) (not_written (g.O.Sink.history c.args.out.now))
     (not_written (g.W.Sink.history c.args.image_out.now)))
 
 pub returns-in_err-serve-clause-session : goal.returns-in_err-serve-clause-session
 returns-in_err-serve-clause-session g c =
     let p = err_from_is_err_and c.from_residual-in_err-serve.result c.from_residual-in_err-serve.ensures.1 in
-    let why = c.in_err-serve.ensures.serves in
+    let why = c.in_err-serve.ensures.service in
     rw (p.1, p.2, why.why) (stopped_session _ _ _ _ _ c.in_ok-segment.segment c.serve.new.segment why.stop
-    c.in_ok-segment.ensures.starts (λ at there. (why.left at there).left)
+    c.in_ok-segment.ensures.start (λ at there. (why.left at there).left)
     (not_written (g.W.Sink.history c.args.image_out.now)))
 
-pub returns-in_err-serve-clause-out_grows : goal.returns-in_err-serve-clause-out_grows
-returns-in_err-serve-clause-out_grows g c =
-    let begun = c.in_ok-segment.ensures.starts.answers in
-    c.serve.ensures.out_grows (first c.args.mode begun.from)
+pub returns-in_err-serve-clause-output_history : goal.returns-in_err-serve-clause-output_history
+returns-in_err-serve-clause-output_history g c =
+    let begun = c.in_ok-segment.ensures.start.answers in
+    c.serve.ensures.output_history (first c.args.mode begun.from)
     (at_first c.args.mode begun.from c.in_ok-segment.segment begun.mode begun.stands)
 
 pub returns-in-Ok-clause-session : goal.returns-in-Ok-clause-session
 returns-in-Ok-clause-session g c = done_session _ _ _ _ _ c.in_ok-segment.segment c.serve.new.segment tt
-    c.in_ok-segment.ensures.starts (served _ _ _ _ _ c.in_ok-serve.ensures.serves) c.in-Ok.ensures.ok (λ writes. added _ _ _ (c.in-Ok.ensures.bytes
+    c.in_ok-segment.ensures.start (served _ _ _ _ _ c.in_ok-serve.ensures.service) c.in-Ok.ensures.ok (λ writes.
+    added _ _ _ (c.in-Ok.ensures.bytes
     writes)) (none_failed _ _ (omega (arith, c.in-Ok.ensures.counted)))
 
-pub returns-in-Ok-clause-out_grows : goal.returns-in-Ok-clause-out_grows
-returns-in-Ok-clause-out_grows g c =
-    let begun = c.in_ok-segment.ensures.starts.answers in
-    c.serve.ensures.out_grows (first c.args.mode begun.from)
+pub returns-in-Ok-clause-output_history : goal.returns-in-Ok-clause-output_history
+returns-in-Ok-clause-output_history g c =
+    let begun = c.in_ok-segment.ensures.start.answers in
+    c.serve.ensures.output_history (first c.args.mode begun.from)
     (at_first c.args.mode begun.from c.in_ok-segment.segment begun.mode begun.stands)
 
 pub returns-clause-session : goal.returns-clause-session
 returns-clause-session g c =
-    unsaved_session _ _ _ _ _ c.in_ok-segment.segment c.serve.new.segment c.in_ok-segment.ensures.starts
-    (served _ _ _ _ _ c.in_ok-serve.ensures.serves)
+    unsaved_session _ _ _ _ _ c.in_ok-segment.segment c.serve.new.segment c.in_ok-segment.ensures.start
+    (served _ _ _ _ _ c.in_ok-serve.ensures.service)
     c.in-Err.ensures.err.0 c.in-Err.ensures.err.1 (one_failed _ _ c.in-Err.ensures.counted)
 
-pub returns-clause-out_grows : goal.returns-clause-out_grows
-returns-clause-out_grows g c =
-    let begun = c.in_ok-segment.ensures.starts.answers in
-    c.serve.ensures.out_grows (first c.args.mode begun.from)
+pub returns-clause-output_history : goal.returns-clause-output_history
+returns-clause-output_history g c =
+    let begun = c.in_ok-segment.ensures.start.answers in
+    c.serve.ensures.output_history (first c.args.mode begun.from)
     (at_first c.args.mode begun.from c.in_ok-segment.segment begun.mode begun.stands)

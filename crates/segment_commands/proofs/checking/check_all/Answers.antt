@@ -7,11 +7,15 @@ use Rattle.segment_commands.proofs.checking.check_all.Goals as goal
 pub returns-in_default : goal.returns-in_default
 returns-in_default g c =
     let History = g.E.Sink.history in
-    going_lost g.D.Disk.step g.O.Sink.history g.O.Output.flushes c.args.disk.now (History c.args.err.now) c.args.out.now c.args.is_quiet
-    c.files.disk c.verify_segment-found.new.disk (History c.files.err) (History c.put_unfit-said.new.err) c.files.out c.tell_fit.new.out c.files.said c.put_unfit-said.result _ c.files.worst
+    going_lost g.D.Disk.step g.O.Sink.history g.O.Output.flushes c.args.disk.now (History c.args.err.now)
+    c.args.out.now c.args.is_quiet
+    c.files.disk c.verify_segment-found.new.disk (History c.files.err) (History c.put_unfit-said.new.err)
+    c.files.out c.tell_fit.new.out c.files.said c.put_unfit-said.result _ c.files.worst
     c.files.invariant.going _ c.verify_segment-found.result c.trouble_of.result c.verify_segment-found.ensures
-    (unfit_heard History c.files.said _ _ c.put_unfit-said.new.err c.files.err c.put_unfit-said.ensures) c.in_default.ensures
-    (map (λ file. file.now) c.args.files.now) _ (paths-rest (λ file. file.now) c.args.files.now c.files.file-index _ c.files-test.true)
+    (unfit_heard History c.files.said _ _ c.put_unfit-said.new.err c.files.err c.put_unfit-said.ensures)
+    c.in_default.ensures
+    (map (λ file. file.now) c.args.files.now) _
+    (paths-rest (λ file. file.now) c.args.files.now c.files.file-index _ c.files-test.true)
 
 pub files-init : goal.files-init
 files-init g c = record {
@@ -23,9 +27,13 @@ pub files-preserved : goal.files-preserved
 files-preserved g c =
     let History = g.E.Sink.history in
     record {
-      going = going_more g.D.Disk.step g.O.Sink.history g.O.Output.flushes c.args.disk.now (History c.args.err.now) c.args.out.now c.args.is_quiet
-          c.files.disk c.verify_segment-found.new.disk (History c.files.err) (History c.put_unfit-said.new.err) c.files.out c.tell_fit.new.out c.files.said c.put_unfit-said.result _ c.files.worst
+      going = going_more g.D.Disk.step g.O.Sink.history g.O.Output.flushes c.args.disk.now (History c.args.err.now)
+          c.args.out.now c.args.is_quiet
+          c.files.disk c.verify_segment-found.new.disk (History c.files.err) (History c.put_unfit-said.new.err)
+          c.files.out c.tell_fit.new.out c.files.said c.put_unfit-said.result _ c.files.worst
           c.files.invariant.going _ c.verify_segment-found.result c.trouble_of.result c.verify_segment-found.ensures
-          (unfit_heard History c.files.said _ _ c.put_unfit-said.new.err c.files.err c.put_unfit-said.ensures) c.in-Ok.ensures _ c.max-worst.result
-          (paths-more (λ file. file.now) c.args.files.now c.files.file-index _ c.files-test.true) (c.max-worst.ensures ∙ ap (worse c.files.worst) c.status_in.ensures);
+          (unfit_heard History c.files.said _ _ c.put_unfit-said.new.err c.files.err c.put_unfit-said.ensures)
+          c.in-Ok.ensures _ c.max-worst.result
+          (paths-more (λ file. file.now) c.args.files.now c.files.file-index _ c.files-test.true)
+          (c.max-worst.ensures ∙ ap (worse c.files.worst) c.status_in.ensures);
     }

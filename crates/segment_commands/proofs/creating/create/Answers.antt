@@ -5,10 +5,10 @@ pub returns-in-Ok : goal.returns-in-Ok
 returns-in-Ok g c =
     let w = c.in-Ok.ensures in
     inr (inr (record {
-      found = c.look.result;
+      found = c.path_status.result;
       free = search rules;
-      looked = c.look.new.self;
-      asked = c.look.ensures;
+      looked = c.path_status.new.self;
+      asked = c.path_status.ensures;
       segment = c.in_ok-segment.segment;
       made = c.in_ok-segment.ensures;
       writes = record { written = w.written; asked = w.asked; fate = w.fate; accepted = w.accepted };

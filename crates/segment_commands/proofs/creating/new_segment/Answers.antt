@@ -1,18 +1,19 @@
 use Rattle.std.proofs.Common.{◌≡◌, ℕ, IsTrue, Result, Ok, Err, MatchResult, inr, length, rules}
-use Rattle.raw_region.specs.Device.{Given}
+use Rattle.raw_region.specs.Device.{ReadDelta}
 use Rattle.block_tags.specs.Format.{is_legal_size}
 use Rattle.segment_manager.specs.declared.modes.Mode.TheVariants.{Write}
-use Rattle.segment_manager.specs.State.{State}
+use Rattle.segment_manager.specs.State.{SegmentState}
 use Rattle.segment_cli.specs.declared.faults.SessionFault.{SessionFault}
 use Rattle.segment_cli.specs.declared.faults.Start.TheVariants.{Fresh}
-use Rattle.segment_cli.specs.Beginning.{Starts}
+use Rattle.segment_cli.specs.Beginning.{BeginsSession}
 use Rattle.segment_commands.specs.Commands.{IsFreshSegment}
 use Rattle.segment_commands.specs.Faults.{region_refused}
 use Rattle.segment_commands.proofs.NewSegments.{made}
 use Rattle.segment_commands.proofs.creating.new_segment.Goals as goal
 
-fresh : (size capacity : ℕ) (image : Given) (result : Result State SessionFault)
-    → ((fault : SessionFault) → Starts (Fresh size) Write 0 capacity image (Err fault) → ⊥) → Starts (Fresh size) Write 0 capacity image result
+fresh : (size capacity : ℕ) (image : ReadDelta) (result : Result SegmentState SessionFault)
+    → ((fault : SessionFault) → BeginsSession (Fresh size) Write 0 capacity image (Err fault) → ⊥)
+    → BeginsSession (Fresh size) Write 0 capacity image result
     → MatchResult result (IsFreshSegment size) (λ fault. fault ≡ region_refused size)
 fresh size capacity image (Ok segment) never starts = record { image = image; capacity = capacity; starts = starts }
 fresh size capacity image (Err fault) never starts = absurd (never fault starts)
@@ -22,5 +23,6 @@ returns c =
     let legal : IsTrue (is_legal_size c.args.size) = search rules in
     inr (record {
       legal = legal;
-      answers = fresh c.args.size (length c.in_ok-region.region) _ c.begin.result (made c.args.size (length c.in_ok-region.region) legal c.in_ok-region.ensures.room _) c.begin.ensures.starts;
+      answers = fresh c.args.size (length c.in_ok-region.region) _ c.begin.result
+          (made c.args.size (length c.in_ok-region.region) legal c.in_ok-region.ensures.room _) c.begin.ensures.start;
     })

@@ -8,7 +8,8 @@ use Rattle.segment_commands.proofs.explaining.explain.Goals as goal
 pub returns-in-Ok-tell_verdict : goal.returns-in-Ok-tell_verdict
 returns-in-Ok-tell_verdict g c = inr (inl (record {
   verdict = c.in-Err-Image.verdict;
-  why = subst (λ (u : Unfit). ExaminesFile g.D.Disk.step c.args.disk.now c.examine_file.new.disk c.args.path.now (Err u)) c.in-Err-Image.field-0-is c.in-Err-Image.ensures;
+  why = subst (λ (u : Unfit). ExaminesFile g.D.Disk.step c.args.disk.now c.examine_file.new.disk c.args.path.now
+      (Err u)) c.in-Err-Image.field-0-is c.in-Err-Image.ensures;
   said = Ok tt;
   tells = c.in-Ok-tell_verdict.ensures;
   answer = refl;
@@ -17,7 +18,8 @@ returns-in-Ok-tell_verdict g c = inr (inl (record {
 pub returns-in-Err-tell_verdict : goal.returns-in-Err-tell_verdict
 returns-in-Err-tell_verdict g c = inr (inl (record {
   verdict = c.in-Err-Image.verdict;
-  why = subst (λ (u : Unfit). ExaminesFile g.D.Disk.step c.args.disk.now c.examine_file.new.disk c.args.path.now (Err u)) c.in-Err-Image.field-0-is c.in-Err-Image.ensures;
+  why = subst (λ (u : Unfit). ExaminesFile g.D.Disk.step c.args.disk.now c.examine_file.new.disk c.args.path.now
+      (Err u)) c.in-Err-Image.field-0-is c.in-Err-Image.ensures;
   said = Err (Session WriteFault);
   tells = c.in-Err-tell_verdict.ensures;
   answer = refl;

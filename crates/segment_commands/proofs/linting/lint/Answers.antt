@@ -11,7 +11,10 @@ returns g c =
     let end = c.run_followed-answered.new.machine in
     let ran = c.run_followed-answered.result in
     let went_out : c.is_ok-went_out.result ≡ is_ok c.flush-flushed.result = search rules in
-    linted c.args.rows.now end.rows.now (Script.history c.args.script.now) (Script.history c.run_followed-answered.new.script) Answers.history g.O.Output.flushes
-    c.args.out.now c.run_followed-answered.new.out c.flush-flushed.new.self ran end.line end.has_found (is_ok c.flush-flushed.result)
-    (c.run_followed-answered.ensures.leaves (start c.args.rows.now) c.new-machine.ensures) c.flush-flushed.ensures.same c.flush-flushed.ensures.flushes
+    linted c.args.rows.now end.rows.now (Script.history c.args.script.now)
+    (Script.history c.run_followed-answered.new.script) Answers.history g.O.Output.flushes
+    c.args.out.now c.run_followed-answered.new.out c.flush-flushed.new.self ran end.line end.has_found
+    (is_ok c.flush-flushed.result)
+    (c.run_followed-answered.ensures.remainder (start c.args.rows.now) c.new-machine.ensures)
+    c.flush-flushed.ensures.unchanged c.flush-flushed.ensures.flush
     c.lint_answer.result (c.lint_answer.ensures ∙ ap₂ (answer_of ran) went_out c.has_found.ensures)

@@ -6,6 +6,7 @@ pub returns-in-Ok-write_image : goal.returns-in-Ok-write_image
 returns-in-Ok-write_image g c = inr (record {
   segment = c.in-Ok.segment;
   made = c.in-Ok.ensures;
-  writes = written_whole g.D.Disk.step c.args.disk.now c.write_image.new.disk _ c.args.path.now c.in-Ok.segment.cut.bytes c.in-Ok-write_image.ensures;
+  writes = written_whole g.D.Disk.step c.args.disk.now c.write_image.new.disk _ c.args.path.now
+      c.in-Ok.segment.cut.bytes c.in-Ok-write_image.ensures;
   answer = λ fault e. absurd (cc);
 })

@@ -5,4 +5,4 @@ use Rattle.segment_commands.proofs.naming.tell_names.Goals as goal
 pub returns : goal.returns
 returns g c d stands = went_out g.O.Sink.history g.O.Output.flushes c.args.out.now c.put_names.new.out
     c.flush.new.self (names_text c.args.prefix.now c.args.most d) c.in_ok-put_names.field-0
-    (c.in_ok-put_names.ensures.writes d stands) c.flush.ensures.same c.flush.result c.flush.ensures.flushes
+    (c.in_ok-put_names.ensures.writes d stands) c.flush.ensures.unchanged c.flush.result c.flush.ensures.flush

@@ -1,6 +1,6 @@
 use Rattle.std.proofs.Common.{inl, inr, Ok}
 use Rattle.segment_manager.specs.declared.modes.Mode.TheVariants.{Write}
-use Rattle.image_check.specs.declared.versions.Versions.TheVariants.{Current}
+use Rattle.image_check.specs.declared.versions.AcceptedVersions.TheVariants.{Current}
 use Rattle.segment_commands.specs.Opening.{OpensWith}
 use Rattle.segment_commands.specs.Resizing.{more_by}
 use Rattle.segment_commands.proofs.Grown.{roomy_by}
@@ -35,13 +35,15 @@ returns-in-Ok g c = inr (inr (record {
 
 pub returns : goal.returns
 returns g c =
-    let opens : OpensWith g.D.Disk.step c.args.disk.now c.open_segment.new.disk c.args.path.now Current Write (more_by c.args.how) (Ok c.in_ok-segment.segment) =
+    let opens : OpensWith g.D.Disk.step c.args.disk.now c.open_segment.new.disk c.args.path.now Current Write
+    (more_by c.args.how) (Ok c.in_ok-segment.segment) =
     rw c.more_for.ensures at c.in_ok-segment.ensures in
     inr (inl (record {
       segment = c.in_ok-segment.segment;
       opens = opens;
       error = c.in-Err.error;
-      roomy = roomy_by g.D.Disk.step c.args.disk.now c.open_segment.new.disk c.args.path.now c.in_ok-segment.segment c.args.how c.in-Err.error opens c.in-Err.ensures.refused;
+      roomy = roomy_by g.D.Disk.step c.args.disk.now c.open_segment.new.disk c.args.path.now c.in_ok-segment.segment
+          c.args.how c.in-Err.error opens c.in-Err.ensures.refused;
       refused_by = c.in-Err.ensures.refused;
       silent = search;
       refused = search;

@@ -1,5 +1,5 @@
 use Rattle.std.proofs.Common.{◌≡◌, ◌≢◌, inr, rules, subst}
-use Rattle.raw_region.specs.Device.{Gave}
+use Rattle.raw_region.specs.Device.{ReaderHistory}
 use Rattle.segment_manager.specs.declared.modes.Mode.TheVariants.{Write}
 use Rattle.segment_disk.specs.Events.{IsFlushed}
 use Rattle.segment_commands.specs.Running.{RunsOpened}
@@ -12,10 +12,13 @@ returns-else-eq g c =
     let flushes : _ = IsFlushed Answers.history g.O.Output.flushes c.run_opened.new.out in
     let same : Script.history c.can_be_read.new.script ≡ Script.history c.args.script.now = search rules in
     let is_not : c.args.mode ≢ Write = search rules in
-    inr (in_reading step c.args.disk.now c.run_opened.new.disk c.args.path.now c.args.how c.args.until (Script.history c.args.script.now) (Script.history c.run_opened.new.script)
+    inr (in_reading step c.args.disk.now c.run_opened.new.disk c.args.path.now c.args.how c.args.until
+    (Script.history c.args.script.now) (Script.history c.run_opened.new.script)
     Answers.history flushes c.args.out.now c.run_opened.new.out c.answered.result c.args.mode is_not (record {
       answer = c.run_opened.result;
-      ran = subst (λ (gave : Gave). RunsOpened step c.args.disk.now c.run_opened.new.disk c.args.path.now c.args.mode c.args.how c.args.until gave (Script.history c.run_opened.new.script)
+      ran = subst (λ (gave : ReaderHistory).
+          RunsOpened step c.args.disk.now c.run_opened.new.disk c.args.path.now c.args.mode c.args.how c.args.until
+          gave (Script.history c.run_opened.new.script)
           Answers.history flushes c.args.out.now c.run_opened.new.out c.run_opened.result) same c.run_opened.ensures;
       result_is = c.answered.ensures;
     }))

@@ -5,7 +5,8 @@ use Rattle.segment_commands.proofs.running.run_opened.Goals as goal
 pub returns-in-Ok : goal.returns-in-Ok
 returns-in-Ok g c =
     let Script = g.S.Source in let Answers = g.O.Sink in
-    opened_run g.D.Disk.step c.args.disk.now c.open_segment.new.disk c.answer_and_save.new.disk c.args.path.now c.args.until
+    opened_run g.D.Disk.step c.args.disk.now c.open_segment.new.disk c.answer_and_save.new.disk c.args.path.now
+    c.args.until
     (Script.history c.args.script.now) (Script.history c.answer_and_save.new.script) Answers.history
     (IsFlushed Answers.history g.O.Output.flushes c.answer_and_save.new.out) c.args.out.now c.answer_and_save.new.out
     c.answer_and_save.result c.in-Ok.segment c.args.mode c.args.how c.answer_and_save.ensures c.in-Ok.ensures

@@ -3,4 +3,5 @@ use Rattle.segment_dump.proofs.BuildLines.{InBuild}
 use Rattle.segment_dump.proofs.building.build.Given as goal
 
 abbrev pub invariant-objects : goal.invariant-objects
-invariant-objects l = InBuild l.fn.segment l.segment l.fn.lines l.lines l.most (length l.fn.room) l.counter × (length l.room ≡ length l.fn.room)
+invariant-objects l = InBuild l.fn.segment l.segment l.fn.lines l.lines l.most (length l.fn.room) l.counter
+    × (length l.room ≡ length l.fn.room)

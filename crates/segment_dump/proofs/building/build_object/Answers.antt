@@ -3,14 +3,16 @@ use Rattle.segment_dump.proofs.BuildLines.{object-built, object-unstarted}
 use Rattle.segment_dump.proofs.building.build_object.Goals as goal
 
 pub returns-in_err-handle : goal.returns-in_err-handle
-returns-in_err-handle c = object-unstarted c.args.segment.now c.start_next.new.segment c.args.words.now c.start_next.new.segment c.args.lines.now c.args.lines.now (length c.args.room.now) _ c.from_residual.result c.in_err-handle.ensures.starts
+returns-in_err-handle c = object-unstarted c.args.segment.now c.start_next.new.segment c.args.words.now
+    c.start_next.new.segment c.args.lines.now c.args.lines.now (length c.args.room.now) _ c.from_residual.result
+    c.in_err-handle.ensures.start
 
 pub object_here-object-requires : goal.object_here-object-requires
-object_here-object-requires c = c.in_ok-handle.ensures.here.object
+object_here-object-requires c = c.in_ok-handle.ensures.in_place.object
 
 pub fill-requires : goal.fill-requires
 fill-requires c =
-    record { segment = c.in_ok-handle.ensures.here.segment; object = c.object_here-object.ensures.located.here }
+    record { segment = c.in_ok-handle.ensures.in_place.segment; object = c.object_here-object.ensures.location.here }
 
 pub returns : goal.returns
 returns c =
@@ -20,6 +22,6 @@ returns c =
     let shape = c.in_ok-handle.shape in
     let room = length c.args.room.now in
     object-built old begun c.args.words.now new c.args.lines.now c.fill.new.lines room c.in_ok-handle.handle shape
-    c.fill.result c.in_ok-handle.ensures.starts
+    c.fill.result c.in_ok-handle.ensures.start
     (subst (λ h. FillsNew begun new h shape.kind shape.count c.args.lines.now c.fill.new.lines room c.fill.result)
     c.object_here-object.ensures.handle c.fill.ensures)

@@ -1,5 +1,5 @@
 use Rattle.segment_dump.proofs.HereObjects.{begun_here}
 use Rattle.segment_dump.proofs.building.make_numbers.Goals as goal
 
-pub returns-clause-here : goal.returns-clause-here
-returns-clause-here g c = begun_here _ _ c.construct.result c.requires.segment c.construct.ensures.step
+pub returns-clause-in_place : goal.returns-clause-in_place
+returns-clause-in_place g c = begun_here _ _ c.construct.result c.requires.segment c.construct.ensures.step

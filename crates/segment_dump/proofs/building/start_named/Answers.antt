@@ -2,14 +2,20 @@ use Rattle.segment_dump.proofs.Common.{ap, option_map, name_seen}
 use Rattle.segment_dump.proofs.HeadReads.{named-none, named-some, named-unread}
 use Rattle.segment_dump.proofs.building.start_named.Goals as goal
 
-pub returns-in_err-word-clause-starts : goal.returns-in_err-word-clause-starts
-returns-in_err-word-clause-starts c = named-unread c.texts_are_spelled.ensures c.args.segment.now c.args.segment.now c.args.words.now c.next_word.new.self _ c.from_residual.result c.in_err-word.ensures.word
+pub returns-in_err-word-clause-start : goal.returns-in_err-word-clause-start
+returns-in_err-word-clause-start c =
+    named-unread c.texts_are_spelled.ensures c.args.segment.now c.args.segment.now c.args.words.now
+    c.next_word.new.self _ c.from_residual.result c.in_err-word.ensures.word
 
-pub returns-in-Some-clause-starts : goal.returns-in-Some-clause-starts
-returns-in-Some-clause-starts c =
-    named-some c.texts_are_spelled.ensures c.args.segment.now c.start_under.new.segment c.args.words.now c.next_word.new.self c.in_ok-word.word (option_map name_seen c.name_of.result) (name_seen c.in-Some.name) c.start_under.result c.in_ok-word.ensures.word c.name_of.ensures
-    (ap (option_map name_seen) c.in-Some.is) c.start_under.ensures.starts
+pub returns-in-Some-clause-start : goal.returns-in-Some-clause-start
+returns-in-Some-clause-start c =
+    named-some c.texts_are_spelled.ensures c.args.segment.now c.start_under.new.segment c.args.words.now
+    c.next_word.new.self c.in_ok-word.word (option_map name_seen c.name_of.result) (name_seen c.in-Some.name)
+    c.start_under.result c.in_ok-word.ensures.word c.name_of.ensures
+    (ap (option_map name_seen) c.in-Some.is) c.start_under.ensures.start
 
-pub returns-in-None-clause-starts : goal.returns-in-None-clause-starts
-returns-in-None-clause-starts c =
-    named-none c.texts_are_spelled.ensures c.args.segment.now c.args.segment.now c.args.words.now c.next_word.new.self c.in_ok-word.word (option_map name_seen c.name_of.result) _ c.in_ok-word.ensures.word c.name_of.ensures (ap (option_map name_seen) c.in-None.is)
+pub returns-in-None-clause-start : goal.returns-in-None-clause-start
+returns-in-None-clause-start c =
+    named-none c.texts_are_spelled.ensures c.args.segment.now c.args.segment.now c.args.words.now
+    c.next_word.new.self c.in_ok-word.word (option_map name_seen c.name_of.result) _ c.in_ok-word.ensures.word
+    c.name_of.ensures (ap (option_map name_seen) c.in-None.is)

@@ -3,7 +3,11 @@ use Rattle.segment_dump.proofs.PlaceNotes.{header-inside, named-places}
 use Rattle.segment_dump.proofs.capacities.named_capacity.Goals as goal
 
 pub word_in-requires : goal.word_in-requires
-word_in-requires c = let h = header-inside c.as_bytes.result.now c.as_bytes.ensures.denotes in omega (arith, h)
+word_in-requires c = let h = header-inside c.as_bytes.result.now c.as_bytes.ensures.denotation in omega (arith, h)
 
 pub returns : goal.returns
-returns c = record { answers = λ d k. c.word_in.ensures ∙ ap (λ (b : List ℕ). word_at (bytes_of b) 48) c.as_bytes.ensures.bytes ∙ named-places c.args.segment.now.cut.bytes d k }
+returns c = record {
+  answers = λ d k. c.word_in.ensures
+      ∙ ap (λ (b : List ℕ). word_at (bytes_of b) 48) c.as_bytes.ensures.bytes
+      ∙ named-places c.args.segment.now.cut.bytes d k;
+}

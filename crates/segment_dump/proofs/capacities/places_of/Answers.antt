@@ -8,4 +8,5 @@ pub returns-in-Map : goal.returns-in-Map
 returns-in-Map c = map-without c.args.segment.now c.args.object c.requires c.in-Map.field-0 c.in-Map.field-1 c.in-Map.is
 
 pub returns-in_default : goal.returns-in_default
-returns-in_default c = others-measured c.args.segment.now c.args.object c.requires c.count_places.result c.in_default.not-Scalar c.in_default.not-Map c.count_places.ensures
+returns-in_default c = others-measured c.args.segment.now c.args.object c.requires c.count_places.result
+    c.in_default.not-Scalar c.in_default.not-Map c.count_places.ensures

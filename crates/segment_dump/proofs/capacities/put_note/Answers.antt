@@ -1,22 +1,32 @@
-use Rattle.segment_dump.proofs.Common.{◌≡◌, ℕ, List, [], ◌∷◌, ◌++◌, ap, sym, subst, append_assoc, codes, Class, Anonymous, Unique, Kind, kind_text, number_text, Writes}
+use Rattle.segment_dump.proofs.Common.{◌≡◌, ℕ, List, [], ◌∷◌, ◌++◌, ap, sym, subst, append_assoc, codes, Class}
+use Rattle.segment_dump.proofs.Common.{Anonymous, Unique, Kind, kind_text, number_text, Writes}
 use Rattle.segment_dump.specs.Capacities.{Holds, capacity_note}
 use Rattle.segment_dump.specs.Texts.{told_line}
 use Rattle.segment_dump.proofs.capacities.put_note.Goals as goal
 
-unique-note : (name : List ℕ) (kind : Kind) (n : ℕ) → told_line (codes "# capacity of unique ") Unique name kind (codes ": ") n ≡ capacity_note (record { holder = Holds Unique name kind; places = n })
-unique-note name kind n = ap (λ l. codes "# capacity of unique " ++ l) (sym (append_assoc (kind_text kind) (codes ": " ++ number_text n) (0x0A ∷ [])))
+unique-note : (name : List ℕ) (kind : Kind) (n : ℕ)
+    → told_line (codes "# capacity of unique ") Unique name kind (codes ": ") n
+    ≡ capacity_note (record { holder = Holds Unique name kind; places = n })
+unique-note name kind n = ap (λ l.
+    codes "# capacity of unique " ++ l) (sym (append_assoc (kind_text kind) (codes ": " ++ number_text n) (0x0A ∷ [])))
 
-anonymous-note : (name : List ℕ) (kind : Kind) (n : ℕ) → told_line (codes "# capacity of anonymous ") Anonymous name kind (codes ": ") n ≡ capacity_note (record { holder = Holds Anonymous name kind; places = n })
-anonymous-note name kind n = ap (λ l. codes "# capacity of anonymous " ++ l) (sym (append_assoc (kind_text kind) (codes ": " ++ number_text n) (0x0A ∷ [])))
+anonymous-note : (name : List ℕ) (kind : Kind) (n : ℕ)
+    → told_line (codes "# capacity of anonymous ") Anonymous name kind (codes ": ") n
+    ≡ capacity_note (record { holder = Holds Anonymous name kind; places = n })
+anonymous-note name kind n = ap (λ l.
+    codes "# capacity of anonymous " ++ l)
+    (sym (append_assoc (kind_text kind) (codes ": " ++ number_text n) (0x0A ∷ [])))
 
 pub returns-in-Unique : goal.returns-in-Unique
 returns-in-Unique g c =
     let e = c.in-Unique.is in
     let w = rw e at c.put_line-in-Unique.ensures in
-    rw e (subst (λ t. Writes (g.W.Sink.history c.args.out.now) (g.W.Sink.history c.put_line-in-Unique.new.out) c.put_line-in-Unique.result t) (unique-note c.args.said.name.now c.args.said.kind c.args.places) w)
+    rw e (subst (λ t. Writes (g.W.Sink.history c.args.out.now) (g.W.Sink.history c.put_line-in-Unique.new.out)
+    c.put_line-in-Unique.result t) (unique-note c.args.said.name.now c.args.said.kind c.args.places) w)
 
 pub returns-in-Anonymous : goal.returns-in-Anonymous
 returns-in-Anonymous g c =
     let e = c.in-Anonymous.is in
     let w = rw e at c.put_line-in-Anonymous.ensures in
-    rw e (subst (λ t. Writes (g.W.Sink.history c.args.out.now) (g.W.Sink.history c.put_line-in-Anonymous.new.out) c.put_line-in-Anonymous.result t) (anonymous-note c.args.said.name.now c.args.said.kind c.args.places) w)
+    rw e (subst (λ t. Writes (g.W.Sink.history c.args.out.now) (g.W.Sink.history c.put_line-in-Anonymous.new.out)
+    c.put_line-in-Anonymous.result t) (anonymous-note c.args.said.name.now c.args.said.kind c.args.places) w)

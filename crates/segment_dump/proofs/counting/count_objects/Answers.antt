@@ -10,26 +10,42 @@ objects-init c = record {
   asks = none-asks AsksObject c.args.text.now c.only_room-needs.result c.only_room-needs.ensures;
 }
 
-pub returns-then-is_end-clause-counts : goal.returns-then-is_end-clause-counts
-returns-then-is_end-clause-counts c = let at = c.if-is_end.ensures.yes in objects-end c.args.text.now c.objects.rest.now at.0 c.objects.needs c.objects.counter at.1 c.objects.invariant.left
+pub returns-then-is_end-clause-count : goal.returns-then-is_end-clause-count
+returns-then-is_end-clause-count c = let at = c.if-is_end.ensures.on_true
+    in objects-end c.args.text.now c.objects.rest.now at.0 c.objects.needs c.objects.counter at.1
+    c.objects.invariant.left
 
-pub returns-in_default-clause-counts : goal.returns-in_default-clause-counts
-returns-in_default-clause-counts c =
-    let never : (x : List ℕ) → c.objects.rest.now ≡ end_text ++ x → ⊥ = λ x e. false≢true (sym c.if-is_end.false ∙ c.is_end.ensures.always x e) in
-    objects-cut c.args.text.now c.objects.rest.now c.objects.needs c.objects.counter (length c.objects.rest.now) never c.objects.invariant.left c.in_default.ensures.value
+pub returns-in_default-clause-count : goal.returns-in_default-clause-count
+returns-in_default-clause-count c =
+    let never : (x : List ℕ) → c.objects.rest.now ≡ end_text ++ x → ⊥ =
+    λ x e. false≢true (sym c.if-is_end.false ∙ c.is_end.ensures.totality x e) in
+    objects-cut c.args.text.now c.objects.rest.now c.objects.needs c.objects.counter (length c.objects.rest.now)
+    never c.objects.invariant.left c.in_default.ensures.value
 
 pub objects-preserved : goal.objects-preserved
 objects-preserved c =
-    let never : (x : List ℕ) → c.objects.rest.now ≡ end_text ++ x → ⊥ = λ x e. false≢true (sym c.if-is_end.false ∙ c.is_end.ensures.always x e) in
+    let never : (x : List ℕ) → c.objects.rest.now ≡ end_text ++ x → ⊥ =
+    λ x e. false≢true (sym c.if-is_end.false ∙ c.is_end.ensures.totality x e) in
     record {
-      left = objects-more c.args.text.now c.objects.rest.now c.objects.needs c.in-Some.more c.and-needs.result c.objects.counter c.in-Some.behind.now never c.objects.invariant.left c.in-Some.ensures.value c.and-needs.ensures.sum;
-      asks = more-asks AsksObject c.args.text.now c.objects.rest.now c.in-Some.behind.now c.objects.counter c.objects.needs c.in-Some.more c.and-needs.result c.objects.invariant.asks c.in-Some.ensures.asks c.and-needs.ensures.most;
+      left = objects-more c.args.text.now c.objects.rest.now c.objects.needs c.in-Some.more c.and-needs.result
+          c.objects.counter c.in-Some.behind.now never c.objects.invariant.left c.in-Some.ensures.value
+          c.and-needs.ensures.sum;
+      asks = more-asks AsksObject c.args.text.now c.objects.rest.now c.in-Some.behind.now c.objects.counter
+          c.objects.needs c.in-Some.more c.and-needs.result c.objects.invariant.asks c.in-Some.ensures.asks
+          c.and-needs.ensures.most;
     }
 
-pub returns-clause-counts : goal.returns-clause-counts
-returns-clause-counts c = objects-long c.args.text.now c.objects.rest.now c.objects.needs c.objects.counter (length c.objects.rest.now) (omega (arith, c.objects-test.false)) c.objects.invariant.left
+pub returns-clause-count : goal.returns-clause-count
+returns-clause-count c = objects-long c.args.text.now c.objects.rest.now c.objects.needs c.objects.counter
+    (length c.objects.rest.now) (omega (arith, c.objects-test.false)) c.objects.invariant.left
 
-pub returns-then-is_end-clause-asks : goal.returns-then-is_end-clause-asks
-returns-then-is_end-clause-asks c =
-    let at = c.if-is_end.ensures.yes in
-    record { count = c.objects.counter; behind = at.0; begins = subst (λ (rest : List ℕ). Begins (AskTogether AsksObject c.objects.counter) c.args.text.now c.objects.needs rest) at.1 c.objects.invariant.asks }
+pub returns-then-is_end-clause-questions : goal.returns-then-is_end-clause-questions
+returns-then-is_end-clause-questions c =
+    let at = c.if-is_end.ensures.on_true in
+    record {
+      count = c.objects.counter;
+      behind = at.0;
+      begins = subst (λ (rest : List ℕ).
+          Begins (AskTogether AsksObject c.objects.counter) c.args.text.now c.objects.needs rest) at.1
+          c.objects.invariant.asks;
+    }

@@ -1,4 +1,5 @@
-use Rattle.segment_dump.proofs.Common.{◌≡◌, ℕ, ◌+◌, ◌<◌, ◌≤◌, None, sym, subst, arith, flat_map, AreTexts, Needs, all_needs}
+use Rattle.segment_dump.proofs.Common.{◌≡◌, ℕ, ◌+◌, ◌<◌, ◌≤◌, None, sym, subst, arith, flat_map, AreTexts, Needs}
+use Rattle.segment_dump.proofs.Common.{all_needs}
 use Rattle.segment_dump.proofs.Common.{both, text_needs, Any, text_lines}
 use Rattle.segment_dump.specs.Asked.{AskTogether, AsksText, Begins}
 use Rattle.segment_dump.proofs.Askings.{more-asks, none-asks}
@@ -14,22 +15,33 @@ texts-init c = record {
 
 pub returns-in_err-len-clause-value : goal.returns-in_err-len-clause-value
 returns-in_err-len-clause-value c =
-    as-seen (flat_map text_lines) (AreTexts c.args.count) Any (all_needs text_needs) c.args.text.now None c.from_residual.result (sym c.from_residual.ensures)
-    (texts-cut c.args.text.now c.texts.rest.now c.texts.needs c.args.count c.texts.counter (omega (arith, c.texts-test.true)) c.texts.invariant.left c.in_err-len.ensures.value)
+    as-seen (flat_map text_lines) (AreTexts c.args.count) Any (all_needs text_needs) c.args.text.now None
+    c.from_residual.result (sym c.from_residual.ensures)
+    (texts-cut c.args.text.now c.texts.rest.now c.texts.needs c.args.count c.texts.counter (omega (
+      arith,
+      c.texts-test.true,
+    )) c.texts.invariant.left c.in_err-len.ensures.value)
 
 pub texts-preserved : goal.texts-preserved
 texts-preserved c = record {
-  left = texts-more c.args.text.now c.texts.rest.now c.texts.needs c.and-needs.result c.args.count c.texts.counter c.in_ok-len.len c.in_ok-len.behind.now (omega (arith, c.texts-test.true)) c.texts.invariant.left c.in_ok-len.ensures.value
-      (subst (λ (n : Needs). c.texts.needs.room + n.room < 18446744073709551616 → c.and-needs.result ≡ both c.texts.needs n) c.text_needs.ensures c.and-needs.ensures.sum);
+  left = texts-more c.args.text.now c.texts.rest.now c.texts.needs c.and-needs.result c.args.count c.texts.counter
+      c.in_ok-len.len c.in_ok-len.behind.now (omega (arith, c.texts-test.true)) c.texts.invariant.left
+      c.in_ok-len.ensures.value
+      (subst (λ (n : Needs). c.texts.needs.room + n.room < 18446744073709551616
+      → c.and-needs.result ≡ both c.texts.needs n) c.text_needs.ensures c.and-needs.ensures.sum);
   asks = let text = c.in_ok-len.ensures.text in
-      more-asks AsksText c.args.text.now c.texts.rest.now c.in_ok-len.behind.now c.texts.counter c.texts.needs c.text_needs.result c.and-needs.result c.texts.invariant.asks
-      (record { bytes = text.bytes; is = text.is; says = (c.in_ok-len.len, text.says, c.text_needs.ensures) }) c.and-needs.ensures.most;
+      more-asks AsksText c.args.text.now c.texts.rest.now c.in_ok-len.behind.now c.texts.counter c.texts.needs
+      c.text_needs.result c.and-needs.result c.texts.invariant.asks
+      (record { bytes = text.bytes; is = text.is; says = (c.in_ok-len.len, text.says, c.text_needs.ensures) })
+      c.and-needs.ensures.most;
 }
 
 pub returns-clause-value : goal.returns-clause-value
-returns-clause-value c = texts-end c.args.text.now c.texts.rest.now c.texts.needs c.args.count c.texts.counter (omega (arith, c.texts-test.false)) c.texts.invariant.left
+returns-clause-value c = texts-end c.args.text.now c.texts.rest.now c.texts.needs c.args.count c.texts.counter
+    (omega (arith, c.texts-test.false)) c.texts.invariant.left
 
-pub returns-clause-asks : goal.returns-clause-asks
-returns-clause-asks c =
+pub returns-clause-questions : goal.returns-clause-questions
+returns-clause-questions c =
     let all : c.texts.counter ≡ c.args.count = omega (arith, c.texts-test.false) in
-    subst (λ (n : ℕ). Begins (AskTogether AsksText n) c.args.text.now c.texts.needs c.texts.rest.now) all c.texts.invariant.asks
+    subst (λ (n : ℕ). Begins (AskTogether AsksText n) c.args.text.now c.texts.needs c.texts.rest.now) all
+    c.texts.invariant.asks

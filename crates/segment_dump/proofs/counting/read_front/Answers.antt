@@ -5,11 +5,13 @@ use Rattle.segment_dump.proofs.counting.read_front.Goals as goal
 
 pub returns-in_err-behind-clause-value : goal.returns-in_err-behind-clause-value
 returns-in_err-behind-clause-value c =
-    as-seen fronted IsFront Any itself c.args.text.now None c.from_residual.result (sym c.from_residual.ensures) (front-none c.args.text.now c.in_err-behind.ensures)
+    as-seen fronted IsFront Any itself c.args.text.now None c.from_residual.result (sym c.from_residual.ensures)
+    (front-none c.args.text.now c.in_err-behind.ensures)
 
 pub returns-in_err-named-clause-value : goal.returns-in_err-named-clause-value
 returns-in_err-named-clause-value c =
-    as-seen fronted IsFront Any itself c.args.text.now None c.from_residual-in_err-named.result (sym c.from_residual-in_err-named.ensures)
+    as-seen fronted IsFront Any itself c.args.text.now None c.from_residual-in_err-named.result
+    (sym c.from_residual-in_err-named.ensures)
     (front-no_entries c.args.text.now c.in_ok-behind.field-0.now c.in_ok-size.size c.in_ok-size.rest.now
     c.in_ok-behind-2.field-0.now c.in_ok-behind.ensures c.in_ok-size.ensures.value c.in_ok-behind-2.ensures
     c.in_err-named.ensures.value)

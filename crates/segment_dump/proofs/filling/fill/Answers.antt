@@ -4,7 +4,9 @@ use Rattle.segment_dump.proofs.filling.fill.Goals as goal
 
 pub returns-in-String : goal.returns-in-String
 returns-in-String c =
-    fills-text c.args.segment.now c.fill_string.new.segment c.args.object.handle c.args.shape.kind c.args.shape.count c.args.lines.now c.fill_string.new.lines (length c.args.room.now) c.fill_string.result c.in-String.is
+    fills-text c.args.segment.now c.fill_string.new.segment c.args.object.handle c.args.shape.kind
+    c.args.shape.count c.args.lines.now c.fill_string.new.lines (length c.args.room.now) c.fill_string.result
+    c.in-String.is
     (c.fill_string.ensures (length c.args.room.now))
 
 pub returns-in-Vector : goal.returns-in-Vector
@@ -15,5 +17,7 @@ returns-in-Strings c = c.fill_reserved-in-Strings.ensures (subst IsVectorKind (s
 
 pub returns-in_default : goal.returns-in_default
 returns-in_default c =
-    fills-plain c.args.segment.now c.fill_elements.new.segment c.args.object.handle c.args.shape.kind c.args.shape.count c.args.lines.now c.fill_elements.new.lines (length c.args.room.now) c.fill_elements.result c.in_default.not-String
+    fills-plain c.args.segment.now c.fill_elements.new.segment c.args.object.handle c.args.shape.kind
+    c.args.shape.count c.args.lines.now c.fill_elements.new.lines (length c.args.room.now) c.fill_elements.result
+    c.in_default.not-String
     (not-vector c.args.shape.kind c.in_default.not-Vector c.in_default.not-Strings) c.fill_elements.ensures

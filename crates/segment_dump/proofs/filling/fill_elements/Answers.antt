@@ -3,28 +3,46 @@ use Rattle.segment_dump.proofs.Starts.{as-room, elements-cut, elements-end, elem
 use Rattle.segment_dump.proofs.filling.fill_elements.Goals as goal
 
 pub elements-init : goal.elements-init
-elements-init c = (elements-start c.args.segment.now c.args.object.handle c.args.shape.kind c.args.lines.now (length c.args.room.now), refl, c.requires)
+elements-init c = (
+  elements-start c.args.segment.now c.args.object.handle c.args.shape.kind c.args.lines.now
+      (length c.args.room.now),
+  refl,
+  c.requires,
+)
 
 pub returns-in_err-add_element : goal.returns-in_err-add_element
 returns-in_err-add_element c =
-    elements-cut c.args.segment.now c.elements.segment c.add_element.new.segment c.add_element.new.segment c.args.object.handle c.args.shape.kind c.args.shape.count c.args.lines.now c.elements.lines c.add_element.new.lines c.add_element.new.lines
-    (length c.args.room.now) c.elements.index _ c.from_residual.result (omega (arith, c.elements-test.true)) c.elements.invariant.0
-    (as-room c.elements.segment c.add_element.new.segment c.args.object.handle c.args.shape.kind c.elements.index c.elements.lines c.add_element.new.lines (length c.elements.room) (length c.args.room.now) _ c.elements.invariant.1
-    c.in_err-add_element.ensures.adds)
+    elements-cut c.args.segment.now c.elements.segment c.add_element.new.segment c.add_element.new.segment
+    c.args.object.handle c.args.shape.kind c.args.shape.count c.args.lines.now c.elements.lines
+    c.add_element.new.lines c.add_element.new.lines
+    (length c.args.room.now) c.elements.index _ c.from_residual.result (omega (arith, c.elements-test.true))
+    c.elements.invariant.0
+    (as-room c.elements.segment c.add_element.new.segment c.args.object.handle c.args.shape.kind c.elements.index
+    c.elements.lines c.add_element.new.lines (length c.elements.room) (length c.args.room.now) _ c.elements.invariant.1
+    c.in_err-add_element.ensures.visits)
 
 pub elements-preserved : goal.elements-preserved
 elements-preserved c = (
-  elements-more c.args.segment.now c.elements.segment c.add_element.new.segment c.args.object.handle c.args.shape.kind c.args.lines.now c.elements.lines c.add_element.new.lines (length c.args.room.now) c.elements.index c.in_ok-add_element.field-0
+  elements-more c.args.segment.now c.elements.segment c.add_element.new.segment c.args.object.handle
+      c.args.shape.kind c.args.lines.now c.elements.lines c.add_element.new.lines (length c.args.room.now)
+      c.elements.index c.in_ok-add_element.field-0
       c.elements.invariant.0
-      (as-room c.elements.segment c.add_element.new.segment c.args.object.handle c.args.shape.kind c.elements.index c.elements.lines c.add_element.new.lines (length c.elements.room) (length c.args.room.now) _ c.elements.invariant.1
-      c.in_ok-add_element.ensures.adds),
+      (as-room c.elements.segment c.add_element.new.segment c.args.object.handle c.args.shape.kind c.elements.index
+      c.elements.lines c.add_element.new.lines (length c.elements.room) (length c.args.room.now) _
+      c.elements.invariant.1
+      c.in_ok-add_element.ensures.visits),
   c.add_element.auto.room ∙ c.elements.invariant.1,
-  c.in_ok-add_element.ensures.here,
+  c.in_ok-add_element.ensures.in_place,
 )
 
 pub returns : goal.returns
 returns c =
-    elements-end c.args.segment.now c.elements.segment c.args.object.handle c.args.shape.kind c.args.shape.count c.args.lines.now c.elements.lines (length c.args.room.now) c.elements.index (omega (arith, c.elements-test.false, c.elements.auto.index-end))
+    elements-end c.args.segment.now c.elements.segment c.args.object.handle c.args.shape.kind c.args.shape.count
+    c.args.lines.now c.elements.lines (length c.args.room.now) c.elements.index (omega (
+      arith,
+      c.elements-test.false,
+      c.elements.auto.index-end,
+    ))
     c.elements.invariant.0
 
 pub add_element-requires : goal.add_element-requires

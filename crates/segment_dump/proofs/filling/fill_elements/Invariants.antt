@@ -1,7 +1,8 @@
 use Rattle.segment_dump.proofs.Common.{◌≡◌, length}
-use Rattle.segment_dump.specs.Builders.{HasObject}
+use Rattle.segment_dump.specs.Builders.{HasLocatedObject}
 use Rattle.segment_dump.proofs.Starts.{InElements}
 use Rattle.segment_dump.proofs.filling.fill_elements.Given as goal
 
 abbrev pub invariant-elements : goal.invariant-elements
-invariant-elements l = InElements l.fn.segment l.segment l.object.handle l.shape.kind l.fn.lines l.lines (length l.fn.room) l.index × (length l.room ≡ length l.fn.room) × HasObject l.segment l.object
+invariant-elements l = InElements l.fn.segment l.segment l.object.handle l.shape.kind l.fn.lines l.lines
+    (length l.fn.room) l.index × (length l.room ≡ length l.fn.room) × HasLocatedObject l.segment l.object

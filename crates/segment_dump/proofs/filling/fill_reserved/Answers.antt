@@ -5,12 +5,16 @@ use Rattle.segment_dump.proofs.filling.fill_reserved.Goals as goal
 
 pub returns-in-Ok : goal.returns-in-Ok
 returns-in-Ok c = λ v.
-    fills-reserved c.args.segment.now c.reserve.new.self c.args.object.handle c.args.shape.kind c.args.shape.count c.args.lines.now (length c.args.room.now) c.reserve.result v c.reserve.ensures.step c.fill_elements.new.segment c.fill_elements.new.lines
+    fills-reserved c.args.segment.now c.reserve.new.self c.args.object.handle c.args.shape.kind c.args.shape.count
+    c.args.lines.now (length c.args.room.now) c.reserve.result v c.reserve.ensures.step c.fill_elements.new.segment
+    c.fill_elements.new.lines
     c.fill_elements.result c.fill_elements.ensures
 
 pub returns-in-Err : goal.returns-in-Err
 returns-in-Err c = λ v.
-    fills-refused c.args.segment.now c.reserve.new.self c.args.object.handle c.args.shape.kind c.args.shape.count c.args.lines.now (length c.args.room.now) c.reserve.result v c.reserve.ensures.step c.reserve.new.self c.args.lines.now c.in-Err.why _
+    fills-refused c.args.segment.now c.reserve.new.self c.args.object.handle c.args.shape.kind c.args.shape.count
+    c.args.lines.now (length c.args.room.now) c.reserve.result v c.reserve.ensures.step c.reserve.new.self
+    c.args.lines.now c.in-Err.why _
     c.in-Err.is
 
 pub reserve-requires : goal.reserve-requires

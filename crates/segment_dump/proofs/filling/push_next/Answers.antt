@@ -3,14 +3,19 @@ use Rattle.segment_dump.proofs.HereObjects.{still_of_kind-here}
 use Rattle.segment_dump.proofs.Adds.{push-adds, push-unread}
 use Rattle.segment_dump.proofs.filling.push_next.Goals as goal
 
-pub returns-in_err-value-clause-adds : goal.returns-in_err-value-clause-adds
-returns-in_err-value-clause-adds c = λ index room. push-unread c.args.segment.now c.args.segment.now c.args.object.handle index room c.args.kind c.args.lines.now c.next_value.new.lines _ c.from_residual.result c.in_err-value.ensures
+pub returns-in_err-value-clause-visits : goal.returns-in_err-value-clause-visits
+returns-in_err-value-clause-visits c =
+    λ index room. push-unread c.args.segment.now c.args.segment.now c.args.object.handle index room c.args.kind
+    c.args.lines.now c.next_value.new.lines _ c.from_residual.result c.in_err-value.ensures
 
-pub returns-clause-adds : goal.returns-clause-adds
-returns-clause-adds c = λ index room. push-adds c.args.segment.now c.push_value.new.segment c.args.object.handle index room c.args.kind c.args.lines.now c.next_value.new.lines c.in_ok-value.value c.push_value.result c.ended.result c.in_ok-value.ensures c.push_value.ensures c.ended.ensures
+pub returns-clause-visits : goal.returns-clause-visits
+returns-clause-visits c = λ index room.
+    push-adds c.args.segment.now c.push_value.new.segment c.args.object.handle index room c.args.kind
+    c.args.lines.now c.next_value.new.lines c.in_ok-value.value c.push_value.result c.ended.result
+    c.in_ok-value.ensures c.push_value.ensures c.ended.ensures
 
 pub push_value-requires : goal.push_value-requires
 push_value-requires c = c.requires.object
 
-pub returns-clause-here : goal.returns-clause-here
-returns-clause-here c = still_of_kind-here c.requires _ _ _ _ c.push_value.ensures refl
+pub returns-clause-in_place : goal.returns-clause-in_place
+returns-clause-in_place c = still_of_kind-here c.requires _ _ _ _ c.push_value.ensures refl

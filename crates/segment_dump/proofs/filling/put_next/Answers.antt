@@ -4,20 +4,28 @@ use Rattle.segment_dump.proofs.Found.{never-ok}
 use Rattle.segment_dump.proofs.Adds.{put-adds, put-unread}
 use Rattle.segment_dump.proofs.filling.put_next.Goals as goal
 
-pub returns-in_err-key-clause-adds : goal.returns-in_err-key-clause-adds
-returns-in_err-key-clause-adds c = λ index room. put-unread c.args.segment.now c.args.segment.now c.args.object.handle index room c.args.keys c.args.values c.args.lines.now c.next_pair.new.lines _ c.from_residual.result c.in_err-key.ensures
+pub returns-in_err-key-clause-visits : goal.returns-in_err-key-clause-visits
+returns-in_err-key-clause-visits c =
+    λ index room. put-unread c.args.segment.now c.args.segment.now c.args.object.handle index room c.args.keys
+    c.args.values c.args.lines.now c.next_pair.new.lines _ c.from_residual.result c.in_err-key.ensures
 
-pub returns-in-Ok-clause-adds : goal.returns-in-Ok-clause-adds
-returns-in-Ok-clause-adds c = λ index room. put-adds c.args.segment.now c.map_put_any.new.self c.args.object.handle index room c.args.keys c.args.values c.args.lines.now c.next_pair.new.lines c.in_ok-key.key c.in_ok-key.value c.map_put_any.result _ c.in_ok-key.ensures c.map_put_any.ensures.step (λ e. refl)
+pub returns-in-Ok-clause-visits : goal.returns-in-Ok-clause-visits
+returns-in-Ok-clause-visits c =
+    λ index room. put-adds c.args.segment.now c.map_put_any.new.self c.args.object.handle index room c.args.keys
+    c.args.values c.args.lines.now c.next_pair.new.lines c.in_ok-key.key c.in_ok-key.value c.map_put_any.result _
+    c.in_ok-key.ensures c.map_put_any.ensures.step (λ e. refl)
 
-pub returns-in-Err-clause-adds : goal.returns-in-Err-clause-adds
-returns-in-Err-clause-adds c = λ index room. put-adds c.args.segment.now c.map_put_any.new.self c.args.object.handle index room c.args.keys c.args.values c.args.lines.now c.next_pair.new.lines c.in_ok-key.key c.in_ok-key.value c.map_put_any.result _ c.in_ok-key.ensures c.map_put_any.ensures.step (λ e. absurd (never-ok _ true (sym c.in-Err.is ∙ e)))
+pub returns-in-Err-clause-visits : goal.returns-in-Err-clause-visits
+returns-in-Err-clause-visits c =
+    λ index room. put-adds c.args.segment.now c.map_put_any.new.self c.args.object.handle index room c.args.keys
+    c.args.values c.args.lines.now c.next_pair.new.lines c.in_ok-key.key c.in_ok-key.value c.map_put_any.result _
+    c.in_ok-key.ensures c.map_put_any.ensures.step (λ e. absurd (never-ok _ true (sym c.in-Err.is ∙ e)))
 
 pub map_put_any-requires : goal.map_put_any-requires
 map_put_any-requires c = c.requires.object
 
-pub returns-in-Ok-clause-here : goal.returns-in-Ok-clause-here
-returns-in-Ok-clause-here c = still_of_kind-here c.requires _ _ _ _ c.map_put_any.ensures.step refl
+pub returns-in-Ok-clause-in_place : goal.returns-in-Ok-clause-in_place
+returns-in-Ok-clause-in_place c = still_of_kind-here c.requires _ _ _ _ c.map_put_any.ensures.step refl
 
-pub returns-in-Err-clause-here : goal.returns-in-Err-clause-here
-returns-in-Err-clause-here c = still_of_kind-here c.requires _ _ _ _ c.map_put_any.ensures.step refl
+pub returns-in-Err-clause-in_place : goal.returns-in-Err-clause-in_place
+returns-in-Err-clause-in_place c = still_of_kind-here c.requires _ _ _ _ c.map_put_any.ensures.step refl

@@ -3,14 +3,19 @@ use Rattle.segment_dump.proofs.HereObjects.{still_of_kind-here}
 use Rattle.segment_dump.proofs.Adds.{set-adds, set-unread}
 use Rattle.segment_dump.proofs.filling.set_next.Goals as goal
 
-pub returns-in_err-value-clause-adds : goal.returns-in_err-value-clause-adds
-returns-in_err-value-clause-adds c = λ room. set-unread c.args.segment.now c.args.segment.now c.args.object.handle c.args.index room c.args.kind c.args.lines.now c.next_value.new.lines _ c.from_residual.result c.in_err-value.ensures
+pub returns-in_err-value-clause-visits : goal.returns-in_err-value-clause-visits
+returns-in_err-value-clause-visits c =
+    λ room. set-unread c.args.segment.now c.args.segment.now c.args.object.handle c.args.index room c.args.kind
+    c.args.lines.now c.next_value.new.lines _ c.from_residual.result c.in_err-value.ensures
 
-pub returns-clause-adds : goal.returns-clause-adds
-returns-clause-adds c = λ room. set-adds c.args.segment.now c.set_value.new.segment c.args.object.handle c.args.index room c.args.kind c.args.lines.now c.next_value.new.lines c.in_ok-value.value c.set_value.result c.ended.result c.in_ok-value.ensures c.set_value.ensures c.ended.ensures
+pub returns-clause-visits : goal.returns-clause-visits
+returns-clause-visits c = λ room.
+    set-adds c.args.segment.now c.set_value.new.segment c.args.object.handle c.args.index room c.args.kind
+    c.args.lines.now c.next_value.new.lines c.in_ok-value.value c.set_value.result c.ended.result
+    c.in_ok-value.ensures c.set_value.ensures c.ended.ensures
 
 pub set_value-requires : goal.set_value-requires
 set_value-requires c = c.requires.object
 
-pub returns-clause-here : goal.returns-clause-here
-returns-clause-here c = still_of_kind-here c.requires _ _ _ _ c.set_value.ensures refl
+pub returns-clause-in_place : goal.returns-clause-in_place
+returns-clause-in_place c = still_of_kind-here c.requires _ _ _ _ c.set_value.ensures refl

@@ -3,4 +3,5 @@ use Rattle.segment_dump.proofs.PieceReads.{InPieces}
 use Rattle.segment_dump.proofs.filling_texts.collect.Given as goal
 
 abbrev pub invariant-pieces : goal.invariant-pieces
-invariant-pieces l = InPieces l.fn.lines l.fn.room l.lines l.room l.len l.filled l.counter × (l.filled ≤ length l.room) × (length l.room ≡ length l.fn.room)
+invariant-pieces l = InPieces l.fn.lines l.fn.room l.lines l.room l.len l.filled l.counter
+    × (l.filled ≤ length l.room) × (length l.room ≡ length l.fn.room)

@@ -1,9 +1,9 @@
 use Rattle.segment_dump.proofs.Common.{ℕ}
-use Rattle.segment_dump.specs.Builders.{HasObject}
+use Rattle.segment_dump.specs.Builders.{HasLocatedObject}
 use Rattle.segment_dump.proofs.Strings.{InString}
 use Rattle.segment_dump.proofs.filling_texts.fill_string.Given as goal
 
 abbrev pub invariant-pieces : goal.invariant-pieces
 invariant-pieces l =
     ((room : ℕ) → InString l.fn.segment l.segment l.object.handle l.fn.lines l.lines room l.len l.counter)
-    × HasObject l.segment l.object
+    × HasLocatedObject l.segment l.object

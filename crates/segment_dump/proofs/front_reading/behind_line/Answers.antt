@@ -13,8 +13,10 @@ bytes-preserved c =
       first = first-goes c.args.text.now c.bytes.rest.now c.in-len1-up.len_at_least other c.bytes.invariant.first;
     }
 
-pub returns-then-first-eq10-clause-skips : goal.returns-then-first-eq10-clause-skips
-returns-then-first-eq10-clause-skips c = skip-ends c.args.text.now c.bytes.rest.now c.in-len1-up.len_at_least c.if-first-eq10.true c.bytes.invariant.skips
+pub returns-then-first-eq10-clause-skip_count : goal.returns-then-first-eq10-clause-skip_count
+returns-then-first-eq10-clause-skip_count c =
+    skip-ends c.args.text.now c.bytes.rest.now c.in-len1-up.len_at_least c.if-first-eq10.true c.bytes.invariant.skips
 
-pub returns-then-first-eq10-clause-lined : goal.returns-then-first-eq10-clause-lined
-returns-then-first-eq10-clause-lined c = first-ends c.args.text.now c.bytes.rest.now c.in-len1-up.len_at_least c.if-first-eq10.true c.bytes.invariant.first
+pub returns-then-first-eq10-clause-line : goal.returns-then-first-eq10-clause-line
+returns-then-first-eq10-clause-line c =
+    first-ends c.args.text.now c.bytes.rest.now c.in-len1-up.len_at_least c.if-first-eq10.true c.bytes.invariant.first

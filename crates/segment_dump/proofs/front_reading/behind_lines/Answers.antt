@@ -7,21 +7,29 @@ use Rattle.segment_dump.proofs.front_reading.behind_lines.Goals as goal
 pub lines-init : goal.lines-init
 lines-init c = record { skips = lines-start c.args.text.now c.args.count; lined = lined-none c.args.text.now }
 
-pub returns-in_err-rest-clause-skips : goal.returns-in_err-rest-clause-skips
-returns-in_err-rest-clause-skips c =
+pub returns-in_err-rest-clause-skip_count : goal.returns-in_err-rest-clause-skip_count
+returns-in_err-rest-clause-skip_count c =
     subst (λ o. Skips lines_text (AreLines c.args.count) c.args.text.now (seen_rest o)) (sym c.from_residual.ensures)
-    (lines-cut c.args.text.now c.lines.rest.now c.args.count c.lines.counter c.behind_line.result (omega (arith, c.lines-test.true)) c.lines.invariant.skips c.behind_line.ensures.skips c.in_err-rest.was)
+    (lines-cut c.args.text.now c.lines.rest.now c.args.count c.lines.counter c.behind_line.result (omega (
+      arith,
+      c.lines-test.true,
+    )) c.lines.invariant.skips c.behind_line.ensures.skip_count c.in_err-rest.was)
 
 pub lines-preserved : goal.lines-preserved
 lines-preserved c = record {
-  skips = lines-more c.args.text.now c.lines.rest.now c.args.count c.lines.counter c.behind_line.result _ (omega (arith, c.lines-test.true)) c.lines.invariant.skips c.behind_line.ensures.skips c.in_ok-rest.was;
-  lined = lined-more c.args.text.now c.lines.rest.now _ c.lines.counter 1 c.lines.invariant.lined c.in_ok-rest.ensures.lined;
+  skips = lines-more c.args.text.now c.lines.rest.now c.args.count c.lines.counter c.behind_line.result _
+      (omega (arith, c.lines-test.true)) c.lines.invariant.skips c.behind_line.ensures.skip_count c.in_ok-rest.was;
+  lined = lined-more c.args.text.now c.lines.rest.now _ c.lines.counter 1 c.lines.invariant.lined
+      c.in_ok-rest.ensures.lined;
 }
 
-pub returns-clause-skips : goal.returns-clause-skips
-returns-clause-skips c = lines-end c.args.text.now c.lines.rest.now c.args.count c.lines.counter (omega (arith, c.lines-test.false)) c.lines.invariant.skips
+pub returns-clause-skip_count : goal.returns-clause-skip_count
+returns-clause-skip_count c = lines-end c.args.text.now c.lines.rest.now c.args.count c.lines.counter (omega (
+  arith,
+  c.lines-test.false,
+)) c.lines.invariant.skips
 
-pub returns-clause-lined : goal.returns-clause-lined
-returns-clause-lined c =
+pub returns-clause-line : goal.returns-clause-line
+returns-clause-line c =
     let all : c.lines.counter ≡ c.args.count = omega (arith, c.lines-test.false) in
     subst (λ (n : ℕ). Begins IsLined c.args.text.now n c.lines.rest.now) all c.lines.invariant.lined

@@ -7,15 +7,16 @@ returns-in_err-kind-clause-value c =
     let w = c.next_word in
     as-seen kind_text Any Breaks itself c.args.text.now None c.from_residual.result (sym c.from_residual.ensures)
     (kind-reads c.args.text.now w.result.0.now w.result.1.now None (sym c.in_err-kind.was ∙ c.kind_of_word.ensures)
-    (record { whole = w.ensures.whole; high = w.ensures.word; breaks = w.ensures.breaks }))
+    (record { whole = w.ensures.contents; high = w.ensures.word; breaks = w.ensures.line_breaks }))
 
 pub returns-clause-value : goal.returns-clause-value
 returns-clause-value c =
     let w = c.next_word in
-    kind-reads c.args.text.now w.result.0.now w.result.1.now (Some c.in_ok-kind.kind) (sym c.in_ok-kind.was ∙ c.kind_of_word.ensures)
-    (record { whole = w.ensures.whole; high = w.ensures.word; breaks = w.ensures.breaks })
+    kind-reads c.args.text.now w.result.0.now w.result.1.now (Some c.in_ok-kind.kind) (sym c.in_ok-kind.was
+    ∙ c.kind_of_word.ensures)
+    (record { whole = w.ensures.contents; high = w.ensures.word; breaks = w.ensures.line_breaks })
 
 pub returns-clause-named : goal.returns-clause-named
 returns-clause-named c =
     let w = c.next_word in
-    record { bytes = w.result.0.now; is = w.ensures.whole; says = sym c.kind_of_word.ensures ∙ c.in_ok-kind.was }
+    record { bytes = w.result.0.now; is = w.ensures.contents; says = sym c.kind_of_word.ensures ∙ c.in_ok-kind.was }

@@ -6,22 +6,23 @@ use Rattle.segment_dump.proofs.Owed.{of-cut, of-one, of-same, of-then}
 use Rattle.segment_dump.proofs.json.put_object.Goals as goal
 
 pub object_here-object-requires : goal.object_here-object-requires
-object_here-object-requires g c = said-here c.args.segment.now c.args.said c.requires.said
+object_here-object-requires g c = said-here c.args.segment.now c.args.said c.requires.text
 
 pub count_of-count-requires : goal.count_of-count-requires
-count_of-count-requires g c = c.object_here-object.ensures.located
+count_of-count-requires g c = c.object_here-object.ensures.location
 
 pub put_value-requires-clause-object : goal.put_value-requires-clause-object
-put_value-requires-clause-object g c = c.object_here-object.ensures.located
+put_value-requires-clause-object g c = c.object_here-object.ensures.location
 
 pub returns-in_err-put_key : goal.returns-in_err-put_key
 returns-in_err-put_key g c =
     let said = c.args.said in
     of-same
-    (of-cut (λ d. json_kind said.kind ++ (opening said.kind ++ (laid_at in_json d (ByHandle said.handle) ++ closing said.kind)))
+    (of-cut (λ d. json_kind said.kind
+    ++ (opening said.kind ++ (laid_at in_json d (ByHandle said.handle) ++ closing said.kind)))
     c.from_residual.ensures.0
     (of-one {owed = λ d. json_key said.class said.name.now} c.in_err-put_key.ensures (λ d st. refl)))
-    (line-said c.args.segment.now said c.requires.said)
+    (line-said c.args.segment.now said c.requires.text)
 
 pub returns-in_err-put_kind : goal.returns-in_err-put_kind
 returns-in_err-put_kind g c =
@@ -31,7 +32,7 @@ returns-in_err-put_kind g c =
     (of-cut (λ d. opening said.kind ++ (laid_at in_json d (ByHandle said.handle) ++ closing said.kind))
     c.from_residual-in_err-put_kind.ensures.0
     (of-one {owed = λ d. json_kind said.kind} c.in_err-put_kind.ensures (λ d st. refl))))
-    (line-said c.args.segment.now said c.requires.said)
+    (line-said c.args.segment.now said c.requires.text)
 
 pub returns : goal.returns
 returns g c =
@@ -41,6 +42,6 @@ returns g c =
     (of-then (of-one {owed = λ d. json_kind said.kind} c.in_ok-put_kind.ensures (λ d st. refl))
     (of-same (rw c.object_here-object.ensures.handle at c.put_value.ensures)
     (λ d st. ap (λ k. opening k ++ (laid_at in_json d (ByHandle said.handle) ++ closing k))
-    (kind-said c.args.segment.now said c.object_here-object.result c.requires.said
-    c.object_here-object.ensures.handle c.object_here-object.ensures.located d st)))))
-    (line-said c.args.segment.now said c.requires.said)
+    (kind-said c.args.segment.now said c.object_here-object.result c.requires.text
+    c.object_here-object.ensures.handle c.object_here-object.ensures.location d st)))))
+    (line-said c.args.segment.now said c.requires.text)

@@ -3,16 +3,22 @@ use Rattle.std.specs.Prelude.{IfSome}
 use Rattle.segment_dump.specs.Loading.{IsLacking}
 use Rattle.segment_dump.proofs.loading.load.Goals as goal
 
-pub returns-clause-done : goal.returns-clause-done
-returns-clause-done c =
-    subst (λ t. MatchResult c.load_lines.result (IsLoaded t c.args.size) (IsNotLoaded t c.args.region c.args.base c.args.size (length c.args.room.now))) c.without_notes.ensures c.load_lines.ensures.done
+pub returns-clause-completion : goal.returns-clause-completion
+returns-clause-completion c =
+    subst (λ t. MatchResult c.load_lines.result (IsLoaded t c.args.size)
+    (IsNotLoaded t c.args.region c.args.base c.args.size (length c.args.room.now))) c.without_notes.ensures
+    c.load_lines.ensures.completion
 
 pub returns-clause-exact : goal.returns-clause-exact
-returns-clause-exact c = subst (λ t. IsExact t (length c.args.region) c.args.base c.args.size (length c.args.room.now) (cause_in c.load_lines.result)) c.without_notes.ensures c.load_lines.ensures.exact
+returns-clause-exact c = subst (λ t.
+    IsExact t (length c.args.region) c.args.base c.args.size (length c.args.room.now)
+    (cause_in c.load_lines.result)) c.without_notes.ensures c.load_lines.ensures.exact
 
-pub returns-clause-succeeds : goal.returns-clause-succeeds
-returns-clause-succeeds c = subst (λ t. Succeeds t (length c.args.region) c.args.base c.args.size (length c.args.room.now) c.load_lines.result) c.without_notes.ensures c.load_lines.ensures.succeeds
+pub returns-clause-success : goal.returns-clause-success
+returns-clause-success c = subst (λ t.
+    Succeeds t (length c.args.region) c.args.base c.args.size (length c.args.room.now) c.load_lines.result)
+    c.without_notes.ensures c.load_lines.ensures.success
 
-pub returns-clause-lacking : goal.returns-clause-lacking
-returns-clause-lacking c = subst (λ t. IfSome (cause_in c.load_lines.result) (IsLacking t (length c.args.region)
-    c.args.base c.args.size (length c.args.room.now))) c.without_notes.ensures c.load_lines.ensures.lacking
+pub returns-clause-cause : goal.returns-clause-cause
+returns-clause-cause c = subst (λ t. IfSome (cause_in c.load_lines.result) (IsLacking t (length c.args.region)
+    c.args.base c.args.size (length c.args.room.now))) c.without_notes.ensures c.load_lines.ensures.cause

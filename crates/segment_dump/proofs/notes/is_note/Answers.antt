@@ -5,5 +5,5 @@ use Rattle.segment_dump.proofs.notes.is_note.Goals as goal
 pub returns-clause-note : goal.returns-clause-note
 returns-clause-note c = λ e. note-told c.args.line.now true c.requires (ap (λ b. b == 0x23) c.if-line-ne35.false) e
 
-pub returns-clause-other : goal.returns-clause-other
-returns-clause-other c = λ e s. note-told c.args.line.now false c.requires (ap (λ b. b == 0x23) c.if-line-ne35.false) e
+pub returns-clause-peer : goal.returns-clause-peer
+returns-clause-peer c = λ e s. note-told c.args.line.now false c.requires (ap (λ b. b == 0x23) c.if-line-ne35.false) e

@@ -3,7 +3,11 @@ use Rattle.segment_dump.proofs.NoteLines.{last-byte, starts-at}
 use Rattle.segment_dump.proofs.notes.last_line_at.Goals as goal
 
 pub bytes-init : goal.bytes-init
-bytes-init c = (omega (arith, c.saturating_sub-at.ensures), last-byte c.args.text.now c.saturating_sub-at.result c.saturating_sub-at.ensures, λ s. omega (arith, c.saturating_sub-at.ensures))
+bytes-init c = (
+  omega (arith, c.saturating_sub-at.ensures),
+  last-byte c.args.text.now c.saturating_sub-at.result c.saturating_sub-at.ensures,
+  λ s. omega (arith, c.saturating_sub-at.ensures),
+)
 
 pub returns-else-text-at-ne10 : goal.returns-else-text-at-ne10
 returns-else-text-at-ne10 c = record {

@@ -3,7 +3,8 @@ use Rattle.segment_dump.proofs.Common.{◌≡◌, ◌≤◌, ◌<◌, true, drop
 use Rattle.segment_dump.proofs.notes.last_line_at.Given as goal
 
 abbrev pub invariant-bytes : goal.invariant-bytes
-invariant-bytes l = (l.at ≤ length l.text) × (is_line (drop l.at l.text) ≡ true) × (0 < length l.text → l.at < length l.text)
+invariant-bytes l = (l.at ≤ length l.text) × (is_line (drop l.at l.text) ≡ true)
+    × (0 < length l.text → l.at < length l.text)
 
 abbrev pub decreases-bytes : goal.decreases-bytes
 decreases-bytes l = l.at

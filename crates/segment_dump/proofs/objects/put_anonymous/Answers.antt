@@ -1,4 +1,5 @@
-use Rattle.segment_dump.proofs.Common.{◌≡◌, ◌≤◌, length, sym, ap, subst, ◌∙◌, Directory, SaysAt, State, StandsFor}
+use Rattle.segment_dump.proofs.Common.{◌≡◌, ◌≤◌, length, sym, ap, subst, ◌∙◌, Directory, SaysAt, SegmentState}
+use Rattle.segment_dump.proofs.Common.{DenotesCurrent}
 use Rattle.segment_dump.proofs.Common.{WritesOf, where_anonymous, parts_until}
 use Rattle.std.proofs.Common.{rules}
 use Rattle.segment_dump.proofs.Members.{all-objects, said-of}
@@ -22,12 +23,13 @@ objects-init g c =
           (of-start part);
     }
 
-pub put_if_anonymous-requires-clause-said : goal.put_if_anonymous-requires-clause-said
-put_if_anonymous-requires-clause-said g c =
+pub put_if_anonymous-requires-clause-text : goal.put_if_anonymous-requires-clause-text
+put_if_anonymous-requires-clause-text g c =
     let s = c.args.segment.now in
     let walk = c.objects.said-iterator in
     let at : SaysAt s (λ (d : Directory). d.objects) walk.at c.in-Some.said =
-    subst (λ (t : State). SaysAt t (λ (d : Directory). d.objects) walk.at c.in-Some.said) c.objects.invariant.segment c.in-Some.ensures.steps.says in
+    subst (λ (t : SegmentState). SaysAt t (λ (d : Directory). d.objects) walk.at c.in-Some.said)
+    c.objects.invariant.segment c.in-Some.ensures.steps.says in
     said-of s (λ (d : Directory). d.objects) walk.at c.in-Some.said at (λ d st. all-objects s.cut.bytes d st)
 
 pub returns-in_err-put_if_anonymous : goal.returns-in_err-put_if_anonymous
@@ -35,7 +37,8 @@ returns-in_err-put_if_anonymous g c =
     let s = c.args.segment.now in
     let walk = c.objects.said-iterator in
     let at : SaysAt s (λ (d : Directory). d.objects) walk.at c.in-Some.said =
-    subst (λ (t : State). SaysAt t (λ (d : Directory). d.objects) walk.at c.in-Some.said) c.objects.invariant.segment c.in-Some.ensures.steps.says in
+    subst (λ (t : SegmentState). SaysAt t (λ (d : Directory). d.objects) walk.at c.in-Some.said)
+    c.objects.invariant.segment c.in-Some.ensures.steps.says in
     of-same (places-cut at (λ d st. all-objects s.cut.bytes d st) c.objects.invariant.told
     c.in_err-put_if_anonymous.ensures c.from_residual.ensures.0)
     (λ d st. anonymous-filtered (g.T.Telling.text c.args.telling.now) d.objects)
@@ -49,7 +52,8 @@ objects-preserved g c =
     let steps = c.in-Some.ensures.steps in
     let part = object_at_place (where_anonymous (g.T.Telling.text c.args.telling.now)) (λ (d : Directory). d.objects) in
     let at : SaysAt s (λ (d : Directory). d.objects) walk.at c.in-Some.said =
-    subst (λ (t : State). SaysAt t (λ (d : Directory). d.objects) walk.at c.in-Some.said) c.objects.invariant.segment
+    subst (λ (t : SegmentState). SaysAt t (λ (d : Directory). d.objects) walk.at c.in-Some.said)
+    c.objects.invariant.segment
     steps.says in
     record {
       can = tt;
@@ -65,7 +69,8 @@ pub returns : goal.returns
 returns g c =
     let s = c.args.segment.now in
     let walk = c.objects.said-iterator in
-    let none : (d : Directory) → StandsFor s.cut.bytes d → length d.objects ≤ walk.at =
-    subst (λ (t : State). (d : Directory) → StandsFor t.cut.bytes d → length d.objects ≤ walk.at) c.objects.invariant.segment c.in-None.ensures.steps.says in
+    let none : (d : Directory) → DenotesCurrent s.cut.bytes d → length d.objects ≤ walk.at =
+    subst (λ (t : SegmentState). (d : Directory) → DenotesCurrent t.cut.bytes d
+    → length d.objects ≤ walk.at) c.objects.invariant.segment c.in-None.ensures.steps.says in
     of-same (places-all s (λ (d : Directory). d.objects) (where_anonymous (g.T.Telling.text c.args.telling.now)) walk.at
     c.objects.invariant.told none) (λ d st. anonymous-filtered (g.T.Telling.text c.args.telling.now) d.objects)

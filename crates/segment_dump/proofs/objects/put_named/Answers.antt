@@ -7,13 +7,18 @@ use Rattle.segment_dump.proofs.objects.put_named.Goals as goal
 
 pub named_instance-requires : goal.named_instance-requires
 named_instance-requires g c = record {
-  below = λ d k. omega (arith, c.names-test.true, named-is c.args.segment.now.mode d c.num_named-index-end.result (c.num_named-index-end.ensures.answers d k));
+  below = λ d k. omega (
+    arith,
+    c.names-test.true,
+    named-is c.args.segment.now.mode d c.num_named-index-end.result (c.num_named-index-end.ensures.answers d k),
+  );
 }
 
-pub tell-requires-clause-said : goal.tell-requires-clause-said
-tell-requires-clause-said g c =
+pub tell-requires-clause-text : goal.tell-requires-clause-text
+tell-requires-clause-text g c =
     let s = c.args.segment.now in
-    said-of s named_objects c.names.index c.named_instance.result c.named_instance.ensures (λ d st. all-named s.cut.bytes d st)
+    said-of s named_objects c.names.index c.named_instance.result c.named_instance.ensures (λ d st.
+    all-named s.cut.bytes d st)
 
 pub names-init : goal.names-init
 names-init g c = of-start (object_at_place (g.T.Telling.text c.args.telling.now) named_objects)

@@ -7,13 +7,18 @@ use Rattle.segment_dump.proofs.objects.put_unique.Goals as goal
 
 pub unique_instance-requires : goal.unique_instance-requires
 unique_instance-requires g c = record {
-  below = λ d k. omega (arith, c.kinds-test.true, unique-is c.args.segment.now.mode d c.num_unique-index-end.result (c.num_unique-index-end.ensures.answers d k));
+  below = λ d k. omega (
+    arith,
+    c.kinds-test.true,
+    unique-is c.args.segment.now.mode d c.num_unique-index-end.result (c.num_unique-index-end.ensures.answers d k),
+  );
 }
 
-pub tell-requires-clause-said : goal.tell-requires-clause-said
-tell-requires-clause-said g c =
+pub tell-requires-clause-text : goal.tell-requires-clause-text
+tell-requires-clause-text g c =
     let s = c.args.segment.now in
-    said-of s unique_objects c.kinds.index c.unique_instance.result c.unique_instance.ensures (λ d st. all-unique s.cut.bytes d st)
+    said-of s unique_objects c.kinds.index c.unique_instance.result c.unique_instance.ensures (λ d st.
+    all-unique s.cut.bytes d st)
 
 pub kinds-init : goal.kinds-init
 kinds-init g c = of-start (object_at_place (g.T.Telling.text c.args.telling.now) unique_objects)

@@ -8,18 +8,22 @@ pieces-init g c = writes_none (g.W.Sink.history c.args.out.now) 0 (parts_until (
 
 pub returns-in_err-put_piece : goal.returns-in_err-put_piece
 returns-in_err-put_piece g c =
-    part-cut (piece_line c.args.text.now) (g.W.Sink.history c.args.out.now) (g.W.Sink.history c.pieces.out) (g.W.Sink.history c.put_piece.new.out) c.pieces.index c.pieces.invariant
-    (pieces_in (length c.args.text.now)) (omega (arith, c.pieces-test.true, c.pieces_in-index-end.ensures)) _ c.in_err-put_piece.ensures c.from_residual.result c.from_residual.ensures.0
+    part-cut (piece_line c.args.text.now) (g.W.Sink.history c.args.out.now) (g.W.Sink.history c.pieces.out)
+    (g.W.Sink.history c.put_piece.new.out) c.pieces.index c.pieces.invariant
+    (pieces_in (length c.args.text.now)) (omega (arith, c.pieces-test.true, c.pieces_in-index-end.ensures)) _
+    c.in_err-put_piece.ensures c.from_residual.result c.from_residual.ensures.0
 
 pub pieces-preserved : goal.pieces-preserved
 pieces-preserved g c =
-    part-told (piece_line c.args.text.now) (g.W.Sink.history c.args.out.now) (g.W.Sink.history c.pieces.out) (g.W.Sink.history c.put_piece.new.out) c.pieces.index c.pieces.invariant
+    part-told (piece_line c.args.text.now) (g.W.Sink.history c.args.out.now) (g.W.Sink.history c.pieces.out)
+    (g.W.Sink.history c.put_piece.new.out) c.pieces.index c.pieces.invariant
     _ c.in_ok-put_piece.ensures
 
 pub returns : goal.returns
 returns g c =
     let was = c.pieces.invariant in
-    let all : c.pieces.index ≡ pieces_in (length c.args.text.now) = omega (arith, c.pieces-test.false, c.pieces.auto.index-end, c.pieces_in-index-end.ensures) in
+    let all : c.pieces.index ≡ pieces_in (length c.args.text.now) =
+    omega (arith, c.pieces-test.false, c.pieces.auto.index-end, c.pieces_in-index-end.ensures) in
     record {
       ok = was.ok ∙ ap (λ n. (g.W.Sink.history c.args.out.now).bytes ++ parts_until (piece_line c.args.text.now) n) all;
       err = tt;

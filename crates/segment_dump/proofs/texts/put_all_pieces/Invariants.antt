@@ -3,4 +3,5 @@ use Rattle.segment_dump.proofs.PartLines.{well}
 use Rattle.segment_dump.proofs.texts.put_all_pieces.Given as goal
 
 abbrev pub invariant-pieces : goal.invariant-pieces
-invariant-pieces g l = Writes (g.W.Sink.history l.initial.out) (g.W.Sink.history l.out) well (parts_until (piece_line l.text) l.index)
+invariant-pieces g l = Writes (g.W.Sink.history l.initial.out) (g.W.Sink.history l.out) well
+    (parts_until (piece_line l.text) l.index)

@@ -3,4 +3,9 @@ use Rattle.segment_dump.proofs.NoteLaws.{notes-are-left-out}
 use Rattle.segment_dump.proofs.theorems.notes_are_left_out.Goals as goal
 
 pub returns : goal.returns
-returns c = record { behind = notes-are-left-out; capacities = capacities-are-left-out; none = dumps-have-no-notes; only = notes-are-cut }
+returns c = record {
+  after = notes-are-left-out;
+  capacities = capacities-are-left-out;
+  absent = dumps-have-no-notes;
+  uniqueness = notes-are-cut;
+}

@@ -1,7 +1,7 @@
 use Rattle.std.proofs.Common.{◌≡◌, ◌∙◌, ◌+◌, Err, length, sym}
 use Rattle.std.proofs.lemmas.Result.{err_from_is_err_and}
 use Rattle.raw_region.specs.Format.{current}
-use Rattle.image_check.specs.declared.versions.Versions.TheVariants.{Current}
+use Rattle.image_check.specs.declared.versions.AcceptedVersions.TheVariants.{Current}
 use Rattle.image_check.specs.EarlyTests.{size_word}
 use Rattle.image_check.specs.Examining.{ExaminesBytes}
 use Rattle.grow_shrink.specs.LargerRegion.{region_len}
@@ -15,8 +15,11 @@ returns-in_err-text g c =
     let old = g.S.Source.history c.args.reader.now.inner in
     let new = g.S.Source.history c.read_on.new.reader.inner in
     rw (p.1, p.2) (record {
-      why = unread-on Current old new c.args.len 0 c.read_on.ensures.grows c.requires.small c.in_err-text.field-0.0 c.in_err-text.ensures.reads;
-      told = told-whole new (size_word old.bytes) (says-on Current old new c.args.len 0 c.read_on.ensures.grows c.requires.small) c.in_err-text.field-0.0 c.in_err-text.ensures.reads;
+      why = unread-on Current old new c.args.len 0 c.read_on.ensures.history c.requires.max_size
+          c.in_err-text.field-0.0 c.in_err-text.ensures.reading;
+      told = told-whole new (size_word old.bytes)
+          (says-on Current old new c.args.len 0 c.read_on.ensures.history c.requires.max_size)
+          c.in_err-text.field-0.0 c.in_err-text.ensures.reading;
     })
 
 pub returns-in_err-region : goal.returns-in_err-region
@@ -24,8 +27,9 @@ returns-in_err-region g c =
     let p = err_from_is_err_and c.from_residual-in_err-region.result c.from_residual-in_err-region.ensures.1 in
     let len : c.len.result ≡ length c.in_ok-text.text.items = c.len.ensures ∙ c.in_ok-text.text.ok.0 in
     rw (p.1, p.2, c.in_err-region.ensures.refused, len) (record {
-      why = unroomed-on Current (g.S.Source.history c.args.reader.now.inner) (g.S.Source.history c.read_on.new.reader.inner) c.args.len 0 c.read_on.ensures.grows c.requires.small
-          c.in_ok-text.text.items c.in_ok-text.ensures.reads;
+      why = unroomed-on Current (g.S.Source.history c.args.reader.now.inner)
+          (g.S.Source.history c.read_on.new.reader.inner) c.args.len 0 c.read_on.ensures.history c.requires.max_size
+          c.in_ok-text.text.items c.in_ok-text.ensures.reading;
       told = tt;
     })
 
@@ -37,6 +41,9 @@ unreachable-requires g c =
     let value = c.as_slice-image.ensures.value in
     let len : c.len.result ≡ length c.in_ok-text.text.items = c.len.ensures ∙ c.in_ok-text.text.ok.0 in
     let room : length c.in_ok-region.region ≡ region_len (length text + 0) = rw len at c.in_ok-region.ensures.len in
-    let x : ExaminesBytes current text c.in_ok-region.region 0 (Err c.in-Err.refused) = rw value at c.in-Err.ensures.examines in
-    text-fits Current old new c.args.len 0 c.read_on.ensures.grows c.requires.small text c.in_ok-text.ensures.reads c.in_ok-region.region room
-    (text-roomless text (length c.in_ok-region.region) c.in-Err.refused.cause x.answers.why (sym c.unexamined.ensures ∙ c.in-None.is))
+    let x : ExaminesBytes current text c.in_ok-region.region 0 (Err c.in-Err.refused) =
+    rw value at c.in-Err.ensures.examines in
+    text-fits Current old new c.args.len 0 c.read_on.ensures.history c.requires.max_size text
+    c.in_ok-text.ensures.reading c.in_ok-region.region room
+    (text-roomless text (length c.in_ok-region.region) c.in-Err.refused.cause x.answers.why
+    (sym c.unexamined.ensures ∙ c.in-None.is))

@@ -1,9 +1,9 @@
 use Rattle.std.proofs.Common.{◌∙◌, Err, length, sym}
 use Rattle.std.proofs.lemmas.Result.{err_from_is_err_and}
-use Rattle.raw_region.specs.Device.{given_since}
+use Rattle.raw_region.specs.Device.{read_delta}
 use Rattle.raw_region.specs.Format.{current}
 use Rattle.segment_manager.specs.declared.modes.Mode.TheVariants.{ReadOnly}
-use Rattle.image_check.specs.declared.versions.Versions.TheVariants.{Current}
+use Rattle.image_check.specs.declared.versions.AcceptedVersions.TheVariants.{Current}
 use Rattle.image_check.specs.Examining.{Examines}
 use Rattle.segment_disk.specs.Events.{nothing_given}
 use Rattle.segment_file.specs.Opening.{file_region}
@@ -15,11 +15,18 @@ pub returns-in_err-region : goal.returns-in_err-region
 returns-in_err-region g c =
     let p = err_from_is_err_and c.from_residual.result c.from_residual.ensures.1 in
     let fresh = c.requires.fresh in
-    rw (p.1, p.2, c.in_err-region.ensures.refused, fresh) (record { why = unread-image Current 0 ReadOnly c.args.len; told = tt })
+    rw (
+      p.1,
+      p.2,
+      c.in_err-region.ensures.refused,
+      fresh,
+    ) (record { why = unread-image Current 0 ReadOnly c.args.len; told = tt })
 
 pub returns-in-Some : goal.returns-in-Some
 returns-in-Some g c =
     let fresh = c.requires.fresh in
-    let image = given_since nothing_given (g.S.Source.history c.examine.new.reader.inner) in
-    let x : Examines current image c.in_ok-region.region 0 (Err c.in-Err.refused) = rw fresh at c.in-Err.ensures.examines in
-    unfit-by (file_region c.args.len 0 image.bytes) (length c.in_ok-region.region) image c.in-Err.refused.cause c.in-Some.unfit x.verifies.answers.why x.shown (sym c.unexamined.ensures ∙ c.in-Some.is)
+    let image = read_delta nothing_given (g.S.Source.history c.examine.new.reader.inner) in
+    let x : Examines current image c.in_ok-region.region 0 (Err c.in-Err.refused) =
+    rw fresh at c.in-Err.ensures.examines in
+    unfit-by (file_region c.args.len 0 image.bytes) (length c.in_ok-region.region) image c.in-Err.refused.cause
+    c.in-Some.unfit x.verifies.answers.why x.shown (sym c.unexamined.ensures ∙ c.in-Some.is)

@@ -1,5 +1,5 @@
 use Rattle.std.proofs.Common.{◌-◌, ◌≤◌, length}
-use Rattle.raw_region.specs.Device.{Grows}
+use Rattle.raw_region.specs.Device.{AppendsBytes}
 use Rattle.segment_file.specs.ReadingOn.{IsReadUpTo}
 use Rattle.segment_file.proofs.reading_on.read_up_to.Given as goal
 
@@ -7,7 +7,7 @@ abbrev pub invariant-pieces : goal.invariant-pieces
 invariant-pieces g l = record {
   begun : IsReadUpTo (g.S.Source.history l.reader) l.text.items;
   few : length l.text.items ≤ l.said;
-  grows : Grows (g.S.Source.history l.initial.reader).bytes (g.S.Source.history l.reader).bytes;
+  grows : AppendsBytes (g.S.Source.history l.initial.reader).bytes (g.S.Source.history l.reader).bytes;
 }
 
 abbrev pub decreases-pieces : goal.decreases-pieces

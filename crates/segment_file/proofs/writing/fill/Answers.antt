@@ -6,5 +6,7 @@ pub returns-in-Err : goal.returns-in-Err
 returns-in-Err g c =
     let Writer = g.D.Writer.Sink in
     let fresh = c.requires in
-    cut g.D.Disk.step c.args.disk.now c.finish-lasting.new.self c.args.segment.now.cut.bytes c.save-saved.ensures.accepted (Writer.history c.save-saved.new.out)
-    (is_ok c.finish-lasting.result) c.in-Err.fault c.finish-lasting.ensures (rw fresh at c.in-Err.ensures.writes)
+    cut g.D.Disk.step c.args.disk.now c.sync_and_close-lasting.new.self c.args.segment.now.cut.bytes
+    c.save-saved.ensures.acceptance (Writer.history c.save-saved.new.out)
+    (is_ok c.sync_and_close-lasting.result) c.in-Err.fault c.sync_and_close-lasting.ensures
+    (rw fresh at c.in-Err.ensures.writes)

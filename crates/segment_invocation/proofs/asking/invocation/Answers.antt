@@ -13,18 +13,21 @@ use Rattle.segment_invocation.proofs.asking.invocation.Goals as goal
 pub returns-in-Err-clause-read : goal.returns-in-Err-clause-read
 returns-in-Err-clause-read c =
     let words : List Text = map (λ s. s.now) c.args.words.now in
-    unread_read words c.in_ok-command_line.field-0 c.in_ok-command_line.ensures c.in-Err.other c.in-Err.ensures.kinds c.read_other.result c.read_other.ensures.only
+    unread_read words c.in_ok-command_line.field-0 c.in_ok-command_line.ensures c.in-Err.other
+    c.in-Err.ensures.kinds c.read_other.result c.read_other.ensures.uniqueness
 
-pub returns-in-Err-clause-given : goal.returns-in-Err-clause-given
-returns-in-Err-clause-given c = λ a w.
+pub returns-in-Err-clause-input : goal.returns-in-Err-clause-input
+returns-in-Err-clause-input c = λ a w.
     let words : List Text = map (λ s. s.now) c.args.words.now in
-    unread_given words c.in_ok-command_line.field-0 c.in_ok-command_line.ensures a c.in-Err.other c.read_other.result c.read_other.ensures.memory c.read_other.ensures.version
+    unread_given words c.in_ok-command_line.field-0 c.in_ok-command_line.ensures a c.in-Err.other
+    c.read_other.result c.read_other.ensures.memory c.read_other.ensures.version
     (understood words a w) c.in-Err.ensures.passes c.in-Err.ensures.kinds
 
-pub returns-in_err-read_command-in-Some-clause-given : goal.returns-in_err-read_command-in-Some-clause-given
-returns-in_err-read_command-in-Some-clause-given c = λ a w.
+pub returns-in_err-read_command-in-Some-clause-input : goal.returns-in_err-read_command-in-Some-clause-input
+returns-in_err-read_command-in-Some-clause-input c = λ a w.
     let words : List Text = map (λ s. s.now) c.args.words.now in
-    let asked = asks words c.in_ok-command_line.field-0 c.in_ok-command_line.ensures c.in-Ok.matches c.in-Ok.ensures.matches _ _ c.in-Some.ensures.name c.in-Some.ensures.rows in
+    let asked = asks words c.in_ok-command_line.field-0 c.in_ok-command_line.ensures c.in-Ok.matches
+    c.in-Ok.ensures.matches _ _ c.in-Some.ensures.name c.in-Some.ensures.rows in
     absurd (none-some a (sym (asked ∙ c.in_err-read_command-in-Some.ensures.read) ∙ read_given words
     c.in_ok-command_line.field-0 c.in_ok-command_line.ensures a (understood words a w) c.in-Ok.ensures.kinds))
 
@@ -38,10 +41,11 @@ returns-in-Some-clause-read c =
           ∙ c.in_ok-read_command-in-Some.ensures.read,
     )
 
-pub returns-in-Some-clause-given : goal.returns-in-Some-clause-given
-returns-in-Some-clause-given c = λ a w.
+pub returns-in-Some-clause-input : goal.returns-in-Some-clause-input
+returns-in-Some-clause-input c = λ a w.
     let words : List Text = map (λ s. s.now) c.args.words.now in
-    let asked = asks words c.in_ok-command_line.field-0 c.in_ok-command_line.ensures c.in-Ok.matches c.in-Ok.ensures.matches _ _ c.in-Some.ensures.name c.in-Some.ensures.rows in
+    let asked = asks words c.in_ok-command_line.field-0 c.in_ok-command_line.ensures c.in-Ok.matches
+    c.in-Ok.ensures.matches _ _ c.in-Some.ensures.name c.in-Some.ensures.rows in
     same_Some _ _ (sym (asked ∙ c.in_ok-read_command-in-Some.ensures.read) ∙ read_given words
     c.in_ok-command_line.field-0 c.in_ok-command_line.ensures a (understood words a w) c.in-Ok.ensures.kinds)
 
@@ -49,7 +53,7 @@ pub returns-in-Err-clause-refused : goal.returns-in-Err-clause-refused
 returns-in-Err-clause-refused c = λ w e.
     let words : List Text = map (λ s. s.now) c.args.words.now in
     unread_wrong words c.in_ok-command_line.field-0 c.in_ok-command_line.ensures c.in-Err.other c.in-Err.ensures.kinds
-    w (c.read_other.ensures.told w e)
+    w (c.read_other.ensures.result w e)
 
 pub returns-in_err-read_command-in-Some-clause-refused : goal.returns-in_err-read_command-in-Some-clause-refused
 returns-in_err-read_command-in-Some-clause-refused c = λ w e.
@@ -62,4 +66,4 @@ returns-in_err-read_command-in-Some-clause-refused c = λ w e.
     c.in-Ok.ensures.kinds) (Some (c.in-Some.name.now, rows_of (found_of c.in-Some.found.now)))
     (enters words c.in_ok-command_line.field-0 c.in_ok-command_line.ensures c.in-Ok.matches c.in-Ok.ensures.matches _
     _ c.in-Some.ensures.name c.in-Some.ensures.rows) c.in_err-read_command-in-Some.ensures.read _
-    c.in_err-read_command-in-Some.ensures.wrong)
+    c.in_err-read_command-in-Some.ensures.error)

@@ -7,6 +7,8 @@ use Rattle.segment_invocation.proofs.command_line.with_command.Goals as goal
 
 pub returns : goal.returns
 returns c =
-    let begun = ap (λ (a : App). (fold with_rule a (map word_rule c.args.row.now.3.now)).top) c.bare_command-command.ensures.app in
+    let begun = ap (λ (a : App). (fold with_rule a (map word_rule c.args.row.now.3.now)).top)
+    c.bare_command-command.ensures.app in
     let shape = ap (λ (a : App). a.top) c.in_ok-with_words.ensures.app ∙ begun in
-    IfOk-weaker c.subcommand.result _ _ (λ r h. h.shape c.in_ok-with_words.ensures.local ∙ ap (with_subcommand (app_of c.args.program)) shape) c.subcommand.ensures
+    IfOk-weaker c.subcommand.result _ _ (λ r h. h.shape c.in_ok-with_words.ensures.local
+    ∙ ap (with_subcommand (app_of c.args.program)) shape) c.subcommand.ensures

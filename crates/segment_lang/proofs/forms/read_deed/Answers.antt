@@ -57,12 +57,14 @@ returns-in-Reserve c = rw c.in-Reserve.is (c.read_reserve.ensures ∙ sym (of_ke
 
 pub returns-in-Shrink : goal.returns-in-Shrink
 returns-in-Shrink c =
-    rw c.in-Shrink.is (map_made deed_of deed.Shrink _ _ c.map-in-Shrink.ensures.cases ∙ c.only_key-in-Shrink.ensures asked.Shrink
+    rw c.in-Shrink.is (map_made deed_of deed.Shrink _ _ c.map-in-Shrink.ensures.cases
+    ∙ c.only_key-in-Shrink.ensures asked.Shrink
     ∙ sym (of_key asked.Shrink key_of c.args.bytes.now))
 
 pub returns-in-Clear : goal.returns-in-Clear
 returns-in-Clear c =
-    rw c.in-Clear.is (map_made deed_of deed.Clear _ _ c.map-in-Clear.ensures.cases ∙ c.only_key-in-Clear.ensures asked.Clear
+    rw c.in-Clear.is (map_made deed_of deed.Clear _ _ c.map-in-Clear.ensures.cases
+    ∙ c.only_key-in-Clear.ensures asked.Clear
     ∙ sym (of_key asked.Clear key_of c.args.bytes.now))
 
 pub returns-in-Assign : goal.returns-in-Assign
@@ -79,21 +81,25 @@ returns-in-Remove c = rw c.in-Remove.is (c.read_remove.ensures ∙ sym (of_key_l
 
 pub returns-in_ok-only_number-in-ReserveNamed : goal.returns-in_ok-only_number-in-ReserveNamed
 returns-in_ok-only_number-in-ReserveNamed c =
-    rw c.in-ReserveNamed.is (c.in_ok-only_number-in-ReserveNamed.ensures asked.ReserveNamed ∙ sym (of_number asked.ReserveNamed c.args.bytes.now))
+    rw c.in-ReserveNamed.is (c.in_ok-only_number-in-ReserveNamed.ensures asked.ReserveNamed
+    ∙ sym (of_number asked.ReserveNamed c.args.bytes.now))
 
 pub returns-in_err-only_number-in-ReserveNamed : goal.returns-in_err-only_number-in-ReserveNamed
 returns-in_err-only_number-in-ReserveNamed c =
     rw c.in-ReserveNamed.is (ap (option_map deed_of) c.from_residual.ensures
-    ∙ c.in_err-only_number-in-ReserveNamed.ensures asked.ReserveNamed ∙ sym (of_number asked.ReserveNamed c.args.bytes.now))
+    ∙ c.in_err-only_number-in-ReserveNamed.ensures asked.ReserveNamed
+    ∙ sym (of_number asked.ReserveNamed c.args.bytes.now))
 
 pub returns-in_ok-only_number-in-ReserveUnique : goal.returns-in_ok-only_number-in-ReserveUnique
 returns-in_ok-only_number-in-ReserveUnique c =
-    rw c.in-ReserveUnique.is (c.in_ok-only_number-in-ReserveUnique.ensures asked.ReserveUnique ∙ sym (of_number asked.ReserveUnique c.args.bytes.now))
+    rw c.in-ReserveUnique.is (c.in_ok-only_number-in-ReserveUnique.ensures asked.ReserveUnique
+    ∙ sym (of_number asked.ReserveUnique c.args.bytes.now))
 
 pub returns-in_err-only_number-in-ReserveUnique : goal.returns-in_err-only_number-in-ReserveUnique
 returns-in_err-only_number-in-ReserveUnique c =
     rw c.in-ReserveUnique.is (ap (option_map deed_of) c.from_residual-in_err-only_number-in-ReserveUnique.ensures
-    ∙ c.in_err-only_number-in-ReserveUnique.ensures asked.ReserveUnique ∙ sym (of_number asked.ReserveUnique c.args.bytes.now))
+    ∙ c.in_err-only_number-in-ReserveUnique.ensures asked.ReserveUnique
+    ∙ sym (of_number asked.ReserveUnique c.args.bytes.now))
 
 pub returns-in-ListNames : goal.returns-in-ListNames
 returns-in-ListNames c = rw c.in-ListNames.is (c.read_alone.ensures ∙ sym (ends asked.ListNames c.args.bytes.now))

@@ -4,8 +4,8 @@ use Rattle.segment_manager.proofs.theorems.refusals_change_nothing.Goals as goal
 
 pub returns : goal.returns
 returns c = record {
-  any = λ mode d c. record { refused = step-refused mode c; read_only = step-read_only mode d c };
-  of_kind = λ mode d key kind c. record {
+  any_kind = λ mode d c. record { refused = step-refused mode c; read_only = step-read_only mode d c };
+  kind_fit = λ mode d key kind c. record {
     refused = step_of_kind-refused mode key kind c;
     read_only = step_of_kind-read_only mode d key kind c;
   };

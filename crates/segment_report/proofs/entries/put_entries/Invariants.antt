@@ -5,6 +5,7 @@ use Rattle.segment_report.proofs.entries.put_entries.Given as goal
 
 abbrev pub invariant-entries : goal.invariant-entries
 invariant-entries g l = record {
-  taken : (g.W.Sink.history l.out).bytes ≡ (g.W.Sink.history l.initial.out).bytes ++ flat_map entry_text (take l.entry-index l.entries);
+  taken : (g.W.Sink.history l.out).bytes ≡ (g.W.Sink.history l.initial.out).bytes
+      ++ flat_map entry_text (take l.entry-index l.entries);
   failures : (g.W.Sink.history l.out).failures ≡ (g.W.Sink.history l.initial.out).failures;
 }

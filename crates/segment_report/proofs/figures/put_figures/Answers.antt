@@ -10,7 +10,10 @@ pub returns : goal.returns
 returns g c =
     let s = c.args.segment.now in
     tells-text s (g.W.Sink.history c.args.out.now) (g.W.Sink.history c.put_lines.new.out) c.put_lines.result
-    (figures_text c.size_of.result c.tally_blocks-blocks.result c.args.objects.now c.named_capacity.result c.unique_capacity.result)
-    (λ (d : Directory). figures_text d.size (tally_of d) (object_tally_of d) d.named.capacity d.unique.capacity) c.put_lines.ensures
-    (figures-are s c.size_of.result c.tally_blocks-blocks.result c.args.objects.now c.named_capacity.result c.unique_capacity.result c.size_of.ensures.size c.tally_blocks-blocks.ensures c.requires.counted
+    (figures_text c.size_of.result c.tally_blocks-blocks.result c.args.objects.now c.named_capacity.result
+    c.unique_capacity.result)
+    (λ (d : Directory). figures_text d.size (tally_of d) (object_tally_of d) d.named.capacity d.unique.capacity)
+    c.put_lines.ensures
+    (figures-are s c.size_of.result c.tally_blocks-blocks.result c.args.objects.now c.named_capacity.result
+    c.unique_capacity.result c.size_of.ensures.size c.tally_blocks-blocks.ensures c.requires.steps_lower
     c.named_capacity.ensures c.unique_capacity.ensures)

@@ -10,8 +10,10 @@ use Rattle.segment_report.proofs.figures.stat.Goals as goal
 
 pub returns-in_err-put_figures : goal.returns-in_err-put_figures
 returns-in_err-put_figures g c =
-    tells-cut c.args.segment.now (g.W.Sink.history c.args.out.now) (g.W.Sink.history c.put_figures.new.out) _ c.from_residual.result
-    (λ (d : Directory). figures_text d.size (tally_of d) (object_tally_of d) d.named.capacity d.unique.capacity) (λ (d : Directory). kinds_text (count_of_kind d.objects))
+    tells-cut c.args.segment.now (g.W.Sink.history c.args.out.now) (g.W.Sink.history c.put_figures.new.out) _
+    c.from_residual.result
+    (λ (d : Directory). figures_text d.size (tally_of d) (object_tally_of d) d.named.capacity d.unique.capacity)
+    (λ (d : Directory). kinds_text (count_of_kind d.objects))
     c.from_residual.ensures.0 c.in_err-put_figures.ensures
 
 pub returns : goal.returns
@@ -21,7 +23,9 @@ returns g c =
     let new = g.W.Sink.history c.put_kinds.new.out in
     let objects = c.tally_objects-objects.result in
     tells-then s (g.W.Sink.history c.args.out.now) mid new _ c.put_kinds.result
-    (λ (d : Directory). figures_text d.size (tally_of d) (object_tally_of d) d.named.capacity d.unique.capacity) (λ (d : Directory). kinds_text (count_of_kind d.objects))
+    (λ (d : Directory). figures_text d.size (tally_of d) (object_tally_of d) d.named.capacity d.unique.capacity)
+    (λ (d : Directory). kinds_text (count_of_kind d.objects))
     c.in_ok-put_figures.ensures
-    (tells-text s mid new c.put_kinds.result (flat_map (counted_line objects.kinds) kinds) (λ (d : Directory). kinds_text (count_of_kind d.objects)) c.put_kinds.ensures
+    (tells-text s mid new c.put_kinds.result (flat_map (counted_line objects.kinds) kinds) (λ (d : Directory).
+    kinds_text (count_of_kind d.objects)) c.put_kinds.ensures
     (kinds-are s objects c.tally_objects-objects.ensures))

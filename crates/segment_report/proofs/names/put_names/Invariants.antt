@@ -8,5 +8,6 @@ invariant-names g l = record {
   can : (goal.iterator-names g).can_next l.name-iterator;
   finite : (goal.iterator-names g).is_finite l.name-iterator;
   segment : l.name-iterator.segment ≡ l.segment;
-  told : IsListed l.segment.cut.bytes (g.W.Sink.history l.initial.out) (g.W.Sink.history l.out) l.prefix l.most l.left l.name-iterator.at;
+  told : IsListed l.segment.cut.bytes (g.W.Sink.history l.initial.out) (g.W.Sink.history l.out) l.prefix l.most
+      l.left l.name-iterator.at;
 }

@@ -1,7 +1,7 @@
 use Rattle.std.proofs.Common.{◌≡◌, ◌≤◌, length, sym, ap, subst, ◌∙◌, rules}
 use Rattle.segment_manager.specs.Directory.{Directory}
 use Rattle.segment_manager.specs.objects.Instances.{SaysAt}
-use Rattle.segment_manager.specs.State.{IsSegment, State, StandsFor}
+use Rattle.segment_manager.specs.State.{IsSegment, SegmentState, DenotesCurrent}
 use Rattle.segment_report.proofs.CountedObjects.{AreCounted, no_objects, objects-all, objects-more, objects-room}
 use Rattle.segment_report.proofs.objects.tally_objects.Goals as goal
 
@@ -23,10 +23,11 @@ add-requires c =
     let s = c.args.segment.now in
     let walk = c.objects.said-iterator in
     let at : SaysAt s (λ (d : Directory). d.objects) walk.at c.in-Some.said =
-    subst (λ (t : State). SaysAt t (λ (d : Directory). d.objects) walk.at c.in-Some.said) c.objects.invariant.segment
+    subst (λ (t : SegmentState). SaysAt t (λ (d : Directory). d.objects) walk.at c.in-Some.said)
+    c.objects.invariant.segment
     c.in-Some.ensures.steps.says in
     objects-room s c.objects.tally walk.at c.objects.invariant.counted c.in-Some.said at
-    (subst IsSegment c.as_bytes.ensures.bytes c.as_bytes.ensures.denotes)
+    (subst IsSegment c.as_bytes.ensures.bytes c.as_bytes.ensures.denotation)
 
 pub objects-preserved : goal.objects-preserved
 objects-preserved c =
@@ -34,7 +35,8 @@ objects-preserved c =
     let walk = c.objects.said-iterator in
     let steps = c.in-Some.ensures.steps in
     let at : SaysAt s (λ (d : Directory). d.objects) walk.at c.in-Some.said =
-    subst (λ (t : State). SaysAt t (λ (d : Directory). d.objects) walk.at c.in-Some.said) c.objects.invariant.segment
+    subst (λ (t : SegmentState). SaysAt t (λ (d : Directory). d.objects) walk.at c.in-Some.said)
+    c.objects.invariant.segment
     steps.says in
     record {
       can = tt;
@@ -50,7 +52,7 @@ pub returns : goal.returns
 returns c =
     let s = c.args.segment.now in
     let walk = c.objects.said-iterator in
-    let none : (d : Directory) → StandsFor s.cut.bytes d → length d.objects ≤ walk.at =
-    subst (λ (t : State). (d : Directory) → StandsFor t.cut.bytes d → length d.objects ≤ walk.at)
+    let none : (d : Directory) → DenotesCurrent s.cut.bytes d → length d.objects ≤ walk.at =
+    subst (λ (t : SegmentState). (d : Directory) → DenotesCurrent t.cut.bytes d → length d.objects ≤ walk.at)
     c.objects.invariant.segment c.in-None.ensures.steps.says in
     record { answers = objects-all s.cut.bytes c.objects.tally walk.at c.objects.invariant.counted none }

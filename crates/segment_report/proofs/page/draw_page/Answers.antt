@@ -6,7 +6,8 @@ use Rattle.segment_report.proofs.page.draw_page.Goals as goal
 
 pub returns-in_err-put_picture : goal.returns-in_err-put_picture
 returns-in_err-put_picture g c =
-    tells-cut c.args.segment.now (g.W.Sink.history c.args.out.now) (g.W.Sink.history c.put_picture.new.out) _ c.from_residual.result picture_part
+    tells-cut c.args.segment.now (g.W.Sink.history c.args.out.now) (g.W.Sink.history c.put_picture.new.out) _
+    c.from_residual.result picture_part
     (λ (d : Directory). figures_part d ++ objects_part d) c.from_residual.ensures.0 c.in_err-put_picture.ensures
 
 pub returns-in_err-put_figures : goal.returns-in_err-put_figures
@@ -27,4 +28,5 @@ returns g c =
     let ended = g.W.Sink.history c.put_objects.new.out in
     tells-then s (g.W.Sink.history c.args.out.now) begun ended _ c.put_objects.result picture_part
     (λ (d : Directory). figures_part d ++ objects_part d) c.in_ok-put_picture.ensures
-    (tells-then s begun told ended _ c.put_objects.result figures_part objects_part c.in_ok-put_figures.ensures c.put_objects.ensures)
+    (tells-then s begun told ended _ c.put_objects.result figures_part objects_part c.in_ok-put_figures.ensures
+    c.put_objects.ensures)

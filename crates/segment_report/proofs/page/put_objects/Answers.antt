@@ -9,7 +9,8 @@ returns-in_err-put_table_head g c =
     let s = c.args.segment.now in
     let old = g.W.Sink.history c.args.out.now in
     let mid = g.W.Sink.history c.put_table_head.new.out in
-    tells-cut s old mid _ c.from_residual.result (λ (d : Directory). table_head) (λ (d : Directory). rows_text d ++ page_end)
+    tells-cut s old mid _ c.from_residual.result (λ (d : Directory). table_head) (λ (d : Directory).
+    rows_text d ++ page_end)
     c.from_residual.ensures.0
     (tells-text s old mid _ table_head (λ (d : Directory). table_head) c.in_err-put_table_head.ensures (λ d k. refl))
 
@@ -35,5 +36,7 @@ returns g c =
     tells-then s old mid ended _ c.put_page_end.result (λ (d : Directory). table_head)
     (λ (d : Directory). rows_text d ++ page_end)
     (tells-text s old mid _ table_head (λ (d : Directory). table_head) c.in_ok-put_table_head.ensures (λ d k. refl))
-    (tells-then s mid told ended _ c.put_page_end.result rows_text (λ (d : Directory). page_end) c.in_ok-put_rows.ensures
-    (tells-text s told ended c.put_page_end.result page_end (λ (d : Directory). page_end) c.put_page_end.ensures (λ d k. refl)))
+    (tells-then s mid told ended _ c.put_page_end.result rows_text (λ (d : Directory).
+    page_end) c.in_ok-put_rows.ensures
+    (tells-text s told ended c.put_page_end.result page_end (λ (d : Directory).
+    page_end) c.put_page_end.ensures (λ d k. refl)))

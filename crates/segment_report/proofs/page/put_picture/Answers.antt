@@ -19,4 +19,5 @@ returns g c =
     let old = g.W.Sink.history c.args.out.now in
     let mid = g.W.Sink.history c.put_head.new.out in
     tells-then s old mid (g.W.Sink.history c.draw.new.out) _ c.draw.result (λ (d : Directory). page_head) picture_of
-    (tells-text s old mid _ page_head (λ (d : Directory). page_head) c.in_ok-put_head.ensures (λ d k. refl)) c.draw.ensures
+    (tells-text s old mid _ page_head (λ (d : Directory). page_head) c.in_ok-put_head.ensures (λ d k. refl))
+    c.draw.ensures

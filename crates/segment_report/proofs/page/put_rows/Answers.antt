@@ -1,7 +1,7 @@
 use Rattle.std.proofs.Common.{◌≡◌, ◌≤◌, length, refl, sym, ap, subst, ◌∙◌, rules}
 use Rattle.segment_manager.specs.Directory.{Directory}
 use Rattle.segment_manager.specs.objects.Instances.{SaysAt}
-use Rattle.segment_manager.specs.State.{State, StandsFor}
+use Rattle.segment_manager.specs.State.{SegmentState, DenotesCurrent}
 use Rattle.segment_report.specs.Page.{instance_row, object_row}
 use Rattle.segment_report.proofs.Rows.{row-next}
 use Rattle.segment_report.proofs.Telling.{IsTold, none_told, told-all, told-cut, told-more, tells-text}
@@ -28,7 +28,7 @@ returns-in_err-put_row g c =
     let walk = c.objects.said-iterator in
     let said = c.in-Some.said in
     let at : SaysAt s (λ (d : Directory). d.objects) walk.at said =
-    subst (λ (t : State). SaysAt t (λ (d : Directory). d.objects) walk.at said) c.objects.invariant.segment
+    subst (λ (t : SegmentState). SaysAt t (λ (d : Directory). d.objects) walk.at said) c.objects.invariant.segment
     c.in-Some.ensures.steps.says in
     told-cut s (λ (d : Directory). d.objects) (λ (d : Directory). object_row) (g.W.Sink.history c.args.out.now)
     (g.W.Sink.history c.objects.out) (g.W.Sink.history c.put_row.new.out) walk.at c.objects.invariant.told
@@ -46,7 +46,7 @@ objects-preserved g c =
     let said = c.in-Some.said in
     let steps = c.in-Some.ensures.steps in
     let at : SaysAt s (λ (d : Directory). d.objects) walk.at said =
-    subst (λ (t : State). SaysAt t (λ (d : Directory). d.objects) walk.at said) c.objects.invariant.segment
+    subst (λ (t : SegmentState). SaysAt t (λ (d : Directory). d.objects) walk.at said) c.objects.invariant.segment
     steps.says in
     record {
       can = tt;
@@ -58,7 +58,8 @@ objects-preserved g c =
           (told-more s (λ (d : Directory). d.objects) (λ (d : Directory). object_row) old
           (g.W.Sink.history c.objects.out) new walk.at c.objects.invariant.told (λ (d : Directory). instance_row said)
           (row-next s walk.at said at) _
-          (tells-text s (g.W.Sink.history c.objects.out) new _ (instance_row said) (λ (d : Directory). instance_row said)
+          (tells-text s (g.W.Sink.history c.objects.out) new _ (instance_row said) (λ (d : Directory).
+          instance_row said)
           c.in_ok-put_row.ensures (λ d k. refl)));
     }
 
@@ -66,8 +67,8 @@ pub returns : goal.returns
 returns g c =
     let s = c.args.segment.now in
     let walk = c.objects.said-iterator in
-    let none : (d : Directory) → StandsFor s.cut.bytes d → length d.objects ≤ walk.at =
-    subst (λ (t : State). (d : Directory) → StandsFor t.cut.bytes d → length d.objects ≤ walk.at)
+    let none : (d : Directory) → DenotesCurrent s.cut.bytes d → length d.objects ≤ walk.at =
+    subst (λ (t : SegmentState). (d : Directory) → DenotesCurrent t.cut.bytes d → length d.objects ≤ walk.at)
     c.objects.invariant.segment c.in-None.ensures.steps.says in
     told-all s (λ (d : Directory). d.objects) (λ (d : Directory). object_row) (g.W.Sink.history c.args.out.now)
     (g.W.Sink.history c.objects.out) walk.at tt c.objects.invariant.told none

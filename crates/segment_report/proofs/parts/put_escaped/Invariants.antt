@@ -4,4 +4,7 @@ use Rattle.segment_report.proofs.Escapes.{IsWritten}
 use Rattle.segment_report.proofs.parts.put_escaped.Given as goal
 
 abbrev pub invariant-bytes : goal.invariant-bytes
-invariant-bytes g l = record { written : IsWritten (g.W.Sink.history l.initial.out) (g.W.Sink.history l.out) l.before l.last (drop l.byte-index l.text) (xml_text l.text) }
+invariant-bytes g l = record {
+  written : IsWritten (g.W.Sink.history l.initial.out) (g.W.Sink.history l.out)
+      l.before l.last (drop l.byte-index l.text) (xml_text l.text);
+}

@@ -6,7 +6,8 @@ use Rattle.segment_report.proofs.picture.draw.Goals as goal
 
 pub returns-in_err-put_front : goal.returns-in_err-put_front
 returns-in_err-put_front g c =
-    tells-cut c.args.segment.now (g.W.Sink.history c.args.out.now) (g.W.Sink.history c.put_front.new.out) _ c.from_residual.result front_text (λ (d : Directory). spans_text d ++ end_text d)
+    tells-cut c.args.segment.now (g.W.Sink.history c.args.out.now) (g.W.Sink.history c.put_front.new.out) _
+    c.from_residual.result front_text (λ (d : Directory). spans_text d ++ end_text d)
     c.from_residual.ensures.0 c.in_err-put_front.ensures
 
 pub returns-in_err-put_spans : goal.returns-in_err-put_spans
@@ -14,8 +15,10 @@ returns-in_err-put_spans g c =
     let s = c.args.segment.now in
     let begun = g.W.Sink.history c.put_front.new.out in
     let ended = g.W.Sink.history c.put_spans.new.out in
-    tells-then s (g.W.Sink.history c.args.out.now) begun ended _ c.from_residual-in_err-put_spans.result front_text (λ (d : Directory). spans_text d ++ end_text d) c.in_ok-put_front.ensures
-    (tells-cut s begun ended _ c.from_residual-in_err-put_spans.result spans_text end_text c.from_residual-in_err-put_spans.ensures.0 c.in_err-put_spans.ensures)
+    tells-then s (g.W.Sink.history c.args.out.now) begun ended _ c.from_residual-in_err-put_spans.result front_text
+    (λ (d : Directory). spans_text d ++ end_text d) c.in_ok-put_front.ensures
+    (tells-cut s begun ended _ c.from_residual-in_err-put_spans.result spans_text end_text
+    c.from_residual-in_err-put_spans.ensures.0 c.in_err-put_spans.ensures)
 
 pub returns : goal.returns
 returns g c =
@@ -23,5 +26,6 @@ returns g c =
     let begun = g.W.Sink.history c.put_front.new.out in
     let told = g.W.Sink.history c.put_spans.new.out in
     let ended = g.W.Sink.history c.put_end.new.out in
-    tells-then s (g.W.Sink.history c.args.out.now) begun ended _ c.put_end.result front_text (λ (d : Directory). spans_text d ++ end_text d) c.in_ok-put_front.ensures
+    tells-then s (g.W.Sink.history c.args.out.now) begun ended _ c.put_end.result front_text (λ (d : Directory).
+    spans_text d ++ end_text d) c.in_ok-put_front.ensures
     (tells-then s begun told ended _ c.put_end.result spans_text end_text c.in_ok-put_spans.ensures c.put_end.ensures)

@@ -12,9 +12,11 @@ returns-in_err-put_head g c =
     let s = c.args.segment.now in
     let old = g.W.Sink.history c.args.out.now in
     let new = g.W.Sink.history c.put_head.new.out in
-    tells-cut s old new _ c.from_residual.result (λ (d : Directory). head_text d.size (free_bytes (live d))) (λ (d : Directory). shape_text (bytes_in_row d.size) 0 128 (codes "header"))
+    tells-cut s old new _ c.from_residual.result (λ (d : Directory).
+    head_text d.size (free_bytes (live d))) (λ (d : Directory). shape_text (bytes_in_row d.size) 0 128 (codes "header"))
     c.from_residual.ensures.0
-    (tells-text s old new _ (head_text c.size_of.result c.free.result) (λ (d : Directory). head_text d.size (free_bytes (live d))) c.in_err-put_head.ensures
+    (tells-text s old new _ (head_text c.size_of.result c.free.result) (λ (d : Directory).
+    head_text d.size (free_bytes (live d))) c.in_err-put_head.ensures
     (head-same s c.size_of.result c.free.result c.size_of.ensures.size c.free.ensures))
 
 pub returns : goal.returns
@@ -25,7 +27,9 @@ returns g c =
     let new = g.W.Sink.history c.put_shape.new.out in
     let shape : Directory → List ℕ = λ d. shape_text (bytes_in_row d.size) 0 128 (codes "header") in
     tells-then s old mid new _ c.put_shape.result (λ (d : Directory). head_text d.size (free_bytes (live d))) shape
-    (tells-text s old mid _ (head_text c.size_of.result c.free.result) (λ (d : Directory). head_text d.size (free_bytes (live d))) c.in_ok-put_head.ensures
+    (tells-text s old mid _ (head_text c.size_of.result c.free.result) (λ (d : Directory).
+    head_text d.size (free_bytes (live d))) c.in_ok-put_head.ensures
     (head-same s c.size_of.result c.free.result c.size_of.ensures.size c.free.ensures))
-    (tells-text s mid new c.put_shape.result (shape_text c.args.scale.row 0 128 (codes "header")) shape c.put_shape.ensures
+    (tells-text s mid new c.put_shape.result (shape_text c.args.scale.row 0 128 (codes "header")) shape
+    c.put_shape.ensures
     (λ d k. ap (λ per. shape_text per 0 128 (codes "header")) (c.requires.scale.scale d k)))

@@ -5,7 +5,10 @@ use Rattle.segment_report.proofs.Replies.{size_is}
 use Rattle.segment_report.proofs.picture.scale_of.Goals as goal
 
 pub of-requires : goal.of-requires
-of-requires c = (has_size c.args.segment.now c.size_of.result c.size_of.ensures.denotes c.size_of.ensures.size).high
+of-requires c = (has_size c.args.segment.now c.size_of.result c.size_of.ensures.denotation c.size_of.ensures.size).high
 
 pub returns : goal.returns
-returns c = record { scale = λ d k. c.of.ensures ∙ ap bytes_in_row (size_is c.args.segment.now.mode d c.size_of.result (c.size_of.ensures.size.answers d k)) }
+returns c = record {
+  scale = λ d k. c.of.ensures
+      ∙ ap bytes_in_row (size_is c.args.segment.now.mode d c.size_of.result (c.size_of.ensures.size.answers d k));
+}

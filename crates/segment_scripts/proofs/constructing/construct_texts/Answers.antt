@@ -1,7 +1,7 @@
 use Rattle.std.proofs.Common.{◌∙◌, ap, map, subst}
 use Rattle.seg_types.specs.Commands.{Construct, Strings}
 use Rattle.seg_types.specs.Keys.{new_key_seen}
-use Rattle.segment_manager.specs.State.{IsStep, handle_answer}
+use Rattle.segment_manager.specs.State.{TakesStep, handle_answer}
 use Rattle.segment_scripts.proofs.NewKinds.{strings_kind}
 use Rattle.segment_scripts.proofs.constructing.construct_texts.Goals as goal
 
@@ -10,10 +10,12 @@ construct_texts-requires c = record { kind = strings_kind c.args.key.now c.args.
 
 pub returns-clause-step : goal.returns-clause-step
 returns-clause-step c =
-    subst (λ bss. IsStep c.args.segment.now c.construct_texts.new.self (Construct (new_key_seen c.args.key.now) (Strings bss)) (handle_answer c.construct_texts.result))
+    subst (λ bss. TakesStep c.args.segment.now c.construct_texts.new.self
+    (Construct (new_key_seen c.args.key.now) (Strings bss)) (handle_answer c.construct_texts.result))
     (ap (map (λ t. t.now)) c.as_slice.ensures.value ∙ c.few.ensures ∙ c.text_row.ensures) c.construct_texts.ensures.step
 
 pub returns-then-len-gt-FEW-clause-step : goal.returns-then-len-gt-FEW-clause-step
 returns-then-len-gt-FEW-clause-step c =
-    subst (λ bss. IsStep c.args.segment.now c.construct_many.new.segment (Construct (new_key_seen c.args.key.now) (Strings bss)) (handle_answer c.construct_many.result))
+    subst (λ bss. TakesStep c.args.segment.now c.construct_many.new.segment
+    (Construct (new_key_seen c.args.key.now) (Strings bss)) (handle_answer c.construct_many.result))
     c.text_row.ensures c.construct_many.ensures.step

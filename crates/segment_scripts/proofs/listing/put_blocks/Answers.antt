@@ -9,17 +9,24 @@ use Rattle.segment_scripts.proofs.listing.put_blocks.Goals as goal
 use Rattle.segment_scripts.proofs.listing.put_blocks.Goals.{else-tiles-test, then-tiles-test+in_default}
 
 pub tiles-init : goal.tiles-init
-tiles-init g c = record { next = c.first_tile-ahead.ensures; told = of-start (λ d. line_part block_words (spans (live d))) }
+tiles-init g c = record {
+  next = c.first_tile-ahead.ensures;
+  told = of-start (λ d. line_part block_words (spans (live d)));
+}
 
 pub next_tile-ahead-requires : goal.next_tile-ahead-requires
-next_tile-ahead-requires g c = tile_stands c.args.segment.now c.tiles.counter c.in-Some.tile c.tiles.ahead c.tiles.invariant.next c.in-Some.is
+next_tile-ahead-requires g c =
+    tile_stands c.args.segment.now c.tiles.counter c.in-Some.tile c.tiles.ahead c.tiles.invariant.next c.in-Some.is
 
 pub returns-in_err-put_tile : goal.returns-in_err-put_tile
 returns-in_err-put_tile g c =
     let s = c.args.segment.now in
     let was = c.tiles.invariant in
-    listing-cut s block_words (λ d. spans (live d)) c.tiles.counter was.told (next_line s c.tiles.counter c.in-Some.tile c.tiles.ahead was.next c.in-Some.is)
-    (next_within s c.tiles.counter c.in-Some.tile c.tiles.ahead was.next c.in-Some.is) c.in_err-put_tile.ensures c.from_residual.ensures.0
+    listing-cut s block_words (λ d.
+    spans (live d)) c.tiles.counter was.told
+    (next_line s c.tiles.counter c.in-Some.tile c.tiles.ahead was.next c.in-Some.is)
+    (next_within s c.tiles.counter c.in-Some.tile c.tiles.ahead was.next c.in-Some.is) c.in_err-put_tile.ensures
+    c.from_residual.ensures.0
 
 pub tiles-preserved : goal.tiles-preserved
 tiles-preserved g c =
@@ -36,7 +43,8 @@ returns g c =
     let s = c.args.segment.now in
     let was = c.tiles.invariant in
     let all : IsEnd s.cut.bytes c.tiles.counter = elim c.tiles-test.branch [
-      | else-tiles-test w ↦ ends_by_size s.cut.bytes s.mode c.size-end.result c.tiles.counter c.size-end.ensures.answers w.tiles-test.false
+      | else-tiles-test w ↦ ends_by_size s.cut.bytes s.mode c.size-end.result c.tiles.counter
+          c.size-end.ensures.answers w.tiles-test.false
       | then-tiles-test+in_default w ↦ end_is s c.tiles.counter c.tiles.ahead was.next w.in_default.is
     ] in
     listing-done s block_words (λ d. spans (live d)) c.tiles.counter was.told all c.put_pieces.ensures

@@ -9,16 +9,18 @@ use Rattle.segment_scripts.proofs.Refusals.{answers-same}
 use Rattle.segment_scripts.proofs.TextElements.{executes-leading, pop-text}
 use Rattle.segment_scripts.proofs.popping.pop_text.Goals as goal
 
-pub returns-clause-executed : goal.returns-clause-executed
-returns-clause-executed g c =
+pub returns-clause-execution : goal.returns-clause-execution
+returns-clause-execution g c =
     let s = c.args.segment.now in
     let key = ByHandle c.args.object.handle in
     executes-leading s c.texts_pop.new.self (Pop key) c.texts_pop.result
-    (of_kind-leads_on s c.texts_pop.new.self key Strings (Pop key) (refusal_in c.texts_pop.result) c.requires.of_kind.is c.texts_pop.ensures.step) c.texts_pop.ensures.refused
+    (of_kind-leads_on s c.texts_pop.new.self key Strings (Pop key) (refusal_in c.texts_pop.result)
+    c.requires.kind_fit.is c.texts_pop.ensures.step) c.texts_pop.ensures.refused
 
-pub returns-clause-answers : goal.returns-clause-answers
-returns-clause-answers g c =
+pub returns-clause-outcome : goal.returns-clause-outcome
+returns-clause-outcome g c =
     let s = c.args.segment.now in
     let key = ByHandle c.args.object.handle in
     answers-same c.put_text_at-written.ensures
-    (λ d st. ap (λ i. text_at d key i) c.saturating_sub-last.ensures ∙ pop-text s key c.requires.of_kind.is c.length_of.result c.requires.of_kind.writing c.length_of.ensures d st)
+    (λ d st. ap (λ i. text_at d key i) c.saturating_sub-last.ensures
+    ∙ pop-text s key c.requires.kind_fit.is c.length_of.result c.requires.kind_fit.writing c.length_of.ensures d st)

@@ -6,4 +6,5 @@ use Rattle.segment_scripts.proofs.rows.only_text.Goals as goal
 pub bytes-requires : goal.bytes-requires
 bytes-requires c =
     text-fits c.args.literals c.next.new.self c.in-Some-Quoted.text
-    (next-literal c.args.literals c.next.new.self c.in-Some-Quoted.field-0 c.in-Some-Quoted.ensures.steps ∙ ap (λ l. literal_of l ∷ c.next.new.self) c.in-Some-Quoted.field-0-is) c.requires
+    (next-literal c.args.literals c.next.new.self c.in-Some-Quoted.field-0 c.in-Some-Quoted.ensures.steps
+    ∙ ap (λ l. literal_of l ∷ c.next.new.self) c.in-Some-Quoted.field-0-is) c.requires

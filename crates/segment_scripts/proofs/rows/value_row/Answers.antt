@@ -1,5 +1,5 @@
 use Rattle.std.proofs.Common.{◌≡◌, [], sym, subst, rules}
-use Rattle.segment_lang.specs.Arguments.{Written}
+use Rattle.segment_lang.specs.Arguments.{TypedNumbers}
 use Rattle.segment_scripts.proofs.RowValues.{IsFilled, filled-none}
 use Rattle.segment_scripts.proofs.rows.value_row.Goals as goal
 
@@ -8,10 +8,10 @@ values-init g c =
     let whole = g.T.Scalar.whole in
     let k = g.T.Scalar.kind in
     let same : c.into_iter-value-iterator.result ≡ c.args.values = search rules in
-    let none = filled-none whole k c.args.values c.requires.kind c.requires.range c.requires.few in
+    let none = filled-none whole k c.args.values c.requires.kind c.requires.range c.requires.max_count in
     record {
       can = tt;
       finite = tt;
       filled = subst (λ row. IsFilled whole k c.args.values c.into_iter-value-iterator.result row) (sym c.clear.ensures)
-          (subst (λ (t : Written). IsFilled whole k c.args.values t []) (sym same) none);
+          (subst (λ (t : TypedNumbers). IsFilled whole k c.args.values t []) (sym same) none);
     }

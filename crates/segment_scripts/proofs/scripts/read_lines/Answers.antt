@@ -1,9 +1,10 @@
 use Rattle.std.proofs.Common.{◌≡◌, ◌<◌, false, length, length-take, take, drop, refl, ap, subst, ◌∙◌, arith}
 use Rattle.std.proofs.lemmas.Bool.{ne_eqb}
-use Rattle.raw_region.specs.Device.{Took, given_since, taken_since}
-use Rattle.segment_scripts.specs.Behind.{LeavesPiece}
+use Rattle.raw_region.specs.Device.{WriterHistory, read_delta, write_delta}
+use Rattle.segment_scripts.specs.RunProgress.{LeavesPiece}
 use Rattle.segment_scripts.specs.Stopping.{stops_at}
-use Rattle.segment_scripts.proofs.Cuts.{since-more, none_failed, one_failed, cut_in, cut_at_limit, beyond_limit, nothing_yet, on_at_limit, stopped_in}
+use Rattle.segment_scripts.proofs.Cuts.{since-more, none_failed, one_failed, cut_in, cut_at_limit, beyond_limit}
+use Rattle.segment_scripts.proofs.Cuts.{nothing_yet, on_at_limit, stopped_in}
 use Rattle.segment_scripts.proofs.StopLaws.{on_none}
 use Rattle.segment_scripts.proofs.scripts.read_lines.Goals as goal
 
@@ -16,7 +17,11 @@ pieces-init g c =
       grows = none.grows;
       limit = rw none.read refl;
       passed = refl;
-      behind = λ start s. rw (none.read, c.requires.fresh) (on_none g.M.Machine.respond (stops_at c.args.until g.M.Machine.refuses) start (g.W.Sink.history c.args.out.now).bytes (g.M.Machine.stands c.args.machine.now) s);
+      behind = λ start s. rw (
+        none.read,
+        c.requires.fresh,
+      ) (on_none g.M.Machine.respond (stops_at c.args.until g.M.Machine.refuses) start
+          (g.W.Sink.history c.args.out.now).bytes (g.M.Machine.stands c.args.machine.now) s);
       ends = refl;
       reads = refl;
       writes = refl;
@@ -30,16 +35,20 @@ returns-in-Err-feed-clause-fault g c = λ start s.
     let new = (g.S.Source.history c.read.new.self).bytes in
     let was = c.pieces.invariant in
     let same = c.before_read.ensures in
-    let failures = ap (λ (t : Took). t.failures) same in
+    let failures = ap (λ (t : WriterHistory). t.failures) same in
     let read = drop (length old) mid in
     let count = c.in-Ok.count in
     let piece = c.read.new.into in
-    let asked : 0 < length (take c.min.result c.pieces.piece) = simp length-take (omega (arith, was.buffer, c.min.ensures)) in
-    let unended : (g.S.Source.history c.read.new.self).ended ≡ false = c.in-Ok.ensures.end asked ∙ ne_eqb count 0 c.if-count-eq0.false in
-    let script = given_since (g.S.Source.history c.args.script.now) (g.S.Source.history c.read.new.self) in
+    let asked : 0 < length (take c.min.result c.pieces.piece) =
+    simp length-take (omega (arith, was.buffer, c.min.ensures)) in
+    let unended : (g.S.Source.history c.read.new.self).ended ≡ false =
+    c.in-Ok.ensures.end asked ∙ ne_eqb count 0 c.if-count-eq0.false in
+    let script = read_delta (g.S.Source.history c.args.script.now) (g.S.Source.history c.read.new.self) in
     let stops = stops_at c.args.until g.M.Machine.refuses in
-    let cut = cut_in g.M.Machine.respond stops start before read piece c.pieces.left count c.min-within.result script (g.M.Machine.stands c.feed.new.machine) (g.W.Sink.history c.feed.new.out).bytes
-    was.limit c.min-within.ensures (since-more old mid new (take count piece) was.grows c.in-Ok.ensures.bytes) unended (c.in-Err-feed.ensures.err start before read (rw same (was.behind start s))) in
+    let cut = cut_in g.M.Machine.respond stops start before read piece c.pieces.left count c.min-within.result
+    script (g.M.Machine.stands c.feed.new.machine) (g.W.Sink.history c.feed.new.out).bytes
+    was.limit c.min-within.ensures (since-more old mid new (take count piece) was.grows c.in-Ok.ensures.bytes)
+    unended (c.in-Err-feed.ensures.err start before read (rw same (was.behind start s))) in
     record {
       left = record {
         answers = cut.part;
@@ -57,23 +66,28 @@ returns-then-left-count-clause-fault g c = λ start s.
     let new = (g.S.Source.history c.read.new.self).bytes in
     let was = c.pieces.invariant in
     let same = c.before_read.ensures in
-    let failures = ap (λ (t : Took). t.failures) same in
+    let failures = ap (λ (t : WriterHistory). t.failures) same in
     let read = drop (length old) mid in
     let count = c.in-Ok.count in
     let piece = c.read.new.into in
     let bytes = since-more old mid new (take count piece) was.grows c.in-Ok.ensures.bytes in
     let stops = stops_at c.args.until g.M.Machine.refuses in
-    let on = subst (LeavesPiece g.M.Machine.respond stops start before read (take c.min-within.result piece) (g.M.Machine.stands c.feed.new.machine) c.feed.new.line (g.W.Sink.history c.feed.new.out).bytes) c.in-Ok-Whole.field-0-is
+    let on = subst (LeavesPiece g.M.Machine.respond stops start before read (take c.min-within.result piece)
+    (g.M.Machine.stands c.feed.new.machine) c.feed.new.line (g.W.Sink.history c.feed.new.out).bytes)
+    c.in-Ok-Whole.field-0-is
     (c.in-Ok-Whole.ensures.ok start before read (rw same (was.behind start s))) in
     record {
       left = record {
-        beyond = beyond_limit g.M.Machine.respond read piece _ c.pieces.left count was.limit c.if-left-count.true c.in-Ok.ensures.count bytes;
-        answers = cut_at_limit g.M.Machine.respond start before read piece c.pieces.left count c.min-within.result _ (g.M.Machine.stands c.feed.new.machine) c.feed.new.line (g.W.Sink.history c.feed.new.out).bytes
+        beyond = beyond_limit g.M.Machine.respond read piece _ c.pieces.left count was.limit c.if-left-count.true
+            c.in-Ok.ensures.count bytes;
+        answers = cut_at_limit g.M.Machine.respond start before read piece c.pieces.left count c.min-within.result _
+            (g.M.Machine.stands c.feed.new.machine) c.feed.new.line (g.W.Sink.history c.feed.new.out).bytes
             was.limit c.min-within.ensures bytes on.behind;
         read = none_failed _ _ (omega (arith, c.in-Ok.ensures.counted, was.reads));
         written = none_failed _ _ (omega (arith, c.in-Ok-Whole.ensures.counted, failures, was.writes));
       };
-      on = on_at_limit g.M.Machine.respond (stops_at c.args.until g.M.Machine.refuses) start read piece c.pieces.left count c.min-within.result _ was.limit c.min-within.ensures bytes on.on;
+      on = on_at_limit g.M.Machine.respond (stops_at c.args.until g.M.Machine.refuses) start read piece
+          c.pieces.left count c.min-within.result _ was.limit c.min-within.ensures bytes on.on;
     }
 
 pub returns-in-Ok-Refused-clause-end : goal.returns-in-Ok-Refused-clause-end
@@ -84,16 +98,22 @@ returns-in-Ok-Refused-clause-end g c = λ start s.
     let new = (g.S.Source.history c.read.new.self).bytes in
     let was = c.pieces.invariant in
     let same = c.before_read.ensures in
-    let failures = ap (λ (t : Took). t.failures) same in
+    let failures = ap (λ (t : WriterHistory). t.failures) same in
     let read = drop (length old) mid in
     let count = c.in-Ok.count in
     let piece = c.read.new.into in
-    let asked : 0 < length (take c.min.result c.pieces.piece) = simp length-take (omega (arith, was.buffer, c.min.ensures)) in
-    let unended : (g.S.Source.history c.read.new.self).ended ≡ false = c.in-Ok.ensures.end asked ∙ ne_eqb count 0 c.if-count-eq0.false in
-    let script = given_since (g.S.Source.history c.args.script.now) (g.S.Source.history c.read.new.self) in
-    let out = taken_since (g.W.Sink.history c.args.out.now) (g.W.Sink.history c.feed.new.out) in
-    stopped_in g.M.Machine.respond (stops_at c.args.until g.M.Machine.refuses) start before read piece c.pieces.left count c.min-within.result script out (g.M.Machine.stands c.feed.new.machine) (g.W.Sink.history c.feed.new.out).bytes
+    let asked : 0 < length (take c.min.result c.pieces.piece) =
+    simp length-take (omega (arith, was.buffer, c.min.ensures)) in
+    let unended : (g.S.Source.history c.read.new.self).ended ≡ false =
+    c.in-Ok.ensures.end asked ∙ ne_eqb count 0 c.if-count-eq0.false in
+    let script = read_delta (g.S.Source.history c.args.script.now) (g.S.Source.history c.read.new.self) in
+    let out = write_delta (g.W.Sink.history c.args.out.now) (g.W.Sink.history c.feed.new.out) in
+    stopped_in g.M.Machine.respond (stops_at c.args.until g.M.Machine.refuses) start before read piece c.pieces.left
+    count c.min-within.result script out (g.M.Machine.stands c.feed.new.machine) (g.W.Sink.history c.feed.new.out).bytes
     was.limit c.min-within.ensures (since-more old mid new (take count piece) was.grows c.in-Ok.ensures.bytes) unended
-    (subst (LeavesPiece g.M.Machine.respond (stops_at c.args.until g.M.Machine.refuses) start before read (take c.min-within.result piece) (g.M.Machine.stands c.feed.new.machine) c.feed.new.line (g.W.Sink.history c.feed.new.out).bytes) c.in-Ok-Refused.field-0-is
+    (subst (LeavesPiece g.M.Machine.respond (stops_at c.args.until g.M.Machine.refuses) start before read
+    (take c.min-within.result piece) (g.M.Machine.stands c.feed.new.machine) c.feed.new.line
+    (g.W.Sink.history c.feed.new.out).bytes) c.in-Ok-Refused.field-0-is
     (c.in-Ok-Refused.ensures.ok start before read (rw same (was.behind start s)))) refl
-    (none_failed _ _ (omega (arith, c.in-Ok.ensures.counted, was.reads))) (none_failed _ _ (omega (arith, c.in-Ok-Refused.ensures.counted, failures, was.writes)))
+    (none_failed _ _ (omega (arith, c.in-Ok.ensures.counted, was.reads)))
+    (none_failed _ _ (omega (arith, c.in-Ok-Refused.ensures.counted, failures, was.writes)))

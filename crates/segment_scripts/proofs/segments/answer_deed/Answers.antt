@@ -7,11 +7,12 @@ use Rattle.segment_scripts.proofs.Zeros.{responds-replied}
 use Rattle.segment_scripts.proofs.segments.answer_deed.Goals as goal
 
 pub reply-answer-requires : goal.reply-answer-requires
-reply-answer-requires g c = c.requires.meant (deed_of c.in-Some.deed) (ap as_reading c.in-Some.ensures)
+reply-answer-requires g c = c.requires.meaning (deed_of c.in-Some.deed) (ap as_reading c.in-Some.ensures)
 
 pub returns-in-Some : goal.returns-in-Some
 returns-in-Some g c = responds-replied (ap as_reading c.in-Some.ensures) c.reply-answer.ensures c.put_answer.ensures
 
 pub returns-in-None : goal.returns-in-None
 returns-in-None g c =
-    responds-wrong c.args.segment.now BadSyntax (ap as_reading c.in-None.ensures) c.put_wrong.ensures.writes c.put_wrong.ensures.tells
+    responds-wrong c.args.segment.now BadSyntax (ap as_reading c.in-None.ensures) c.put_wrong.ensures.output
+    c.put_wrong.ensures.report

@@ -11,8 +11,10 @@ use Rattle.segment_scripts.proofs.segments.answer_pop.Goals as goal
 pub returns-in-Some : goal.returns-in-Some
 returns-in-Some g c =
     responds-popped (key_seen c.in-Some.key)
-    (ap as_reading (c.in-Some.ensures Pop ∙ sym (of_key Pop key_of c.args.rest.now))) c.pop.ensures.executed c.pop.ensures.answers
+    (ap as_reading (c.in-Some.ensures Pop ∙ sym (of_key Pop key_of c.args.rest.now))) c.pop.ensures.execution
+    c.pop.ensures.outcome
 
 pub returns-in-None : goal.returns-in-None
 returns-in-None g c =
-    responds-wrong c.args.segment.now BadSyntax (ap as_reading (c.in-None.ensures Pop ∙ sym (of_key Pop key_of c.args.rest.now))) c.put_wrong.ensures.writes c.put_wrong.ensures.tells
+    responds-wrong c.args.segment.now BadSyntax (ap as_reading (c.in-None.ensures Pop
+    ∙ sym (of_key Pop key_of c.args.rest.now))) c.put_wrong.ensures.output c.put_wrong.ensures.report

@@ -14,14 +14,18 @@ use Rattle.segment_scripts.proofs.segments.answer_push.Goals as goal
 
 pub add-requires : goal.add-requires
 add-requires g c =
-    has-room (literal_of c.in-Some.value) (c.requires.meant (Push (key_seen c.in-Some.key) (literal_of c.in-Some.value)) (ap as_reading (c.in-Some.ensures Push ∙ sym (of_key_literal Push c.args.rest.now))))
+    has-room (literal_of c.in-Some.value)
+    (c.requires.meaning (Push (key_seen c.in-Some.key) (literal_of c.in-Some.value))
+    (ap as_reading (c.in-Some.ensures Push ∙ sym (of_key_literal Push c.args.rest.now))))
 
 pub returns-in-Some : goal.returns-in-Some
 returns-in-Some g c =
     responds-replied (ap as_reading (c.in-Some.ensures Push ∙ sym (of_key_literal Push c.args.rest.now)))
-    (replies-plain (λ _. Done) (λ _. refl) c.add.result refl refl c.done-answer.ensures c.add.ensures.step c.add.ensures.refused (λ _. refl))
+    (replies-plain (λ _. Done) (λ _. refl) c.add.result refl refl c.done-answer.ensures c.add.ensures.step
+    c.add.ensures.refused (λ _. refl))
     c.put_answer.ensures
 
 pub returns-in-None : goal.returns-in-None
 returns-in-None g c =
-    responds-wrong c.args.segment.now BadSyntax (ap as_reading (c.in-None.ensures Push ∙ sym (of_key_literal Push c.args.rest.now))) c.put_wrong.ensures.writes c.put_wrong.ensures.tells
+    responds-wrong c.args.segment.now BadSyntax (ap as_reading (c.in-None.ensures Push
+    ∙ sym (of_key_literal Push c.args.rest.now))) c.put_wrong.ensures.output c.put_wrong.ensures.report

@@ -10,20 +10,23 @@ use Rattle.segment_scripts.proofs.showing.put_value.Goals as goal
 pub returns-in_err-put_front : goal.returns-in_err-put_front
 returns-in_err-put_front g c =
     writes_same
-    (of-cut {a = λ d. front_text c.args.object.kind c.count_of-count.result} (λ d. laid_at in_line d (ByHandle c.args.object.handle) ++ 0x0A ∷ []) c.from_residual.ensures.0
+    (of-cut {a = λ d. front_text c.args.object.kind c.count_of-count.result} (λ d.
+    laid_at in_line d (ByHandle c.args.object.handle) ++ 0x0A ∷ []) c.from_residual.ensures.0
     (writes_owed c.in_err-put_front.ensures (λ d st. refl)))
     (shown-said c.args.segment.now c.args.object c.requires.object c.count_of-count.result c.count_of-count.ensures)
 
 pub returns-in_err-put_content : goal.returns-in_err-put_content
 returns-in_err-put_content g c =
     writes_same
-    (of-then {a = λ d. front_text c.args.object.kind c.count_of-count.result} (writes_owed c.in_ok-put_front.ensures (λ d st. refl))
+    (of-then {a = λ d. front_text c.args.object.kind c.count_of-count.result}
+    (writes_owed c.in_ok-put_front.ensures (λ d st. refl))
     (of-cut (λ d. 0x0A ∷ []) c.from_residual-in_err-put_content.ensures.0 c.in_err-put_content.ensures))
     (shown-said c.args.segment.now c.args.object c.requires.object c.count_of-count.result c.count_of-count.ensures)
 
 pub returns : goal.returns
 returns g c =
     writes_same
-    (of-then {a = λ d. front_text c.args.object.kind c.count_of-count.result} (writes_owed c.in_ok-put_front.ensures (λ d st. refl))
+    (of-then {a = λ d. front_text c.args.object.kind c.count_of-count.result}
+    (writes_owed c.in_ok-put_front.ensures (λ d st. refl))
     (of-then c.in_ok-put_content.ensures (writes_owed {owed = λ d. 0x0A ∷ []} c.put_pieces.ensures (λ d st. refl))))
     (shown-said c.args.segment.now c.args.object c.requires.object c.count_of-count.result c.count_of-count.ensures)

@@ -10,9 +10,15 @@ use Rattle.segment_scripts.proofs.telling.put_instance.Goals as goal
 pub returns : goal.returns
 returns g c =
     let said = c.args.said in
-    let told = instance-line said.class said.name.now (kind_text said.kind) (number_text c.from.result) (number_text said.handle) c.args.len c.args.capacity
-    (piece_text c.class_pieces.result.0) (piece_text c.class_pieces.result.1) (piece_text c.pieces_behind.result.0) (piece_text c.pieces_behind.result.1)
+    let told = instance-line said.class said.name.now (kind_text said.kind) (number_text c.from.result)
+    (number_text said.handle) c.args.len c.args.capacity
+    (piece_text c.class_pieces.result.0) (piece_text c.class_pieces.result.1) (piece_text c.pieces_behind.result.0)
+    (piece_text c.pieces_behind.result.1)
     (piece_text c.pieces_behind-2.result.0) (piece_text c.pieces_behind-2.result.1)
     c.class_pieces.ensures c.pieces_behind.ensures c.pieces_behind-2.ensures in
-    let counted = ap (λ n. line (class_words said.class said.name.now ++ (kind_text said.kind ∷ number_text n ∷ handle_text said.handle ∷ []) ++ (number_words c.args.len ++ number_words c.args.capacity))) c.from.ensures in
-    subst (Writes (g.W.Sink.history c.args.out.now) (g.W.Sink.history c.put_pieces.new.out) c.put_pieces.result) (told ∙ counted) c.put_pieces.ensures
+    let counted =
+    ap (λ n. line (class_words said.class said.name.now
+    ++ (kind_text said.kind ∷ number_text n ∷ handle_text said.handle ∷ [])
+    ++ (number_words c.args.len ++ number_words c.args.capacity))) c.from.ensures in
+    subst (Writes (g.W.Sink.history c.args.out.now) (g.W.Sink.history c.put_pieces.new.out) c.put_pieces.result)
+    (told ∙ counted) c.put_pieces.ensures

@@ -1,5 +1,5 @@
 use Rattle.segment_manager.specs.Directory.{unique_objects}
-use Rattle.segment_manager.specs.State.{StandsFor}
+use Rattle.segment_manager.specs.State.{DenotesCurrent}
 use Rattle.segment_manager.proofs.PartLaws.{well}
 use Rattle.segment_scripts.specs.Answer.{entry_words}
 use Rattle.segment_scripts.specs.Parts.{parts_until}
@@ -9,5 +9,5 @@ use Rattle.segment_scripts.proofs.telling.put_kinds.Given as goal
 
 abbrev pub invariant-kinds : goal.invariant-kinds
 invariant-kinds g l =
-    WritesFor (g.W.Sink.history l.initial.out) (g.W.Sink.history l.out) well (StandsFor l.segment.cut.bytes)
+    WritesFor (g.W.Sink.history l.initial.out) (g.W.Sink.history l.out) well (DenotesCurrent l.segment.cut.bytes)
     (λ d. parts_until (line_part entry_words (unique_objects d)) l.index)

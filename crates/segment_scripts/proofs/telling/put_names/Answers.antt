@@ -13,24 +13,42 @@ names-init g c = of-start (λ d. line_part (λ (o : Object). name_text o.name �
 
 pub named_instance-requires : goal.named_instance-requires
 named_instance-requires g c = record {
-  below = λ d k. omega (arith, c.names-test.true, named_is c.args.segment.now.mode d c.num_named-index-end.result (c.num_named-index-end.ensures.answers d k));
+  below = λ d k. omega (
+    arith,
+    c.names-test.true,
+    named_is c.args.segment.now.mode d c.num_named-index-end.result (c.num_named-index-end.ensures.answers d k),
+  );
 }
 
 pub names-preserved : goal.names-preserved
 names-preserved g c =
-    listing-more c.args.segment.now (λ (o : Object). name_text o.name ∷ entry_words o) named_objects c.names.index c.names.invariant
-    (said-part c.args.segment.now (λ (o : Object). name_text o.name ∷ entry_words o) named_objects c.names.index c.named_instance.result _ c.named_instance.ensures (λ o h. named-said o c.named_instance.result h))
+    listing-more c.args.segment.now (λ (o : Object). name_text o.name ∷ entry_words o) named_objects c.names.index
+    c.names.invariant
+    (said-part c.args.segment.now (λ (o : Object). name_text o.name ∷ entry_words o) named_objects c.names.index
+    c.named_instance.result _ c.named_instance.ensures (λ o h. named-said o c.named_instance.result h))
     c.in_ok-put_named.ensures
 
 pub returns-in_err-put_named : goal.returns-in_err-put_named
 returns-in_err-put_named g c =
-    listing-cut c.args.segment.now (λ (o : Object). name_text o.name ∷ entry_words o) named_objects c.names.index c.names.invariant
-    (said-part c.args.segment.now (λ (o : Object). name_text o.name ∷ entry_words o) named_objects c.names.index c.named_instance.result _ c.named_instance.ensures (λ o h. named-said o c.named_instance.result h))
-    (λ d k. omega (arith, c.names-test.true, named_is c.args.segment.now.mode d c.num_named-index-end.result (c.num_named-index-end.ensures.answers d k)))
+    listing-cut c.args.segment.now (λ (o : Object). name_text o.name ∷ entry_words o) named_objects c.names.index
+    c.names.invariant
+    (said-part c.args.segment.now (λ (o : Object). name_text o.name ∷ entry_words o) named_objects c.names.index
+    c.named_instance.result _ c.named_instance.ensures (λ o h. named-said o c.named_instance.result h))
+    (λ d k. omega (
+      arith,
+      c.names-test.true,
+      named_is c.args.segment.now.mode d c.num_named-index-end.result (c.num_named-index-end.ensures.answers d k),
+    ))
     c.in_err-put_named.ensures c.from_residual.ensures.0
 
 pub returns : goal.returns
 returns g c =
-    listing-done c.args.segment.now (λ (o : Object). name_text o.name ∷ entry_words o) named_objects c.names.index c.names.invariant
-    (λ d k. omega (arith, c.names-test.false, c.names.auto.index-end, named_is c.args.segment.now.mode d c.num_named-index-end.result (c.num_named-index-end.ensures.answers d k)))
+    listing-done c.args.segment.now (λ (o : Object). name_text o.name ∷ entry_words o) named_objects c.names.index
+    c.names.invariant
+    (λ d k. omega (
+      arith,
+      c.names-test.false,
+      c.names.auto.index-end,
+      named_is c.args.segment.now.mode d c.num_named-index-end.result (c.num_named-index-end.ensures.answers d k),
+    ))
     c.put_pieces.ensures

@@ -2,4 +2,5 @@ use Rattle.segment_scripts.proofs.TextParts.{gathered-fits}
 use Rattle.segment_scripts.proofs.text_rows.text_row.Goals as goal
 
 pub push-requires : goal.push-requires
-push-requires c = gathered-fits c.args.texts c.texts.text-iterator c.next.new.self c.texts.row c.in-Some.text c.texts.invariant.gathered c.in-Some.ensures.steps
+push-requires c = gathered-fits c.args.texts c.texts.text-iterator c.next.new.self c.texts.row c.in-Some.text
+    c.texts.invariant.gathered c.in-Some.ensures.steps

@@ -14,10 +14,12 @@ put_pairs-requires-clause-map g c = says-kind c.requires.object c.in-Map.is
 pub returns-in-Map : goal.returns-in-Map
 returns-in-Map g c =
     of-same c.put_pairs.ensures
-    (map-said c.args.segment.now c.args.object c.requires.object c.in-Map.keys c.in-Map.values c.in-Map.is (g.L.Layout.spelling c.args.layout.now) c.args.count c.requires.count)
+    (map-said c.args.segment.now c.args.object c.requires.object c.in-Map.keys c.in-Map.values c.in-Map.is
+    (g.L.Layout.spelling c.args.layout.now) c.args.count c.requires.count)
 
 pub returns-in_default : goal.returns-in_default
 returns-in_default g c =
     let sp = g.L.Layout.spelling c.args.layout.now in
     of-same c.put_elements.ensures
-    (λ d st. ap (parts_until (part_at sp d (ByHandle c.args.object.handle))) (c.requires.count.answers d st) ∙ parts-at sp d (ByHandle c.args.object.handle))
+    (λ d st. ap (parts_until (part_at sp d (ByHandle c.args.object.handle))) (c.requires.count.answers d st)
+    ∙ parts-at sp d (ByHandle c.args.object.handle))

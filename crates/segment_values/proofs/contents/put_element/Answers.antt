@@ -8,25 +8,29 @@ pub returns-in-Ok : goal.returns-in-Ok
 returns-in-Ok g c =
     let sp = g.L.Layout.spelling c.args.layout.now in
     of-one c.put_text.ensures
-    (λ d k. ap (string_text sp c.args.index) (c.in-Ok.ensures.answers d k) ∙ string-part c.args.segment.now c.args.object c.requires.object sp c.args.index c.in-String.is d k)
+    (λ d k. ap (string_text sp c.args.index) (c.in-Ok.ensures.answers d k)
+    ∙ string-part c.args.segment.now c.args.object c.requires.object sp c.args.index c.in-String.is d k)
 
 pub returns-in-Err : goal.returns-in-Err
 returns-in-Err g c =
     let sp = g.L.Layout.spelling c.args.layout.now in
     of-none
-    (λ d k. sym (ap (string_text sp c.args.index) (c.in-Err.ensures.answers d k) ∙ string-part c.args.segment.now c.args.object c.requires.object sp c.args.index c.in-String.is d k))
+    (λ d k. sym (ap (string_text sp c.args.index) (c.in-Err.ensures.answers d k)
+    ∙ string-part c.args.segment.now c.args.object c.requires.object sp c.args.index c.in-String.is d k))
 
 pub returns-in-Ok-texts_get : goal.returns-in-Ok-texts_get
 returns-in-Ok-texts_get g c =
     let sp = g.L.Layout.spelling c.args.layout.now in
     of-one c.put_text-in-Ok-texts_get.ensures
-    (λ d k. ap (element_text sp c.args.index) (c.in-Ok-texts_get.ensures.answers d k) ∙ text-part c.args.segment.now c.args.object c.requires.object sp c.args.index c.in-Strings.is d k)
+    (λ d k. ap (element_text sp c.args.index) (c.in-Ok-texts_get.ensures.answers d k)
+    ∙ text-part c.args.segment.now c.args.object c.requires.object sp c.args.index c.in-Strings.is d k)
 
 pub returns-in-Err-texts_get : goal.returns-in-Err-texts_get
 returns-in-Err-texts_get g c =
     let sp = g.L.Layout.spelling c.args.layout.now in
     of-none
-    (λ d k. sym (ap (element_text sp c.args.index) (c.in-Err-texts_get.ensures.answers d k) ∙ text-part c.args.segment.now c.args.object c.requires.object sp c.args.index c.in-Strings.is d k))
+    (λ d k. sym (ap (element_text sp c.args.index) (c.in-Err-texts_get.ensures.answers d k)
+    ∙ text-part c.args.segment.now c.args.object c.requires.object sp c.args.index c.in-Strings.is d k))
 
 pub returns-in-Ok-get_any : goal.returns-in-Ok-get_any
 returns-in-Ok-get_any g c =
@@ -34,11 +38,13 @@ returns-in-Ok-get_any g c =
     let v = c.in-Ok-get_any.value in
     of-one {text = sp.scalar c.args.index (kind_of_scalar v) (value_of_scalar v)} c.put_scalar.ensures
     (λ d k. ap (element_text sp c.args.index) (c.in-Ok-get_any.ensures.answers d k)
-    ∙ scalar-part c.args.segment.now c.args.object c.requires.object sp c.args.index c.in_default.not-String c.in_default.not-Strings c.requires.kind d k)
+    ∙ scalar-part c.args.segment.now c.args.object c.requires.object sp c.args.index c.in_default.not-String
+    c.in_default.not-Strings c.requires.kind d k)
 
 pub returns-in-Err-get_any : goal.returns-in-Err-get_any
 returns-in-Err-get_any g c =
     let sp = g.L.Layout.spelling c.args.layout.now in
     of-none
     (λ d k. sym (ap (element_text sp c.args.index) (c.in-Err-get_any.ensures.answers d k)
-    ∙ scalar-part c.args.segment.now c.args.object c.requires.object sp c.args.index c.in_default.not-String c.in_default.not-Strings c.requires.kind d k))
+    ∙ scalar-part c.args.segment.now c.args.object c.requires.object sp c.args.index c.in_default.not-String
+    c.in_default.not-Strings c.requires.kind d k))

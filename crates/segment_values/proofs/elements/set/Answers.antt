@@ -3,10 +3,11 @@ use Rattle.std.specs.Prelude.{ℕ, OnOk}
 use Rattle.seg_types.specs.declared.kinds.{ScalarKind.ScalarKind, ScalarKind.TheVariants.U8}
 use Rattle.seg_types.specs.declared.refusals.Refusal.{Refusal}
 use Rattle.seg_types.specs.Names.{ByHandle, Key}
-use Rattle.segment_manager.specs.declared.objects.targets.Object.{Object as Located}
+use Rattle.segment_manager.specs.declared.objects.object_ref.Object.{Object as Located}
 use Rattle.segment_manager.specs.{Calls.elements_at, Keeping.ChangesElement, objects.Located.IsLocated}
-use Rattle.segment_manager.specs.State.{Answers, State}
-use Rattle.segment_manager.proofs.CommandLaws.{elements-either, elements-told, handle-to-change, set-map, set-unchangeable, to-change}
+use Rattle.segment_manager.specs.State.{AnswersWith, SegmentState}
+use Rattle.segment_manager.proofs.CommandLaws.{elements-either, elements-told, handle-to-change, set-map}
+use Rattle.segment_manager.proofs.CommandLaws.{set-unchangeable, to-change}
 use Rattle.segment_manager.proofs.Laws.{step-by_key}
 use Rattle.seg_types.specs.Commands.{Set}
 use Rattle.seg_types.specs.Keys.{key_seen}
@@ -29,16 +30,20 @@ pub returns-in-Map-clause-step : goal.returns-in-Map-clause-step
 returns-in-Map-clause-step g c = set-map _ _ (to-change c.in_ok-object.ensures c.in-Map.is)
 
 pub returns-in-Scalar-clause-step : goal.returns-in-Scalar-clause-step
-returns-in-Scalar-clause-step g c = step-by_key _ _ _ c.in_ok-object.ensures.located _ (Set (key_seen c.args.key.now) _ _) _ c.set_scalar-in-Scalar.ensures.step
+returns-in-Scalar-clause-step g c =
+    step-by_key _ _ _ c.in_ok-object.ensures.located _ (Set (key_seen c.args.key.now) _ _) _
+    c.set_scalar-in-Scalar.ensures.step
 
 pub returns-in-String-clause-step : goal.returns-in-String-clause-step
-returns-in-String-clause-step g c = step-by_key _ _ _ c.in_ok-object.ensures.located _ (Set (key_seen c.args.key.now) _ _) _ c.set_scalar.ensures.step
+returns-in-String-clause-step g c =
+    step-by_key _ _ _ c.in_ok-object.ensures.located _ (Set (key_seen c.args.key.now) _ _) _ c.set_scalar.ensures.step
 
-pub set_text-requires-clause-of_kind : goal.set_text-requires-clause-of_kind
-set_text-requires-clause-of_kind g c = handle-to-change c.in_ok-object.ensures c.in-Strings.is
+pub set_text-requires-clause-kind_fit : goal.set_text-requires-clause-kind_fit
+set_text-requires-clause-kind_fit g c = handle-to-change c.in_ok-object.ensures c.in-Strings.is
 
 pub returns-in-Strings-clause-step : goal.returns-in-Strings-clause-step
-returns-in-Strings-clause-step g c = step-by_key _ _ _ c.in_ok-object.ensures.located _ (Set (key_seen c.args.key.now) _ _) _ c.set_text.ensures.step
+returns-in-Strings-clause-step g c =
+    step-by_key _ _ _ c.in_ok-object.ensures.located _ (Set (key_seen c.args.key.now) _ _) _ c.set_text.ensures.step
 
 pub returns-in-Strings-clause-element : goal.returns-in-Strings-clause-element
 returns-in-Strings-clause-element g c =
@@ -46,8 +51,8 @@ returns-in-Strings-clause-element g c =
     c.in_ok-object.ensures.located c.in-Strings.is c.args.index c.set_text.result
 
 -- of an element of a kind that the object has, and of none of another
-element-told : (old new : State) (key : Key) (o : Located) → IsLocated old key o → (j : ScalarKind) (i : ℕ)
-    (r : Result (Unit {0}) Refusal) → Answers old (λ d. elements_at d (ByHandle o.handle)) (Ok j)
+element-told : (old new : SegmentState) (key : Key) (o : Located) → IsLocated old key o → (j : ScalarKind) (i : ℕ)
+    (r : Result (Unit {0}) Refusal) → AnswersWith old (λ d. elements_at d (ByHandle o.handle)) (Ok j)
     → OnOk r (ChangesElement old new (ByHandle o.handle) j i)
     → OnOk r ((k : ScalarKind) → ChangesElement old new key k i)
 element-told old new key o l j i r a m =

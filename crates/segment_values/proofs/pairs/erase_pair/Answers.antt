@@ -13,7 +13,9 @@ returns-in_err-gone-in-Map-clause-step g c = rw (exit-is c.from_residual-in_err-
     (remove-no_value c.in_ok-object.ensures c.in-Map.is _ c.in_err-gone-in-Map.ensures)
 
 pub returns-in_ok-gone-in-Map-clause-step : goal.returns-in_ok-gone-in-Map-clause-step
-returns-in_ok-gone-in-Map-clause-step g c = removes-key c.in_ok-object.ensures c.in-Map.is _ c.in_ok-gone-in-Map.gone c.in_ok-gone-in-Map.ensures c.map_erase_any.ensures.step
+returns-in_ok-gone-in-Map-clause-step g c =
+    removes-key c.in_ok-object.ensures c.in-Map.is _ c.in_ok-gone-in-Map.gone c.in_ok-gone-in-Map.ensures
+    c.map_erase_any.ensures.step
 
 pub returns-in_ok-gone-in-Map-clause-absent : goal.returns-in_ok-gone-in-Map-clause-absent
 returns-in_ok-gone-in-Map-clause-absent g c =

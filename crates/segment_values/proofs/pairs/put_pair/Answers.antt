@@ -13,7 +13,10 @@ returns-in_err-new_key-in-Map-clause-step g c = rw (exit-is c.from_residual-in_e
 
 pub returns-in_ok-new_key-in-Map-clause-step : goal.returns-in_ok-new_key-in-Map-clause-step
 returns-in_ok-new_key-in-Map-clause-step g c =
-    puts-pair c.in_ok-object.ensures c.in-Map.is _ _ (c.in_ok-new_key-in-Map.new_key, c.in_ok-new_key-in-Map.new_value) c.in_ok-new_key-in-Map.ensures c.map_put_any.ensures.step
+    puts-pair c.in_ok-object.ensures c.in-Map.is _ _ (
+      c.in_ok-new_key-in-Map.new_key,
+      c.in_ok-new_key-in-Map.new_value,
+    ) c.in_ok-new_key-in-Map.ensures c.map_put_any.ensures.step
 
 pub returns-in_default-clause-step : goal.returns-in_default-clause-step
 returns-in_default-clause-step g c = put-no_map c.in_ok-object.ensures c.in_default.not-Map _ _

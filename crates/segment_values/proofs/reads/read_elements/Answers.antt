@@ -12,5 +12,7 @@ read_object-requires g c =
 
 pub returns-clause-read : goal.returns-clause-read
 returns-clause-read g c =
-    reads-by_key c.args.segment.now (key_seen c.args.key.now) c.in_ok-object.object c.in_ok-object.ensures g.T.Scalar.kind c.args.first (length c.args.row.now) (read_into g.T.Scalar.whole c.read_object.new.row c.read_object.result)
+    reads-by_key c.args.segment.now (key_seen c.args.key.now) c.in_ok-object.object c.in_ok-object.ensures
+    g.T.Scalar.kind c.args.first (length c.args.row.now)
+    (read_into g.T.Scalar.whole c.read_object.new.row c.read_object.result)
     c.read_object.ensures.read

@@ -5,5 +5,6 @@ use Rattle.segment_values.proofs.RangeRuns.{has-row}
 use Rattle.segment_values.proofs.reads.row_run.Goals as goal
 
 pub returns : goal.returns
-returns g c = has-row c.args.segment.now c.args.object.now g.T.Scalar.kind c.requires.object c.requires.kind c.in-Ok.run'
-    c.in-Ok.ensures.run c.in-Ok.ensures.bytes (subst IsSegment c.as_bytes.ensures.bytes c.as_bytes.ensures.denotes)
+returns g c = has-row c.args.segment.now c.args.object.now g.T.Scalar.kind c.requires.object c.requires.kind
+    c.in-Ok.run'
+    c.in-Ok.ensures.run c.in-Ok.ensures.bytes (subst IsSegment c.as_bytes.ensures.bytes c.as_bytes.ensures.denotation)

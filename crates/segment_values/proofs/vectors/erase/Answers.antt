@@ -11,10 +11,18 @@ returns-in_err-object-clause-step c =
     rw (exit-is c.from_residual.ensures.1) (erase-unchangeable c.in_err-object.ensures _)
 
 pub returns-in-Vector-clause-step : goal.returns-in-Vector-clause-step
-returns-in-Vector-clause-step c = located-steps _ _ _ c.in_ok-object.ensures.located _ _ (Erase (key_seen c.args.key.now) _) _ c.in-Vector.is c.erase_element.ensures.step
+returns-in-Vector-clause-step c =
+    located-steps _ _ _ c.in_ok-object.ensures.located _ _ (Erase (key_seen c.args.key.now) _) _ c.in-Vector.is
+    c.erase_element.ensures.step
 
 pub returns-in-Strings-clause-step : goal.returns-in-Strings-clause-step
-returns-in-Strings-clause-step c = located-steps _ _ _ c.in_ok-object.ensures.located _ _ (Erase (key_seen c.args.key.now) _) _ c.in-Strings.is c.texts_erase.ensures.step
+returns-in-Strings-clause-step c =
+    located-steps _ _ _ c.in_ok-object.ensures.located _ _ (Erase (key_seen c.args.key.now) _) _ c.in-Strings.is
+    c.texts_erase.ensures.step
 
 pub returns-in_default : goal.returns-in_default
-returns-in_default c = record { step = erase-no_vector c.in_ok-object.ensures c.in_default.not-Vector c.in_default.not-Strings _; refused = refl }
+returns-in_default c = record {
+  step =
+      erase-no_vector c.in_ok-object.ensures c.in_default.not-Vector c.in_default.not-Strings _;
+  refused = refl;
+}

@@ -4,7 +4,7 @@ use Rattle.std.specs.Prelude.{slice_get}
 use Rattle.std.specs.Range.Bound.{bound_map}
 use Rattle.seg_types.specs.Names.{ByHandle}
 use Rattle.segment_manager.specs.containers.Maps.{numbers_in}
-use Rattle.segment_manager.specs.State.{Answers}
+use Rattle.segment_manager.specs.State.{AnswersWith}
 use Rattle.segment_manager.specs.containers.Walks.{pairs_at_kinds}
 use Rattle.segment_views.specs.Ranged.{is_up_to, pair_or_none, range_of}
 use Rattle.segment_views.proofs.Between.{admitted}
@@ -17,9 +17,11 @@ returns-in_err-pair g c =
     let key = ByHandle c.args.object.now.handle in
     let start = bound_map g.K.Scalar.whole c.args.start in
     let end = bound_map g.K.Scalar.whole c.args.end in
-    let within = reads-within s key g.K.Scalar.kind g.V.Scalar.kind start end (numbers_in g.K.Scalar.whole g.V.Scalar.whole (pair_or_none c.first_from.result)) c.first_from.ensures in
-    subst (Answers s (λ d. slice_get (range_of start end (pairs_at_kinds d key g.K.Scalar.kind g.V.Scalar.kind)) 0))
-    (ap (λ o. admitted (is_up_to end) (numbers_in g.K.Scalar.whole g.V.Scalar.whole o)) (sym c.pair_or_none.ensures ∙ c.in_err-pair.was) ∙ ap (numbers_in g.K.Scalar.whole g.V.Scalar.whole) (sym c.from_residual.ensures)) within
+    let within = reads-within s key g.K.Scalar.kind g.V.Scalar.kind start end
+    (numbers_in g.K.Scalar.whole g.V.Scalar.whole (pair_or_none c.first_from.result)) c.first_from.ensures in
+    subst (AnswersWith s (λ d. slice_get (range_of start end (pairs_at_kinds d key g.K.Scalar.kind g.V.Scalar.kind)) 0))
+    (ap (λ o. admitted (is_up_to end) (numbers_in g.K.Scalar.whole g.V.Scalar.whole o)) (sym c.pair_or_none.ensures
+    ∙ c.in_err-pair.was) ∙ ap (numbers_in g.K.Scalar.whole g.V.Scalar.whole) (sym c.from_residual.ensures)) within
 
 pub returns : goal.returns
 returns g c =
@@ -27,7 +29,10 @@ returns g c =
     let key = ByHandle c.args.object.now.handle in
     let start = bound_map g.K.Scalar.whole c.args.start in
     let end = bound_map g.K.Scalar.whole c.args.end in
-    let within = reads-within s key g.K.Scalar.kind g.V.Scalar.kind start end (numbers_in g.K.Scalar.whole g.V.Scalar.whole (pair_or_none c.first_from.result)) c.first_from.ensures in
-    subst (Answers s (λ d. slice_get (range_of start end (pairs_at_kinds d key g.K.Scalar.kind g.V.Scalar.kind)) 0))
-    (ap (λ o. admitted (is_up_to end) (numbers_in g.K.Scalar.whole g.V.Scalar.whole o)) (sym c.pair_or_none.ensures ∙ c.in_ok-pair.was)
-    ∙ admitted-then g.K.Scalar.whole g.V.Scalar.whole (is_up_to end) c.is_up_to.result c.in_ok-pair.pair c.is_up_to.ensures ∙ ap (numbers_in g.K.Scalar.whole g.V.Scalar.whole) (sym c.then_some.ensures)) within
+    let within = reads-within s key g.K.Scalar.kind g.V.Scalar.kind start end
+    (numbers_in g.K.Scalar.whole g.V.Scalar.whole (pair_or_none c.first_from.result)) c.first_from.ensures in
+    subst (AnswersWith s (λ d. slice_get (range_of start end (pairs_at_kinds d key g.K.Scalar.kind g.V.Scalar.kind)) 0))
+    (ap (λ o. admitted (is_up_to end) (numbers_in g.K.Scalar.whole g.V.Scalar.whole o)) (sym c.pair_or_none.ensures
+    ∙ c.in_ok-pair.was)
+    ∙ admitted-then g.K.Scalar.whole g.V.Scalar.whole (is_up_to end) c.is_up_to.result c.in_ok-pair.pair
+    c.is_up_to.ensures ∙ ap (numbers_in g.K.Scalar.whole g.V.Scalar.whole) (sym c.then_some.ensures)) within

@@ -3,7 +3,7 @@ use Rattle.std.proofs.Common.{sym, ap, subst, ◌∙◌}
 use Rattle.std.specs.Range.Bound.{bound_map}
 use Rattle.seg_types.specs.Names.{ByHandle}
 use Rattle.segment_manager.specs.containers.Maps.{numbers_in}
-use Rattle.segment_manager.specs.State.{Answers}
+use Rattle.segment_manager.specs.State.{AnswersWith}
 use Rattle.segment_manager.specs.containers.Walks.{pairs_at_kinds}
 use Rattle.segment_views.specs.Ranged.{is_from, last_between, pair_or_none}
 use Rattle.segment_views.proofs.Between.{admitted}
@@ -16,9 +16,11 @@ returns-in_err-pair g c =
     let key = ByHandle c.args.object.now.handle in
     let start = bound_map g.K.Scalar.whole c.args.start in
     let end = bound_map g.K.Scalar.whole c.args.end in
-    let within = reads-within-back s key g.K.Scalar.kind g.V.Scalar.kind start end (numbers_in g.K.Scalar.whole g.V.Scalar.whole (pair_or_none c.last_up_to.result)) c.last_up_to.ensures in
-    subst (Answers s (λ d. last_between start end (pairs_at_kinds d key g.K.Scalar.kind g.V.Scalar.kind)))
-    (ap (λ o. admitted (is_from start) (numbers_in g.K.Scalar.whole g.V.Scalar.whole o)) (sym c.pair_or_none.ensures ∙ c.in_err-pair.was) ∙ ap (numbers_in g.K.Scalar.whole g.V.Scalar.whole) (sym c.from_residual.ensures)) within
+    let within = reads-within-back s key g.K.Scalar.kind g.V.Scalar.kind start end
+    (numbers_in g.K.Scalar.whole g.V.Scalar.whole (pair_or_none c.last_up_to.result)) c.last_up_to.ensures in
+    subst (AnswersWith s (λ d. last_between start end (pairs_at_kinds d key g.K.Scalar.kind g.V.Scalar.kind)))
+    (ap (λ o. admitted (is_from start) (numbers_in g.K.Scalar.whole g.V.Scalar.whole o)) (sym c.pair_or_none.ensures
+    ∙ c.in_err-pair.was) ∙ ap (numbers_in g.K.Scalar.whole g.V.Scalar.whole) (sym c.from_residual.ensures)) within
 
 pub returns : goal.returns
 returns g c =
@@ -26,7 +28,10 @@ returns g c =
     let key = ByHandle c.args.object.now.handle in
     let start = bound_map g.K.Scalar.whole c.args.start in
     let end = bound_map g.K.Scalar.whole c.args.end in
-    let within = reads-within-back s key g.K.Scalar.kind g.V.Scalar.kind start end (numbers_in g.K.Scalar.whole g.V.Scalar.whole (pair_or_none c.last_up_to.result)) c.last_up_to.ensures in
-    subst (Answers s (λ d. last_between start end (pairs_at_kinds d key g.K.Scalar.kind g.V.Scalar.kind)))
-    (ap (λ o. admitted (is_from start) (numbers_in g.K.Scalar.whole g.V.Scalar.whole o)) (sym c.pair_or_none.ensures ∙ c.in_ok-pair.was)
-    ∙ admitted-then g.K.Scalar.whole g.V.Scalar.whole (is_from start) c.is_from.result c.in_ok-pair.pair c.is_from.ensures ∙ ap (numbers_in g.K.Scalar.whole g.V.Scalar.whole) (sym c.then_some.ensures)) within
+    let within = reads-within-back s key g.K.Scalar.kind g.V.Scalar.kind start end
+    (numbers_in g.K.Scalar.whole g.V.Scalar.whole (pair_or_none c.last_up_to.result)) c.last_up_to.ensures in
+    subst (AnswersWith s (λ d. last_between start end (pairs_at_kinds d key g.K.Scalar.kind g.V.Scalar.kind)))
+    (ap (λ o. admitted (is_from start) (numbers_in g.K.Scalar.whole g.V.Scalar.whole o)) (sym c.pair_or_none.ensures
+    ∙ c.in_ok-pair.was)
+    ∙ admitted-then g.K.Scalar.whole g.V.Scalar.whole (is_from start) c.is_from.result c.in_ok-pair.pair
+    c.is_from.ensures ∙ ap (numbers_in g.K.Scalar.whole g.V.Scalar.whole) (sym c.then_some.ensures)) within

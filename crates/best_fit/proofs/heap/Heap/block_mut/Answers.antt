@@ -1,5 +1,5 @@
 -- Whatever is written to the payload of a block, the heap stays one.
-use Rattle.best_fit.proofs.Common.{◌≡◌, refl, sym, subst, ap, ◌∙◌, ◌-◌, arith, Cut, part, live_of, payload_at}
+use Rattle.best_fit.proofs.Common.{◌≡◌, refl, sym, subst, ap, ◌∙◌, ◌-◌, arith, WindowState, part, live_of, payload_at}
 use Rattle.best_fit.proofs.Payloads.{ReadAt, live_at, payload_written, read_at, with_payload-lent}
 use Rattle.best_fit.proofs.Writes.{block_payload}
 use Rattle.best_fit.proofs.HintedBlocks.{held-same}
@@ -39,7 +39,7 @@ returns c =
       (refl, λ ws. with_payload-lent c.args.self.now w h (c.tile_at-len.result.len - 16) ws e b.block b.payload),
       record {
         writes_back = tt;
-        bytes = subst (λ (v : Cut). c.bytes_mut.result.now ≡ payload_at v.bytes (live_of v.bytes) h) (sym e)
+        bytes = subst (λ (v : WindowState). c.bytes_mut.result.now ≡ payload_at v.bytes (live_of v.bytes) h) (sym e)
             (c.bytes_mut.ensures.bytes ∙ ap (part w.bytes h) b.payload ∙ sym (block_payload w h b.block));
       },
     )

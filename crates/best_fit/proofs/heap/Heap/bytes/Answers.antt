@@ -1,5 +1,5 @@
 -- The bytes lie in a block, and so in the window.
-use Rattle.best_fit.proofs.Common.{◌≡◌, sym, ap, ◌∙◌, ◌+◌, arith, Cut, bytes_of, read, read-part}
+use Rattle.best_fit.proofs.Common.{◌≡◌, sym, ap, ◌∙◌, ◌+◌, arith, WindowState, bytes_of, read, read-part}
 use Rattle.best_fit.proofs.Linked.{spot}
 use Rattle.best_fit.proofs.heap.Heap.bytes.Goals as goal
 
@@ -18,4 +18,4 @@ returns c =
     let w = c.self.inside.gaps.window in let from = c.args.handle + c.args.at in let e : c.args.self.now ≡ w = cc in
     let s = spot c.args.self.now w c.args.handle c.args.at c.args.len e c.self.invariant.heap c.requires in
     c.bytes.ensures.bytes ∙ sym (read-part w.bytes from c.args.len s.inside)
-    ∙ ap (λ (v : Cut). read (bytes_of v.bytes) from c.args.len) (sym e)
+    ∙ ap (λ (v : WindowState). read (bytes_of v.bytes) from c.args.len) (sym e)

@@ -1,5 +1,5 @@
 -- The bytes lie in two blocks, and no tag changes.
-use Rattle.best_fit.proofs.Common.{◌≡◌, sym, subst, ◌+◌, arith, Cut, bytes_of, read, current, IsChanged}
+use Rattle.best_fit.proofs.Common.{◌≡◌, sym, subst, ◌+◌, arith, WindowState, bytes_of, read, current, ChangesBytes}
 use Rattle.best_fit.proofs.Linked.{bytes_copied, spot}
 use Rattle.best_fit.proofs.HintedBlocks.{held-same}
 use Rattle.best_fit.proofs.heap.Heap.copy.Goals as goal
@@ -30,17 +30,18 @@ invariant_of-self c =
     c.self.invariant.heap c.requires.target in
     held-same c.self.inside.points c.self.inside.gaps.window.bytes c.move_within.new.self.bytes
     c.self.invariant.points (bytes_copied w c.move_within.new.self (c.args.from + c.args.from_at) c.args.to
-    c.args.to_at c.args.n c.self.invariant.heap b a.inside c.move_within.ensures.moved).0.live
+    c.args.to_at c.args.n c.self.invariant.heap b a.inside c.move_within.ensures.changes).0.live
 
-pub returns-clause-change : goal.returns-clause-change
-returns-clause-change c =
+pub returns-clause-changes : goal.returns-clause-changes
+returns-clause-changes c =
     let w = c.self.inside.gaps.window in let e : c.args.self.now ≡ w = cc in
     let a = spot c.args.self.now c.self.inside.gaps.window c.args.from c.args.from_at c.args.n (cc)
     c.self.invariant.heap c.requires.source in let b = spot c.args.self.now c.self.inside.gaps.window c.args.to
     c.args.to_at c.args.n (cc) c.self.invariant.heap c.requires.target in
-    subst (λ (v : Cut). IsChanged current v c.move_within.new.self (c.args.to + c.args.to_at) c.args.n) (sym e)
+    subst (λ (v : WindowState). ChangesBytes current v c.move_within.new.self (c.args.to + c.args.to_at) c.args.n)
+    (sym e)
     (bytes_copied w c.move_within.new.self (c.args.from + c.args.from_at) c.args.to c.args.to_at c.args.n
-    c.self.invariant.heap b a.inside c.move_within.ensures.moved).0
+    c.self.invariant.heap b a.inside c.move_within.ensures.changes).0
 
 pub returns-clause-content : goal.returns-clause-content
 returns-clause-content c =
@@ -48,7 +49,7 @@ returns-clause-content c =
     let a = spot c.args.self.now c.self.inside.gaps.window c.args.from c.args.from_at c.args.n (cc)
     c.self.invariant.heap c.requires.source in let b = spot c.args.self.now c.self.inside.gaps.window c.args.to
     c.args.to_at c.args.n (cc) c.self.invariant.heap c.requires.target in
-    subst (λ (v : Cut). read (bytes_of c.move_within.new.self.bytes) (c.args.to + c.args.to_at) c.args.n
+    subst (λ (v : WindowState). read (bytes_of c.move_within.new.self.bytes) (c.args.to + c.args.to_at) c.args.n
     ≡ read (bytes_of v.bytes) (c.args.from + c.args.from_at) c.args.n) (sym e)
     (bytes_copied w c.move_within.new.self (c.args.from + c.args.from_at) c.args.to c.args.to_at c.args.n
-    c.self.invariant.heap b a.inside c.move_within.ensures.moved).1
+    c.self.invariant.heap b a.inside c.move_within.ensures.changes).1

@@ -1,6 +1,7 @@
 -- A block is put behind all others, and given back.
-use Rattle.best_fit.proofs.Common.{◌≡◌, ap, subst, ◌+◌, ◌≤◌, List, length, arith, Cut, current, bits, HasBlockBehind}
-use Rattle.best_fit.proofs.Common.{HasEndMoved, of_size, Gap, gaps_in, heap_touches, live_of}
+use Rattle.best_fit.proofs.Common.{◌≡◌, ap, subst, ◌+◌, ◌≤◌, List, length, arith, WindowState, current, bits}
+use Rattle.best_fit.proofs.Common.{AppendsBlock}
+use Rattle.best_fit.proofs.Common.{MovesEnd, of_size, Gap, gaps_in, heap_touches, live_of}
 use Rattle.best_fit.proofs.Allocating.{heap_bits}
 use Rattle.best_fit.proofs.Appended.{behind_heap, behind_live, end_moved}
 use Rattle.best_fit.proofs.HintedBlocks.{held-on}
@@ -8,24 +9,24 @@ use Rattle.best_fit.proofs.heap.Heap.extend_end.Goals.{After-append_block-at}
 use Rattle.best_fit.proofs.heap.Heap.extend_end.Goals as goal
 
 -- the block behind all others, and where it begins
-block : (c : After-append_block-at) → HasBlockBehind current c.self.inside.gaps.window
+block : (c : After-append_block-at) → AppendsBlock current c.self.inside.gaps.window
     c.append_block-at.new.touches.gaps.now.window c.args.extra
 block c =
     let f : c.new-touches.result.gaps.now.window ≡ c.self.inside.gaps.window = cc in
-    subst (λ (v : Cut). HasBlockBehind current v c.append_block-at.new.touches.gaps.now.window c.args.extra) f
+    subst (λ (v : WindowState). AppendsBlock current v c.append_block-at.new.touches.gaps.now.window c.args.extra) f
     c.append_block-at.ensures.block
 
 place : (c : After-append_block-at) → c.append_block-at.result + 16 ≡ length c.self.inside.gaps.window.bytes
 place c =
     let f : c.new-touches.result.gaps.now.window ≡ c.self.inside.gaps.window = cc in
-    subst (λ (v : Cut). c.append_block-at.result + 16 ≡ length v.bytes) f c.append_block-at.ensures.at
+    subst (λ (v : WindowState). c.append_block-at.result + 16 ≡ length v.bytes) f c.append_block-at.ensures.position
 
 -- no gap more
 gaps : (c : After-append_block-at) → length (gaps_in c.append_block-at.new.touches.gaps.now.window) ≡ length
     (gaps_in c.self.inside.gaps.window)
 gaps c =
     let f : c.new-touches.result.gaps.now.window ≡ c.self.inside.gaps.window = cc in
-    subst (λ (v : Cut). length (gaps_in c.append_block-at.new.touches.gaps.now.window) ≡ length (gaps_in v)) f
+    subst (λ (v : WindowState). length (gaps_in c.append_block-at.new.touches.gaps.now.window) ≡ length (gaps_in v)) f
     (ap (λ (gs : List Gap). length gs) c.append_block-at.ensures.gaps)
 
 pub release-requires-clause-heap : goal.release-requires-clause-heap
@@ -48,11 +49,12 @@ invariant_of-self c =
     held-on c.self.inside.points w.bytes c.release.new.touches.gaps.now.window.bytes
     (of_size (live_of w.bytes) (length w.bytes + c.args.extra)) c.self.invariant.points moved.live (λ h l. l)
 
-pub returns-clause-moved : goal.returns-clause-moved
-returns-clause-moved c =
-    let p = (goal.at.returns-clause-moved c).After-append_block-at in let w = c.self.inside.gaps.window in
+pub returns-clause-changes : goal.returns-clause-changes
+returns-clause-changes c =
+    let p = (goal.at.returns-clause-changes c).After-append_block-at in let w = c.self.inside.gaps.window in
     let e : w ≡ c.args.self.now = cc in
-    subst (λ (v : Cut). HasEndMoved current v c.release.new.touches.gaps.now.window (length v.bytes + c.args.extra)) e
+    subst (λ (v : WindowState). MovesEnd current v c.release.new.touches.gaps.now.window
+    (length v.bytes + c.args.extra)) e
     (end_moved w c.append_block-at.new.touches.gaps.now.window c.args.extra c.append_block-at.result (block p)
     (place p) c.release.new.touches.gaps.now.window c.release.ensures.released)
 
@@ -60,8 +62,8 @@ pub returns-clause-steps : goal.returns-clause-steps
 returns-clause-steps c =
     let p = (goal.at.returns-clause-steps c).After-append_block-at in let w = c.self.inside.gaps.window in
     let e : w ≡ c.args.self.now = cc in
-    let zero = c.new-touches.ensures.count in let two = c.append_block-at.ensures.touched in
+    let zero = c.new-touches.ensures.count in let two = c.append_block-at.ensures.steps_exact in
     let more = c.release.ensures.steps in
     let alike = ap (λ n. bits (n + 1)) (gaps p) in let same = heap_bits w c.self.invariant.heap in
     let n = c.count.ensures in let added = c.add.ensures in
-    subst (λ (v : Cut). c.add.new.self ≤ c.args.steps.now + heap_touches (live_of v.bytes)) e (omega arith)
+    subst (λ (v : WindowState). c.add.new.self ≤ c.args.steps.now + heap_touches (live_of v.bytes)) e (omega arith)

@@ -11,7 +11,7 @@ pub load-requires-clause-aligned : goal.load-requires-clause-aligned
 load-requires-clause-aligned c = let s = spot c.args.self.now c.self.inside.gaps.window c.args.handle c.args.at 8 (cc)
     c.self.invariant.heap c.requires.room in let a = s.aligned in omega arith
 
-pub load-requires-clause-inside : goal.load-requires-clause-inside
-load-requires-clause-inside c =
+pub load-requires-clause-in_bounds : goal.load-requires-clause-in_bounds
+load-requires-clause-in_bounds c =
     (spot c.args.self.now c.self.inside.gaps.window c.args.handle c.args.at 8 (cc)
     c.self.invariant.heap c.requires.room).inside

@@ -13,7 +13,7 @@ way_points-points-requires c =
     let w = c.args.window in
     rebuilt_heap w c.clear_gaps.new.window c.plant_gaps.new.gaps.window
     (tagged_says w c.requires.size (tagged_too (bytes_of w.bytes) (length w.bytes) c.requires.tags))
-    c.clear_gaps.ensures.rest c.plant_gaps.ensures.rest c.plant_gaps.ensures.tree
+    c.clear_gaps.ensures.frame c.plant_gaps.ensures.frame c.plant_gaps.ensures.tree
 
 pub invariant_of-result : goal.invariant_of-result
 invariant_of-result c =
@@ -22,7 +22,7 @@ invariant_of-result c =
       heap =
           rebuilt_heap w c.clear_gaps.new.window c.plant_gaps.new.gaps.window
           (tagged_says w c.requires.size (tagged_too (bytes_of w.bytes) (length w.bytes) c.requires.tags))
-          c.clear_gaps.ensures.rest c.plant_gaps.ensures.rest c.plant_gaps.ensures.tree;
+          c.clear_gaps.ensures.frame c.plant_gaps.ensures.frame c.plant_gaps.ensures.tree;
       points = c.way_points-points.ensures;
     }
 
@@ -31,5 +31,5 @@ returns c =
     let w = c.args.window in
     rebuilt w c.clear_gaps.new.window c.plant_gaps.new.gaps.window
     (tagged_says w c.requires.size (tagged_too (bytes_of w.bytes) (length w.bytes) c.requires.tags))
-    c.clear_gaps.ensures.rest c.plant_gaps.ensures.rest c.plant_gaps.ensures.tree
+    c.clear_gaps.ensures.frame c.plant_gaps.ensures.frame c.plant_gaps.ensures.tree
     c.hold_window.ensures c.hold_window-2.ensures

@@ -1,5 +1,5 @@
 -- The block has the room, or it is lengthened, or it is replaced.
-use Rattle.best_fit.proofs.Common.{◌≡◌, sym, subst, IsTrue, IfSome, Cut, current, Regrows, IsGivenRoom, IsHeap}
+use Rattle.best_fit.proofs.Common.{◌≡◌, sym, subst, IsTrue, IfSome, WindowState, current, Regrows, RegrowsOk, IsHeap}
 use Rattle.best_fit.proofs.Common.{has_room}
 use Rattle.best_fit.proofs.Common.{live_of}
 use Rattle.best_fit.specs.Exchange.{block_of}
@@ -16,9 +16,9 @@ room-requires c =
 pub returns-then-room-n : goal.returns-then-room-n
 returns-then-room-n c =
     let is_now : c.self.inside.gaps.window ≡ c.args.self.now = cc in
-    let heap : IsHeap current c.args.self.now.bytes = subst (λ (v : Cut). IsHeap current v.bytes) is_now
+    let heap : IsHeap current c.args.self.now.bytes = subst (λ (v : WindowState). IsHeap current v.bytes) is_now
     c.self.invariant.heap in
-    subst (λ o. IsGivenRoom current c.args.self.now c.args.self.now (block_of (live_of c.args.self.now.bytes) o)
+    subst (λ o. RegrowsOk current c.args.self.now c.args.self.now (block_of (live_of c.args.self.now.bytes) o)
     c.args.n c.args.used c.in-Some.handle) (sym c.in-Some.is)
     (given-same c.args.self.now c.in-Some.handle c.args.n c.args.used heap
     (subst (λ o. IfSome o (λ h. IsTrue (has_room (live_of c.args.self.now.bytes) h c.args.used))) c.in-Some.is
@@ -33,26 +33,26 @@ try_extend-requires c =
 pub returns-then-try_extend : goal.returns-then-try_extend
 returns-then-try_extend c =
     let is_now : c.self.inside.gaps.window ≡ c.args.self.now = cc in
-    let heap : IsHeap current c.args.self.now.bytes = subst (λ (v : Cut). IsHeap current v.bytes) is_now
+    let heap : IsHeap current c.args.self.now.bytes = subst (λ (v : WindowState). IsHeap current v.bytes) is_now
     c.self.invariant.heap in
-    subst (λ o. IsGivenRoom current c.args.self.now c.try_extend.new.self (block_of (live_of c.args.self.now.bytes) o)
+    subst (λ o. RegrowsOk current c.args.self.now c.try_extend.new.self (block_of (live_of c.args.self.now.bytes) o)
     c.args.n c.args.used c.in-Some.handle) (sym c.in-Some.is)
     (given-longer c.args.self.now c.try_extend.new.self c.in-Some.handle c.args.n c.args.used c.try_extend.result
     heap (subst (λ o. IfSome o (λ h. IsTrue (has_room (live_of c.args.self.now.bytes) h c.args.used)))
     c.in-Some.is c.requires.room) c.room.result c.room.ensures c.if-room-n.false
-    c.try_extend.ensures.extended c.if-try_extend.true)
+    c.try_extend.ensures.changes c.if-try_extend.true)
 
 pub replace-requires-clause-room : goal.replace-requires-clause-room
 replace-requires-clause-room c =
     let is_now : c.self.inside.gaps.window ≡ c.args.self.now = cc in
-    let heap : IsHeap current c.args.self.now.bytes = subst (λ (v : Cut). IsHeap current v.bytes) is_now
+    let heap : IsHeap current c.args.self.now.bytes = subst (λ (v : WindowState). IsHeap current v.bytes) is_now
     c.self.invariant.heap in
-    subst (λ (v : Cut). IsTrue (has_room (live_of v.bytes) c.in-Some.handle c.args.used))
+    subst (λ (v : WindowState). IsTrue (has_room (live_of v.bytes) c.in-Some.handle c.args.used))
     (sym (not_longer-same c.args.self.now c.try_extend.new.self c.in-Some.handle c.args.n c.args.used
     c.try_extend.result heap
     (subst (λ o. IfSome o (λ h. IsTrue (has_room (live_of c.args.self.now.bytes) h c.args.used))) c.in-Some.is
     c.requires.room) c.room.result c.room.ensures c.if-room-n.false
-    c.try_extend.ensures.extended c.if-try_extend.false))
+    c.try_extend.ensures.changes c.if-try_extend.false))
     (subst (λ o. IfSome o (λ h. IsTrue (has_room (live_of c.args.self.now.bytes) h c.args.used)))
     c.in-Some.is c.requires.room)
 
@@ -65,7 +65,7 @@ returns-in-None c =
 pub returns-else-try_extend : goal.returns-else-try_extend
 returns-else-try_extend c =
     let is_now : c.self.inside.gaps.window ≡ c.args.self.now = cc in
-    let heap : IsHeap current c.args.self.now.bytes = subst (λ (v : Cut). IsHeap current v.bytes) is_now
+    let heap : IsHeap current c.args.self.now.bytes = subst (λ (v : WindowState). IsHeap current v.bytes) is_now
     c.self.invariant.heap in
     subst (λ o. Regrows current c.args.self.now c.replace.new.self o c.args.n c.args.used c.replace.result)
     (sym c.in-Some.is)
@@ -73,5 +73,5 @@ returns-else-try_extend c =
     c.try_extend.result c.replace.result heap
     (subst (λ o. IfSome o (λ h. IsTrue (has_room (live_of c.args.self.now.bytes) h c.args.used)))
     c.in-Some.is c.requires.room)
-    c.room.result c.room.ensures c.if-room-n.false c.try_extend.ensures.extended
+    c.room.result c.room.ensures c.if-room-n.false c.try_extend.ensures.changes
     c.if-try_extend.false c.replace.ensures)

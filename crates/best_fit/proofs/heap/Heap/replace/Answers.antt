@@ -1,5 +1,6 @@
 -- The new block is taken while the old one is in use.
-use Rattle.best_fit.proofs.Common.{◌≡◌, ◌+◌, subst, arith, IsTrue, Cut, bytes_of, read, current, IsChanged, IsHeap}
+use Rattle.best_fit.proofs.Common.{◌≡◌, ◌+◌, subst, arith, IsTrue, WindowState, bytes_of, read, current, ChangesBytes}
+use Rattle.best_fit.proofs.Common.{IsHeap}
 use Rattle.best_fit.proofs.Common.{has_room}
 use Rattle.best_fit.proofs.Common.{live_of, Storage}
 use Rattle.best_fit.proofs.Allocated.{allocated-room, allocated-room_before, changed-room, has_room-names}
@@ -23,8 +24,8 @@ copy-requires-clause-target c =
 pub deallocate-requires : goal.deallocate-requires
 deallocate-requires c =
     let n : c.in_ok-new.new + 0 ≡ c.in_ok-new.new = omega arith in
-    let change = subst (λ k. IsChanged current c.allocate.new.self c.copy.new.self k c.args.used) n
-    c.copy.ensures.change in
+    let change = subst (λ k. ChangesBytes current c.allocate.new.self c.copy.new.self k c.args.used) n
+    c.copy.ensures.changes in
     has_room-names c.args.handle c.args.used (live_of c.copy.new.self.bytes).extents
     (changed-room current c.allocate.new.self c.copy.new.self c.in_ok-new.new c.args.used
     c.args.handle c.args.used change
@@ -34,12 +35,12 @@ deallocate-requires c =
 pub returns : goal.returns
 returns c =
     let is_now : c.self.inside.gaps.window ≡ c.args.self.now = cc in
-    let heap : IsHeap current c.args.self.now.bytes = subst (λ (v : Cut). IsHeap current v.bytes) is_now
+    let heap : IsHeap current c.args.self.now.bytes = subst (λ (v : WindowState). IsHeap current v.bytes) is_now
     c.self.invariant.heap in
     let n : c.in_ok-new.new + 0 ≡ c.in_ok-new.new = omega arith in
     let o : c.args.handle + 0 ≡ c.args.handle = omega arith in
-    let change = subst (λ k. IsChanged current c.allocate.new.self c.copy.new.self k c.args.used) n
-    c.copy.ensures.change in
+    let change = subst (λ k. ChangesBytes current c.allocate.new.self c.copy.new.self k c.args.used) n
+    c.copy.ensures.changes in
     let moved = subst (λ k. read (bytes_of c.copy.new.self.bytes) k c.args.used
     ≡ read (bytes_of c.allocate.new.self.bytes) (c.args.handle + 0) c.args.used) n c.copy.ensures.content in
     let content = subst (λ k. read (bytes_of c.copy.new.self.bytes) c.in_ok-new.new c.args.used

@@ -1,5 +1,5 @@
 -- The link lies in the header, and no tag changes.
-use Rattle.best_fit.proofs.Common.{◌≡◌, sym, subst, Cut, current, IsChanged}
+use Rattle.best_fit.proofs.Common.{◌≡◌, sym, subst, WindowState, current, ChangesBytes}
 use Rattle.best_fit.proofs.Writes.{header_changed}
 use Rattle.best_fit.proofs.HintedBlocks.{held-same}
 use Rattle.best_fit.proofs.heap.Heap.set_header_link.Goals as goal
@@ -8,13 +8,13 @@ pub invariant_of-self : goal.invariant_of-self
 invariant_of-self c =
     let w = c.self.inside.gaps.window in let e = c.set_link.ensures in let q = c.requires in
     held-same c.self.inside.points c.self.inside.gaps.window.bytes c.set_link.new.window.bytes c.self.invariant.points
-    (header_changed w c.set_link.new.window c.args.at c.self.invariant.heap e.place e.len q.whole
-    q.below q.other e.rest).live
+    (header_changed w c.set_link.new.window c.args.at c.self.invariant.heap e.place e.len q.aligned
+    q.subtree q.peer e.frame).live
 
-pub returns-clause-change : goal.returns-clause-change
-returns-clause-change c =
+pub returns-clause-changes : goal.returns-clause-changes
+returns-clause-changes c =
     let w = c.self.inside.gaps.window in let e = c.set_link.ensures in let q = c.requires in
     let same : c.args.self.now ≡ w = cc in
-    subst (λ (v : Cut). IsChanged current v c.set_link.new.window c.args.at 8) (sym same)
+    subst (λ (v : WindowState). ChangesBytes current v c.set_link.new.window c.args.at 8) (sym same)
     (header_changed w c.set_link.new.window c.args.at c.self.invariant.heap e.place e.len
-    q.whole q.below q.other e.rest)
+    q.aligned q.subtree q.peer e.frame)

@@ -1,5 +1,5 @@
 -- The link lies in a block, and no tag changes.
-use Rattle.best_fit.proofs.Common.{◌≡◌, sym, subst, ◌+◌, arith, Cut, current, IsChanged}
+use Rattle.best_fit.proofs.Common.{◌≡◌, sym, subst, ◌+◌, arith, WindowState, current, ChangesBytes}
 use Rattle.best_fit.proofs.Linked.{link_changed, spot}
 use Rattle.best_fit.proofs.HintedBlocks.{held-same}
 use Rattle.best_fit.proofs.heap.Heap.set_link.Goals as goal
@@ -12,8 +12,8 @@ pub set_link-requires-clause-aligned : goal.set_link-requires-clause-aligned
 set_link-requires-clause-aligned c = let s = spot c.args.self.now c.self.inside.gaps.window c.args.handle c.args.at 8
     (cc) c.self.invariant.heap c.requires.room in let a = s.aligned in omega arith
 
-pub set_link-requires-clause-inside : goal.set_link-requires-clause-inside
-set_link-requires-clause-inside c =
+pub set_link-requires-clause-in_bounds : goal.set_link-requires-clause-in_bounds
+set_link-requires-clause-in_bounds c =
     (spot c.args.self.now c.self.inside.gaps.window c.args.handle c.args.at 8 (cc)
     c.self.invariant.heap c.requires.room).inside
 
@@ -23,12 +23,12 @@ invariant_of-self c =
     c.self.invariant.heap c.requires.room in
     let e = c.set_link.ensures in
     held-same c.self.inside.points c.self.inside.gaps.window.bytes c.set_link.new.window.bytes c.self.invariant.points
-    (link_changed w c.set_link.new.window c.args.handle c.args.at c.self.invariant.heap s e.place e.len e.rest).live
+    (link_changed w c.set_link.new.window c.args.handle c.args.at c.self.invariant.heap s e.place e.len e.frame).live
 
-pub returns-clause-change : goal.returns-clause-change
-returns-clause-change c =
+pub returns-clause-changes : goal.returns-clause-changes
+returns-clause-changes c =
     let w = c.self.inside.gaps.window in let s = spot c.args.self.now w c.args.handle c.args.at 8 (cc)
     c.self.invariant.heap c.requires.room in
     let e = c.set_link.ensures in let same : c.args.self.now ≡ w = cc in
-    subst (λ (v : Cut). IsChanged current v c.set_link.new.window (c.args.handle + c.args.at) 8) (sym same)
-    (link_changed w c.set_link.new.window c.args.handle c.args.at c.self.invariant.heap s e.place e.len e.rest)
+    subst (λ (v : WindowState). ChangesBytes current v c.set_link.new.window (c.args.handle + c.args.at) 8) (sym same)
+    (link_changed w c.set_link.new.window c.args.handle c.args.at c.self.invariant.heap s e.place e.len e.frame)

@@ -1,5 +1,5 @@
 -- The links lie in blocks, and no tag changes.
-use Rattle.best_fit.proofs.Common.{◌≡◌, refl, sym, subst, ◌+◌, ◌*◌, arith, Cut, current, IsChanged}
+use Rattle.best_fit.proofs.Common.{◌≡◌, refl, sym, subst, ◌+◌, ◌*◌, arith, WindowState, current, ChangesBytes}
 use Rattle.best_fit.proofs.Linked.{links_changed, spot}
 use Rattle.best_fit.proofs.HintedBlocks.{held-same}
 use Rattle.best_fit.proofs.heap.Heap.shift_links.Goals as goal
@@ -12,15 +12,15 @@ pub overflow_add-to : goal.overflow_add-to
 overflow_add-to c = let s = spot c.args.self.now c.self.inside.gaps.window c.args.to c.args.to_at (8 * c.args.n) (cc)
     c.self.invariant.heap c.requires.target in let i = s.inside in let z = s.size in omega arith
 
-pub move_to-requires-clause-source_whole : goal.move_to-requires-clause-source_whole
-move_to-requires-clause-source_whole c = let s = spot c.args.self.now c.self.inside.gaps.window c.args.from
+pub move_to-requires-clause-source_aligned : goal.move_to-requires-clause-source_aligned
+move_to-requires-clause-source_aligned c = let s = spot c.args.self.now c.self.inside.gaps.window c.args.from
     c.args.from_at (8 * c.args.n) (cc) c.self.invariant.heap c.requires.source in let a = s.aligned in
-    let f = c.requires.from_whole in let t = c.requires.to_whole in omega arith
+    let f = c.requires.from_aligned in let t = c.requires.to_aligned in omega arith
 
-pub move_to-requires-clause-target_whole : goal.move_to-requires-clause-target_whole
-move_to-requires-clause-target_whole c = let s = spot c.args.self.now c.self.inside.gaps.window c.args.to c.args.to_at
+pub move_to-requires-clause-target_aligned : goal.move_to-requires-clause-target_aligned
+move_to-requires-clause-target_aligned c = let s = spot c.args.self.now c.self.inside.gaps.window c.args.to c.args.to_at
     (8 * c.args.n) (cc) c.self.invariant.heap c.requires.target in let a = s.aligned in
-    let f = c.requires.from_whole in let t = c.requires.to_whole in omega arith
+    let f = c.requires.from_aligned in let t = c.requires.to_aligned in omega arith
 
 pub move_to-requires-clause-source : goal.move_to-requires-clause-source
 move_to-requires-clause-source c =
@@ -38,12 +38,13 @@ invariant_of-self c =
     (8 * c.args.n) (cc) c.self.invariant.heap c.requires.target in
     held-same c.self.inside.points c.self.inside.gaps.window.bytes c.move_to.new.window.bytes c.self.invariant.points
     (links_changed w c.move_to.new.window c.args.to c.args.to_at (c.args.from + c.args.from_at) c.args.n
-    (c.args.to + c.args.to_at) c.self.invariant.heap s refl c.move_to.ensures.written).live
+    (c.args.to + c.args.to_at) c.self.invariant.heap s refl c.move_to.ensures.output).live
 
-pub returns-clause-change : goal.returns-clause-change
-returns-clause-change c =
+pub returns-clause-changes : goal.returns-clause-changes
+returns-clause-changes c =
     let w = c.self.inside.gaps.window in let s = spot c.args.self.now c.self.inside.gaps.window c.args.to c.args.to_at
     (8 * c.args.n) (cc) c.self.invariant.heap c.requires.target in let same : c.args.self.now ≡ w = cc in
-    subst (λ (v : Cut). IsChanged current v c.move_to.new.window (c.args.to + c.args.to_at) (8 * c.args.n)) (sym same)
+    subst (λ (v : WindowState). ChangesBytes current v c.move_to.new.window (c.args.to + c.args.to_at)
+    (8 * c.args.n)) (sym same)
     (links_changed w c.move_to.new.window c.args.to c.args.to_at (c.args.from + c.args.from_at) c.args.n
-    (c.args.to + c.args.to_at) c.self.invariant.heap s refl c.move_to.ensures.written)
+    (c.args.to + c.args.to_at) c.self.invariant.heap s refl c.move_to.ensures.output)

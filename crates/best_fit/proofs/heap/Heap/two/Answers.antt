@@ -1,6 +1,6 @@
 -- Two blocks share no byte, and whatever is written to the payload of the second, the heap stays one.
 use Rattle.best_fit.proofs.Common.{◌≡◌, sym, subst, ap, ◌∙◌, ◌-◌, List, ℕ, arith, refill, part, patched, with_bytes}
-use Rattle.best_fit.proofs.Common.{live_of, payload_at, IsHeld}
+use Rattle.best_fit.proofs.Common.{live_of, payload_at, IsHintedHeap}
 use Rattle.best_fit.proofs.Payloads.{ReadAt, live_at, payload_written, read_at, with_payload-lent}
 use Rattle.best_fit.proofs.TwoLent.{all_lent, blocks_apart, called_at, payload_lent}
 use Rattle.best_fit.proofs.HintedBlocks.{held-same}
@@ -43,19 +43,19 @@ overflow_sub-a g c = let long = (first g c).long in omega arith
 pub overflow_sub-b : goal.overflow_sub-b
 overflow_sub-b g c = let long = (second g c).long in omega arith
 
-pub on_two-requires-clause-a_inside : goal.on_two-requires-clause-a_inside
-on_two-requires-clause-a_inside g c = let inside = (first g c).inside in let size = c.size-size.ensures in
+pub on_two-requires-clause-first_in_bounds : goal.on_two-requires-clause-first_in_bounds
+on_two-requires-clause-first_in_bounds g c = let inside = (first g c).inside in let size = c.size-size.ensures in
     let all = c.bytes_mut-bytes.ensures.len in omega arith
 
-pub on_two-requires-clause-b_inside : goal.on_two-requires-clause-b_inside
-on_two-requires-clause-b_inside g c = let inside = (second g c).inside in let size = c.size-size.ensures in
+pub on_two-requires-clause-second_in_bounds : goal.on_two-requires-clause-second_in_bounds
+on_two-requires-clause-second_in_bounds g c = let inside = (second g c).inside in let size = c.size-size.ensures in
     let all = c.bytes_mut-bytes.ensures.len in omega arith
 
-pub on_two-requires-clause-apart : goal.on_two-requires-clause-apart
-on_two-requires-clause-apart g c =
+pub on_two-requires-clause-disjoint : goal.on_two-requires-clause-disjoint
+on_two-requires-clause-disjoint g c =
     let s = first g c in let t = second g c in
     blocks_apart c.self.inside.gaps.window c.args.first c.args.second (c.tile_at-len.result.len - 16)
-    (c.tile_at-other.result.len - 16) c.self.invariant.heap s.block t.block c.requires.apart s.payload t.payload
+    (c.tile_at-other.result.len - 16) c.self.invariant.heap s.block t.block c.requires.disjoint s.payload t.payload
 
 -- what is lent of them is their payloads
 first_lent : (g : Over) (c : After-bytes_mut-bytes g) → part c.bytes_mut-bytes.result.now c.args.first
@@ -93,7 +93,7 @@ pub invariant_of-self : goal.invariant_of-self
 invariant_of-self g c =
     let w = c.self.inside.gaps.window in let p = goal.at.invariant_of-self g c in
     let t = second g p.After-bytes_mut-bytes in
-    subst (λ (b : List ℕ). IsHeld b c.self.inside.points) (sym (left g p.After-on_two t))
+    subst (λ (b : List ℕ). IsHintedHeap b c.self.inside.points) (sym (left g p.After-on_two t))
     (held-same c.self.inside.points w.bytes _ c.self.invariant.points
     (payload_written w c.args.second (c.tile_at-other.result.len - 16) c.on_two.ensures.0 c.self.invariant.heap
     t.block t.payload).live)

@@ -20,7 +20,7 @@ pub returns : goal.returns
 returns c =
     let w = c.args.gaps.now.window in let h = heap_tree w c.requires in
     let summed = tree_summed w c.requires h in
-    let walked = c.walk.ensures.walked h.tree.tree (rw c.load-root.ensures (search_tree w (gaps_in w) h)) in
+    let walked = c.walk.ensures.walk h.tree.tree (rw c.load-root.ensures (search_tree w (gaps_in w) h)) in
     let few = summed.few in
     let added = adds_up _ (λ p. p.1.now.window ≡ w) (λ p. p.0.ghost_name) (λ p. p.0.now)
     (len_in (gaps_in w)) (is_gap_node w)

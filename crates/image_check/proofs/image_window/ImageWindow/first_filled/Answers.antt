@@ -14,5 +14,6 @@ whole-part b n e = ap (take n) (drop-none b) ∙ ap (λ k. take k b) e ∙ take-
 
 pub returns : goal.returns
 returns c =
-    subst (λ (x : List ℕ). MatchOption c.first_filled.result (AreZero (bytes_of x) c.args.from c.args.to) (IsFirstFilled (bytes_of x) c.args.from c.args.to))
+    subst (λ (x : List ℕ). MatchOption c.first_filled.result (AreZero (bytes_of x) c.args.from c.args.to)
+    (IsFirstFilled (bytes_of x) c.args.from c.args.to))
     (c.bytes.ensures.bytes ∙ whole-part c.args.self.now.bytes _ c.size.ensures) c.first_filled.ensures

@@ -1,22 +1,26 @@
 use Rattle.std.proofs.Common.{arith, length}
-use Rattle.image_check.specs.FreeLaws.{is_place-Place, small_size}
+use Rattle.image_check.specs.FreeLaws.{is_place-PayloadBounds, small_size}
 use Rattle.image_check.proofs.image_window.places.has_good_links.Goals as goal
 
 pub checked-requires-clause-aligned : goal.checked-requires-clause-aligned
-checked-requires-clause-aligned c = let whole = (is_place-Place c.args.window.now c.args.node c.requires).whole in omega arith
+checked-requires-clause-aligned c = let whole =
+    (is_place-PayloadBounds c.args.window.now c.args.node c.requires).whole in omega arith
 
-pub checked-requires-clause-inside : goal.checked-requires-clause-inside
-checked-requires-clause-inside c = let high = (is_place-Place c.args.window.now c.args.node c.requires).high in omega arith
+pub checked-requires-clause-in_bounds : goal.checked-requires-clause-in_bounds
+checked-requires-clause-in_bounds c = let high =
+    (is_place-PayloadBounds c.args.window.now c.args.node c.requires).high in omega arith
 
 pub overflow_add-node : goal.overflow_add-node
 overflow_add-node c =
-    let p = is_place-Place c.args.window.now c.args.node c.requires in
+    let p = is_place-PayloadBounds c.args.window.now c.args.node c.requires in
     let high = p.high in
     let small = small_size (length c.args.window.now.bytes) p.size in
     omega arith
 
 pub checked-requires-then-is_ok-clause-aligned : goal.checked-requires-then-is_ok-clause-aligned
-checked-requires-then-is_ok-clause-aligned c = let whole = (is_place-Place c.args.window.now c.args.node c.requires).whole in omega arith
+checked-requires-then-is_ok-clause-aligned c = let whole =
+    (is_place-PayloadBounds c.args.window.now c.args.node c.requires).whole in omega arith
 
 pub checked-requires-then-is_ok-clause-inside : goal.checked-requires-then-is_ok-clause-inside
-checked-requires-then-is_ok-clause-inside c = let high = (is_place-Place c.args.window.now c.args.node c.requires).high in omega arith
+checked-requires-then-is_ok-clause-inside c = let high =
+    (is_place-PayloadBounds c.args.window.now c.args.node c.requires).high in omega arith

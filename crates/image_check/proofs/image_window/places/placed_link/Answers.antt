@@ -7,7 +7,8 @@ use Rattle.image_check.proofs.image_window.places.placed_link.Goals as goal
 pub returns-in-Ok : goal.returns-in-Ok
 returns-in-Ok c =
     let w = c.args.window.now in
-    c.in-Ok.ensures.ok ∙ sym (good-placed (length w.bytes) (link_at (bytes_of w.bytes) c.args.at) (sym c.in-Ok.ensures.err))
+    c.in-Ok.ensures.ok ∙ sym (good-placed (length w.bytes) (link_at (bytes_of w.bytes) c.args.at)
+    (sym c.in-Ok.ensures.err))
 
 pub returns-in-Err : goal.returns-in-Err
 returns-in-Err c =

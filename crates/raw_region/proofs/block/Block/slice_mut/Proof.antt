@@ -1,5 +1,6 @@
 -- `slice_mut` lends a part of the bytes, and the block ends with what was written there. Assumes `Logic`.
-use Rattle.std.proofs.Common.{◌≡◌, ℕ, ◌+◌, ◌*◌, ◌^◌, ◌<◌, ◌≤◌, List, [], ◌∷◌, ◌++◌, length, refl, sym, ap, ◌∙◌, arith, w64, MutBor, length-take-le, length-drop}
+use Rattle.std.proofs.Common.{◌≡◌, ℕ, ◌+◌, ◌*◌, ◌^◌, ◌<◌, ◌≤◌, List, [], ◌∷◌, ◌++◌, length, refl, sym, ap, ◌∙◌, arith}
+use Rattle.std.proofs.Common.{w64, MutBor, length-take-le, length-drop}
 use lib.ListN.{drop as drop_l}
 use lib.Seq.{take_at as take_front}
 use seplogic.Ra.Ura.{Ura}
@@ -16,7 +17,9 @@ use contract.Running.{tables, tables_of}
 use sound.WpLaws.{WpFn-mono}
 use types.Logic.{Logic, sem}
 use types.SemTy.{cells}
-use types.Kit.{‵, raw, ◌⊛◌, some, later, prop, ◌$◌, ◌∵◌, !, qed, move, keep, drop, use1, use2, await, pick, split, split3, join, group, fsplit, fsplit3, fjoin, fjoin3, fpack, feq_l, flt_l, regoal, rewrite, frame, suffices, done, at_ret}
+use types.Kit.{‵, raw, ◌⊛◌, some, later, prop, ◌$◌, ◌∵◌, !, qed, move, keep, drop, use1, use2, await, pick, split}
+use types.Kit.{split3, join, group, fsplit, fsplit3, fjoin, fjoin3, fpack, feq_l, flt_l, regoal, rewrite, frame}
+use types.Kit.{suffices, done, at_ret}
 use types.Part.{agg}
 use types.Run.{enter, returns, of_opd, bin, and_then, no_more, first, blocks, exec}
 use types.ByLocal.{alloc_all, pass_all, free_all, look_at, get, sets, sets_last, env}
@@ -58,7 +61,13 @@ abbrev Fields : RattleType
 Fields = Struct (shape Block.the_type)
 
 abbrev stayed : Stays F.ended.signature.params F.ended.kept
-stayed = (stay_dropped (mut_ref_to (0 ∷ []) tt (plain (λ _. B))) no, (stay_dropped (plain (λ _. RawPtr)) yes, (stay_dropped (plain (λ _. usize)) yes, (stay_dropped (plain (λ _. usize)) yes, tt))))
+stayed = (
+  stay_dropped (mut_ref_to (0 ∷ []) tt (plain (λ _. B))) no,
+  (
+    stay_dropped (plain (λ _. RawPtr)) yes,
+    (stay_dropped (plain (λ _. usize)) yes, (stay_dropped (plain (λ _. usize)) yes, tt)),
+  ),
+)
 
 module _ {M : Type 1} {𝓤 : Ura M} (𝓛 : Logic 𝓤) (at_mem : Memory → SProp 𝓤) (run : Routine → Fun 𝓤) where
   open 𝓛 use {H, A}
@@ -114,11 +123,13 @@ module _ {M : Type 1} {𝓤 : Ura M} (𝓛 : Logic 𝓤) (at_mem : Memory → SP
     Rest vs = fsep (Around 𝓛 b xs o from len) (fsep (Fields.own_val tt vs) (cell_at full_share B.mir vs rb ro))
 
     back : (vs : List Val) → Asked → length ys ≡ len → (ws : List ℕ) → length ws ≡ length ys
-        → ent 𝓤 (sep 𝓤 (sem 𝓛 (cells (mem u8) ws b (from + o))) (sem 𝓛 (Rest vs))) (sem 𝓛 ((mem B).own_at (new ws) rb ro))
+        → ent 𝓤 (sep 𝓤 (sem 𝓛 (cells (mem u8) ws b (from + o))) (sem 𝓛 (Rest vs)))
+        (sem 𝓛 ((mem B).own_at (new ws) rb ro))
     unfolding part_of
     back vs asked long ws same =
         let all : refill len ys ws ≡ ws = take_front ws (drop_l (length ws) ys) len (same ∙ long) in
-        qed 𝓛 (‵ (cells (mem u8) ws b (from + o)) ∷ ‵ (Rest vs) ∷ []) ∵ use1 𝓛 (‵ (Bytes 𝓛 b ws (from + o))) (whole_out 𝓛 u8 ws b (from + o)) $
+        qed 𝓛 (‵ (cells (mem u8) ws b (from + o)) ∷ ‵ (Rest vs) ∷ []) ∵ use1 𝓛 (‵ (Bytes 𝓛 b ws (from + o)))
+        (whole_out 𝓛 u8 ws b (from + o)) $
         move ! (1 ∷ []) $ fsplit3 ! $ move ! (3 ∷ 0 ∷ []) $
         use2 𝓛 (‵ (Bytes 𝓛 b (patched xs from ws) o)) (part_in 𝓛 b xs o from len asked.2 ws (same ∙ long)) $
         rewrite ! 0 (λ (l : List ℕ). ‵ (Bytes 𝓛 b (patched xs from l) o)) (sym all) refl $
@@ -129,21 +140,34 @@ module _ {M : Type 1} {𝓤 : Ura M} (𝓛 : Logic 𝓤) (at_mem : Memory → SP
     abbrev lent : GName → MutBor (List ℕ)
     lent δ = record { ref_ptr = (b, from + o); ghost_name = δ; now = ys }
 
-    walks : ent 𝓤 ((walk_of 𝓛 F.ended stayed held).pre z) (WpFn 𝓤 H C Λ code.function ((walk_of 𝓛 F.ended stayed held).args z) Post)
+    walks : ent 𝓤 ((walk_of 𝓛 F.ended stayed held).pre z)
+        (WpFn 𝓤 H C Λ code.function ((walk_of 𝓛 F.ended stayed held).args z) Post)
     walks =
         let a = z.0.3 in let vss = z.0.4 in let q = z.0.1.0 in
-        qed 𝓛 ((raw (alive 𝓛 F.ended.signature z.0.0 z.0.1) ⊛ ‵ (owns (types_at F.ended.signature.params z.0.0) a vss)) ∷ raw (fact 𝓤 Asked) ∷ []) ∵
+        qed 𝓛 ((raw (alive 𝓛 F.ended.signature z.0.0 z.0.1) ⊛ ‵
+        (owns (types_at F.ended.signature.params z.0.0) a vss)) ∷ raw (fact 𝓤 Asked) ∷ []) ∵
         move ! (1 ∷ []) $ heard ! Asked (λ asked. split ! $ move ! (1 ∷ []) $
         let long : length ys ≡ len = length-take-le len _ (omega (arith, asked.2, length-drop from xs)) in
         fsplit ! $ fsplit3 ! $ feq_l ! (λ is₀. move ! (2 ∷ []) $
-        fsplit ! $ feq_l ! (λ is₁. fsplit ! $ fsplit ! $ feq_l ! (λ is₂. flt_l ! (λ fits_from. fsplit ! $ fsplit ! $ feq_l ! (λ is₃. flt_l ! (λ fits_len. drop ! $
+        fsplit ! $ feq_l ! (λ is₁. fsplit ! $ fsplit ! $ feq_l ! (λ is₂.
+        flt_l ! (λ fits_from. fsplit ! $ fsplit ! $ feq_l ! (λ is₃. flt_l ! (λ fits_len. drop ! $
         move ! (2 ∷ []) $ use1 𝓛 (‵ (flft κ q) ⊛ ‵ ftrue) (id⊢ 𝓤 _) $ split ! $ move ! (2 ∷ 3 ∷ 0 ∷ []) $
-        regoal ! (λ (us : List Val). prop (WpFn 𝓤 H C Λ code.function (us ++ (vss.1.0 ++ (vss.1.1.0 ++ (vss.1.1.1.0 ++ [])))) Post)) is₀ refl $
-        regoal ! (λ (us : List Val). prop (WpFn 𝓤 H C Λ code.function ((vptr rb ro ∷ []) ++ (us ++ (vss.1.1.0 ++ (vss.1.1.1.0 ++ [])))) Post)) (is₁ ∙ ap (λ (r : Ptr). ptr_val r ∷ []) asked.0) refl $
-        regoal ! (λ (us : List Val). prop (WpFn 𝓤 H C Λ code.function ((vptr rb ro ∷ []) ++ ((vptr b o ∷ []) ++ (us ++ (vss.1.1.1.0 ++ [])))) Post)) is₂ refl $
-        regoal ! (λ (us : List Val). prop (WpFn 𝓤 H C Λ code.function ((vptr rb ro ∷ []) ++ ((vptr b o ∷ []) ++ ((vint w64 from ∷ []) ++ (us ++ [])))) Post)) is₃ refl $
+        regoal ! (λ (us : List Val). prop
+        (WpFn 𝓤 H C Λ code.function (us ++ (vss.1.0 ++ (vss.1.1.0 ++ (vss.1.1.1.0 ++ [])))) Post)) is₀ refl $
+        regoal ! (λ (us : List Val). prop
+        (WpFn 𝓤 H C Λ code.function ((vptr rb ro ∷ []) ++ (us ++ (vss.1.1.0 ++ (vss.1.1.1.0 ++ [])))) Post)) (is₁
+        ∙ ap (λ (r : Ptr). ptr_val r ∷ []) asked.0) refl $
+        regoal ! (λ (us : List Val). prop
+        (WpFn 𝓤 H C Λ code.function ((vptr rb ro ∷ []) ++ ((vptr b o ∷ []) ++ (us ++ (vss.1.1.1.0 ++ [])))) Post))
+        is₂ refl $
+        regoal ! (λ (us : List Val). prop
+        (WpFn 𝓤 H C Λ code.function ((vptr rb ro ∷ []) ++ ((vptr b o ∷ []) ++ ((vint w64 from ∷ []) ++ (us ++ []))))
+        Post)) is₃ refl $
         enter ! C Λ code.function (vptr rb ro ∷ vptr b o ∷ vint w64 from ∷ vint w64 len ∷ []) Post $
-        alloc_all ! (λ l. pass_all ! refl ((tt, tt), ((tt, tt), ((tt, record { fits = fits_from }), ((tt, record { fits = fits_len }), tt)))) $
+        alloc_all ! (λ l. pass_all ! refl (
+          (tt, tt),
+          ((tt, tt), ((tt, record { fits = fits_from }), ((tt, record { fits = fits_len }), tt))),
+        ) $
         let En : Env 𝓤 H = env (code.function).locals l in
         let code_of = B.coded.code self.now in
         opens ! tt B {h = self.now} rb ro (λ vs. move ! (1 ∷ []) $ fsplit ! $ move ! (1 ∷ []) $
@@ -152,21 +176,39 @@ module _ {M : Type 1} {𝓤 : Ura M} (𝓛 : Logic 𝓤) (at_mem : Memory → SP
         first ! $ blocks ! $
         sets ! (bin ! (get ! refl) (get ! refl) tt) refl (tt, tt) $
         let way = back vs asked long in
-        let roomy : length ys < 2 ^ 64 = omega (arith, asked.2, asked.3) in let fitting : length ys * 1 < 2 ^ 63 = omega (arith, asked.2, asked.3) in
-        use1 𝓛 (‵ (Bytes 𝓛 b ys (from + o)) ⊛ ‵ (Around 𝓛 b xs o from len)) (part_out 𝓛 b xs o from len asked.2) $ split ! $
+        let roomy : length ys < 2 ^ 64 = omega (arith, asked.2, asked.3) in let fitting : length ys * 1 < 2 ^ 63 =
+        omega (arith, asked.2, asked.3) in
+        use1 𝓛 (‵ (Bytes 𝓛 b ys (from + o)) ⊛ ‵ (Around 𝓛 b xs o from len)) (part_out 𝓛 b xs o from len asked.2) $
+        split ! $
         use1 𝓛 (‵ (cells (mem u8) ys b (from + o))) (whole_in 𝓛 u8 ys b (from + o)) $
-        sets_last ! (agg ! (and_then ! (get ! refl) (and_then ! (get ! refl) (no_more !)))) refl (tt, (tt, (record { fits = fits_len }, tt))) $
+        sets_last ! (agg ! (and_then ! (get ! refl) (and_then ! (get ! refl) (no_more !)))) refl (
+          tt,
+          (tt, (record { fits = fits_len }, tt)),
+        ) $
         exec ! C Λ En code.Mir.t-2 (at_ret En Post) $
         sets ! (of_opd ! (get ! refl)) refl (tt, (tt, (record { fits = fits_len }, tt))) $
         move ! (1 ∷ 2 ∷ 3 ∷ []) $ fjoin3 ! $ move ! (2 ∷ 3 ∷ 4 ∷ 1 ∷ 0 ∷ []) $ group ! 5 $
-        use1 𝓛 (later (some (λ (δ : GName). raw (Elements 𝓛 B u8 new (named 0) κ q rb ro b (from + o) self.ghost_name ys (roomy, fitting) (sem 𝓛 (Rest vs)) way δ))))
-        (lends_Elements 𝓛 B u8 new (named 0) κ q rb ro b (from + o) self.ghost_name ys (roomy, fitting) (sem 𝓛 (Rest vs)) way code_of code_of) $ await ! tt $ pick ! (λ δ.
+        use1 𝓛 (later (some (λ (δ : GName).
+        raw (Elements 𝓛 B u8 new (named 0) κ q rb ro b (from + o) self.ghost_name ys (
+          roomy,
+          fitting,
+        ) (sem 𝓛 (Rest vs)) way δ))))
+        (lends_Elements 𝓛 B u8 new (named 0) κ q rb ro b (from + o) self.ghost_name ys (
+          roomy,
+          fitting,
+        ) (sem 𝓛 (Rest vs)) way code_of code_of) $ await ! tt $ pick ! (λ δ.
         returns ! (look_at ! 0 refl) $ free_all ! refl $ keep ! (0 ∷ []) $
-        use1 𝓛 (‵ ((MutSlice (named 0) κ u8).own_val (lent δ) (slice_val (b, from + o) (length ys) ∷ [])) ⊛ ‵ (flft κ q) ⊛ ‵ (follows B (Array u8 0) self.ghost_name δ new)) (id⊢ 𝓤 _) $ split3 ! $
+        use1 𝓛 (‵ ((MutSlice (named 0) κ u8).own_val (lent δ) (slice_val (b, from + o) (length ys) ∷ [])) ⊛ ‵
+        (flft κ q) ⊛ ‵ (follows B (Array u8 0) self.ghost_name δ new)) (id⊢ 𝓤 _) $ split3 ! $
         -- [the slice; the token; what the block follows]
-        rewrite ! 0 (λ (k : ℕ). ‵ ((MutSlice (named 0) κ u8).own_val (lent δ) (slice_val (b, from + o) k ∷ []))) long refl $
-        suffices ! _ (ends_at 𝓛 F.ended stayed held z (slice_val (b, from + o) len) (lent δ) (tt, (tt, (tt, (tt, tt)))) (tt, (tt, (tt, (tt, tt))))) $
-        nothing ! $ nothing ! $ fjoin ! $ nothing ! $ fjoin ! $ nothing ! $ fjoin ! $ nothing ! $ fjoin ! $ join ! $ nothing ! $ move ! (2 ∷ 0 ∷ []) $ join ! $ join ! $ frame ! $ says ! refl $ done !))))))))))
+        rewrite ! 0 (λ (k : ℕ). ‵ ((MutSlice (named 0) κ u8).own_val (lent δ) (slice_val (b, from + o) k ∷ [])))
+        long refl $
+        suffices ! _ (ends_at 𝓛 F.ended stayed held z (slice_val (b, from + o) len) (lent δ) (
+          tt,
+          (tt, (tt, (tt, tt))),
+        ) (tt, (tt, (tt, (tt, tt))))) $
+        nothing ! $ nothing ! $ fjoin ! $ nothing ! $ fjoin ! $ nothing ! $ fjoin ! $ nothing ! $ fjoin ! $ join ! $
+        nothing ! $ move ! (2 ∷ 0 ∷ []) $ join ! $ join ! $ frame ! $ says ! refl $ done !))))))))))
 
   meets : (𝓣 : Tables 𝓤 H) → Meets 𝓛 F.ended.signature (WpFn 𝓤 H 𝓣.C 𝓣.Λ code.function) (closing 𝓛 F.ended held)
   meets 𝓣 =
@@ -174,7 +216,10 @@ module _ {M : Type 1} {𝓤 : Ura M} (𝓛 : Logic 𝓤) (at_mem : Memory → SP
         Goes-spent_ref 𝓛 1 (0 ∷ []) tt (plain (λ _. B)),
         (
           Goes-dropped 𝓛 1 (plain (λ _. RawPtr)) yes (λ κs x f. refl),
-          (Goes-dropped 𝓛 1 (plain (λ _. usize)) yes (λ κs x f. refl), (Goes-dropped 𝓛 1 (plain (λ _. usize)) yes (λ κs x f. refl), tt)),
+          (
+            Goes-dropped 𝓛 1 (plain (λ _. usize)) yes (λ κs x f. refl),
+            (Goes-dropped 𝓛 1 (plain (λ _. usize)) yes (λ κs x f. refl), tt),
+          ),
         ),
       ) held
       (WpFn 𝓤 H 𝓣.C 𝓣.Λ code.function) (WpFn-mono 𝓤 H 𝓛.laws 𝓣 code.function) (walks 𝓣.C 𝓣.Λ)
@@ -183,5 +228,6 @@ pub slice_mut_spec : {M : Type 1} → stated.statement M
 unfolding tables_of
 slice_mut_spec 𝓤 𝓛 𝓜 𝓡 wired =
     let 𝓣 : Tables 𝓤 𝓛.H = tables_of 𝓤 𝓛.H 𝓜 (tables 𝓤 𝓛.H 𝓜 𝓡 𝓡.env) in
-    entered 𝓤 𝓛.H (triple_of 𝓛 F.ended.signature (closing 𝓛 F.ended (held 𝓛 𝓜.mem 𝓡.returns))) 𝓣.C 𝓣.Λ #self code.function
+    entered 𝓤 𝓛.H (triple_of 𝓛 F.ended.signature (closing 𝓛 F.ended (held 𝓛 𝓜.mem 𝓡.returns))) 𝓣.C 𝓣.Λ #self
+    code.function
     (code.unfolded 𝓤 𝓛.H 𝓜 𝓡 wired) (meets 𝓛 𝓜.mem 𝓡.returns 𝓣)

@@ -28,7 +28,8 @@ new_spec 𝓤 𝓛 𝓜 𝓡 wired =
     let C = (tables 𝓤 𝓛.H 𝓜 𝓡 𝓡.env).C in let Λ = (tables 𝓤 𝓛.H 𝓜 𝓡 𝓡.env).Λ in
     proved_at 𝓛 F.ended stayed c 𝓜 𝓡 tt #self code.function (code.unfolded 𝓤 𝓛.H 𝓜 𝓡 wired) (λ z are.
     let Post : Val → SProp 𝓤 = (walk_of 𝓛 F.ended stayed c).post z in
-    qed 𝓛 ((raw (alive 𝓛 F.ended.signature z.0.0 z.0.1) ⊛ ‵ (owns (types_at F.ended.signature.params z.0.0) z.0.3 z.0.4)) ∷ ‵ base.Fml.ftrue ∷ []) ∵
+    qed 𝓛 ((raw (alive 𝓛 F.ended.signature z.0.0 z.0.1) ⊛ ‵
+    (owns (types_at F.ended.signature.params z.0.0) z.0.3 z.0.4)) ∷ ‵ base.Fml.ftrue ∷ []) ∵
     keep ! [] $ enter ! C Λ code.function [] Post $ alloc_all ! (λ l. pass_all ! refl tt $
     sets ! (agg ! (no_more !)) refl (tt, tt) $ returns ! (look_at ! 0 refl) $ free_all ! refl $
     nothing ! $ none_made ! $ fjoin ! $

@@ -1,40 +1,43 @@
 -- The links behind the place close up.
-use Rattle.seg_index.proofs.{◌≡◌, ◌+◌, ◌-◌, ◌*◌, subst, arith, current, bytes_of, AllLead, LiveSet, LaysOut, same_live}
+use Rattle.seg_index.proofs.{◌≡◌, ◌+◌, ◌-◌, ◌*◌, subst, arith, current, bytes_of, AllLinksLead, LiveSet, EncodesLiveSet}
+use Rattle.seg_index.proofs.{same_live}
 use Rattle.seg_index.proofs.{ℕ, List, IsIndexOf, place_of, has_places, in_header, links_lead, block_and_count}
 use Rattle.seg_index.proofs.{gaps_kept, removed, ap, ◌∙◌, remove, extent_at, beside-stays, keeps-sorted, one-less}
 use Rattle.seg_index.specs.Sorted.{KeepsSorted}
-use Rattle.best_fit.specs.Table.{Table as ATable}
+use Rattle.best_fit.specs.Table.{BackingArray as ATable}
 use Rattle.seg_index.proofs.index.Index.remove.Goals as goal
 
 pub shift_non_null_links-requires-clause-links : goal.shift_non_null_links-requires-clause-links
 shift_non_null_links-requires-clause-links c =
-    let q = c.requires.index in let block = c.unwrap_or-block.result in let place = c.args.place in
+    let q = c.requires.index in let block = c.unwrap_or-block.result in let place = c.args.header_offset in
     let rest = c.len-count.result - place - 1 in
-    let p = has_places q.index (omega arith) c.place.ensures c.header_link.ensures c.unwrap_or-block.ensures in
+    let p = has_places q.index (omega arith) c.header_offset.ensures c.header_link.ensures c.unwrap_or-block.ensures in
     let lead = links_lead block (place + 1) rest q.handles p.links q.index.whole (omega arith) in
     let e : block + 8 * (place + 1) ≡ block + (8 * place + 8) = omega arith in
-    subst (λ k. AllLead (bytes_of c.args.heap.now.bytes) k rest) e lead
+    subst (λ k. AllLinksLead (bytes_of c.args.heap.now.bytes) k rest) e lead
 
 pub returns : goal.returns
 returns c =
     let D = c.set_header_word.new.self in let w = in_header c.args.self in let moved = c.shift_non_null_links.ensures in
     let counted = c.set_header_word.ensures in
     let p = λ (t : ATable) (hs : List ℕ) (i : IsIndexOf c.args.heap.now (place_of c.args.self) t hs).
-    has_places i (omega arith) c.place.ensures c.header_link.ensures c.unwrap_or-block.ensures in
+    has_places i (omega arith) c.header_offset.ensures c.header_link.ensures c.unwrap_or-block.ensures in
     let q = c.requires.index in let r = p q.table q.handles q.index in
-    let keeps = block_and_count r w (8 * c.args.place) moved.change (omega (arith, r)) c.place-2.ensures counted.change in
-    let live = same_live counted.change ∙ same_live moved.change in
+    let keeps = block_and_count r w (8 * c.args.header_offset) moved.changes (omega (arith, r))
+    c.header_offset-2.ensures counted.changes in
+    let live = same_live counted.changes ∙ same_live moved.changes in
     let order : KeepsSorted c.args.heap.now D = keeps-sorted (beside-stays q.index keeps
     (λ h x f other. ap (λ (l : LiveSet). extent_at l h) live ∙ f)) in
     record {
-      index = λ t hs i. removed (p t hs i) w (c.len-count.ensures.len t hs i) (omega arith) moved.change moved.lead
-          c.place-2.ensures counted.change counted.word;
+      index = λ t hs i. removed (p t hs i) w (c.len-count.ensures.len t hs i) (omega arith) moved.changes moved.lead
+          c.header_offset-2.ensures counted.changes counted.word;
       sorted = λ t hs s.
           let long = s.index.stands.count in
-          order c.args.self (remove hs c.args.place) (one-less s.sorted (omega arith));
+          order c.args.self (remove hs c.args.header_offset) (one-less s.sorted (omega arith));
       order = order;
-      live = subst (λ (l : LiveSet). LaysOut current D.bytes l) (same_live moved.change) counted.change.live;
-      keeps = λ t hs i. block_and_count (p t hs i) w (8 * c.args.place) moved.change (omega (arith, p t hs i))
-          c.place-2.ensures counted.change;
-      gaps = gaps_kept r w (8 * c.args.place) moved.change (omega arith) c.place-2.ensures counted.change;
+      live = subst (λ (l : LiveSet). EncodesLiveSet current D.bytes l) (same_live moved.changes) counted.changes.live;
+      frame = λ t hs i. block_and_count (p t hs i) w (8 * c.args.header_offset) moved.changes (omega (arith, p t hs i))
+          c.header_offset-2.ensures counted.changes;
+      gaps = gaps_kept r w (8 * c.args.header_offset) moved.changes (omega arith) c.header_offset-2.ensures
+          counted.changes;
     }

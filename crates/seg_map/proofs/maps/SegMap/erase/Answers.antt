@@ -2,10 +2,10 @@
 use Rattle.seg_map.proofs.{key_at_node}
 use Rattle.seg_map.proofs.maps.SegMap.erase.Goals as goal
 
-pub give_up-requires : goal.give_up-requires
-give_up-requires g c =
-    let ps = c.requires.0 in let s = c.requires.1 in let trace = c.find_out-trace in
-    let k = key_at_node trace.ensures.found s c.in-Some.is in
+pub unlink_pair-requires : goal.unlink_pair-requires
+unlink_pair-requires g c =
+    let ps = c.requires.0 in let s = c.requires.1 in let trace = c.find_for_erase-trace in
+    let k = key_at_node trace.ensures.search s c.in-Some.is in
     record {
       pairs = ps;
       key = c.args.key;

@@ -5,9 +5,11 @@ use Rattle.seg_map.proofs.maps.SegMap.find_before.Goals as goal
 pub read_found-requires : goal.read_found-requires
 read_found-requires g c =
     let f = c.find_last_before-found.ensures in let sought = c.args.sought.now in
-    found_room (finds_before c.open-pairs.ensures.opened sought.past sought.key f.exact f.steps f.last) c.requires
+    found_room (finds_before c.open-pairs.ensures.opening sought.past sought.key f.steps_exact f.steps f.last)
+    c.requires
 
 pub returns : goal.returns
 returns g c =
     let f = c.find_last_before-found.ensures in let sought = c.args.sought.now in let r = c.read_found.ensures in
-    looked_up (finds_before c.open-pairs.ensures.opened sought.past sought.key f.exact f.steps f.last) r.item r.steps
+    looked_up (finds_before c.open-pairs.ensures.opening sought.past sought.key f.steps_exact f.steps f.last) r.item
+    r.steps

@@ -7,7 +7,7 @@ returns g c =
     let t = lent_tree (laws g.met.K.Plain) c.args.heap.now c.requires.1 c.link-root.ensures c.new.ensures in
     record {
       root = c.link-root.ensures;
-      leads = t.leads;
+      link_target = t.leads;
       tree = (c.requires.1.map.tree.tree, t.tree);
-      opened = opened (laws g.met.K.Plain) (laws g.met.V.Plain) c.args.heap.now _ _ c.link-root.ensures c.new.ensures;
+      opening = opened (laws g.met.K.Plain) (laws g.met.V.Plain) c.args.heap.now _ _ c.link-root.ensures c.new.ensures;
     }

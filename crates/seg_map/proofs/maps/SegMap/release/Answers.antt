@@ -2,8 +2,8 @@
 use Rattle.seg_map.proofs.{◌≡◌, sym, ◌∙◌, None, laws, given_up, going_on, one_less, root_exit, root_pair}
 use Rattle.seg_map.proofs.maps.SegMap.release.Goals as goal
 
-pub give_up-requires : goal.give_up-requires
-give_up-requires g c =
+pub unlink_pair-requires : goal.unlink_pair-requires
+unlink_pair-requires g c =
     let going = c.pairs.invariant c.requires.0 c.requires.1 in
     let n = root_pair (laws g.met.K.Plain) going (sym c.link.ensures ∙ c.in-Some.is) in
     record {
@@ -22,14 +22,14 @@ pairs-smaller g c =
     let going = c.pairs.invariant c.requires.0 c.requires.1 in
     let n = root_pair (laws g.met.K.Plain) going (sym c.link.ensures ∙ c.in-Some.is) in
     one_less (laws g.met.K.Plain) going n.holds
-    (c.give_up.ensures.dropped going.pairs n.pair.key n.pair going.holds n.holds n.at)
+    (c.unlink_pair.ensures.changes going.pairs n.pair.key n.pair going.holds n.holds n.at)
 
 pub pairs-preserved : goal.pairs-preserved
 pairs-preserved g c = λ ps s.
     let going = c.pairs.invariant ps s in
     let n = root_pair (laws g.met.K.Plain) going (sym c.link.ensures ∙ c.in-Some.is) in
     going_on (laws g.met.K.Plain) going n.holds
-    (c.give_up.ensures.dropped going.pairs n.pair.key n.pair going.holds n.holds n.at)
+    (c.unlink_pair.ensures.changes going.pairs n.pair.key n.pair going.holds n.holds n.at)
 
 pub returns : goal.returns
 returns g c =

@@ -1,6 +1,6 @@
 -- The storage grows, and then the bytes are put in behind the others.
-use Rattle.seg_vector.proofs.{◌++◌, arith, length, length-append, subst, live_of, capacity_for_text, IsGrown}
-use Rattle.seg_vector.proofs.{IsWithoutSpace, err_from_is_err_and, table-places, too-many, few-bytes, text-extended}
+use Rattle.seg_vector.proofs.{◌++◌, arith, length, length-append, subst, live_of, capacity_for_text, ReservesStorageOk}
+use Rattle.seg_vector.proofs.{LacksSpace, err_from_is_err_and, table-places, too-many, few-bytes, text-extended}
 use Rattle.seg_vector.proofs.{text-grown-then, text-space, text-wanted, wanted-bytes}
 use Rattle.seg_vector.proofs.strings.SegString.append.Goals as goal
 
@@ -35,11 +35,11 @@ extend-requires c =
     let grown = c.in_ok-reserve.ensures _ _ _ c.requires.1.1 in
     let places = table-places (live_of c.args.heap.now.bytes) 1 c.capacity_for_text-wanted.result t grown.grown in
     let enough = wanted-bytes (length (bytes ++ more)) t.capacity in record {
-      stands = (length bytes, (grown.table, (bytes, grown.stands)));
+      container = (length bytes, (grown.table, (bytes, grown.stands)));
       space = text-space c.reserve.new.heap c.reserve.new.heap grown.stands more
           (omega (arith, places, wanted, enough, length-append bytes more));
-      some = omega arith;
-      long = omega arith;
+      non_empty = omega arith;
+      min_len = omega arith;
     }
 
 pub returns-in_err-reserve : goal.returns-in_err-reserve
@@ -47,14 +47,15 @@ returns-in_err-reserve c bytes t v =
     let wanted = text-wanted bytes c.args.bytes.now c.capacity_for_text-wanted.ensures (c.len.ensures bytes t v)
     (c.capacity.ensures bytes t v) in
     let p = err_from_is_err_and c.from_residual.result c.from_residual.ensures.1 in
-    rw (p.1, p.2) (subst (λ n. IsWithoutSpace c.args.heap.now c.reserve.new.heap 1 n t c.in_err-reserve.field-0.0)
+    rw (p.1, p.2) (subst (λ n. LacksSpace c.args.heap.now c.reserve.new.heap 1 n t c.in_err-reserve.field-0.0)
     wanted (c.in_err-reserve.ensures (length bytes) t bytes v))
 
 pub returns : goal.returns
 returns c bytes t v =
     let wanted = text-wanted bytes c.args.bytes.now c.capacity_for_text-wanted.ensures (c.len.ensures bytes t v)
     (c.capacity.ensures bytes t v) in
-    let grown = subst (λ n. IsGrown c.args.heap.now c.reserve.new.heap c.args.self.place 1 n (length bytes) t bytes)
+    let grown = subst (λ n. ReservesStorageOk c.args.heap.now c.reserve.new.heap c.args.self.place 1 n
+    (length bytes) t bytes)
     wanted (c.in_ok-reserve.ensures (length bytes) t bytes v) in
     text-grown-then v grown
     (text-extended c.reserve.new.heap c.extend.new.heap grown.stands c.args.bytes.now c.extend.ensures)

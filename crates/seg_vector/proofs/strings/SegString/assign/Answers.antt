@@ -12,10 +12,10 @@ extend-requires c =
     let grown = c.in_ok-reserve.ensures _ _ _ c.requires.1.1 in
     let places = table-places (live_of c.args.heap.now.bytes) 1 (length c.args.bytes.now) c.requires.1.0 grown.grown in
     let text = (c.clear.ensures c.requires.0 grown.table grown.stands).text in record {
-      stands = (0, (grown.table, ([], text)));
+      container = (0, (grown.table, ([], text)));
       space = text-space c.clear.new.heap c.clear.new.heap text c.args.bytes.now (omega (arith, places));
-      some = omega arith;
-      long = omega arith;
+      non_empty = omega arith;
+      min_len = omega arith;
     }
 
 pub returns : goal.returns

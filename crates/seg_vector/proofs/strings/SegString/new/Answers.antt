@@ -4,7 +4,7 @@ use Rattle.seg_vector.proofs.strings.SegString.new.Goals as goal
 
 pub returns-clause-text : goal.returns-clause-text
 returns-clause-text c = record {
-  change = head-exchanged c.args.place c.requires.heap c.requires.room c.start.ensures.change;
-  gaps = λ same. head-gaps c.args.place c.requires.room c.start.ensures.change;
-  text = c.start.ensures.stands 1;
+  change = head-exchanged c.args.place c.requires.heap c.requires.room c.init_container.ensures.changes;
+  gaps = λ same. head-gaps c.args.place c.requires.room c.init_container.ensures.changes;
+  text = c.init_container.ensures.container 1;
 }

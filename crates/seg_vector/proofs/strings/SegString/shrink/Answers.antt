@@ -4,4 +4,5 @@ use Rattle.seg_vector.proofs.strings.SegString.shrink.Goals as goal
 
 pub returns : goal.returns
 returns c bytes t v =
-    let r = c.fit.ensures (length bytes) t bytes v in record { change = r.change; gaps = r.gaps; text = r.stands }
+    let r = c.shrink_storage.ensures (length bytes) t bytes v
+    in record { change = r.change; gaps = r.gaps; text = r.stands }

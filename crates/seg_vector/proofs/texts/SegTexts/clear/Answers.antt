@@ -1,8 +1,9 @@
 -- The texts are released, as many as the array has elements, and then the length is written.
-use Rattle.seg_vector.proofs.{[], ◌+◌, ◌∙◌, arith, sym, subst, List, Cut, live_of, room-less, head-room, cleared}
-use Rattle.seg_vector.proofs.{head-after, held-elements, none-left, released-nothing, text_blocks, AreReleased, IsTexts}
+use Rattle.seg_vector.proofs.{[], ◌+◌, ◌∙◌, arith, sym, subst, List, WindowState, live_of, room-less, head-room}
+use Rattle.seg_vector.proofs.{cleared}
+use Rattle.seg_vector.proofs.{head-after, held-elements, none-left, released-nothing, text_blocks, FreesBlocks, IsTexts}
 use Rattle.seg_vector.proofs.{OwnedText}
-use Rattle.best_fit.specs.Table.{Table as ATable}
+use Rattle.best_fit.specs.Table.{BackingArray as ATable}
 use Rattle.seg_vector.proofs.texts.SegTexts.clear.Goals.{in-Some, in_default, Joined-link_of}
 use Rattle.seg_vector.proofs.texts.SegTexts.clear.Goals as goal
 
@@ -15,12 +16,12 @@ release_texts-requires c =
     )
 
 gone : (c : Joined-link_of) {ps : List OwnedText} {t : ATable} → IsTexts c.args.heap.now.bytes c.args.self.place ps t
-    → AreReleased c.args.heap.now c.match-link_of.heap (text_blocks ps)
+    → FreesBlocks c.args.heap.now c.match-link_of.heap (text_blocks ps)
 gone c {ps} {t} s = elim c.match-link_of.branch [
-  | in-Some w ↦ subst (λ (d : Cut). AreReleased c.args.heap.now d (text_blocks ps)) (sym w.heap-is)
+  | in-Some w ↦ subst (λ (d : WindowState). FreesBlocks c.args.heap.now d (text_blocks ps)) (sym w.heap-is)
       (w.release_texts.ensures ps (held-elements c.len-len.result s (sym c.link_of.ensures ∙ w.in-Some.is)
       (c.len-len.ensures ps t s)))
-  | in_default w ↦ subst (λ (d : Cut). AreReleased c.args.heap.now d (text_blocks ps)) (sym w.heap-is)
+  | in_default w ↦ subst (λ (d : WindowState). FreesBlocks c.args.heap.now d (text_blocks ps)) (sym w.heap-is)
       (released-nothing c.args.heap.now s (sym c.link_of.ensures ∙ none-left c.link_of.result w.in_default.not-Some))
 ]
 
@@ -32,4 +33,4 @@ set_word-requires c =
 
 pub returns : goal.returns
 returns c ps t s = cleared {new = c.set_word.new.self} s (gone (goal.at.returns c).Joined-link_of s)
-    c.set_word.ensures.change c.set_word.ensures.word
+    c.set_word.ensures.changes c.set_word.ensures.word

@@ -22,9 +22,9 @@ left-at c =
     (sym c.link_of.ensures ∙ c.in-Some.is) in
     w.after (c.release_text.ensures q.0 w.element).change
 
-pub carry_down-requires : goal.carry_down-requires
-carry_down-requires c =
-    let a = (left-at (goal.at.carry_down-requires c).After-release_text).0 in let k = length c.requires.0 in
+pub move_elements_down-requires : goal.move_elements_down-requires
+move_elements_down-requires c =
+    let a = (left-at (goal.at.move_elements_down-requires c).After-release_text).0 in let k = length c.requires.0 in
     let n = c.len-len.ensures c.requires.0 c.requires.1.0 c.requires.1.1 in
     let l = live_of c.release_text.new.heap.bytes in let at : ℕ = 16 * c.args.index in
     let rest : ℕ = c.len-len.result - c.args.index - 1 in
@@ -42,7 +42,7 @@ carry_down-requires c =
 
 pub set_word-requires : goal.set_word-requires
 set_word-requires c = changed-room _ _ _ _ _ c.args.self.place.handle (c.args.self.place.at + 8 + 8)
-    c.carry_down.ensures.change (len-room c.release_text.new.heap.bytes c.args.self.place
+    c.move_elements_down.ensures.change (len-room c.release_text.new.heap.bytes c.args.self.place
     (head-room (left-at (goal.at.set_word-requires c).After-release_text).1))
 
 pub returns-in-Some : goal.returns-in-Some
@@ -53,6 +53,7 @@ returns-in-Some c ps t s =
       before = q.0;
       found = q.1;
       now = erased-by c.args.index c.len-len.result s q.1 (sym c.link_of.ensures ∙ c.in-Some.is) n
-          (c.release_text.ensures q.0 w.element) c.carry_down.ensures.change c.carry_down.ensures.carried
-          c.set_word.ensures.change c.set_word.ensures.word;
+          (c.release_text.ensures q.0 w.element) c.move_elements_down.ensures.change
+          c.move_elements_down.ensures.carried
+          c.set_word.ensures.changes c.set_word.ensures.word;
     }

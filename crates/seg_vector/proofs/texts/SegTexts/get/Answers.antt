@@ -3,7 +3,7 @@ use Rattle.seg_vector.proofs.texts.SegTexts.get.Goals.{After-word-len, In-Some}
 use Rattle.seg_vector.proofs.{◌≡◌, sym, ap, ◌∙◌, ◌+◌, ◌*◌, ◌<◌, ◌≤◌, ℕ, IsTrue, has_room, arith, length, take, bytes_of}
 use Rattle.seg_vector.proofs.{live_of, word_at, List, Some, IsTextElement, IsTexts, OwnedText, block-front, block-live}
 use Rattle.seg_vector.proofs.{element-of, empty-text, has-element, option_map, room-less, slice_get, text-block}
-use Rattle.best_fit.specs.Table.{Table as ATable}
+use Rattle.best_fit.specs.Table.{BackingArray as ATable}
 use Rattle.seg_vector.proofs.texts.SegTexts.get.Goals as goal
 
 -- the text and its element

@@ -4,7 +4,7 @@ use Rattle.seg_vector.proofs.texts.SegTexts.new.Goals as goal
 
 pub returns-clause-texts : goal.returns-clause-texts
 returns-clause-texts c = record {
-  change = head-exchanged c.args.place c.requires.heap c.requires.room c.start.ensures.change;
-  gaps = λ same. head-gaps c.args.place c.requires.room c.start.ensures.change;
-  texts = none-stands (c.start.ensures.stands 16);
+  change = head-exchanged c.args.place c.requires.heap c.requires.room c.init_container.ensures.changes;
+  gaps = λ same. head-gaps c.args.place c.requires.room c.init_container.ensures.changes;
+  texts = none-stands (c.init_container.ensures.container 16);
 }

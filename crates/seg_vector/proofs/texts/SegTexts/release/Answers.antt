@@ -4,4 +4,5 @@ use Rattle.seg_vector.proofs.texts.SegTexts.release.Goals as goal
 
 pub returns : goal.returns
 returns c ps t s =
-    let x = c.clear.ensures ps t s in given-up-all (text_blocks ps) x (c.give_back.ensures 0 t [] (stands-none x.texts))
+    let x = c.clear.ensures ps t s
+    in given-up-all (text_blocks ps) x (c.free_storage.ensures 0 t [] (stands-none x.texts))

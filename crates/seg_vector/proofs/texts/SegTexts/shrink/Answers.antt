@@ -2,8 +2,8 @@
 use Rattle.seg_vector.proofs.{length, bytes_of, raw, shrunk, texts-stand}
 use Rattle.seg_vector.proofs.texts.SegTexts.shrink.Goals as goal
 
-pub fit-requires-clause-stands : goal.fit-requires-clause-stands
-fit-requires-clause-stands c = (
+pub shrink_storage-requires-clause-container : goal.shrink_storage-requires-clause-container
+shrink_storage-requires-clause-container c = (
   length c.requires.0,
   (
     c.requires.1.0,
@@ -16,4 +16,5 @@ fit-requires-clause-stands c = (
 
 pub returns : goal.returns
 returns c ps t s =
-    shrunk s (c.fit.ensures (length ps) t (raw (bytes_of c.args.heap.now.bytes) (length ps) t.extent) (texts-stand s))
+    shrunk s (c.shrink_storage.ensures (length ps) t (raw (bytes_of c.args.heap.now.bytes) (length ps) t.extent)
+    (texts-stand s))

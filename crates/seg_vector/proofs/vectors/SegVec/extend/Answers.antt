@@ -1,5 +1,5 @@
 -- The storage grows, and then the values are put in behind the others.
-use Rattle.seg_vector.proofs.{◌+◌, ◌≤◌, arith, length, subst, live_of, IsGrown, IsVector}
+use Rattle.seg_vector.proofs.{◌+◌, ◌≤◌, arith, length, subst, live_of, ReservesStorageOk, IsVector}
 use Rattle.seg_vector.proofs.{enough-for-more, few-places, flat_map, grown-of, grown-then}
 use Rattle.seg_vector.proofs.{table-places, too-many, wanted-for-more}
 use Rattle.seg_vector.specs.Vector.{capacity_for_more}
@@ -11,8 +11,8 @@ returns-then-more-gt-MAX_SEGMENT_LEN g c xs t v =
     too-many c.args.heap.now (capacity_for_more (length xs) more t.capacity) v.stands g.met.T.Plain.sizes.0
     (omega (arith, enough, c.if-more-gt-MAX_SEGMENT_LEN.true))
 
-pub capacity_for_more-wanted-requires-clause-needed : goal.capacity_for_more-wanted-requires-clause-needed
-capacity_for_more-wanted-requires-clause-needed g c =
+pub capacity_for_more-wanted-requires-clause-need : goal.capacity_for_more-wanted-requires-clause-need
+capacity_for_more-wanted-requires-clause-need g c =
     let v = c.requires.1.1 in let few = few-places c.args.heap.now g.met.T.Plain.sizes.0 v in
     omega (
       arith,
@@ -22,8 +22,8 @@ capacity_for_more-wanted-requires-clause-needed g c =
       c.if-more-gt-MAX_SEGMENT_LEN.false,
     )
 
-pub capacity_for_more-wanted-requires-clause-twice : goal.capacity_for_more-wanted-requires-clause-twice
-capacity_for_more-wanted-requires-clause-twice g c =
+pub capacity_for_more-wanted-requires-clause-repeat : goal.capacity_for_more-wanted-requires-clause-repeat
+capacity_for_more-wanted-requires-clause-repeat g c =
     let v = c.requires.1.1 in let few = few-places c.args.heap.now g.met.T.Plain.sizes.0 v in
     omega (arith, few.1, c.capacity.ensures c.requires.0 c.requires.1.0 v)
 
@@ -45,7 +45,7 @@ returns g c xs t v =
     let more = length c.args.values.now in let A = c.args.heap.now in let B = c.reserve.new.heap in
     let wanted = wanted-for-more more c.capacity_for_more-wanted.ensures (c.len.ensures xs t v)
     (c.capacity.ensures xs t v) in
-    let grown = subst (λ n. IsGrown A B c.args.self.place g.T.Plain.SIZE n (length xs) t
+    let grown = subst (λ n. ReservesStorageOk A B c.args.self.place g.T.Plain.SIZE n (length xs) t
     (flat_map g.T.Plain.spelling xs)) wanted (grown-of A B c.SIZE.ensures v
     (λ len capacity. c.capacity_for_more-wanted.result) (λ n u bytes s. c.in_ok-reserve.ensures n u bytes s)) in
     let places = table-places (live_of A.bytes) g.T.Plain.SIZE (capacity_for_more (length xs) more t.capacity) t

@@ -8,7 +8,7 @@ put_value-requires g c =
     let A = c.args.heap.now in let B = c.grow_for_one.new.heap in let v = c.requires.1.1 in
     let grown = grown-of A B c.SIZE.ensures v capacity_for_one
     (λ n u bytes s. c.in_ok-grow_for_one.ensures n u bytes s) in record {
-      stands = stands-for-one A B c.SIZE.ensures v (λ n u bytes s. c.in_ok-grow_for_one.ensures n u bytes s);
+      container = stands-for-one A B c.SIZE.ensures v (λ n u bytes s. c.in_ok-grow_for_one.ensures n u bytes s);
       spot = (
         space-for-one A B c.SIZE.ensures v (λ n u bytes s. c.in_ok-grow_for_one.ensures n u bytes s),
         omega (
@@ -28,5 +28,5 @@ returns g c xs t v =
       inside,
       grown-then v grown (inserted-now c.grow_for_one.new.heap c.put_value.new.heap refl
           (record { stands = grown.stands; values = v.values }) c.args.index c.args.value g.met.T.Plain.spells
-          inside c.put_value.ensures.value c.put_value.ensures.put),
+          inside c.put_value.ensures.value c.put_value.ensures.effect),
     )

@@ -13,7 +13,7 @@ returns-then-more-gt0-clause-sets g c xs t v =
     ) in (
       inside,
       replaced-now c.args.heap.now c.put_over.new.heap refl v c.args.first c.args.values.now g.met.T.Plain.spells
-          inside c.put_over.ensures.values c.put_over.ensures.over,
+          inside c.put_over.ensures.values c.put_over.ensures.overwrite,
     )
 
 pub returns-else-more-gt0-clause-sets : goal.returns-else-more-gt0-clause-sets

@@ -6,7 +6,7 @@ pub put_value-requires : goal.put_value-requires
 put_value-requires g c =
     let A = c.args.heap.now in let B = c.grow_for_one.new.heap in
     record {
-      stands = stands-for-one A B c.SIZE.ensures c.requires.1.1
+      container = stands-for-one A B c.SIZE.ensures c.requires.1.1
           (λ n u bytes s. c.in_ok-grow_for_one.ensures n u bytes s);
       spot = space-for-one A B c.SIZE.ensures c.requires.1.1 (λ n u bytes s. c.in_ok-grow_for_one.ensures n u bytes s);
     }
@@ -17,4 +17,4 @@ returns g c xs t v =
     (λ n u bytes s. c.in_ok-grow_for_one.ensures n u bytes s) in
     grown-then v grown (appended-now c.grow_for_one.new.heap c.put_value.new.heap refl
     (record { stands = grown.stands; values = v.values }) c.args.value c.put_value.ensures.value
-    c.put_value.ensures.put)
+    c.put_value.ensures.effect)

@@ -5,6 +5,6 @@ use Rattle.seg_vector.proofs.vectors.SegVec.reserve.Goals as goal
 pub returns : goal.returns
 returns g c =
     let A = c.args.heap.now in let B = c.reserve.new.heap in let r = c.reserve in record {
-      reserved = λ xs t v. reserved-of A B c.SIZE.ensures v c.args.n r.result r.ensures;
-      enough = λ xs t v. reserved-enough A B c.SIZE.ensures v c.args.n r.result r.ensures;
+      capacity = λ xs t v. reserved-of A B c.SIZE.ensures v c.args.n r.result r.ensures;
+      noop = λ xs t v. reserved-enough A B c.SIZE.ensures v c.args.n r.result r.ensures;
     }

@@ -7,5 +7,5 @@ returns g c xs t v =
     let inside : c.args.index < length xs = omega (arith, c.if-index-len.false, c.len.ensures xs t v) in (
       inside,
       set-now c.args.heap.now c.put_value.new.heap refl v c.args.index c.args.value g.met.T.Plain.spells
-          inside c.put_value.ensures.value c.put_value.ensures.put,
+          inside c.put_value.ensures.value c.put_value.ensures.effect,
     )

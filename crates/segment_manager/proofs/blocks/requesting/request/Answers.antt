@@ -1,11 +1,11 @@
 -- The index has room or grows, and then the object's block is there, or all is given back.
-use Rattle.segment_manager.proofs.Common.{sym, subst, IfSome, IsTrue, Cut, is_live_in, live_of, place_of}
+use Rattle.segment_manager.proofs.Common.{sym, subst, IfSome, IsTrue, WindowState, is_live_in, live_of, place_of}
 use Rattle.segment_manager.proofs.objects.Taking.{growth-held, request-unmet}
 use Rattle.segment_manager.proofs.blocks.requesting.request.Goals as goal
 
 pub give_back-requires : goal.give_back-requires
 give_back-requires c = record {
-  held = subst (λ (s : Cut). IfSome c.in_ok-growth.growth.block (λ h. IsTrue (is_live_in (live_of s.bytes) h)))
+  lock = subst (λ (s : WindowState). IfSome c.in_ok-growth.growth.block (λ h. IsTrue (is_live_in (live_of s.bytes) h)))
       (sym c.in-Err.ensures.answer.same) (growth-held c.args.heap.now c.prepare.new.heap
       (place_of c.args.index) c.in_ok-growth.growth.block c.in_ok-growth.ensures.growth);
 }
@@ -13,4 +13,4 @@ give_back-requires c = record {
 pub returns-in-Err : goal.returns-in-Err
 returns-in-Err c = request-unmet c.args.heap.now c.prepare.new.heap c.allocate.new.self c.give_back.new.heap
     (place_of c.args.index) c.args.len c.in_ok-growth.growth.block c.requires.index.heap
-    c.in_ok-growth.ensures.growth c.in-Err.ensures.answer c.give_back.ensures.change c.give_back.ensures.restored
+    c.in_ok-growth.ensures.growth c.in-Err.ensures.answer c.give_back.ensures.changes c.give_back.ensures.unchanged

@@ -1,18 +1,18 @@
 -- The heap is cut at its end, and the size is written.
-use Rattle.segment_manager.proofs.Common.{refl, subst, ◌∙◌, Resizes, shrunk, State}
+use Rattle.segment_manager.proofs.Common.{refl, subst, ◌∙◌, Resizes, shrunk, SegmentState}
 use Rattle.segment_manager.proofs.blocks.Resizes.{resized-segment, shrinks}
 use Rattle.segment_manager.proofs.blocks.sizing.cut_end.Goals as goal
 use Rattle.segment_manager.proofs.blocks.sizing.cut_end.Goals.{After-set_header_word}
 
 -- the segment before and after
-abbrev before : After-set_header_word → State
+abbrev before : After-set_header_word → SegmentState
 before c = record { cut = c.segment.inside.heap; mode = c.segment.inside.mode }
 
-abbrev after : After-set_header_word → State
+abbrev after : After-set_header_word → SegmentState
 after c = record { cut = c.set_header_word.new.self; mode = c.segment.inside.mode }
 
 cut : (c : After-set_header_word) → Resizes (before c) (after c) (λ d. shrunk d)
-cut c = shrinks refl c.cut_end.ensures.moved c.set_header_word.ensures.change
+cut c = shrinks refl c.cut_end.ensures.changes c.set_header_word.ensures.changes
     (c.set_header_word.ensures.word ∙ c.size-size.ensures)
 
 pub invariant_of-segment : goal.invariant_of-segment
@@ -22,4 +22,4 @@ invariant_of-segment c =
 pub returns : goal.returns
 returns c =
     let p = (goal.at.returns c).After-set_header_word in
-    subst (λ (s : State). Resizes s (after p) (λ d. shrunk d)) c.segment.view_is (cut p)
+    subst (λ (s : SegmentState). Resizes s (after p) (λ d. shrunk d)) c.segment.view_is (cut p)

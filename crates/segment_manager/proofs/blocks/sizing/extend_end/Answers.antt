@@ -1,22 +1,24 @@
 -- The heap's end moves, and the size is written.
-use Rattle.segment_manager.proofs.Common.{refl, sym, subst, ◌∙◌, ◌+◌, ◌≤◌, Directory, Resizes, grown, StandsFor, State}
+use Rattle.segment_manager.proofs.Common.{refl, sym, subst, ◌∙◌, ◌+◌, ◌≤◌, Directory, Resizes, grown, DenotesCurrent}
+use Rattle.segment_manager.proofs.Common.{SegmentState}
 use Rattle.segment_manager.proofs.blocks.Resizes.{fits-small, grows, resized-segment}
 use Rattle.segment_manager.proofs.blocks.sizing.extend_end.Goals as goal
 use Rattle.segment_manager.proofs.blocks.sizing.extend_end.Goals.{After-set_header_word}
 
-pub extend_end-requires-clause-small : goal.extend_end-requires-clause-small
-extend_end-requires-clause-small c = fits-small c.args.extra c.segment.invariant (subst (λ (s : State). (d : Directory)
-    → StandsFor s.cut.bytes d → d.size + c.args.extra ≤ 1073741824) (sym c.segment.view_is) c.requires.small)
+pub extend_end-requires-clause-max_size : goal.extend_end-requires-clause-max_size
+extend_end-requires-clause-max_size c =
+    fits-small c.args.extra c.segment.invariant (subst (λ (s : SegmentState). (d : Directory)
+    → DenotesCurrent s.cut.bytes d → d.size + c.args.extra ≤ 1073741824) (sym c.segment.view_is) c.requires.max_size)
 
 -- the segment before and after
-abbrev before : After-set_header_word → State
+abbrev before : After-set_header_word → SegmentState
 before c = record { cut = c.segment.inside.heap; mode = c.segment.inside.mode }
 
-abbrev after : After-set_header_word → State
+abbrev after : After-set_header_word → SegmentState
 after c = record { cut = c.set_header_word.new.self; mode = c.segment.inside.mode }
 
 longer : (c : After-set_header_word) → Resizes (before c) (after c) (λ d. grown d c.args.extra)
-longer c = grows c.args.extra refl c.extend_end.ensures.moved c.set_header_word.ensures.change
+longer c = grows c.args.extra refl c.extend_end.ensures.changes c.set_header_word.ensures.changes
     (c.set_header_word.ensures.word ∙ c.size-size.ensures)
 
 pub invariant_of-segment : goal.invariant_of-segment
@@ -26,4 +28,4 @@ invariant_of-segment c =
 pub returns : goal.returns
 returns c =
     let p = (goal.at.returns c).After-set_header_word in
-    subst (λ (s : State). Resizes s (after p) (λ d. grown d c.args.extra)) c.segment.view_is (longer p)
+    subst (λ (s : SegmentState). Resizes s (after p) (λ d. grown d c.args.extra)) c.segment.view_is (longer p)

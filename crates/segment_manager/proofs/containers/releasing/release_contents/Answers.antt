@@ -1,6 +1,6 @@
 -- The head says which value the object has, and where it stands.
 use Rattle.segment_manager.proofs.Common.{◌∙◌, refl, ap, subst, sym, ℕ, ◌+◌, padded, head_len}
-use Rattle.seg_vector.specs.{Elements.GivesBack, Standing.IsStanding}
+use Rattle.seg_vector.specs.{Elements.FreesStorage, Containers.IsStanding}
 use Rattle.segment_manager.proofs.containers.Released.{elements-contents, has_storage-left, held-object}
 use Rattle.segment_manager.proofs.containers.Released.{number-contents, pairs-contents, some-elements, some-pairs}
 use Rattle.segment_manager.proofs.containers.Released.{some-texts, texts-contents}
@@ -9,8 +9,8 @@ use Rattle.segment_manager.proofs.containers.releasing.release_contents.Goals as
 pub read_head-head-requires : goal.read_head-head-requires
 read_head-head-requires c = held-object c.args.heap.now.bytes c.args.handle c.requires
 
-pub give_back-requires : goal.give_back-requires
-give_back-requires c = subst (IsStanding c.args.heap.now.bytes _) (sym c.element_len.ensures) (some-elements _ _ _ _
+pub free_storage-requires : goal.free_storage-requires
+free_storage-requires c = subst (IsStanding c.args.heap.now.bytes _) (sym c.element_len.ensures) (some-elements _ _ _ _
     c.requires c.read_head-head.ensures (c.value_at.ensures ∙ ap (λ (n : ℕ). head_len + padded n) c.from.ensures)
     (has_storage-left _ c.in_default.not-Scalar c.in_default.not-Map) c.in_default.not-Strings)
 
@@ -29,7 +29,7 @@ pub returns-in_default : goal.returns-in_default
 returns-in_default c = elements-contents _ _ _ _ _ c.read_head-head.ensures
     (c.value_at.ensures ∙ ap (λ (n : ℕ). head_len + padded n) c.from.ensures)
     (has_storage-left _ c.in_default.not-Scalar c.in_default.not-Map) c.in_default.not-Strings
-    (subst (GivesBack c.args.heap.now c.give_back.new.heap _) c.element_len.ensures c.give_back.ensures)
+    (subst (FreesStorage c.args.heap.now c.free_storage.new.heap _) c.element_len.ensures c.free_storage.ensures)
 
 pub returns-in-Strings : goal.returns-in-Strings
 returns-in-Strings c = texts-contents _ _ _ _ _ c.read_head-head.ensures

@@ -1,6 +1,6 @@
 -- The map stands at the place.
 use Rattle.segment_manager.proofs.{Common.sym, containers.PairNumbers.releases-numbers, containers.PairNumbers.some-map}
-use Rattle.segment_manager.proofs.{Common.subst, Common.Releases, Common.IsSomeMap, containers.ScalarTypes.of-map}
+use Rattle.segment_manager.proofs.{Common.subst, Common.ReleasesMap, Common.IsSomeMap, containers.ScalarTypes.of-map}
 use Rattle.best_fit.specs.declared.places.Place.{Place}
 use Rattle.segment_manager.proofs.containers.releasing.release_map.Goals as goal
 
@@ -12,5 +12,5 @@ pub returns : goal.returns
 returns g c = record {
   each = releases-numbers (of-map g.met.K.Scalar) (of-map g.met.V.Scalar) c.args.heap.now c.release.new.heap _ _ (subst
       (λ (p : Place).
-      Releases g.K.Plain g.V.Plain c.args.heap.now c.release.new.heap p.handle p.at) c.at.ensures c.release.ensures);
+      ReleasesMap g.K.Plain g.V.Plain c.args.heap.now c.release.new.heap p.handle p.at) c.at.ensures c.release.ensures);
 }

@@ -18,13 +18,14 @@ write_item-requires-clause-room g c =
     c.args.kind))) (sym c.size-size.ensures) (room-once_more c.args.handle c.args.at (size_of c.args.kind)
     c.loop-i.i c.args.count below c.requires.room c.loop-i.invariant.change)
 
-pub write_item-requires-clause-of_kind : goal.write_item-requires-clause-of_kind
-write_item-requires-clause-of_kind g c = λ item after step. last-holds g.I.Iterator.next_gives
+pub write_item-requires-clause-kind_fit : goal.write_item-requires-clause-kind_fit
+write_item-requires-clause-kind_fit g c = λ item after step. last-holds g.I.Iterator.next_gives
     (λ item. g.S.Spelling.kind item ≡ c.args.kind) c.args.items.now c.loop-i.items after c.loop-i.invariant.items item
-    c.requires.of_kind c.loop-i.invariant.ran step
+    c.requires.kind_fit c.loop-i.invariant.ran step
 
 pub loop-i-preserved : goal.loop-i-preserved
 loop-i-preserved g c =
     let size : c.size-size.result ≡ size_of c.args.kind = c.size-size.ensures in
     let same : c.size-size.result * c.loop-i.i ≡ size_of c.args.kind * c.loop-i.i = ap (λ n. n * c.loop-i.i) size in
-    filling-more _ c.loop-i.invariant c.in_ok-write_item.ensures.ready (omega arith) c.in_ok-write_item.ensures.next
+    filling-more _ c.loop-i.invariant c.in_ok-write_item.ensures.well_formed (omega arith)
+    c.in_ok-write_item.ensures.next

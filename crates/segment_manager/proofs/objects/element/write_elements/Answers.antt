@@ -29,5 +29,5 @@ loop-i-preserved c =
       change = c.loop-i.invariant.change;
       content = c.loop-i.invariant.content;
     } in
-    let more = repeats-more c.args.handle c.args.at r c.write.ensures.change c.write.ensures.content in
+    let more = repeats-more c.args.handle c.args.at r c.write.ensures.changes c.write.ensures.content in
     record { change = more.change; content = more.content }

@@ -1,10 +1,10 @@
 -- An object is found under the entry, or made with one, or a block is refused.
 use Rattle.segment_manager.proofs.Common.{exit-is, ◌≡◌, sym, subst, Ok, Err, Write, Object, kind_of, Constructs}
-use Rattle.segment_manager.proofs.Common.{FindsOrConstructs, with_count, pair_answer, IsNewKeyOf, bare, StandsAt}
+use Rattle.segment_manager.proofs.Common.{FindsOrConstructs, with_count, pair_answer, IsNewKeyOf, bare, IsObjectInBlock}
 use Rattle.segment_manager.proofs.objects.FilledCalls.{begun-for, found-absent, found-all, found-built, found-not_begun}
 use Rattle.segment_manager.proofs.objects.NewKeys.{key-seeks, key-short, key-sort}
 use Rattle.segment_manager.proofs.objects.KeyCalls.{place-below, found-answers, segment-index}
-use Rattle.segment_manager.proofs.{Common.pair_of_kind, Common.State, objects.FilledCalls.no-object}
+use Rattle.segment_manager.proofs.{Common.pair_of_kind, Common.SegmentState, objects.FilledCalls.no-object}
 use Rattle.segment_manager.proofs.{objects.Here.has-object, indexes.HeldIndexes.denotes-sorted_index}
 use Rattle.seg_types.specs.Commands as asked
 use Rattle.segment_manager.proofs.objects.finding_or_constructing.find_or_construct_entered.Goals as goal
@@ -19,13 +19,13 @@ lookup-requires g c = record {
 pub at-requires-clause-index : goal.at-requires-clause-index
 at-requires-clause-index g c = segment-index c.args.index c.requires.segment
 
-pub at-requires-clause-below : goal.at-requires-clause-below
-at-requires-clause-below g c =
+pub at-requires-clause-subtree : goal.at-requires-clause-subtree
+at-requires-clause-subtree g c =
     place-below c.args.index c.args.entry c.in-Found.place c.requires.segment c.in-Found.ensures.place
 
 pub found_of-requires : goal.found_of-requires
 found_of-requires g c =
-    let s : State = record { cut = c.args.heap.now; mode = Write } in let key = c.requires.key in
+    let s : SegmentState = record { cut = c.args.heap.now; mode = Write } in let key = c.requires.key in
     has-object key.0 c.requires.segment (found-answers s c.args.index c.args.entry c.in-Found.place
     c.in-Found.ensures.place c.at.ensures key.0 (key-seeks c.args.index c.args.entry key.0 c.args.name.now
     (kind_of (bare (g.F.Filling.content c.args.filling.now))) key.1))
@@ -34,17 +34,18 @@ pub returns-in-Found : goal.returns-in-Found
 returns-in-Found g c = λ key n.
     let content = g.F.Filling.content c.args.filling.now in
     found-all c.requires.segment key content (λ mode.
-    let s : State = record { cut = c.args.heap.now; mode = mode } in
+    let s : SegmentState = record { cut = c.args.heap.now; mode = mode } in
     found-answers s c.args.index c.args.entry c.in-Found.place c.in-Found.ensures.place c.at.ensures key
     (key-seeks c.args.index c.args.entry key c.args.name.now (kind_of (bare content)) n))
-    (subst (λ k. (o : Object) → StandsAt c.args.heap.now.bytes c.at.result o → c.found_of.result ≡ pair_of_kind o k)
+    (subst (λ k. (o : Object) → IsObjectInBlock c.args.heap.now.bytes c.at.result o
+    → c.found_of.result ≡ pair_of_kind o k)
     c.shape-shape.ensures.kind c.found_of.ensures)
 
 pub begin_at-requires-clause-index : goal.begin_at-requires-clause-index
 begin_at-requires-clause-index g c = segment-index c.args.index c.requires.segment
 
-pub begin_at-requires-clause-short : goal.begin_at-requires-clause-short
-begin_at-requires-clause-short g c = key-short c.args.index c.args.entry c.requires.key.0 c.args.name.now
+pub begin_at-requires-clause-max_len : goal.begin_at-requires-clause-max_len
+begin_at-requires-clause-max_len g c = key-short c.args.index c.args.entry c.requires.key.0 c.args.name.now
     (kind_of (bare (g.F.Filling.content c.args.filling.now))) c.requires.key.1
 
 pub returns-in_err-begun : goal.returns-in_err-begun

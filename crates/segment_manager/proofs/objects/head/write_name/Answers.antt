@@ -16,12 +16,12 @@ write-requires-2 c =
     l) (zeros-taken n (ap (λ (k : ℕ). k - n) c.padded.ensures)) ∙ length-replicate (padded n - n) 0 in
     let sum : 16 + padded n ≡ 16 + n + length (take {A = ℕ} (c.padded.result - n) (replicate 8 0)) = omega arith in
     let room = changed-room current c.args.heap.now c.write.new.self (c.args.handle + 16) n c.args.handle
-    (16 + padded n) c.write.ensures.change c.requires.room in
+    (16 + padded n) c.write.ensures.changes c.requires.room in
     subst (λ k. IsTrue (has_room (live_of c.write.new.self.bytes) c.args.handle k)) sum room
 
 pub returns : goal.returns
 returns c =
     let n = length c.args.name.now in
     let w = name-written (zeros-taken n (ap (λ (k : ℕ). k - n) c.padded.ensures))
-    c.write.ensures.change c.write.ensures.content c.write-2.ensures.change c.write-2.ensures.content in
-    record { change = w.change; name = w.content }
+    c.write.ensures.changes c.write.ensures.content c.write-2.ensures.changes c.write-2.ensures.content in
+    record { changes = w.change; name = w.content }

@@ -1,6 +1,8 @@
 -- The container of the object of the key is changed as its kind says.
-use Rattle.segment_manager.proofs.Common.{exit-is, ◌≡◌, false, refl, subst, sym, ◌∙◌, Answers, ByHandle, Change, Err}
-use Rattle.segment_manager.proofs.Common.{IsStep, Key, Kind, Located, Refusal, Refused, State, StringsKind, command_of}
+use Rattle.segment_manager.proofs.Common.{exit-is, ◌≡◌, false, refl, subst, sym, ◌∙◌, AnswersWith, ByHandle, Change}
+use Rattle.segment_manager.proofs.Common.{Err}
+use Rattle.segment_manager.proofs.Common.{TakesStep, Key, Kind, Located, Refusal, Refused, SegmentState, StringsKind}
+use Rattle.segment_manager.proofs.Common.{command_of}
 use Rattle.segment_manager.proofs.Common.{container_at, ap, done_answer, has_storage, inl, inr, is_read_only}
 use Rattle.segment_manager.proofs.objects.Locating.{enough-by_key, kind-by_key, located-changes}
 use Rattle.segment_manager.proofs.containers.OneLength.{elements-changed, elements-kept, some-elements}
@@ -17,9 +19,10 @@ use Rattle.segment_manager.specs.containers.Stored.{ChangesElements, IsElements,
 use Rattle.segment_manager.proofs.segment.Segment.change_storage.Goals as goal
 
 -- there is no such container
-not-there : (s : State) (key : Key) (o : Located) (l : IsLocated s key o) (change : Change) (kind : Kind)
-    (why : Refusal) → o.kind ≡ kind → is_read_only s.mode ≡ false → Answers s (λ d. container_at d (ByHandle o.handle)
-    kind) (Err why) → IsStep s s (command_of change key) (Refused why)
+not-there : (s : SegmentState) (key : Key) (o : Located) (l : IsLocated s key o) (change : Change) (kind : Kind)
+    (why : Refusal) → o.kind ≡ kind → is_read_only s.mode ≡ false
+    → AnswersWith s (λ d. container_at d (ByHandle o.handle)
+    kind) (Err why) → TakesStep s s (command_of change key) (Refused why)
 not-there s key o l change kind why is may a = located-changes s key o l change s kind (Refused why) is
     (finds-no_container s (ByHandle o.handle) kind (command_of change (ByHandle o.handle)) why
     (open-writing s.mode (command_of change (ByHandle o.handle)) may) a)
@@ -86,7 +89,7 @@ returns-in_ok-place-in-Strings g c =
     record {
       step = located-changes _ _ _ c.in_ok-object.ensures c.args.change _ StringsKind _ c.in-Strings.is done.step;
       refused = done.refused;
-      enough = enough-by_key _ _ _ c.in_ok-object.ensures c.args.change _
+      noop = enough-by_key _ _ _ c.in_ok-object.ensures c.args.change _
           (texts-kept c.self.view_is _ c.in_ok-place-in-Strings.ensures _ c.args.change _ c.change_texts.ensures);
     }
 
@@ -111,7 +114,7 @@ returns-in_ok-place-in_default g c =
     record {
       step = located-changes _ _ _ c.in_ok-object.ensures c.args.change _ _ _ refl (elements-done g there).step;
       refused = (elements-done g there).refused;
-      enough = enough-by_key _ _ _ c.in_ok-object.ensures c.args.change _ (elements-kept c.self.view_is _ _ _
+      noop = enough-by_key _ _ _ c.in_ok-object.ensures c.args.change _ (elements-kept c.self.view_is _ _ _
           c.self.invariant c.in_ok-place-in_default.ensures (has_storage-left _ c.in_default.not-Scalar
           c.in_default.not-Map) c.in_default.not-Strings _ c.args.change _ (elements-said g there));
     }

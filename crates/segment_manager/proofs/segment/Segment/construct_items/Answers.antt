@@ -11,17 +11,18 @@ returns-then-is_read_only g c = takes-nothing _ g.I.Iterator.next_gives g.S.Spel
 pub invariant_of-self : goal.invariant_of-self
 invariant_of-self g c = refused-segment _ g.I.Iterator.next_gives g.S.Spelling.whole c.self.view_is c.self.invariant
     (new_key_seen c.args.key.now) c.args.kind c.args.count c.numbers.ensures
-    (sym c.is_read_only.ensures ∙ c.if-is_read_only.false) c.requires.some c.args.items.now c.in_err-begun.field-0.0
-    c.begin.new.heap c.in_err-begun.ensures
+    (sym c.is_read_only.ensures ∙ c.if-is_read_only.false) c.requires.non_empty c.args.items.now
+    c.in_err-begun.field-0.0
+    c.begin_object.new.heap c.in_err-begun.ensures
 
 pub returns-in_err-begun : goal.returns-in_err-begun
 returns-in_err-begun g c = refused-items _ g.I.Iterator.next_gives g.S.Spelling.whole c.self.view_is c.self.invariant
     (new_key_seen c.args.key.now) c.args.kind c.args.count c.numbers.ensures
-    (sym c.is_read_only.ensures ∙ c.if-is_read_only.false) c.requires.some c.args.items.now c.begin.new.heap
+    (sym c.is_read_only.ensures ∙ c.if-is_read_only.false) c.requires.non_empty c.args.items.now c.begin_object.new.heap
     (exit-is c.from_residual.result _ c.from_residual.ensures.1) c.in_err-begun.ensures
 
-pub take_items-requires-clause-begun : goal.take_items-requires-clause-begun
-take_items-requires-clause-begun g c = (
+pub take_items-requires-clause-start : goal.take_items-requires-clause-start
+take_items-requires-clause-start g c = (
   c.self.inside.heap,
   (
     c.self.invariant,
@@ -29,7 +30,8 @@ take_items-requires-clause-begun g c = (
       new_key_seen c.args.key.now,
       begun-so _ g.I.Iterator.next_gives g.S.Spelling.whole c.self.view_is c.self.invariant
           (new_key_seen c.args.key.now) c.args.kind c.args.count c.numbers.ensures
-          (sym c.is_read_only.ensures ∙ c.if-is_read_only.false) c.requires.some c.args.items.now c.begin.new.heap _ _
+          (sym c.is_read_only.ensures ∙ c.if-is_read_only.false) c.requires.non_empty c.args.items.now
+          c.begin_object.new.heap _ _
           c.in_ok-begun.begun.entry c.in_ok-begun.ensures,
     ),
   ),
@@ -38,11 +40,13 @@ take_items-requires-clause-begun g c = (
 pub invariant_of-self-2 : goal.invariant_of-self-2
 invariant_of-self-2 g c = items-segment _ g.I.Iterator.next_gives g.S.Spelling.whole c.self.view_is c.self.invariant
     (new_key_seen c.args.key.now) c.args.kind c.args.count c.numbers.ensures
-    (sym c.is_read_only.ensures ∙ c.if-is_read_only.false) c.requires.some c.args.items.now c.begin.new.heap _ _
+    (sym c.is_read_only.ensures ∙ c.if-is_read_only.false) c.requires.non_empty c.args.items.now
+    c.begin_object.new.heap _ _
     c.in_ok-begun.begun.entry c.in_ok-begun.ensures c.take_items.new.heap c.take_items.result c.take_items.ensures
 
 pub returns : goal.returns
 returns g c = items-taken _ g.I.Iterator.next_gives g.S.Spelling.whole c.self.view_is c.self.invariant
     (new_key_seen c.args.key.now) c.args.kind c.args.count c.numbers.ensures
-    (sym c.is_read_only.ensures ∙ c.if-is_read_only.false) c.requires.some c.args.items.now c.begin.new.heap _ _
+    (sym c.is_read_only.ensures ∙ c.if-is_read_only.false) c.requires.non_empty c.args.items.now
+    c.begin_object.new.heap _ _
     c.in_ok-begun.begun.entry c.in_ok-begun.ensures c.take_items.new.heap c.take_items.result c.take_items.ensures

@@ -15,20 +15,21 @@ done g c =
     let content = g.F.Filling.content c.args.filling.now in let b = c.in_ok-begun.begun in
     subst (λ (key : Key). Constructs c.self.inside.heap c.build.new.heap (Construct key content) handle_answer
     c.build.result) (c.key_for-key.ensures.key ∙ ap (g.D.Destination.key c.args.key.now) c.shape-shape.ensures.kind)
-    (construct-built c.self.invariant (new_key_seen c.key_for-key.result) content b.entry c.begin.new.heap b.handle
-    b.at c.build.result (begun-for c.self.inside.heap c.begin.new.heap _ (Ok b) c.shape-shape.ensures
+    (construct-built c.self.invariant (new_key_seen c.key_for-key.result) content b.entry c.begin_object.new.heap
+    b.handle
+    b.at c.build.result (begun-for c.self.inside.heap c.begin_object.new.heap _ (Ok b) c.shape-shape.ensures
     c.in_ok-begun.ensures) c.build.ensures)
 
 -- or where it is not begun
-none : (g : Over) (c : In_err-begun g) → Constructs c.self.inside.heap c.begin.new.heap
+none : (g : Over) (c : In_err-begun g) → Constructs c.self.inside.heap c.begin_object.new.heap
     (Construct (g.D.Destination.key c.args.key.now (kind_of (bare (g.F.Filling.content c.args.filling.now))))
     (g.F.Filling.content c.args.filling.now)) handle_answer (Err c.in_err-begun.field-0.0)
 none g c =
     let content = g.F.Filling.content c.args.filling.now in
-    subst (λ (key : Key). Constructs c.self.inside.heap c.begin.new.heap (Construct key content) handle_answer
+    subst (λ (key : Key). Constructs c.self.inside.heap c.begin_object.new.heap (Construct key content) handle_answer
     (Err c.in_err-begun.field-0.0)) (c.key_for-key.ensures.key ∙ ap (g.D.Destination.key c.args.key.now)
     c.shape-shape.ensures.kind) (construct-not_begun c.self.invariant (new_key_seen c.key_for-key.result) content
-    c.in_err-begun.field-0.0 c.begin.new.heap (begun-for c.self.inside.heap c.begin.new.heap _
+    c.in_err-begun.field-0.0 c.begin_object.new.heap (begun-for c.self.inside.heap c.begin_object.new.heap _
     (Err c.in_err-begun.field-0.0) c.shape-shape.ensures c.in_err-begun.ensures))
 
 pub returns-then-is_read_only-clause-step : goal.returns-then-is_read_only-clause-step
@@ -44,8 +45,8 @@ returns-in_err-begun-clause-step g c = rw (exit-is c.from_residual.result _ c.fr
     (made-step c.self.view_is (none g (goal.at.returns-in_err-begun-clause-step g c).In_err-begun)
     (sym c.is_read_only.ensures ∙ c.if-is_read_only.false))
 
-pub build-requires-clause-begun : goal.build-requires-clause-begun
-build-requires-clause-begun g c = has-begun c.self.inside.heap c.begin.new.heap
+pub build-requires-clause-start : goal.build-requires-clause-start
+build-requires-clause-start g c = has-begun c.self.inside.heap c.begin_object.new.heap
     (new_key_seen c.key_for-key.result) c.in_ok-begun.begun c.self.invariant c.shape-shape.ensures c.in_ok-begun.ensures
 
 pub invariant_of-self-2 : goal.invariant_of-self-2

@@ -1,10 +1,10 @@
 -- The count of the index is that of the directory.
-use Rattle.segment_manager.proofs.Common.{subst, length, objects_of, Answers, State}
+use Rattle.segment_manager.proofs.Common.{subst, length, objects_of, AnswersWith, SegmentState}
 use Rattle.segment_manager.proofs.objects.KeyCalls.{index-counts}
 use Rattle.segment_manager.proofs.segment.Segment.count_of.Goals as goal
 
 pub returns-clause-count : goal.returns-clause-count
 returns-clause-count c =
-    let s : State = record { cut = c.self.inside.heap; mode = c.self.inside.mode } in
-    subst (λ t. Answers t (λ d. length (objects_of c.args.index d)) c.len.result) c.self.view_is
+    let s : SegmentState = record { cut = c.self.inside.heap; mode = c.self.inside.mode } in
+    subst (λ t. AnswersWith t (λ d. length (objects_of c.args.index d)) c.len.result) c.self.view_is
     (record { answers = index-counts s c.args.index c.len.ensures.len })

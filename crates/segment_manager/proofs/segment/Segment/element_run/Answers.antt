@@ -15,8 +15,8 @@ pub read_run-requires-clause-object : goal.read_run-requires-clause-object
 read_run-requires-clause-object g c = seen-object _ _ c.self.view_is _ _ c.self.invariant
     (handle-located _ c.in-Some.ensures)
 
-pub read_run-requires-clause-said : goal.read_run-requires-clause-said
-read_run-requires-clause-said g c = located-there c.self.view_is _ c.self.invariant c.in-Some.ensures
+pub read_run-requires-clause-text : goal.read_run-requires-clause-text
+read_run-requires-clause-text g c = located-there c.self.view_is _ c.self.invariant c.in-Some.ensures
 
 pub returns-in-Some-clause-run : goal.returns-in-Some-clause-run
 returns-in-Some-clause-run g c = run-answers c.self.view_is _ (handle-located _ c.in-Some.ensures) c.read_run.ensures

@@ -1,5 +1,5 @@
 -- The object at the entry is read.
-use Rattle.segment_manager.proofs.Common.{subst, current, objects_of, SaysAt, State}
+use Rattle.segment_manager.proofs.Common.{subst, current, objects_of, SaysAt, SegmentState}
 use Rattle.segment_manager.proofs.{Calling.denotes-heap, objects.KeyCalls.below-count, objects.KeyCalls.segment-index}
 use Rattle.segment_manager.proofs.objects.KeyCalls.{entered-object, entered-says}
 use Rattle.segment_manager.proofs.segment.Segment.entered.Goals as goal
@@ -7,8 +7,8 @@ use Rattle.segment_manager.proofs.segment.Segment.entered.Goals as goal
 pub at-handle-requires-clause-index : goal.at-handle-requires-clause-index
 at-handle-requires-clause-index c = segment-index c.args.index c.self.invariant
 
-pub at-handle-requires-clause-below : goal.at-handle-requires-clause-below
-at-handle-requires-clause-below c = below-count c.self.view_is c.args.index c.self.invariant c.requires
+pub at-handle-requires-clause-subtree : goal.at-handle-requires-clause-subtree
+at-handle-requires-clause-subtree c = below-count c.self.view_is c.args.index c.self.invariant c.requires
 
 pub read_instance-requires-clause-heap : goal.read_instance-requires-clause-heap
 read_instance-requires-clause-heap c =
@@ -16,11 +16,11 @@ read_instance-requires-clause-heap c =
 
 pub read_instance-requires-clause-object : goal.read_instance-requires-clause-object
 read_instance-requires-clause-object c =
-    let s : State = record { cut = c.self.inside.heap; mode = c.self.inside.mode } in
+    let s : SegmentState = record { cut = c.self.inside.heap; mode = c.self.inside.mode } in
     entered-object s c.args.index c.args.i c.at-handle.result c.self.invariant c.at-handle.ensures
 
 pub returns : goal.returns
 returns c =
-    let s : State = record { cut = c.self.inside.heap; mode = c.self.inside.mode } in
+    let s : SegmentState = record { cut = c.self.inside.heap; mode = c.self.inside.mode } in
     subst (λ t. SaysAt t (objects_of c.args.index) c.args.i c.read_instance.result) c.self.view_is
     (entered-says c.args.index c.at-handle.ensures c.read_instance.ensures)

@@ -4,7 +4,7 @@ use Rattle.segment_manager.proofs.segment.Segment.find_or_construct_under.Goals.
 use Rattle.segment_manager.proofs.segment.Segment.find_or_construct_under.Given.{Over}
 use Rattle.segment_manager.proofs.{Common.index_key_seen, Common.kind_of, objects.FilledCalls.made-segment}
 use Rattle.segment_manager.proofs.{containers.KeptContainers.keeps-cut, Steps.refuses-read_only}
-use Rattle.segment_manager.specs.Keeping.{HasKey}
+use Rattle.segment_manager.specs.Keeping.{IsBoundKey}
 use Rattle.segment_manager.proofs.segment.Segment.find_or_construct_under.Goals as goal
 
 -- what the call does, under the key of the object's kind
@@ -27,7 +27,7 @@ invariant_of-self g c =
     made-segment c.self.view_is (done g (goal.at.invariant_of-self g c).After-find_or_construct_entered).constructs
     (sym c.is_read_only.ensures ∙ c.if-is_read_only.false) c.self.invariant
 
-pub returns-clause-found : goal.returns-clause-found
-returns-clause-found g c = keeps-cut _ _ c.self.view_is c.find_or_construct_entered.new.heap
-    (HasKey (g.D.Destination.key c.args.key.now (kind_of (bare (g.F.Filling.content c.args.filling.now)))))
-    (done g (goal.at.returns-clause-found g c).After-find_or_construct_entered).found
+pub returns-clause-search : goal.returns-clause-search
+returns-clause-search g c = keeps-cut _ _ c.self.view_is c.find_or_construct_entered.new.heap
+    (IsBoundKey (g.D.Destination.key c.args.key.now (kind_of (bare (g.F.Filling.content c.args.filling.now)))))
+    (done g (goal.at.returns-clause-search g c).After-find_or_construct_entered).found

@@ -1,5 +1,5 @@
 -- The index stands in the heap of the segment, and what is found there is the object of the key.
-use Rattle.segment_manager.proofs.Common.{subst, Some, None, handle_at, Answers}
+use Rattle.segment_manager.proofs.Common.{subst, Some, None, handle_at, AnswersWith}
 use Rattle.segment_manager.proofs.indexes.HeldIndexes.{denotes-sorted_index}
 use Rattle.segment_manager.proofs.objects.KeyCalls.{absent-answers, found-answers, place-below, segment-index}
 use Rattle.segment_manager.proofs.segment.Segment.look_up.Goals as goal
@@ -10,14 +10,14 @@ lookup-requires c = record { index = denotes-sorted_index c.args.index c.self.in
 pub at-requires-clause-index : goal.at-requires-clause-index
 at-requires-clause-index c = segment-index c.args.index c.self.invariant
 
-pub at-requires-clause-below : goal.at-requires-clause-below
-at-requires-clause-below c =
+pub at-requires-clause-subtree : goal.at-requires-clause-subtree
+at-requires-clause-subtree c =
     place-below c.args.index c.args.entry c.in-Found.place c.self.invariant c.in-Found.ensures.place
 
 pub returns-in-Found : goal.returns-in-Found
-returns-in-Found c = λ key q. subst (λ t. Answers t (λ d. handle_at d key) (Some c.at.result)) c.self.view_is
+returns-in-Found c = λ key q. subst (λ t. AnswersWith t (λ d. handle_at d key) (Some c.at.result)) c.self.view_is
     (found-answers _ c.args.index c.args.entry c.in-Found.place c.in-Found.ensures.place c.at.ensures key q)
 
 pub returns-in-Absent : goal.returns-in-Absent
-returns-in-Absent c = λ key q. subst (λ t. Answers t (λ d. handle_at d key) None) c.self.view_is
+returns-in-Absent c = λ key q. subst (λ t. AnswersWith t (λ d. handle_at d key) None) c.self.view_is
     (absent-answers c.args.index c.args.entry c.in-Absent.field-0 c.in-Absent.ensures.place key q)

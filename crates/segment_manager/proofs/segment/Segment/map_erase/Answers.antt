@@ -22,17 +22,18 @@ returns-in_err-place-clause-step g c = rw (exit-is c.from_residual.result _ c.fr
 
 pub invariant_of-self : goal.invariant_of-self
 invariant_of-self g c = (erased-there (of-map g.met.K.Scalar) (of-map g.met.V.Scalar) c.self.view_is _ c.at.ensures
-    c.self.invariant c.in_ok-place.ensures _ (sym c.is_read_only.ensures ∙ c.if-is_read_only.false) _ _ c.holds_value.ensures
-    c.erase.ensures.erased).segment
+    c.self.invariant c.in_ok-place.ensures _ (sym c.is_read_only.ensures
+    ∙ c.if-is_read_only.false) _ _ c.holds_value.ensures
+    c.erase.ensures.changes).segment
 
 pub returns : goal.returns
 returns g c =
     let d = erased-there (of-map g.met.K.Scalar) (of-map g.met.V.Scalar) c.self.view_is _ c.at.ensures c.self.invariant
     c.in_ok-place.ensures _ (sym c.is_read_only.ensures ∙ c.if-is_read_only.false) _ _ c.holds_value.ensures
-    c.erase.ensures.erased in
+    c.erase.ensures.changes in
     record {
       step = d.step;
       refused = d.refused;
       absent = map-kept (of-map g.met.K.Scalar) (of-map g.met.V.Scalar) _ _ c.self.view_is _ _ _ c.at.ensures
-          c.in_ok-place.ensures _ c.args.at c.erase.result c.erase.ensures.erased;
+          c.in_ok-place.ensures _ c.args.at c.erase.result c.erase.ensures.changes;
     }

@@ -24,7 +24,7 @@ done : (g : Over) (c : Joined-put g)
     (literal_of g.V.Scalar.kind (g.V.Scalar.whole c.args.value))) c.match-put.result
 done g c = put-there (of-map g.met.K.Scalar) (of-map g.met.V.Scalar) c.self.view_is _ c.at.ensures c.self.invariant
     c.in_ok-place.ensures _ (sym c.is_read_only.ensures ∙ c.if-is_read_only.false) _ _ c.put.result _ (answer g c)
-    c.holds_value.ensures c.holds_value-2.ensures c.put.ensures.put
+    c.holds_value.ensures c.holds_value-2.ensures c.put.ensures.effect
 
 pub returns-then-is_read_only-clause-step : goal.returns-then-is_read_only-clause-step
 returns-then-is_read_only-clause-step g c =
@@ -50,12 +50,12 @@ returns g c =
     record {
       step = d.step;
       refused = d.refused;
-      again = map-again (of-map g.met.K.Scalar) (of-map g.met.V.Scalar) _ _ c.self.view_is _ _ _ c.at.ensures
-          c.in_ok-place.ensures _ c.args.at c.args.value c.put.result c.put.ensures.put;
+      repeat = map-again (of-map g.met.K.Scalar) (of-map g.met.V.Scalar) _ _ c.self.view_is _ _ _ c.at.ensures
+          c.in_ok-place.ensures _ c.args.at c.args.value c.put.result c.put.ensures.effect;
     }
 
-pub returns-then-is_read_only-clause-again : goal.returns-then-is_read_only-clause-again
-returns-then-is_read_only-clause-again g c = λ d l p has. record { at = λ j f. refl }
+pub returns-then-is_read_only-clause-repeat : goal.returns-then-is_read_only-clause-repeat
+returns-then-is_read_only-clause-repeat g c = λ d l p has. record { at = λ j f. refl }
 
-pub returns-in_err-place-clause-again : goal.returns-in_err-place-clause-again
-returns-in_err-place-clause-again g c = λ d l p has. record { at = λ j f. refl }
+pub returns-in_err-place-clause-repeat : goal.returns-in_err-place-clause-repeat
+returns-in_err-place-clause-repeat g c = λ d l p has. record { at = λ j f. refl }

@@ -1,9 +1,9 @@
 -- The count of the index is that of the directory.
-use Rattle.segment_manager.proofs.{Common.subst, Common.Number, Common.IsReply, objects.KeyCalls.num-replies}
+use Rattle.segment_manager.proofs.{Common.subst, Common.Number, Common.AnswersQuery, objects.KeyCalls.num-replies}
 use Rattle.seg_types.specs.Commands.{NumNamed}
 use Rattle.seg_index.specs.declared.index.Index.TheVariants.{Named}
 use Rattle.segment_manager.proofs.segment.Segment.num_named.Goals as goal
 
 pub returns : goal.returns
-returns c = subst (λ t. IsReply t NumNamed (Number c.len.result)) c.self.view_is
+returns c = subst (λ t. AnswersQuery t NumNamed (Number c.len.result)) c.self.view_is
     (num-replies Named c.len.result c.len.ensures.len)

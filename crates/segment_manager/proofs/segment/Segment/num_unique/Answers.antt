@@ -1,9 +1,9 @@
 -- The count of the index is that of the directory.
-use Rattle.segment_manager.proofs.{Common.subst, Common.Number, Common.IsReply, objects.KeyCalls.num-replies}
+use Rattle.segment_manager.proofs.{Common.subst, Common.Number, Common.AnswersQuery, objects.KeyCalls.num-replies}
 use Rattle.seg_types.specs.Commands.{NumUnique}
 use Rattle.seg_index.specs.declared.index.Index.TheVariants.{Unique}
 use Rattle.segment_manager.proofs.segment.Segment.num_unique.Goals as goal
 
 pub returns : goal.returns
-returns c = subst (λ t. IsReply t NumUnique (Number c.len.result)) c.self.view_is
+returns c = subst (λ t. AnswersQuery t NumUnique (Number c.len.result)) c.self.view_is
     (num-replies Unique c.len.result c.len.ensures.len)

@@ -7,4 +7,4 @@ read_object-requires c = seen-object _ _ c.self.view_is (key_seen c.args.key.now
 
 pub returns-in-Some : goal.returns-in-Some
 returns-in-Some c =
-    head-located c.self.view_is (key_seen c.args.key.now) c.in-Some.ensures c.read_object.ensures.said
+    head-located c.self.view_is (key_seen c.args.key.now) c.in-Some.ensures c.read_object.ensures.text

@@ -13,12 +13,13 @@ pub shrink-requires : goal.shrink-requires
 shrink-requires c = record { index = segment-index Named c.self.invariant }
 
 pub shrink-requires-2 : goal.shrink-requires-2
-shrink-requires-2 c = record { index = shrunk-index c.self.invariant c.shrink.ensures.shrunk }
+shrink-requires-2 c = record { index = shrunk-index c.self.invariant c.shrink.ensures.shrinking }
 
 pub invariant_of-self : goal.invariant_of-self
 invariant_of-self c = (shrinks c.self.view_is c.self.invariant
-    (sym c.is_read_only.ensures ∙ c.if-is_read_only.false) c.shrink.ensures.shrunk c.shrink-2.ensures.shrunk).segment
+    (sym c.is_read_only.ensures ∙ c.if-is_read_only.false) c.shrink.ensures.shrinking
+    c.shrink-2.ensures.shrinking).segment
 
 pub returns-clause-step : goal.returns-clause-step
 returns-clause-step c = (shrinks c.self.view_is c.self.invariant
-    (sym c.is_read_only.ensures ∙ c.if-is_read_only.false) c.shrink.ensures.shrunk c.shrink-2.ensures.shrunk).step
+    (sym c.is_read_only.ensures ∙ c.if-is_read_only.false) c.shrink.ensures.shrinking c.shrink-2.ensures.shrinking).step

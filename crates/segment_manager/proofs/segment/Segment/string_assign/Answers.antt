@@ -16,7 +16,8 @@ returns-in_err-place-clause-step g c = not-changed _ _ _ refl c.from_residual.en
 
 pub returns : goal.returns
 returns g c =
-    let d = text-assigned c.self.view_is c.self.invariant c.in_ok-place.ensures _ _ _ c.type_inv.bytes c.assign.ensures in
+    let d = text-assigned c.self.view_is c.self.invariant c.in_ok-place.ensures _ _ _ c.type_inv.bytes
+    c.assign.ensures in
     record {
       step = d.step;
       refused = d.refused;

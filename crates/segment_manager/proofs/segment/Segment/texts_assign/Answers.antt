@@ -8,7 +8,7 @@ assign-requires g c = texts-standing c.self.view_is _ _ c.self.invariant c.in_ok
 
 pub invariant_of-self : goal.invariant_of-self
 invariant_of-self g c = (texts-assigned c.self.view_is c.self.invariant c.in_ok-place.ensures _ _ _ c.judge_all.ensures
-    c.assign.ensures.assigned).segment
+    c.assign.ensures.changes).segment
 
 pub returns-in_err-place-clause-step : goal.returns-in_err-place-clause-step
 returns-in_err-place-clause-step g c = not-changed _ _ _ refl c.from_residual.ensures.1 refl c.in_err-place.ensures
@@ -16,7 +16,7 @@ returns-in_err-place-clause-step g c = not-changed _ _ _ refl c.from_residual.en
 pub returns : goal.returns
 returns g c =
     let k = texts-assigned c.self.view_is c.self.invariant c.in_ok-place.ensures _ _ _ c.judge_all.ensures
-    c.assign.ensures.assigned in
+    c.assign.ensures.changes in
     record {
       step = k.step;
       refused = k.refused;

@@ -8,7 +8,7 @@ push-requires g c = texts-standing c.self.view_is _ _ c.self.invariant c.in_ok-p
 
 pub invariant_of-self : goal.invariant_of-self
 invariant_of-self g c = (text-pushed c.self.view_is c.self.invariant c.in_ok-place.ensures _ _ _ c.type_inv.text
-    c.push.ensures.pushed).segment
+    c.push.ensures.changes).segment
 
 pub returns-in_err-place-clause-step : goal.returns-in_err-place-clause-step
 returns-in_err-place-clause-step g c = not-changed _ _ _ refl c.from_residual.ensures.1 refl c.in_err-place.ensures
@@ -16,7 +16,7 @@ returns-in_err-place-clause-step g c = not-changed _ _ _ refl c.from_residual.en
 pub returns : goal.returns
 returns g c =
     let k = text-pushed c.self.view_is c.self.invariant c.in_ok-place.ensures _ _ _ c.type_inv.text
-    c.push.ensures.pushed in
+    c.push.ensures.changes in
     record {
       step = k.step;
       refused = k.refused;

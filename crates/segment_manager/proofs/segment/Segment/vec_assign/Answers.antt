@@ -21,7 +21,8 @@ returns-in_err-place-clause-step g c =
 pub returns : goal.returns
 returns g c =
     let d = vector-assigned (of-vector g.met.T.Scalar) c.self.view_is _ c.kind.ensures c.at.ensures
-    c.self.invariant c.in_ok-place.ensures.at _ c.in_ok-place.ensures.writing _ _ c.judge_all.ensures c.assign.ensures in
+    c.self.invariant c.in_ok-place.ensures.at _ c.in_ok-place.ensures.writing _ _ c.judge_all.ensures
+    c.assign.ensures in
     record {
       step = d.step;
       refused = d.refused;

@@ -1,5 +1,5 @@
 -- The values are put behind the last of the vector that is found.
-use Rattle.segment_manager.proofs.Common.{exit-is, sym, ap, ◌∙◌, subst, map, Answers, Err, Vector, container_at}
+use Rattle.segment_manager.proofs.Common.{exit-is, sym, ap, ◌∙◌, subst, map, AnswersWith, Err, Vector, container_at}
 use Rattle.segment_manager.proofs.{containers.ScalarTypes.of-vector, containers.VectorAnswers.some-vector}
 use Rattle.segment_manager.proofs.containers.{Extending.extended-missing, Extending.extended-reading}
 use Rattle.segment_manager.proofs.containers.{Extending.extended-stays, VectorAnswers.vector-extended}
@@ -13,7 +13,8 @@ returns-then-is_read_only-clause-step g c = extended-stays c.args.self.now (g.O.
 
 pub returns-in_err-place-clause-step : goal.returns-in_err-place-clause-step
 returns-in_err-place-clause-step g c = rw (exit-is c.from_residual.result _ c.from_residual.ensures.1)
-    (let there = subst (λ k. Answers c.args.self.now (λ d. container_at d (g.O.Target.key c.args.key.now) (Vector k))
+    (let there = subst (λ k. AnswersWith c.args.self.now (λ d.
+    container_at d (g.O.Target.key c.args.key.now) (Vector k))
     (Err c.in_err-place.field-0.0)) c.kind.ensures c.in_err-place.ensures in
     extended-stays c.args.self.now (g.O.Target.key c.args.key.now) g.T.Scalar.kind
     (map g.T.Scalar.whole c.args.values.now) _ (λ d st. extended-missing c.args.self.now.mode d

@@ -1,5 +1,5 @@
 -- The value is read from the vector that is found.
-use Rattle.segment_manager.proofs.Common.{exit-is, refl, subst, Err, Vector, Get, container_at, Answers}
+use Rattle.segment_manager.proofs.Common.{exit-is, refl, subst, Err, Vector, Get, container_at, AnswersWith}
 use Rattle.segment_manager.proofs.{containers.ScalarTypes.of-vector, containers.StorageSteps.no_container-reply}
 use Rattle.segment_manager.proofs.{containers.StorageSteps.seen-reply}
 use Rattle.segment_manager.proofs.containers.VectorAnswers.{some-vector, vector-got}
@@ -11,7 +11,8 @@ get-requires g c = some-vector (of-vector g.met.T.Scalar) c.self.view_is _ c.kin
 
 pub returns-in_err-place : goal.returns-in_err-place
 returns-in_err-place g c = rw (exit-is c.from_residual.result _ c.from_residual.ensures.1) (no_container-reply _ _ _
-    (Get (g.O.Target.key c.args.key.now) c.args.index) _ refl (subst (λ l. Answers c.args.self.now (λ d. container_at d
+    (Get (g.O.Target.key c.args.key.now) c.args.index) _ refl
+    (subst (λ l. AnswersWith c.args.self.now (λ d. container_at d
     (g.O.Target.key c.args.key.now) (Vector l)) (Err c.in_err-place.field-0.0)) c.kind.ensures c.in_err-place.ensures))
 
 pub returns : goal.returns

@@ -21,7 +21,8 @@ returns-in_err-place-clause-step g c =
 pub returns : goal.returns
 returns g c =
     let d = vector-inserted (of-vector g.met.T.Scalar) c.self.view_is _ c.kind.ensures c.at.ensures
-    c.self.invariant c.in_ok-place.ensures.at _ c.in_ok-place.ensures.writing _ _ _ c.holds_value.ensures c.insert.ensures in
+    c.self.invariant c.in_ok-place.ensures.at _ c.in_ok-place.ensures.writing _ _ _ c.holds_value.ensures
+    c.insert.ensures in
     record {
       step = d.step;
       refused = d.refused;

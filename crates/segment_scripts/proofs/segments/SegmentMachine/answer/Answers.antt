@@ -5,46 +5,51 @@ use Rattle.segment_scripts.proofs.Meant.{asked-meant}
 use Rattle.segment_scripts.proofs.WrongLines.{responds-form, responds-wrong}
 use Rattle.segment_scripts.proofs.segments.SegmentMachine.answer.Goals as goal
 
-pub answer_push-requires-clause-meant : goal.answer_push-requires-clause-meant
-answer_push-requires-clause-meant g c = λ command e. asked-meant command c.args.line.now (e ∙ ap (λ f. reading_by f c.in-Form.rest.now) (sym c.in-Push.is) ∙ c.in-Form.ensures)
+pub answer_push-requires-clause-meaning : goal.answer_push-requires-clause-meaning
+answer_push-requires-clause-meaning g c =
+    λ command e. asked-meant command c.args.line.now (e
+    ∙ ap (λ f. reading_by f c.in-Form.rest.now) (sym c.in-Push.is) ∙ c.in-Form.ensures)
 
-pub answer_deed-requires-clause-meant : goal.answer_deed-requires-clause-meant
-answer_deed-requires-clause-meant g c = λ command e. asked-meant command c.args.line.now (e ∙ ap (λ f. reading_by f c.in-Form.rest.now) (sym c.in-Deed.is) ∙ c.in-Form.ensures)
+pub answer_deed-requires-clause-meaning : goal.answer_deed-requires-clause-meaning
+answer_deed-requires-clause-meaning g c =
+    λ command e. asked-meant command c.args.line.now (e
+    ∙ ap (λ f. reading_by f c.in-Form.rest.now) (sym c.in-Deed.is) ∙ c.in-Form.ensures)
 
 pub returns-in-Wrong : goal.returns-in-Wrong
 returns-in-Wrong g c =
-    let r = responds-wrong c.args.self.now c.in-Wrong.error c.in-Wrong.ensures c.put_wrong.ensures.writes c.put_wrong.ensures.tells in
-    record { leads = r.leads; writes = r.writes; tells = r.tells }
+    let r = responds-wrong c.args.self.now c.in-Wrong.error c.in-Wrong.ensures c.put_wrong.ensures.output
+    c.put_wrong.ensures.report in
+    record { link_target = r.leads; output = r.writes; report = r.tells }
 
 pub returns-in-Size : goal.returns-in-Size
 returns-in-Size g c =
     let r = responds-form c.in-Form.rest.now c.in-Size.is c.in-Form.ensures c.answer_size.ensures in
-    record { leads = r.leads; writes = r.writes; tells = r.tells }
+    record { link_target = r.leads; output = r.writes; report = r.tells }
 
 pub returns-in-Get : goal.returns-in-Get
 returns-in-Get g c =
     let r = responds-form c.in-Form.rest.now c.in-Get.is c.in-Form.ensures c.answer_get.ensures in
-    record { leads = r.leads; writes = r.writes; tells = r.tells }
+    record { link_target = r.leads; output = r.writes; report = r.tells }
 
 pub returns-in-Push : goal.returns-in-Push
 returns-in-Push g c =
     let r = responds-form c.in-Form.rest.now c.in-Push.is c.in-Form.ensures c.answer_push.ensures in
-    record { leads = r.leads; writes = r.writes; tells = r.tells }
+    record { link_target = r.leads; output = r.writes; report = r.tells }
 
 pub returns-in-Put : goal.returns-in-Put
 returns-in-Put g c =
     let r = responds-form c.in-Form.rest.now c.in-Put.is c.in-Form.ensures c.answer_put.ensures in
-    record { leads = r.leads; writes = r.writes; tells = r.tells }
+    record { link_target = r.leads; output = r.writes; report = r.tells }
 
 pub returns-in-Pop : goal.returns-in-Pop
 returns-in-Pop g c =
     let r = responds-form c.in-Form.rest.now c.in-Pop.is c.in-Form.ensures c.answer_pop.ensures in
-    record { leads = r.leads; writes = r.writes; tells = r.tells }
+    record { link_target = r.leads; output = r.writes; report = r.tells }
 
 pub returns-in-Deed : goal.returns-in-Deed
 returns-in-Deed g c =
     let r = responds-form c.in-Form.rest.now c.in-Deed.is c.in-Form.ensures c.answer_deed.ensures in
-    record { leads = r.leads; writes = r.writes; tells = r.tells }
+    record { link_target = r.leads; output = r.writes; report = r.tells }
 
-pub returns-in-Nothing-clause-tells : goal.returns-in-Nothing-clause-tells
-returns-in-Nothing-clause-tells g c = λ at s. ap (refuses at.mode at.directory) c.in-Nothing.ensures
+pub returns-in-Nothing-clause-report : goal.returns-in-Nothing-clause-report
+returns-in-Nothing-clause-report g c = λ at s. ap (refuses at.mode at.directory) c.in-Nothing.ensures

@@ -3,4 +3,8 @@ use Rattle.segment_scripts.proofs.TextParts.{parts-length}
 use Rattle.segment_scripts.proofs.text_rows.TextRow.len.Goals as goal
 
 pub returns : goal.returns
-returns c = omega (arith, ap length (sym c.self.view_is), parts-length (take c.self.inside.len c.self.inside.lengths) c.self.inside.bytes)
+returns c = omega (
+  arith,
+  ap length (sym c.self.view_is),
+  parts-length (take c.self.inside.len c.self.inside.lengths) c.self.inside.bytes,
+)

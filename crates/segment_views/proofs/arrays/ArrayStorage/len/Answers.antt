@@ -3,5 +3,6 @@ use Rattle.seg_types.specs.Names.{ByHandle}
 use Rattle.segment_views.proofs.Reading.{array-many}
 use Rattle.segment_views.proofs.arrays.ArrayStorage.len.Goals as goal
 
-pub returns-clause-many : goal.returns-clause-many
-returns-clause-many g c = array-many c.args.segment.now (ByHandle c.args.object.now.handle) c.array_len.result g.T.Scalar.kind c.array_len.ensures
+pub returns-clause-count : goal.returns-clause-count
+returns-clause-count g c = array-many c.args.segment.now (ByHandle c.args.object.now.handle) c.array_len.result
+    g.T.Scalar.kind c.array_len.ensures

@@ -2,4 +2,5 @@ use Rattle.image_check.proofs.HeadBytes.{padding-read}
 use Rattle.image_check.proofs.image_window.objects.Object.padding.Goals as goal
 
 pub returns : goal.returns
-returns c = padding-read c.args.window.now.bytes c.args.self.at c.name_len-len.result c.bytes.result.now c.name_len-len.ensures.len c.requires.inside c.bytes.ensures.bytes
+returns c = padding-read c.args.window.now.bytes c.args.self.at c.name_len-len.result c.bytes.result.now
+    c.name_len-len.ensures.len c.requires.in_bounds c.bytes.ensures.bytes

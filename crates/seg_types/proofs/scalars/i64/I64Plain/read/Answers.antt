@@ -7,4 +7,5 @@ use Rattle.seg_types.proofs.EightBytes.{reads-i64}
 pub returns : goal.returns
 returns c =
     let same = ap (λ (bytes : List ℕ). to_z w64 (from_le_bytes w64 bytes)) c.in_ok-as_array.ensures.cases.same in
-    reads-i64 c.args.from.now c.from_le_bytes.result c.requires (λ i. omega (arith, c.type_inv.from i)) (c.from_le_bytes.ensures ∙ same)
+    reads-i64 c.args.from.now c.from_le_bytes.result c.requires (λ i.
+    omega (arith, c.type_inv.from i)) (c.from_le_bytes.ensures ∙ same)

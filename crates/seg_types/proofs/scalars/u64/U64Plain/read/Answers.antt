@@ -6,4 +6,6 @@ use Rattle.seg_types.proofs.EightBytes.{reads-u64}
 
 pub returns : goal.returns
 returns c =
-    reads-u64 c.args.from.now c.from_le_bytes.result c.requires (λ i. omega (arith, c.type_inv.from i)) (c.from_le_bytes.ensures ∙ ap (from_le_bytes w64) c.in_ok-as_array.ensures.cases.same)
+    reads-u64 c.args.from.now c.from_le_bytes.result c.requires (λ i.
+    omega (arith, c.type_inv.from i)) (c.from_le_bytes.ensures
+    ∙ ap (from_le_bytes w64) c.in_ok-as_array.ensures.cases.same)

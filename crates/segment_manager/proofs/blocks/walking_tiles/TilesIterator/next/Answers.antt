@@ -7,7 +7,8 @@ pub overflow_add-self : goal.overflow_add-self
 overflow_add-self c =
     let b = c.self.inside.segment.now.cut.bytes in
     let below = slice_get_within _ c.self.inside.at c.in_ok-tile.tile (sym c.self.invariant.tile ∙ c.in_ok-tile.was) in
-    let few = tile-few b c.self.inside.at (subst IsSegment c.as_bytes.ensures.bytes c.as_bytes.ensures.denotes) below in
+    let few = tile-few b c.self.inside.at (subst IsSegment c.as_bytes.ensures.bytes c.as_bytes.ensures.denotation)
+    below in
     search rules
 
 pub returns-clause-goes : goal.returns-clause-goes

@@ -7,12 +7,12 @@ use Rattle.segment_manager.proofs.objects.walking_objects.ObjectsIterator.next.G
 
 pub overflow_add-self : goal.overflow_add-self
 overflow_add-self c =
-    let segment : IsSegment _ = subst IsSegment c.as_bytes.ensures.bytes c.as_bytes.ensures.denotes in
+    let segment : IsSegment _ = subst IsSegment c.as_bytes.ensures.bytes c.as_bytes.ensures.denotation in
     omega (arith, (owner-few (block-at c.self.invariant c.next_own.ensures c.in_ok-block.was) segment))
 
 pub overflow_add-block : goal.overflow_add-block
 overflow_add-block c =
-    let segment : IsSegment _ = subst IsSegment c.as_bytes.ensures.bytes c.as_bytes.ensures.denotes in
+    let segment : IsSegment _ = subst IsSegment c.as_bytes.ensures.bytes c.as_bytes.ensures.denotation in
     omega (arith, (owner-short (block-at c.self.invariant c.next_own.ensures c.in_ok-block.was) segment))
 
 pub instance_here-requires : goal.instance_here-requires
@@ -46,6 +46,6 @@ pub returns-clause-goes : goal.returns-clause-goes
 returns-clause-goes c =
     let w = c.self.inside in
     let segment : IsSegment w.segment.now.cut.bytes =
-    subst IsSegment c.as_bytes.ensures.bytes c.as_bytes.ensures.denotes in
+    subst IsSegment c.as_bytes.ensures.bytes c.as_bytes.ensures.denotation in
     let below = owner-counts (block-at c.self.invariant c.next_own.ensures c.in_ok-block.was) segment in
     search rules

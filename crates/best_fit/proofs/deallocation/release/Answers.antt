@@ -1,0 +1,254 @@
+-- Seven steps: the neighbours leave the tree, the block becomes a gap with them, and that enters the tree.
+use Rattle.best_fit.proofs.Common.{◌≡◌, ap, ◌∙◌, ◌+◌, ◌*◌, ◌≤◌, ◌∷◌, ◌++◌, length, arith, refl, Option, Tile}
+use Rattle.best_fit.proofs.Common.{first_in, last_in, without_last, HasTileAt, EncodesTiles, bits, gaps_of, gaps_in}
+use Rattle.best_fit.proofs.Common.{HasGapTree, Regrown, gap_offset, of_option, offset_of, start_of}
+use Rattle.best_fit.proofs.Allocating.{bits-le}
+use Rattle.best_fit.proofs.GivingBack.{GivenBack, HalfUprooted, Uprooted, few_steps, first_tree, given_back}
+use Rattle.best_fit.proofs.GivingBack.{half_uprooted, next_is, previous_is, r_colour, r_stands2, r_stands3, r_use}
+use Rattle.best_fit.proofs.GivingBack.{uprooted}
+use Rattle.best_fit.proofs.Joins.{rest_of}
+use Rattle.best_fit.proofs.Uprooting.{option_few, option_offset}
+use Rattle.best_fit.proofs.Writes.{Block, block_tile, live_block}
+use Rattle.best_fit.proofs.deallocation.release.Goals.{After-next-behind, After-previous-before, After-gap_at}
+use Rattle.best_fit.proofs.deallocation.release.Goals.{After-unlink_if_gap, After-gap_at-2, After-unlink_if_gap-2}
+use Rattle.best_fit.proofs.deallocation.release.Goals.{After-coalesce_previous}
+use Rattle.best_fit.proofs.deallocation.release.Goals as goal
+
+pub next-behind-requires-clause-tile : goal.next-behind-requires-clause-tile
+next-behind-requires-clause-tile c = block_tile c.args.touches.now.gaps.now.window (c.args.at + 16) c.args.at
+    (live_block c.args.touches.now.gaps.now.window (c.args.at + 16) c.requires.heap c.requires.live) refl
+
+pub previous-before-requires-clause-tile : goal.previous-before-requires-clause-tile
+previous-before-requires-clause-tile c =
+    let e : c.next-behind.new.self.gaps.now.window ≡ c.args.touches.now.gaps.now.window = cc in
+    let h : HasTileAt c.args.touches.now.gaps.now.window c.args.at = block_tile c.args.touches.now.gaps.now.window
+    (c.args.at + 16) c.args.at (live_block c.args.touches.now.gaps.now.window (c.args.at + 16) c.requires.heap
+    c.requires.live) refl in rw e h
+
+-- the block that is given back, among its neighbours
+abbrev block : (c : After-previous-before) → Block c.args.touches.now.gaps.now.window (c.args.at + 16)
+block c = live_block c.args.touches.now.gaps.now.window (c.args.at + 16) c.requires.heap c.requires.live
+
+before : (c : After-previous-before) → c.previous-before.result ≡ last_in (block c).front
+before c =
+    let w = c.args.touches.now.gaps.now.window in let b = block c in
+    let e : c.next-behind.new.self.gaps.now.window ≡ w = cc in
+    let said : EncodesTiles c.next-behind.new.self.gaps.now.window (b.front ++ (b.tile ∷ b.back)) = rw e b.said in
+    c.previous-before.ensures.tile (b.front ++ (b.tile ∷ b.back)) said ∙ previous_is w c.args.at c.requires.heap b
+
+behind : (c : After-previous-before) → c.next-behind.result ≡ first_in (block c).back
+behind c = let b = block c in c.next-behind.ensures.tile (b.front ++ (b.tile ∷ b.back)) b.said
+    ∙ next_is c.args.touches.now.gaps.now.window c.args.at c.requires.heap b
+
+pub unlink_if_gap-requires-clause-tree : goal.unlink_if_gap-requires-clause-tree
+unlink_if_gap-requires-clause-tree c =
+    let p = (goal.at.unlink_if_gap-requires-clause-tree c).After-previous-before in
+    let w = c.args.touches.now.gaps.now.window in let b = block p in
+    let e : c.previous-before.new.self.gaps.now.window ≡ w = cc in
+    let is = c.gap_at.ensures ∙ ap gap_offset (behind p) ∙ option_offset (first_in b.back) in (
+      gaps_of (without_last b.front) ++ gaps_of (of_option (last_in b.front)),
+      gaps_of (of_option (first_in b.back)),
+      gaps_of (rest_of b.back),
+      is,
+      option_few (first_in b.back),
+      rw e (first_tree w c.args.at c.requires.heap b),
+    )
+
+-- the gap behind has left the tree
+half : (c : After-uproot) (b : Block c.args.touches.now.gaps.now.window (c.args.at + 16))
+    → c.next-behind.result ≡ first_in b.back
+    → HalfUprooted c.args.touches.now.gaps.now.window c.args.at c.requires.heap b
+    c.unlink_if_gap.new.touches.gaps.now.window
+    c.args.touches.now.count c.unlink_if_gap.new.touches.count
+half c b behind_is =
+    let w = c.args.touches.now.gaps.now.window in let d = c.unlink_if_gap.new.touches.gaps.now.window in
+    let init = gaps_of (without_last b.front) in let last = gaps_of (of_option (last_in b.front)) in
+    let first = gaps_of (of_option (first_in b.back)) in let tail = gaps_of (rest_of b.back) in
+    let e : c.previous-before.new.self.gaps.now.window ≡ w = cc in
+    let is : c.gap_at.result ≡ offset_of first = c.gap_at.ensures ∙ ap gap_offset behind_is
+    ∙ option_offset (first_in b.back) in
+    let tree : HasGapTree c.previous-before.new.self.gaps.now.window ((init ++ last) ++ (first ++ tail)) =
+    rw e (first_tree w c.args.at c.requires.heap b) in
+    let rest : Regrown w d = rw e at c.unlink_if_gap.ensures.frame in
+    half_uprooted w c.args.at c.requires.heap b d c.args.touches.now.count c.previous-before.new.self.count
+    c.unlink_if_gap.new.touches.count
+    (c.unlink_if_gap.ensures.tree (init ++ last) first tail is (option_few (first_in b.back)) tree) rest (omega arith)
+    (c.unlink_if_gap.ensures.steps ((init ++ last) ++ (first ++ tail)) tree)
+
+pub unlink_if_gap-requires-2-clause-tree : goal.unlink_if_gap-requires-2-clause-tree
+unlink_if_gap-requires-2-clause-tree c =
+    let g = goal.at.unlink_if_gap-requires-2-clause-tree c in let p = g.After-previous-before in let b = block p in
+    let is = c.gap_at-2.ensures ∙ ap gap_offset (before p) ∙ option_offset (last_in b.front) in (
+      gaps_of (without_last b.front),
+      gaps_of (of_option (last_in b.front)),
+      gaps_of (rest_of b.back),
+      is,
+      option_few (last_in b.front),
+      (half g.After-unlink_if_gap b (behind p)).tree,
+    )
+
+pub unlink_if_gap-requires-2-clause-no_overflow : goal.unlink_if_gap-requires-2-clause-no_overflow
+unlink_if_gap-requires-2-clause-no_overflow c =
+    let g = goal.at.unlink_if_gap-requires-2-clause-no_overflow c in let p = g.After-previous-before in
+    let steps = (half g.After-unlink_if_gap (block p) (behind p)).steps in
+    let start = c.requires.no_overflow in let few =
+    few_steps c.args.touches.now.gaps.now.window c.args.at c.requires.heap
+    (block p) in omega arith
+
+-- and so has the gap before
+both : (c : After-uproot-2) (b : Block c.args.touches.now.gaps.now.window (c.args.at + 16))
+    → c.previous-before.result ≡ last_in b.front
+    → HalfUprooted c.args.touches.now.gaps.now.window c.args.at c.requires.heap b
+    c.unlink_if_gap.new.touches.gaps.now.window
+    c.args.touches.now.count c.unlink_if_gap.new.touches.count
+    → Uprooted c.args.touches.now.gaps.now.window c.args.at c.requires.heap b
+    c.unlink_if_gap-2.new.touches.gaps.now.window
+    c.args.touches.now.count c.unlink_if_gap-2.new.touches.count
+both c b before_is h =
+    let init = gaps_of (without_last b.front) in let last = gaps_of (of_option (last_in b.front)) in
+    let tail = gaps_of (rest_of b.back) in
+    let is : c.gap_at-2.result ≡ offset_of last = c.gap_at-2.ensures ∙ ap gap_offset before_is
+    ∙ option_offset (last_in b.front) in
+    uprooted c.args.touches.now.gaps.now.window c.args.at c.requires.heap b c.unlink_if_gap.new.touches.gaps.now.window
+    c.unlink_if_gap-2.new.touches.gaps.now.window c.args.touches.now.count c.unlink_if_gap.new.touches.count
+    c.unlink_if_gap-2.new.touches.count h
+    (c.unlink_if_gap-2.ensures.tree init last tail is (option_few (last_in b.front)) h.tree)
+    c.unlink_if_gap-2.ensures.frame
+    (c.unlink_if_gap-2.ensures.steps (init ++ (last ++ tail)) h.tree)
+
+pub blacken-requires-clause-tile : goal.blacken-requires-clause-tile
+blacken-requires-clause-tile c =
+    let g = goal.at.blacken-requires-clause-tile c in let p = g.After-previous-before in let b = block p in
+    let u = both g.After-unlink_if_gap-2 b (before p) (half g.After-unlink_if_gap b (behind p)) in
+    r_colour c.args.touches.now.gaps.now.window c.args.at c.requires.heap b
+    c.unlink_if_gap-2.new.touches.gaps.now.window u.tree u.rest
+
+pub blacken-requires-clause-no_overflow : goal.blacken-requires-clause-no_overflow
+blacken-requires-clause-no_overflow c =
+    let g = goal.at.blacken-requires-clause-no_overflow c in let p = g.After-previous-before in let b = block p in
+    let steps = (both g.After-unlink_if_gap-2 b (before p) (half g.After-unlink_if_gap b (behind p))).steps in
+    let start = c.requires.no_overflow in let few = few_steps c.args.touches.now.gaps.now.window c.args.at
+    c.requires.heap b in omega arith
+
+pub set_use-requires-clause-tile : goal.set_use-requires-clause-tile
+set_use-requires-clause-tile c =
+    let g = goal.at.set_use-requires-clause-tile c in let p = g.After-previous-before in let b = block p in
+    let u = both g.After-unlink_if_gap-2 b (before p) (half g.After-unlink_if_gap b (behind p)) in
+    r_use c.args.touches.now.gaps.now.window c.args.at c.requires.heap b
+    c.unlink_if_gap-2.new.touches.gaps.now.window u.tree
+    u.rest c.blacken.new.self.gaps.now.window c.blacken.ensures.tags c.blacken.ensures.frame
+
+pub set_use-requires-clause-no_overflow : goal.set_use-requires-clause-no_overflow
+set_use-requires-clause-no_overflow c =
+    let g = goal.at.set_use-requires-clause-no_overflow c in let p = g.After-previous-before in let b = block p in
+    let steps = (both g.After-unlink_if_gap-2 b (before p) (half g.After-unlink_if_gap b (behind p))).steps in
+    let start = c.requires.no_overflow in let few =
+    few_steps c.args.touches.now.gaps.now.window c.args.at c.requires.heap
+    b in let n1 = c.blacken.ensures.steps_exact in omega arith
+
+pub coalesce_next-requires-clause-tile : goal.coalesce_next-requires-clause-tile
+coalesce_next-requires-clause-tile c =
+    let g = goal.at.coalesce_next-requires-clause-tile c in let p = g.After-previous-before in let b = block p in
+    let u = both g.After-unlink_if_gap-2 b (before p) (half g.After-unlink_if_gap b (behind p)) in
+    r_stands2 c.args.touches.now.gaps.now.window c.args.at c.requires.heap b
+    c.unlink_if_gap-2.new.touches.gaps.now.window
+    u.tree u.rest c.blacken.new.self.gaps.now.window c.blacken.ensures.tags c.blacken.ensures.frame
+    c.set_use.new.self.gaps.now.window c.set_use.ensures.tags c.set_use.ensures.frame
+
+pub coalesce_next-requires-clause-no_overflow : goal.coalesce_next-requires-clause-no_overflow
+coalesce_next-requires-clause-no_overflow c =
+    let g = goal.at.coalesce_next-requires-clause-no_overflow c in let p = g.After-previous-before in let b = block p in
+    let steps = (both g.After-unlink_if_gap-2 b (before p) (half g.After-unlink_if_gap b (behind p))).steps in
+    let start = c.requires.no_overflow in let few =
+    few_steps c.args.touches.now.gaps.now.window c.args.at c.requires.heap
+    b in let n1 = c.blacken.ensures.steps_exact in let n2 = c.set_use.ensures.steps_exact in omega arith
+
+pub coalesce_previous-requires-clause-tile : goal.coalesce_previous-requires-clause-tile
+coalesce_previous-requires-clause-tile c =
+    let g = goal.at.coalesce_previous-requires-clause-tile c in let p = g.After-previous-before in let b = block p in
+    let u = both g.After-unlink_if_gap-2 b (before p) (half g.After-unlink_if_gap b (behind p)) in
+    r_stands3 c.args.touches.now.gaps.now.window c.args.at c.requires.heap b
+    c.unlink_if_gap-2.new.touches.gaps.now.window
+    u.tree u.rest c.blacken.new.self.gaps.now.window c.blacken.ensures.tags c.blacken.ensures.frame
+    c.set_use.new.self.gaps.now.window c.set_use.ensures.tags c.set_use.ensures.frame
+    c.coalesce_next.new.touches.gaps.now.window c.coalesce_next.ensures.tags c.coalesce_next.ensures.frame
+
+pub coalesce_previous-requires-clause-no_overflow : goal.coalesce_previous-requires-clause-no_overflow
+coalesce_previous-requires-clause-no_overflow c =
+    let g = goal.at.coalesce_previous-requires-clause-no_overflow c in let p = g.After-previous-before in let b =
+    block p in
+    let steps = (both g.After-unlink_if_gap-2 b (before p) (half g.After-unlink_if_gap b (behind p))).steps in
+    let start = c.requires.no_overflow in let few =
+    few_steps c.args.touches.now.gaps.now.window c.args.at c.requires.heap b in
+    let n1 = c.blacken.ensures.steps_exact in let n2 = c.set_use.ensures.steps_exact in
+    let n3 = c.coalesce_next.ensures.steps_exact in omega arith
+
+-- the block has become a gap with them
+freed : (c : After-join_before) (b : Block c.args.touches.now.gaps.now.window (c.args.at + 16))
+    → Uprooted c.args.touches.now.gaps.now.window c.args.at c.requires.heap b
+    c.unlink_if_gap-2.new.touches.gaps.now.window
+    c.args.touches.now.count c.unlink_if_gap-2.new.touches.count
+    → GivenBack c.args.touches.now.gaps.now.window c.coalesce_previous.new.touches.gaps.now.window c.args.at
+    (start_of (last_in b.front) c.args.at)
+freed c b u =
+    given_back c.args.touches.now.gaps.now.window c.args.at c.requires.heap b
+    c.unlink_if_gap-2.new.touches.gaps.now.window
+    u.tree u.rest c.blacken.new.self.gaps.now.window c.blacken.ensures.tags c.blacken.ensures.frame
+    c.set_use.new.self.gaps.now.window c.set_use.ensures.tags c.set_use.ensures.frame
+    c.coalesce_next.new.touches.gaps.now.window c.coalesce_next.ensures.tags c.coalesce_next.ensures.frame
+    c.coalesce_previous.new.touches.gaps.now.window c.coalesce_previous.ensures.tags c.coalesce_previous.ensures.frame
+
+counted : (c : After-join_before) (b : Block c.args.touches.now.gaps.now.window (c.args.at + 16))
+    → Uprooted c.args.touches.now.gaps.now.window c.args.at c.requires.heap b
+    c.unlink_if_gap-2.new.touches.gaps.now.window
+    c.args.touches.now.count c.unlink_if_gap-2.new.touches.count
+    → c.coalesce_previous.new.touches.count ≤ c.args.touches.now.count + 64
+    * bits (length (gaps_in c.args.touches.now.gaps.now.window) + 1) + 75
+counted c b u =
+    omega arith
+
+pub overflow_add-start : goal.overflow_add-start
+overflow_add-start c =
+    let g = goal.at.overflow_add-start c in let p = g.After-previous-before in let b = block p in
+    let small = (freed g.After-coalesce_previous b
+    (both g.After-unlink_if_gap-2 b (before p) (half g.After-unlink_if_gap b (behind p)))).small in
+    let is : c.start.result ≡ start_of (last_in b.front) c.args.at = c.start.ensures
+    ∙ ap (λ (o : Option Tile). start_of o c.args.at) (before p) in omega arith
+
+pub link_gap-requires-clause-tree : goal.link_gap-requires-clause-tree
+link_gap-requires-clause-tree c =
+    let g = goal.at.link_gap-requires-clause-tree c in let p = g.After-previous-before in let b = block p in
+    let f = freed g.After-coalesce_previous b
+    (both g.After-unlink_if_gap-2 b (before p) (half g.After-unlink_if_gap b (behind p))) in
+    let is = c.start.ensures ∙ ap (λ (o : Option Tile). start_of o c.args.at) (before p) in
+    (f.front, f.gap, f.back, ap (λ k. k + 16) is ∙ f.node, f.lacks)
+
+pub link_gap-requires-clause-no_overflow : goal.link_gap-requires-clause-no_overflow
+link_gap-requires-clause-no_overflow c =
+    let g = goal.at.link_gap-requires-clause-no_overflow c in let p = g.After-previous-before in let b = block p in
+    let steps = counted g.After-coalesce_previous b
+    (both g.After-unlink_if_gap-2 b (before p) (half g.After-unlink_if_gap b (behind p))) in
+    let start = c.requires.no_overflow in let few = few_steps c.args.touches.now.gaps.now.window c.args.at
+    c.requires.heap b in omega arith
+
+pub returns-clause-released : goal.returns-clause-released
+returns-clause-released c =
+    let g = goal.at.returns-clause-released c in let p = g.After-previous-before in let b = block p in
+    let f = freed g.After-coalesce_previous b
+    (both g.After-unlink_if_gap-2 b (before p) (half g.After-unlink_if_gap b (behind p))) in
+    let node = ap (λ k. k + 16)
+    (c.start.ensures ∙ ap (λ (o : Option Tile). start_of o c.args.at) (before p)) ∙ f.node in
+    f.released c.link_gap.new.self.gaps.now.window (c.link_gap.ensures.tree f.front f.gap f.back node f.lacks)
+    c.link_gap.ensures.frame
+
+pub returns-clause-steps : goal.returns-clause-steps
+returns-clause-steps c =
+    let g = goal.at.returns-clause-steps c in let p = g.After-previous-before in let b = block p in
+    let w = c.args.touches.now.gaps.now.window in
+    let u = both g.After-unlink_if_gap-2 b (before p) (half g.After-unlink_if_gap b (behind p)) in
+    let f = freed g.After-coalesce_previous b u in let steps = counted g.After-coalesce_previous b u in
+    let node = ap (λ k. k + 16)
+    (c.start.ensures ∙ ap (λ (o : Option Tile). start_of o c.args.at) (before p)) ∙ f.node in
+    let last = c.link_gap.ensures.steps f.front f.gap f.back node f.lacks in let few = f.few in
+    let fewer = bits-le (length (f.front ++ f.back) + 1) (length (gaps_in w) + 1) (omega arith) in
+    omega arith

@@ -1,0 +1,12 @@
+-- The links of the gaps among the tiles that are passed are null, and nothing else has changed.
+use Rattle.best_fit.proofs.Common.{length}
+use Rattle.best_fit.proofs.Rebuilt.{Cleared}
+use Rattle.best_fit.proofs.Turns.{Walk}
+use Rattle.best_fit.proofs.Walks.{to_go}
+use Rattle.best_fit.proofs.heap.free_tree_build.clear_gaps.Given as goal
+
+abbrev pub invariant-tiles : goal.invariant-tiles
+invariant-tiles l = Walk l.window (Cleared l.initial.window l.window) l.ahead
+
+abbrev pub decreases-tiles : goal.decreases-tiles
+decreases-tiles l = to_go (length l.initial.window.bytes) l.ahead

@@ -1,0 +1,17 @@
+-- The link stands where the node begins.
+use Rattle.best_fit.proofs.Common.{sym, ap, ◌∙◌, arith, Cell, cells_at, is_gap_node-GapNode}
+use Rattle.best_fit.proofs.GapFacts.{node_at}
+use Rattle.best_fit.proofs.heap.nodes.GapTreeNodes.left.Goals as goal
+
+pub load-requires-clause-aligned : goal.load-requires-clause-aligned
+load-requires-clause-aligned c = let w = c.args.self.now.window in
+    let d = node_at w c.args.node (is_gap_node-GapNode w c.args.node c.requires) in let whole = d.whole in omega arith
+
+pub load-requires-clause-in_bounds : goal.load-requires-clause-in_bounds
+load-requires-clause-in_bounds c = let w = c.args.self.now.window in
+    let d = node_at w c.args.node (is_gap_node-GapNode w c.args.node c.requires) in let long = d.long in
+    let ends = d.ends in omega arith
+
+pub returns : goal.returns
+returns c = let w = c.args.self.now.window in c.load.ensures
+    ∙ ap (λ (x : Cell). x.left) (sym (cells_at w c.args.node c.requires))

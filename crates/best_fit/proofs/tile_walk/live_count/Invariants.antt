@@ -1,0 +1,10 @@
+-- The blocks that are counted and those among the tiles that are left are all.
+use Rattle.best_fit.proofs.Common.{length}
+use Rattle.best_fit.proofs.Walks.{Left, StillLive, to_go}
+use Rattle.best_fit.proofs.tile_walk.live_count.Given as goal
+
+abbrev pub invariant-tiles : goal.invariant-tiles
+invariant-tiles l = Left l.window l.ahead (StillLive l.window l.count)
+
+abbrev pub decreases-tiles : goal.decreases-tiles
+decreases-tiles l = to_go (length l.window.bytes) l.ahead

@@ -1,0 +1,25 @@
+-- Handles of blocks in use that are known.
+use Rattle.std.specs.Prelude.{◌≡◌, ℕ, ◌/◌, ◌%◌, ◌^◌, ◌<◌, List, IsTrue, slice_index}
+use Rattle.raw_region.specs.Format.{current}
+use Rattle.best_fit.specs.declared.block_hints.BlockHints.{BlockHints}
+use Rattle.best_fit.specs.Heap.{IsHeap, is_live_in, live_of}
+
+-- the piece in which an offset lies, where pieces have 2 ^ piece bytes
+abbrev pub place_of : ℕ → ℕ → ℕ
+place_of piece offset = offset / 2 ^ (piece % 64)
+
+-- the handle stands in the place of its piece
+abbrev pub IsHinted : BlockHints → ℕ → Type 0
+IsHinted p h = (0 < h) × (slice_index p.handles (place_of p.piece h) ≡ h)
+
+abbrev pub AreNone : BlockHints → Type 0
+AreNone p = (h : ℕ) → IsHinted p h → ⊥
+
+-- each is the handle of a block in use
+abbrev pub LeadToBlocks : BlockHints → List ℕ → Type 0
+LeadToBlocks p b = (h : ℕ) → IsHinted p h → IsTrue (is_live_in (live_of b) h)
+
+-- the bytes of a heap, with way-points that lead to its blocks
+pub record IsHintedHeap (b : List ℕ) (p : BlockHints) : Type 0 where
+  pub heap : IsHeap current b
+  pub points : LeadToBlocks p b

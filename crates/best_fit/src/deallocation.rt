@@ -1,0 +1,126 @@
+//! A block that is given back, and gaps that are joined.
+ghost use Rattle.std.specs.Prelude.{◌≡◌, ℕ, ◌+◌, ◌*◌, ◌^◌, ◌<◌, ◌≤◌, List, ◌++◌, IsTrue, length};
+ghost use Rattle.block_tags.specs.declared.tile.Tile.{Tile as ATile};
+ghost use Rattle.raw_region.specs.Format.{current};
+ghost use Rattle.block_tags.specs.Windows.{HasTileAt, SameExceptTags, EncodesTiles};
+ghost use Rattle.link_tree.specs.Tree.{bits};
+ghost use Rattle.best_fit.specs.Extents.{Gap};
+ghost use Rattle.best_fit.specs.GapNodes.{gaps_in};
+ghost use Rattle.best_fit.specs.GapTrees.{HasGapTree, Regrown, gap_offset, offset_of, start_of};
+ghost use Rattle.best_fit.specs.Heap.{IsHeap, Deallocates, is_live_in, live_of};
+ghost use Rattle.best_fit.specs.Tiling.{free_behind, joined_before, joined_free_at};
+
+use crate::heap::touch_counter::TouchCounter;
+use block_tags::{TAG_LEN, Tile};
+
+/// Gives back the block whose tag begins at `at`: it becomes one gap with those before and behind it, which leave the
+/// tree.
+pub fn release(touches: &mut TouchCounter, at: u64)
+    requires heap { IsHeap current touches.old.gaps.now.window.bytes }
+    requires live { IsTrue (is_live_in (live_of touches.old.gaps.now.window.bytes) (at + TAG)) }
+    requires no_overflow { touches.old.count < 2 ^ 60 }
+    ensures released { Deallocates current touches.old.gaps.now.window touches.new.gaps.now.window (at + TAG) }
+    ensures steps { touches.new.count
+        ≤ touches.old.count + 96 * bits (length (gaps_in touches.old.gaps.now.window) + 1) + 108 }
+    ensures steps_lower { touches.old.count < touches.new.count }
+    ensures same_borrow { touches.new.gaps.ghost_name ≡ touches.old.gaps.ghost_name }
+{
+    let behind = touches.next(at);
+    let before = touches.previous(at);
+    unlink_if_gap(touches, gap_at(behind));
+    unlink_if_gap(touches, gap_at(before));
+    touches.blacken(at);
+    touches.set_use(at, None);
+    coalesce_next(touches, at);
+    coalesce_previous(touches, at);
+    touches.link_gap(start(before, at) + TAG_LEN);
+}
+
+/// Takes the gap at an offset out of the tree, where there is one.
+pub fn unlink_if_gap(touches: &mut TouchCounter, gap: Option<u64>)
+    requires tree { (xs gs ys : List Gap) × (gap ≡ offset_of gs) × (length gs ≤ 1)
+        × HasGapTree touches.old.gaps.now.window (xs ++ (gs ++ ys)) }
+    requires no_overflow { touches.old.count < 2 ^ 63 }
+    ensures tree { (xs gs ys : List Gap) → gap ≡ offset_of gs → length gs ≤ 1
+        → HasGapTree touches.old.gaps.now.window (xs ++ (gs ++ ys))
+        → HasGapTree touches.new.gaps.now.window (xs ++ ys) }
+    ensures frame { Regrown touches.old.gaps.now.window touches.new.gaps.now.window }
+    ensures steps { (hs : List Gap) → HasGapTree touches.old.gaps.now.window hs
+        → touches.new.count ≤ touches.old.count + 32 * bits (length hs + 1) + 33 }
+    ensures steps_lower { touches.old.count ≤ touches.new.count }
+    ensures same_borrow { touches.new.gaps.ghost_name ≡ touches.old.gaps.ghost_name }
+{
+    if let Some(at) = gap {
+        touches.unlink_gap(at + TAG_LEN);
+    }
+}
+
+/// Where a tile begins, if there is one and it is free.
+pub fn gap_at(tile: Option<Tile>) -> Option<u64>
+    ensures { result ≡ gap_offset tile }
+{
+    match tile {
+        Some(tile) if tile.use_of.is_none() => Some(tile.offset),
+        _ => None,
+    }
+}
+
+/// Where the tile at `at` begins with the one before it, where that is free.
+fn start(before: Option<Tile>, at: u64) -> u64
+    ensures { result ≡ start_of before at }
+{
+    match before {
+        Some(tile) if tile.use_of.is_none() => tile.offset,
+        _ => at,
+    }
+}
+
+/// Joins the tile at `at` with the one behind it, where there is one and it is free.
+pub fn coalesce_next(touches: &mut TouchCounter, at: u64)
+    requires tile { HasTileAt touches.old.gaps.now.window at }
+    requires no_overflow { touches.old.count + 2 < 2 ^ 64 }
+    ensures tags { (ts : List ATile) → EncodesTiles touches.old.gaps.now.window ts
+        → EncodesTiles touches.new.gaps.now.window (joined_free_at at ts) }
+    ensures frame { (ts : List ATile) → EncodesTiles touches.old.gaps.now.window ts
+        → SameExceptTags touches.old.gaps.now.window touches.new.gaps.now.window ts (joined_free_at at ts) }
+    ensures steps_exact { touches.new.count ≤ touches.old.count + 2 }
+    ensures steps_lower { touches.old.count ≤ touches.new.count }
+    ensures same_borrow { touches.new.gaps.ghost_name ≡ touches.old.gaps.ghost_name }
+{
+    if next_gap_len(touches, at) > 0 {
+        touches.merge_next(at);
+    }
+}
+
+/// The length of the gap behind the tile at `at`, or 0 where there is none.
+pub fn next_gap_len(touches: &mut TouchCounter, at: u64) -> u64
+    requires tile { HasTileAt touches.old.gaps.now.window at }
+    requires no_overflow { touches.old.count + 1 < 2 ^ 64 }
+    ensures len { (ts : List ATile) → EncodesTiles touches.old.gaps.now.window ts → result ≡ free_behind at ts }
+    ensures gaps { touches.new.gaps.now ≡ touches.old.gaps.now }
+    ensures steps_exact { touches.new.count ≡ touches.old.count + 1 }
+    ensures same_borrow { touches.new.gaps.ghost_name ≡ touches.old.gaps.ghost_name }
+{
+    match touches.next(at) {
+        Some(tile) if tile.use_of.is_none() => tile.len,
+        _ => 0,
+    }
+}
+
+/// Joins the free tile at `at` with the one before it, where there is one and it is free.
+fn coalesce_previous(touches: &mut TouchCounter, at: u64)
+    requires tile { HasTileAt touches.old.gaps.now.window at }
+    requires no_overflow { touches.old.count + 3 < 2 ^ 64 }
+    ensures tags { (ts : List ATile) → EncodesTiles touches.old.gaps.now.window ts
+        → EncodesTiles touches.new.gaps.now.window (joined_before at ts) }
+    ensures frame { (ts : List ATile) → EncodesTiles touches.old.gaps.now.window ts
+        → SameExceptTags touches.old.gaps.now.window touches.new.gaps.now.window ts (joined_before at ts) }
+    ensures steps_exact { touches.new.count ≤ touches.old.count + 3 }
+    ensures steps_lower { touches.old.count ≤ touches.new.count }
+    ensures same_borrow { touches.new.gaps.ghost_name ≡ touches.old.gaps.ghost_name }
+{
+    match touches.previous(at) {
+        Some(tile) if tile.use_of.is_none() => coalesce_next(touches, tile.offset),
+        _ => {}
+    }
+}

@@ -1,0 +1,104 @@
+//! A tree of the gaps that is written anew, over a window whose tags are good.
+ghost use Rattle.std.specs.Prelude.{◌≡◌, ◌+◌, ◌%◌, ◌≤◌, IsTrue, List, [], ◌∷◌, ◌++◌, length, None};
+ghost use Rattle.raw_region.specs.Format.{current};
+ghost use Rattle.raw_region.specs.Memory.{AreBytes, SameBytesExcept, SameSurroundings, bytes_of};
+ghost use Rattle.block_tags.specs.Format.{is_legal_size};
+ghost use Rattle.block_tags.specs.Tiles.{has_tags};
+ghost use Rattle.offset_link.specs.Link.{link_at};
+ghost use Rattle.best_fit.specs.Extents.{Gap};
+ghost use Rattle.best_fit.specs.GapNodes.{gaps_in};
+ghost use Rattle.best_fit.specs.GapTrees.{HasGapTree, Regrown, node_of};
+ghost use Rattle.best_fit.specs.Rebuilding.{IsNextGap, RebuildsFreeTree};
+
+use crate::heap::Heap;
+use crate::heap::nodes::{FREE_TREE_ROOT, GapTree, RIGHT_LINK, set_link};
+use crate::tile_walk;
+use block_tags::{TAG_LEN, first, next};
+use link_tree::insert;
+use offset_link::load;
+use raw_region::{Window, hold_bytes};
+
+impl Heap {
+    /// The heap of a window that has blocks and gaps, and no tree of the gaps: the tree is written into the gaps, and
+    /// the link to it into the word at 24. The window has a legal size and good tags, and no gap is red. What the word
+    /// at 24 and the links of the gaps held is lost, and all else stays.
+    pub fn rebuild(window: Window) -> Heap
+        requires size { IsTrue (is_legal_size (length window.bytes)) }
+        requires tags { IsTrue (has_tags 0 (bytes_of window.bytes) (length window.bytes)) }
+        ensures { RebuildsFreeTree current window result }
+    {
+        let mut gaps = GapTree { window };
+        hold_window(&gaps.window);
+        clear_gaps(&mut gaps.window);
+        plant_gaps(&mut gaps);
+        hold_window(&gaps.window);
+        let points = tile_walk::way_points(&gaps.window);
+        Heap { gaps, points }
+    }
+}
+
+/// Makes both links of each gap null, and the tree empty.
+fn clear_gaps(window: &mut Window)
+    requires size { IsTrue (is_legal_size (length window.old.bytes)) }
+    requires tags { IsTrue (has_tags current (bytes_of window.old.bytes) (length window.old.bytes)) }
+    ensures tree { HasGapTree window.new [] }
+    ensures frame { Regrown window.old window.new }
+{
+    let mut ahead = first(window);
+    'tiles: while let Some(tile) = ahead {
+        if tile.use_of.is_none() {
+            clear(window, tile.offset + TAG_LEN);
+        }
+        ahead = next(window, tile.offset);
+    }
+    set_link(window, FREE_TREE_ROOT, None);
+}
+
+/// Makes the links at `node` and behind it null.
+fn clear(window: &mut Window, node: u64)
+    requires aligned { node % 8 ≡ 0 }
+    requires max_size { node ≤ 1073741824 }
+    requires in_bounds { node + 16 ≤ length window.old.bytes }
+    ensures remainder { link_at (bytes_of window.new.bytes) node ≡ None }
+    ensures right { link_at (bytes_of window.new.bytes) (node + 8) ≡ None }
+    ensures size { length window.new.bytes ≡ length window.old.bytes }
+    ensures place { SameSurroundings window.old window.new }
+    ensures frame { SameBytesExcept (bytes_of window.old.bytes) (bytes_of window.new.bytes) node 16 }
+{
+    set_link(window, node, None);
+    set_link(window, node + RIGHT_LINK, None);
+}
+
+/// Puts all gaps into the tree, which is empty, one after the other.
+fn plant_gaps(gaps: &mut GapTree)
+    requires { HasGapTree gaps.old.window [] }
+    ensures tree { HasGapTree gaps.new.window (gaps_in gaps.new.window) }
+    ensures frame { Regrown gaps.old.window gaps.new.window }
+{
+    let mut ahead = first(&gaps.window);
+    'tiles: while let Some(tile) = ahead {
+        if tile.use_of.is_none() {
+            plant(gaps, tile.offset + TAG_LEN);
+        }
+        ahead = next(&gaps.window, tile.offset);
+    }
+}
+
+/// Puts the first gap into the tree that stands behind all those of the tree.
+fn plant(gaps: &mut GapTree, node: u64)
+    requires { (xs : List Gap) × (g : Gap) × (node ≡ node_of g) × IsNextGap gaps.old.window xs g }
+    ensures tree { (xs : List Gap) (g : Gap) → node ≡ node_of g → IsNextGap gaps.old.window xs g
+        → HasGapTree gaps.new.window (xs ++ g ∷ []) }
+    ensures frame { Regrown gaps.old.window gaps.new.window }
+{
+    let root = load(&gaps.window, FREE_TREE_ROOT);
+    let changed = insert(gaps, root, node);
+    set_link(&mut gaps.window, FREE_TREE_ROOT, changed.root);
+}
+
+/// Each byte of a window is below 256. Nothing is done.
+fn hold_window(window: &Window)
+    ensures { AreBytes window.now.bytes }
+{
+    hold_bytes(window.bytes(0, window.size()));
+}

@@ -1,0 +1,341 @@
+//! How the calls of a heap whose touches are bounded reach its tiles and the tree of its gaps: each touch is counted.
+ghost use Rattle.std.specs.Prelude.{◌≡◌, ℕ, ◌+◌, ◌*◌, ◌%◌, ◌^◌, ◌<◌, ◌≤◌, true, ◌-◌, Option, Some, List, ◌∷◌, ◌++◌};
+ghost use Rattle.std.specs.Prelude.{length, filter, option_map, false};
+ghost use Rattle.raw_region.specs.Memory.{cut_at, whole};
+ghost use Rattle.block_tags.specs.declared.tile.Role.{Role as ARole};
+ghost use Rattle.block_tags.specs.declared.tile.Tile.{Tile as ATile};
+ghost use Rattle.block_tags.specs.Lists.{joined_at, last_in, next_in, previous_in, split_at, tile_in, with_free};
+ghost use Rattle.block_tags.specs.Lists.{with_red_at, with_use_at, without_last};
+ghost use Rattle.block_tags.specs.Windows.{CanAppend, CanSplit, FrontSaysTiles, HasFreeLast, HasFreeNext, HasTileAt};
+ghost use Rattle.block_tags.specs.Windows.{IsTiledWindow, MayBeUsed, MayHaveColour, SameExceptTags, EncodesTiles};
+ghost use Rattle.link_tree.specs.Tree.{bits};
+ghost use Rattle.link_tree.specs.Nodes.{is_in};
+ghost use Rattle.link_tree.specs.Searching.{path_length};
+ghost use Rattle.best_fit.specs.Extents.{Gap};
+ghost use Rattle.best_fit.specs.Fit.{least};
+ghost use Rattle.best_fit.specs.FreeTree.{payloads};
+ghost use Rattle.best_fit.specs.GapNodes.{from_first, gaps_in, is_gap_node, kept_of, stands_before};
+ghost use Rattle.best_fit.specs.GapTrees.{HasGapTree, LacksOne, MayBegin, Regrown, is_long, node_of, root_of_gaps};
+
+use crate::heap::nodes::{FREE_TREE_ROOT, GapProbe, GapTree, RIGHT_LINK, set_link};
+use block_tags::{Role, TAG_LEN, Tile};
+use link_tree::{RemovePoint, find_first_not_before, find_remove_point, insert, remove_at};
+use offset_link::load;
+
+/// The gaps of a heap's window, and how often they were touched: by a step of their tree, or by a call on one tile.
+#[derive(Drop)]
+pub struct TouchCounter<'a> {
+    gaps: &'a mut GapTree,
+    count: u64,
+}
+
+impl<'a> TouchCounter<'a> {
+    pub fn new(gaps: &'a mut GapTree) -> TouchCounter<'a>
+        ensures same_borrow { result.gaps.ghost_name ≡ gaps.entry.ghost_name }
+        ensures gaps { result.gaps.now ≡ gaps.old }
+        ensures count { result.count ≡ 0 }
+    {
+        TouchCounter { gaps, count: 0 }
+    }
+
+    pub fn count(&self) -> u64
+        ensures { result ≡ self.now.count }
+    {
+        self.count
+    }
+
+    /// The payload of the first gap of the tree that has at least `wanted` bytes.
+    pub fn find_best_fit(&mut self, wanted: u64) -> Option<u64>
+        requires tree { (hs : List Gap) × HasGapTree self.old.gaps.now.window hs }
+        requires no_overflow { self.old.count < 2 ^ 63 }
+        ensures first { (hs : List Gap) → HasGapTree self.old.gaps.now.window hs
+            → result ≡ option_map node_of (least (filter (is_long wanted) hs)) }
+        ensures steps_lower { self.old.count ≤ self.new.count }
+        ensures steps { (hs : List Gap) → HasGapTree self.old.gaps.now.window hs
+            → self.new.count ≤ self.old.count + 2 * bits (length hs + 1) }
+        ensures steps_exact { (hs : List Gap) (h : HasGapTree self.old.gaps.now.window hs)
+            → self.new.count ≡ self.old.count
+            + path_length (stands_before (gaps_in self.old.gaps.now.window) (from_first wanted)) h.tree.tree }
+        ensures gaps { self.new.gaps.now ≡ self.old.gaps.now }
+        ensures same_borrow { self.new.gaps.ghost_name ≡ self.old.gaps.ghost_name }
+    {
+        let root = load(&self.gaps.window, FREE_TREE_ROOT);
+        let sought = GapProbe {
+            len: wanted,
+            from: 0,
+        };
+        let found = find_first_not_before(&*self.gaps, root, &sought);
+        self.count += found.steps;
+        found.node
+    }
+
+    /// Takes a gap out of the tree.
+    #[inline(always)]
+    pub fn unlink_gap(&mut self, node: u64)
+        requires tree { (hs : List Gap) × HasGapTree self.old.gaps.now.window hs × (is_in node (payloads hs) ≡ true) }
+        requires no_overflow { self.old.count < 2 ^ 63 }
+        ensures tree { (xs : List Gap) (g : Gap) (ys : List Gap) → node ≡ node_of g
+            → HasGapTree self.old.gaps.now.window (xs ++ g ∷ ys) → HasGapTree self.new.gaps.now.window (xs ++ ys) }
+        ensures frame { Regrown self.old.gaps.now.window self.new.gaps.now.window }
+        ensures steps_lower { self.old.count < self.new.count }
+        ensures steps { (hs : List Gap) → HasGapTree self.old.gaps.now.window hs
+            → self.new.count ≤ self.old.count + 32 * bits (length hs + 1) + 33 }
+        ensures same_borrow { self.new.gaps.ghost_name ≡ self.old.gaps.ghost_name }
+    {
+        let root = load(&self.gaps.window, FREE_TREE_ROOT);
+        // The root is there without a search, as where there is one gap.
+        if root == Some(node) {
+            self.take_out_at(root, None, node);
+        } else {
+            self.take_out_below(root, node);
+        }
+    }
+
+    /// The same of a gap that is looked for first.
+    #[inline(never)]
+    fn take_out_below(&mut self, root: Option<u64>, node: u64)
+        requires root { root ≡ root_of_gaps self.old.gaps.now.window }
+        requires tree { (hs : List Gap) × HasGapTree self.old.gaps.now.window hs × (is_in node (payloads hs) ≡ true) }
+        requires no_overflow { self.old.count < 2 ^ 63 }
+        ensures tree { (xs : List Gap) (g : Gap) (ys : List Gap) → node ≡ node_of g
+            → HasGapTree self.old.gaps.now.window (xs ++ g ∷ ys) → HasGapTree self.new.gaps.now.window (xs ++ ys) }
+        ensures frame { Regrown self.old.gaps.now.window self.new.gaps.now.window }
+        ensures steps_lower { self.old.count < self.new.count }
+        ensures steps { (hs : List Gap) → HasGapTree self.old.gaps.now.window hs
+            → self.new.count ≤ self.old.count + 32 * bits (length hs + 1) + 33 }
+        ensures same_borrow { self.new.gaps.ghost_name ≡ self.old.gaps.ghost_name }
+    {
+        let way = way_out(&*self.gaps, root, node);
+        // One more than the search, for the look at the gap's own tag.
+        self.count += way.steps + 1;
+        self.take_out_at(root, way.exit, node);
+    }
+
+    /// The same from the root on, or from where a search has found that the removal begins.
+    #[inline(always)]
+    fn take_out_at(&mut self, root: Option<u64>, exit: Option<u64>, node: u64)
+        requires root { root ≡ root_of_gaps self.old.gaps.now.window }
+        requires tree { (hs : List Gap) × HasGapTree self.old.gaps.now.window hs × (is_in node (payloads hs) ≡ true) }
+        requires exit { MayBegin self.old.gaps.now.window node exit }
+        requires no_overflow { self.old.count + 2 ^ 12 < 2 ^ 64 }
+        ensures tree { (xs : List Gap) (g : Gap) (ys : List Gap) → node ≡ node_of g
+            → HasGapTree self.old.gaps.now.window (xs ++ g ∷ ys) → HasGapTree self.new.gaps.now.window (xs ++ ys) }
+        ensures frame { Regrown self.old.gaps.now.window self.new.gaps.now.window }
+        ensures steps_lower { self.old.count < self.new.count }
+        ensures steps { (hs : List Gap) → HasGapTree self.old.gaps.now.window hs
+            → self.new.count ≤ self.old.count + 30 * bits (length hs + 1) + 32 }
+        ensures same_borrow { self.new.gaps.ghost_name ≡ self.old.gaps.ghost_name }
+    {
+        let changed = remove_at(self.gaps, root, exit, node);
+        self.count += changed.steps;
+        set_link(&mut self.gaps.window, FREE_TREE_ROOT, changed.root);
+    }
+
+    /// Puts a gap into the tree, of which it is the only one that is not in it. Its links may be anything.
+    pub fn link_gap(&mut self, node: u64)
+        requires tree { (xs : List Gap) × (g : Gap) × (ys : List Gap) × (node ≡ node_of g)
+            × LacksOne self.old.gaps.now.window xs g ys }
+        requires no_overflow { self.old.count < 2 ^ 63 }
+        ensures tree { (xs : List Gap) (g : Gap) (ys : List Gap) → node ≡ node_of g
+            → LacksOne self.old.gaps.now.window xs g ys → HasGapTree self.new.gaps.now.window (xs ++ g ∷ ys) }
+        ensures frame { Regrown self.old.gaps.now.window self.new.gaps.now.window }
+        ensures steps_lower { self.old.count < self.new.count }
+        ensures steps { (xs : List Gap) (g : Gap) (ys : List Gap) → node ≡ node_of g
+            → LacksOne self.old.gaps.now.window xs g ys
+            → self.new.count ≤ self.old.count + 32 * bits (length (xs ++ ys) + 1) + 33 }
+        ensures same_borrow { self.new.gaps.ghost_name ≡ self.old.gaps.ghost_name }
+    {
+        self.count += 1;
+        clear_links(self.gaps, node);
+        let root = load(&self.gaps.window, FREE_TREE_ROOT);
+        let changed = insert(self.gaps, root, node);
+        self.count += changed.steps;
+        set_link(&mut self.gaps.window, FREE_TREE_ROOT, changed.root);
+    }
+
+    /// The tile that begins at the offset `at`.
+    pub fn tile_at(&mut self, at: u64) -> Tile
+        requires tile { HasTileAt self.old.gaps.now.window at }
+        requires no_overflow { self.old.count + 1 < 2 ^ 64 }
+        ensures tile { (ts : List ATile) → EncodesTiles self.old.gaps.now.window ts → tile_in ts at ≡ Some result }
+        ensures gaps { self.new.gaps.now ≡ self.old.gaps.now }
+        ensures steps_exact { self.new.count ≡ self.old.count + 1 }
+        ensures same_borrow { self.new.gaps.ghost_name ≡ self.old.gaps.ghost_name }
+    {
+        self.count += 1;
+        block_tags::tile_at(&self.gaps.window, at)
+    }
+
+    /// Cuts the tile at `at` in two, of which the second is free.
+    pub fn split(&mut self, at: u64, len: u64)
+        requires tile { CanSplit self.old.gaps.now.window at len }
+        requires no_overflow { self.old.count + 1 < 2 ^ 64 }
+        ensures tags { (ts : List ATile) → EncodesTiles self.old.gaps.now.window ts
+            → EncodesTiles self.new.gaps.now.window (split_at at len ts) }
+        ensures frame { (ts : List ATile) → EncodesTiles self.old.gaps.now.window ts
+            → SameExceptTags self.old.gaps.now.window self.new.gaps.now.window ts (split_at at len ts) }
+        ensures steps_exact { self.new.count ≡ self.old.count + 1 }
+        ensures same_borrow { self.new.gaps.ghost_name ≡ self.old.gaps.ghost_name }
+    {
+        self.count += 1;
+        block_tags::split(&mut self.gaps.window, at, len);
+    }
+
+    /// The tile behind the one at `at`.
+    pub fn next(&mut self, at: u64) -> Option<Tile>
+        requires tile { HasTileAt self.old.gaps.now.window at }
+        requires no_overflow { self.old.count + 1 < 2 ^ 64 }
+        ensures tile { (ts : List ATile) → EncodesTiles self.old.gaps.now.window ts → result ≡ next_in ts at }
+        ensures gaps { self.new.gaps.now ≡ self.old.gaps.now }
+        ensures steps_exact { self.new.count ≡ self.old.count + 1 }
+        ensures same_borrow { self.new.gaps.ghost_name ≡ self.old.gaps.ghost_name }
+    {
+        self.count += 1;
+        block_tags::next(&self.gaps.window, at)
+    }
+
+    /// The tile before the one at `at`.
+    pub fn previous(&mut self, at: u64) -> Option<Tile>
+        requires tile { HasTileAt self.old.gaps.now.window at }
+        requires no_overflow { self.old.count + 1 < 2 ^ 64 }
+        ensures tile { (ts : List ATile) → EncodesTiles self.old.gaps.now.window ts → result ≡ previous_in ts at }
+        ensures gaps { self.new.gaps.now ≡ self.old.gaps.now }
+        ensures steps_exact { self.new.count ≡ self.old.count + 1 }
+        ensures same_borrow { self.new.gaps.ghost_name ≡ self.old.gaps.ghost_name }
+    {
+        self.count += 1;
+        block_tags::previous(&self.gaps.window, at)
+    }
+
+    /// Joins the tile behind the one at `at`, which is free, to it.
+    pub fn merge_next(&mut self, at: u64)
+        requires tile { HasFreeNext self.old.gaps.now.window at }
+        requires no_overflow { self.old.count + 1 < 2 ^ 64 }
+        ensures tags { (ts : List ATile) → EncodesTiles self.old.gaps.now.window ts
+            → EncodesTiles self.new.gaps.now.window (joined_at at ts) }
+        ensures frame { (ts : List ATile) → EncodesTiles self.old.gaps.now.window ts
+            → SameExceptTags self.old.gaps.now.window self.new.gaps.now.window ts (joined_at at ts) }
+        ensures steps_exact { self.new.count ≡ self.old.count + 1 }
+        ensures same_borrow { self.new.gaps.ghost_name ≡ self.old.gaps.ghost_name }
+    {
+        self.count += 1;
+        block_tags::merge_next(&mut self.gaps.window, at);
+    }
+
+    /// Gives the tile at `at` another use, or none.
+    pub fn set_use(&mut self, at: u64, use_of: Option<Role>)
+        requires tile { MayBeUsed self.old.gaps.now.window at use_of }
+        requires no_overflow { self.old.count + 1 < 2 ^ 64 }
+        ensures tags { (ts : List ATile) → EncodesTiles self.old.gaps.now.window ts
+            → EncodesTiles self.new.gaps.now.window (with_use_at at use_of ts) }
+        ensures frame { (ts : List ATile) → EncodesTiles self.old.gaps.now.window ts
+            → SameExceptTags self.old.gaps.now.window self.new.gaps.now.window ts (with_use_at at use_of ts) }
+        ensures steps_exact { self.new.count ≡ self.old.count + 1 }
+        ensures same_borrow { self.new.gaps.ghost_name ≡ self.old.gaps.ghost_name }
+    {
+        self.count += 1;
+        block_tags::set_use(&mut self.gaps.window, at, use_of);
+    }
+
+    /// Makes the tile at `at` black.
+    pub fn blacken(&mut self, at: u64)
+        requires tile { MayHaveColour self.old.gaps.now.window at false }
+        requires no_overflow { self.old.count + 1 < 2 ^ 64 }
+        ensures tags { (ts : List ATile) → EncodesTiles self.old.gaps.now.window ts
+            → EncodesTiles self.new.gaps.now.window (with_red_at at false ts) }
+        ensures frame { (ts : List ATile) → EncodesTiles self.old.gaps.now.window ts
+            → SameExceptTags self.old.gaps.now.window self.new.gaps.now.window ts (with_red_at at false ts) }
+        ensures steps_exact { self.new.count ≡ self.old.count + 1 }
+        ensures same_borrow { self.new.gaps.ghost_name ≡ self.old.gaps.ghost_name }
+    {
+        self.count += 1;
+        block_tags::set_red(&mut self.gaps.window, at, false);
+    }
+
+    /// The number of bytes in the window.
+    pub fn size(&self) -> u64
+        ensures { result ≡ length self.now.gaps.now.window.bytes }
+    {
+        self.gaps.window.size()
+    }
+
+    /// Moves the window's end, to `size` bytes behind its base. No tile is touched.
+    pub fn resize(&mut self, size: u64)
+        requires in_bounds { length self.old.gaps.now.window.before + size ≤ length (whole self.old.gaps.now.window) }
+        ensures cut { self.new.gaps.now.window
+            ≡ cut_at (whole self.old.gaps.now.window) (length self.old.gaps.now.window.before) size }
+        ensures unchanged { self.new.count ≡ self.old.count }
+        ensures same_borrow { self.new.gaps.ghost_name ≡ self.old.gaps.ghost_name }
+    {
+        self.gaps.window.resize(size);
+    }
+
+    /// Adds a free tile where the tags fill the first `old_size` bytes of the window: it reaches to the window's end.
+    pub fn append_free(&mut self, old_size: u64)
+        requires fits { CanAppend self.old.gaps.now.window old_size }
+        requires no_overflow { self.old.count + 1 < 2 ^ 64 }
+        ensures tags { (ts : List ATile) → FrontSaysTiles self.old.gaps.now.window old_size ts
+            → EncodesTiles self.new.gaps.now.window
+            (with_free ts (old_size - TAG) (length self.old.gaps.now.window.bytes - TAG)) }
+        ensures frame { (ts : List ATile) → FrontSaysTiles self.old.gaps.now.window old_size ts
+            → SameExceptTags self.old.gaps.now.window self.new.gaps.now.window ts
+            (with_free ts (old_size - TAG) (length self.old.gaps.now.window.bytes - TAG)) }
+        ensures steps_exact { self.new.count ≡ self.old.count + 1 }
+        ensures same_borrow { self.new.gaps.ghost_name ≡ self.old.gaps.ghost_name }
+    {
+        self.count += 1;
+        block_tags::append_free(&mut self.gaps.window, old_size);
+    }
+
+    /// The last tile.
+    pub fn last(&mut self) -> Option<Tile>
+        requires tiles { IsTiledWindow self.old.gaps.now.window }
+        requires no_overflow { self.old.count + 1 < 2 ^ 64 }
+        ensures tile { (ts : List ATile) → EncodesTiles self.old.gaps.now.window ts → result ≡ last_in ts }
+        ensures gaps { self.new.gaps.now ≡ self.old.gaps.now }
+        ensures steps_exact { self.new.count ≡ self.old.count + 1 }
+        ensures same_borrow { self.new.gaps.ghost_name ≡ self.old.gaps.ghost_name }
+    {
+        self.count += 1;
+        block_tags::last(&self.gaps.window)
+    }
+
+    /// Takes away the last tile, which is free, and answers the number of bytes that the window needs for the others.
+    pub fn drop_last(&mut self) -> u64
+        requires tile { HasFreeLast self.old.gaps.now.window }
+        requires no_overflow { self.old.count + 1 < 2 ^ 64 }
+        ensures tags { (ts : List ATile) → EncodesTiles self.old.gaps.now.window ts
+            → FrontSaysTiles self.new.gaps.now.window result (without_last ts) }
+        ensures frame { (ts : List ATile) → EncodesTiles self.old.gaps.now.window ts
+            → SameExceptTags self.old.gaps.now.window self.new.gaps.now.window ts (without_last ts) }
+        ensures steps_exact { self.new.count ≡ self.old.count + 1 }
+        ensures same_borrow { self.new.gaps.ghost_name ≡ self.old.gaps.ghost_name }
+    {
+        self.count += 1;
+        block_tags::drop_last(&mut self.gaps.window)
+    }
+}
+
+/// Makes both links of a gap null.
+fn clear_links(gaps: &mut GapTree, node: u64)
+    requires gap { (xs : List Gap) × (g : Gap) × (ys : List Gap) × (node ≡ node_of g)
+        × LacksOne gaps.old.window xs g ys }
+    ensures tree { (xs : List Gap) (g : Gap) (ys : List Gap) → node ≡ node_of g → LacksOne gaps.old.window xs g ys
+        → HasGapTree gaps.new.window (xs ++ ys) }
+    ensures node { is_gap_node gaps.new.window node ≡ true }
+    ensures unchanged { kept_of gaps.new.window ≡ kept_of gaps.old.window }
+{
+    set_link(&mut gaps.window, node, None);
+    set_link(&mut gaps.window, node + RIGHT_LINK, None);
+}
+
+/// The way from the root to a gap of the tree: where its removal begins.
+fn way_out(gaps: &GapTree, root: Option<u64>, node: u64) -> RemovePoint
+    requires root { root ≡ root_of_gaps gaps.now.window }
+    requires tree { (hs : List Gap) × HasGapTree gaps.now.window hs × (is_in node (payloads hs) ≡ true) }
+    ensures exit { MayBegin gaps.now.window node result.exit }
+    ensures steps { (hs : List Gap) → HasGapTree gaps.now.window hs → result.steps ≤ 2 * bits (length hs + 1) }
+{
+    let len = block_tags::tile_at(&gaps.window, node - TAG_LEN).len;
+    find_remove_point(gaps, root, &GapProbe { len, from: node })
+}

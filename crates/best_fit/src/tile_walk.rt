@@ -1,0 +1,73 @@
+//! Walks over all tiles of a heap's window, from the header to the end tag.
+ghost use Rattle.std.specs.Prelude.{◌≡◌, length, slice_get};
+ghost use Rattle.raw_region.specs.Memory.{bytes_of};
+ghost use Rattle.raw_region.specs.Format.{current};
+ghost use Rattle.block_tags.specs.Tiles.{tiles_of};
+ghost use Rattle.best_fit.specs.Heap.{IsHeap, is_live_in, live_of};
+ghost use Rattle.best_fit.specs.BlockHints.{IsHintedHeap, LeadToBlocks};
+
+use crate::block_hints::BlockHints;
+use block_tags::{TAG_LEN, Tile, first, next, tile_at};
+use raw_region::Window;
+
+/// Whether a block in use has this handle. Any number may be asked for. The walk begins at the nearest way-point.
+pub fn is_live(window: &Window, points: &BlockHints, handle: u64) -> bool
+    requires { IsHintedHeap window.now.bytes points.now }
+    ensures { result ≡ is_live_in (live_of window.now.bytes) handle }
+{
+    let mut ahead = match points.nearest(handle) {
+        Some(known) => Some(tile_at(window, known - TAG_LEN)),
+        None => first(window),
+    };
+    'tiles: while let Some(tile) = ahead {
+        if tile.offset + TAG_LEN >= handle {
+            return tile.offset + TAG_LEN == handle && tile.use_of.is_some();
+        }
+        ahead = next(window, tile.offset);
+    }
+    false
+}
+
+/// The first block in use of each piece of a heap's window.
+pub fn way_points(window: &Window) -> BlockHints
+    requires { IsHeap current window.now.bytes }
+    ensures { LeadToBlocks result window.now.bytes }
+{
+    let mut points = BlockHints::none();
+    let mut ahead = first(window);
+    'tiles: while let Some(tile) = ahead {
+        if tile.use_of.is_some() {
+            points.insert(tile.offset + TAG_LEN);
+        }
+        ahead = next(window, tile.offset);
+    }
+    points
+}
+
+/// The number of blocks in use.
+pub fn live_count(window: &Window) -> u64
+    requires { IsHeap current window.now.bytes }
+    ensures { result ≡ length (live_of window.now.bytes).extents }
+{
+    let mut count = 0;
+    let mut ahead = first(window);
+    'tiles: while let Some(tile) = ahead {
+        if tile.use_of.is_some() {
+            count += 1;
+        }
+        ahead = next(window, tile.offset);
+    }
+    count
+}
+
+/// The tile with `index` tiles before it, or nothing where there are no more.
+pub fn tile(window: &Window, index: u64) -> Option<Tile>
+    requires { IsHeap current window.now.bytes }
+    ensures { result ≡ slice_get (tiles_of (bytes_of window.now.bytes) (length window.now.bytes)) index }
+{
+    let mut ahead = first(window);
+    'tiles: for _ in 0..index {
+        ahead = next(window, ahead?.offset);
+    }
+    ahead
+}

@@ -1,0 +1,14 @@
+use Rattle.std.proofs.Common.{arith}
+use Rattle.image_check.specs.FreeLaws.{is_place-PayloadBounds}
+use Rattle.image_check.proofs.image_window.places.PayloadTree.len_at.Goals as goal
+
+pub overflow_sub-node : goal.overflow_sub-node
+overflow_sub-node c = let low = (is_place-PayloadBounds c.args.self.now.window.now c.args.node c.requires).low
+    in omega arith
+
+pub read_u64-requires : goal.read_u64-requires
+read_u64-requires c =
+    let p = is_place-PayloadBounds c.args.self.now.window.now c.args.node c.requires in
+    let low = p.low in
+    let high = p.high in
+    omega arith

@@ -1,0 +1,22 @@
+use Rattle.std.proofs.Common.{arith, length}
+use Rattle.image_check.specs.FreeLaws.{is_place-PayloadBounds, small_size}
+use Rattle.image_check.proofs.FreePlaces.{right-is}
+use Rattle.image_check.proofs.image_window.places.PayloadTreeNodes.right.Goals as goal
+
+pub overflow_add-node : goal.overflow_add-node
+overflow_add-node c =
+    let p = is_place-PayloadBounds c.args.self.now.window.now c.args.node c.requires in
+    let high = p.high in
+    let small = small_size (length c.args.self.now.window.now.bytes) p.size in
+    omega arith
+
+pub placed_link-requires-clause-aligned : goal.placed_link-requires-clause-aligned
+placed_link-requires-clause-aligned c = let whole =
+    (is_place-PayloadBounds c.args.self.now.window.now c.args.node c.requires).whole in omega arith
+
+pub placed_link-requires-clause-in_bounds : goal.placed_link-requires-clause-in_bounds
+placed_link-requires-clause-in_bounds c = let high =
+    (is_place-PayloadBounds c.args.self.now.window.now c.args.node c.requires).high in omega arith
+
+pub returns : goal.returns
+returns c = right-is c.args.self.now.window.now c.args.node c.placed_link.result c.placed_link.ensures

@@ -1,0 +1,20 @@
+use Rattle.std.proofs.Common.{◌+◌, ◌*◌, ◌-◌, length}
+use Rattle.image_check.specs.Owners.{unspent_budget, entries_of}
+use Rattle.image_check.specs.Passes.{tiles_in}
+use Rattle.image_check.proofs.NotedTiles.{Noting}
+use Rattle.image_check.proofs.RowWalks.{RowWalks}
+use Rattle.image_check.proofs.shared_blocks.mark_values.Given as goal
+
+abbrev pub ghost-mark_object : goal.ghost-mark_object
+ghost-mark_object g a = g.said
+
+-- the values in the tiles that the walk has passed are noted
+abbrev pub invariant-rows : goal.invariant-rows
+invariant-rows g l = RowWalks l.window
+    (Noting g.said l.window.bytes l.initial.owners.blocks.entries
+    (6 * l.initial.owners.waiting + unspent_budget l.initial.owners.blocks.entries) l.initial.visits
+    l.owners.blocks.entries
+    l.owners.pending l.owners.waiting l.visits) l.number
+
+abbrev pub decreases-rows : goal.decreases-rows
+decreases-rows g l = length (entries_of (tiles_in l.window.bytes)) - l.number

@@ -1,7 +1,0 @@
-use Rattle.image_check.proofs.sharing.mark_array.Given as goal
-
-abbrev pub ghost-mark_storage : goal.ghost-mark_storage
-ghost-mark_storage g a = g.format
-
-abbrev pub ghost-mark_texts : goal.ghost-mark_texts
-ghost-mark_texts g a = g.format

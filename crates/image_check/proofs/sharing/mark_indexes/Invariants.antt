@@ -1,4 +1,0 @@
-use Rattle.image_check.proofs.sharing.mark_indexes.Given as goal
-
-abbrev pub ghost-mark_index : goal.ghost-mark_index
-ghost-mark_index g a = g.said

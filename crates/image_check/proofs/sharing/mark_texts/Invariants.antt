@@ -1,4 +1,0 @@
-use Rattle.image_check.proofs.sharing.mark_texts.Given as goal
-
-abbrev pub ghost-mark_elements : goal.ghost-mark_elements
-ghost-mark_elements g a = g.format

@@ -1,0 +1,9 @@
+use Rattle.std.proofs.Common.{sym, ap}
+use Rattle.raw_region.specs.Format.{current}
+use Rattle.image_check.specs.declared.versions.AcceptedVersions.{AcceptedVersions}
+use Rattle.image_check.specs.Formats.{is_taken}
+use Rattle.image_check.proofs.versions.AcceptedVersions.has.Goals as goal
+
+pub returns-in-Current : goal.returns-in-Current
+unfolding current
+returns-in-Current c = ap (λ (v : AcceptedVersions). is_taken v c.args.version) (sym c.in-Current.is)

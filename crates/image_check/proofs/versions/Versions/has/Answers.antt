@@ -1,9 +1,0 @@
-use Rattle.std.proofs.Common.{sym, ap}
-use Rattle.raw_region.specs.Format.{current}
-use Rattle.image_check.specs.declared.versions.Versions.{Versions}
-use Rattle.image_check.specs.Formats.{is_taken}
-use Rattle.image_check.proofs.versions.Versions.has.Goals as goal
-
-pub returns-in-Current : goal.returns-in-Current
-unfolding current
-returns-in-Current c = ap (λ (v : Versions). is_taken v c.args.version) (sym c.in-Current.is)

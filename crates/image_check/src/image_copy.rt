@@ -1,0 +1,106 @@
+//! The copying of an image that lies in memory into its place in a region, and the finding of one that stands there.
+ghost use Rattle.std.specs.Prelude.{◌≡◌, ◌+◌, ◌%◌, ◌<◌, ◌≤◌, length, IfErr, IfOk, MatchResult};
+ghost use Rattle.raw_region.specs.Format.{current};
+ghost use Rattle.image_check.specs.Causes.{IsShown, error_for, opened_as};
+ghost use Rattle.image_check.specs.Formats.{format_in};
+ghost use Rattle.image_check.specs.OpeningBytes.{FitsIn, IsMisfit, IsNotPlaced, as_given};
+ghost use Rattle.image_check.specs.Reading.{IsImageRead};
+ghost use Rattle.raw_region.specs.Memory.{part, whole};
+
+use crate::classes::ImageClass;
+use crate::errors::{ExamineError, ExamineRefused};
+use crate::header::{FRONT, LEAST, judge_front};
+use crate::image_window::ImageWindow;
+use crate::verdict::Verdict;
+use crate::versions::AcceptedVersions;
+use raw_region::{RawRegion, Window};
+
+/// Copies a whole image of one of these versions into the window of the region from `base` on that its first words say.
+///
+/// # Errors
+///
+/// As [`size_for`]. The region comes back as it was.
+pub fn copy_image(
+    versions: AcceptedVersions,
+    image: &[u8],
+    region: RawRegion,
+    base: u64,
+) -> Result<ImageWindow, ExamineRefused>
+    requires aligned { base % 16 ≡ 0 }
+    ensures placement { MatchResult result
+        (IsImageRead (format_in versions image.now) (as_given image.now) region base)
+        (λ refused. IsNotPlaced (format_in versions image.now) image.now region base (opened_as refused)) }
+    ensures output { IfErr result (λ refused. IsShown (format_in versions image.now) image.now refused.cause) }
+{
+    match size_for(versions, image, &region, base) {
+        Ok(size) => {
+            let mut window = Window::new(region, base, size);
+            window.write(0, image);
+            Ok(ImageWindow::new(window))
+        }
+        Err(cause) => Err(ExamineRefused { region, cause }),
+    }
+}
+
+/// The window of the region from `base` on that the first words of an image there say, which has `len` bytes. Nothing
+/// is written.
+///
+/// # Errors
+///
+/// As [`size_for`]. The region comes back as it was.
+pub fn find_image(region: RawRegion, base: u64, len: u64) -> Result<ImageWindow, ExamineRefused>
+    requires aligned { base % 16 ≡ 0 }
+    requires in_bounds { base + len ≤ length region }
+    ensures search { MatchResult result (IsImageRead current (as_given (part region base len)) region base)
+        (λ refused. IsNotPlaced current (part region base len) region base (opened_as refused)) }
+    ensures not_written { IfOk result (λ window. whole window ≡ region) }
+{
+    match size_for(
+        AcceptedVersions::Current,
+        region.bytes(base, len),
+        &region,
+        base,
+    ) {
+        Ok(size) => Ok(ImageWindow::new(Window::new(region, base, size))),
+        Err(cause) => Err(ExamineRefused { region, cause }),
+    }
+}
+
+/// The size of an image, which its first words say and its bytes have, and for which there is room in the region from
+/// `base` on.
+///
+/// # Errors
+///
+/// `RegionTooSmall` where the first words say a size for which there is no room. `Truncated`, or what is wrong with the
+/// first words, or `BadSize` where there are more bytes than they say.
+fn size_for(
+    versions: AcceptedVersions,
+    image: &[u8],
+    region: &RawRegion,
+    base: u64,
+) -> Result<u64, ExamineError>
+    ensures fits { MatchResult result
+        (FitsIn (format_in versions image.now) image.now base (length region.now))
+        (λ cause. IsMisfit (format_in versions image.now) image.now base (length region.now) (error_for cause)) }
+    ensures output { IfErr result (IsShown (format_in versions image.now) image.now) }
+{
+    let count = image.len() as u64;
+    let cut = ExamineError::Image(Verdict {
+        class: ImageClass::Truncated,
+        place: count,
+    });
+    if image.len() < FRONT {
+        return Err(cut);
+    }
+    match judge_front(versions, image) {
+        Err(_) if image.len() < LEAST => Err(cut),
+        Err(verdict) => Err(ExamineError::Image(verdict)),
+        Ok(size) if !region.in_range(base, size) => Err(ExamineError::RegionTooSmall),
+        Ok(size) if count < size => Err(cut),
+        Ok(size) if size < count => {
+            let class = ImageClass::BadSize;
+            Err(ExamineError::Image(Verdict { class, place: size }))
+        }
+        Ok(size) => Ok(size),
+    }
+}

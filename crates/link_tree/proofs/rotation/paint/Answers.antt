@@ -1,0 +1,10 @@
+use Rattle.link_tree.proofs.Turns.{paint_turns}
+use Rattle.link_tree.proofs.Keepers.{strict}
+use Rattle.link_tree.proofs.rotation.paint.Goals as goal
+
+pub returns-in-Some-clause-colour : goal.returns-in-Some-clause-colour
+returns-in-Some-clause-colour g c = λ t w o.
+    let s = c.args.visits.now.nodes.now in
+    rw c.in-Some.is
+    (paint_turns (strict g.met.N.Nodes s) (g.N.Nodes.cells s) (g.N.Nodes.cells c.set_red.new.self.nodes.now)
+    c.in-Some.node c.args.red t (rw c.in-Some.is at w) o c.set_red.ensures.cells)

@@ -1,0 +1,114 @@
+//! Rotations and recolourings of the nodes on top of a tree.
+
+ghost use Rattle.std.specs.Prelude.{◌≡◌, ℕ, ◌+◌, ◌<◌, ◌≤◌, ◌^◌, Bool, true, false, Option, Some, None};
+ghost use Rattle.link_tree.specs.Tree.{Cell, Tree, IsTree, nodes_of, is_sorted};
+ghost use Rattle.link_tree.specs.Nodes.{leads};
+ghost use Rattle.link_tree.specs.Turning.{Turned, rotated, painted, rebalanced, is_red_tree};
+ghost use Rattle.link_tree.specs.Frame.{SameExceptCells};
+
+use crate::cursor::{NodeCursorMut, Side};
+use crate::nodes::NodesMut;
+
+/// Whether the link leads to a red node.
+pub fn is_red<N: NodesMut>(visits: &mut NodeCursorMut<N>, link: Option<u64>) -> bool
+    requires link { leads (N.is_node visits.old.nodes.now) link ≡ true }
+    requires no_overflow { visits.old.steps + 1 < 2 ^ 64 }
+    ensures value { (t : Tree) → IsTree (N.cells visits.old.nodes.now) link t
+        → result ≡ is_red_tree t }
+    ensures steps_lower { visits.old.steps ≤ visits.new.steps }
+    ensures same_borrow { visits.new.nodes.ghost_name ≡ visits.old.nodes.ghost_name }
+    ensures nodes { visits.new.nodes.now ≡ visits.old.nodes.now }
+    ensures steps_upper { visits.new.steps ≤ visits.old.steps + 1 }
+{
+    match link {
+        Some(node) => visits.red(node),
+        None => false,
+    }
+}
+
+/// Gives the root this colour.
+pub fn paint<N: NodesMut>(visits: &mut NodeCursorMut<N>, link: Option<u64>, red: bool)
+    requires link { leads (N.is_node visits.old.nodes.now) link ≡ true }
+    requires no_overflow { visits.old.steps + 1 < 2 ^ 64 }
+    ensures colour { (t : Tree) → IsTree (N.cells visits.old.nodes.now) link t
+        → is_sorted (N.order visits.old.nodes.now) (nodes_of t) ≡ true
+        → Turned (N.cells visits.old.nodes.now) (N.cells visits.new.nodes.now) (nodes_of t) link
+        (painted red t) }
+    ensures steps_upper { visits.new.steps ≤ visits.old.steps + 1 }
+    ensures steps_lower { visits.old.steps ≤ visits.new.steps }
+    ensures same_borrow { visits.new.nodes.ghost_name ≡ visits.old.nodes.ghost_name }
+    ensures keeper { SameExceptCells N.Nodes visits.old.nodes.now visits.new.nodes.now }
+{
+    if let Some(node) = link {
+        visits.set_red(node, red);
+    }
+}
+
+/// Turns the child on this side up over its parent, and answers the child.
+pub fn rotate<N: NodesMut>(visits: &mut NodeCursorMut<N>, top: u64, side: Side) -> u64
+    requires node { N.is_node visits.old.nodes.now top ≡ true }
+    requires no_overflow { visits.old.steps + 3 < 2 ^ 64 }
+    ensures rotation { (t : Tree) → IsTree (N.cells visits.old.nodes.now) (Some top) t
+        → is_sorted (N.order visits.old.nodes.now) (nodes_of t) ≡ true
+        → Turned (N.cells visits.old.nodes.now) (N.cells visits.new.nodes.now) (nodes_of t)
+        (Some result) (rotated side t) }
+    ensures node { N.is_node visits.old.nodes.now result ≡ true }
+    ensures position { visits.new.at ≡ Some top }
+    ensures steps_upper { visits.new.steps ≤ visits.old.steps + 3 }
+    ensures unchanged { visits.old.at ≡ Some top → visits.new.steps ≤ visits.old.steps + 2 }
+    ensures steps_lower { visits.old.steps ≤ visits.new.steps }
+    ensures same_borrow { visits.new.nodes.ghost_name ≡ visits.old.nodes.ghost_name }
+    ensures keeper { SameExceptCells N.Nodes visits.old.nodes.now visits.new.nodes.now }
+{
+    let Some(child) = visits.child(top, side) else {
+        return top;
+    };
+    let middle = visits.child(child, side.other());
+    visits.set_child(child, side.other(), Some(top));
+    visits.set_child(top, side, middle);
+    child
+}
+
+/// Where a black node has a red child on this side that has a red child itself, turns the three so that
+/// a red node stands over two black ones, and answers the node that is now on top.
+///
+/// Chris Okasaki, Red-Black Trees in a Functional Setting, 1999.
+pub fn fix_double_red<N: NodesMut>(visits: &mut NodeCursorMut<N>, top: u64, side: Side) -> u64
+    requires node { N.is_node visits.old.nodes.now top ≡ true }
+    requires no_overflow { visits.old.steps + 11 < 2 ^ 64 }
+    ensures balanced { (t : Tree) → IsTree (N.cells visits.old.nodes.now) (Some top) t
+        → is_sorted (N.order visits.old.nodes.now) (nodes_of t) ≡ true
+        → Turned (N.cells visits.old.nodes.now) (N.cells visits.new.nodes.now) (nodes_of t)
+        (Some result) (rebalanced side t) }
+    ensures node { N.is_node visits.old.nodes.now result ≡ true }
+    ensures steps_upper { visits.new.steps ≤ visits.old.steps + 11 }
+    ensures unchanged { visits.old.at ≡ Some top → visits.new.steps ≤ visits.old.steps + 10 }
+    ensures steps_lower { visits.old.steps ≤ visits.new.steps }
+    ensures same_borrow { visits.new.nodes.ghost_name ≡ visits.old.nodes.ghost_name }
+    ensures keeper { SameExceptCells N.Nodes visits.old.nodes.now visits.new.nodes.now }
+{
+    let Some(near) = visits.child(top, side) else {
+        return top;
+    };
+    if visits.red(top) {
+        return top;
+    }
+    if !visits.red(near) {
+        return top;
+    }
+    let outer = visits.child(near, side);
+    let inner = visits.child(near, side.other());
+    if is_red(visits, outer) {
+        let risen = rotate(visits, top, side);
+        paint(visits, outer, false);
+        return risen;
+    }
+    if is_red(visits, inner) {
+        let lower = rotate(visits, near, side.other());
+        visits.set_child(top, side, Some(lower));
+        let risen = rotate(visits, top, side);
+        visits.set_red(near, false);
+        return risen;
+    }
+    top
+}

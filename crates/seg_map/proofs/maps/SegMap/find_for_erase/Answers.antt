@@ -1,0 +1,21 @@
+-- What the search has found is looked at once more.
+use Rattle.seg_map.proofs.{false, arith, exit_is, finds_first, sought_room, looked_for}
+use Rattle.seg_map.proofs.maps.SegMap.find_for_erase.Goals as goal
+
+pub with_key-requires : goal.with_key-requires
+with_key-requires g c =
+    let way = c.find_remove_point-way.ensures in
+    sought_room (finds_first c.open-pairs.ensures.opening false c.args.key way.steps_exact way.steps way.first)
+    c.requires.map
+
+pub returns : goal.returns
+returns g c =
+    let way = c.find_remove_point-way.ensures in let o = c.open-pairs.ensures.opening in
+    record {
+      search = looked_for c.args.key (finds_first o false c.args.key way.steps_exact way.steps way.first)
+          g.met.K.Plain.transitive c.with_key.ensures.node (omega arith);
+      value = c.with_key.ensures.value;
+      root = c.open-pairs.ensures.root;
+      exit = exit_is o c.with_key.result c.find_remove_point-way.result.node c.find_remove_point-way.result.exit
+          c.with_key.ensures.unchanged way.exit;
+    }

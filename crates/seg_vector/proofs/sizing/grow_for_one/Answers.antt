@@ -1,9 +1,0 @@
--- The capacity is the word.
-use Rattle.seg_vector.proofs.{◌∙◌, arith, at-least, capacity-bytes}
-use Rattle.seg_vector.proofs.sizing.grow_for_one.Goals as goal
-
-pub capacity_for_one-requires : goal.capacity_for_one-requires
-capacity_for_one-requires c =
-    let s = c.requires.stands.1.1.1 in let few = capacity-bytes c.args.heap.now s.heap s in
-    let least = at-least c.args.each c.requires.stands.1.0.capacity c.requires.some in
-    omega (arith, few, least, (c.capacity_of-capacity.ensures ∙ s.words.capacity))

@@ -1,9 +1,0 @@
--- So many are put in their places, the last ones, and nothing else changed.
-use Rattle.seg_vector.proofs.{◌+◌, ◌-◌, ◌*◌, current, bytes_of, IsChanged, AreUp}
-use Rattle.seg_vector.proofs.text_arrays.carry_up.Given as goal
-
-abbrev pub invariant-loop-i : goal.invariant-loop-i
-invariant-loop-i l = record {
-  change : IsChanged current l.fn.heap l.heap (l.array + l.at + 16 + 16 * (l.n - l.i)) (16 * l.i);
-  carried : AreUp (bytes_of l.fn.heap.bytes) (bytes_of l.heap.bytes) (l.array + l.at) (l.n - l.i) l.n;
-}

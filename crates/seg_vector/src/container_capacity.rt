@@ -1,0 +1,139 @@
+//! The storage of a container at a place: it has none at the beginning, gets more of it, has it cut, and gives it back.
+ghost use Rattle.std.specs.Prelude.{◌≡◌, ℕ, ◌+◌, ◌*◌, ◌%◌, ◌<◌, ◌≤◌, IsTrue, []};
+ghost use Rattle.raw_region.specs.Format.{current};
+ghost use Rattle.best_fit.specs.{Heap.ChangesBytes, Heap.IsHeap, Heap.has_room, Heap.live_of, Table.no_backing};
+ghost use Rattle.seg_vector.specs.{Elements.ShrinksStorage, Elements.FreesStorage};
+ghost use Rattle.seg_vector.specs.{Vector.capacity_for_more as places_for_more};
+ghost use Rattle.seg_vector.specs.{Vector.capacity_for_one as places_for_one};
+ghost use Rattle.seg_vector.specs.Containers.{ReservesStorage, GrowsForOne, IsStanding, IsContainer, len_at, place_at};
+ghost use Rattle.seg_vector.specs.TextParts.{SetsStorage};
+
+use crate::places::{CAPACITY, LEN, capacity_of, len_of, link_of};
+use best_fit::{Heap, NoSpace, Place};
+use block_tags::MAX_SEGMENT_LEN;
+use raw_region::Steps;
+use seg_types::Refusal;
+
+/// Makes the three words at a place those of a container without a place, whatever they were. Storage that they led to
+/// is not given back.
+pub fn init_container(heap: &mut Heap, place: Place)
+    requires heap { IsHeap current heap.old.bytes }
+    requires aligned { place.at % 8 ≡ 0 }
+    requires room { IsTrue (has_room (live_of heap.old.bytes) place.handle (place.at + 24)) }
+    ensures changes { ChangesBytes current heap.old heap.new (place_at place) 24 }
+    ensures container { (each : ℕ) → IsContainer heap.new.bytes place each 0 no_backing [] }
+{
+    heap.set_link(place.handle, place.at, None);
+    heap.set_word(place.handle, place.at + LEN, 0);
+    heap.set_word(place.handle, place.at + CAPACITY, 0);
+}
+
+/// Gives the storage of the container at a place back. It has no element and no place then.
+pub fn free_storage(heap: &mut Heap, place: Place, each: u64)
+    requires { IsStanding heap.old.bytes place each }
+    ensures { FreesStorage heap.old heap.new place each }
+{
+    let storage = link_of(heap, place);
+    init_container(heap, place);
+    if let Some(storage) = storage {
+        heap.deallocate(storage, &mut Steps::new());
+    }
+}
+
+/// Makes the capacity of the container at a place its length. The storage is shortened to it, as far as a block can be,
+/// and given back where there is no element.
+pub fn shrink_storage(heap: &mut Heap, place: Place, each: u64)
+    requires container { IsStanding heap.old.bytes place each }
+    requires non_empty { 1 ≤ each }
+    ensures { ShrinksStorage heap.old heap.new place each }
+{
+    let len = len_of(heap, place);
+    if len == 0 {
+        free_storage(heap, place, each);
+        return;
+    }
+    if let Some(storage) = link_of(heap, place) {
+        heap.set_word(place.handle, place.at + CAPACITY, len);
+        heap.shrink_in_place(storage, each * len, &mut Steps::new());
+    }
+}
+
+/// Writes the link and the capacity of the container at a place. Its length stays.
+pub fn set_storage(heap: &mut Heap, place: Place, array: u64, n: u64)
+    requires heap { IsHeap current heap.old.bytes }
+    requires aligned { place.at % 8 ≡ 0 }
+    requires room { IsTrue (has_room (live_of heap.old.bytes) place.handle (place.at + 24)) }
+    requires even { array % 16 ≡ 0 }
+    ensures { SetsStorage heap.old heap.new place array n }
+{
+    heap.set_link(place.handle, place.at, Some(array));
+    heap.set_word(place.handle, place.at + CAPACITY, n);
+}
+
+/// Makes room for `n` elements of `each` bytes, 1 to 4096, in the container at a place: nothing is done where its
+/// capacity is `n` or more, and else its storage is regrown to hold just so many.
+///
+/// # Errors
+///
+/// `NoSpace` where a new block is needed and has no gap that is long enough. Nothing changes.
+#[inline(always)]
+pub fn reserve(heap: &mut Heap, place: Place, each: u64, n: u64) -> Result<(), Refusal>
+    requires container { IsStanding heap.old.bytes place each }
+    requires non_empty { 1 ≤ each }
+    requires max_len { each ≤ 4096 }
+    ensures { ReservesStorage heap.old heap.new place each n result }
+{
+    if n > MAX_SEGMENT_LEN {
+        return Err(Refusal::NoSpace);
+    }
+    if n <= capacity_of(heap, place) {
+        return Ok(());
+    }
+    let used = each * len_of(heap, place);
+    let storage = link_of(heap, place);
+    match heap.regrow(storage, each * n, used) {
+        Err(NoSpace) => Err(Refusal::NoSpace),
+        Ok(new) => {
+            set_storage(heap, place, new, n);
+            Ok(())
+        }
+    }
+}
+
+/// The capacity that a container has for one element more.
+pub fn capacity_for_one(len: u64, capacity: u64) -> u64
+    requires { 2 * capacity < 18446744073709551616 }
+    ensures { result ≡ places_for_one len capacity }
+{
+    if len < capacity {
+        capacity
+    } else {
+        (2 * capacity).max(4)
+    }
+}
+
+/// The capacity that a container has for so many elements more.
+pub fn capacity_for_more(len: u64, more: u64, capacity: u64) -> u64
+    requires need { len + more < 18446744073709551616 }
+    requires repeat { 2 * capacity < 18446744073709551616 }
+    ensures { result ≡ places_for_more len more capacity }
+{
+    if len + more <= capacity {
+        capacity
+    } else {
+        (2 * capacity).max(4).max(len + more)
+    }
+}
+
+/// Makes room for one element more, of 1 to 4096 bytes, behind the `len` that there are. A full container gets twice
+/// its places, and at least 4; or it answers `NoSpace` where its storage cannot be regrown, and nothing changes.
+pub fn grow_for_one(heap: &mut Heap, place: Place, each: u64, len: u64) -> Result<(), Refusal>
+    requires container { IsStanding heap.old.bytes place each }
+    requires non_empty { 1 ≤ each }
+    requires max_len { each ≤ 4096 }
+    requires len { len ≡ len_at heap.old.bytes place }
+    ensures { GrowsForOne heap.old heap.new place each result }
+{
+    let capacity = capacity_of(heap, place);
+    reserve(heap, place, each, capacity_for_one(len, capacity))
+}

@@ -1,0 +1,101 @@
+//! A writer of std as an `Output`.
+ghost use Rattle.std.specs.Prelude.{◌≡◌, ⊤, Ok, length};
+ghost use Rattle.segment_disk.specs.Events.{nothing_taken};
+
+use crate::disk::Output;
+use raw_region::std_io::{StdSink, WriteOnce};
+use raw_region::{DeviceFault, Sink};
+use std::io::{ErrorKind, Write};
+use std::marker::Model;
+
+/// Takes all bytes, and does nothing with them: what went to a writer is counted by what came by here.
+#[derive(Drop)]
+pub struct PassThrough;
+
+impl WriteOnce for PassThrough {
+    ghost write_gives = { λ old answer bytes new. answer ≡ Ok (length bytes) };
+
+    fn write_once(&mut self, bytes: &[u8]) -> Result<usize, DeviceFault> {
+        Ok(bytes.len())
+    }
+}
+
+/// A writer of std. Each of its errors is a failure, and so is to take 0 of some bytes.
+#[derive(Drop)]
+pub struct StdOutput<W> {
+    inner: W,
+    failures: u64,
+    /// Whether it failed last since its reader had ended.
+    is_closed_pipe: bool,
+    passed: StdSink<PassThrough>,
+}
+
+impl<W> Model for StdOutput<W> {
+    ghost use Rattle.std.specs.Prelude.{◌≡◌};
+    ghost use Rattle.segment_disk.specs.Outlets.{OutletState};
+
+    ghost Value = { OutletState };
+
+    ghost view = { λ o. record {
+      history = record { bytes = o.passed.history.bytes; failures = o.failures };
+    } };
+
+    ghost invariant = { λ o. o.passed.history.failures ≡ 0 };
+}
+
+impl<W> StdOutput<W> {
+    /// A writer that took nothing yet.
+    pub fn new(inner: W) -> StdOutput<W>
+        ensures { result.history ≡ nothing_taken }
+    {
+        StdOutput {
+            inner,
+            failures: 0,
+            is_closed_pipe: false,
+            passed: StdSink::new(PassThrough),
+        }
+    }
+
+    /// Whether it failed last since it is a pipe whose reader had ended.
+    pub fn is_closed_pipe(&self) -> bool {
+        self.is_closed_pipe
+    }
+
+    /// The writer of std.
+    pub(crate) fn inner(&self) -> &W {
+        &self.inner
+    }
+}
+
+impl<W: Write> Sink for StdOutput<W> {
+    ghost history = { λ o. o.history };
+
+    fn write(&mut self, bytes: &[u8]) -> Result<usize, DeviceFault> {
+        let count = match self.inner.write(bytes) {
+            Ok(count) => count,
+            Err(error) => {
+                self.is_closed_pipe = error.kind() == ErrorKind::BrokenPipe;
+                self.failures += 1;
+                return Err(DeviceFault);
+            }
+        };
+        if count == 0 && !bytes.is_empty() {
+            self.failures += 1;
+        }
+        self.passed.write(&bytes[..count])
+    }
+}
+
+impl<W: Write> Output for StdOutput<W> {
+    ghost flushes = { λ old ok new. ⊤ };
+
+    fn flush(&mut self) -> Result<(), DeviceFault> {
+        match self.inner.flush() {
+            Ok(()) => Ok(()),
+            Err(error) => {
+                self.is_closed_pipe = error.kind() == ErrorKind::BrokenPipe;
+                Err(DeviceFault)
+            }
+        }
+    }
+}

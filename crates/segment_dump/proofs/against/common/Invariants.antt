@@ -1,5 +1,0 @@
-use Rattle.segment_dump.proofs.Common.{◌≡◌, ◌≤◌, length, take}
-use Rattle.segment_dump.proofs.against.common.Given as goal
-
-abbrev pub invariant-bytes : goal.invariant-bytes
-invariant-bytes l = (take l.index l.some ≡ take l.index l.other) × (l.index ≤ length l.other)

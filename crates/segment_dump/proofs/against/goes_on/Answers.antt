@@ -1,6 +1,0 @@
-use Rattle.segment_dump.proofs.Fronts.{goes-on}
-use Rattle.segment_dump.proofs.against.goes_on.Goals as goal
-
-pub returns-clause-same : goal.returns-clause-same
-returns-clause-same c =
-    goes-on c.are_same.result c.args.text.now c.args.at c.args.bytes.now c.split_at-2.result.0.now c.split_at.result.1.now c.split_at.ensures.back c.split_at-2.ensures.front c.are_same.ensures

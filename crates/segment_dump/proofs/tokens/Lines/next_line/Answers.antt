@@ -1,0 +1,20 @@
+use Rattle.segment_dump.proofs.Common.{ap, ◌∙◌, drop, position, take}
+use Rattle.segment_dump.proofs.LineReads.{is_end, long-line, no-line, this-line}
+use Rattle.segment_dump.proofs.tokens.Lines.next_line.Goals as goal
+
+pub returns-in_default : goal.returns-in_default
+returns-in_default c = no-line c.args.self.now c.args.self.now c.line_len.result _ (c.line_len.ensures
+    ∙ ap (position is_end) c.self.view_is) c.in_default.is
+
+pub returns-then-line-gt-LONGEST_LINE : goal.returns-then-line-gt-LONGEST_LINE
+returns-then-line-gt-LONGEST_LINE c =
+    long-line c.args.self.now c.args.self.now c.split_at.result.0.now c.line_len.result c.in-Some.end _
+    (c.line_len.ensures ∙ ap (position is_end) c.self.view_is) c.in-Some.is
+    (c.split_at.ensures.front ∙ ap (take c.in-Some.end) c.self.view_is) c.if-line-gt-LONGEST_LINE.true
+
+pub returns : goal.returns
+returns c =
+    this-line c.args.self.now c.split_at-2.result.1.now c.split_at.result.0.now c.split_at.result.1.now
+    c.line_len.result c.in-Some.end (c.line_len.ensures ∙ ap (position is_end) c.self.view_is) c.in-Some.is
+    (c.split_at.ensures.front ∙ ap (take c.in-Some.end) c.self.view_is) (c.split_at.ensures.back
+    ∙ ap (drop c.in-Some.end) c.self.view_is) c.split_at-2.ensures.back

@@ -1,6 +1,0 @@
--- No pair is there.
-use Rattle.segment_manager.proofs.objects.NewNumbers.{map-made}
-use Rattle.segment_manager.proofs.containers.fillings.NewMapFilling.fill.Goals as goal
-
-pub returns : goal.returns
-returns c = map-made c.args.self.now.keys c.args.self.now.values _ _ c.new.ensures.map

@@ -1,0 +1,202 @@
+-- How an object comes to be whose numbers come one by one: it is begun, it is filled, and then it gets its entry or is
+-- given back.
+use Rattle.std.specs.Prelude.{◌≡◌, ℕ, ◌<◌, ◌*◌, ◌+◌, ◌⊎◌, ⊤, ℤ, Option, Some, None, Result, Ok, Err}
+use Rattle.std.specs.Prelude.{MatchResult, List, [], insert, length, map, IsTrue}
+use Rattle.std.specs.List.{list_all}
+use Rattle.std.specs.Iterator.{Yields, YieldsThen}
+use Rattle.raw_region.specs.Format.{current}
+use Rattle.raw_region.specs.Memory.{WindowState, HasBytesAt, bytes_of}
+use Rattle.block_tags.specs.declared.tile.Role.TheVariants.{Object as ObjectRole}
+use Rattle.best_fit.specs.Heap.{AllocatesOk, ChangesBytes, AllocatesNoSpace, EncodesLiveSet}
+use Rattle.best_fit.specs.Table.{BackingArray}
+use Rattle.seg_types.specs.declared.kinds.ScalarKind.{ScalarKind}
+use Rattle.seg_types.specs.declared.kinds.Class.{Class}
+use Rattle.seg_types.specs.declared.kinds.Class.TheVariants.{Anonymous}
+use Rattle.seg_types.specs.declared.kinds.Kind.{Kind}
+use Rattle.seg_types.specs.declared.refusals.Refusal.{Refusal}
+use Rattle.seg_types.specs.declared.refusals.Refusal.TheVariants.{Exists, NoSpace, OutOfRange}
+use Rattle.seg_types.specs.Kinds.{is_value, size_of, spelling}
+use Rattle.seg_types.specs.Names as names
+use Rattle.seg_index.specs.declared.index.Index.{Index}
+use Rattle.seg_index.specs.declared.keys.Entry.{Entry}
+use Rattle.seg_index.specs.declared.keys.Lookup.TheVariants.{Absent, Found}
+use Rattle.seg_index.specs.Growth.{AddKeeps, AddsEntry, CanGrow, grown_live}
+use Rattle.seg_index.specs.{Held.IsIndexOf, Held.place_of, Lookups.FindsPosition, Sorted.CanAdd}
+use Rattle.seg_vector.specs.Vector.{spelled}
+use Rattle.segment_manager.specs.declared.objects.pending_object.PendingObject.{PendingObject}
+use Rattle.segment_manager.specs.declared.objects.pending_object.PendingEntry.{PendingEntry}
+use Rattle.segment_manager.specs.Directory.{padded}
+use Rattle.segment_manager.specs.indexes.Indexed.{class_of_index}
+use Rattle.segment_manager.specs.Layout.{head_len}
+use Rattle.segment_manager.specs.objects.NewObjects.{IsNewKeyOf, RequestsBlocksOk, RestoresBlocks, RequestsBlocksErr}
+use Rattle.segment_manager.specs.objects.Standing.{IsHeadAt, room_for}
+
+-- ---- begun
+
+-- a look-up finds no entry, which would stand here; or it finds one
+abbrev pub IsAbsentAt : WindowState → Index → Entry → ℕ → Type 0
+IsAbsentAt c i e at =
+    (t : BackingArray) (hs : List ℕ) → IsIndexOf c (place_of i) t hs → FindsPosition (bytes_of c.bytes) e hs (Absent at)
+
+abbrev pub IsFoundAt : WindowState → Index → Entry → ℕ → Type 0
+IsFoundAt c i e at =
+    (t : BackingArray) (hs : List ℕ) → IsIndexOf c (place_of i) t hs → FindsPosition (bytes_of c.bytes) e hs (Found at)
+
+-- A head is written in a block that was taken, and elements go behind it.
+pub record WritesObjectHeader (taken new : WindowState) (kind : Kind) (class : Class) (name : List ℕ)
+    (count h at : ℕ) : Type 0 where
+  pub start : at ≡ head_len + padded (length name)
+  pub change : ChangesBytes current taken new h (head_len + padded (length name))
+  pub head : IsHeadAt (bytes_of new.bytes) h kind count class name
+
+-- under a key that gets an entry, with so many bytes for the value
+pub record BeginsEntryOk (old new : WindowState) (key : names.Key) (kind : Kind) (count body h at : ℕ)
+    (e : PendingEntry) : Type 0 where
+  pub entry : Entry
+  pub name : List ℕ
+  pub is : IsNewKeyOf e.index entry key name kind
+  pub absent : IsAbsentAt old e.index entry e.place
+  pub taken : WindowState
+  pub requested : RequestsBlocksOk old taken (place_of e.index) (room_for name body) e.growth.block h
+  pub headed : WritesObjectHeader taken new kind (class_of_index e.index) name count h at
+
+-- without a key
+pub record BeginsAnonymous (old new : WindowState) (key : names.Key) (kind : Kind) (count body h at : ℕ) : Type 0 where
+  pub is : key ≡ names.NoKey
+  pub taken : WindowState
+  pub takes : AllocatesOk current old taken (room_for [] body) ObjectRole h
+  pub headed : WritesObjectHeader taken new kind Anonymous [] count h at
+
+abbrev pub BeginsObjectOk : WindowState → WindowState → names.Key → Kind → ℕ → ℕ → ℕ → ℕ → Option PendingEntry → Type 0
+BeginsObjectOk old new key kind count body h at None = BeginsAnonymous old new key kind count body h at
+BeginsObjectOk old new key kind count body h at (Some e) = BeginsEntryOk old new key kind count body h at e
+
+-- an object has the key
+pub record RefusesKey (old new : WindowState) (key : names.Key) (kind : Kind) : Type 0 where
+  pub index : Index
+  pub entry : Entry
+  pub name : List ℕ
+  pub is : IsNewKeyOf index entry key name kind
+  pub place : ℕ
+  pub found : IsFoundAt old index entry place
+  pub same : new ≡ old
+
+-- one of the two blocks is refused
+pub record BeginsEntryErr (old new : WindowState) (key : names.Key) (kind : Kind) (body : ℕ) : Type 0 where
+  pub index : Index
+  pub entry : Entry
+  pub name : List ℕ
+  pub is : IsNewKeyOf index entry key name kind
+  pub place : ℕ
+  pub absent : IsAbsentAt old index entry place
+  pub unmet : RequestsBlocksErr old new (place_of index) (room_for name body)
+
+abbrev pub IsNotBegun : WindowState → WindowState → names.Key → Kind → ℕ → Refusal → Type 0
+IsNotBegun old new key kind body Exists = RefusesKey old new key kind
+IsNotBegun old new key kind body NoSpace =
+    ((key ≡ names.NoKey) × AllocatesNoSpace old new (room_for [] body) ObjectRole)
+    ⊎ BeginsEntryErr old new key kind body
+IsNotBegun old new key kind body why = ⊥
+
+abbrev pub BeginsObject : WindowState → WindowState → names.Key → Kind → ℕ → ℕ → Result PendingObject Refusal → Type 0
+BeginsObject old new key kind count body result =
+    MatchResult result (λ b. BeginsObjectOk old new key kind count body b.handle b.at b.entry)
+    (IsNotBegun old new key kind body)
+
+-- the same where no object has the key, which would get its entry here
+abbrev pub BeginsEntry : WindowState → WindowState → Index → ℕ → Entry → names.Key → List ℕ → Kind → ℕ → ℕ
+    → Result PendingObject Refusal → Type 0
+BeginsEntry old new i place e key name kind count body result =
+    IsNewKeyOf i e key name kind → IsAbsentAt old i e place → BeginsObject old new key kind count body result
+
+-- ---- filled
+
+-- an item was taken, and its spelling is written
+pub record WritesItem {S A : Type 0} (gives : S → Option A → S → Type 0) (whole : A → ℤ) (old new : WindowState)
+    (k : ScalarKind) (from : ℕ) (before after : S) : Type 0 where
+  pub item : A
+  pub step : gives before (Some item) after
+  pub value : IsTrue (is_value k (whole item))
+  pub change : ChangesBytes current old new from (size_of k)
+  pub content : HasBytesAt (bytes_of new.bytes) from (spelling k (whole item))
+
+abbrev pub WritesNext : {S A : Type 0} → (S → Option A → S → Type 0) → (A → ℤ) → WindowState → WindowState
+    → ScalarKind → ℕ → S → S
+    → Result (Unit {0}) Refusal → Type 0
+WritesNext gives whole old new k from before after wrote =
+    MatchResult wrote (λ u. WritesItem gives whole old new k from before after)
+    (λ why. (why ≡ OutOfRange) × (new ≡ old) × gives before None after)
+
+-- the next item, if one comes, is of the kind
+abbrev pub IsNextOfKind : {S A : Type 0} → (S → Option A → S → Type 0) → (A → ScalarKind) → S → ScalarKind → Type 0
+IsNextOfKind {S} {A} gives kind before k = (item : A) (after : S) → gives before (Some item) after → kind item ≡ k
+
+-- Items were taken in turn and written one behind another: as many as were asked for, or fewer where no more came.
+pub record Fills {S A : Type 0} (gives : S → Option A → S → Type 0) (whole : A
+    → ℤ) (old new : WindowState) (k : ScalarKind)
+    (from count : ℕ) (before after : S) (filled : Result (Unit {0}) Refusal) : Type 0 where
+  pub items : List A
+  pub taken : MatchResult filled (λ u. Yields gives before items after × (length items ≡ count))
+      (λ why. (why ≡ OutOfRange) × YieldsThen gives before items None after × (length items < count))
+  pub values : IsTrue (list_all (is_value k) (map whole items))
+  pub change : ChangesBytes current old new from (size_of k * length items)
+  pub content : HasBytesAt (bytes_of new.bytes) from (spelled k (map whole items))
+
+-- ---- finished
+
+-- the block was taken and written, and no entry leads to it yet
+pub record IsLooseEntry (old now : WindowState) (h : ℕ) (e : PendingEntry) : Type 0 where
+  pub len : ℕ
+  pub taken : WindowState
+  pub requested : RequestsBlocksOk old taken (place_of e.index) len e.growth.block h
+  pub change : ChangesBytes current taken now h len
+
+pub record IsLooseAlone (old now : WindowState) (h : ℕ) : Type 0 where
+  pub len : ℕ
+  pub taken : WindowState
+  pub takes : AllocatesOk current old taken len ObjectRole h
+  pub change : ChangesBytes current taken now h len
+
+abbrev pub IsUnindexedObject : WindowState → WindowState → ℕ → Option PendingEntry → Type 0
+IsUnindexedObject old now h None = IsLooseAlone old now h
+IsUnindexedObject old now h (Some e) = IsLooseEntry old now h e
+
+-- an index has what it needs for an entry that leads to an object: its key belongs there
+pub record IsReadyForEntry (now : WindowState) (h : ℕ) (e : PendingEntry) : Type 0 where
+  pub entry : CanAdd now e.index e.place h
+  pub growth : CanGrow now (place_of e.index) e.growth.block
+
+abbrev pub IsReadyFor : WindowState → ℕ → Option PendingEntry → Type 0
+IsReadyFor now h None = ⊤
+IsReadyFor now h (Some e) = IsReadyForEntry now h e
+
+-- the entry leads to it, if it is to have one
+pub record IsEntryAdded (now new : WindowState) (h : ℕ) (e : PendingEntry) : Type 0 where
+  pub adds : (t : BackingArray) (hs : List ℕ) → IsIndexOf now (place_of e.index) t hs
+      → Adds now new (place_of e.index) t (insert hs e.place h) e.growth.block
+  pub live : EncodesLiveSet current new.bytes (grown_live now (place_of e.index) e.growth.block)
+  pub keeps : (t : BackingArray) (hs : List ℕ) → IsIndexOf now (place_of e.index) t hs
+      → AddKeeps now new (place_of e.index) t e.growth.block
+
+abbrev pub LeadsThere : WindowState → WindowState → ℕ → Option PendingEntry → Type 0
+LeadsThere now new h None = new ≡ now
+LeadsThere now new h (Some e) = IsEntryAdded now new h e
+
+-- all that was taken is given back
+abbrev pub GivesAllBack : WindowState → WindowState → ℕ → Option PendingEntry → Type 0
+GivesAllBack now new h entry = (old : WindowState) → IsUnindexedObject old now h entry → RestoresBlocks old new
+
+-- ---- filled or not, with whatever it takes
+
+-- where it was filled, an entry may lead to it; and where not, all that was taken is its own block and what its index
+-- took
+abbrev pub IsEnding : WindowState → ℕ → Option PendingEntry → Result (Unit {0}) Refusal → Type 0
+IsEnding now h entry filled =
+    MatchResult filled (λ u. IsReadyFor now h entry) (λ why. (old : WindowState) × IsUnindexedObject old now h entry)
+
+-- the entry is made, or all is given back
+abbrev pub Ends : WindowState → WindowState → ℕ → Option PendingEntry → Result (Unit {0}) Refusal → Result ℕ Refusal
+    → Type 0
+Ends now new h entry filled result =
+    MatchResult filled (λ u. (result ≡ Ok h) × LeadsThere now new h entry)
+    (λ why. (result ≡ Err why) × GivesAllBack now new h entry)

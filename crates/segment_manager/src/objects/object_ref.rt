@@ -1,0 +1,181 @@
+//! What says which object a call means: a key, which is looked up, or an object that was located before.
+ghost use Rattle.std.specs.Prelude.{◌≡◌, ⊤, MatchResult, true};
+ghost use Rattle.seg_types.specs.{Keys.key_seen, Keys.name_seen, Names.ByHandle, Names.ByName, Names.Key as AnyKey};
+ghost use Rattle.segment_manager.specs.{Directory.Object as DirectoryObject, objects.Found.is_object_at};
+ghost use Rattle.segment_manager.specs.{objects.Instances.IsMissing, objects.Standing.HasObject, State.AnswersWith};
+ghost use Rattle.segment_manager.specs.{objects.Standing.IsObjectInBlock, State.SegmentState};
+ghost use Rattle.segment_manager.specs.objects.Located.{IsLocated, IsObject, container_in, element_in, located};
+ghost use Rattle.segment_manager.specs.objects.Located.{located_at, value_in};
+
+use crate::layout::value_at;
+use crate::objects::head::read_head;
+use crate::segment::Segment;
+use best_fit::{Heap, Place};
+use seg_types::{Handle, Key, Kind, Name, Refusal, ScalarKind};
+
+/// An object of a segment as it was located. It goes on standing for the object of its handle until that is destroyed.
+#[derive(Clone, Copy, Debug, PartialEq, Eq, Hash)]
+pub struct Object {
+    /// Its handle.
+    pub handle: Handle,
+    /// Its kind.
+    pub kind: Kind,
+    /// The bytes of its name, behind which its value begins.
+    pub(crate) name_len: u8,
+    /// How many elements it has, and 1 where it is a container.
+    pub count: u32,
+}
+
+impl Object {
+    /// Where its value begins, from its handle on.
+    pub(crate) fn value_at(self) -> u64
+        ensures { result ≡ value_in self }
+    {
+        value_at(u64::from(self.name_len))
+    }
+
+    /// Where its container stands: `WrongKind` where it is of another kind.
+    #[inline(always)]
+    pub(crate) fn container(self, kind: Kind) -> Result<Place, Refusal>
+        ensures { result ≡ container_in self kind }
+    {
+        let wanted = kind.code();
+        let own = self.kind.code();
+        if wanted != own {
+            return Err(Refusal::WrongKind);
+        }
+        Ok(Place {
+            handle: self.handle,
+            at: self.value_at(),
+        })
+    }
+
+    /// Where its element of an index stands: `WrongKind` where it has no scalars of the kind, `OutOfRange` where it has
+    /// no such element.
+    #[inline(always)]
+    pub(crate) fn element(self, kind: ScalarKind, index: u64) -> Result<Place, Refusal>
+        ensures { result ≡ element_in self kind index }
+    {
+        if self.kind != Kind::Scalar(kind) {
+            return Err(Refusal::WrongKind);
+        }
+        if index >= u64::from(self.count) {
+            return Err(Refusal::OutOfRange);
+        }
+        Ok(Place {
+            handle: self.handle,
+            at: self.value_at() + kind.size() * index,
+        })
+    }
+}
+
+/// What says which object a call means. A key is looked up at each call; an object that was located is not.
+///
+/// # Conditions
+///
+/// A key and a name have none. An object is one that was located in the segment and is still there: no call on elements
+/// takes it away, `destroy` and `destroy_ptr` do. The views of `segment_views` keep it for their caller.
+pub trait ObjectRef {
+    // The key by which commands name the object.
+    ghost key: { Self → AnyKey };
+
+    // Whether it may be used in a segment.
+    ghost stands: { Self → SegmentState → Type 0 };
+
+    /// The object in a segment, or nothing where it has no such object.
+    fn find(&self, segment: &Segment) -> Option<Object>
+        requires { stands self.now segment.now }
+        ensures { AnswersWith segment.now (λ d. located_at d (key self.now)) result };
+}
+
+impl ObjectRef for Key<'_> {
+    ghost key = { key_seen };
+
+    // A key may be asked for anywhere.
+    ghost stands = { λ key s. ⊤ };
+
+    fn find(&self, segment: &Segment) -> Option<Object> {
+        segment.object_of(self)
+    }
+}
+
+impl ObjectRef for Name<'_> {
+    ghost key = { λ name. ByName (name_seen name) };
+
+    // A name may be asked for anywhere.
+    ghost stands = { λ name s. ⊤ };
+
+    fn find(&self, segment: &Segment) -> Option<Object> {
+        segment.object_of(&Key::Name(*self))
+    }
+}
+
+impl ObjectRef for Object {
+    ghost key = { λ o. ByHandle o.handle };
+
+    // This is said of an object of the segment.
+    ghost stands = { λ o s. IsObject o s };
+
+    fn find(&self, _segment: &Segment) -> Option<Object> {
+        Some(*self)
+    }
+}
+
+impl Segment {
+    /// The object of a key, or nothing where no object has the key.
+    pub(crate) fn object_of(&self, key: &Key) -> Option<Object>
+        ensures { AnswersWith self.now (λ d. located_at d (key_seen key.now)) result }
+    {
+        match self.handle_of(key) {
+            None => None,
+            Some(handle) => Some(read_object(&self.heap, handle)),
+        }
+    }
+}
+
+/// What the head of the object at a handle says.
+fn read_object(heap: &Heap, handle: Handle) -> Object
+    requires { HasObject heap.now.bytes handle }
+    ensures handle { result.handle ≡ handle }
+    ensures text { (o : DirectoryObject) → IsObjectInBlock heap.now.bytes handle o → result ≡ located o }
+{
+    let head = read_head(heap, handle);
+    Object {
+        handle,
+        kind: head.kind,
+        name_len: head.name_len,
+        count: head.count,
+    }
+}
+
+/// The object of a key as it stands in the segment. Calls that take it look nothing up.
+///
+/// Example: `let object = locate(&segment, &name)?`.
+///
+/// # Errors
+///
+/// `NotFound` where no object has the key.
+pub fn locate<O: ObjectRef>(segment: &Segment, key: &O) -> Result<Object, Refusal>
+    requires { O.stands key.now segment.now }
+    ensures { MatchResult result (IsLocated segment.now (O.key key.now)) (IsMissing segment.now (O.key key.now)) }
+{
+    match key.find(segment) {
+        None => Err(Refusal::NotFound),
+        Some(object) => Ok(object),
+    }
+}
+
+/// The object of a handle as it stands in the segment. Nothing is looked up.
+///
+/// Example: `let object = object_here(&segment, handle)`.
+///
+/// # Conditions
+///
+/// An object of the segment has the handle. `locate` looks for it, and has no condition.
+pub fn object_here(segment: &Segment, handle: Handle) -> Object
+    requires { AnswersWith segment.now (λ d. is_object_at d handle) true }
+    ensures handle { result.handle ≡ handle }
+    ensures location { IsLocated segment.now (ByHandle result.handle) result }
+{
+    read_object(&segment.heap, handle)
+}

@@ -1,0 +1,176 @@
+//! How an object comes to be: its blocks are taken and its head is written, and when it was filled it gets its entry or
+//! is given back.
+ghost use Rattle.std.specs.Prelude.{◌≡◌, ◌^◌, ◌<◌, ◌≤◌, length};
+ghost use Rattle.raw_region.specs.Memory.{WindowState};
+ghost use Rattle.seg_types.specs.{Keys.new_key_seen, Names.Key as AnyKey, Names.NoKey};
+ghost use Rattle.seg_index.specs.{declared.keys.Entry.Entry as AnyEntry, Held.HasIndex, Held.place_of};
+ghost use Rattle.segment_manager.specs.objects.PendingObjects.{BeginsObject, BeginsEntry, Ends, GivesAllBack, IsEnding};
+ghost use Rattle.segment_manager.specs.objects.PendingObjects.{IsUnindexedObject};
+ghost use Rattle.segment_manager.specs.{indexes.Indexed.class_of_index, objects.NewObjects.IsNewKeyOf};
+ghost use Rattle.segment_manager.specs.{objects.NewObjects.IsOfKind};
+ghost use Rattle.segment_manager.specs.State.{IsSegment};
+
+use crate::blocks::requesting::{Requested, request};
+use crate::containers::fillings::ObjectShape;
+use crate::layout::{HEAD_LEN, value_at};
+use crate::objects::head::write_head;
+use best_fit::Heap;
+use block_tags::Role;
+use raw_region::Steps;
+use seg_index::{Entry, Growth, Index, Lookup};
+use seg_types::{Class, Handle, NewKey, Refusal};
+
+/// An entry that is to be made: in which index, where, and what the index grows into.
+#[derive(Drop)]
+pub(crate) struct PendingEntry {
+    pub(crate) index: Index,
+    pub(crate) place: u64,
+    pub(crate) growth: Growth,
+}
+
+/// An object that is to be made: its blocks are in use and its head is written, but no entry leads to it yet.
+#[derive(Drop)]
+pub(crate) struct PendingObject {
+    pub(crate) handle: u64,
+    /// Where its elements go, from the handle on.
+    pub(crate) at: u64,
+    /// Its entry, or nothing where it has no key.
+    pub(crate) entry: Option<PendingEntry>,
+}
+
+/// Takes the blocks of an object of a shape into use, and writes its head. Else it is `Exists` where an object has the
+/// key, or `NoSpace`, and what the heap holds does not change.
+pub(crate) fn begin_object(
+    heap: &mut Heap,
+    key: &NewKey,
+    shape: ObjectShape,
+) -> Result<PendingObject, Refusal>
+    requires segment { IsSegment heap.old.bytes }
+    requires kind { IsOfKind (new_key_seen key.now) shape.kind }
+    requires max_size { shape.len < 2 ^ 40 }
+    ensures { BeginsObject heap.old heap.new (new_key_seen key.now) shape.kind shape.count shape.len result }
+{
+    match key {
+        NewKey::Name(name) => {
+            let bytes = name.as_bytes();
+            begin_entered(heap, Index::Named, Entry::Name(bytes), bytes, shape)
+        }
+        NewKey::Unique(unique) => {
+            begin_entered(heap, Index::Unique, Entry::Code(unique.code()), &[], shape)
+        }
+        NewKey::Anonymous => begin_alone(heap, shape),
+    }
+}
+
+/// The same under an entry of an index.
+fn begin_entered(
+    heap: &mut Heap,
+    index: Index,
+    entry: Entry<'_>,
+    name: &[u8],
+    shape: ObjectShape,
+) -> Result<PendingObject, Refusal>
+    requires segment { IsSegment heap.old.bytes }
+    requires key { (key : AnyKey) × IsNewKeyOf index entry key name.now shape.kind }
+    requires max_size { shape.len < 2 ^ 40 }
+    ensures { (key : AnyKey) → IsNewKeyOf index entry.entry key name.now shape.kind
+        → BeginsObject heap.old heap.new key shape.kind shape.count shape.len result }
+{
+    match index.lookup(heap, entry, &mut Steps::new()) {
+        Lookup::Found(_) => Err(Refusal::Exists),
+        Lookup::Absent(place) => begin_at(heap, index, place, name, shape),
+    }
+}
+
+/// The same where no object has the key, whose entry would get a place of the index.
+pub(crate) fn begin_at(
+    heap: &mut Heap,
+    index: Index,
+    place: u64,
+    name: &[u8],
+    shape: ObjectShape,
+) -> Result<PendingObject, Refusal>
+    requires index { HasIndex heap.old (place_of index) }
+    requires max_len { length name.now ≤ 255 }
+    requires max_size { shape.len < 2 ^ 40 }
+    ensures { (key : AnyKey) (entry : AnyEntry)
+        → BeginsEntry heap.old heap.new index place entry key name.now shape.kind shape.count shape.len result }
+{
+    let at = value_at(name.len() as u64);
+    let Ok(requested) = request(heap, index, at + shape.len) else {
+        return Err(Refusal::NoSpace);
+    };
+    let Requested { handle, growth } = requested;
+    write_head(heap, handle, shape.kind, shape.count, class_of(index), name);
+    let entry = Some(PendingEntry {
+        index,
+        place,
+        growth,
+    });
+    Ok(PendingObject { handle, at, entry })
+}
+
+/// The same without a key.
+fn begin_alone(heap: &mut Heap, shape: ObjectShape) -> Result<PendingObject, Refusal>
+    requires { shape.len < 2 ^ 40 }
+    ensures { BeginsObject heap.old heap.new NoKey shape.kind shape.count shape.len result }
+{
+    let Ok(handle) = heap.allocate(HEAD_LEN + shape.len, Role::Object, &mut Steps::new()) else {
+        return Err(Refusal::NoSpace);
+    };
+    write_head(heap, handle, shape.kind, shape.count, Class::Anonymous, &[]);
+    Ok(PendingObject {
+        handle,
+        at: HEAD_LEN,
+        entry: None,
+    })
+}
+
+/// The class of the objects that an index has entries of.
+pub(crate) fn class_of(index: Index) -> Class
+    ensures { result ≡ class_of_index index }
+{
+    match index {
+        Index::Named => Class::Named,
+        Index::Unique => Class::Unique,
+    }
+}
+
+/// Has the entry of an object lead to it where it was filled, and answers its handle. Else all that was taken for it is
+/// given back.
+#[inline(always)]
+pub(crate) fn finish_object(
+    heap: &mut Heap,
+    begun: PendingObject,
+    filled: Result<(), Refusal>,
+) -> Result<Handle, Refusal>
+    requires { IsEnding heap.old begun.handle begun.entry filled }
+    ensures { Ends heap.old heap.new begun.handle begun.entry filled result }
+{
+    let handle = begun.handle;
+    let entry = begun.entry;
+    match filled {
+        Err(why) => {
+            give_back(heap, handle, entry);
+            Err(why)
+        }
+        Ok(()) => {
+            if let Some(new) = entry {
+                new.index
+                    .add(heap, new.place, handle, new.growth, &mut Steps::new());
+            }
+            Ok(handle)
+        }
+    }
+}
+
+/// Gives the blocks back that were taken for an object.
+fn give_back(heap: &mut Heap, handle: u64, entry: Option<PendingEntry>)
+    requires { (old : WindowState) × IsUnindexedObject old heap.old handle entry }
+    ensures { GivesAllBack heap.old heap.new handle entry }
+{
+    heap.deallocate(handle, &mut Steps::new());
+    if let Some(new) = entry {
+        Index::give_back(new.growth, heap, &mut Steps::new());
+    }
+}

@@ -45,7 +45,7 @@ deallocate-requires c =
     let w = ready-new c.requires (sym c.link_of.ensures ∙ c.in-Some.is) c.if-old-array.true in
     live-if c.in-Some.old (0 + 16 * length c.requires.ps) (live_of c.set_storage.new.heap.bytes).extents
     (changed-room _ _ _ _ 24 c.in-Some.old (0 + 16 * length c.requires.ps) c.set_storage.ensures.change
-    (changed-room _ _ _ _ _ c.in-Some.old (0 + 16 * length c.requires.ps) c.move_elements_down.ensures.changes
+    (changed-room _ _ _ _ _ c.in-Some.old (0 + 16 * length c.requires.ps) c.move_elements_down.ensures.change
     w.source))
 
 pub returns-then-old-array : goal.returns-then-old-array

@@ -15,7 +15,7 @@ set_storage-requires c =
 pub set_word-requires : goal.set_word-requires
 set_word-requires c =
     let still = texts-still c.requires.1.1 c.in_ok-array.ensures.change in
-    changed-room _ _ _ _ 24 c.args.self.place.handle (c.args.self.place.at + 8 + 8) c.set_storage.ensures.changes
+    changed-room _ _ _ _ 24 c.args.self.place.handle (c.args.self.place.at + 8 + 8) c.set_storage.ensures.change
     (len-room c.release.new.heap.bytes c.args.self.place
     (c.release.ensures c.requires.0 c.requires.1.0 still).texts.room)
 

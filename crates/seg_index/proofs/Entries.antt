@@ -1,8 +1,11 @@
 -- Blocks in use, their links, and the entries of an index.
 use Rattle.seg_index.proofs.Common as common
-use common.{◌≡◌, refl, ◌+◌, List, arith, ◌==◌, Some, among, zero, None, holds, BackingArray, Lookup, Found, Absent, order}
-use common.{subst, slice_get, cases_lt, unwrap_or, and_parts, same_role, room-less, IsIndexOf, FindsPositionIn, IndexRole, ℕ}
-use common.{◌≤◌, [], ◌∷◌, WindowState, sym, ap, ◌∙◌, suc, ◌-◌, ◌*◌, ◌%◌, ◌<◌, inl, inr, Entry, length, IsTrue, Option, Extent}
+use common.{◌≡◌, refl, ◌+◌, List, arith, ◌==◌, Some, among, zero, None, holds, BackingArray, Lookup, Found, Absent}
+use common.{order}
+use common.{subst, slice_get, cases_lt, unwrap_or, and_parts, same_role, room-less, IsIndexOf, FindsPositionIn}
+use common.{IndexRole, ℕ}
+use common.{◌≤◌, [], ◌∷◌, WindowState, sym, ap, ◌∙◌, suc, ◌-◌, ◌*◌, ◌%◌, ◌<◌, inl, inr, Entry, length, IsTrue, Option}
+use common.{Extent}
 use common.{handle, IsHeap, get_or, insert, remove, Memory, nat_lt, others, serves, AllByRecursion, none-some}
 use common.{length-insert, length-remove, slice_get-get_or, comparisons_in, beside_table, same_Some, extent_at}
 use common.{has_room, live-rises, room_block, KeepTargets, cases_Bool, found-room, is_live_in, current, live_of}
@@ -43,7 +46,8 @@ found_live h (y ∷ ys) x e = elim (cases_Bool (handle y == h)) [
   | inr other ↦ rw other (found_live h ys x (rw other at e))
 ]
 
-pub found_handle : (c : WindowState) (h : ℕ) (x : Extent) → IsHeap current c.bytes → extent_at (live_of c.bytes) h ≡ Some x
+pub found_handle : (c : WindowState) (h : ℕ) (x : Extent) → IsHeap current c.bytes
+    → extent_at (live_of c.bytes) h ≡ Some x
     → handle x ≡ h
 found_handle c h x heap e = let l = live_of c.bytes in (among 128 h x l.extents (live-rises l heap.proper) e).at
 
@@ -53,7 +57,8 @@ pub record Inside (c : WindowState) (h n : ℕ) : Type 0 where
   pub ends : h + n + 16 ≤ length c.bytes
   pub small : length c.bytes ≤ 1073741824
 
-pub inside : (c : WindowState) (h n : ℕ) → IsHeap current c.bytes → IsTrue (has_room (live_of c.bytes) h n) → Inside c h n
+pub inside : (c : WindowState) (h n : ℕ) → IsHeap current c.bytes → IsTrue (has_room (live_of c.bytes) h n)
+    → Inside c h n
 inside c h n heap has =
     let r = room_block c h n heap has in let b = r.block in let low = b.low in
     let ends = b.inside in
@@ -247,13 +252,15 @@ placed {c} {at} {t} {hs} block i leads = table_cases (λ u. IsIndexOf c at u hs 
     }) t i
 
 -- the blocks beside that of the index
-pub beside : {c : WindowState} {at : ℕ} {t : BackingArray} {hs : List ℕ} {block : ℕ} → Placed c at t hs block → (xs : List Extent)
+pub beside : {c : WindowState} {at : ℕ} {t : BackingArray} {hs : List ℕ} {block : ℕ} → Placed c at t hs block
+    → (xs : List Extent)
     → others block xs ≡ beside_table t xs
 beside {t = t} p xs = ap (λ k. others k xs) (sym p.begins) ∙ ap (λ (o : Option Extent).
     elim o [ None ↦ xs | Some x ↦ others (handle x) xs ]) (sym p.is)
 
 -- without a block there is no place
-pub bare : {c : WindowState} {at : ℕ} {t : BackingArray} {hs : List ℕ} → IsIndexOf c at t hs → link_at (bytes_of c.bytes) at ≡ None
+pub bare : {c : WindowState} {at : ℕ} {t : BackingArray} {hs : List ℕ} → IsIndexOf c at t hs
+    → link_at (bytes_of c.bytes) at ≡ None
     → t.capacity ≡ 0
 bare {c} {at} {t} {hs} i leads = table_cases (λ u. IsIndexOf c at u hs → u.capacity ≡ 0) (λ cap j. let p = j.places
     in eqb-true cap 0 p) (λ cap x j. absurd (none-some (handle x) (sym leads ∙ j.stands.link))) t i
@@ -262,7 +269,8 @@ pub no_entries : {c : WindowState} {at : ℕ} {t : BackingArray} {hs : List ℕ}
     → link_at (bytes_of c.bytes) at ≡ None → length hs ≡ 0
 no_entries i leads = let z = bare i leads in omega arith
 
-pub capacity_small : {c : WindowState} {at : ℕ} {t : BackingArray} {hs : List ℕ} → IsIndexOf c at t hs → t.capacity ≤ 134217728
+pub capacity_small : {c : WindowState} {at : ℕ} {t : BackingArray} {hs : List ℕ} → IsIndexOf c at t hs
+    → t.capacity ≤ 134217728
 capacity_small {c} {at} {t} i = by_case (link_at (bytes_of c.bytes) at) refl
   where
     by_case : (o : Option ℕ) → link_at (bytes_of c.bytes) at ≡ o → t.capacity ≤ 134217728
@@ -274,7 +282,8 @@ pub leads_from : (c : WindowState) {at place : ℕ} {o p : Option ℕ} → place
 leads_from c e f g = ap (λ k. link_at (bytes_of c.bytes) k) (sym e) ∙ sym f ∙ g
 
 -- where there are places there is a block, to which the link leads
-pub has_places : {c : WindowState} {at : ℕ} {t : BackingArray} {hs : List ℕ} {block place : ℕ} {o : Option ℕ} → IsIndexOf c at t hs
+pub has_places : {c : WindowState} {at : ℕ} {t : BackingArray} {hs : List ℕ} {block place : ℕ} {o : Option ℕ}
+    → IsIndexOf c at t hs
     → 0 < t.capacity → place ≡ at → o ≡ link_at (bytes_of c.bytes) place → block ≡ unwrap_or o 0
     → Placed c at t hs block
 has_places {c} {at} {t} {hs} {block} {place} {o} i some e f b = by_case o refl
@@ -291,7 +300,8 @@ pub places_room : {c : WindowState} {at : ℕ} {t : BackingArray} {hs : List ℕ
 places_room {c} {t = t} block place k i some e f b few =
     room-less (live_of c.bytes) block (8 * t.capacity) k few (has_places i some e f b).room
 
-pub link_used : {c : WindowState} {at : ℕ} {t : BackingArray} {hs : List ℕ} (block place : ℕ) {o : Option ℕ} → IsIndexOf c at t hs
+pub link_used : {c : WindowState} {at : ℕ} {t : BackingArray} {hs : List ℕ} (block place : ℕ) {o : Option ℕ}
+    → IsIndexOf c at t hs
     → place ≡ at → o ≡ link_at (bytes_of c.bytes) place → o ≡ Some block → IsTrue (is_live_in (live_of c.bytes) block)
 link_used {c} block place i e f is =
     let p = placed block i (leads_from c e f is) in found_live block (live_of c.bytes).extents p.extent p.found
@@ -320,7 +330,8 @@ less_at o hs i j g h s l e f =
     (same_Some h (get_or hs j 0) (sym f ∙ slice_get-get_or hs j 0 within)) ∙ Less-from_sorted o hs i j 0 s l within
 
 -- the object of an entry has room for a key of the sort of its index
-key_given : {c : WindowState} {i : Index} (key : Entry) (h : ℕ) → index_of key ≡ i → IsHeap current c.bytes → HasSortKey c i h
+key_given : {c : WindowState} {i : Index} (key : Entry) (h : ℕ) → index_of key ≡ i → IsHeap current c.bytes
+    → HasSortKey c i h
     → IsKeyReadable c key h
 key_given {c} {i} key h e heap k =
     let m = bytes_of c.bytes in let l = live_of c.bytes in let x = k.extent in let n = sort_key_end i m h in
@@ -331,7 +342,8 @@ key_given {c} {i} key h e heap k =
           (found-room l h n x k.found (leb-true (n + 16) x.len two.1));
     }
 
-pub keys_given : (c : WindowState) (i : Index) (key : Entry) (block count : ℕ) → (k : HasSortedIndex c i) → index_of key ≡ i
+pub keys_given : (c : WindowState) (i : Index) (key : Entry) (block count : ℕ) → (k : HasSortedIndex c i)
+    → index_of key ≡ i
     → Placed c (place_of i) k.table k.handles block → count ≡ word_at (bytes_of c.bytes) (place_of i + 8)
     → AreKeys c block count key
 keys_given c i key block count k sort p e =

@@ -1,12 +1,16 @@
 -- An index with one entry more or less, in another block, or with no more places than entries.
 use Rattle.seg_index.proofs.Common as common
 use common.{◌≡◌, sym, ap, subst, ◌∙◌, ℕ, ◌+◌, ◌-◌, ◌*◌, ◌%◌, ◌<◌, ◌≤◌, inl, inr, List, length, arith, Option, Some}
-use common.{IfSome, insert, remove, AllByRecursion, length-insert, length-remove, current, WindowState, bytes_of, word_at}
-use common.{SameBytesExcept-word, link_at, KeepTargets, SameBytesExcept-link, Extent, LiveSet, handle, ChangesBytes, extent_at, live_of}
-use common.{BackingArray, room-less, KeepsOutsideIndex, beside_table, IsIndexOf, AreIndexEntries, AreLinksTo, refl, ap₂, ◌^◌, min, IsTrue}
+use common.{IfSome, insert, remove, AllByRecursion, length-insert, length-remove, current, WindowState, bytes_of}
+use common.{word_at}
+use common.{SameBytesExcept-word, link_at, KeepTargets, SameBytesExcept-link, Extent, LiveSet, handle, ChangesBytes}
+use common.{extent_at, live_of}
+use common.{BackingArray, room-less, KeepsOutsideIndex, beside_table, IsIndexOf, AreIndexEntries, AreLinksTo, refl, ap₂}
+use common.{◌^◌, min, IsTrue}
 use common.{None, nat_lt, unwrap_or, and_from, and_parts, leb-true, same_Some, Memory, Role, holds, others, AllocatesOk}
 use common.{IsHeap, Deallocates, has_room, is_live_in, same_role, serves, found-room, room_block, IsBlockFor, unlinked}
-use common.{without_link, lt-ltb, IndexRole, ◌==◌, none-some, SameBytes-word, SameBytes-link, released, EncodesLiveSet, among, found-new}
+use common.{without_link, lt-ltb, IndexRole, ◌==◌, none-some, SameBytes-word, SameBytes-link, released, EncodesLiveSet}
+use common.{among, found-new}
 use common.{laid-heap, live-rises, rising-insert}
 use Rattle.seg_index.proofs.Changing.{changed_heap, same_live, keeps_both, InHeader, keeps_words, keeps_written}
 use Rattle.seg_index.proofs.Changing.{others_without, rest_of, rest_others, rest_trans, rest_without, changed_trans}
@@ -25,7 +29,8 @@ use Rattle.best_fit.specs.Heap.{ResizesBlock, ShrinksInPlace, KeepsGaps}
 use Rattle.best_fit.specs.{Table.shrunk_backing, Table.no_backing, Fit.resized, Fit.shorter}
 
 -- other links in the block, and then their number in the header
-counted : {a b c : WindowState} {at block f n place count : ℕ} {t : BackingArray} {hs : List ℕ} (gs : List ℕ) → Placed a at t hs block
+counted : {a b c : WindowState} {at block f n place count : ℕ} {t : BackingArray} {hs : List ℕ} (gs : List ℕ)
+    → Placed a at t hs block
     → InHeader at → ChangesBytes current a b f n → block ≤ f → AreLinksTo (bytes_of b.bytes) block gs
     → length gs ≤ t.capacity → AllByRecursion (λ h. h % 16 ≡ 0) gs → place ≡ at → ChangesBytes current b c (place + 8) 8
     → word_at (bytes_of c.bytes) (place + 8) ≡ count → count ≡ length gs → IsIndexOf c at t gs
@@ -52,7 +57,8 @@ counted {a} {b} {c} {at} {block} {f} {n} {place} {count} {t} gs p w one low link
       whole = whole;
     }
 
-pub inserted : {a b c : WindowState} {at block here place count h : ℕ} {t : BackingArray} {hs : List ℕ} → Placed a at t hs block
+pub inserted : {a b c : WindowState} {at block here place count h : ℕ} {t : BackingArray} {hs : List ℕ}
+    → Placed a at t hs block
     → InHeader at → count ≡ length hs → here ≤ count → count < t.capacity → h % 16 ≡ 0
     → ChangesBytes current a b (block + 8 * here) (8 * (count - here) + 8)
     → link_at (bytes_of b.bytes) (block + 8 * here) ≡ Some h → KeepTargets (bytes_of a.bytes) (bytes_of b.bytes)
@@ -62,28 +68,33 @@ inserted {a} {b} {block = block} {here} {count = count} {h} {hs = hs} p w long w
     word =
     let A = bytes_of a.bytes in let B = bytes_of b.bytes in
     let links : AreLinksTo B block (insert hs here h) = insert_links block block here h hs p.links (omega arith)
-    (λ k l. SameBytesExcept-link A B (block + 8 * here) (8 * (count - here) + 8) (block + 8 * k) one.rest (inl (omega arith)))
+    (λ k l. SameBytesExcept-link A B (block + 8 * here) (8 * (count - here) + 8) (block + 8 * k) one.rest
+    (inl (omega arith)))
     there (subst (λ n. KeepTargets A B (block + 8 * here) (block + 8 * here + 8) (n - here)) long tail) in
     let more = length-insert hs here h (omega arith) in
     counted (insert hs here h) p w one (omega arith) links (omega arith)
     (insert_all (λ k. k % 16 ≡ 0) hs here h (omega arith) p.index.whole even) e two word (omega arith)
 
-pub removed : {a b c : WindowState} {at block here place count : ℕ} {t : BackingArray} {hs : List ℕ} → Placed a at t hs block
-    → InHeader at → count ≡ length hs → here < count → ChangesBytes current a b (block + 8 * here) (8 * (count - here - 1))
+pub removed : {a b c : WindowState} {at block here place count : ℕ} {t : BackingArray} {hs : List ℕ}
+    → Placed a at t hs block
+    → InHeader at → count ≡ length hs → here < count
+    → ChangesBytes current a b (block + 8 * here) (8 * (count - here - 1))
     → KeepTargets (bytes_of a.bytes) (bytes_of b.bytes) (block + (8 * here + 8)) (block + 8 * here) (count - here - 1)
     → place ≡ at → ChangesBytes current b c (place + 8) 8 → word_at (bytes_of c.bytes) (place + 8) ≡ count - 1
     → IsIndexOf c at t (remove hs here)
 removed {a} {b} {block = block} {here} {count = count} {hs = hs} p w long within one tail e two word =
     let A = bytes_of a.bytes in let B = bytes_of b.bytes in
     let links : AreLinksTo B block (remove hs here) = remove_links block here hs p.links (omega arith)
-    (λ k l. SameBytesExcept-link A B (block + 8 * here) (8 * (count - here - 1)) (block + 8 * k) one.rest (inl (omega arith)))
+    (λ k l. SameBytesExcept-link A B (block + 8 * here) (8 * (count - here - 1)) (block + 8 * k) one.rest
+    (inl (omega arith)))
     (subst (λ n. KeepTargets A B (block + (8 * here + 8)) (block + 8 * here) (n - here - 1)) long tail) in
     let less = length-remove hs here (omega arith) in
     counted (remove hs here) p w one (omega arith) links (omega arith)
     (remove_all (λ k. k % 16 ≡ 0) hs here (omega arith) p.index.whole) e two word (omega arith)
 
 -- what stays beside the block and the words
-pub block_and_count : {a b c : WindowState} {at block n place : ℕ} {t : BackingArray} {hs : List ℕ} → Placed a at t hs block
+pub block_and_count : {a b c : WindowState} {at block n place : ℕ} {t : BackingArray} {hs : List ℕ}
+    → Placed a at t hs block
     → InHeader at → (k : ℕ) → ChangesBytes current a b (block + k) n → k + n ≤ 8 * t.capacity → place ≡ at
     → ChangesBytes current b c (place + 8) 8 → KeepsOutsideIndex a c at (beside_table t (live_of a.bytes).extents)
 block_and_count {a} {b} {c} {at} {block} {n} {t = t} p w k one few e two =
@@ -94,7 +105,8 @@ block_and_count {a} {b} {c} {at} {block} {n} {t = t} p w k one few e two =
     (keeps_both block k one room word w (omega arith) (omega arith))
 
 -- no byte of a gap changes then
-pub gaps_kept : {a b c : WindowState} {at block n place : ℕ} {t : BackingArray} {hs : List ℕ} → Placed a at t hs block → InHeader at
+pub gaps_kept : {a b c : WindowState} {at block n place : ℕ} {t : BackingArray} {hs : List ℕ}
+    → Placed a at t hs block → InHeader at
     → (k : ℕ) → ChangesBytes current a b (block + k) n → k + n ≤ 8 * t.capacity → place ≡ at
     → ChangesBytes current b c (place + 8) 8 → KeepsGaps a c
 gaps_kept {a} {b} {c} {at} {block} {n} {t = t} p w k one few e two =
@@ -105,7 +117,8 @@ gaps_kept {a} {b} {c} {at} {block} {n} {t = t} p w k one few e two =
 
 -- ---- a block that is offered
 
-block_room : (c : WindowState) (h places : ℕ) → IsBlockFor c h places → IsTrue (has_room (live_of c.bytes) h (8 * places))
+block_room : (c : WindowState) (h places : ℕ) → IsBlockFor c h places
+    → IsTrue (has_room (live_of c.bytes) h (8 * places))
 block_room c h places f =
     let n = 8 * places in let x = f.extent in let two = and_parts (same_role x.role IndexRole) (holds x n) f.fits in
     found-room (live_of c.bytes) h n x f.found (leb-true (n + 16) x.len two.1)
@@ -132,7 +145,8 @@ pub record Headed (a d : WindowState) (at : ℕ) (to : Option ℕ) (count capaci
   pub count_word : word_at (bytes_of d.bytes) (at + 8) ≡ count
   pub capacity_word : word_at (bytes_of d.bytes) (at + 16) ≡ capacity
 
-pub headed : {a b c d : WindowState} {place at count capacity : ℕ} {to : Option ℕ} → place ≡ at → ChangesBytes current a b place 8
+pub headed : {a b c d : WindowState} {place at count capacity : ℕ} {to : Option ℕ} → place ≡ at
+    → ChangesBytes current a b place 8
     → link_at (bytes_of b.bytes) place ≡ to → ChangesBytes current b c (place + 8) 8
     → word_at (bytes_of c.bytes) (place + 8) ≡ count → ChangesBytes current c d (place + 16) 8
     → word_at (bytes_of d.bytes) (place + 16) ≡ capacity → Headed a d at to count capacity
@@ -150,7 +164,8 @@ headed {a} {b} {c} {d} {place} {at} {count} {capacity} {to} e one leads two is t
     subst (λ k. Headed a d k to count capacity) e all
 
 -- the words lead to a block whose first links are set
-pub settled : {a d : WindowState} {at block count capacity : ℕ} (hs : List ℕ) → Headed a d at (Some block) count capacity
+pub settled : {a d : WindowState} {at block count capacity : ℕ} (hs : List ℕ)
+    → Headed a d at (Some block) count capacity
     → InHeader at → IsHeap current a.bytes → (f : IsBlockFor a block capacity) → count ≤ capacity → 0 < capacity
     → AreLinksTo (bytes_of a.bytes) block hs → count ≡ length hs → AllByRecursion (λ h. h % 16 ≡ 0) hs
     → IsIndexIn a d at block capacity hs
@@ -177,7 +192,8 @@ settled {a} {d} {at} {block} {count} {capacity} hs h w heap f within some links 
     subst (λ (o : Option Extent). IsIndexOf d at (record { capacity = capacity; extent = o }) hs) (sym f.found) index
 
 -- as many places as were meant, in a block that was in use before
-pub index_in : (b d e : WindowState) (h : ℕ) {at k places : ℕ} {hs : List ℕ} → live_of d.bytes ≡ live_of b.bytes → k ≡ places
+pub index_in : (b d e : WindowState) (h : ℕ) {at k places : ℕ} {hs : List ℕ} → live_of d.bytes ≡ live_of b.bytes
+    → k ≡ places
     → IsIndexIn d e at h k hs → IsIndexIn b e at h places hs
 index_in b d e h {at} {places = places} {hs} same is i = subst (λ (l : LiveSet). IsIndexOf e at
     (record { capacity = places; extent = extent_at l h }) hs) same (subst (λ n. IsIndexIn d e at h n hs) is i)
@@ -198,11 +214,13 @@ settled_released {block = block} {old = old} h w r other i =
 
 -- ---- what stays
 
-pub headed_released_keeps : {a d e : WindowState} {at count capacity : ℕ} {to : Option ℕ} (h : ℕ) → Headed a d at to count
+pub headed_released_keeps : {a d e : WindowState} {at count capacity : ℕ} {to : Option ℕ} (h : ℕ)
+    → Headed a d at to count
     capacity → Deallocates current d e h → InHeader at → KeepsOutsideIndex a e at (others h (live_of a.bytes).extents)
 headed_released_keeps {a} {d} {e} {at} h w r in_header =
     rest_trans (rest_others h (keeps_words at w.change in_header (omega arith) (omega arith)))
-    (subst (λ (l : LiveSet). KeepsOutsideIndex d e at (others h l.extents)) (same_live w.change) (rest_of r.keeps in_header))
+    (subst (λ (l : LiveSet). KeepsOutsideIndex d e at (others h l.extents)) (same_live w.change)
+    (rest_of r.keeps in_header))
 
 -- ---- an index and a block to which it may go, which is not its own
 
@@ -224,11 +242,13 @@ pub record Offer (c : WindowState) (m : Move) : Type 0 where
   pub offered : IsBlockFor c m.block m.places
   pub apart : m.link ≡ Some m.block → ⊥
 
-pub target : {c : WindowState} {m : Move} (n : ℕ) → Offer c m → n ≤ 8 * m.places → IsTrue (has_room (live_of c.bytes) m.block n)
+pub target : {c : WindowState} {m : Move} (n : ℕ) → Offer c m → n ≤ 8 * m.places
+    → IsTrue (has_room (live_of c.bytes) m.block n)
 target {c} {m} n o few =
     room-less (live_of c.bytes) m.block (8 * m.places) n few (block_room c m.block m.places o.offered)
 
-pub offer : {c : WindowState} {at h places from place : ℕ} {link : Option ℕ} {t : BackingArray} {hs : List ℕ} → InHeader at
+pub offer : {c : WindowState} {at h places from place : ℕ} {link : Option ℕ} {t : BackingArray} {hs : List ℕ}
+    → InHeader at
     → place ≡ at → link ≡ link_at (bytes_of c.bytes) place → from ≡ unwrap_or link h → IsBlockFor c h places
     → (link_at (bytes_of c.bytes) at ≡ Some h → ⊥) → IsIndexOf c at t hs
     → Offer c (record { at = at; block = h; places = places; from = from; link = link; table = t; handles = hs })
@@ -243,7 +263,8 @@ offer {c} w e f begins block apart i =
     }
 
 -- such is a block that was taken
-pub taken_offer : {a b : WindowState} {at n k h from place : ℕ} {link : Option ℕ} {t : BackingArray} {hs : List ℕ} → InHeader at
+pub taken_offer : {a b : WindowState} {at n k h from place : ℕ} {link : Option ℕ} {t : BackingArray} {hs : List ℕ}
+    → InHeader at
     → AllocatesOk current a b k IndexRole h → k ≡ min (n * 8) (2 ^ 64 - 1) → place ≡ at
     → link ≡ link_at (bytes_of b.bytes) place → from ≡ unwrap_or link h → IsIndexOf a at t hs
     → Offer b (record { at = at; block = h; places = n; from = from; link = link; table = t; handles = hs })
@@ -278,7 +299,8 @@ source {c} {m} o = subst (λ (p : Option ℕ). Source c m p) (sym o.leads) (by_c
         }
 
 -- where the block is written it is still offered
-pub written : {a b : WindowState} {m : Move} {n : ℕ} → Offer a m → ChangesBytes current a b (m.block + 0) n → n ≤ 8 * m.places
+pub written : {a b : WindowState} {m : Move} {n : ℕ} → Offer a m → ChangesBytes current a b (m.block + 0) n
+    → n ≤ 8 * m.places
     → Offer b m
 written {m = m} {n} o c few =
     let room = target (0 + n) o (omega arith) in
@@ -412,13 +434,15 @@ emptied {a} {b} {c} {place} {at} e one word two leads count zero =
     } in
     subst (λ k. Headed a c k None 0 0) e all
 
-cut_zero : {a : WindowState} {at : ℕ} {t : BackingArray} {hs : List ℕ} {block : ℕ} → Placed a at t hs block → (l : LiveSet) (n : ℕ)
+cut_zero : {a : WindowState} {at : ℕ} {t : BackingArray} {hs : List ℕ} {block : ℕ} → Placed a at t hs block
+    → (l : LiveSet) (n : ℕ)
     → n ≡ 0 → released l block ≡ with_cut l n t
 cut_zero {t = t} p l n z = ap (released l) (sym p.begins)
     ∙ sym (cond-true (n == 0) (released l (handle p.extent)) (resized l (shorter l p.extent (8 * n))) (eq-eqb n 0 z))
     ∙ ap (λ (o : Option Extent). with_cut l n (record { capacity = t.capacity; extent = o })) (sym p.is)
 
-pub shrunk_empty : {a c e : WindowState} {at block : ℕ} {t : BackingArray} {hs : List ℕ} → Placed a at t hs block → length hs ≡ 0
+pub shrunk_empty : {a c e : WindowState} {at block : ℕ} {t : BackingArray} {hs : List ℕ} → Placed a at t hs block
+    → length hs ≡ 0
     → Headed a c at None 0 0 → Deallocates current c e block → InHeader at → ShrinksIndex a e at t hs
 shrunk_empty {a} {c} {e} {at} {block} {t} {hs} p zero w r h =
     let l = live_of a.bytes in
@@ -442,7 +466,8 @@ shrunk_empty {a} {c} {e} {at} {block} {t} {hs} p zero w r h =
 -- ---- with entries
 
 -- the block is the shorter one of its own
-resized_here : {b e : WindowState} {l : LiveSet} {x : Extent} {block n : ℕ} → live_of b.bytes ≡ l → extent_at l block ≡ Some x
+resized_here : {b e : WindowState} {l : LiveSet} {x : Extent} {block n : ℕ} → live_of b.bytes ≡ l
+    → extent_at l block ≡ Some x
     → ShrinksInPlace current b e block n → ResizesBlock current b e x (shorter l x n)
 resized_here {b} {e} {l} {x} {block} {n} live found s =
     let same : s.extent ≡ x =
@@ -483,7 +508,8 @@ found_cut l x y rises found begins =
     (others k l.extents)) (sym begins) f.differs))
 
 shrunk_some : (a b e : WindowState) (at cap : ℕ) (x : Extent) (hs : List ℕ)
-    → Placed a at (record { capacity = cap; extent = Some x }) hs (handle x) → (length hs ≡ 0 → ⊥) → ChangesBytes current a
+    → Placed a at (record { capacity = cap; extent = Some x }) hs (handle x) → (length hs ≡ 0 → ⊥)
+    → ChangesBytes current a
     b (at + 16) 8 → word_at (bytes_of b.bytes) (at + 16) ≡ length hs → ShrinksInPlace current b e (handle x)
     (8 * length hs) → InHeader at → ShrinksIndex a e at (record { capacity = cap; extent = Some x }) hs
 shrunk_some a b e at cap x hs p some one word s w =
@@ -496,12 +522,15 @@ shrunk_some a b e at cap x hs p some one word s w =
     let now : live_of e.bytes ≡ resized l y = resized-live current b e x y r ∙ ap (λ (k : LiveSet). resized k y) live in
     let links : AreLinksTo E (handle y) hs = links_moved A E (handle x) (handle y) hs i.stands.entries (λ k f.
     let q : handle y + 8 * k ≡ handle x + 8 * k = omega arith in
-    ap (λ j. link_at E j) q ∙ SameBytes-link B E (handle x) (x.offset + min x.len y.len) (handle x + 8 * k) r.still.payload
-    (omega arith) (omega arith) ∙ SameBytesExcept-link A B (at + 16) 8 (handle x + 8 * k) one.rest (inr (omega arith))) in
+    ap (λ j. link_at E j) q ∙ SameBytes-link B E (handle x) (x.offset + min x.len y.len) (handle x + 8 * k)
+    r.still.payload
+    (omega arith) (omega arith) ∙ SameBytesExcept-link A B (at + 16) 8 (handle x + 8 * k) one.rest
+    (inr (omega arith))) in
     let index : IsIndexOf e at (record { capacity = n; extent = Some y }) hs = record {
       heap = laid-heap e.bytes (resized (live_of b.bytes) y) r.live;
       stands = record {
-        link = SameBytes-link B E 32 128 at r.keeps.behind w.behind (omega arith) ∙ SameBytesExcept-link A B (at + 16) 8 at one.rest
+        link = SameBytes-link B E 32 128 at r.keeps.behind w.behind (omega arith)
+            ∙ SameBytesExcept-link A B (at + 16) 8 at one.rest
             (inl (omega arith)) ∙ i.stands.link ∙ ap (λ k. Some k) (sym begins);
         count = SameBytes-word B E 32 128 (at + 8) r.keeps.behind (omega arith) (omega arith)
             ∙ SameBytesExcept-word A B (at + 16) 8 (at + 8) one.rest (inl (omega arith)) ∙ i.stands.count;
@@ -536,10 +565,12 @@ shrunk_some a b e at cap x hs p some one word s w =
           let whole : shorter (live_of b.bytes) s.extent (8 * n) ≡ s.extent =
           subst (λ (q : LiveSet). shorter q s.extent (8 * n) ≡ s.extent) (sym live)
           (subst (λ (q : Extent). shorter l q (8 * n) ≡ q) (sym own ∙ mine) uncut) in
-          subst (λ (c : WindowState). KeepsGaps a c) (sym (s.same whole)) (gaps-header a b (at + 16) 8 one (omega arith));
+          subst (λ (c : WindowState). KeepsGaps a c) (sym (s.same whole))
+          (gaps-header a b (at + 16) 8 one (omega arith));
     }
 
-pub shrunk_short : {a b e : WindowState} {at block place n : ℕ} {t : BackingArray} {hs : List ℕ} → Placed a at t hs block → (n ≡ 0 → ⊥)
+pub shrunk_short : {a b e : WindowState} {at block place n : ℕ} {t : BackingArray} {hs : List ℕ}
+    → Placed a at t hs block → (n ≡ 0 → ⊥)
     → n ≡ length hs → place ≡ at → ChangesBytes current a b (place + 16) 8 → word_at (bytes_of b.bytes) (place + 16) ≡ n
     → ShrinksInPlace current b e block (8 * n) → InHeader at → ShrinksIndex a e at t hs
 shrunk_short {a} {b} {e} {at} {block} {place} {n} {t} {hs} p some long there change word s w =

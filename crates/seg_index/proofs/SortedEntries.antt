@@ -4,9 +4,11 @@ use common.{◌≡◌, refl, sym, ap, ap₂, subst, ◌∙◌, ℕ, zero, suc, �
 use common.{arith}
 use common.{IsTrue, Option, Some, None, inl, inr, insert, remove, slice_get, AllByRecursion, none-some, same_Some, Less}
 use common.{Greater, Ordering, ordering_reverse, slice_cmp, nat_cmp, nat_list_cmp_total, cases_Bool, leb-true, holds}
-use common.{and_parts, slice_get-get_or, current, WindowState, Memory, bytes_of, SameBytes-word, Role, IndexRole, link_at}
+use common.{and_parts, slice_get-get_or, current, WindowState, Memory, bytes_of, SameBytes-word, Role, IndexRole}
+use common.{link_at}
 use common.{Extent, LiveSet, handle, others, AllocatesOk, Deallocates, EncodesLiveSet, KeepsBlocks, SameBlock}
-use common.{extent_at, live_of, BackingArray, same_role, serves, found-room, found-less, IsBlockFor, KeepsOutsideIndex, beside_table}
+use common.{extent_at, live_of, BackingArray, same_role, serves, found-room, found-less, IsBlockFor, KeepsOutsideIndex}
+use common.{beside_table}
 use common.{unlinked, without_link, IsIndexOf, AreLinksTo, Entry, name_at, name_len_at, released-live, nat_lt, order}
 use common.{ChangesBytes, Absent, changed-keeps, has_room, read, ◌*◌, ◌%◌, Equal, Found, Lookup, cases_lt}
 use Rattle.std.specs.Cmp.{IsTotalOrder}
@@ -181,12 +183,14 @@ module _ {a : WindowState} {at : ℕ} {t : BackingArray} {hs : List ℕ} (i : Is
       by_case (Some k) leads = found-less h k x ys.extents (link-apart k leads) f
 
 -- what is found in other blocks that stay is there with its bytes
-pub in-kept : {a b : WindowState} {at : ℕ} (zs : List Extent) (h : ℕ) (x : Extent) → KeepsOutsideIndex a b at zs → first h zs ≡ Some x
+pub in-kept : {a b : WindowState} {at : ℕ} (zs : List Extent) (h : ℕ) (x : Extent) → KeepsOutsideIndex a b at zs
+    → first h zs ≡ Some x
     → SameBlock (bytes_of a.bytes) (bytes_of b.bytes) x
 in-kept {a} {b} zs h x k f = all_found (SameBlock (bytes_of a.bytes) (bytes_of b.bytes)) h zs x k.blocks f
 
 -- where a block is taken
-pub taken-stays : {a b : WindowState} {n k : ℕ} {role : Role} → AllocatesOk current a b n role k → (h : ℕ) → ObjectStays a b h
+pub taken-stays : {a b : WindowState} {n k : ℕ} {role : Role} → AllocatesOk current a b n role k → (h : ℕ)
+    → ObjectStays a b h
 taken-stays {a} {b} al h = record {
   each = λ x e role. (
     found_still h x al e,
@@ -241,7 +245,8 @@ stays-itself {a} h = record {
 }
 
 -- where blocks stay and the live set too
-pub kept-stays : {a b : WindowState} → EncodesLiveSet current b.bytes (live_of a.bytes) → KeepsBlocks a b (live_of a.bytes).extents → (h : ℕ)
+pub kept-stays : {a b : WindowState} → EncodesLiveSet current b.bytes (live_of a.bytes)
+    → KeepsBlocks a b (live_of a.bytes).extents → (h : ℕ)
     → ObjectStays a b h
 kept-stays {a} {b} laid k h = record {
   each = λ x e role. (
@@ -264,7 +269,8 @@ beside-stays {a} {t = t} i k found h = record {
 
 -- where an index moves into a block that was in use
 pub moved-stays : {a b : WindowState} {at : ℕ} {t : BackingArray} {hs : List ℕ} {g places : ℕ} → IsIndexOf a at t hs
-    → IsBlockFor a g places → live_of b.bytes ≡ unlinked a at → KeepsOutsideIndex a b at (others g (unlinked a at).extents)
+    → IsBlockFor a g places → live_of b.bytes ≡ unlinked a at
+    → KeepsOutsideIndex a b at (others g (unlinked a at).extents)
     → (h : ℕ) → ObjectStays a b h
 moved-stays {a} {at = at} {g = g} {places} i block live k h = record {
   each = λ x e role.
@@ -308,7 +314,8 @@ sorted-remove c (x ∷ xs) zero l s = s.1
 sorted-remove c (x ∷ xs) (suc i) l s =
     (remove_all (λ g. c x g ≡ Less) xs i (omega arith) s.0, sorted-remove c xs i (omega arith) s.1)
 
-pub one-more : {c : WindowState} {i : Index} {hs : List ℕ} {place h : ℕ} → AreSortedHandles c i hs → BelongsAt c i hs place h
+pub one-more : {c : WindowState} {i : Index} {hs : List ℕ} {place h : ℕ} → AreSortedHandles c i hs
+    → BelongsAt c i hs place h
     → AreSortedHandles c i (insert hs place h)
 one-more {c} {i} {hs} {place} {h} s b = record {
   keys = insert_all (HasSortKey c i) hs place h b.within s.keys b.key;
@@ -408,7 +415,8 @@ links-same m at (h ∷ hs) [] p q e = absurd (omega arith)
 links-same m at (h ∷ hs) (g ∷ gs) p q e =
     ap₂ (λ x xs. x ∷ xs) (same_Some h g (sym p.0 ∙ q.0)) (links-same m (at + 8) hs gs p.1 q.1 (omega arith))
 
-pub one-list : {c : WindowState} {at : ℕ} {t u : BackingArray} {hs gs : List ℕ} → IsIndexOf c at t hs → IsIndexOf c at u gs → hs ≡ gs
+pub one-list : {c : WindowState} {at : ℕ} {t u : BackingArray} {hs gs : List ℕ} → IsIndexOf c at t hs
+    → IsIndexOf c at u gs → hs ≡ gs
 one-list {c} {at} {hs = hs} {gs} i j = by_case (link_at (bytes_of c.bytes) at) refl
   where
     by_case : (o : Option ℕ) → link_at (bytes_of c.bytes) at ≡ o → hs ≡ gs

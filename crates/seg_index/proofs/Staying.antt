@@ -1,10 +1,13 @@
 -- An index stays where its words and its block do, and a growth may still be used; the block that a request took.
 use Rattle.seg_index.proofs.Common as common
 use common.{◌≡◌, refl, ap, subst, ◌∙◌, ℕ, ◌+◌, ◌*◌, ◌≤◌, List, [], ◌∷◌, arith, IsTrue, Option, Some, None, IfSome}
-use common.{AllByRecursion, none-some, same_Some, current, WindowState, SameBytes, bytes_of, SameBytes-part, SameBytes-word, Role, link_at}
-use common.{SameBytes-link, Extent, LiveSet, handle, added, others, AllocatesOk, ChangesBytes, IsHeap, Deallocates, SameBlock}
+use common.{AllByRecursion, none-some, same_Some, current, WindowState, SameBytes, bytes_of, SameBytes-part}
+use common.{SameBytes-word, Role, link_at}
+use common.{SameBytes-link, Extent, LiveSet, handle, added, others, AllocatesOk, ChangesBytes, IsHeap, Deallocates}
+use common.{SameBlock}
 use common.{extent_at, has_room, live_of, BackingArray, changed-keeps, found-less, laid-heap, released-live, IsIndexOf}
-use common.{AreIndexEntries, sym, ◌-◌, ◌^◌, inl, inr, min, cases_lt, place, serves, allocated-live, found-new, live-rises}
+use common.{AreIndexEntries, sym, ◌-◌, ◌^◌, inl, inr, min, cases_lt, place, serves, allocated-live, found-new}
+use common.{live-rises}
 use common.{rising-insert, IsBlockFor, IndexRole, ◌<◌, capacity_at, grown_capacity, EncodesLiveSet, KeepsBlocks}
 use Rattle.seg_index.proofs.Entries.{all_found, first, links_moved, long_enough, table_cases, placed}
 use Rattle.seg_index.proofs.Changing.{InHeader, same_live}
@@ -19,7 +22,8 @@ pub record Around (a b : WindowState) (at : ℕ) (t : BackingArray) : Type 0 whe
   pub block : IfSome t.extent (λ x. (extent_at (live_of b.bytes) (handle x) ≡ Some x)
       × SameBytes (bytes_of a.bytes) (bytes_of b.bytes) (handle x) (end_of x))
 
-pub stays : (a b : WindowState) (at : ℕ) (t : BackingArray) (hs : List ℕ) → IsIndexOf a at t hs → Around a b at t → IsIndexOf b at t hs
+pub stays : (a b : WindowState) (at : ℕ) (t : BackingArray) (hs : List ℕ) → IsIndexOf a at t hs → Around a b at t
+    → IsIndexOf b at t hs
 stays a b at t hs i r =
     let A = bytes_of a.bytes in let B = bytes_of b.bytes in
     record {
@@ -61,14 +65,16 @@ pub record HasBlock (c : WindowState) (at : ℕ) (x : Extent) : Type 0 where
   pub leads : link_at (bytes_of c.bytes) at ≡ Some (handle x)
   pub found : extent_at (live_of c.bytes) (handle x) ≡ Some x
 
-pub block_of : {c : WindowState} {at : ℕ} {t : BackingArray} {hs : List ℕ} (x : Extent) → IsIndexOf c at t hs → t.extent ≡ Some x
+pub block_of : {c : WindowState} {at : ℕ} {t : BackingArray} {hs : List ℕ} (x : Extent) → IsIndexOf c at t hs
+    → t.extent ≡ Some x
     → HasBlock c at x
 block_of {c} {at} {t} {hs} x i e = table_cases (λ u. IsIndexOf c at u hs → u.extent ≡ Some x → HasBlock c at x)
     (λ cap j f. absurd (none-some x f)) (λ cap y j f.
     subst (λ z. HasBlock c at z) (same_Some y x f) (record { leads = j.stands.link; found = j.held })) t i e
 
 -- where these blocks stay, and that of the index is one of them and in use
-still_kept : {a b : WindowState} {at : ℕ} {t : BackingArray} {hs : List ℕ} {l : LiveSet} (xs : List Extent) → InHeader at
+still_kept : {a b : WindowState} {at : ℕ} {t : BackingArray} {hs : List ℕ} {l : LiveSet} (xs : List Extent)
+    → InHeader at
     → IsIndexOf a at t hs → EncodesLiveSet current b.bytes l → KeepsBlocks a b xs → ((x : Extent) → HasBlock a at x
     → (first (handle x) xs ≡ Some x) × (extent_at (live_of b.bytes) (handle x) ≡ Some x)) → IsIndexOf b at t hs
 still_kept {a} {b} {at} {t} {hs} {l} xs w i laid keeps found = stays a b at t hs i (Around-kept a b at t xs
@@ -95,12 +101,14 @@ pub other_block : {g h : ℕ} (o : Option ℕ) → o ≡ Some h → (o ≡ Some 
 other_block o e n q = n (e ∙ ap (λ k. Some k) q)
 
 -- and it is found among the others
-among_others : {a : WindowState} {at h : ℕ} → (link_at (bytes_of a.bytes) at ≡ Some h → ⊥) → (x : Extent) → HasBlock a at x
+among_others : {a : WindowState} {at h : ℕ} → (link_at (bytes_of a.bytes) at ≡ Some h → ⊥) → (x : Extent)
+    → HasBlock a at x
     → first (handle x) (others h (live_of a.bytes).extents) ≡ Some x
 among_others {a} {at} {h} other x q = found-less (handle x) h x (live_of a.bytes).extents
     (other_block (link_at (bytes_of a.bytes) at) q.leads other) q.found
 
-pub still_released : {a b : WindowState} {at h : ℕ} {t : BackingArray} {hs : List ℕ} → InHeader at → Deallocates current a b h
+pub still_released : {a b : WindowState} {at h : ℕ} {t : BackingArray} {hs : List ℕ} → InHeader at
+    → Deallocates current a b h
     → (link_at (bytes_of a.bytes) at ≡ Some h → ⊥) → IsIndexOf a at t hs → IsIndexOf b at t hs
 still_released {a} {b} {h = h} w r other i = still_kept (others h (live_of a.bytes).extents) w i r.live r.keeps (λ x q.
     let f = among_others other x q in
@@ -121,7 +129,8 @@ fresh {a} i =
     let l = live_of a.bytes in rising-insert 128 i.extent l.extents (live-rises (added l i.extent) i.live.proper)
 
 -- it is not the block of an index: nothing of its handle was in use before
-pub not_its_own : (a b : WindowState) (at n : ℕ) (role : Role) (h : ℕ) (t : BackingArray) (hs : List ℕ) → IsIndexOf a at t hs
+pub not_its_own : (a b : WindowState) (at n : ℕ) (role : Role) (h : ℕ) (t : BackingArray) (hs : List ℕ)
+    → IsIndexOf a at t hs
     → AllocatesOk current a b n role h → link_at (bytes_of a.bytes) at ≡ Some h → ⊥
 not_its_own a b at n role h t hs i al leads =
     let p = placed h i leads in let y = al.extent in let x = p.extent in let xs = (live_of a.bytes).extents in
@@ -155,7 +164,8 @@ asked c n k role heap e = elim (cases_lt 1073741824 k) [
 ]
 
 -- what has a fit is as much as was meant
-pub meant : {a b : WindowState} {k h : ℕ} {role : Role} (n : ℕ) → IsHeap current a.bytes → AllocatesOk current a b k role h
+pub meant : {a b : WindowState} {k h : ℕ} {role : Role} (n : ℕ) → IsHeap current a.bytes
+    → AllocatesOk current a b k role h
     → k ≡ min (n * 8) (2 ^ 64 - 1) → k ≡ 8 * n
 meant {a} {k = k} {role = role} n heap i e = elim (cases_lt 1073741824 k) [
   | inl l ↦ absurd (none-some i.extent (sym (too_long a k role heap l) ∙ i.placed))
@@ -170,7 +180,8 @@ record Words (a b : WindowState) (at : ℕ) : Type 0 where
   pub count : entry_count b at ≡ entry_count a at
   pub capacity : capacity_at b at ≡ capacity_at a at
 
-words_in : (a b : WindowState) {at : ℕ} → SameBytes (bytes_of a.bytes) (bytes_of b.bytes) 32 128 → InHeader at → Words a b at
+words_in : (a b : WindowState) {at : ℕ} → SameBytes (bytes_of a.bytes) (bytes_of b.bytes) 32 128 → InHeader at
+    → Words a b at
 words_in a b {at} s h =
     let A = bytes_of a.bytes in let B = bytes_of b.bytes in
     record {
@@ -188,7 +199,8 @@ still_grows {b = b} {at} (Some h) w f can =
     (sym w.capacity)) (record { extent = k.extent; found = f h k.extent refl k.found; fits = k.fits }) in
     (block, λ e. can.1 (sym w.link ∙ e))
 
-pub prepared : (a b : WindowState) (at : ℕ) (g : Option ℕ) (t : BackingArray) (hs : List ℕ) → IsIndexOf a at t hs → IsGrowth a b at g
+pub prepared : (a b : WindowState) (at : ℕ) (g : Option ℕ) (t : BackingArray) (hs : List ℕ) → IsIndexOf a at t hs
+    → IsGrowth a b at g
     → 32 ≤ at → at + 24 ≤ 128 → CanGrow b at g
 prepared a b at None t hs i k low head = subst (λ (c : WindowState). entry_count c at < capacity_at c at) (sym k.1) k.0
 prepared a b at (Some h) t hs i k low head =
@@ -199,7 +211,8 @@ prepared a b at (Some h) t hs i k low head =
       λ e. not_its_own a b at (8 * places) IndexRole h t hs i k.1 (sym w.link ∙ e),
     )
 
-pub taken : {a b : WindowState} {at n h : ℕ} {role : Role} (g : Option ℕ) → CanGrow a at g → AllocatesOk current a b n role h
+pub taken : {a b : WindowState} {at n h : ℕ} {role : Role} (g : Option ℕ) → CanGrow a at g
+    → AllocatesOk current a b n role h
     → InHeader at → CanGrow b at g
 taken {a} {b} g can d w = still_grows g (words_in a b d.keeps.behind w) (λ k x q e. found_still k x d e) can
 
@@ -209,7 +222,8 @@ growth-released {a} {b} {h = h} g can d other w = still_grows g (words_in a b d.
     ap (λ (l : LiveSet). extent_at l k) (released-live current a b h d)
     ∙ found-less k h x (live_of a.bytes).extents (other_block g q other) e) can
 
-pub growth-written : {a b : WindowState} {at n : ℕ} (g : Option ℕ) (h k : ℕ) → CanGrow a at g → ChangesBytes current a b (h + k) n
+pub growth-written : {a b : WindowState} {at n : ℕ} (g : Option ℕ) (h k : ℕ) → CanGrow a at g
+    → ChangesBytes current a b (h + k) n
     → IsTrue (has_room (live_of a.bytes) h (k + n)) → InHeader at → CanGrow b at g
 growth-written {a} {b} {n = n} g h k can d room w =
     let keeps = changed-keeps current a b h k n d room in

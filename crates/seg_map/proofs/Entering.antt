@@ -2,8 +2,10 @@
 use Rattle.seg_map.proofs.Common as common
 use common.{◌≡◌, refl, sym, ap, ◌∙◌, ℕ, ◌+◌, ◌≤◌, ◌≢◌, inl, inr, Bool, true, ◌&&◌, not, List, ◌∷◌, length, map, arith}
 use common.{◌==◌, Option, Some, None, find, option_map, AllByRecursion, list_all, reverse, and_parts, cases_Bool}
-use common.{eq-eqb, le-leb, leb-true, Memory, HasBytesAt, bytes_of, read, WindowState, Node, link_at, Tree, IsTree, nodes_of, is_sorted}
-use common.{first_not_before, is_in, last_before, leads, all_from, root_in, tree_same, Extent, LiveSet, handle, cells_of}
+use common.{eq-eqb, le-leb, leb-true, Memory, HasBytesAt, bytes_of, read, WindowState, Node, link_at, Tree, IsTree}
+use common.{nodes_of, is_sorted}
+use common.{first_not_before, is_in, last_before, leads, all_from, root_in, tree_same, Extent, LiveSet, handle}
+use common.{cells_of}
 use common.{others, KeepsBlocks, SameBlock, extent_at, live_of, value_in, IsKeyTree, keys_in, Pair, IsPairAt, is_rising}
 use common.{HoldsMap, IsPairIn, first_pair, is_passed, last_pair, nodes_of_pairs, pair_node, before_key, comes_before}
 use common.{stands, is_pair_node, key_at, key_of, links_among, own_nodes, pair_cells, stands_before, Chains, IsStrict}
@@ -111,7 +113,8 @@ pairs_all P Q (p ∷ ps) f a = rw (f p a.0, pairs_all P Q ps f a.1) refl
 
 -- ---- the tree of a map
 
-module _ {K V : Type 0} {kp : Plain K} {vp : Plain V} (laws : Laws kp) (c : WindowState) {h at : ℕ} {ps : List (Pair K V)}
+module _ {K V : Type 0} {kp : Plain K} {vp : Plain V} (laws : Laws kp) (c : WindowState) {h at : ℕ}
+    {ps : List (Pair K V)}
     (s : HoldsMap kp vp c.bytes h at ps) where
   pub pair_block : (p : Pair K V) → IsPairIn kp vp (live_of c.bytes) h p
       → is_block_in (16 + kp.SIZE) (live_of c.bytes) (pair_node p) ≡ true
@@ -140,7 +143,8 @@ pub with_bytes : {K V : Type 0} {kp : Plain K} {vp : Plain V} {b : List ℕ} {h 
 with_bytes {ps = ps} s = each_both ps s.pairs s.map.pairs (λ p i b. (i, b))
 
 -- the key of a pair's node is the pair's
-pub key_is : {K V : Type 0} {kp : Plain K} {vp : Plain V} → Laws kp → (own : List ℕ) (c : WindowState) {h : ℕ} {p : Pair K V}
+pub key_is : {K V : Type 0} {kp : Plain K} {vp : Plain V} → Laws kp
+    → (own : List ℕ) (c : WindowState) {h : ℕ} {p : Pair K V}
     → is_pair_node (16 + kp.SIZE) own c (pair_node p) ≡ true → IsPairIn kp vp (live_of c.bytes) h p
     → IsPairAt kp.SIZE kp.spelling vp.spelling (bytes_of c.bytes) p → keys_in kp own c (pair_node p) ≡ Some p.key
 unfolding key_of key_at
@@ -148,7 +152,8 @@ key_is {kp = kp} l own c {p = p} e i b =
     rw e (read_spelled kp l (bytes_of c.bytes) (handle p.node + 16) p.key (pair_parts i).key b.0)
 
 -- the nodes may be more than those of the tree
-module _ {K V : Type 0} {kp : Plain K} {vp : Plain V} (laws : Laws kp) {c : WindowState} {h at : ℕ} {ps : List (Pair K V)}
+module _ {K V : Type 0} {kp : Plain K} {vp : Plain V} (laws : Laws kp) {c : WindowState} {h at : ℕ}
+    {ps : List (Pair K V)}
     (s : HoldsMap kp vp c.bytes h at ps) {own : List ℕ} (g : IsGoodNodeSet (16 + kp.SIZE) own c)
     (among : (m : ℕ) → is_in m (nodes_of s.map.tree.tree) ≡ true → is_in m own ≡ true) where
   node_in : (n : ℕ) → is_in n (nodes_of s.map.tree.tree) ≡ true → is_pair_node (16 + kp.SIZE) own c n ≡ true
@@ -177,7 +182,8 @@ module _ {K V : Type 0} {kp : Plain K} {vp : Plain V} (laws : Laws kp) {c : Wind
         leads = leads_among root s.map.tree.linked;
       }
 
-module _ {K V : Type 0} {kp : Plain K} {vp : Plain V} (laws : Laws kp) (c : WindowState) {h at : ℕ} {ps : List (Pair K V)}
+module _ {K V : Type 0} {kp : Plain K} {vp : Plain V} (laws : Laws kp) (c : WindowState) {h at : ℕ}
+    {ps : List (Pair K V)}
     (s : HoldsMap kp vp c.bytes h at ps) where
   abbrev t : Tree
   t = s.map.tree.tree
@@ -212,6 +218,7 @@ module _ {K V : Type 0} {kp : Plain K} {vp : Plain V} (laws : Laws kp) (c : Wind
       s.map.tree.linked (all_from (λ n. true) ns (λ m i. refl)) (omega arith))
 
 -- a map has few pairs
-pub few_in_map : {K V : Type 0} {kp : Plain K} {vp : Plain V} (kl : Laws kp) (c : WindowState) {h at : ℕ} {ps : List (Pair K V)}
+pub few_in_map : {K V : Type 0} {kp : Plain K} {vp : Plain V} (kl : Laws kp) (c : WindowState) {h at : ℕ}
+    {ps : List (Pair K V)}
     (s : HoldsMap kp vp c.bytes h at ps) → length ps ≤ 1073741824
 few_in_map kl c {ps = ps} s = omega (arith, few_pairs kl c s, ap length s.map.tree.lists ∙ length-map ps pair_node)

@@ -1,11 +1,15 @@
 -- A pair leaves the map, and all of them.
 use Rattle.seg_map.proofs.Common as common
 use common.{◌≡◌, both_ways, is_live_in, found-less, found-room, laid-heap, pair_node, own_nodes, cases_Bool, live-rises}
-use common.{refl, bytes_of, nodes_of, released, HoldsMap, IsPairIn, Relinked, ErasesPair, is_proper, extent_at, is_rising}
-use common.{sym, current, link_at, without, LiveSet, EncodesLiveSet, live_of, WritesMapHeader, cases_eq, cells_of, IsStrict, or_right}
-use common.{ap, lay_out_one, remove_pair, nodes_of_pairs, AllByRecursion, SameBlockExcept, KeepsOutsideMap, false_from_ne_true}
+use common.{refl, bytes_of, nodes_of, released, HoldsMap, IsPairIn, Relinked, ErasesPair, is_proper, extent_at}
+use common.{is_rising}
+use common.{sym, current, link_at, without, LiveSet, EncodesLiveSet, live_of, WritesMapHeader, cases_eq, cells_of}
+use common.{IsStrict, or_right}
+use common.{ap, lay_out_one, remove_pair, nodes_of_pairs, AllByRecursion, SameBlockExcept, KeepsOutsideMap}
+use common.{false_from_ne_true}
 use common.{subst, length, IsTrue, Option, IfSome, eq-eqb, Extent, pair_at, keys_in, exit_in, word_at, root_of, root_in}
-use common.{◌∙◌, ℕ, ◌+◌, ◌≢◌, None, WindowState, Pair, ◌⊎◌, ◌<◌, inl, inr, Bool, true, ◌∷◌, map, Tree, fork, leaf, In, [], not}
+use common.{◌∙◌, ℕ, ◌+◌, ◌≢◌, None, WindowState, Pair, ◌⊎◌, ◌<◌, inl, inr, Bool, true, ◌∷◌, map, Tree, fork, leaf, In}
+use common.{[], not}
 use common.{false≢true, comes_before, IsKeyTree}
 use common.{false, List, arith, ◌==◌, Some, is_in, handle, roomy, ne_eqb, IsTree, others, Chains, is_key, Rising, Plain}
 use Rattle.seg_map.proofs.PairLists.{without_nodes, in_from, nodes_in, Below, rising_below, rising_rest, each_both}
@@ -20,7 +24,8 @@ use Rattle.best_fit.proofs.Laws.{released-live, others-comm, rising-weak}
 use Rattle.best_fit.specs.{Exchange.exchanged, Exchange.without_all, Heap.Deallocates}
 
 -- a node of the tree that can be taken out, from the root on or from where its removal begins
-pub record CanUnlink {K : Type 0} (k : Plain K) (ns : List ℕ) (c : WindowState) (root start : Option ℕ) (node : ℕ) : Type 0
+pub record CanUnlink {K : Type 0} (k : Plain K) (ns : List ℕ) (c : WindowState) (root start : Option ℕ) (node : ℕ) :
+    Type 0
   where
     pub shape : Tree
     pub tree : IsKeyTree k ns c root shape
@@ -45,7 +50,8 @@ module _ {K V : Type 0} {kp : Plain K} {vp : Plain V} (kl : Laws kp) (c : Window
   }
 
   -- the map without the pair
-  pub taken : {d e : WindowState} {top : Option ℕ} {n steps : ℕ} → Relinked kp lent c d root top (without node) steps → Laws vp
+  pub taken : {d e : WindowState} {top : Option ℕ} {n steps : ℕ}
+      → Relinked kp lent c d root top (without node) steps → Laws vp
       → n + 1 ≡ length ps → WritesMapHeader d e (h + at) top n → UnlinksPair kp vp c e h at ps key
   taken u vl count head = relaid s (lent_tree kl c s is refl) u kl vl ps s.pairs s.map.pairs (ns_is ∙ s.map.tree.lists)
       (rw ns_is (good kl c s)) head ((λ i. without (sym here i) (s.map.tree.lists i)) ∙ without_nodes kp.order
@@ -195,7 +201,8 @@ exit_of_root : (less : ℕ → ℕ → Bool) (n : ℕ) (t : Tree) → Some n ≡
 exit_of_root less n leaf e = absurd (cc)
 exit_of_root less n (fork red left m right) e = let same : m ≡ n = cc in rw (eq-eqb m n same) refl
 
-module _ {K V : Type 0} {k : Plain K} {v : Plain V} (kl : Laws k) {old now : WindowState} {h at : ℕ} {ps : List (Pair K V)}
+module _ {K V : Type 0} {k : Plain K} {v : Plain V} (kl : Laws k) {old now : WindowState} {h at : ℕ}
+    {ps : List (Pair K V)}
     (g : IsGoing k v old now h at ps) where
   -- the node at the root is that of a pair
   pub root_pair : {node : ℕ} → link_at (bytes_of now.bytes) (h + at) ≡ Some node

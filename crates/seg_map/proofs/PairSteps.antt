@@ -3,12 +3,16 @@ use Rattle.seg_map.proofs.Common as common
 use common.{Memory, List, length, IsTrue, eq-eqb, Extent, word_at, current, link_at, LiveSet, is_kept, kept_of, keys_in}
 use common.{refl, false≢true, cases_Bool, is_live_in, beside_cell, lay_out_one, is_pair_node, links_among, comes_before}
 use common.{suc, handle, ne_eqb, Rising, nat_lt, nat_le, Option, IfSome, le-leb, lt-ltb, end_of, others, key_at, key_of}
-use common.{◌≡◌, ap, ◌+◌, ◌==◌, Some, find, read, lies, subst, Bool, true, false, None, SameBytes, is_in, leads, IsGoodNodeSet, Plain}
+use common.{◌≡◌, ap, ◌+◌, ◌==◌, Some, find, read, lies, subst, Bool, true, false, None, SameBytes, is_in, leads}
+use common.{IsGoodNodeSet, Plain}
 use common.{ℕ, ◌-◌, ◌≤◌, inl, inr, ◌∷◌, In, [], sym, ◌∙◌, ◌%◌, ◌<◌, ◌⊎◌, WindowState}
-use common.{◌&&◌, is_proper, room-less, both_ways, SameSurroundings, SameBytes-link, cell_stays, pair_cells, node_block, node_place}
-use common.{arith, eqb-true, leb-true, has_room, list_any, cases_eq, or_cases, or_right, ltb-true, ChangesBytes, SameBlock}
+use common.{◌&&◌, is_proper, room-less, both_ways, SameSurroundings, SameBytes-link, cell_stays, pair_cells, node_block}
+use common.{node_place}
+use common.{arith, eqb-true, leb-true, has_room, list_any, cases_eq, or_cases, or_right, ltb-true, ChangesBytes}
+use common.{SameBlock}
 use common.{and_parts, is_proper-IsProper, allocated-room, AllByRecursion, PairNode-is_pair_node, is_pair_node-PairNode}
-use common.{live_of, changed-room, if◌then◌else◌, SameBytesExcept-SameBytes, SameBytesExcept-word, SameBytesExcept-link, is_link_byte, stands_before}
+use common.{live_of, changed-room, if◌then◌else◌, SameBytesExcept-SameBytes, SameBytesExcept-word, SameBytesExcept-link}
+use common.{is_link_byte, stands_before}
 use common.{passing, or_left, bytes_of, all_from, cells_of, is_other, PairNode, cells_at, disjoint, value_in, not-true}
 use Rattle.best_fit.proofs.Laws.{legal_size, others-here, others-past}
 use Rattle.best_fit.specs.{Heap.Recolours, Heap.is_node_in, Heap.is_node_role, FreeTree.is_red, Extents.holds}
@@ -213,7 +217,8 @@ block_apart {len} {ns} {c} {n} x g i o =
       | inr d ↦ grind (arith, d)
     ]
 
-pub nodes_apart : {len : ℕ} {ns : List ℕ} {c : WindowState} {n m : ℕ} → PairNode len ns c n → PairNode len ns c m → (m ≡ n → ⊥)
+pub nodes_apart : {len : ℕ} {ns : List ℕ} {c : WindowState} {n m : ℕ} → PairNode len ns c n → PairNode len ns c m
+    → (m ≡ n → ⊥)
     → (m + len ≤ n - 16) ⊎ (n + len ≤ m - 16)
 nodes_apart {len} {ns} {c} {n} {m} g h o =
     let p = node_place len ns c m h in let b = p.block in let at = b.at in
@@ -373,7 +378,8 @@ pub record IsSet {K : Type 0} (k : Plain K) (ns : List ℕ) (c d : WindowState) 
   pub probe : ahead_of k ns d ≡ ahead_of k ns c
   pub kept : kept_of ns d ≡ kept_of ns c
 
-module _ {K : Type 0} (k : Plain K) {ns : List ℕ} {c : WindowState} {n : ℕ} (g : PairNode (16 + k.SIZE) ns c n) {d : WindowState} where
+module _ {K : Type 0} (k : Plain K) {ns : List ℕ} {c : WindowState} {n : ℕ} (g : PairNode (16 + k.SIZE) ns c n)
+    {d : WindowState} where
   set : (cells : ℕ → Cell) → Changed (16 + k.SIZE) ns c d n → pair_cells (16 + k.SIZE) ns d ≡ cells
       → IsSet k ns c d cells
   set cells change is =

@@ -1,14 +1,20 @@
 -- What is written of a map, and pairs that are put.
 use Rattle.seg_map.proofs.Common as common
-use common.{◌≡◌, true, Node, Bool, ◌||◌, List, Some, roomy, Pair, ◌&&◌, leads, IsGoodNodeSet, SameBytes, KeepsBlocks, refl, AllocatesOk}
+use common.{◌≡◌, true, Node, Bool, ◌||◌, List, Some, roomy, Pair, ◌&&◌, leads, IsGoodNodeSet, SameBytes, KeepsBlocks}
+use common.{refl, AllocatesOk}
 use common.{comes_before, is_pair_node, links_among, beside_cell, changed-room, subst, entry_in, eqb-true, or_cases}
-use common.{or_right, all_from, cells_of, Relinked, cases_eq, ◌∙◌, ◌+◌, ◌%◌, inl, WindowState, ◌≤◌, HasBytesAt, sym, ap, ◌≢◌, inr, not}
+use common.{or_right, all_from, cells_of, Relinked, cases_eq, ◌∙◌, ◌+◌, ◌%◌, inl, WindowState, ◌≤◌, HasBytesAt, sym, ap}
+use common.{◌≢◌, inr, not}
 use common.{◌∷◌, Tree, put, ◌⊎◌, ℕ, arith, Plain, false, ne_eqb, is_in, Extent, handle, stands, length, eq-eqb, others}
-use common.{IsTrue, Option, EncodesLiveSet, live_of, AllocatesNodeOk, IfSome, pair_at, keys_in, IsUnlinkedPair, or_left, None, ChangesBytes}
+use common.{IsTrue, Option, EncodesLiveSet, live_of, AllocatesNodeOk, IfSome, pair_at, keys_in, IsUnlinkedPair, or_left}
+use common.{None, ChangesBytes}
 use common.{laid-heap, entry_same, SameBlock, live-rises, found-room, node_place, current, word_at, link_at, IsPairAt}
-use common.{put_pair, IsPairIn, PairNode, or_parts, not-true, bytes_of, extent_at, IsPlanted, and_parts, is_ordered_with}
-use common.{pair_node, own_nodes, IsKeyTree, SameBytesExcept-word, SameBytesExcept-link, changed-live, SameBytesExcept-SameBytes, AllByRecursion}
-use common.{changed-keeps, SameSurroundings-trans, allocated-room, nodes_of_pairs, stands_before, PairNode-is_pair_node, leaf}
+use common.{put_pair, IsPairIn, PairNode, or_parts, not-true, bytes_of, extent_at, IsPlanted, and_parts}
+use common.{is_ordered_with}
+use common.{pair_node, own_nodes, IsKeyTree, SameBytesExcept-word, SameBytesExcept-link, changed-live}
+use common.{SameBytesExcept-SameBytes, AllByRecursion}
+use common.{changed-keeps, SameSurroundings-trans, allocated-room, nodes_of_pairs, stands_before, PairNode-is_pair_node}
+use common.{leaf}
 use common.{has_room, WritesMapHeader, HasBytesAt-same, node_len, nodes_of, insert_point_of, HoldsMap, both_ways}
 use Rattle.seg_map.proofs.Entering.{other_block, Laws, found_in, keys, good, keys_among, key_is, pair_block, pair_parts}
 use Rattle.seg_map.proofs.Entering.{tree_among, with_bytes}
@@ -76,7 +82,8 @@ is_new {K} {V} k v {a} {d} h at whole room w = record {
 -- ---- a node is made: its four parts are written in a new block
 
 -- a new block, once a part of it is written
-still : {a b c : WindowState} {n node from k : ℕ} (room : ℕ) → AllocatesOk current a b n Node node → ChangesBytes current b c from
+still : {a b c : WindowState} {n node from k : ℕ} (room : ℕ) → AllocatesOk current a b n Node node
+    → ChangesBytes current b c from
     k → room ≤ n → node ≤ from → from + k ≤ node + room → AllocatesOk current a c n Node node
 still {a} {b} {c} {n} {node} {from} {k} room new change long low high = still_allocated-block current a b c n Node node
     from k room new change (allocated-room _ _ _ _ _ _ room new long) low high
@@ -101,20 +108,23 @@ module _ {K V : Type 0} {kp : Plain K} (kl : Laws kp) (vp : Plain V) {a b : Wind
 
         pub made : {f : WindowState} (value : V) → vp.is_value value ≡ true
             → ChangesBytes current e f (node + (16 + kp.SIZE)) vp.SIZE
-            → HasBytesAt (bytes_of f.bytes) (node + (16 + kp.SIZE)) (vp.spelling value) → AllocatesNodeOk kp vp a f key value node
+            → HasBytesAt (bytes_of f.bytes) (node + (16 + kp.SIZE)) (vp.spelling value)
+            → AllocatesNodeOk kp vp a f key value node
         made {f} value is_value fourth there =
             let begin : node + 0 ≡ node = omega arith in
             let behind : node + (16 + kp.SIZE) ≡ node + 16 + kp.SIZE = omega arith in
             record {
               block = still (16 + kp.SIZE + vp.SIZE) three fourth (omega arith) (omega arith) (omega arith);
-              left = SameBytesExcept-link _ _ _ _ node fourth.rest (inl (omega arith)) ∙ SameBytesExcept-link _ _ _ _ node third.rest
+              left = SameBytesExcept-link _ _ _ _ node fourth.rest (inl (omega arith))
+                  ∙ SameBytesExcept-link _ _ _ _ node third.rest
                   (inl (omega arith)) ∙ SameBytesExcept-link _ _ _ _ node second.rest (inl (omega arith))
                   ∙ subst (λ k. link_at (bytes_of c.bytes) k ≡ None) begin left;
               right = SameBytesExcept-link _ _ _ _ (node + 8) fourth.rest (inl (omega arith))
                   ∙ SameBytesExcept-link _ _ _ _ (node + 8) third.rest (inl (omega arith)) ∙ right;
               is_a_key = is_key;
               is_a_value = is_value;
-              key_there = HasBytesAt-same _ _ _ _ (node + 16) (kp.spelling key) (SameBytesExcept-SameBytes _ _ _ _ (node + 16)
+              key_there = HasBytesAt-same _ _ _ _ (node + 16) (kp.spelling key)
+                  (SameBytesExcept-SameBytes _ _ _ _ (node + 16)
                   (node + 16 + kp.SIZE) fourth.rest (inl (omega arith))) (omega arith) (omega arith) spelled;
               value_there = subst (λ k. HasBytesAt (bytes_of f.bytes) k (vp.spelling value)) behind there;
             }
@@ -218,12 +228,14 @@ module _ {K V : Type 0} {kp : Plain K} {vp : Plain V} (kl : Laws kp) (vl : Laws 
 -- ---- a pair whose node is made enters the map
 
 -- a node that has a place in the tree, and is put there from the root on or from where its insertion begins
-pub record CanLink {K : Type 0} (k : Plain K) (ns : List ℕ) (c : WindowState) (root start : Option ℕ) (node : ℕ) : Type 0 where
+pub record CanLink {K : Type 0} (k : Plain K) (ns : List ℕ) (c : WindowState) (root start : Option ℕ) (node : ℕ) :
+    Type 0 where
   pub shape : Tree
   pub tree : IsKeyTree k ns c root shape
   pub own : is_pair_node (16 + k.SIZE) ns c node ≡ true
   pub place : is_ordered_with (comes_before k.order (keys_in k ns c)) node (nodes_of shape) ≡ true
-  pub begins : IfSome start (λ n. insert_point_of (λ m. not (comes_before k.order (keys_in k ns c) node m)) shape ≡ Some n)
+  pub begins : IfSome start (λ n. insert_point_of (λ m. not (comes_before k.order (keys_in k ns c) node m)) shape
+      ≡ Some n)
 
 -- a link among nodes is one among more of them
 leads_more : (n : ℕ) (ns : List ℕ) (o : Option ℕ) → leads (λ j. is_in j ns) o ≡ true
@@ -331,7 +343,8 @@ module _ {K V : Type 0} {kp : Plain K} {vp : Plain V} (c : WindowState) {h at : 
 
   module _ (kl : Laws kp) (vl : Laws vp)
       (total : (x y : K) → kp.is_value x ≡ true → kp.is_value y ≡ true → kp.order x y ≡ false → kp.order y x ≡ false
-      → x ≡ y) {d : WindowState} (value : V) (is_key_value : kp.is_value key ≡ true) (is_value : vp.is_value value ≡ true)
+      → x ≡ y) {d : WindowState} (value : V) (is_key_value : kp.is_value key ≡ true) (is_value : vp.is_value value
+      ≡ true)
       (change : ChangesBytes current c d (handle p.node + (16 + kp.SIZE)) vp.SIZE)
       (there : HasBytesAt (bytes_of d.bytes) (handle p.node + (16 + kp.SIZE)) (vp.spelling value)) where
     abbrev new : Pair K V
@@ -405,7 +418,8 @@ module _ {K V : Type 0} {kp : Plain K} {vp : Plain V} (c : WindowState) {h at : 
     own_bytes =
         let found = pair_of kp.order Was ps key p has were in let size = kl.spells p.key (pair_parts own).key in
         let old = HasBytesAt-same _ _ _ _ (handle p.node + 16) (kp.spelling p.key)
-        (SameBytesExcept-SameBytes _ _ _ _ (handle p.node + 16) (handle p.node + 16 + kp.SIZE) change.rest (inl (omega arith)))
+        (SameBytesExcept-SameBytes _ _ _ _ (handle p.node + 16) (handle p.node + 16 + kp.SIZE) change.rest
+        (inl (omega arith)))
         (omega arith) (omega (arith, size)) found.0.bytes.0 in
         let behind : handle p.node + (16 + kp.SIZE) ≡ handle p.node + 16 + kp.SIZE = omega arith in
         (rw same_key_is old, subst (λ k. HasBytesAt (bytes_of d.bytes) k (vp.spelling value)) behind there)

@@ -1,14 +1,19 @@
 -- What stays of a map and beside it, and the map whose tree is changed and whose three words are written.
 use Rattle.seg_map.proofs.Common as common
-use common.{Some, extent_at, is_proper, both_ways, false≢true, holds_same, cell_stays, length-map, SameSurroundings-trans}
-use common.{IsTrue, AllByRecursion, PairNode-is_pair_node, is_pair_node-PairNode, SameBytes-trans, KeepsOutsideMap, has_room}
-use common.{node_place, pair_cells, SameBlockExcept, changed-live, ◌≡◌, arith, is_in, KeepsBlocks, subst, Option, leads, Plain}
+use common.{Some, extent_at, is_proper, both_ways, false≢true, holds_same, cell_stays, length-map}
+use common.{SameSurroundings-trans}
+use common.{IsTrue, AllByRecursion, PairNode-is_pair_node, is_pair_node-PairNode, SameBytes-trans, KeepsOutsideMap}
+use common.{has_room}
+use common.{node_place, pair_cells, SameBlockExcept, changed-live, ◌≡◌, arith, is_in, KeepsBlocks, subst, Option, leads}
+use common.{Plain}
 use common.{Memory, IsHeap, others, IfSome, refl, bytes_of, is_other, PairNode, nodes_of, Relinked, or_cases, eqb-true}
-use common.{laid-heap, ap, ◌∙◌, ◌+◌, ◌||◌, List, ◌==◌, IsGoodNodeSet, Tree, bits, SameBytes, Pair, None, leaf, fork, roomy, ℕ, ◌-◌}
+use common.{laid-heap, ap, ◌∙◌, ◌+◌, ◌||◌, List, ◌==◌, IsGoodNodeSet, Tree, bits, SameBytes, Pair, None, leaf, fork}
+use common.{roomy, ℕ, ◌-◌}
 use common.{◌%◌, ◌<◌, ◌≤◌, ◌⊎◌, inl, inr, not, ◌∷◌, WindowState, In, sym, ◌*◌, ◌≢◌, [], true, or_left, word_at, live_of}
 use common.{is_kept, kept_of, keys_in, current, LiveSet, root_of, false, HasBytesAt-same, cells_of, IsPairAt, HoldsMap}
 use common.{IsPairIn, cases_eq, cells_at, WritesMapHeader, ◌&&◌, nat_lt, nat_le, eq-eqb, le-leb, lt-ltb, Extent, handle}
-use common.{end_of, length, EncodesLiveSet, or_right, SameBlock, IsKeyTree, SameBytes-word, SameBytes-link, is_rising, pair_node}
+use common.{end_of, length, EncodesLiveSet, or_right, SameBlock, IsKeyTree, SameBytes-word, SameBytes-link, is_rising}
+use common.{pair_node}
 use common.{tree_same, is_link_byte, IsSearchTree, comes_before, is_pair_node, nodes_of_pairs, changed-keeps}
 use Rattle.seg_map.proofs.PairSteps.{any_at, block_apart, same_red, all_in, target_whole}
 use Rattle.seg_map.proofs.Entering.{Laws, pair_parts, found_in, other_block}
@@ -46,7 +51,8 @@ no_link (n ∷ ns) k off =
     here (inl l) = rw (lt-leb n k l) refl
     here (inr l) = rw (le-leb n k (omega arith), le-ltb k (n + 16) l) refl
 
-module _ {len : ℕ} {ns : List ℕ} {c : WindowState} (d : WindowState) (good : IsGoodNodeSet len ns c) (same : kept_of ns d ≡ kept_of ns c)
+module _ {len : ℕ} {ns : List ℕ} {c : WindowState} (d : WindowState) (good : IsGoodNodeSet len ns c)
+    (same : kept_of ns d ≡ kept_of ns c)
     (long : 16 ≤ len) where
   kept_byte : (k : ℕ) → is_kept ns (live_of c.bytes) k ≡ true → bytes_of d.bytes k ≡ bytes_of c.bytes k
   unfolding kept_of
@@ -131,7 +137,8 @@ keeps_beside k same = record {
 }
 
 -- and then beside others, where those that stayed are among them
-pub beside_then : {a b c : WindowState} {at : ℕ} {ns ms : List ℕ} → KeepsOutsideMap a b at ns → KeepsOutsideMap b c at ms
+pub beside_then : {a b c : WindowState} {at : ℕ} {ns ms : List ℕ} → KeepsOutsideMap a b at ns
+    → KeepsOutsideMap b c at ms
     → ((x : Extent) → extent_at (live_of a.bytes) (handle x) ≡ Some x → is_in (handle x) ns ≡ false
     → (extent_at (live_of b.bytes) (handle x) ≡ Some x) × (is_in (handle x) ms ≡ false)) → KeepsOutsideMap a c at ns
 beside_then p q still = record {
@@ -181,7 +188,8 @@ pub block_cells : (m m' : Memory) (x : Extent) → SameBlock m m' x → 32 ≤ x
     → cells_of m' (handle x) ≡ cells_of m (handle x)
 block_cells m m' x s long =
     let e : x.offset + 8 ≡ handle x - 8 = omega arith in
-    cell_stays m m' (handle x) (SameBytes-link _ _ _ _ (handle x) s.payload (omega arith) (omega arith)) (SameBytes-link _ _ _ _
+    cell_stays m m' (handle x) (SameBytes-link _ _ _ _ (handle x) s.payload (omega arith) (omega arith))
+    (SameBytes-link _ _ _ _
     (handle x + 8) s.payload (omega arith) (omega arith)) (same_red (word_at m (handle x - 8))
     (word_at m' (handle x - 8)) (subst (λ a. word_at m' a % 16 ≡ word_at m a % 16) e s.colour))
 
@@ -202,7 +210,8 @@ at_node P (p ∷ ps) m i a =
 
 -- the bytes of a pair stay
 pub pair_stays : {K V : Type 0} {kp : Plain K} {vp : Plain V} → Laws kp → Laws vp → (m m' : Memory) {live : LiveSet}
-    {h : ℕ} {p : Pair K V} → IsPairIn kp vp live h p → SameBytes m m' (handle p.node + 16) (handle p.node + (16 + kp.SIZE
+    {h : ℕ} {p : Pair K V} → IsPairIn kp vp live h p
+    → SameBytes m m' (handle p.node + 16) (handle p.node + (16 + kp.SIZE
     + vp.SIZE)) → IsPairAt kp.SIZE kp.spelling vp.spelling m p → IsPairAt kp.SIZE kp.spelling vp.spelling m' p
 pair_stays {kp = kp} {vp = vp} kl vl m m' {p = p} i s h =
     let first = handle p.node + 16 in let last = handle p.node + (16 + kp.SIZE + vp.SIZE) in let q = pair_parts i in
@@ -217,7 +226,8 @@ pub record Still (c e : WindowState) (x : Extent) : Type 0 where
   pub same : SameBlock (bytes_of c.bytes) (bytes_of e.bytes) x
 
 -- pairs in the same blocks are a map where the tree and the words stay
-unfoldable pub map_over : {K V : Type 0} {kp : Plain K} {vp : Plain V} (c e : WindowState) {h at : ℕ} {ps : List (Pair K V)}
+unfoldable pub map_over : {K V : Type 0} {kp : Plain K} {vp : Plain V} (c e : WindowState) {h at : ℕ}
+    {ps : List (Pair K V)}
     (s : HoldsMap kp vp c.bytes h at ps) → IsHeap current e.bytes → IsTrue (has_room (live_of e.bytes) h (at + 24))
     → SameBytes (bytes_of c.bytes) (bytes_of e.bytes) (h + at) (h + at + 24)
     → ((m : ℕ) → is_in m (nodes_of s.map.tree.tree) ≡ true → cells_of (bytes_of e.bytes) m ≡ cells_of (bytes_of c.bytes)
@@ -298,7 +308,8 @@ module _ {K V : Type 0} {kp : Plain K} {vp : Plain V} {c d : WindowState} {h at 
 
   -- the words are written; the nodes are those of these pairs
   module _ (kl : Laws kp) (vl : Laws vp) (ws : List (Pair K V)) (pairs : AreIn kp vp (live_of c.bytes) h ws)
-      (bytes : AreAt kp vp (bytes_of c.bytes) ws) (are : ns ≡ nodes_of_pairs ws) (good : IsGoodNodeSet (16 + kp.SIZE) ns c)
+      (bytes : AreAt kp vp (bytes_of c.bytes) ws) (are : ns
+      ≡ nodes_of_pairs ws) (good : IsGoodNodeSet (16 + kp.SIZE) ns c)
       {e : WindowState} {n : ℕ} (head : WritesMapHeader d e (h + at) top n) where
     live_e : live_of e.bytes ≡ live_of c.bytes
     live_e = live_laid u head
@@ -349,7 +360,8 @@ module _ {K V : Type 0} {kp : Plain K} {vp : Plain V} {c d : WindowState} {h at 
 
     -- the key and the value of a pair stay
     pair_kept : (p : Pair K V) → IsPairIn kp vp (live_of c.bytes) h p
-        → SameBytes (bytes_of c.bytes) (bytes_of e.bytes) (handle p.node + 16) (handle p.node + (16 + kp.SIZE + vp.SIZE))
+        → SameBytes (bytes_of c.bytes) (bytes_of e.bytes) (handle p.node + 16)
+        (handle p.node + (16 + kp.SIZE + vp.SIZE))
     pair_kept p i =
         let x = p.node in let listed = found_in (live_of c.bytes).extents (handle x) x i.listed in
         let long = (pair_parts i).long in let same = block_stays x i.listed i.apart in

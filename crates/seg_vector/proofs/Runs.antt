@@ -1,13 +1,17 @@
 -- The head of a container, its three words and the block that they stand in, through the steps of a call.
 use Rattle.seg_vector.proofs.Words as W
 use W.{◌≡◌, ◌≢◌, refl, sym, ap, subst, ◌∙◌, inl, inr, ℕ, ◌+◌, ◌*◌, ◌<◌, ◌≤◌, Option, Some, None, List, ◌∷◌, length}
-use W.{arith, ◌⊎◌, ◌++◌, append-nil, IsTrue, nat_lt, option_to_list, AllByRecursion, and_parts, leb-true, Memory, WindowState}
-use W.{SameBytesExcept, bytes_of, word_at, SameBytes, SameBytesExcept-wider, SameBytesExcept-word, link_at, target_of, Storage, current, exchanged}
-use W.{without_all, ExchangesBlocks, inserted, Extent, LiveSet, handle, holds, ChangesBytes, IsHeap, EncodesLiveSet, SameBlock}
+use W.{arith, ◌⊎◌, ◌++◌, append-nil, IsTrue, nat_lt, option_to_list, AllByRecursion, and_parts, leb-true, Memory}
+use W.{WindowState}
+use W.{SameBytesExcept, bytes_of, word_at, SameBytes, SameBytesExcept-wider, SameBytesExcept-word, link_at, target_of}
+use W.{Storage, current, exchanged}
+use W.{without_all, ExchangesBlocks, inserted, Extent, LiveSet, handle, holds, ChangesBytes, IsHeap, EncodesLiveSet}
+use W.{SameBlock}
 use W.{extent_at, has_room, live_of, BackingArray, has_backing, serves, same_role, table_link, found-room, in_use-alone}
 use W.{live-rises, written-keeps, word-same, laid-heap, roomy, changed-live, written-but, IsFound, IsNone, SameSpread}
 use W.{all-found-in, all-in-use, found-none, exchanged-live, found-without, IsRoomy, kept, kept-found, exchange-next}
-use W.{exchange-same, spread-refl, exchange-wide, exchange-written, kept-beside, Place, IsStorageBlock, IsContainer, place_at}
+use W.{exchange-same, spread-refl, exchange-wide, exchange-written, kept-beside, Place, IsStorageBlock, IsContainer}
+use W.{place_at}
 use W.{IsStorage, SameBytesExcept-link, IsSwapped, AreDistinct, [], rising-others, KeepsGaps, gaps-payload}
 
 abbrev pub table : ℕ → Option Extent → BackingArray
@@ -22,14 +26,16 @@ same-some e = cc
 pub serves-full : (x : Extent) (n : ℕ) → IsTrue (serves x Storage n) → n + 16 ≤ x.len
 serves-full x n t = leb-true (n + 16) x.len (and_parts (same_role x.role Storage) (holds x n) t).1
 
-pub table-full : (each c : ℕ) (x : Extent) → IsTrue (has_backing Storage each (table c (Some x))) → each * c + 16 ≤ x.len
+pub table-full : (each c : ℕ) (x : Extent) → IsTrue (has_backing Storage each (table c (Some x)))
+    → each * c + 16 ≤ x.len
 table-full each c x t = serves-full x (each * c) (and_parts (nat_lt 0 c) (serves x Storage (each * c)) t).1
 
 pub outside : (at len f n k : ℕ) → at ≤ f → f + n ≤ at + len → (k < at) ⊎ (at + len ≤ k) → (k < f) ⊎ (f + n ≤ k)
 outside at len f n k a b (inl h) = inl (omega arith)
 outside at len f n k a b (inr h) = inr (omega arith)
 
-pub changed-both : {a b c : WindowState} {f n g k : ℕ} (at len : ℕ) → ChangesBytes current a b f n → ChangesBytes current b c g k
+pub changed-both : {a b c : WindowState} {f n g k : ℕ} (at len : ℕ) → ChangesBytes current a b f n
+    → ChangesBytes current b c g k
     → at ≤ f → f + n ≤ at + len → at ≤ g → g + k ≤ at + len → ChangesBytes current a c at len
 changed-both {a} {b} {c} {f} {n} {g} {k} at len p q h1 h2 h3 h4 = record {
   place = record { before = q.place.before ∙ p.place.before; after = q.place.after ∙ p.place.after };
@@ -83,7 +89,8 @@ head-kept {a} {b} {p} {from} {n} {gone} {come} w x d = record {
   big = w.big;
 }
 
-pub head-changed : {a b : WindowState} {p : Place} {from n : ℕ} → IsHead a p → ChangesBytes current a b from n → IsHead b p
+pub head-changed : {a b : WindowState} {p : Place} {from n : ℕ} → IsHead a p → ChangesBytes current a b from n
+    → IsHead b p
 head-changed {a} {b} {p} {from} {n} w c = record {
   block = w.block;
   found = ap (λ (l : LiveSet). extent_at l p.handle) (changed-live _ a b from n c) ∙ w.found;
@@ -97,7 +104,8 @@ pub record AreHeadWords (m : Memory) (at n : ℕ) (t : BackingArray) : Type 0 wh
   pub len_word : word_at m (at + 8) ≡ n
   pub capacity : word_at m (at + 16) ≡ t.capacity
 
-pub words-same : {m m' : Memory} {from to at n : ℕ} {t : BackingArray} → SameBytes m m' from to → from ≤ at → at + 24 ≤ to
+pub words-same : {m m' : Memory} {from to at n : ℕ} {t : BackingArray} → SameBytes m m' from to → from ≤ at
+    → at + 24 ≤ to
     → AreHeadWords m at n t → AreHeadWords m' at n t
 words-same {m} {m'} {from} {to} {at} s f g w = record {
   link = ap (target_of at) (word-same m m' from to at s f (omega arith)) ∙ w.link;
@@ -105,7 +113,8 @@ words-same {m} {m'} {from} {to} {at} s f g w = record {
   capacity = word-same m m' from to (at + 16) s (omega arith) (omega arith) ∙ w.capacity;
 }
 
-pub words-kept : {a b : WindowState} {p : Place} {n : ℕ} {t : BackingArray} {gone come : List Extent} → IsHeap current a.bytes
+pub words-kept : {a b : WindowState} {p : Place} {n : ℕ} {t : BackingArray} {gone come : List Extent}
+    → IsHeap current a.bytes
     → IsHead a p → IsSwapped a b gone come → IsNone p.handle gone
     → AreHeadWords (bytes_of a.bytes) (place_at p) n t → AreHeadWords (bytes_of b.bytes) (place_at p) n t
 words-kept {a} {b} {p} {gone} {come} heap w x d h =
@@ -113,7 +122,8 @@ words-kept {a} {b} {p} {gone} {come} heap w x d h =
     words-same s.payload (omega (arith, w.here)) (omega (arith, w.here, w.big)) h
 
 -- another length is written
-pub len-written : {m m' : Memory} {at n q : ℕ} (k : ℕ) {t : BackingArray} → q ≡ at + 8 → SameBytesExcept m m' q 8 → word_at m' q ≡ k
+pub len-written : {m m' : Memory} {at n q : ℕ} (k : ℕ) {t : BackingArray} → q ≡ at + 8 → SameBytesExcept m m' q 8
+    → word_at m' q ≡ k
     → AreHeadWords m at n t → AreHeadWords m' at k t
 len-written {m} {m'} {at} {q} k e s word w = record {
   link = SameBytesExcept-link m m' q 8 at s (inl (omega (arith, e))) ∙ w.link;
@@ -145,8 +155,10 @@ pub record IsRun (old now : WindowState) (p : Place) (gone come : List Extent) (
   pub words : AreHeadWords (bytes_of now.bytes) (place_at p) n t
 
 -- blocks are exchanged, not the head's
-pub run-swapped : {old a b : WindowState} {p : Place} {gone come again : List Extent} (left : List Extent) {more : List Extent}
-    {n : ℕ} {t : BackingArray} → SameSpread come (again ++ left) → IsRun old a p gone come n t → IsSwapped a b again more
+pub run-swapped : {old a b : WindowState} {p : Place} {gone come again : List Extent} (left : List Extent)
+    {more : List Extent}
+    {n : ℕ} {t : BackingArray} → SameSpread come (again ++ left) → IsRun old a p gone come n t
+    → IsSwapped a b again more
     → IsNone p.handle again → IsRun old b p gone (more ++ left) n t
 run-swapped {old} {a} {b} {p} {gone} {come} left {more} spread r x none = record {
   change = exchange-next _ old a b _ 24 gone come _ left more spread r.change
@@ -175,7 +187,8 @@ all-as P Q f [] a = tt
 all-as P Q f (x ∷ xs) a = (f x a.0, all-as P Q f xs a.1)
 
 -- the blocks that came are in use
-pub came-found : {a b : WindowState} {from n : ℕ} {gone come : List Extent} → ExchangesBlocks current a b from n gone come
+pub came-found : {a b : WindowState} {from n : ℕ} {gone come : List Extent}
+    → ExchangesBlocks current a b from n gone come
     → AllByRecursion (IsFound (live_of b.bytes).extents) come
 came-found {a} {b} {from} {n} {gone} {come} x =
     let l = live_of a.bytes in let rest = without_all gone l.extents in
@@ -185,13 +198,15 @@ came-found {a} {b} {from} {n} {gone} {come} x =
     (all-found-in come rest (live-rises (exchanged l gone come) x.live.proper))
 
 -- no two of them are one
-pub came-others : {a b : WindowState} {from n : ℕ} {gone come : List Extent} → ExchangesBlocks current a b from n gone come
+pub came-others : {a b : WindowState} {from n : ℕ} {gone come : List Extent}
+    → ExchangesBlocks current a b from n gone come
     → AreDistinct come
 came-others {a} {gone = gone} {come} x = rising-others come (without_all gone (live_of a.bytes).extents)
     (live-rises (exchanged (live_of a.bytes) gone come) x.live.proper)
 
 -- those that are not gone stay, and are in use still
-pub all-kept : {a b : WindowState} {gone come : List Extent} (xs : List Extent) → IsHeap current a.bytes → IsSwapped a b gone
+pub all-kept : {a b : WindowState} {gone come : List Extent} (xs : List Extent) → IsHeap current a.bytes
+    → IsSwapped a b gone
     come → AllByRecursion (IsFound (live_of a.bytes).extents) xs → AllByRecursion (λ (y : Extent). IsNone (handle y)
     gone) xs → AllByRecursion (SameBlock (bytes_of a.bytes) (bytes_of b.bytes)) xs
 all-kept [] heap x f n = tt
@@ -214,7 +229,8 @@ pub run-found : {old now : WindowState} {p : Place} {gone come : List Extent} {n
 run-found r = came-found r.change
 
 -- none of the blocks that came is the head's
-pub run-none : {first now : WindowState} {p : Place} {gone come : List Extent} {n : ℕ} {t : BackingArray} → IsHead first p
+pub run-none : {first now : WindowState} {p : Place} {gone come : List Extent} {n : ℕ} {t : BackingArray}
+    → IsHead first p
     → IsNone p.handle gone → IsRun first now p gone come n t → IsNone p.handle come
 run-none {first} {p} {gone} {come} w d r =
     let l = live_of first.bytes in
@@ -233,7 +249,8 @@ block-written {a} {b} {x} {from} {n} k heap found c low high fits =
 -- ---- the run of a call on a container
 
 pub own-facts : (l : LiveSet) (h : ℕ) (o : Option Extent) → IsStorageBlock l h o
-    → AreDistinct (option_to_list o) × AllByRecursion (IsFound l.extents) (option_to_list o) × IsNone h (option_to_list o)
+    → AreDistinct (option_to_list o) × AllByRecursion (IsFound l.extents) (option_to_list o)
+    × IsNone h (option_to_list o)
 own-facts l h None own = (tt, tt, tt)
 own-facts l h (Some x) own = ((tt, tt), (own.0, tt), ((λ e. own.1 (sym e)), tt))
 
@@ -242,7 +259,8 @@ pub facts-own : (l : LiveSet) (h : ℕ) (o : Option Extent) → AllByRecursion (
 facts-own l h None f n = tt
 facts-own l h (Some x) f n = (f.0, λ e. n.0 (sym e))
 
-pub stands-run : (c : WindowState) {p : Place} {each len : ℕ} {t : BackingArray} {bytes : List ℕ} → IsContainer c.bytes p each len t bytes
+pub stands-run : (c : WindowState) {p : Place} {each len : ℕ} {t : BackingArray} {bytes : List ℕ}
+    → IsContainer c.bytes p each len t bytes
     → IsRun c c p (option_to_list t.extent) (option_to_list t.extent) len t
 stands-run c {p} {t} s =
     let l = live_of c.bytes in let own = option_to_list t.extent in let facts = own-facts l p.handle t.extent s.own in
@@ -255,13 +273,16 @@ stands-run c {p} {t} s =
     }
 
 -- none of the blocks that came since is the one in which the container stands
-pub stands-none-of : {old now : WindowState} {p : Place} {each len k : ℕ} {t u : BackingArray} {bytes : List ℕ} {come : List Extent}
-    → IsContainer old.bytes p each len t bytes → IsRun old now p (option_to_list t.extent) come k u → IsNone p.handle come
+pub stands-none-of : {old now : WindowState} {p : Place} {each len k : ℕ} {t u : BackingArray} {bytes : List ℕ}
+    {come : List Extent}
+    → IsContainer old.bytes p each len t bytes → IsRun old now p (option_to_list t.extent) come k u
+    → IsNone p.handle come
 stands-none-of {old} {p} {t} s r = run-none (room-head old p s.heap s.room)
     (own-facts (live_of old.bytes) p.handle t.extent s.own).2 r
 
 -- what it comes to
-pub run-stands : {old now : WindowState} {p : Place} {each k len : ℕ} {t u : BackingArray} {was : List ℕ} (bytes : List ℕ)
+pub run-stands : {old now : WindowState} {p : Place} {each k len : ℕ} {t u : BackingArray} {was : List ℕ}
+    (bytes : List ℕ)
     → IsContainer old.bytes p each k t was → IsRun old now p (option_to_list t.extent) (option_to_list u.extent) len u
     → IsTrue (has_backing Storage each u) → len ≤ u.capacity → length bytes ≡ each * len
     → IsStorage (bytes_of now.bytes) u bytes → IsContainer now.bytes p each len u bytes

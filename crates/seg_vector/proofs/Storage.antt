@@ -1,18 +1,27 @@
 -- The storage of a container that stands at a place: regrown, written in, and read.
-use W.{◌≡◌, list_any, read-same, laid-heap, room-less, IfSome_is, IsStorage, IsSwapped, gaps-refl, gaps-then, SetsStorage}
-use W.{refl, payload_at, table_link, found-room, live-sound, room_block, in_use-all, legal_size, IsStorageBlock, hole-order}
-use W.{sym, ◌∙◌, Bool, true, Some, None, List, arith, ◌==◌, ◌++◌, take, drop, ◌&&◌, read, holds, place, BackingArray, Place}
-use W.{ap, eqb-true, and_from, leb-true, ltb-true, or_cases, or_right, bytes_of, block_of, is_block, has_room, has_backing}
+use W.{◌≡◌, list_any, read-same, laid-heap, room-less, IfSome_is, IsStorage, IsSwapped, gaps-refl, gaps-then}
+use W.{SetsStorage}
+use W.{refl, payload_at, table_link, found-room, live-sound, room_block, in_use-all, legal_size, IsStorageBlock}
+use W.{hole-order}
+use W.{sym, ◌∙◌, Bool, true, Some, None, List, arith, ◌==◌, ◌++◌, take, drop, ◌&&◌, read, holds, place, BackingArray}
+use W.{Place}
+use W.{ap, eqb-true, and_from, leb-true, ltb-true, or_cases, or_right, bytes_of, block_of, is_block, has_room}
+use W.{has_backing}
 use W.{subst, if◌then◌else◌, length-append, all_of-insert, regrow-serves, block_payload, LacksSpace, exchanged-live}
 use W.{inl, inr, ◌+◌, ◌*◌, ◌%◌, ◌<◌, ◌≤◌, ◌∷◌, ◌⊎◌, max, ◌-◌, WindowState, HasBytesAt, []}
 use W.{ℕ, length-take, length-drop, CarriesOver, changed-live, exchange-next, is_legal_size, changed-room, gaps-payload}
-use W.{false, le-leb, lt-leb, lt-ltb, eq-eqb, Memory, Extent, handle, end_of, others, longer, IsHeap, serves, IsContainer}
-use W.{Option, length, IsTrue, IfSome, nat_lt, nat_le, resized, EncodesLiveSet, live_of, IsSound, ReservesStorageOk, Refusal, NoSpace}
-use W.{append-nil, option_map, RegrowsOk, without_all, ExchangesBlocks, proper_from, is_live_in, spread-refl, RewritesElements}
+use W.{false, le-leb, lt-leb, lt-ltb, eq-eqb, Memory, Extent, handle, end_of, others, longer, IsHeap, serves}
+use W.{IsContainer}
+use W.{Option, length, IsTrue, IfSome, nat_lt, nat_le, resized, EncodesLiveSet, live_of, IsSound, ReservesStorageOk}
+use W.{Refusal, NoSpace}
+use W.{append-nil, option_map, RegrowsOk, without_all, ExchangesBlocks, proper_from, is_live_in, spread-refl}
+use W.{RewritesElements}
 use W.{option_to_list, AllByRecursion, RegrowsNoSpace, all-same-but, all_keep_proper, capacity_for_one, nil_from_length}
-use W.{KeepsGaps, gaps-trans, and_parts, take-take, read-part, exchanged, ReplacesBlocks, ChangesBytes, extent_at, same_role}
+use W.{KeepsGaps, gaps-trans, and_parts, take-take, read-part, exchanged, ReplacesBlocks, ChangesBytes, extent_at}
+use W.{same_role}
 use W.{all-in-use, live-rises}
-use W.{◌≢◌, IsFound, Rising, found-none, found-without, or_left, SameBytesExcept, word_at, patched, link_at, Storage, current}
+use W.{◌≢◌, IsFound, Rising, found-none, found-without, or_left, SameBytesExcept, word_at, patched, link_at, Storage}
+use W.{current}
 use W.{LiveSet, is_hole, too_long, place_at, take-nil}
 use Rattle.seg_vector.proofs.Runs.{IsRun, beside-head, block-written, head-room, head-wider, len-written, head-gaps}
 use Rattle.seg_vector.proofs.Runs.{came-found, none-some, own-facts, room-head, run-found, run-headed, run-stands}
@@ -36,7 +45,8 @@ storage-room l h each len c (Some x) t f own =
     let big = leb-true (each * c + 16) x.len two.1 in let less = more-times each len c f in
     found-room l (handle x) (each * len) x own.0 (omega (arith, big, less))
 
-pub stands-room : {b : List ℕ} {p : Place} {each len : ℕ} {t : BackingArray} {bytes : List ℕ} → IsContainer b p each len t bytes
+pub stands-room : {b : List ℕ} {p : Place} {each len : ℕ} {t : BackingArray} {bytes : List ℕ}
+    → IsContainer b p each len t bytes
     → IfSome (table_link t) (λ g. IsTrue (has_room (live_of b) g (each * len)))
 stands-room {b} {p} {each} {len} {t} s = storage-room (live_of b) p.handle each len t.capacity t.extent s.table s.fits
     s.own
@@ -46,7 +56,8 @@ own-block : (l : LiveSet) (h : ℕ) (o : Option Extent) → IsStorageBlock l h o
 own-block l h None own = refl
 own-block l h (Some x) own = own.0
 
-pub stands-block : {b : List ℕ} {p : Place} {each len : ℕ} {t : BackingArray} {bytes : List ℕ} → IsContainer b p each len t bytes
+pub stands-block : {b : List ℕ} {p : Place} {each len : ℕ} {t : BackingArray} {bytes : List ℕ}
+    → IsContainer b p each len t bytes
     → block_of (live_of b) (table_link t) ≡ t.extent
 stands-block {b} {p} {t} s = own-block (live_of b) p.handle t.extent s.own
 
@@ -63,7 +74,8 @@ unfolding grown_backing
 grown-more l each n t f = ap (λ b. if b then Some t else option_map (λ x. table n (Some x)) (regrow l t.extent
     (each * n))) (lt-leb n t.capacity f)
 
-pub grows-not : (c : WindowState) {p : Place} {each : ℕ} (n : ℕ) {len : ℕ} {t : BackingArray} {bytes : List ℕ} → n ≤ t.capacity
+pub grows-not : (c : WindowState) {p : Place} {each : ℕ} (n : ℕ) {len : ℕ} {t : BackingArray} {bytes : List ℕ}
+    → n ≤ t.capacity
     → IsContainer c.bytes p each len t bytes → ReservesStorageOk c c p each n len t bytes
 grows-not c {each} n {t} f s = record {
   table = t;
@@ -136,7 +148,8 @@ grown-run {old} {t} s r =
     let begun = stands-run old s in
     run-swapped [] (spread-nil (option_to_list t.extent)) begun (regrown-swapped r.change) (stands-none-of s begun)
 
-pub grows-more : {old mid new : WindowState} {p : Place} {each : ℕ} (n : ℕ) {len g : ℕ} {t : BackingArray} {bytes : List ℕ}
+pub grows-more : {old mid new : WindowState} {p : Place} {each : ℕ} (n : ℕ) {len g : ℕ} {t : BackingArray}
+    {bytes : List ℕ}
     → t.capacity < n → IsContainer old.bytes p each len t bytes → RegrowsOk current old mid t.extent (each * n)
     (each * len) g → SetsStorage mid new p g n → ReservesStorageOk old new p each n len t bytes
 grows-more {old} {mid} {new} {p} {each} n {len} {t = t} {bytes} more s r w =
@@ -167,7 +180,8 @@ grows-more {old} {mid} {new} {p} {each} n {len} {t = t} {bytes} more s r w =
 -- ---- what the calls of the heap say of the container
 
 -- a block has fewer bytes than a segment
-pub room-small : (c : WindowState) (h n : ℕ) → IsHeap current c.bytes → IsTrue (has_room (live_of c.bytes) h n) → n < 1073741824
+pub room-small : (c : WindowState) (h n : ℕ) → IsHeap current c.bytes → IsTrue (has_room (live_of c.bytes) h n)
+    → n < 1073741824
 room-small c h n heap t =
     let r = room_block c h n heap t in
     let b = r.block in let enough = r.enough in let ends = b.inside in let size = b.size in omega arith
@@ -176,7 +190,8 @@ pub place-small : {b : List ℕ} (p : Place) → IsHeap current b → IsTrue (ha
     → p.at + 24 < 1073741824
 place-small {b} p heap room = room-small (record { before = []; bytes = b; after = [] }) p.handle (p.at + 24) heap room
 
-pub stands-small : {b : List ℕ} {p : Place} {each len : ℕ} {t : BackingArray} {bytes : List ℕ} → IsContainer b p each len t bytes
+pub stands-small : {b : List ℕ} {p : Place} {each len : ℕ} {t : BackingArray} {bytes : List ℕ}
+    → IsContainer b p each len t bytes
     → p.at + 24 < 1073741824
 stands-small {p = p} s = place-small p s.heap s.room
 
@@ -194,14 +209,16 @@ pub ruleset rooms = (room-less, changed-room)
 
 pub ruleset sizes = (room-small, place-small, stands-small, kept-heap, rooms)
 
-pub storage-read : {b : List ℕ} {p : Place} {each len : ℕ} (k : ℕ) {t : BackingArray} {bytes : List ℕ} (storage : Option ℕ)
+pub storage-read : {b : List ℕ} {p : Place} {each len : ℕ} (k : ℕ) {t : BackingArray} {bytes : List ℕ}
+    (storage : Option ℕ)
     → IsContainer b p each len t bytes → storage ≡ link_at (bytes_of b) (p.handle + p.at)
     → k ≡ word_at (bytes_of b) (place_at p + 8) → IfSome storage (λ g. IsTrue (has_room (live_of b) g (each * k)))
 storage-read {b} {each} k {t} storage s e f = subst (λ o. IfSome o (λ g. IsTrue (has_room (live_of b) g (each * k))))
     (sym (e ∙ s.words.link)) (subst (λ k. IfSome (table_link t) (λ g. IsTrue (has_room (live_of b) g (each * k))))
     (sym (f ∙ s.words.len_word)) (stands-room s))
 
-pub given-of : {old mid : WindowState} {p : Place} {each : ℕ} (n : ℕ) {len : ℕ} (k : ℕ) {g : ℕ} {t : BackingArray} {bytes : List ℕ}
+pub given-of : {old mid : WindowState} {p : Place} {each : ℕ} (n : ℕ) {len : ℕ} (k : ℕ) {g : ℕ} {t : BackingArray}
+    {bytes : List ℕ}
     (storage : Option ℕ) → IsContainer old.bytes p each len t bytes
     → storage ≡ link_at (bytes_of old.bytes) (p.handle + p.at) → k ≡ word_at (bytes_of old.bytes) (place_at p + 8)
     → RegrowsOk current old mid (block_of (live_of old.bytes) storage) (each * n) (each * k) g
@@ -221,7 +238,8 @@ not_given-of {old} {mid} {each} n storage s e r = subst (λ o. RegrowsNoSpace ol
 -- ---- bytes of the storage and the length are written
 
 -- bytes of the storage are written
-written-run : {old new : WindowState} {p : Place} {each len c g : ℕ} (from : ℕ) {n : ℕ} {o : Option Extent} {bytes : List ℕ}
+written-run : {old new : WindowState} {p : Place} {each len c g : ℕ} (from : ℕ) {n : ℕ} {o : Option Extent}
+    {bytes : List ℕ}
     → IsContainer old.bytes p each len (table c o) bytes → link_at (bytes_of old.bytes) (place_at p) ≡ Some g
     → ChangesBytes current old new (g + from) n → from + n ≤ each * c
     → IsRun old new p (option_to_list o) (option_to_list o) len (table c o)
@@ -232,11 +250,15 @@ written-run {old} {p} {each} {c} from {o = Some x} s link c1 within =
     (table-full each c x s.table) in
     run-swapped [] (spread-refl (x ∷ [])) (stands-run old s) swap ((λ e. s.own.1 (sym e)), tt)
 
-pub rewritten : {old s1 new : WindowState} {p : Place} {each len c g : ℕ} (from : ℕ) {n : ℕ} (len2 : ℕ) {o : Option Extent}
-    {bytes : List ℕ} (bytes2 : List ℕ) → IsContainer old.bytes p each len (table c o) bytes → link_at (bytes_of old.bytes)
+pub rewritten : {old s1 new : WindowState} {p : Place} {each len c g : ℕ} (from : ℕ) {n : ℕ} (len2 : ℕ)
+    {o : Option Extent}
+    {bytes : List ℕ} (bytes2 : List ℕ) → IsContainer old.bytes p each len (table c o) bytes
+    → link_at (bytes_of old.bytes)
     (place_at p) ≡ Some g → ChangesBytes current old s1 (g + from) n → from + n ≤ each * c → len2 ≤ c
-    → length bytes2 ≡ each * len2 → HasBytesAt (bytes_of s1.bytes) g bytes2 → ChangesBytes current s1 new (p.handle + (p.at + 8))
-    8 → word_at (bytes_of new.bytes) (p.handle + (p.at + 8)) ≡ len2 → RewritesElements old new p each len2 (table c o) bytes2
+    → length bytes2 ≡ each * len2 → HasBytesAt (bytes_of s1.bytes) g bytes2
+    → ChangesBytes current s1 new (p.handle + (p.at + 8))
+    8 → word_at (bytes_of new.bytes) (p.handle + (p.at + 8)) ≡ len2
+    → RewritesElements old new p each len2 (table c o) bytes2
 rewritten from len2 {o = None} bytes2 s link c1 within fits long content c2 word = none-some s.words.link link
 rewritten {old} {s1} {new} {p} {each} {c} {g} from {n} len2 {o = Some x} bytes2 s link c1 within fits long content c2
     word =
@@ -245,7 +267,8 @@ rewritten {old} {s1} {new} {p} {each} {c} {g} from {n} len2 {o = Some x} bytes2 
     let wide = head-wider p c2 (omega arith) (omega arith) in
     let two = run-headed one wide (len-written len2 (omega arith) c2.rest word one.words) in
     let stays = beside-head (handle x) one.heap one.head wide (run-found one).0 (λ e. s.own.1 (sym e)) in
-    let whole : HasBytesAt (bytes_of s1.bytes) (handle x) bytes2 = subst (λ k. HasBytesAt (bytes_of s1.bytes) k bytes2) (sym g_is)
+    let whole : HasBytesAt (bytes_of s1.bytes) (handle x) bytes2 =
+    subst (λ k. HasBytesAt (bytes_of s1.bytes) k bytes2) (sym g_is)
     content in
     let own = found-room (live_of old.bytes) (handle x) (each * c) x s.own.0 full in
     record {
@@ -273,7 +296,8 @@ same-storage {old} {mid} {p} {from = from} {n} {t} s x =
 
 -- the storage is the block that it was, where the same blocks are in use
 pub same-extents : {old mid : WindowState} {from n : ℕ} (h : ℕ) (o q : Option Extent) → IsHeap current old.bytes
-    → IsStorageBlock (live_of old.bytes) h o → ExchangesBlocks current old mid from n (option_to_list o) (option_to_list q)
+    → IsStorageBlock (live_of old.bytes) h o
+    → ExchangesBlocks current old mid from n (option_to_list o) (option_to_list q)
     → live_of mid.bytes ≡ live_of old.bytes → o ≡ q
 same-extents h None None heap own x e = refl
 same-extents {old} h None (Some y) heap own x e =
@@ -303,7 +327,8 @@ same-extents {old} h (Some a) (Some y) heap own x e = by_test (handle y == handl
         (live-rises (exchanged l (a ∷ []) (y ∷ [])) x.live.proper) there).0 refl)
 
 -- blocks exchanged, and then those that came written in
-pub exchange-then : {old mid new : WindowState} {from n : ℕ} {gone come : List Extent} → ExchangesBlocks current old mid from n gone
+pub exchange-then : {old mid new : WindowState} {from n : ℕ} {gone come : List Extent}
+    → ExchangesBlocks current old mid from n gone
     come → ExchangesBlocks current mid new from n come come → ExchangesBlocks current old new from n gone come
 exchange-then {old} {mid} {new} {from} {n} {gone} {come} p q = subst (ExchangesBlocks current old new from n gone)
     (append-nil come) (exchange-next current old mid new from n gone come come [] come (spread-nil come) p q)
@@ -332,12 +357,14 @@ pub wanted-is : {w len capacity n k : ℕ} → w ≡ capacity_for_one len capaci
     → w ≡ capacity_for_one n k
 wanted-is e f g = e ∙ (λ i. capacity_for_one (f i) (g i))
 
-table-if : (l : LiveSet) (n : ℕ) (t : BackingArray) {u : BackingArray} (b : Bool) (r : Option Extent) → nat_le n t.capacity ≡ b
+table-if : (l : LiveSet) (n : ℕ) (t : BackingArray) {u : BackingArray} (b : Bool) (r : Option Extent)
+    → nat_le n t.capacity ≡ b
     → (if b then Some t else option_map (λ x. table n (Some x)) r) ≡ Some u → n ≤ u.capacity
 table-if l n t {u} true r e f = let same : t ≡ u = cc in subst (λ (v : BackingArray). n ≤ v.capacity) same
     (leb-true n t.capacity e)
 table-if l n t false None e f = absurd (cc)
-table-if l n t {u} false (Some x) e f = let same : table n (Some x) ≡ u = cc in subst (λ (v : BackingArray). n ≤ v.capacity)
+table-if l n t {u} false (Some x) e f = let same : table n (Some x) ≡ u = cc
+    in subst (λ (v : BackingArray). n ≤ v.capacity)
     same (omega arith)
 
 pub table-places : (l : LiveSet) (each n : ℕ) (t : BackingArray) {u : BackingArray} → grown_backing l each n t ≡ Some u
@@ -347,10 +374,12 @@ table-places l each n t e = table-if l n t (nat_le n t.capacity) (regrow l t.ext
 
 -- gaps that stay after its growth, in the block that there was
 pub grown-gaps : {old mid new : WindowState} {p : Place} {each n len : ℕ} {t : BackingArray} {bytes : List ℕ}
-    → IsContainer old.bytes p each len t bytes → (g : ReservesStorageOk old mid p each n len t bytes) → t.extent ≡ g.table.extent
+    → IsContainer old.bytes p each len t bytes → (g : ReservesStorageOk old mid p each n len t bytes)
+    → t.extent ≡ g.table.extent
     → KeepsGaps mid new → KeepsGaps old new
 grown-gaps {old} {mid} {new} {p} {t} s g same k =
-    let change = subst (λ o. ExchangesBlocks current old mid (place_at p) 24 (option_to_list t.extent) (option_to_list o))
+    let change = subst (λ o. ExchangesBlocks current old mid (place_at p) 24 (option_to_list t.extent)
+    (option_to_list o))
     (sym same) g.change in gaps-trans old mid new (same-storage s change) (g.gaps same) k
 
 -- the place for it
@@ -365,7 +394,8 @@ has-place {old} {each} {n} {t} f g =
 
 -- what the storage has, of a container with a block
 pub storage-has : {b : List ℕ} {p : Place} {each len c g : ℕ} {o : Option Extent} {bytes : List ℕ}
-    → IsContainer b p each len (table c o) bytes → link_at (bytes_of b) (place_at p) ≡ Some g → HasBytesAt (bytes_of b) g bytes
+    → IsContainer b p each len (table c o) bytes → link_at (bytes_of b) (place_at p) ≡ Some g
+    → HasBytesAt (bytes_of b) g bytes
 storage-has {o = None} s link = none-some s.words.link link
 storage-has {b} {o = Some x} {bytes} s link =
     let g_is = same-some (sym s.words.link ∙ link) in subst (λ k. HasBytesAt (bytes_of b) k bytes) g_is s.words.storage
@@ -382,7 +412,8 @@ unchanged c from n heap =
 pub overwritten-all : {old new : WindowState} {p : Place} {each len g : ℕ} (i n : ℕ) {t : BackingArray} {bytes : List ℕ}
     (more : List ℕ) → IsContainer old.bytes p each len t bytes → i + n ≤ len → length more ≡ each * n
     → link_at (bytes_of old.bytes) (place_at p) ≡ Some g → ChangesBytes current old new (g + each * i) (length more)
-    → HasBytesAt (bytes_of new.bytes) (g + each * i) more → RewritesElements old new p each len t (patched bytes (each * i) more)
+    → HasBytesAt (bytes_of new.bytes) (g + each * i) more
+    → RewritesElements old new p each len t (patched bytes (each * i) more)
 overwritten-all {new} {p} {each} {len} {g} i n {t} {bytes} more s f e link c1 content =
     let within = more-times each (i + n) len f in
     let step : each * (i + n) ≡ each * i + each * n = omega arith in
@@ -395,16 +426,19 @@ overwritten-all {new} {p} {each} {len} {g} i n {t} {bytes} more s f e link c1 co
     ∙ (written-run (each * i) s link c1 (omega (arith, inside, total, less))).words.len_word)
 
 -- one is
-pub overwritten : {old new : WindowState} {p : Place} {each len g : ℕ} (i : ℕ) {t : BackingArray} {bytes : List ℕ} (more : List ℕ)
+pub overwritten : {old new : WindowState} {p : Place} {each len g : ℕ} (i : ℕ) {t : BackingArray} {bytes : List ℕ}
+    (more : List ℕ)
     → IsContainer old.bytes p each len t bytes → i < len → length more ≡ each
     → link_at (bytes_of old.bytes) (place_at p) ≡ Some g → ChangesBytes current old new (g + each * i) (length more)
-    → HasBytesAt (bytes_of new.bytes) (g + each * i) more → RewritesElements old new p each len t (patched bytes (each * i) more)
+    → HasBytesAt (bytes_of new.bytes) (g + each * i) more
+    → RewritesElements old new p each len t (patched bytes (each * i) more)
 overwritten {each = each} i more s f e = overwritten-all i 1 more s (omega (arith, f)) (omega (arith, e))
 
 -- ---- elements are left out at the end
 
 cut-storage : {old new : WindowState} {p : Place} {each len c : ℕ} (k : ℕ) {o : Option Extent} {bytes : List ℕ}
-    → IsContainer old.bytes p each len (table c o) bytes → k ≤ length bytes → ChangesBytes current old new (place_at p) 24
+    → IsContainer old.bytes p each len (table c o) bytes → k ≤ length bytes
+    → ChangesBytes current old new (place_at p) 24
     → IsStorage (bytes_of new.bytes) (table c o) (take k bytes)
 cut-storage k {o = None} {bytes} s f c2 = ap (take k) s.words.storage ∙ take-nil k
 cut-storage {old} {new} {p} {each} {len} {c} k {o = Some x} {bytes} s f c2 =
@@ -415,7 +449,8 @@ cut-storage {old} {new} {p} {each} {len} {c} k {o = Some x} {bytes} s f c2 =
 
 pub truncated : {old new : WindowState} {p : Place} {each len : ℕ} (n : ℕ) {t : BackingArray} {bytes : List ℕ}
     → IsContainer old.bytes p each len t bytes → n ≤ len → ChangesBytes current old new (p.handle + (p.at + 8)) 8
-    → word_at (bytes_of new.bytes) (p.handle + (p.at + 8)) ≡ n → RewritesElements old new p each n t (take (each * n) bytes)
+    → word_at (bytes_of new.bytes) (p.handle + (p.at + 8)) ≡ n
+    → RewritesElements old new p each n t (take (each * n) bytes)
 truncated {old} {p} {each} {len} n {bytes} s f c2 word =
     let less = more-times each n len f in let total = s.long in let fits = s.fits in
     let one = stands-run old s in let wide = head-wider p c2 (omega arith) (omega arith) in
@@ -430,7 +465,8 @@ truncated {old} {p} {each} {len} n {bytes} s f c2 word =
 
 -- ---- what the calls of the heap ask for
 
-storage-room_in : {b : List ℕ} {p : Place} {each len c g : ℕ} {o : Option Extent} {bytes : List ℕ} → IsContainer b p each len
+storage-room_in : {b : List ℕ} {p : Place} {each len c g : ℕ} {o : Option Extent} {bytes : List ℕ}
+    → IsContainer b p each len
     (table c o) bytes → link_at (bytes_of b) (place_at p) ≡ Some g → IsTrue (has_room (live_of b) g (each * c))
 storage-room_in {o = None} s link = none-some s.words.link link
 storage-room_in {b} {each} {c} {o = Some x} s link =
@@ -439,7 +475,8 @@ storage-room_in {b} {each} {c} {o = Some x} s link =
     (found-room (live_of b) (handle x) (each * c) x s.own.0 full)
 
 -- the storage has room for as many bytes as the elements have, and for as many as there are places
-pub some-room : {b : List ℕ} {p : Place} {each len g : ℕ} (n : ℕ) {t : BackingArray} {bytes : List ℕ} → IsContainer b p each len t
+pub some-room : {b : List ℕ} {p : Place} {each len g : ℕ} (n : ℕ) {t : BackingArray} {bytes : List ℕ}
+    → IsContainer b p each len t
     bytes → link_at (bytes_of b) (place_at p) ≡ Some g → n ≤ each * t.capacity → IsTrue (has_room (live_of b) g n)
 some-room {b} {each} {g} n {t} s link f = room-less (live_of b) g (each * t.capacity) n f (storage-room_in s link)
 
@@ -454,7 +491,8 @@ live-if h n (x ∷ xs) t =
       | inr e ↦ or_right (handle x == h) (list_any (λ (y : Extent). handle y == h) xs) (live-if h n xs e)
     ]
 
-pub storage-live : {b : List ℕ} {p : Place} {each len g : ℕ} {t : BackingArray} {bytes : List ℕ} → IsContainer b p each len t bytes
+pub storage-live : {b : List ℕ} {p : Place} {each len g : ℕ} {t : BackingArray} {bytes : List ℕ}
+    → IsContainer b p each len t bytes
     → link_at (bytes_of b) (place_at p) ≡ Some g → IsTrue (is_live_in (live_of b) g)
 storage-live {b} {each} {g} {t} s link = live-if g (each * t.capacity) (live_of b).extents (storage-room_in s link)
 
@@ -471,7 +509,8 @@ element-fits {each} i {t} s f =
 
 -- ---- the bytes of all elements
 
-pub read-all : (c : WindowState) {p : Place} {each len : ℕ} (k : ℕ) {g : ℕ} {t : BackingArray} {bytes : List ℕ} (out : List ℕ)
+pub read-all : (c : WindowState) {p : Place} {each len : ℕ} (k : ℕ) {g : ℕ} {t : BackingArray} {bytes : List ℕ}
+    (out : List ℕ)
     → IsContainer c.bytes p each len t bytes → k ≡ len → link_at (bytes_of c.bytes) (place_at p) ≡ Some g
     → out ≡ payload_at c.bytes (live_of c.bytes) g → take (each * k) out ≡ bytes
 read-all c {each} {len} k {g} out s is link e =
@@ -547,8 +586,10 @@ too-many c {p} {each} n {t} s some f =
 
 -- ---- elements more
 
-pub extended : {old s1 new : WindowState} {p : Place} {each len g : ℕ} (n : ℕ) {t : BackingArray} {bytes : List ℕ} (more : List ℕ)
-    → IsContainer old.bytes p each len t bytes → len + n ≤ t.capacity → length more ≡ each * n → link_at (bytes_of old.bytes)
+pub extended : {old s1 new : WindowState} {p : Place} {each len g : ℕ} (n : ℕ) {t : BackingArray} {bytes : List ℕ}
+    (more : List ℕ)
+    → IsContainer old.bytes p each len t bytes → len + n ≤ t.capacity → length more ≡ each * n
+    → link_at (bytes_of old.bytes)
     (place_at p) ≡ Some g → ChangesBytes current old s1 (g + each * len) (length more) → HasBytesAt (bytes_of s1.bytes)
     (g + each * len) more → ChangesBytes current s1 new (p.handle + (p.at + 8)) 8 → word_at (bytes_of new.bytes)
     (p.handle + (p.at + 8)) ≡ len + n → RewritesElements old new p each (len + n) t (bytes ++ more)
@@ -559,11 +600,13 @@ extended {old} {s1} {each} {len} {g} n {t} {bytes} more s f long link c1 content
     let front : HasBytesAt ms g bytes = read-same m ms g (g + each * len) g (length bytes)
     (record { at = λ k a b. c1.rest.at k (inl (omega arith)) }) (omega arith) (omega (arith, total))
     ∙ storage-has s link in
-    let behind : HasBytesAt ms (g + length bytes) more = subst (λ k. HasBytesAt ms k more) (omega (arith, total)) content in
+    let behind : HasBytesAt ms (g + length bytes) more =
+    subst (λ k. HasBytesAt ms k more) (omega (arith, total)) content in
     rewritten (each * len) (len + n) (bytes ++ more) s link c1 (omega (arith, long, less, step)) f
     (omega (arith, sum, total, long, step)) (HasBytesAt-append ms g bytes more front behind) c2 word
 
-pub extended-not : (c : WindowState) {p : Place} {each len k : ℕ} (n : ℕ) {o : Option Extent} {bytes : List ℕ} (more : List ℕ)
+pub extended-not : (c : WindowState) {p : Place} {each len k : ℕ} (n : ℕ) {o : Option Extent} {bytes : List ℕ}
+    (more : List ℕ)
     → IsContainer c.bytes p each len (table k o) bytes → len + n ≤ k → length more ≡ each * n
     → link_at (bytes_of c.bytes) (place_at p) ≡ None → RewritesElements c c p each (len + n) (table k o) (bytes ++ more)
 extended-not c {p} {each} {len} {k} n {o = None} {bytes} more s f long link =
@@ -571,7 +614,8 @@ extended-not c {p} {each} {len} {k} n {o = None} {bytes} more s f long link =
     let nothing : each * 0 ≡ 0 = omega arith in
     let empty = nil_from_length more (long ∙ ap (λ j. each * j) no ∙ nothing) in
     subst (λ (ws : List ℕ). RewritesElements c c p each (len + n) (table k None) (bytes ++ ws)) (sym empty)
-    (subst (λ j. RewritesElements c c p each j (table k None) (bytes ++ [])) (let e : len ≡ len + n = omega (arith, no) in e)
+    (subst (λ j. RewritesElements c c p each j (table k None) (bytes ++ [])) (let e : len ≡ len + n =
+    omega (arith, no) in e)
     (subst (λ (ws : List ℕ). RewritesElements c c p each len (table k None) ws) (sym (append-nil bytes))
     (unchanged-rewritten c s)))
 extended-not c n {o = Some x} more s f long link = none-some link s.words.link
@@ -600,7 +644,8 @@ pub erased : {old s1 new : WindowState} {p : Place} {each len g : ℕ} (i : ℕ)
     → IsContainer old.bytes p each len t bytes → i < len → link_at (bytes_of old.bytes) (place_at p) ≡ Some g
     → ChangesBytes current old s1 (g + each * i) (each * (len - i - 1)) → read (bytes_of s1.bytes) (g + each * i)
     (each * (len - i - 1)) ≡ read (bytes_of old.bytes) (g + (each * i + each)) (each * (len - i - 1))
-    → ChangesBytes current s1 new (p.handle + (p.at + 8)) 8 → word_at (bytes_of new.bytes) (p.handle + (p.at + 8)) ≡ len -
+    → ChangesBytes current s1 new (p.handle + (p.at + 8)) 8
+    → word_at (bytes_of new.bytes) (p.handle + (p.at + 8)) ≡ len -
     1 → RewritesElements old new p each (len - 1) t (take (each * i) bytes ++ drop (each * i + each) bytes)
 erased {old} {s1} {each} {len} {g} i {t} {bytes} s f link c1 moved c2 word =
     let m = bytes_of old.bytes in let ms = bytes_of s1.bytes in let k : ℕ = each * i + each in
@@ -625,7 +670,8 @@ erased {old} {s1} {each} {len} {g} i {t} {bytes} s f link c1 moved c2 word =
 
 -- ---- an element is put in
 
-both-within : {a b c : Memory} {from one n at : ℕ} → at ≡ from + one → SameBytesExcept a b at n → SameBytesExcept b c from one
+both-within : {a b c : Memory} {from one n at : ℕ} → at ≡ from + one → SameBytesExcept a b at n
+    → SameBytesExcept b c from one
     → SameBytesExcept a c from (one + n)
 both-within {from} {one} {n} {at} e p q = record { at = λ k f. q.at k (outer k f) ∙ p.at k (inner k f) }
   where
@@ -637,12 +683,14 @@ both-within {from} {one} {n} {at} e p q = record { at = λ k f. q.at k (outer k 
     inner k (inl f) = inl (omega (arith, f, e))
     inner k (inr f) = inr (omega (arith, f, e))
 
-pub put_in : {old s1 s2 new : WindowState} {p : Place} {each len g : ℕ} (i : ℕ) {t : BackingArray} {bytes : List ℕ} (more : List ℕ)
+pub put_in : {old s1 s2 new : WindowState} {p : Place} {each len g : ℕ} (i : ℕ) {t : BackingArray} {bytes : List ℕ}
+    (more : List ℕ)
     → IsContainer old.bytes p each len t bytes → i ≤ len → len < t.capacity → length more ≡ each
     → link_at (bytes_of old.bytes) (place_at p) ≡ Some g
     → ChangesBytes current old s1 (g + (each * i + each)) (each * (len - i))
     → read (bytes_of s1.bytes) (g + (each * i + each)) (each * (len - i)) ≡ read (bytes_of old.bytes) (g + each * i)
-    (each * (len - i)) → ChangesBytes current s1 s2 (g + each * i) each → HasBytesAt (bytes_of s2.bytes) (g + each * i) more
+    (each * (len - i)) → ChangesBytes current s1 s2 (g + each * i) each
+    → HasBytesAt (bytes_of s2.bytes) (g + each * i) more
     → ChangesBytes current s2 new (p.handle + (p.at + 8)) 8 → word_at (bytes_of new.bytes) (p.handle + (p.at + 8)) ≡ len
     + 1 → RewritesElements old new p each (len + 1) t (take (each * i) bytes ++ (more ++ drop (each * i) bytes))
 put_in {old} {s1} {s2} {each} {len} {g} i {t} {bytes} more s f room e link c1 moved c2 content c3 word =
@@ -690,7 +738,8 @@ pub part-room : {l : LiveSet} {each i n g : ℕ} (k : ℕ) → k ≤ each * i + 
     → IsTrue (has_room l g k)
 part-room {l} {each} {i} {n} {g} k f q = room-less l g (each * i + each + n) k f q.room
 
-pub erase-fits : (c : WindowState) {p : Place} {each len : ℕ} (k : ℕ) {g : ℕ} (i : ℕ) {t : BackingArray} {bytes : List ℕ}
+pub erase-fits : (c : WindowState) {p : Place} {each len : ℕ} (k : ℕ) {g : ℕ} (i : ℕ) {t : BackingArray}
+    {bytes : List ℕ}
     → IsContainer c.bytes p each len t bytes → k ≡ word_at (bytes_of c.bytes) (place_at p + 8)
     → i < word_at (bytes_of c.bytes) (p.handle + p.at + 8) → link_at (bytes_of c.bytes) (place_at p) ≡ Some g
     → Fitting (live_of c.bytes) each i (each * (k - i - 1)) g
@@ -700,7 +749,8 @@ erase-fits c {each} {len} k i s e inside link =
     let split : each * ((i + 1) + (k - i - 1)) ≡ each * i + each + each * (k - i - 1) = omega arith in
     fitting c i (each * (k - i - 1)) len s link s.fits (sym split ∙ ap (λ j. each * j) whole)
 
-pub insert-fits : (c : WindowState) {p : Place} {each len : ℕ} (k : ℕ) {g : ℕ} (i : ℕ) {t : BackingArray} {bytes : List ℕ}
+pub insert-fits : (c : WindowState) {p : Place} {each len : ℕ} (k : ℕ) {g : ℕ} (i : ℕ) {t : BackingArray}
+    {bytes : List ℕ}
     → IsContainer c.bytes p each len t bytes → k ≡ word_at (bytes_of c.bytes) (place_at p + 8)
     → i ≤ word_at (bytes_of c.bytes) (p.handle + p.at + 8) → word_at (bytes_of c.bytes) (p.handle + p.at + 8) < word_at
     (bytes_of c.bytes) (p.handle + p.at + 16)

@@ -4,14 +4,18 @@ use Rattle.seg_vector.proofs.Words as W
 use W.{in_use-all, take-append-drop, length-take, length-drop, ◌≡◌, ◌≢◌, sym, ap, subst, ◌∙◌, ℕ, ◌+◌, ◌%◌, ◌≤◌, Option}
 use W.{Some, None, List, ◌∷◌, ◌++◌, ◌==◌, append_assoc, length, arith, inl, inr, refl, zero, suc, ◌-◌, ◌*◌, ◌<◌, take}
 use W.{drop, Bool, true, false, cond, ◌⊎◌, IsTrue, find, option_to_list, option_map, slice_get, IfSome, AllByRecursion}
-use W.{list_any, flat_map-append, take-take, slice_get_within, or_left, or_right, Memory, WindowState, bytes_of, word_at}
-use W.{SameBytesExcept, HasBytesAt, current, Storage, link_at, target_of, inserted, without_all, ExchangesBlocks, SameBlockExcept, Extent}
+use W.{list_any, flat_map-append, take-take, slice_get_within, or_left, or_right, Memory, WindowState, bytes_of}
+use W.{word_at}
+use W.{SameBytesExcept, HasBytesAt, current, Storage, link_at, target_of, inserted, without_all, ExchangesBlocks}
+use W.{SameBlockExcept, Extent}
 use W.{LiveSet, handle, end_of, IsHeap, extent_at, live_of, SameBlock, ChangesBytes, has_room, is_live_in, payload_at}
-use W.{Deallocates, BackingArray, has_backing, no_backing, IsFound, IsNone, Rising, SameSpread, all-found-in, all-in-use}
+use W.{Deallocates, BackingArray, has_backing, no_backing, IsFound, IsNone, Rising, SameSpread, all-found-in}
+use W.{all-in-use}
 use W.{found-inserted, found-none, found-room, live-rises, middle-first, rising-others, roomy, spread-behind}
 use W.{all_of-inserted, but-apart, exchanged-live, found-without, inserted-append, laid-heap, without-inserted, kept}
 use W.{kept-found, word-same, block_payload, room_block, exchange-next, exchange-released, exchange-same, spread-refl}
-use W.{IsSound, live-sound, HasBytesAt-same, SameBytesExcept-word, read-part, SameBytesExcept-link, Place, place_at, IsContainer, IsServed}
+use W.{IsSound, live-sound, HasBytesAt-same, SameBytesExcept-word, read-part, SameBytesExcept-link, Place, place_at}
+use W.{IsContainer, IsServed}
 use W.{FreesBlocks, KeepsGaps, IsSwapped, AreHeldElements, IsHeldElement, SameElements, IsSameElement, AreEvenLinks}
 use W.{IsHeldText, IsTexts}
 use W.{text_blocks, ReplacesTexts, IsTextElement, AreInArray, IsOwnedText, OwnedText, AreTextLinks, []}
@@ -195,7 +199,8 @@ owned-same m m' (q ∷ qs) k s w =
     (same-loose m m' q.bytes q.extent both.0 s.0 w.0, owned-same m m' qs both.1 s.1 w.1)
 
 -- blocks stay where the words of the vector are written
-all-apart : {old : WindowState} (new : WindowState) {p : Place} (xs : List Extent) → IsHeap current old.bytes → IsHead old p
+all-apart : {old : WindowState} (new : WindowState) {p : Place} (xs : List Extent) → IsHeap current old.bytes
+    → IsHead old p
     → AllByRecursion (IsFound (live_of old.bytes).extents) xs → AllByRecursion (λ (x : Extent). handle x ≢ p.handle) xs
     → AllByRecursion (SameBlockExcept (bytes_of old.bytes) (bytes_of new.bytes) (place_at p) 24) xs
     → AllByRecursion (SameBlock (bytes_of old.bytes) (bytes_of new.bytes)) xs
@@ -207,7 +212,8 @@ all-apart {old} new {p} (x ∷ xs) heap o f n s = (
 )
 
 -- the array and some texts among the others
-pub own-parts : (c : WindowState) {p : Place} (a m b : List OwnedText) {t : BackingArray} → IsTexts c.bytes p (a ++ (m ++ b)) t
+pub own-parts : (c : WindowState) {p : Place} (a m b : List OwnedText) {t : BackingArray}
+    → IsTexts c.bytes p (a ++ (m ++ b)) t
     → (live_of c.bytes).extents ≡ inserted (option_to_list t.extent ++ text_blocks m)
     (inserted (text_blocks a ++ text_blocks b) (without_all (own_blocks (a ++ (m ++ b)) t) (live_of c.bytes).extents))
 own-parts c {p} a m b {t} s =
@@ -218,7 +224,8 @@ own-parts c {p} a m b {t} s =
 
 -- ---- the vector afterwards: the change that all steps come to
 
-pub texts-between : {old new : WindowState} {p : Place} {ps : List OwnedText} (qs a m m' b : List OwnedText) {t u : BackingArray}
+pub texts-between : {old new : WindowState} {p : Place} {ps : List OwnedText} (qs a m m' b : List OwnedText)
+    {t u : BackingArray}
     {gone come : List Extent} → ps ≡ a ++ (m ++ b) → qs ≡ a ++ (m' ++ b)
     → gone ≡ option_to_list t.extent ++ text_blocks m → come ≡ option_to_list u.extent ++ text_blocks m'
     → IsTexts old.bytes p ps t → ExchangesBlocks current old new (place_at p) 24 gone come
@@ -231,7 +238,8 @@ texts-between {old} {new} {p} qs a m m' b {t} {u} {gone} e f g h before change t
     let into : List Extent = option_to_list u.extent ++ text_blocks m' in
     let same : List Extent = text_blocks a ++ text_blocks b in
     let s = subst (λ (xs : List OwnedText). IsTexts old.bytes p xs t) e before in
-    let x : ExchangesBlocks current old new (place_at p) 24 out into = subst (λ (xs : List Extent). ExchangesBlocks current old
+    let x : ExchangesBlocks current old new (place_at p) 24 out into =
+    subst (λ (xs : List Extent). ExchangesBlocks current old
     new (place_at p) 24 xs into) g (subst (ExchangesBlocks current old new (place_at p) 24 gone) h change) in
     let own = own_blocks (a ++ (m ++ b)) t in let w = texts-own old s in let rest = without_all own l.extents in
     let parts = own-parts old a m b s in
@@ -316,7 +324,8 @@ links-at m at ps i {q} a e =
 
 -- ---- the element of a text
 
-pub element-of : (c : WindowState) {p : Place} {ps : List OwnedText} {k g : ℕ} (i : ℕ) {o : Option Extent} {q : OwnedText}
+pub element-of : (c : WindowState) {p : Place} {ps : List OwnedText} {k g : ℕ} (i : ℕ) {o : Option Extent}
+    {q : OwnedText}
     → IsTexts c.bytes p ps (record { capacity = k; extent = o }) → link_at (bytes_of c.bytes) (place_at p) ≡ Some g
     → slice_get ps i ≡ Some q → IsTextElement c.bytes g (16 * i) q
 element-of c i {o = None} s link e = none-some s.words.link link
@@ -394,7 +403,8 @@ element-live {b} {o = Some x} s link =
     let g_is = same-some (sym s.link ∙ link) in
     subst (λ k. IsTrue (is_live_in (live_of b) k)) g_is (found-live (handle x) (live_of b).extents s.live.0)
 
-pub released-some : {old new : WindowState} {array at g : ℕ} {bytes : List ℕ} {o : Option Extent} → IsHeldElement old.bytes
+pub released-some : {old new : WindowState} {array at g : ℕ} {bytes : List ℕ} {o : Option Extent}
+    → IsHeldElement old.bytes
     array at (record { bytes = bytes; extent = o }) → link_at (bytes_of old.bytes) (array + at) ≡ Some g
     → Deallocates current old new g → FreesBlocks old new (option_to_list o)
 released-some {o = None} s link r = none-some s.link link
@@ -466,7 +476,8 @@ releases-next {old} {now} {new} i ps {q} e x y =
     (exchange-next _ old now new 0 0 _ _ _ left [] spread x y)
 
 -- so far none of them has a block, and nothing has changed
-pub released-nothing-next : {old now new : WindowState} (ps : List OwnedText) (i : ℕ) {q : OwnedText} → slice_get ps i ≡ Some q
+pub released-nothing-next : {old now new : WindowState} (ps : List OwnedText) (i : ℕ) {q : OwnedText}
+    → slice_get ps i ≡ Some q
     → text_blocks ps ≡ [] → now ≡ old → (option_to_list q.extent ≡ [] → new ≡ now) → new ≡ old
 released-nothing-next ps i {q} e none so_far next =
     let all = subst (AllByRecursion (λ (x : Extent). ⊥)) (sym none) tt in
@@ -525,7 +536,8 @@ links-edited {m} {m'} g {at} {to} {n} ps i j zs f h a b c l front mid back =
 
 -- ---- it begins
 
-pub run-begin : (c : WindowState) {p : Place} {ps : List OwnedText} (a m b : List OwnedText) {t : BackingArray} → ps ≡ a ++ (m ++ b)
+pub run-begin : (c : WindowState) {p : Place} {ps : List OwnedText} (a m b : List OwnedText) {t : BackingArray}
+    → ps ≡ a ++ (m ++ b)
     → IsTexts c.bytes p ps t
     → IsRun c c p (option_to_list t.extent ++ text_blocks m) (option_to_list t.extent ++ text_blocks m) (length ps) t
 run-begin c {p} a m b {t} e s =
@@ -596,7 +608,8 @@ array-left {old} {new} {array} {n} {gone} {come} s x none =
 -- ---- elements of the array of a vector of texts, put elsewhere one after another
 
 -- an element beside what is written
-pub element-beside : {m m' : Memory} {from n : ℕ} (at : ℕ) → SameBytesExcept m m' from n → (at + 16 ≤ from) ⊎ (from + n ≤ at)
+pub element-beside : {m m' : Memory} {from n : ℕ} (at : ℕ) → SameBytesExcept m m' from n
+    → (at + 16 ≤ from) ⊎ (from + n ≤ at)
     → IsSameElement m m' at at
 element-beside {m} {m'} {from} {n} at s (inl f) = record {
   link = SameBytesExcept-link m m' from n at s (inl (omega arith));
@@ -653,7 +666,8 @@ even-now a n i e f s = subst (λ o. IfSome o (λ target. target % 16 ≡ 0)) (sy
 abbrev pub AreUp : Memory → Memory → ℕ → ℕ → ℕ → Type 0
 AreUp m m' a k n = (j : ℕ) → k ≤ j → j < n → IsSameElement m m' (a + 16 * j) (a + 16 + 16 * j)
 
-pub up-source : {old now : WindowState} (a k i n : ℕ) → k + (i + 1) ≡ n → ChangesBytes current old now (a + 16 + 16 * (n - i))
+pub up-source : {old now : WindowState} (a k i n : ℕ) → k + (i + 1) ≡ n
+    → ChangesBytes current old now (a + 16 + 16 * (n - i))
     (16 * i) → IsSameElement (bytes_of old.bytes) (bytes_of now.bytes) (a + 16 * k) (a + 16 * k)
 up-source a k i n e c = element-beside (a + 16 * k) c.rest (inl (omega arith))
 
@@ -665,7 +679,8 @@ up-changed a k i n e c is d = changed-both (a + 16 + 16 * (n - (i + 1))) (16 * (
 
 pub up-next : {old now new : WindowState} {at to : ℕ} (a k i n : ℕ) → k + (i + 1) ≡ n → AreUp (bytes_of old.bytes)
     (bytes_of now.bytes) a (n - i) n → ChangesBytes current old now (a + 16 + 16 * (n - i)) (16 * i) → at ≡ a + 16 * k
-    → to ≡ a + 16 + 16 * k → ChangesBytes current now new to 16 → IsSameElement (bytes_of now.bytes) (bytes_of new.bytes)
+    → to ≡ a + 16 + 16 * k → ChangesBytes current now new to 16
+    → IsSameElement (bytes_of now.bytes) (bytes_of new.bytes)
     at to → AreUp (bytes_of old.bytes) (bytes_of new.bytes) a (n - (i + 1)) n
 up-next a k i n is s c from to d e j low below = one-more a (a + 16) k j (λ g. s j (omega (arith, g, is, low)) below)
     d.rest (element-trans (same-at (sym from) (sym from) (up-source a k i n is c)) e) from to (sides j k)

@@ -1,8 +1,12 @@
 -- A vector of texts without texts, with one less or another one, or cut; and a text in a block of its own.
-use W.{◌≡◌, bytes_of, target_of, ChangesBytes, SameBlock, laid-heap, word-same, IsSwapped, AreDistinct, IsStorage, OwnedText}
-use W.{◌≢◌, refl, sym, Some, None, List, ◌++◌, arith, take, drop, zero, SameBytes, read, BackingArray, kept, place, Place, IsContainer}
-use W.{ap, ◌∙◌, ℕ, ◌+◌, ◌*◌, ◌∷◌, inl, inr, ◌⊎◌, suc, ◌-◌, ◌<◌, ◌≤◌, ◌%◌, ⊤, WindowState, HasBytesAt, [], subst, option_map, slice_set}
-use W.{SameSpread, found-room, last-first, kept-found, IsStorageBlock, ReplacesTexts, AreInArray, Option, take-append-drop}
+use W.{◌≡◌, bytes_of, target_of, ChangesBytes, SameBlock, laid-heap, word-same, IsSwapped, AreDistinct, IsStorage}
+use W.{OwnedText}
+use W.{◌≢◌, refl, sym, Some, None, List, ◌++◌, arith, take, drop, zero, SameBytes, read, BackingArray, kept, place}
+use W.{Place, IsContainer}
+use W.{ap, ◌∙◌, ℕ, ◌+◌, ◌*◌, ◌∷◌, inl, inr, ◌⊎◌, suc, ◌-◌, ◌<◌, ◌≤◌, ◌%◌, ⊤, WindowState, HasBytesAt, [], subst}
+use W.{option_map, slice_set}
+use W.{SameSpread, found-room, last-first, kept-found, IsStorageBlock, ReplacesTexts, AreInArray, Option}
+use W.{take-append-drop}
 use W.{slice_get_within, shorter-IsShorter, still_allocated, SameBlock-trans, AreHeldElements, append-nil, slice_get}
 use W.{length-take, AllocatesOk, spread-refl, FreesStorageOk, text_blocks, placed_text, IsOwnedText, length, IsTrue}
 use W.{remove, IfSome, eq-eqb, ne_eqb, Memory, Extent, handle, end_of, IsHeap, IsNone, shorter, IsTexts, length-append}
@@ -54,7 +58,8 @@ pub no-links : (m : Memory) (c : ℕ) (o : Option Extent) → AreInArray m (tabl
 no-links m c None = refl
 no-links m c (Some x) = tt
 
-pub cleared : {old mid new : WindowState} {p : Place} {ps : List OwnedText} {t : BackingArray} → IsTexts old.bytes p ps t
+pub cleared : {old mid new : WindowState} {p : Place} {ps : List OwnedText} {t : BackingArray}
+    → IsTexts old.bytes p ps t
     → FreesBlocks old mid (text_blocks ps) → ChangesBytes current mid new (p.handle + (p.at + 8)) 8
     → word_at (bytes_of new.bytes) (p.handle + (p.at + 8)) ≡ 0
     → ReplacesTexts old new p (option_to_list t.extent ++ text_blocks ps) (option_to_list t.extent) [] t
@@ -272,7 +277,8 @@ same-elements {m} {m'} {at} n s j f = record {
 cut-links : (l : LiveSet) (m m' : Memory) (ps : List OwnedText) (c : ℕ) (o : Option Extent)
     → AreInArray m (table c o) ps → IsStorage m' (shrunk_backing l 16 (length ps) (table c o)) (raw m (length ps) o)
     → AreInArray m' (shrunk_backing l 16 (length ps) (table c o)) ps
-cut-links l m m' [] c o a h = let u : BackingArray = shrunk_backing l 16 0 (table c o) in no-links m' u.capacity u.extent
+cut-links l m m' [] c o a h = let u : BackingArray = shrunk_backing l 16 0 (table c o)
+    in no-links m' u.capacity u.extent
 cut-links l m m' (q ∷ qs) c None a h = absurd (cc)
 cut-links l m m' (q ∷ qs) c (Some x) a h =
     let n = length (q ∷ qs) in let y = shorter l x (16 * n) in let cut = cut-some l 16 n c x (omega arith) in
@@ -287,7 +293,8 @@ cut-links l m m' (q ∷ qs) c (Some x) a h =
     (sym (ap (λ (z : Extent). z.offset) (shorter-IsShorter l x (16 * n)).same)) links)
 
 pub shrunk : {old new : WindowState} {p : Place} {ps : List OwnedText} {t : BackingArray} → IsTexts old.bytes p ps t
-    → ShrinksStorageOk old new p 16 (length ps) t (raw (bytes_of old.bytes) (length ps) t.extent) → ReplacesTexts old new p
+    → ShrinksStorageOk old new p 16 (length ps) t (raw (bytes_of old.bytes) (length ps) t.extent)
+    → ReplacesTexts old new p
     (option_to_list t.extent) (option_to_list (shrunk_backing (live_of old.bytes) 16 (length ps) t).extent) ps
     (shrunk_backing (live_of old.bytes) 16 (length ps) t)
 shrunk {old} {new} {ps} {t} s f =
@@ -312,7 +319,8 @@ some-placed l bytes f = ap (λ b. if b then Some (let q : OwnedText = record { b
     option_map (λ (x : Extent). let q : OwnedText = record { bytes = bytes; extent = Some x } in q)
     (place l (length bytes) Storage)) (ne_eqb (length bytes) 0 (λ e. omega (arith, e, f)))
 
-pub placed-empty : (c : WindowState) (bytes : List ℕ) → IsHeap current c.bytes → length bytes ≡ 0 → PlacesTextOk c c bytes None
+pub placed-empty : (c : WindowState) (bytes : List ℕ) → IsHeap current c.bytes → length bytes ≡ 0
+    → PlacesTextOk c c bytes None
 placed-empty c bytes heap e = record {
   text = record { bytes = bytes; extent = None };
   placed = empty-placed (live_of c.bytes) bytes e;
@@ -412,7 +420,8 @@ run-others r = came-others r.change
 
 -- ---- the text that was placed
 
-pub loose-kept : {a b : WindowState} (bytes : List ℕ) (o : Option Extent) {gone come : List Extent} → IsHeap current a.bytes
+pub loose-kept : {a b : WindowState} (bytes : List ℕ) (o : Option Extent) {gone come : List Extent}
+    → IsHeap current a.bytes
     → IsSwapped a b gone come → AllByRecursion (IsFound (live_of a.bytes).extents) (option_to_list o)
     → AllByRecursion (λ (y : Extent). AllByRecursion (λ (z : Extent). handle y ≢ handle z) gone) (option_to_list o)
     → IsServed (record { bytes = bytes; extent = o }) → IsOwnedText (bytes_of a.bytes)
@@ -431,7 +440,8 @@ others-front (Some y) xs d = (d.0, tt)
 
 -- ---- the vector afterwards
 
-pub text-set : {s0 s1 mid s3 : WindowState} {p : Place} {ps : List OwnedText} {c len g : ℕ} {o : Option Extent} {q : OwnedText}
+pub text-set : {s0 s1 mid s3 : WindowState} {p : Place} {ps : List OwnedText} {c len g : ℕ} {o : Option Extent}
+    {q : OwnedText}
     {bytes : List ℕ} {block : Option ℕ} (i : ℕ) → IsTexts s0.bytes p ps (table c o) → slice_get ps i ≡ Some q
     → (pl : PlacesTextOk s0 s1 bytes block) → link_at (bytes_of s1.bytes) (place_at p) ≡ Some g
     → FreesBlocks s1 mid (option_to_list q.extent) → ChangesBytes current mid s3 (g + 16 * i) 16

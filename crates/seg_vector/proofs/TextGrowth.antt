@@ -1,13 +1,16 @@
 -- The array of a vector of texts with more places, one text more in it, and what was asked for given up.
 use W.{◌≡◌, ◌≢◌, refl, sym, ap, subst, ◌∙◌, ℕ, ◌+◌, ◌*◌, ◌<◌, ◌≤◌, Option, Some, None, List, ◌∷◌, ◌++◌, arith, length}
 use W.{inl, inr, ◌⊎◌, ◌%◌, append-nil, IsTrue, Result, Ok, Err, MatchResult, option_map, option_to_list, IfSome, nat_lt}
-use W.{AllByRecursion, and_from, lt-ltb, WindowState, bytes_of, current, Storage, link_at, CannotWiden, WidensBlock, exchanged}
+use W.{AllByRecursion, and_from, lt-ltb, WindowState, bytes_of, current, Storage, link_at, CannotWiden, WidensBlock}
+use W.{exchanged}
 use W.{Extent, LiveSet, handle, end_of, place, Refusal, AllocatesOk, ChangesBytes, IsHeap, Deallocates, ResizesBlock}
 use W.{SameBlock, extent_at, live_of, has_room, BackingArray, serves, has_backing, IsFound, IsNone, SameBlock-trans}
 use W.{exchange-order, exchange-released, exchange-resized, exchange-taken, found-none, kept, kept-found, last-first}
 use W.{live-rises, middle-first, place-serves, regrow-serves, spread-refl, found-room, two-apart, laid-heap, Place}
-use W.{place_at, SameElements, IsAdopted, ReservesArray, LacksFit, IsSwapped, taken, widened, AreEvenLinks, IsArrayReserved}
-use W.{gaps-refl, TakesStorage, AreDistinct, IsTexts, ReplacesTexts, AreTextLinks, OwnedText, [], SetsStorage, blocks-trans}
+use W.{place_at, SameElements, IsAdopted, ReservesArray, LacksFit, IsSwapped, taken, widened, AreEvenLinks}
+use W.{IsArrayReserved}
+use W.{gaps-refl, TakesStorage, AreDistinct, IsTexts, ReplacesTexts, AreTextLinks, OwnedText, [], SetsStorage}
+use W.{blocks-trans}
 use Rattle.seg_vector.proofs.Runs.{AreHeadWords, IsHead, IsRun, beside-head, block-written, none-some, run-found}
 use Rattle.seg_vector.proofs.Runs.{run-headed, run-swapped, same-some, serves-full, table, all-kept, stands-none-of}
 use Rattle.seg_vector.proofs.Runs.{head-gaps, stands-run, table-full}
@@ -42,11 +45,14 @@ array-of {o = None} s link e = none-some s.words.link link
 array-of {b} {o = Some x} s link e =
     let g_is = same-some (sym s.words.link ∙ link) in sym s.own.0 ∙ ap (λ k. extent_at (live_of b) k) g_is ∙ e
 
-pub asked-wide : {old new : WindowState} {p : Place} {ps : List OwnedText} {t : BackingArray} {g n : ℕ} → IsTexts old.bytes p ps t
-    → link_at (bytes_of old.bytes) (place_at p) ≡ Some g → WidensBlock current old new g n → ReservesArray old new t.extent n g
+pub asked-wide : {old new : WindowState} {p : Place} {ps : List OwnedText} {t : BackingArray} {g n : ℕ}
+    → IsTexts old.bytes p ps t
+    → link_at (bytes_of old.bytes) (place_at p) ≡ Some g → WidensBlock current old new g n
+    → ReservesArray old new t.extent n g
 asked-wide s link w = widened w (array-of s link w.found)
 
-pub asked-beside : {old mid : WindowState} (new : WindowState) {p : Place} {ps : List OwnedText} {t : BackingArray} {g n : ℕ}
+pub asked-beside : {old mid : WindowState} (new : WindowState) {p : Place} {ps : List OwnedText} {t : BackingArray}
+    {g n : ℕ}
     (r : Result ℕ Refusal) → IsTexts old.bytes p ps t → link_at (bytes_of old.bytes) (place_at p) ≡ Some g
     → CannotWiden old mid g n → TakesStorage mid new n r
     → MatchResult r (ReservesArray old new t.extent n) (LacksFit old new (regrow (live_of old.bytes) t.extent n))
@@ -55,7 +61,8 @@ asked-beside {old} new {t} {n} r s link w a = asked-new old new t.extent n r (ap
 
 -- ---- the table
 
-pub grown-to : (l : LiveSet) (n : ℕ) (t : BackingArray) {y : Extent} → t.capacity < n → regrow l t.extent (16 * n) ≡ Some y
+pub grown-to : (l : LiveSet) (n : ℕ) (t : BackingArray) {y : Extent} → t.capacity < n
+    → regrow l t.extent (16 * n) ≡ Some y
     → grown_backing l 16 n t ≡ Some (record { capacity = n; extent = Some y })
 grown-to l n t f e = grown-more l 16 n t f ∙ ap (option_map (λ x. table n (Some x))) e
 
@@ -66,12 +73,14 @@ not-grown l n t f e = grown-more l 16 n t f ∙ ap (option_map (λ x. table n (S
 -- ---- what stays
 
 pub all-beside-head : {a b : WindowState} {p : Place} (xs : List Extent) → IsHeap current a.bytes → IsHead a p
-    → ChangesBytes current a b (place_at p) 24 → AllByRecursion (IsFound (live_of a.bytes).extents) xs → IsNone p.handle xs
+    → ChangesBytes current a b (place_at p) 24 → AllByRecursion (IsFound (live_of a.bytes).extents) xs
+    → IsNone p.handle xs
     → AllByRecursion (SameBlock (bytes_of a.bytes) (bytes_of b.bytes)) xs
 all-beside-head [] heap w c f n = tt
 all-beside-head (x ∷ xs) heap w c f n = (beside-head (handle x) heap w c f.0 n.0, all-beside-head xs heap w c f.1 n.1)
 
-pub new-other : {first mid : WindowState} {n g : ℕ} (h : ℕ) {x : Extent} → (a : AllocatesOk current first mid n Storage g)
+pub new-other : {first mid : WindowState} {n g : ℕ} (h : ℕ) {x : Extent}
+    → (a : AllocatesOk current first mid n Storage g)
     → extent_at (live_of first.bytes) h ≡ Some x → h ≢ handle a.extent
 new-other {first} h {x} a e =
     let l = live_of first.bytes in
@@ -99,7 +108,8 @@ wide-place {first} {mid} {now} {p} {ps} {c} n {x} {loose} s w is since still =
     let y = w.after in let same : w.before ≡ x = same-some (sym is) in
     let begins : handle y ≡ handle x = w.begins ∙ ap (λ (z : Extent). handle z) same in
     let longer : x.len ≤ y.len = subst (λ (z : Extent). z.len ≤ y.len) same w.longer in
-    let r : ResizesBlock current first mid x y = subst (λ (z : Extent). ResizesBlock current first mid z y) same w.change in
+    let r : ResizesBlock current first mid x y =
+    subst (λ (z : Extent). ResizesBlock current first mid z y) same w.change in
     let grow : regrow (live_of first.bytes) (Some x) (16 * n) ≡ Some y =
     ap (λ o. regrow (live_of first.bytes) o (16 * n)) is ∙ w.regrown in
     let fits = s.fits in let full = table-full 16 c x s.table in
@@ -139,7 +149,8 @@ first-place {first} {mid} {now} {ps} {g} n s a since =
       same = λ e. absurd (cc);
     }
 
-adopt-place : {first old new : WindowState} {p : Place} {ps : List OwnedText} {t : BackingArray} {g n : ℕ} {loose : List Extent}
+adopt-place : {first old new : WindowState} {p : Place} {ps : List OwnedText} {t : BackingArray} {g n : ℕ}
+    {loose : List Extent}
     → IsTexts first.bytes p ps t → t.capacity < n → IsInPlace first old p ps t g n loose
     → SetsStorage old new p g n → IsAdopted first old new p ps t g n loose
 adopt-place {first} {old} {new} {p} {ps} {t} {g} {n} {loose} s more q d =
@@ -168,7 +179,8 @@ adopt-place {first} {old} {new} {p} {ps} {t} {g} {n} {loose} s more q d =
     }
 
 -- without another array
-pub adopt-none : {first mid old new : WindowState} {p : Place} {ps : List OwnedText} {c g : ℕ} (n : ℕ) {o : Option Extent}
+pub adopt-none : {first mid old new : WindowState} {p : Place} {ps : List OwnedText} {c g : ℕ} (n : ℕ)
+    {o : Option Extent}
     {loose : List Extent} → IsTexts first.bytes p ps (table c o) → c < n → ReservesArray first mid o (16 * n) g
     → IsSwapped mid old [] loose → link_at (bytes_of first.bytes) (place_at p) ≡ None → SetsStorage old new p g n
     → IsAdopted first old new p ps (table c o) g n loose
@@ -177,7 +189,8 @@ adopt-none n {o = None} s more (widened w is) since was d = absurd (cc)
 adopt-none n {o = None} s more (taken a e) since was d = adopt-place s more (first-place n s a since) d
 
 -- the same one
-pub adopt-same : {first mid old new : WindowState} {p : Place} {ps : List OwnedText} {c g : ℕ} (n : ℕ) {o : Option Extent}
+pub adopt-same : {first mid old new : WindowState} {p : Place} {ps : List OwnedText} {c g : ℕ} (n : ℕ)
+    {o : Option Extent}
     {loose : List Extent} → IsTexts first.bytes p ps (table c o) → c < n → ReservesArray first mid o (16 * n) g
     → IsSwapped mid old [] loose → (loose ≡ [] → old ≡ mid) → link_at (bytes_of first.bytes) (place_at p) ≡ Some g
     → SetsStorage old new p g n → IsAdopted first old new p ps (table c o) g n loose
@@ -207,7 +220,8 @@ pub record IsBeside (first old : WindowState) (p : Place) (ps : List OwnedText) 
   pub new_found : extent_at (live_of old.bytes) (handle y) ≡ Some y
   pub same : SameBlock (bytes_of first.bytes) (bytes_of old.bytes) x
 
-pub beside : {first mid old : WindowState} {p : Place} {ps : List OwnedText} {c g n : ℕ} {x : Extent} {loose : List Extent}
+pub beside : {first mid old : WindowState} {p : Place} {ps : List OwnedText} {c g n : ℕ} {x : Extent}
+    {loose : List Extent}
     → IsTexts first.bytes p ps (table c (Some x)) → (a : AllocatesOk current first mid n Storage g)
     → IsSwapped mid old [] loose → IsBeside first old p ps (table c (Some x)) x a.extent loose
 beside {first} {mid} {old} {p} {ps} {c} {g} {n} {x} s a since =
@@ -284,7 +298,8 @@ adopt-beside {first} {old} {a1} {a2} {new} {p} {ps} {c} {g} n {x} {loose} s more
 pub adopt-other : {first mid old a1 a2 new : WindowState} {p : Place} {ps : List OwnedText} {c g h : ℕ} (n : ℕ)
     {o : Option Extent} {loose : List Extent} → IsTexts first.bytes p ps (table c o) → c < n
     → ReservesArray first mid o (16 * n) g → IsSwapped mid old [] loose
-    → link_at (bytes_of first.bytes) (place_at p) ≡ Some h → h ≢ g → ChangesBytes current old a1 (g + 0) (16 * length ps)
+    → link_at (bytes_of first.bytes) (place_at p) ≡ Some h → h ≢ g
+    → ChangesBytes current old a1 (g + 0) (16 * length ps)
     → SameElements (bytes_of old.bytes) (bytes_of a1.bytes) (h + 0) (g + 0) (length ps)
     → SetsStorage a1 a2 p g n → Deallocates current a2 new h → IsAdopted first old new p ps (table c o) g n loose
 adopt-other n {o = None} s more a since was differ c1 carried d rel = none-some s.words.link was
@@ -299,7 +314,8 @@ adopt-other {old} {a1} {a2} {new} {ps} {g} n {o = Some x} s more (taken a e) sin
 -- ---- what is known of the heap once an array was asked for
 
 -- the array that was asked for, and what has changed since
-pub record IsReadyRun (first now : WindowState) (p : Place) (ps : List OwnedText) (t : BackingArray) (g n : ℕ) : Type 0 where
+pub record IsReadyRun (first now : WindowState) (p : Place) (ps : List OwnedText) (t : BackingArray) (g n : ℕ) :
+    Type 0 where
   pub come : List Extent
   pub array : Extent
   pub run : IsRun first now p (option_to_list t.extent) come (length ps) t
@@ -307,7 +323,8 @@ pub record IsReadyRun (first now : WindowState) (p : Place) (ps : List OwnedText
   pub found : extent_at (live_of now.bytes) (handle array) ≡ Some array
   pub big : 16 * n + 16 ≤ array.len
 
-ready-place : {first now : WindowState} {p : Place} {ps : List OwnedText} {t : BackingArray} {g n : ℕ} {loose : List Extent}
+ready-place : {first now : WindowState} {p : Place} {ps : List OwnedText} {t : BackingArray} {g n : ℕ}
+    {loose : List Extent}
     → IsInPlace first now p ps t g n loose → IsReadyRun first now p ps t g n
 ready-place {now} {n} {loose} q = record {
   come = loose ++ (q.array ∷ []);
@@ -351,7 +368,8 @@ ready-of {first} {mid} {ps = ps} {t} n {loose} s more a since still = record {
   still = still;
 }
 
-pub ready : {now : WindowState} {p : Place} {g n : ℕ} → (r : IsArrayReserved now p g n) → IsReadyRun r.first now p r.ps r.t g n
+pub ready : {now : WindowState} {p : Place} {g n : ℕ} → (r : IsArrayReserved now p g n)
+    → IsReadyRun r.first now p r.ps r.t g n
 ready {n} r = ready-in n r.texts r.asked r.since r.still
 
 -- the words are those that they were
@@ -410,18 +428,21 @@ ready-new {n} r was differ = ready-new_in n r.texts r.more r.asked r.since (sym 
 
 -- ---- more places, and the same texts
 
-pub asked-heap : {first mid : WindowState} {o : Option Extent} {n g : ℕ} → ReservesArray first mid o n g → IsHeap current mid.bytes
+pub asked-heap : {first mid : WindowState} {o : Option Extent} {n g : ℕ} → ReservesArray first mid o n g
+    → IsHeap current mid.bytes
 asked-heap (widened w is) = laid-heap _ _ w.change.live
 asked-heap (taken a e) = laid-heap _ _ a.live
 
-pub asked-alone : {first mid : WindowState} {o : Option Extent} {n g : ℕ} → ReservesArray first mid o n g → IsSwapped mid mid [] []
+pub asked-alone : {first mid : WindowState} {o : Option Extent} {n g : ℕ} → ReservesArray first mid o n g
+    → IsSwapped mid mid [] []
 asked-alone {mid} a = swapped-none mid (asked-heap a)
 
 pub new-table : (n : ℕ) (y : Extent) → 0 < n → IsTrue (serves y Storage (16 * n))
     → IsTrue (has_backing Storage 16 (table n (Some y)))
 new-table n y f s = and_from (nat_lt 0 n) (serves y Storage (16 * n)) (lt-ltb 0 n f) s
 
-pub reserved : {first mid new : WindowState} {p : Place} {ps : List OwnedText} {t : BackingArray} {g n : ℕ} → IsTexts first.bytes p ps
+pub reserved : {first mid new : WindowState} {p : Place} {ps : List OwnedText} {t : BackingArray} {g n : ℕ}
+    → IsTexts first.bytes p ps
     t → t.capacity < n → IsAdopted first mid new p ps t g n []
     → (w : BackingArray) × (grown_backing (live_of first.bytes) 16 n t
     ≡ Some w) × ReplacesTexts first new p (option_to_list t.extent) (option_to_list w.extent) ps w
@@ -436,7 +457,8 @@ reserved {new} {p} {ps} {t} {n} s more a =
           (subst (λ k. AreTextLinks (bytes_of new.bytes) k ps) a.at a.links) tt tt a.gaps,
     )
 
-pub reserved-same : (c : WindowState) {p : Place} {ps : List OwnedText} {t : BackingArray} (n : ℕ) → IsTexts c.bytes p ps t
+pub reserved-same : (c : WindowState) {p : Place} {ps : List OwnedText} {t : BackingArray} (n : ℕ)
+    → IsTexts c.bytes p ps t
     → n ≤ t.capacity → (w : BackingArray) × (grown_backing (live_of c.bytes) 16 n t ≡ Some w)
     × ReplacesTexts c c p (option_to_list t.extent) (option_to_list w.extent) ps w
 reserved-same c {p} {ps} {t} n s f =
@@ -444,6 +466,7 @@ reserved-same c {p} {ps} {t} n s f =
     record { change = (stands-run c (texts-stand s)).change; gaps = λ e. gaps-refl c; texts = s } in
     (t, grown-same (live_of c.bytes) 16 n t f, same)
 
-pub too-many-texts : (c : WindowState) {p : Place} {ps : List OwnedText} {t : BackingArray} (n : ℕ) → IsTexts c.bytes p ps t
+pub too-many-texts : (c : WindowState) {p : Place} {ps : List OwnedText} {t : BackingArray} (n : ℕ)
+    → IsTexts c.bytes p ps t
     → 1073741824 < n → grown_backing (live_of c.bytes) 16 n t ≡ None
 too-many-texts c n s f = (too-many c n (texts-stand s) (omega arith) f).none

@@ -1,14 +1,20 @@
 -- A text put into a vector of texts, with a place for it or in an array with more places; and an array given up.
 use W.{◌≡◌, length-take, ShrinksInPlace, spread-refl, LacksFit, AreEvenLinks, RefusesPut, PlacesTextOk, AreTextLinks}
-use W.{◌≢◌, sym, None, List, arith, take, drop, Bool, true, false, handle, others, IsHeap, BackingArray, IsNone, Place, taken}
-use W.{refl, last-first, live-rises, found-room, taken-back, keeps-refl, IsPutAsked, IsPutReady, ReplacesTexts, with_array}
-use W.{ap, word_at, current, link_at, LiveSet, resized, Refusal, live_of, IsFound, Differs, ReservesArray, PutsInto, one_more}
-use W.{subst, if◌then◌else◌, length-append, exchange-taken, widened-back, rising-insert, RefusesFirstBlock, exchanged-live}
+use W.{◌≢◌, sym, None, List, arith, take, drop, Bool, true, false, handle, others, IsHeap, BackingArray, IsNone, Place}
+use W.{taken}
+use W.{refl, last-first, live-rises, found-room, taken-back, keeps-refl, IsPutAsked, IsPutReady, ReplacesTexts}
+use W.{with_array}
+use W.{ap, word_at, current, link_at, LiveSet, resized, Refusal, live_of, IsFound, Differs, ReservesArray, PutsInto}
+use W.{one_more}
+use W.{subst, if◌then◌else◌, length-append, exchange-taken, widened-back, rising-insert, RefusesFirstBlock}
+use W.{exchanged-live}
 use W.{◌∙◌, ℕ, ◌+◌, ◌*◌, ◌<◌, ◌≤◌, ◌∷◌, inl, inr, ◌%◌, ◌-◌, max, Ok, Err, WindowState, []}
-use W.{Option, eqb-true, bytes_of, exchanged, ChangesBytes, has_room, laid-heap, place_at, IsAdopted, IsSwapped, OwnedText}
+use W.{Option, eqb-true, bytes_of, exchanged, ChangesBytes, has_room, laid-heap, place_at, IsAdopted, IsSwapped}
+use W.{OwnedText}
 use W.{ExchangesBlocks, KeepsGaps, gaps-payload, gaps-refl, gaps-then, gaps-trans, Some, length, IsTrue, Result, IfSome}
 use W.{nat_lt, insert, lt-ltb, le-ltb, Extent, widened, room_of, IsTexts, NoSpace}
-use W.{append-nil, option_map, KeepsLiveSet, Deallocates, is_live_in, lay_out_one, others-past, InsertsTextOk, placed_text}
+use W.{append-nil, option_map, KeepsLiveSet, Deallocates, is_live_in, lay_out_one, others-past, InsertsTextOk}
+use W.{placed_text}
 use W.{option_to_list, AllByRecursion, length-drop, take-append-drop, exchange-order, SameElements, capacity_for_one}
 use Rattle.seg_vector.proofs.Runs.{AreHeadWords, IsHead, IsRun, beside-head, block-written, head-kept, head-wider}
 use Rattle.seg_vector.proofs.Runs.{len-written, none-some, own-facts, run-found, run-headed, run-swapped, room-head}
@@ -31,7 +37,8 @@ pub none-array : (b : WindowState) {p : Place} {ps : List OwnedText} {t : Backin
     → IsNone p.handle (option_to_list t.extent)
 none-array b {p} {t} s = (own-facts (live_of b.bytes) p.handle t.extent s.own).2
 
-pub put-run : {first now : WindowState} {p : Place} {ps : List OwnedText} {t : BackingArray} {y : Extent} {m : ℕ} {z : OwnedText}
+pub put-run : {first now : WindowState} {p : Place} {ps : List OwnedText} {t : BackingArray} {y : Extent} {m : ℕ}
+    {z : OwnedText}
     → IsPutReady first now p ps t y m z
     → IsRun first now p (option_to_list t.extent) (y ∷ option_to_list z.extent) (length ps) (table m (Some y))
 put-run {first} {t} {y} {z} r = record {
@@ -41,7 +48,8 @@ put-run {first} {t} {y} {z} r = record {
   words = record { link = r.link; len_word = r.len_word; capacity = r.capacity };
 }
 
-pub put-big : {first now : WindowState} {p : Place} {ps : List OwnedText} {t : BackingArray} {y : Extent} {m : ℕ} {z : OwnedText}
+pub put-big : {first now : WindowState} {p : Place} {ps : List OwnedText} {t : BackingArray} {y : Extent} {m : ℕ}
+    {z : OwnedText}
     → IsPutReady first now p ps t y m z → 16 * m + 16 ≤ y.len
 put-big {y} {m} r = table-full 16 m y r.table
 
@@ -55,21 +63,25 @@ flip-each y (x ∷ xs) d = (((λ f. d.0 (sym f)), tt), flip-each y xs d.1)
 -- ---- the vector afterwards
 
 -- with its own blocks in use
-same-blocks : {old mid : WindowState} {p : Place} {ps : List OwnedText} {t : BackingArray} {from n : ℕ} {come : List Extent}
+same-blocks : {old mid : WindowState} {p : Place} {ps : List OwnedText} {t : BackingArray} {from n : ℕ}
+    {come : List Extent}
     → IsTexts old.bytes p ps t → option_to_list t.extent ≡ come
     → ExchangesBlocks current old mid from n (option_to_list t.extent) come → live_of mid.bytes ≡ live_of old.bytes
 same-blocks {old} {mid} {t} {from} {n} s e x = same-storage (texts-stand s)
     (subst (ExchangesBlocks current old mid from n (option_to_list t.extent)) (sym e) x)
 
-pub put-by : {first now b1 b2 new : WindowState} {p : Place} {ps : List OwnedText} {t : BackingArray} {y : Extent} {m : ℕ}
+pub put-by : {first now b1 b2 new : WindowState} {p : Place} {ps : List OwnedText} {t : BackingArray} {y : Extent}
+    {m : ℕ}
     {z : OwnedText} (i : ℕ) {g : ℕ} (n len : ℕ) (block : Option ℕ) → IsPutReady first now p ps t y m z → i ≤ length ps
     → block ≡ option_map handle z.extent → len ≡ length z.bytes → link_at (bytes_of now.bytes) (place_at p) ≡ Some g
     → n ≡ word_at (bytes_of now.bytes) (place_at p + 8) → ChangesBytes current now b1 (g + 16 * i + 16) (16 * (n - i))
     → SameElements (bytes_of now.bytes) (bytes_of b1.bytes) (g + 16 * i) (g + 16 * i + 16) (n - i)
     → ChangesBytes current b1 b2 (g + 16 * i) 16 → link_at (bytes_of b2.bytes) (g + 16 * i) ≡ block
     → word_at (bytes_of b2.bytes) (g + 16 * i + 8) ≡ len
-    → ChangesBytes current b2 new (p.handle + (p.at + 8)) 8 → word_at (bytes_of new.bytes) (p.handle + (p.at + 8)) ≡ n + 1
-    → ReplacesTexts first new p (option_to_list t.extent) (y ∷ option_to_list z.extent) (insert ps i z) (table m (Some y))
+    → ChangesBytes current b2 new (p.handle + (p.at + 8)) 8
+    → word_at (bytes_of new.bytes) (p.handle + (p.at + 8)) ≡ n + 1
+    → ReplacesTexts first new p (option_to_list t.extent) (y ∷ option_to_list z.extent) (insert ps i z)
+    (table m (Some y))
 put-by {first} {now} {b1} {b2} {new} {p} {ps} {t} {y} {m} {z} i {g} n len block r inside at_is len_is leads n_is c1 m1
     c2 link word c3 last =
     let u = table m (Some y) in let gone = option_to_list t.extent in let ez = option_to_list z.extent in
@@ -127,7 +139,8 @@ pub record IsPutPlace (now : WindowState) (p : Place) (g i k : ℕ) : Type 0 whe
   pub even : AreEvenLinks (bytes_of now.bytes) g k
   pub count : word_at (bytes_of now.bytes) (place_at p + 8) ≡ k
 
-pub put-place : {now : WindowState} {p : Place} {g i : ℕ} {block : Option ℕ} {len : ℕ} → (r : IsPutAsked now p i block len)
+pub put-place : {now : WindowState} {p : Place} {g i : ℕ} {block : Option ℕ} {len : ℕ}
+    → (r : IsPutAsked now p i block len)
     → link_at (bytes_of now.bytes) (place_at p) ≡ Some g → IsPutPlace now p g i (length r.ps)
 put-place {now} {p} {g} r leads =
     let w = r.ready in let y = r.y in let k = length r.ps in let g_is = same-some (sym w.link ∙ leads) in
@@ -173,7 +186,8 @@ module _ {first mid : WindowState} {p : Place} {ps : List OwnedText} {t : Backin
 
 pub undone-none : {first mid new : WindowState} {p : Place} {ps : List OwnedText} {c g n : ℕ} {o : Option Extent}
     → IsTexts first.bytes p ps (table c o) → ReservesArray first mid o n g
-    → link_at (bytes_of first.bytes) (place_at p) ≡ None → Deallocates current mid new g → KeepsLiveSet current first new
+    → link_at (bytes_of first.bytes) (place_at p) ≡ None → Deallocates current mid new g
+    → KeepsLiveSet current first new
 undone-none {o = Some x} s a was r = none-some was s.words.link
 undone-none {o = None} s (widened w is) was r = absurd (cc)
 undone-none {mid} {new} {g} {n} {o = None} s (taken a e) was r = taken-back _ mid new n g _ a r
@@ -198,7 +212,8 @@ undone-same {o = Some x} s (taken a e') was e r =
 
 -- ---- with a place for it
 
-pub record IsWithin (first now : WindowState) (p : Place) (ps : List OwnedText) (t : BackingArray) (z : OwnedText) : Type 0 where
+pub record IsWithin (first now : WindowState) (p : Place) (ps : List OwnedText) (t : BackingArray) (z : OwnedText) :
+    Type 0 where
   pub array : Extent
   pub extent : t.extent ≡ Some array
   pub ready : IsPutReady first now p ps t array t.capacity z
@@ -261,7 +276,8 @@ abbrev after : LiveSet → BackingArray → List ℕ → Option BackingArray →
 after l t bytes o = elim o [ None ↦ None | Some u ↦ placed_text (with_array l t u) bytes ]
 
 -- where nothing changes, nothing does at first
-refused-same : {s0 s1 : WindowState} {ps : List OwnedText} {t : BackingArray} {bytes : List ℕ} {e : Refusal} → IsHeap current s0.bytes
+refused-same : {s0 s1 : WindowState} {ps : List OwnedText} {t : BackingArray} {bytes : List ℕ} {e : Refusal}
+    → IsHeap current s0.bytes
     → e ≡ NoSpace → one_more (live_of s0.bytes) ps t bytes ≡ None → s1 ≡ s0 → RefusesPut s0 s1 ps t bytes e
 refused-same {s0} heap refusal none same = record {
   refusal = refusal;
@@ -271,7 +287,8 @@ refused-same {s0} heap refusal none same = record {
   first = record { text = λ f g. same; array = λ g. same };
 }
 
-pub within-err : {s0 s1 : WindowState} {p : Place} {ps : List OwnedText} {t : BackingArray} {bytes : List ℕ} {e : Refusal}
+pub within-err : {s0 s1 : WindowState} {p : Place} {ps : List OwnedText} {t : BackingArray} {bytes : List ℕ}
+    {e : Refusal}
     → IsTexts s0.bytes p ps t → length ps < t.capacity
     → LacksFit s0 s1 (placed_text (live_of s0.bytes) bytes) e → RefusesPut s0 s1 ps t bytes e
 within-err {s0} {ps = ps} {t} {bytes} s space r = refused-same s.heap r.refusal
@@ -295,14 +312,16 @@ first-put {old} {ps} {t} {bytes} w =
       array = λ none. let both = sym w.grown ∙ none in absurd (cc);
     }
 
-pub first-answered : (old new : WindowState) (p : Place) (ps : List OwnedText) (t : BackingArray) (i : ℕ) (bytes : List ℕ)
+pub first-answered : (old new : WindowState) (p : Place) (ps : List OwnedText) (t : BackingArray) (i : ℕ)
+    (bytes : List ℕ)
     (r : Result (Unit {0}) Refusal) → PutsInto old new p ps t i bytes r → RefusesFirstBlock old new ps t bytes
 first-answered old new p ps t i bytes (Ok u) h = first-put h
 first-answered old new p ps t i bytes (Err e) h = h.first
 
 -- ---- in an array with more places
 
-pub growing-ready : {s0 s1 s2 s3 : WindowState} {p : Place} {ps : List OwnedText} {t : BackingArray} {g n : ℕ} {bytes : List ℕ}
+pub growing-ready : {s0 s1 s2 s3 : WindowState} {p : Place} {ps : List OwnedText} {t : BackingArray} {g n : ℕ}
+    {bytes : List ℕ}
     {block : Option ℕ} → IsTexts s0.bytes p ps t → length ps < n → (pl : PlacesTextOk s1 s2 bytes block)
     → (ad : IsAdopted s0 s2 s3 p ps t g n (option_to_list pl.text.extent)) → IsPutReady s0 s3 p ps t ad.array n pl.text
 growing-ready {s2} {s3} {ps} {n} s space pl ad = record {
@@ -325,7 +344,8 @@ others-none y (z ∷ zs) d = others-past (handle y) z zs (λ e. d.0 (omega (arit
     ∙ ap (λ (ws : List Extent). z ∷ ws) (others-none y zs d.1)
 
 -- a block that is new is put in among the others
-pub came-alone : {a b : WindowState} {x : Extent} → IsSwapped a b [] (x ∷ []) → live_of b.bytes ≡ resized (live_of a.bytes) x
+pub came-alone : {a b : WindowState} {x : Extent} → IsSwapped a b [] (x ∷ [])
+    → live_of b.bytes ≡ resized (live_of a.bytes) x
 came-alone {a} {b} {x} s =
     let l = live_of a.bytes in
     let f = rising-insert 128 x l.extents (live-rises (exchanged l [] (x ∷ [])) s.live.proper) in
@@ -354,7 +374,8 @@ more-array l t n y f = ap (λ b. if b then resized l y else l) (lt-ltb t.capacit
 same-block : {n : ℕ} {a b : Extent} → Some (table n (Some a)) ≡ Some (table n (Some b)) → a ≡ b
 same-block e = same-some (ap (λ (t : BackingArray). t.extent) (same-some e))
 
-pub growing-ok : {s0 s1 s2 s3 new : WindowState} {p : Place} {ps : List OwnedText} {t : BackingArray} {g n : ℕ} (i : ℕ) {bytes : List
+pub growing-ok : {s0 s1 s2 s3 new : WindowState} {p : Place} {ps : List OwnedText} {t : BackingArray} {g n : ℕ}
+    (i : ℕ) {bytes : List
     ℕ} {block : Option ℕ} → t.capacity < n → n ≡ capacity_for_one (length ps) t.capacity → ReservesArray s0 s1 t.extent
     (16 * n) g → (pl : PlacesTextOk s1 s2 bytes block) → (ad : IsAdopted s0 s2 s3 p ps t g n (option_to_list
     pl.text.extent)) → ReplacesTexts s0 new p (option_to_list t.extent) (ad.array ∷ option_to_list pl.text.extent)
@@ -372,14 +393,16 @@ growing-ok {s0} {s1} {t} {n} i {bytes} more wanted a pl ad now =
       now = now;
     }
 
-pub growing-none : {s0 s1 : WindowState} {p : Place} {ps : List OwnedText} {t : BackingArray} (n : ℕ) (bytes : List ℕ) {e : Refusal}
+pub growing-none : {s0 s1 : WindowState} {p : Place} {ps : List OwnedText} {t : BackingArray} (n : ℕ)
+    (bytes : List ℕ) {e : Refusal}
     → IsTexts s0.bytes p ps t → t.capacity < n → n ≡ capacity_for_one (length ps) t.capacity
     → LacksFit s0 s1 (regrow (live_of s0.bytes) t.extent (16 * n)) e → RefusesPut s0 s1 ps t bytes e
 growing-none {s0} {t = t} n bytes s more wanted r = refused-same s.heap r.refusal
     (ap (after (live_of s0.bytes) t bytes) (ap (λ k. grown_backing (live_of s0.bytes) 16 k t) (sym wanted)
     ∙ not-grown (live_of s0.bytes) n t more r.none)) r.same
 
-pub growing-err : {s0 s1 s2 new : WindowState} (ps : List OwnedText) (t : BackingArray) {g : ℕ} (n : ℕ) {bytes : List ℕ} {e : Refusal}
+pub growing-err : {s0 s1 s2 new : WindowState} (ps : List OwnedText) (t : BackingArray) {g : ℕ} (n : ℕ)
+    {bytes : List ℕ} {e : Refusal}
     → t.capacity < n → n ≡ capacity_for_one (length ps) t.capacity → t.capacity ≤ length ps
     → ReservesArray s0 s1 t.extent (16 * n) g → LacksFit s1 s2 (placed_text (live_of s1.bytes) bytes) e
     → KeepsLiveSet current s0 new → RefusesPut s0 new ps t bytes e
@@ -411,12 +434,14 @@ pub few_places : (c : WindowState) {p : Place} {ps : List OwnedText} {t : Backin
     → 16 * t.capacity < 1073741824
 few_places c s = capacity-bytes c s.heap (texts-stand s)
 
-pub more-places : (c : WindowState) {p : Place} {ps : List OwnedText} {t : BackingArray} (n : ℕ) → IsTexts c.bytes p ps t
+pub more-places : (c : WindowState) {p : Place} {ps : List OwnedText} {t : BackingArray} (n : ℕ)
+    → IsTexts c.bytes p ps t
     → t.capacity ≤ length ps → n ≡ capacity_for_one (length ps) t.capacity → (t.capacity < n) × (length ps < n)
 more-places c {ps} {t} n s f e =
     let is = wanted-more n (length ps) t.capacity f e in (omega (arith, f, is), omega (arith, f, is, s.fits))
 
-pub small-wanted : (c : WindowState) {p : Place} {ps : List OwnedText} {t : BackingArray} (n : ℕ) → IsTexts c.bytes p ps t
+pub small-wanted : (c : WindowState) {p : Place} {ps : List OwnedText} {t : BackingArray} (n : ℕ)
+    → IsTexts c.bytes p ps t
     → t.capacity ≤ length ps → n ≡ capacity_for_one (length ps) t.capacity → 16 * n < 18446744073709551616
 small-wanted c {ps} {t} n s f e = let few : 16 * t.capacity < 1073741824 = few_places c s in let is : n ≡ max 4
     (2 * t.capacity) = wanted-more n (length ps) t.capacity f e in omega (arith, few, is)

@@ -2,11 +2,13 @@
 use W.{◌≡◌, ◌≢◌, refl, sym, ap, subst, ◌∙◌, inl, ℕ, zero, suc, ◌+◌, ◌*◌, ◌<◌, ◌≤◌, Option, Some, None, List, ◌∷◌, ◌++◌}
 use W.{append-nil, append_assoc, arith, length, length-append, drop, map, slice_index_or, Bor, ◌%◌, inr, if◌then◌else◌}
 use W.{false, ◌==◌, Ok, IfSome, IsTrue, option_map, option_to_list, AllByRecursion, flat_map-append, ne_eqb, drop_all}
-use W.{WindowState, bytes_of, word_at, current, link_at, without_all, KeepsLiveSet, SameBlockExcept, ExchangesBlocks, Extent, LiveSet}
+use W.{WindowState, bytes_of, word_at, current, link_at, without_all, KeepsLiveSet, SameBlockExcept, ExchangesBlocks}
+use W.{Extent, LiveSet}
 use W.{handle, resized, place, ChangesBytes, IsHeap, SameBlock, extent_at, has_room, live_of, AllocatesOk, NoSpace}
 use W.{Refusal, Deallocates, is_live_in, IsFound, IsNone, all-in-use, changed-live, exchange-next, exchange-order}
 use W.{exchange-same, exchanged-live, found-room, kept, laid-heap, last-first, live-rises, roomy, spread-refl}
-use W.{exchange-released, exchange-taken, keeps-refl, place-serves, too_long, kept-beside, Storage, BackingArray, no_backing}
+use W.{exchange-released, exchange-taken, keeps-refl, place-serves, too_long, kept-beside, Storage, BackingArray}
+use W.{no_backing}
 use W.{AreLaid, StoresArrayUpTo, StoresArrayOk, StoresArrayErr, SameElements, IsServed, IsSwapped, LacksFit}
 use W.{PlacesTextOk, AreHeldElements, AreDistinct, placed_text, placed_texts, text_blocks, with_text, all_texts}
 use W.{new_array, AssignsTextsOk, AssignsTexts, IsTexts, ReplacesTexts, ReleasesTexts, AreTextLinks, IsOwnedText}
@@ -92,9 +94,11 @@ beside-text : {old now mid : WindowState} {y : Extent} {tb oq : List Extent} →
 beside-text {old} {now} {mid} {y} {tb} {oq} p q = exchange-order _ old mid 0 0 _ _ _ (last-first oq (y ∷ tb))
     (exchange-next _ old now mid 0 0 _ _ [] (y ∷ tb) oq (spread-refl (y ∷ tb)) p q)
 
-laid-links : (now : WindowState) {mid new : WindowState} {y : Extent} {g : ℕ} (i n : ℕ) (ps : List OwnedText) (q : OwnedText)
+laid-links : (now : WindowState) {mid new : WindowState} {y : Extent} {g : ℕ} (i n : ℕ) (ps : List OwnedText)
+    (q : OwnedText)
     → handle y ≡ g → length ps ≡ i → i < n → 16 * n + 16 ≤ y.len → SameBlock (bytes_of now.bytes) (bytes_of mid.bytes) y
-    → ChangesBytes current mid new (g + 16 * i) 16 → link_at (bytes_of new.bytes) (g + 16 * i) ≡ option_map handle q.extent
+    → ChangesBytes current mid new (g + 16 * i) 16
+    → link_at (bytes_of new.bytes) (g + 16 * i) ≡ option_map handle q.extent
     → word_at (bytes_of new.bytes) (g + 16 * i + 8) ≡ length q.bytes
     → AreTextLinks (bytes_of now.bytes) (handle y) ps → AreTextLinks (bytes_of new.bytes) (handle y) (ps ++ (q ∷ []))
 laid-links now {new} {y} {g} i n ps q at long below big stays c link len l =
@@ -106,7 +110,8 @@ laid-links now {new} {y} {g} i n ps q at long below big stays c link len l =
     (links-moved (bytes_of now.bytes) (bytes_of new.bytes) (handle y) (handle y) ps l same)
     (subst (λ k. AreTextLinks (bytes_of new.bytes) k (q ∷ [])) behind (link, len, tt))
 
-pub laid-put : {old now mid new : WindowState} {y : Extent} {i : ℕ} (n array : ℕ) {bytes : List ℕ} {more : List (List ℕ)}
+pub laid-put : {old now mid new : WindowState} {y : Extent} {i : ℕ} (n array : ℕ) {bytes : List ℕ}
+    {more : List (List ℕ)}
     {block : Option ℕ} → handle y ≡ array → AreLaid old now y i more → drop i more ≡ bytes ∷ drop (i + 1) more → i < n
     → 16 * n + 16 ≤ y.len → PlacesTextOk now mid bytes block → ChangesBytes current mid new (array + 16 * i) 16
     → link_at (bytes_of new.bytes) (array + 16 * i) ≡ block → word_at (bytes_of new.bytes) (array + 16 * i + 8)
@@ -152,7 +157,8 @@ laid-stops {old} {now} {y} {i} {bytes} {more} a split within r =
           (drop (i + 1) more) r.none;
     })
 
-pub laid-all : {old now : WindowState} {y : Extent} {i : ℕ} (n : ℕ) {more : List (List ℕ)} → AreLaid old now y i more → i ≡ n
+pub laid-all : {old now : WindowState} {y : Extent} {i : ℕ} (n : ℕ) {more : List (List ℕ)}
+    → AreLaid old now y i more → i ≡ n
     → n ≡ length more → StoresArrayUpTo old now y n more
 laid-all {old} {now} {y} n {more} a e f = record {
   laid = subst (λ k. AreLaid old now y k more) e a;
@@ -227,7 +233,8 @@ unchanged c more heap e = record {
   first = λ none. refl;
 }
 
-pub out-of-reach : (c : WindowState) (n : ℕ) (more : List (List ℕ)) → IsHeap current c.bytes → n ≡ length more → 1073741824 < n
+pub out-of-reach : (c : WindowState) (n : ℕ) (more : List (List ℕ)) → IsHeap current c.bytes → n ≡ length more
+    → 1073741824 < n
     → StoresArrayErr c c more NoSpace
 out-of-reach c n more heap e f = unchanged c more heap (in-array (live_of c.bytes) more None (omega (arith, e, f))
     (too_long c (16 * length more) Storage heap (omega (arith, e, f))))
@@ -345,7 +352,8 @@ swapped-back {old} {new} x = record {
   };
 }
 
-pub taken-off : {old mid new left last : WindowState} {n k g : ℕ} {more : List (List ℕ)} → (t : IsArrayTaken old mid n g)
+pub taken-off : {old mid new left last : WindowState} {n k g : ℕ} {more : List (List ℕ)}
+    → (t : IsArrayTaken old mid n g)
     → n ≡ length more → 0 < n → (w : StoresArrayUpTo mid new t.block k more) → k ≢ n → IsSwapped new left
     (text_blocks w.laid.texts) [] → Deallocates current left last g → StoresArrayErr old last more NoSpace
 taken-off {old} {mid} {new} {left} {last} {n} {k} {more} t e some w short x r =
@@ -370,7 +378,8 @@ across : (xs ys : List Extent) → AreDistinct (xs ++ ys) → AllByRecursion (λ
 across [] ys d = tt
 across (x ∷ xs) ys d = ((all-split (λ (z : Extent). handle x ≢ handle z) xs ys d.0).1, across xs ys d.1)
 
-all-beside : {a b : WindowState} {p : Place} {gone come : List Extent} (xs : List Extent) → IsHeap current a.bytes → IsHead a p
+all-beside : {a b : WindowState} {p : Place} {gone come : List Extent} (xs : List Extent) → IsHeap current a.bytes
+    → IsHead a p
     → ExchangesBlocks current a b (place_at p) 24 gone come → AllByRecursion (IsFound (live_of a.bytes).extents) xs
     → IsNone p.handle xs → AllByRecursion (λ (x : Extent). IsNone (handle x) gone) xs
     → AllByRecursion (SameBlock (bytes_of a.bytes) (bytes_of b.bytes)) xs
@@ -384,7 +393,8 @@ all-beside {a} {b} {p} {gone} {come} (x ∷ xs) heap w e f n d =
 
 -- ---- the blocks that came stand beside those of the vector
 
-record IsBesideOwn (old now : WindowState) (p : Place) (ps : List OwnedText) (t : BackingArray) (come : List Extent) : Type 0 where
+record IsBesideOwn (old now : WindowState) (p : Place) (ps : List OwnedText) (t : BackingArray)
+    (come : List Extent) : Type 0 where
   heap : IsHeap current now.bytes
   head : IsHead now p
   change : ExchangesBlocks current old now (place_at p) 24 (own_blocks ps t) (come ++ own_blocks ps t)

@@ -1,13 +1,17 @@
 -- Vectors of values and texts, from what is known of their bytes.
 use W.{◌≡◌, sym, ◌∙◌, ℕ, suc, ◌+◌, ◌*◌, ◌<◌, ◌∷◌, ◌-◌, ◌≤◌, max, part, WindowState, Ok, Err, ShrinksStorage, []}
-use W.{refl, zero, Bool, true, List, ◌++◌, take, drop, arith, false, Some, BackingArray, Place, Result, ReservesStorage, IsContainer, IsText}
+use W.{refl, zero, Bool, true, List, ◌++◌, take, drop, arith, false, Some, BackingArray, Place, Result, ReservesStorage}
+use W.{IsContainer, IsText}
 use W.{ap, if◌then◌else◌, length-append, take-append-add, drop-append-add, length-insert, length-remove, LacksSpace}
 use W.{subst, list_all-append, take-append-drop, flat_map-append, take-append_seam, capacity_for_one, capacity_for_text}
-use W.{length, append_assoc, append-nil, length-take, length-drop, MatchResult, RewritesElements, GrowsTextOk, GrowsVectorOk}
+use W.{length, append_assoc, append-nil, length-take, length-drop, MatchResult, RewritesElements, GrowsTextOk}
+use W.{GrowsVectorOk}
 use W.{ReplacesVector}
-use W.{IsTrue, insert, remove, nat_le, patched, word_at, live_of, Refusal, ErasesElement, Extends, Inserts, ReservesStorageOk, drop-nil}
+use W.{IsTrue, insert, remove, nat_le, patched, word_at, live_of, Refusal, ErasesElement, Extends, Inserts}
+use W.{ReservesStorageOk, drop-nil}
 use W.{flat_map, list_all, and_from, leb-true, bytes_of, no_backing, ReadsOne, IsVector, take-nil, KeepsGaps, gaps-refl}
-use W.{slice_get, slice_set, and_parts, length-set, FreesStorage, Overwrites, Truncates, IsStanding, ReplacesText, gaps-trans}
+use W.{slice_get, slice_set, and_parts, length-set, FreesStorage, Overwrites, Truncates, IsStanding, ReplacesText}
+use W.{gaps-trans}
 use Rattle.seg_vector.proofs.Storage.{at-least, capacity-bytes, exchange-then, grown-gaps, has-place, not-refused}
 use Rattle.seg_vector.proofs.Storage.{same-storage}
 use Rattle.seg_vector.proofs.{Storage.unchanged-rewritten, Storage.wanted-places, Runs.same-some}
@@ -177,7 +181,8 @@ module _ {T : Type 0} (size : ℕ) (test : T → Bool) (sp : T → List ℕ)
 -- ---- vectors of values, from what is known of their bytes
 
 -- what stands has so many elements, and they are these values
-pub vector-now : {T : Type 0} → {size : ℕ} (test : T → Bool) (sp : T → List ℕ) {old new : WindowState} {p : Place} {n : ℕ}
+pub vector-now : {T : Type 0} → {size : ℕ} (test : T → Bool) (sp : T
+    → List ℕ) {old new : WindowState} {p : Place} {n : ℕ}
     {t : BackingArray} {bytes : List ℕ} (ys : List T) → RewritesElements old new p size n t bytes
     → n ≡ length ys → bytes ≡ flat_map sp ys → IsTrue (list_all test ys) → ReplacesVector size test sp old new p t ys t
 vector-now {size = size} test sp {new = new} {p} {n} {t} ys r e f v = record {
@@ -202,8 +207,10 @@ module _ {T : Type 0} {size : ℕ} {test : T → Bool} {sp : T → List ℕ} whe
   }
 
   -- the storage is grown, and the values stay
-  pub vector-grown : {old new : WindowState} {p : Place} {n : ℕ} {t : BackingArray} {xs : List T} → IsVector size test sp old.bytes p
-      xs t → ReservesStorageOk old new p size n (length xs) t (flat_map sp xs) → GrowsVectorOk size test sp old new p t n xs
+  pub vector-grown : {old new : WindowState} {p : Place} {n : ℕ} {t : BackingArray} {xs : List T}
+      → IsVector size test sp old.bytes p
+      xs t → ReservesStorageOk old new p size n (length xs) t (flat_map sp xs)
+      → GrowsVectorOk size test sp old new p t n xs
   vector-grown v g = record {
     table = g.table;
     grown = g.grown;
@@ -250,7 +257,8 @@ text-now {new} {p} {n} {t} ys r e f = record {
   text = subst (λ k. IsContainer new.bytes p 1 k t ys) e (subst (λ bs. IsContainer new.bytes p 1 n t bs) f r.stands);
 }
 
-pub text-then : {old mid new : WindowState} {p : Place} {t : BackingArray} {bytes ys zs : List ℕ} → IsText old.bytes p bytes t
+pub text-then : {old mid new : WindowState} {p : Place} {t : BackingArray} {bytes ys zs : List ℕ}
+    → IsText old.bytes p bytes t
     → ReplacesText old mid p t ys t → ReplacesText mid new p t zs t → ReplacesText old new p t zs t
 text-then {old} {mid} {new} s c w = record {
   change = exchange-then c.change w.change;
@@ -279,7 +287,8 @@ abbrev pub HasGrown : WindowState → WindowState → Place → ℕ → (ℕ →
 HasGrown old mid p k n = (len : ℕ) (t : BackingArray) (bytes : List ℕ) → IsContainer old.bytes p k len t bytes
     → ReservesStorageOk old mid p k (n len t.capacity) len t bytes
 
-module _ {T : Type 0} {size : ℕ} {test : T → Bool} {sp : T → List ℕ} (old mid : WindowState) {p : Place} {k : ℕ} {xs : List T}
+module _ {T : Type 0} {size : ℕ} {test : T → Bool} {sp : T
+    → List ℕ} (old mid : WindowState) {p : Place} {k : ℕ} {xs : List T}
     {t : BackingArray} (e : k ≡ size) (v : IsVector size test sp old.bytes p xs t) where
   stands-at : IsContainer old.bytes p k (length xs) t (flat_map sp xs)
   stands-at = subst (λ j. IsContainer old.bytes p j (length xs) t (flat_map sp xs)) (sym e) v.stands
@@ -366,7 +375,8 @@ module _ {T : Type 0} {size : ℕ} {test : T → Bool} {sp : T → List ℕ} (ol
       vector-now test sp (insert xs i y) r (sym (length-insert xs i y f))
       (flat-insert size test sp spells xs i y v.values) (all-edit test xs i i (y ∷ []) v.values (all-one test y good))
 
-  pub erased-now : (i : ℕ) → ((x : T) → test x ≡ true → length (sp x) ≡ size) → i < length xs → ErasesElement old mid p k i
+  pub erased-now : (i : ℕ) → ((x : T) → test x ≡ true → length (sp x) ≡ size) → i < length xs
+      → ErasesElement old mid p k i
       → ReplacesVector size test sp old mid p t (remove xs i) t
   erased-now i spells f h =
       let r = subst (λ j. ErasesElement old mid p j i) e h (length xs) t (flat_map sp xs) v.stands in
@@ -457,7 +467,8 @@ module _ (old mid : WindowState) {p : Place} {bytes : List ℕ} {t : BackingArra
       (drop (i + 1) bytes) ∙ ap (λ k. take i bytes ++ (x ∷ drop k bytes)) next ∙ sym (set-pieces bytes i x f) in
       text-now (slice_set bytes i x) r (sym (length-set bytes i x)) is
 
-  pub text-extended : (more : List ℕ) → Extends old mid p 1 (length more) more → ReplacesText old mid p t (bytes ++ more) t
+  pub text-extended : (more : List ℕ) → Extends old mid p 1 (length more) more
+      → ReplacesText old mid p t (bytes ++ more) t
   text-extended more h = text-now (bytes ++ more) (h (length bytes) t bytes v) (sym (length-append bytes more)) refl
 
   -- places for bytes behind the last one

@@ -1,8 +1,10 @@
 -- What the bytes denote after one object is added, removed or changed, also where its index is written too.
 use Rattle.segment_manager.proofs.Common as common
 use common.{◌≡◌, refl, sym, ap, subst, ◌∙◌, ℕ, suc, ◌+◌, ◌≢◌, Bool, ◌&&◌, List, [], ◌∷◌, length, arith, IsTrue, nat_le}
-use common.{AllByRecursion, Memory, WindowState, SameBytes, bytes_of, Extent, LiveSet, handle, is_proper, EncodesLiveSet, SameBlock, KeepsBlocks}
-use common.{BackingArray, has_backing, Anonymous, IsIndexAt, Object, Directory, IsDirectory, live, extents_of, value_extents}
+use common.{AllByRecursion, Memory, WindowState, SameBytes, bytes_of, Extent, LiveSet, handle, is_proper}
+use common.{EncodesLiveSet, SameBlock, KeepsBlocks}
+use common.{BackingArray, has_backing, Anonymous, IsIndexAt, Object, Directory, IsDirectory, live, extents_of}
+use common.{value_extents}
 use common.{table_extents, is_object, is_index, rises, remove_object, with_object, with_changed, without_object}
 use common.{named_objects, unique_objects, by_name, by_kind, Denotes, IsObjectAt, IsHeader, handles, SameBytes-part}
 use common.{flat_map, list_all, rises_from}
@@ -42,7 +44,8 @@ pub record IsFrame (format : ℕ) (m : Memory) (d : Directory) : Type 0 where
 
 -- the header and both indexes stay with their words and their blocks
 pub frame-stays : {format : ℕ} (old new : WindowState) {d : Directory} (xs : List Extent) → Denotes format old.bytes d
-    → KeepsBlocks old new xs → AllByRecursion (SameBlock (bytes_of old.bytes) (bytes_of new.bytes)) (table_extents d.named)
+    → KeepsBlocks old new xs → AllByRecursion (SameBlock (bytes_of old.bytes) (bytes_of new.bytes))
+    (table_extents d.named)
     → AllByRecursion (SameBlock (bytes_of old.bytes) (bytes_of new.bytes)) (table_extents d.unique)
     → IsFrame format (bytes_of new.bytes) d
 frame-stays old new {d} xs h k n u =
@@ -80,8 +83,10 @@ directory-with {format} {d} o h is_there c p = record {
 
 -- an anonymous object, with all its extents
 pub denotes-with : {format : ℕ} (old new : WindowState) {d : Directory} {o : Object} → Denotes format old.bytes d
-    → IsTrue (is_object format o) → o.class ≡ Anonymous → EncodesLiveSet format new.bytes (adding (live d) (extents_of o))
-    → KeepsBlocks old new (live d).extents → IsObjectAt (bytes_of new.bytes) o → Denotes format new.bytes (with_object d o)
+    → IsTrue (is_object format o) → o.class ≡ Anonymous
+    → EncodesLiveSet format new.bytes (adding (live d) (extents_of o))
+    → KeepsBlocks old new (live d).extents → IsObjectAt (bytes_of new.bytes) o
+    → Denotes format new.bytes (with_object d o)
 denotes-with {format} old new {d} {o} h is_there c l k at =
     let blocks = of_each (SameBlock (bytes_of old.bytes) (bytes_of new.bytes)) k.blocks in
     let frame = frame-stays old new (live d).extents h k blocks.named blocks.unique in
@@ -113,12 +118,14 @@ directory-without {format} {d} o h f c p = record {
 }
 
 -- an anonymous object, with all its extents: those of the others stay
-pub denotes-without : {format : ℕ} (old new : WindowState) {d : Directory} (o : Object) → Denotes format old.bytes d → IsIn d o
+pub denotes-without : {format : ℕ} (old new : WindowState) {d : Directory} (o : Object) → Denotes format old.bytes d
+    → IsIn d o
     → o.class ≡ Anonymous → EncodesLiveSet format new.bytes (removing (live d) (extents_of o))
     → KeepsBlocks old new (removing (live d) (extents_of o)).extents → Denotes format new.bytes (without_object d o)
 denotes-without {format} old new {d} o h f c l k =
     let same = live-without d o f h.directory.proper in
-    let l' : EncodesLiveSet format new.bytes (live (without_object d o)) = subst (EncodesLiveSet format new.bytes) (sym same) l in
+    let l' : EncodesLiveSet format new.bytes (live (without_object d o)) =
+    subst (EncodesLiveSet format new.bytes) (sym same) l in
     let blocks = of_each (SameBlock (bytes_of old.bytes) (bytes_of new.bytes)) (subst (λ (s : LiveSet). AllByRecursion
     (SameBlock (bytes_of old.bytes) (bytes_of new.bytes)) s.extents) (sym same) k.blocks) in
     let frame = frame-stays old new (removing (live d) (extents_of o)).extents h k blocks.named blocks.unique in
@@ -140,7 +147,8 @@ denotes-without {format} old new {d} o h f c l k =
 -- an object like another in its place, of any class: the blocks of the others stay
 pub denotes-replaced : (format : ℕ) (old new : WindowState) (d : Directory) (o o' : Object) → Denotes format old.bytes d
     → IsFound (handle o'.extent) d.objects o → IsLike o o' → IsTrue (is_object format o')
-    → EncodesLiveSet format new.bytes (live (with_changed d o')) → KeepsBlocks old new (live (without_object d o')).extents
+    → EncodesLiveSet format new.bytes (live (with_changed d o'))
+    → KeepsBlocks old new (live (without_object d o')).extents
     → IsObjectAt (bytes_of new.bytes) o' → Denotes format new.bytes (with_changed d o')
 denotes-replaced format old new d o o' h f like is_there l k at =
     let blocks = of_each (SameBlock (bytes_of old.bytes) (bytes_of new.bytes)) k.blocks in

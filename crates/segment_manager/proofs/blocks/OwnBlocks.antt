@@ -1,7 +1,8 @@
 -- Which handles are those of objects, and that the blocks of objects among those of a live set are those of the
 -- directory's objects, in its order.
 use Rattle.segment_manager.proofs.Common as common
-use common.{◌≡◌, sym, ◌∙◌, ℕ, suc, ◌*◌, ◌∷◌, map, refl, arith, holds, BackingArray, Value, Bytes, Pairs, Texts, Object, sorted}
+use common.{◌≡◌, sym, ◌∙◌, ℕ, suc, ◌*◌, ◌∷◌, map, refl, arith, holds, BackingArray, Value, Bytes, Pairs, Texts, Object}
+use common.{sorted}
 use common.{rises, ap, value_extents, table_extents, is_good_value, has_own_block, is_owned_text, Bool, true, ◌&&◌}
 use common.{◌||◌, ◌==◌, Some, None, List, ◌++◌, cond, find, Node, live, false, IsTrue, nat_lt, nat_le, int_lt, eq-eqb}
 use common.{ne_eqb, Extent, handle, serves, Option, length, Storage, size_of, Numbers, has_key, kind_of, by_name}
@@ -105,7 +106,8 @@ other-role n k e = ne_eqb n 0 (λ f. omega (arith, eqb-true n (suc k) e, f))
 not-object : (h : ℕ) (x : Extent) (k : ℕ) → (role_bits x.role == suc k) ≡ true → is_object_block h x ≡ false
 not-object h x k e = and_right (handle x == h) (same_role x.role ObjectRole) (other-role (role_bits x.role) k e)
 
-storage-none : (h each c : ℕ) (o : Option Extent) → IsTrue (has_backing Storage each (record { capacity = c; extent = o }))
+storage-none : (h each c : ℕ) (o : Option Extent)
+    → IsTrue (has_backing Storage each (record { capacity = c; extent = o }))
     → NonePasses (is_object_block h) (option_to_list o)
 storage-none h each c None e = tt
 storage-none h each c (Some x) e = (
@@ -114,7 +116,8 @@ storage-none h each c (Some x) e = (
   tt,
 )
 
-pub index-none : (h each c : ℕ) (o : Option Extent) → IsTrue (has_backing Index each (record { capacity = c; extent = o }))
+pub index-none : (h each c : ℕ) (o : Option Extent)
+    → IsTrue (has_backing Index each (record { capacity = c; extent = o }))
     → NonePasses (is_object_block h) (option_to_list o)
 index-none h each c None e = tt
 index-none h each c (Some x) e = (
@@ -161,8 +164,10 @@ value-none h (Bytes bs t) e =
 value-none h (Pairs k v ps) e = nodes-none h k v ps (second (is_rising int_lt ps) (list_all (is_number_pair k v) ps) e)
 value-none h (Texts ps t) e = none-append (is_object_block h) (table_extents t) (flat_map (λ (p : OwnedText).
     option_to_list p.extent) ps) (storage-none h 16 t.capacity t.extent (second (nat_le (length ps) t.capacity)
-    (has_backing Storage 16 t) (first (nat_le (length ps) t.capacity && has_backing Storage 16 t) (list_all is_owned_text ps)
-    e))) (all_owned-none h ps (second (nat_le (length ps) t.capacity && has_backing Storage 16 t) (list_all is_owned_text
+    (has_backing Storage 16 t) (first (nat_le (length ps) t.capacity
+    && has_backing Storage 16 t) (list_all is_owned_text ps)
+    e))) (all_owned-none h ps (second (nat_le (length ps) t.capacity
+    && has_backing Storage 16 t) (list_all is_owned_text
     ps) e))
 
 pub object-told : (format h : ℕ) (o : Object) → IsTrue (is_object format o) → IsTold (is_object_block h) h o

@@ -1,12 +1,16 @@
 -- A vector or text as the value of an object: it stands at its place as the calls of seg_vector see it, and what they
 -- do to it is what becomes of the object.
 use Rattle.segment_manager.proofs.Common as common
-use common.{◌≡◌, refl, Bool, ◌&&◌, Some, None, List, IsContainer, Value, Bytes, Object, padded, sym, ap, ◌∙◌, ◌+◌, ◌*◌, ◌≤◌}
-use common.{ℤ, [], ◌∷◌, WindowState, Key, live, subst, ObjectRole, ScalarKind, is_kind_of, IsStorageBlock, RefillsContainer, has_values}
+use common.{◌≡◌, refl, Bool, ◌&&◌, Some, None, List, IsContainer, Value, Bytes, Object, padded, sym, ap, ◌∙◌, ◌+◌, ◌*◌}
+use common.{◌≤◌}
+use common.{ℤ, [], ◌∷◌, WindowState, Key, live, subst, ObjectRole, ScalarKind, is_kind_of, IsStorageBlock}
+use common.{RefillsContainer, has_values}
 use common.{ℕ, and_from, extent_at, Directory, is_object, object_at, value_len, IsValueAt, Option, length, IsTrue}
-use common.{nat_le, le-leb, Memory, Extent, handle, BackingArray, serves, append-nil, same_Some, ExchangesBlocks, contents_of}
+use common.{nat_le, le-leb, Memory, Extent, handle, BackingArray, serves, append-nil, same_Some, ExchangesBlocks}
+use common.{contents_of}
 use common.{is_good_value, value_extents, arith, Storage, LiveSet, live_of, size_of, spelled, kind_of, Denotes, changed}
-use common.{option_to_list, IsContainerAt, container_place, has_good_name, AllByRecursion, current, bytes_of, has_backing}
+use common.{option_to_list, IsContainerAt, container_place, has_good_name, AllByRecursion, current, bytes_of}
+use common.{has_backing}
 use common.{place_at, Contents, Elements, count_of, IsObjectInBlock}
 use Rattle.segment_manager.proofs.objects.Exchanged.{Exchange, between, denotes-container}
 use Rattle.segment_manager.proofs.containers.MapBlocks.{BlocksInUse, blocks-in_use}
@@ -38,8 +42,10 @@ abbrev bytes_in : List ℕ → BackingArray → Contents
 bytes_in bs t = record { each = 1; len = length bs; table = t; bytes = bs }
 
 -- what is so of vectors of numbers and of texts is so of every value with contents
-pub of-contents : (P : Value → Contents → Type 0) → ((k : ScalarKind) (zs : List ℤ) (t : BackingArray) → P (Elements k zs t)
-    (elements_in k zs t)) → ((bs : List ℕ) (t : BackingArray) → P (Bytes bs t) (bytes_in bs t)) → (v : Value) (c : Contents)
+pub of-contents : (P : Value → Contents → Type 0)
+    → ((k : ScalarKind) (zs : List ℤ) (t : BackingArray) → P (Elements k zs t)
+    (elements_in k zs t)) → ((bs : List ℕ) (t : BackingArray) → P (Bytes bs t) (bytes_in bs t))
+    → (v : Value) (c : Contents)
     → contents_of v ≡ Some c → P v c
 of-contents P f g (Elements k zs t) c e = subst (P (Elements k zs t)) (same_Some (elements_in k zs t) c e) (f k zs t)
 of-contents P f g (Bytes bs t) c e = subst (P (Bytes bs t)) (same_Some (bytes_in bs t) c e) (g bs t)
@@ -48,7 +54,8 @@ of-contents P f g v c e = absurd (cc)
 -- a good value is one with no more elements than places, whose storage serves, and whose elements are values
 good-contents : (v : Value) (c : Contents) → contents_of v ≡ Some c
     → is_good_value v ≡ (nat_le c.len c.table.capacity && has_backing Storage c.each c.table && has_values v)
-good-contents = of-contents (λ v c. is_good_value v ≡ (nat_le c.len c.table.capacity && has_backing Storage c.each c.table
+good-contents = of-contents (λ v c.
+    is_good_value v ≡ (nat_le c.len c.table.capacity && has_backing Storage c.each c.table
     && has_values v)) (λ k zs t. refl) (λ bs t. refl)
 
 contents-long : (v : Value) (c : Contents) → contents_of v ≡ Some c → length c.bytes ≡ c.each * c.len
@@ -76,7 +83,8 @@ pub contents-good : (v : Value) (c : Contents) → contents_of v ≡ Some c → 
     → IsTrue (has_backing Storage c.each c.table) → IsTrue (has_values v) → IsTrue (is_good_value v)
 contents-good v c e f t h = subst (λ (b : Bool). IsTrue b) (sym (good-contents v c e))
     (and_from (nat_le c.len c.table.capacity && has_backing Storage c.each c.table) (has_values v)
-    (and_from (nat_le c.len c.table.capacity) (has_backing Storage c.each c.table) (le-leb c.len c.table.capacity f) t) h)
+    (and_from (nat_le c.len c.table.capacity) (has_backing Storage c.each c.table) (le-leb c.len c.table.capacity f)
+    t) h)
 
 -- what the bytes say of the value they say of its contents, and the other way round
 contents-said : (m : Memory) (at : ℕ) (v : Value) (c : Contents) → contents_of v ≡ Some c → IsValueAt m at v
@@ -161,7 +169,8 @@ contents-changed old new d key o w c c' k e h h' kind values r =
     (was.extents ∙ sym (append-nil (option_to_list c.table.extent))) (is.extents
     ∙ sym (append-nil (option_to_list c'.table.extent))) in
     let change : ExchangesBlocks current old new (value_start o) 24 (option_to_list c.table.extent)
-    (option_to_list c'.table.extent) = subst (λ at. ExchangesBlocks current old new at 24 (option_to_list c.table.extent)
+    (option_to_list c'.table.extent) =
+    subst (λ at. ExchangesBlocks current old new at 24 (option_to_list c.table.extent)
     (option_to_list c'.table.extent)) (sym (start-place o)) r.change in
     denotes-container current old new d o w (option_to_list c.table.extent) (option_to_list c'.table.extent) k f x kind
     (is.count ∙ sym was.count) was.len s.good good change (subst (λ at. IsValueAt (bytes_of new.bytes) at w)

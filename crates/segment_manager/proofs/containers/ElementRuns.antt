@@ -1,7 +1,8 @@
 -- Where the elements of an object stand: what is read of its head and of the words of its container is its run.
 use Rattle.segment_manager.proofs.Common as common
 use common.{◌≡◌, refl, sym, ap, subst, ◌∙◌, ℕ, ℤ, zero, suc, Bool, true, ◌∷◌, ◌+◌, ◌*◌, ◌%◌, ◌≤◌, Option, Some, None}
-use common.{Result, Ok, Err, List, [], length, arith, IsTrue, WindowState, Memory, HasBytesAt, bytes_of, read, current, word_at}
+use common.{Result, Ok, Err, List, [], length, arith, IsTrue, WindowState, Memory, HasBytesAt, bytes_of, read, current}
+use common.{word_at}
 use common.{link_at, has_room, live_of, IsHeap, handle, Extent, BackingArray, room_block, Key, Kind, ScalarKind, U8}
 use common.{size_of, spelled, Scalar, String, Vector, Refusal, NotFound, Object, Directory, Value, Numbers, Elements}
 use common.{Bytes, Pairs, Texts, object_at, kind_of, padded, head_len, IsValueAt, IsObjectInBlock}
@@ -214,11 +215,12 @@ has-if (Some o) e f = record { object = o; is = e; run_is = sym f }
 pub run-answers : {s t : SegmentState} (view : s ≡ t) (key : Key) {h : ℕ} {r : Result ElementRun Refusal}
     → AnswersWith t (λ d. handle_at d key) (Some h) → ((o : Object) → IsObjectInBlock s.cut.bytes h o → r ≡ run_of o)
     → AnswersWith t (λ d. run_at d key) r
-run-answers {s} {t} view key {h} {r} a each = subst (λ (u : SegmentState). AnswersWith u (λ d. run_at d key) r) view (record {
-  answers = λ d k.
-      let o = here s.cut.bytes d key h k.denotes ((seen-handle s t view key (Some h) a).answers d k) in
-      each o.object o.stands ∙ sym (ap run_if o.is);
-})
+run-answers {s} {t} view key {h} {r} a each =
+    subst (λ (u : SegmentState). AnswersWith u (λ d. run_at d key) r) view (record {
+      answers = λ d k.
+          let o = here s.cut.bytes d key h k.denotes ((seen-handle s t view key (Some h) a).answers d k) in
+          each o.object o.stands ∙ sym (ap run_if o.is);
+    })
 
 nothing-if : (r : Option Object) → None ≡ option_map located r → r ≡ None
 nothing-if None e = refl
@@ -285,7 +287,8 @@ row-if m at k v i (AnArray e) good h f = absurd (cc)
 row-if m at k v i (AVector e) good h f = absurd (cc)
 
 -- the elements of the object of a key stand in its run
-pub row-element : (s : SegmentState) (key : Key) (run : ElementRun) (k : ScalarKind) → IsRunOf s key run → (d : Directory)
+pub row-element : (s : SegmentState) (key : Key) (run : ElementRun) (k : ScalarKind) → IsRunOf s key run
+    → (d : Directory)
     → DenotesCurrent s.cut.bytes d → (o : Object) → object_at d key ≡ Some o → IsRowOfKind k o.value → (i : ℕ) {z : ℤ}
     → slice_get (numbers_in o.value) i ≡ Some z → IsElementAt (bytes_of s.cut.bytes) (run.offset + size_of k * i) k z
 row-element s key run k r d l o is row i e = row-if (bytes_of s.cut.bytes) run.offset k o.value i row
@@ -294,7 +297,8 @@ row-element s key run k r d l o is row i e = row-if (bytes_of s.cut.bytes) run.o
     elim q as (λ _. List ℕ) [ None ↦ [] | Some p ↦ spelled_in p.value ]) is) (r.spells d l)) e
 
 -- and the run says their kind
-pub run-kind : (s : SegmentState) (key : Key) (run : ElementRun) (k : ScalarKind) → AnswersWith s (λ d. run_at d key) (Ok run)
+pub run-kind : (s : SegmentState) (key : Key) (run : ElementRun) (k : ScalarKind)
+    → AnswersWith s (λ d. run_at d key) (Ok run)
     → (d : Directory) → DenotesCurrent s.cut.bytes d → (o : Object) → object_at d key ≡ Some o → IsRowOfKind k o.value
     → (run.kind ≡ k) × (run.count ≡ length (numbers_in o.value))
 run-kind s key run k a d l o is row = kind-if o.value row (a.answers d l ∙ ap run_if is)

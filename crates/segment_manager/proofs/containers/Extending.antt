@@ -2,11 +2,14 @@
 use Rattle.segment_manager.proofs.Common as common
 use common.{◌≡◌, refl, sym, ap, subst, ◌∙◌, ℕ, ℤ, Bool, true, false, Option, Some, None, Result, Ok, Err, List, ◌++◌}
 use common.{length}
-use common.{if◌then◌else◌, eq-eqb, WindowState, SameSurroundings, current, ScalarKind, Vector, code_of, same_kind, size_of, Kind, Key}
+use common.{if◌then◌else◌, eq-eqb, WindowState, SameSurroundings, current, ScalarKind, Vector, code_of, same_kind}
+use common.{size_of, Kind, Key}
 use common.{Refusal, NotFound, NoSpace, ReadOnly, WrongKind, Mode, Answer, Done, Refused, Directory, Object, Value}
-use common.{Elements, kind_of, object_at, changed, is_read_only, SegmentState, DenotesCurrent, Denotes, IsSegment, OnErr}
+use common.{Elements, kind_of, object_at, changed, is_read_only, SegmentState, DenotesCurrent, Denotes, IsSegment}
+use common.{OnErr}
 use common.{done_answer}
-use common.{Plan, Refuse, Reply, perform, with, with_capacity, found_at, live, live_of, grown_backing, BackingArray, Place}
+use common.{Plan, Refuse, Reply, perform, with, with_capacity, found_at, live, live_of, grown_backing, BackingArray}
+use common.{Place}
 use common.{AnswersWith}
 use common.{container_at}
 use Rattle.seg_vector.specs.Vector.{capacity_for_more}
@@ -82,7 +85,8 @@ pub record VectorExtended (s t : SegmentState) (new : WindowState) (key : Key) (
   pub segment : IsSegment new.bytes
 
 -- one directory leads to another
-pub record Extends (mode : Mode) (new : WindowState) (d : Directory) (key : Key) (k : ScalarKind) (more : List ℤ) : Type 0 where
+pub record Extends (mode : Mode) (new : WindowState) (d : Directory) (key : Key) (k : ScalarKind) (more : List ℤ) :
+    Type 0 where
   pub after : Directory
   pub is : extended mode d key k more ≡ (Done, after)
   pub denotes : Denotes current new.bytes after

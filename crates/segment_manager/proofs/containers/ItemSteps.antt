@@ -1,12 +1,17 @@
 -- A call on a vector of numbers or on a text is one step: what the calls of seg_vector ensure of the elements at its
 -- place comes to the directory.
 use Rattle.segment_manager.proofs.Common as common
-use common.{◌&&◌, same_Some, same_kind, ScalarKind, OutOfRange, RefusesIndex, RefillsContainer, has_values, Directory, object_at}
-use common.{◌<◌, IsTrue, Result, length, Vector, Refusal, NoSpace, Refused, Denotes, kind_of, perform, AnswersWith, changed}
-use common.{Bool, List, None, false, subst, BackingArray, IsContainer, Place, Answer, Object, Value, Refuse, Reply, SegmentState, effect}
+use common.{◌&&◌, same_Some, same_kind, ScalarKind, OutOfRange, RefusesIndex, RefillsContainer, has_values, Directory}
+use common.{object_at}
+use common.{◌<◌, IsTrue, Result, length, Vector, Refusal, NoSpace, Refused, Denotes, kind_of, perform, AnswersWith}
+use common.{changed}
+use common.{Bool, List, None, false, subst, BackingArray, IsContainer, Place, Answer, Object, Value, Refuse, Reply}
+use common.{SegmentState, effect}
 use common.{Err, Ok, Some, ap, sym, true, ℤ, ◌∙◌, ◌≡◌, ◌≤◌, WindowState, Key, Kind, Done, live, met, plan}
-use common.{ℕ, MatchResult, ExchangesBlocks, is_changing, grown_backing, contents_of, TakesStepOfKind, is_read_only, StepsSafely}
-use common.{eqb-true, current, live_of, Command, code_of, place_at, Contents, Elements, IsObjectInBlock, IsSegment, DenotesCurrent}
+use common.{ℕ, MatchResult, ExchangesBlocks, is_changing, grown_backing, contents_of, TakesStepOfKind, is_read_only}
+use common.{StepsSafely}
+use common.{eqb-true, current, live_of, Command, code_of, place_at, Contents, Elements, IsObjectInBlock, IsSegment}
+use common.{DenotesCurrent}
 use common.{option_to_list, kind_of_code, LacksSpace, container_at, container_place, is_good_value, with_capacity}
 use Rattle.segment_manager.proofs.containers.Refilled.{HoldsAt, Refill, holds-at, room-asked, refill-steps_of_kind}
 use Rattle.segment_manager.proofs.Steps.{by_no_change_of_kind, open-writing, step_of_kind-found}
@@ -20,7 +25,8 @@ use Rattle.segment_manager.proofs.{Codes.code-read, Frame.object-roomy, objects.
 pub one-kind : (a b : Kind) → same_kind a b ≡ true → a ≡ b
 one-kind a b e = same_Some a b (sym (code-read a) ∙ ap kind_of_code (eqb-true (code_of a) (code_of b) e) ∙ code-read b)
 
-vector-if : (k : ScalarKind) (v : Value) → Vector k ≡ kind_of v → (zs : List ℤ) × ((t : BackingArray) × (v ≡ Elements k zs t))
+vector-if : (k : ScalarKind) (v : Value) → Vector k ≡ kind_of v
+    → (zs : List ℤ) × ((t : BackingArray) × (v ≡ Elements k zs t))
 vector-if k (Elements l zs t) e = let same : l ≡ k = cc in (zs, (t, λ i. Elements (same i) zs t))
 vector-if k v e = absurd (cc)
 
@@ -134,7 +140,8 @@ module _ {A : Type 0} {L : Listing A} (old new : WindowState) {d : Directory} {k
   }
 
   -- in the places that there were, or fewer
-  pub items-now : (xs : List A) (u : BackingArray) (c : Command) (answer : Answer) → effect d c ≡ Reply answer (with_elements
+  pub items-now : (xs : List A) (u : BackingArray) (c : Command) (answer : Answer)
+      → effect d c ≡ Reply answer (with_elements
       xs u) → ListedNow L old new p h.table xs u → Refill old new d key c answer
   items-now xs u c answer e now = items-refill xs u c answer (ap (perform d (live d)) e) now
 
@@ -201,7 +208,8 @@ module _ {A : Type 0} (L : Listing A) (s : SegmentState) (key : Key) (p : Place)
         (each b.0 some-items).same (λ d den h. ap (perform d (live d)) (past d h (each d h).outside))
 
     -- a call that wants places
-    pub grows-safely : (c : Command) (n : List A → BackingArray → ℕ) (ys : List A → List A) (r : Result (Unit {0}) Refusal)
+    pub grows-safely : (c : Command) (n : List A → BackingArray → ℕ) (ys : List A
+        → List A) (r : Result (Unit {0}) Refusal)
         → ((d : Directory) (h : Held d) → effect d c ≡ with_capacity L.each (n h.items h.table) h.table
         (λ u. Reply Done (changed d h.object (L.value (ys h.items) u)))) → ((d : Directory) (h : Held d)
         → MatchResult r (λ u. ListedGrown L s.cut new p h.table (n h.items h.table) (ys h.items))

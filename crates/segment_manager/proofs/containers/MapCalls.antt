@@ -1,15 +1,21 @@
 -- The calls on maps of numbers, each as one step: what the calls of seg_map ensure of the map at its place comes to the
 -- directory.
 use Rattle.segment_manager.proofs.Common as common
-use common.{◌≡◌, is_value, ErasesPair, node_len, put_pair, Directory, object_at, HasPairs, IsSegment, DenotesCurrent, cons_values}
-use common.{refl, Option, Result, int_lt, eq-eqb, ErasesKey, told_of, Request, perform, AnswersWith, changed, live_of, LiveSet}
-use common.{sym, ◌∙◌, ℕ, ℤ, Bool, true, Some, None, Ok, Err, List, [], WindowState, Node, Kind, Map, Key, PutsPair, New, Plan, with}
-use common.{ap, subst, false, PutsNoSpace, PutsNewPair, Truth, Pairs, Object, container_place, Reply, SegmentState, effect, map_of}
+use common.{◌≡◌, is_value, ErasesPair, node_len, put_pair, Directory, object_at, HasPairs, IsSegment, DenotesCurrent}
+use common.{cons_values}
+use common.{refl, Option, Result, int_lt, eq-eqb, ErasesKey, told_of, Request, perform, AnswersWith, changed, live_of}
+use common.{LiveSet}
+use common.{sym, ◌∙◌, ℕ, ℤ, Bool, true, Some, None, Ok, Err, List, [], WindowState, Node, Kind, Map, Key, PutsPair, New}
+use common.{Plan, with}
+use common.{ap, subst, false, PutsNoSpace, PutsNewPair, Truth, Pairs, Object, container_place, Reply, SegmentState}
+use common.{effect, map_of}
 use common.{Answer, Extent}
 use common.{option_map, value_of_literal, nodes_of_pairs, value_of_pair, AnswersSafely, value_or_absent}
 use common.{current, Refusal, NoSpace, code_of, size_of, Command, Literal, pair_at, Element, Refused, Denotes, kind_of}
-use common.{SameSurroundings, remove_pair, container_at, AnswersQueryOfKind, TakesStepOfKind, is_read_only, step_of_kind, truth_answer}
-use common.{ScalarKind, same_kind, literal_of, transitive, OverwritesPair, NumberPair, FindsValue, numbers_of, told_of_map}
+use common.{SameSurroundings, remove_pair, container_at, AnswersQueryOfKind, TakesStepOfKind, is_read_only}
+use common.{step_of_kind, truth_answer}
+use common.{ScalarKind, same_kind, literal_of, transitive, OverwritesPair, NumberPair, FindsValue, numbers_of}
+use common.{told_of_map}
 use Rattle.segment_manager.proofs.containers.MapSteps.{IsMapObject, again-denotes, erased-denotes, map-only}
 use Rattle.segment_manager.proofs.containers.MapSteps.{object-map, put-denotes}
 use Rattle.segment_manager.proofs.Steps.{IsMove, IsOpenFor, by_no_change_of_kind, by_step_of_kind, open-reading}
@@ -207,10 +213,12 @@ module _ (s : SegmentState) (key : Key) (k v : ScalarKind) (p : Place) (b : IsSe
           good) (literal-read v y fair)) ∙ ap (λ r. perform d (live_of s.cut.bytes) (put_with h x y r)) e
 
       -- the key is new
-      put-new : pair_at int_lt h.pairs x ≡ None → PutsNewPair (numbers_of k) (numbers_of v) s.cut new p.handle p.at h.pairs x
+      put-new : pair_at int_lt h.pairs x ≡ None
+          → PutsNewPair (numbers_of k) (numbers_of v) s.cut new p.handle p.at h.pairs x
           y → IsMove (record s { cut = new }) (Truth true) (outcome (Put x y) d)
       put-new e r =
-          let Becomes : Place → Type 0 = λ c. (r : PutsNewPair (numbers_of k) (numbers_of v) s.cut new c.handle c.at h.pairs x
+          let Becomes : Place → Type 0 =
+          λ c. (r : PutsNewPair (numbers_of k) (numbers_of v) s.cut new c.handle c.at h.pairs x
           y) → Denotes current new.bytes (with_pairs h (with_pair h x y r.extent)) in
           record {
             after = with_pairs h (with_pair h x y r.extent);
@@ -220,7 +228,8 @@ module _ (s : SegmentState) (key : Key) (k v : ScalarKind) (p : Place) (b : IsSe
           }
 
       -- a pair has the key
-      put-again : (q : NumberPair) → pair_at int_lt h.pairs x ≡ Some q → OverwritesPair (numbers_of k) (numbers_of v) s.cut
+      put-again : (q : NumberPair) → pair_at int_lt h.pairs x ≡ Some q
+          → OverwritesPair (numbers_of k) (numbers_of v) s.cut
           new p.handle p.at h.pairs q x y → IsMove (record s { cut = new }) (Truth false) (outcome (Put x y) d)
       put-again q e r =
           let is : q.key ≡ x = found-key x q h.pairs e in
@@ -230,7 +239,8 @@ module _ (s : SegmentState) (key : Key) (k v : ScalarKind) (p : Place) (b : IsSe
             after = with_pairs h (with_pair h x y q.node);
             is = put-outcome (Some q) e ∙ (λ i. (Truth false, with_pairs h (with_pair h (is i) y q.node)));
             stands = record {
-              denotes = again-denotes s.cut new l.denotes h.known x y q (subst (λ (c : Place). OverwritesPair (numbers_of k)
+              denotes = again-denotes s.cut new l.denotes h.known x y q
+                  (subst (λ (c : Place). OverwritesPair (numbers_of k)
                   (numbers_of v) s.cut new c.handle c.at h.pairs q x y) (sym h.at) r) same;
             };
           }
@@ -273,7 +283,8 @@ module _ (s : SegmentState) (key : Key) (k v : ScalarKind) (p : Place) (b : IsSe
         λ d l. let h : Holds d = map_in d l in put-refused x y good fair l h why (pair_at int_lt h.pairs x) refl
         (each h.pairs h.map) in
         record {
-          step = subst (λ (e : WindowState). TakesStepOfKind s (record s { cut = e }) key (Map k v) (Put x y) (Refused NoSpace))
+          step = subst (λ (e : WindowState).
+              TakesStepOfKind s (record s { cut = e }) key (Map k v) (Put x y) (Refused NoSpace))
               (sym (at b.0 b.1).0)
               (by_no_change_of_kind s key (Map k v) (Put x y) (Refused NoSpace) (λ d l. (at d l).1));
           refused = (at b.0 b.1).0;
@@ -313,7 +324,8 @@ module _ (s : SegmentState) (key : Key) (k v : ScalarKind) (p : Place) (b : IsSe
         },
       )
 
-    pub map-erased : (x : ℤ) (t : Bool) → is_value k x ≡ true → ErasesKey (numbers_of k) (numbers_of v) s.cut new p.handle
+    pub map-erased : (x : ℤ) (t : Bool) → is_value k x ≡ true
+        → ErasesKey (numbers_of k) (numbers_of v) s.cut new p.handle
         p.at x t → TellsSafely s new key (Map k v) (asked.Remove key (literal_of k x)) (Ok t)
     map-erased x t good each = does (λ d l. let h : Holds d = map_in d l in erase-moves x good l h t (pair_at int_lt
         h.pairs x) refl (each h.pairs h.map))

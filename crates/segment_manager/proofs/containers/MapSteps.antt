@@ -3,10 +3,12 @@
 use Rattle.segment_manager.proofs.Common as common
 use common.{◌≡◌, refl, sym, ◌∙◌, true, ◌&&◌, Some, None, List, SameBytes, Value, Pairs, live, ap, and_from, bytes_of}
 use common.{Directory, is_object, value_len, IsValueAt, exchanged, subst, ℕ, arith, int_lt, Memory, Extent, handle}
-use common.{KeepsBlocks, PutsNewPair, Object, padded, ◌+◌, ◌≤◌, ◌≢◌, inl, ℤ, [], ◌∷◌, map, WindowState, Map, length, IsTrue, LiveSet}
+use common.{KeepsBlocks, PutsNewPair, Object, padded, ◌+◌, ◌≤◌, ◌≢◌, inl, ℤ, [], ◌∷◌, map, WindowState, Map, length}
+use common.{IsTrue, LiveSet}
 use common.{EncodesLiveSet, live_of, pair_at, kind_of, Denotes, changed, AllByRecursion, is_number_pair, nodes_of_pairs}
 use common.{is_good_value, value_extents, list_all, extent_at, same_kind, is_rising, NumberPair, numbers_of, SameSpread}
-use common.{current, ErasesPair, put_pair, HoldsMap, IsPairIn, count_of, head_len, IsObjectInBlock, SameBlockExcept, lay_out_one}
+use common.{current, ErasesPair, put_pair, HoldsMap, IsPairIn, count_of, head_len, IsObjectInBlock, SameBlockExcept}
+use common.{lay_out_one}
 use common.{ScalarKind, KeepsOutsideMap, OverwritesPair, remove_pair}
 use Rattle.segment_manager.proofs.containers.MapBlocks.{BlocksInUse, PartedNodes, no-node, nodes, one-by_handle}
 use Rattle.segment_manager.proofs.containers.MapBlocks.{put-parted, removed-parted}
@@ -94,7 +96,8 @@ module _ {b : List ℕ} {d : Directory} {o : Object} {k v : ScalarKind} {ps : Li
 
 -- ---- what becomes of it
 
-module _ (old new : WindowState) {d : Directory} {o : Object} {k v : ScalarKind} {ps : List NumberPair} (qs : List NumberPair)
+module _ (old new : WindowState) {d : Directory} {o : Object} {k v : ScalarKind} {ps : List NumberPair}
+    (qs : List NumberPair)
     (den : Denotes current old.bytes d) (x : IsMapObject old.bytes d o k v ps) where
   abbrev next : Value
   next = Pairs k v qs
@@ -109,7 +112,8 @@ module _ (old new : WindowState) {d : Directory} {o : Object} {k v : ScalarKind}
       (all-good k v (live_of new.bytes) (handle o.extent) qs s.pairs))
 
   -- a block that is none of the pairs'
-  module _ (b : KeepsOutsideMap old new (handle o.extent + (head_len + padded (length o.name))) (nodes_of_pairs ps)) where
+  module _ (b : KeepsOutsideMap old new (handle o.extent + (head_len + padded (length o.name)))
+      (nodes_of_pairs ps)) where
     stays-beside : (y : Extent) → IsFoundIn (live d).extents y → Differs y (value_extents o.value)
         → SameBlockExcept (bytes_of old.bytes) (bytes_of new.bytes) (value_start o) 24 y
     stays-beside y f n = subst (λ at. SameBlockExcept (bytes_of old.bytes) (bytes_of new.bytes) at 24 y)
@@ -129,7 +133,8 @@ module _ (old new : WindowState) {d : Directory} {o : Object} {k v : ScalarKind}
     pairs-changed s gone come e laid =
         let m : Memory = bytes_of old.bytes in let m' : Memory = bytes_of new.bytes in
         let from : ℕ = value_start o in
-        let l : EncodesLiveSet current new.bytes (exchanged (live d) gone come) = subst (λ (l : LiveSet). EncodesLiveSet current
+        let l : EncodesLiveSet current new.bytes (exchanged (live d) gone come) =
+        subst (λ (l : LiveSet). EncodesLiveSet current
         new.bytes (exchanged l gone come)) (denotes-live current old.bytes d den) laid in
         let like : IsLike o (with_value o next) =
         record { extent = refl; name = refl; class = refl; kind = sym (ap kind_of x.value) } in
@@ -173,7 +178,8 @@ module _ (old new : WindowState) {d : Directory} {o : Object} {k v : ScalarKind}
 module _ (old new : WindowState) {d : Directory} {o : Object} {k v : ScalarKind} {ps : List NumberPair}
     (den : Denotes current old.bytes d) (x : IsMapObject old.bytes d o k v ps) where
   -- a pair more
-  pub put-denotes : (key value : ℤ) → pair_at int_lt ps key ≡ None → (r : PutsNewPair (numbers_of k) (numbers_of v) old new
+  pub put-denotes : (key value : ℤ) → pair_at int_lt ps key ≡ None
+      → (r : PutsNewPair (numbers_of k) (numbers_of v) old new
       (handle o.extent) (head_len + padded (length o.name)) ps key value) → Denotes current new.bytes
       (changed d o (Pairs k v (put_pair int_lt (record { key = key; value = value; node = r.extent }) ps)))
   put-denotes key value none r = pairs-changed old new _ den x r.beside r.map [] (r.extent ∷ [])

@@ -2,7 +2,8 @@
 -- in storage for just so many.
 use Rattle.segment_manager.proofs.Common as common
 use common.{◌≡◌, refl, sym, ap, subst, ◌∙◌, ℕ, ℤ, Bool, Some, None, Ok, Err, Result, List, [], length, map, IsTrue}
-use common.{MatchResult, option_to_list, length-map, current, WindowState, bytes_of, ExchangesBlocks, ChangesBytes, live_of, BackingArray}
+use common.{MatchResult, option_to_list, length-map, current, WindowState, bytes_of, ExchangesBlocks, ChangesBytes}
+use common.{live_of, BackingArray}
 use common.{no_backing, keeps-refl, laid-heap, ScalarKind, Refusal, NoSpace, Content, Place, IsContainer, place_at}
 use common.{AssignsText, GrowsTextOk, grown_backing, Assigns, GrowsVectorOk, LacksSpace, Contents, flat_map}
 use common.{are_bytes, contents_of, has_values, Value, Elements, Bytes, count_of, kind_of, value_extents, value_len}
@@ -63,17 +64,18 @@ module _ {content : Content} {each len : ℕ} {bytes : List ℕ} {v : BackingArr
   -- there is no storage for them
   unstored-value : (why : Refusal) → new ≡ mid → grown_backing (live_of mid.bytes) each len no_backing ≡ None
       → why ≡ NoSpace → MakesValueErr content old new p why
-  unstored-value why same none refusal = subst (λ (c : WindowState). MakesValueErr content old c p why) (sym same) (record {
-    empty = mid;
-    change = change;
-    restored = record {
-      laid = laid-heap mid.bytes (live_of old.bytes) change.live;
-      keeps = keeps-refl mid (live_of mid.bytes).extents;
-    };
-    denied = λ d next. ap (perform d (live_of mid.bytes)) (is.asks next)
-        ∙ storage-none d (live_of mid.bytes) each len (λ t. next (v t)) none;
-    refusal = refusal;
-  })
+  unstored-value why same none refusal =
+      subst (λ (c : WindowState). MakesValueErr content old c p why) (sym same) (record {
+        empty = mid;
+        change = change;
+        restored = record {
+          laid = laid-heap mid.bytes (live_of old.bytes) change.live;
+          keeps = keeps-refl mid (live_of mid.bytes).extents;
+        };
+        denied = λ d next. ap (perform d (live_of mid.bytes)) (is.asks next)
+            ∙ storage-none d (live_of mid.bytes) each len (λ t. next (v t)) none;
+        refusal = refusal;
+      })
 
 -- ---- a vector of numbers
 

@@ -1,13 +1,19 @@
 -- The words of containers, and what the calls of seg_vector leave of storage whose elements have one length: as the
 -- steps of the calls on the object, a vector of numbers or a text.
 use Rattle.segment_manager.proofs.Common as common
-use common.{◌≡◌, shrunk_backing, IsValueAt, Directory, value_len, IsSegment, DenotesCurrent, HasEnough, has_sizes, UnchangedWhere, ap}
-use common.{ℕ, ◌+◌, ◌*◌, ◌∙◌, ◌≤◌, Err, Ok, [], sym, take, true, WindowState, Kind, Key, Done, live, Plan, arith, Some, false}
-use common.{refl, subst, BackingArray, Place, Clear, Value, Bytes, Pairs, Texts, Reply, SegmentState, Option, IsTrue, ScalarKind}
-use common.{RefillsContainer, has_values, storage_of, with_items, with_table, command_of, grown_backing, List, LiveSet, MapKind}
+use common.{◌≡◌, shrunk_backing, IsValueAt, Directory, value_len, IsSegment, DenotesCurrent, HasEnough, has_sizes}
+use common.{UnchangedWhere, ap}
+use common.{ℕ, ◌+◌, ◌*◌, ◌∙◌, ◌≤◌, Err, Ok, [], sym, take, true, WindowState, Kind, Key, Done, live, Plan, arith, Some}
+use common.{false}
+use common.{refl, subst, BackingArray, Place, Clear, Value, Bytes, Pairs, Texts, Reply, SegmentState, Option, IsTrue}
+use common.{ScalarKind}
+use common.{RefillsContainer, has_values, storage_of, with_items, with_table, command_of, grown_backing, List, LiveSet}
+use common.{MapKind}
 use common.{Refusal, NoSpace, Command, Reserve, Refused, Denotes, Numbers, kind_of, emptied, None, length, Memory}
-use common.{handle, IsContainer, Change, Shrink, Object, padded, perform, AnswersWith, changed, effect, Result, current, word_at}
-use common.{has_room, live_of, no_backing, place_at, Contents, sizes_of, Elements, IsObjectInBlock, bytes_of, StringsKind}
+use common.{handle, IsContainer, Change, Shrink, Object, padded, perform, AnswersWith, changed, effect, Result, current}
+use common.{word_at}
+use common.{has_room, live_of, no_backing, place_at, Contents, sizes_of, Elements, IsObjectInBlock, bytes_of}
+use common.{StringsKind}
 use common.{container_at, contents_of, sizes_at_kind, is_read_only, StepsSafely, has_storage}
 use Rattle.segment_manager.proofs.containers.Contained.{contents-fit, contents-stand, of-contents, start-place}
 use Rattle.segment_manager.proofs.containers.Refilled.{HoldsAt, holds-at, refill-steps_of_kind, room-asked, then_room}
@@ -114,7 +120,8 @@ none-left = of-contents (λ v c. IsMoved v (with_items v []) (record c { len = 0
 
 pub nothing-left : (v : Value) (c : Contents) → contents_of v ≡ Some c
     → contents_of (emptied v) ≡ Some (record c { len = 0; table = no_backing; bytes = [] })
-nothing-left = of-contents (λ v c. contents_of (emptied v) ≡ Some (record c { len = 0; table = no_backing; bytes = [] }))
+nothing-left = of-contents (λ v c.
+    contents_of (emptied v) ≡ Some (record c { len = 0; table = no_backing; bytes = [] }))
     (λ k zs t. refl) (λ bs t. refl)
 
 storage-said : (v : Value) (c : Contents) → contents_of v ≡ Some c
@@ -127,7 +134,8 @@ abbrev contents_at : Kind → ℕ → BackingArray → List ℕ → Contents
 contents_at kind len t bytes = record { each = each_of kind; len = len; table = t; bytes = bytes }
 
 elements-in : (v : Value) → has_storage (kind_of v) ≡ true → (kind_of v ≡ StringsKind → ⊥)
-    → (len : ℕ) × ((t : BackingArray) × ((bytes : List ℕ) × (contents_of v ≡ Some (contents_at (kind_of v) len t bytes))))
+    → (len : ℕ) × ((t : BackingArray)
+    × ((bytes : List ℕ) × (contents_of v ≡ Some (contents_at (kind_of v) len t bytes))))
 elements-in (Elements k zs t) h n = (_, (_, (_, refl)))
 elements-in (Bytes bs t) h n = (_, (_, (_, refl)))
 elements-in (Texts ps t) h n = absurd (n refl)
@@ -183,7 +191,8 @@ module _ {s t : SegmentState} (view : s ≡ t) (key : Key) (kind : Kind) (p : Pl
       let h : Held b.0 = held b.0 b.1 in
       record { stands = (h.len, (h.table, (h.bytes, h.stands))); some = (each-few kind).0; short = (each-few kind).1 }
 
-  pub elements-kept : (new : WindowState) (change : Change) (r : Result (Unit {0}) Refusal) → ChangesElements change s.cut new p
+  pub elements-kept : (new : WindowState) (change : Change) (r : Result (Unit {0}) Refusal)
+      → ChangesElements change s.cut new p
       (each_of kind) r → UnchangedWhere t (record s { cut = new }) (HasEnough change key)
   elements-kept new change r a =
       keeps-cut s t view new (HasEnough change key) (λ d l has. same change r a d (held d l) has)

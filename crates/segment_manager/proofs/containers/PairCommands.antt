@@ -1,11 +1,15 @@
 -- Commands on the pairs of a map by literals: which call is the step of the command, by the kind of the object.
 use Rattle.segment_manager.proofs.Common as common
 use common.{◌≡◌, refl, sym, ◌∙◌, true, Some, None, Ok, Err, List, ◌∷◌, [], Map, Key, live, Plan, with, SegmentState}
-use common.{ap, ScalarKind, WrongKind, literal_of, remove_pair, NumberPair, IsChangeableObject, IsValueOf, Directory, object_at}
+use common.{ap, ScalarKind, WrongKind, literal_of, remove_pair, NumberPair, IsChangeableObject, IsValueOf, Directory}
+use common.{object_at}
 use common.{subst, false, int_lt, eq-eqb, Answer, Truth, Value, Pairs, Object, Refuse, Reply, TakesStep, effect, map_of}
-use common.{ℤ, Option, Result, Located, Element, Refused, kind_at, kind_of, perform, AnswersWith, AnswersQuery, changed, pair_values}
-use common.{Refusal, code_of, is_value, ByHandle, Literal, pair_at, IsMissing, IsLocated, DenotesCurrent, cons_values, found_at}
-use common.{ScalarValue, value_of_literal, kind_of_scalar, value_of_scalar, IsUnchangeable, AnswersQueryOfKind, TakesStepOfKind}
+use common.{ℤ, Option, Result, Located, Element, Refused, kind_at, kind_of, perform, AnswersWith, AnswersQuery, changed}
+use common.{pair_values}
+use common.{Refusal, code_of, is_value, ByHandle, Literal, pair_at, IsMissing, IsLocated, DenotesCurrent, cons_values}
+use common.{found_at}
+use common.{ScalarValue, value_of_literal, kind_of_scalar, value_of_scalar, IsUnchangeable, AnswersQueryOfKind}
+use common.{TakesStepOfKind}
 use Rattle.segment_manager.proofs.containers.AnyStorage.{IsOfKindAt, kind-told, of_kind-same, of_kind-steps}
 use Rattle.segment_manager.proofs.containers.Changeable.{answered-reads, refuses, refuses-read, says-kind}
 use Rattle.segment_manager.proofs.objects.Locating.{kind-by_key, reply_of_kind-by_key, step_of_kind-by_key}
@@ -143,7 +147,8 @@ module _ (s : SegmentState) (key : Key) (k v : ScalarKind) (a : AnswersWith s (�
       ∙ ap (looks_up_read (map-at d st)) (literal-read k x good ∙ sym e) ∙ sym (lookup-of (map-at d st) l)
 
   lookup-read : (l : Literal) (x : ℤ) (answer : Answer) → value_of_literal k l ≡ Ok x → is_value k x ≡ true
-      → AnswersQueryOfKind s key (Map k v) (asked.Lookup key (literal_of k x)) answer → AnswersQuery s (asked.Lookup key l) answer
+      → AnswersQueryOfKind s key (Map k v) (asked.Lookup key (literal_of k x)) answer
+      → AnswersQuery s (asked.Lookup key l) answer
   lookup-read l x answer e good r = record {
     answers = λ d st. r.answers d st ∙ ap (λ (q : Answer × Directory). q.0) (of_kind-same s.mode d key (Map k v)
         (asked.Lookup key (literal_of k x)) (kind-told d key (Map k v) (a.answers d st))) ∙ answered-reads s.mode d
@@ -153,7 +158,8 @@ module _ (s : SegmentState) (key : Key) (k v : ScalarKind) (a : AnswersWith s (�
 
 -- ---- as the calls say it
 
-module _ {s : SegmentState} {key : Key} {o : Located} (h : IsChangeableObject s key o) {k v : ScalarKind} (is : o.kind ≡ Map k v) where
+module _ {s : SegmentState} {key : Key} {o : Located} (h : IsChangeableObject s key o) {k v : ScalarKind}
+    (is : o.kind ≡ Map k v) where
   there : (d : Directory) → DenotesCurrent s.cut.bytes d → IsMapAt d key k v
   there d st = map-at s key k v (says-kind h.located is) d st
 
@@ -177,8 +183,10 @@ module _ {s : SegmentState} {key : Key} {o : Located} (h : IsChangeableObject s 
       (λ d st. put-of (there d st) at value ∙ ap (puts_read (there d st)) e)
 
   -- a key of its kind
-  pub removes-key : {new : SegmentState} (at : Literal) (x : ScalarValue) {answer : Answer} → IsValueOf k (value_of_literal k
-      at) (Ok x) → TakesStepOfKind s new (ByHandle o.handle) (Map (kind_of_scalar x) v) (asked.Remove (ByHandle o.handle)
+  pub removes-key : {new : SegmentState} (at : Literal) (x : ScalarValue) {answer : Answer}
+      → IsValueOf k (value_of_literal k
+      at) (Ok x) → TakesStepOfKind s new (ByHandle o.handle) (Map (kind_of_scalar x) v)
+      (asked.Remove (ByHandle o.handle)
       (literal_of (kind_of_scalar x) (value_of_scalar x))) answer → TakesStep s new (asked.Remove key at) answer
   removes-key {new} at x {answer} (same, read, good) r = remove-read s key k v (says-kind h.located is) new at
       (value_of_scalar x) answer read good (step_of_kind-by_key s key o h.located new (Map k v) (asked.Remove key
@@ -190,7 +198,8 @@ module _ {s : SegmentState} {key : Key} {o : Located} (h : IsChangeableObject s 
   remove-no_value at {why} e = refuses s (asked.Remove key at) why h.writing
       (λ d st. remove-of (there d st) at ∙ ap (removes_read (there d st)) e)
 
-module _ {s : SegmentState} {key : Key} {o : Located} (l : IsLocated s key o) {k v : ScalarKind} (is : o.kind ≡ Map k v) where
+module _ {s : SegmentState} {key : Key} {o : Located} (l : IsLocated s key o) {k v : ScalarKind} (is : o.kind
+    ≡ Map k v) where
   pub looks-up-key : (at : Literal) (x : ScalarValue) {answer : Answer} → IsValueOf k (value_of_literal k at) (Ok x)
       → AnswersQueryOfKind s (ByHandle o.handle) (Map (kind_of_scalar x) v) (asked.Lookup (ByHandle o.handle)
       (literal_of (kind_of_scalar x) (value_of_scalar x))) answer → AnswersQuery s (asked.Lookup key at) answer

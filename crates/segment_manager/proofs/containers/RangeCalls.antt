@@ -4,13 +4,16 @@ use common.{◌≡◌, refl, sym, ap, subst, ◌∙◌, ℕ, ◌+◌, ◌*◌, �
 use common.{Result}
 use common.{Ok, Err, List, ◌++◌, length, map, take, drop, if◌then◌else◌, arith, IsTrue, list_all, nat_le, le-leb}
 use common.{lt-leb}
-use common.{length-append, length-map, map-append, take-map, eq-eqb, ne_eqb, append_assoc, WindowState, SameBytesExcept, HasBytesAt, bytes_of}
+use common.{length-append, length-map, map-append, take-map, eq-eqb, ne_eqb, append_assoc, WindowState, SameBytesExcept}
+use common.{HasBytesAt, bytes_of}
 use common.{current, handle, Kind, ScalarKind, Scalar, Vector, code_of, same_kind, is_value, size_of, spelled, spelling}
 use common.{Refusal, NotFound, OutOfRange, ReadOnly, WrongKind, Key, ByHandle, Mode, Answer, Done, Refused, Directory}
 use common.{Object, Value, Numbers, Elements, Bytes, Pairs, Texts, kind_of, count_of, value_extents, padded, object_at}
-use common.{changed, is_read_only, with_items, AnswersWith, SegmentState, DenotesCurrent, Denotes, IsValueAt, ChangesBytes, Located}
+use common.{changed, is_read_only, with_items, AnswersWith, SegmentState, DenotesCurrent, Denotes, IsValueAt}
+use common.{ChangesBytes, Located}
 use common.{IsLocated, head_len, is_object, Place, IsSegment, IsObjectInBlock, same_Some, value_len, mul-le-mul_left}
-use common.{done_answer, IsMissing, OnErr, SameSurroundings, BackingArray, kind_of_code, leb-true, [], flat_map, has_room, live_of}
+use common.{done_answer, IsMissing, OnErr, SameSurroundings, BackingArray, kind_of_code, leb-true, [], flat_map}
+use common.{has_room, live_of}
 use Rattle.std.proofs.lemmas.List.{nil_from_length}
 use Rattle.segment_manager.proofs.{Calling.denotes-heap, objects.Standings.standing-room, containers.ItemSteps.one-kind}
 use Rattle.segment_manager.proofs.Whole.{IsOfKind, whole-spelled, whole-values}
@@ -119,7 +122,8 @@ pub range-numbers : (d : Directory) (key : Key) (o : Object) (k : ScalarKind) (n
 range-numbers d key o k ns first zs is value = ap (range_with d first zs) is
     ∙ ap (λ v. changed d o (with_items v (replaced (numbers_in v) first zs))) value
 
-pub range-elements : (d : Directory) (key : Key) (o : Object) (k : ScalarKind) (ns : List ℤ) (t : BackingArray) (first : ℕ)
+pub range-elements : (d : Directory) (key : Key) (o : Object) (k : ScalarKind) (ns : List ℤ) (t : BackingArray)
+    (first : ℕ)
     (zs : List ℤ) → object_at d key ≡ Some o → o.value ≡ Elements k ns t
     → with_range d key first zs ≡ changed d o (Elements k (replaced ns first zs) t)
 range-elements d key o k ns t first zs is value = ap (range_with d first zs) is
@@ -181,7 +185,8 @@ module _ (s : SegmentState) (key : Key) (k : ScalarKind) (first : ℕ) (zs : Lis
     }
 
 -- no object has the key
-pub why-missing : (s : SegmentState) (key : Key) (k : ScalarKind) (first : ℕ) (zs : List ℤ) → is_read_only s.mode ≡ false
+pub why-missing : (s : SegmentState) (key : Key) (k : ScalarKind) (first : ℕ) (zs : List ℤ)
+    → is_read_only s.mode ≡ false
     → {why : Refusal} → IsMissing s key why → WritesRange s s key k first zs (Refused why)
 why-missing s key k first zs writing m =
     subst (λ (r : Refusal). WritesRange s s key k first zs (Refused r)) (sym m.is)
@@ -314,7 +319,8 @@ module _ (s : SegmentState) (o : Located) (l : IsLocated s (ByHandle o.handle) o
     abbrev pub row_spot : ℕ
     row_spot = o.handle + (value_in o + size_of k * first)
 
-    module _ (t : SegmentState) (view : s ≡ t) (b : IsSegment s.cut.bytes) (new : WindowState) (writing : is_read_only t.mode ≡ false)
+    module _ (t : SegmentState) (view : s ≡ t) (b : IsSegment s.cut.bytes) (new : WindowState)
+        (writing : is_read_only t.mode ≡ false)
         (fits : nat_le (first + length zs) o.count ≡ true) (good : IsTrue (list_all (is_value k) zs))
         (c : ChangesBytes current s.cut new row_spot (size_of k * length zs))
         (w : HasBytesAt (bytes_of new.bytes) row_spot (spelled k zs)) where
@@ -331,7 +337,8 @@ module _ (s : SegmentState) (o : Located) (l : IsLocated s (ByHandle o.handle) o
       array-written = range-written s (ByHandle o.handle) k first zs t view b new c.place (λ d st.
           let h = numbers-of d st in
           range-done s.mode d (ByHandle o.handle) k first zs
-          (subst (λ (u : SegmentState). is_read_only u.mode ≡ false) (sym view) writing) h.object h.is h.numbers (row-of h)
+          (subst (λ (u : SegmentState). is_read_only u.mode ≡ false) (sym view) writing) h.object h.is h.numbers
+          (row-of h)
           (inside h)) (λ d st.
           let h = numbers-of d st in
           subst (Denotes current new.bytes)
@@ -344,7 +351,8 @@ module _ (s : SegmentState) (o : Located) (l : IsLocated s (ByHandle o.handle) o
 -- ---- no other byte of an array
 
 abbrev But : SegmentState → SegmentState → ℕ → Result Place Refusal → Type 0
-But old new n r = IfOk r (λ (p : Place). SameBytesExcept (bytes_of old.cut.bytes) (bytes_of new.cut.bytes) (p.handle + p.at) n)
+But old new n r = IfOk r (λ (p : Place).
+    SameBytesExcept (bytes_of old.cut.bytes) (bytes_of new.cut.bytes) (p.handle + p.at) n)
 
 module _ (s t : SegmentState) (o : Located) (l : IsLocated s (ByHandle o.handle) o) (k : ScalarKind) (first n : ℕ) where
   but-if : (d : Directory) → DenotesCurrent s.cut.bytes d → ((p : Place) → ElementAt s.cut.bytes d (ByHandle o.handle) k
@@ -353,7 +361,8 @@ module _ (s t : SegmentState) (o : Located) (l : IsLocated s (ByHandle o.handle)
   but-if d st each (Ok p) e = each p (element-found st.denotes (sym e))
   but-if d st each (Err why) e = tt
 
-  pub array-but : SameBytesExcept (bytes_of s.cut.bytes) (bytes_of t.cut.bytes) (o.handle + (value_in o + size_of k * first))
+  pub array-but : SameBytesExcept (bytes_of s.cut.bytes) (bytes_of t.cut.bytes)
+      (o.handle + (value_in o + size_of k * first))
       (size_of k * n) → ChangesRange s t (ByHandle o.handle) k first n
   array-but but d st = but-if d st (λ p x.
       let q = said-at s (ByHandle o.handle) o l d st in
@@ -429,7 +438,8 @@ array-empty s o l k first zs is writing fits none =
       place = record { before = refl; after = refl };
       live = denotes-heap current s.cut.bytes d st.denotes;
       rest = record { at = λ j out. refl };
-    }) (subst (λ ys. HasBytesAt (bytes_of s.cut.bytes) (value_start h.object + size_of k * first) (spelled k ys)) (sym nothing)
+    }) (subst (λ ys. HasBytesAt (bytes_of s.cut.bytes) (value_start h.object + size_of k * first) (spelled k ys))
+    (sym nothing)
     refl)))
 
 -- its block has the room
@@ -457,7 +467,8 @@ module _ {T : Type 0} {k : ScalarKind} {w : T → ℤ} {size : ℕ} {test : T �
     (l : IsLocated t (ByHandle o.handle) o) (first : ℕ) (values : List T) (is : o.kind ≡ Scalar k)
     (writing : is_read_only t.mode ≡ false) (fits : nat_le (first + length (map w values)) o.count ≡ true)
     {at each : ℕ} (at_is : at ≡ value_in o) (each_is : each ≡ size) (good : IsTrue (list_all test values))
-    (new : WindowState) (c : ChangesBytes current s.cut new (o.handle + (at + each * first)) (size * length values)) where
+    (new : WindowState) (c : ChangesBytes current s.cut new (o.handle + (at + each * first))
+    (size * length values)) where
   abbrev wholes : List ℤ
   wholes = map w values
 
@@ -474,11 +485,13 @@ module _ {T : Type 0} {k : ScalarKind} {w : T → ℤ} {size : ℕ} {test : T �
   pub array-spelled : HasBytesAt (bytes_of new.bytes) (o.handle + (at + each * first)) (flat_map sp values)
       → RangeWritten s t new (ByHandle o.handle) k first wholes (Ok tt)
   array-spelled h =
-      array-written s o (subst (λ (u : SegmentState). IsLocated u (ByHandle o.handle) o) (sym view) l) k first wholes is t
+      array-written s o (subst (λ (u : SegmentState). IsLocated u (ByHandle o.handle) o) (sym view) l) k first
+      wholes is t
       view b new
       writing fits (sym (whole-values k w size test sp law values) ∙ good) change
       (subst (λ m. HasBytesAt (bytes_of new.bytes) m (spelled k wholes)) spot-is
-      (subst (HasBytesAt (bytes_of new.bytes) (o.handle + (at + each * first))) (whole-spelled k w size test sp law values) h))
+      (subst (HasBytesAt (bytes_of new.bytes) (o.handle + (at + each * first)))
+      (whole-spelled k w size test sp law values) h))
 
   -- no other byte changes
   pub array-framed : ChangesRange t (record s { cut = new }) (ByHandle o.handle) k first (length values)

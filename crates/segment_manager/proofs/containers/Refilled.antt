@@ -1,11 +1,13 @@
 -- A call that changes a vector or text of an object is one step of the directory machine.
 use Rattle.segment_manager.proofs.Common as common
 use common.{◌≡◌, refl, sym, ap, ◌∙◌, ℕ, true, false, Bool, Option, Some, None, Result, Ok, Err, List, if◌then◌else◌}
-use common.{◌*◌, ◌&&◌, IsTrue, nat_le, option_map, WindowState, live_of, BackingArray, Extent, LiveSet, regrow, Kind, Refusal, NoSpace}
+use common.{◌*◌, ◌&&◌, IsTrue, nat_le, option_map, WindowState, live_of, BackingArray, Extent, LiveSet, regrow, Kind}
+use common.{Refusal, NoSpace}
 use common.{NotFound, WrongKind, ReadOnly, same_kind, Key, Command, is_changing, Place, grown_backing, Mode, same_Some}
 use common.{Answer, Refused, Contents, RefillsContainer, container_at, container_place, contents_of, has_values, Value}
 use common.{Object, Directory, kind_of, live, object_at, Denotes, perform, with_capacity, Request, RegrownNeed, Refuse}
-use common.{AnswersWith, IsSegment, TakesStep, TakesStepOfKind, SegmentState, DenotesCurrent, changed, effect, Plan, is_read_only}
+use common.{AnswersWith, IsSegment, TakesStep, TakesStepOfKind, SegmentState, DenotesCurrent, changed, effect, Plan}
+use common.{is_read_only}
 use common.{step_of_kind, step, arith, le-ltb, lt-ltb, resized, with_array}
 use Rattle.segment_manager.proofs.Steps.{IsMove, IsOpenFor, by_no_change, by_no_change_of_kind, by_step_of_kind}
 use Rattle.segment_manager.proofs.Steps.{open-writing, step-effect, step_of_kind-found, step_of_kind-not_found}
@@ -31,7 +33,8 @@ abbrev pub of_places : ℕ → Extent → BackingArray
 of_places n x = record { capacity = n; extent = Some x }
 
 -- a table with so many places or more
-abbrev pub then_room : Directory → LiveSet → BackingArray → (BackingArray → Plan) → Option BackingArray → Answer × Directory
+abbrev pub then_room : Directory → LiveSet → BackingArray → (BackingArray → Plan) → Option BackingArray
+    → Answer × Directory
 then_room d l t = then_by (with_array l t) d
 
 abbrev grown_set : LiveSet → BackingArray → Bool → LiveSet
@@ -69,7 +72,8 @@ pub record Refill (old new : WindowState) (d : Directory) (key : Key) (c : Comma
   pub outcome : perform d (live d) (effect d c) ≡ (answer, changed d object value)
 
 -- the plan asks for room, where there is some or none
-pub room-asked : (format : ℕ) (b : List ℕ) (d : Directory) (c : Command) (each n : ℕ) (t : BackingArray) (r : Option BackingArray)
+pub room-asked : (format : ℕ) (b : List ℕ) (d : Directory) (c : Command) (each n : ℕ) (t : BackingArray)
+    (r : Option BackingArray)
     (next : BackingArray → Plan) → Denotes format b d → effect d c ≡ with_capacity each n t next
     → grown_backing (live_of b) each n t ≡ r → perform d (live d) (effect d c) ≡ then_room d (live d) t next r
 room-asked format b d c each n t r next k e g = ap (perform d (live d)) e ∙ room-grown d (live d) each t n next
@@ -168,7 +172,8 @@ finds-no_container s key kind c r w a = by_no_change_of_kind s key kind c (Refus
 
 -- a call for objects of one kind is the step, where the object of the key is changed so
 pub refill-steps_of_kind : (s : SegmentState) (new : WindowState) (key : Key) (kind : Kind) (p : Place)
-    → AnswersWith s (λ d. container_at d key kind) (Ok p) → (c : Command) (answer : Answer) → is_read_only s.mode ≡ false
+    → AnswersWith s (λ d. container_at d key kind) (Ok p) → (c : Command) (answer : Answer)
+    → is_read_only s.mode ≡ false
     → IsSegment s.cut.bytes → ((d : Directory) → DenotesCurrent s.cut.bytes d → Refill s.cut new d key c answer)
     → TakesStepOfKind s (record s { cut = new }) key kind c answer
 refill-steps_of_kind s new key kind p found c answer writing b each = by_step_of_kind s (record s { cut = new }) key

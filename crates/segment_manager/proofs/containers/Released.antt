@@ -1,10 +1,13 @@
 -- What becomes of an object whose contents are released, for each kind of value.
 use Rattle.segment_manager.proofs.Common as common
-use common.{◌≡◌, ExchangesBlocks, StringsKind, IsTextsContainer, container_at, container_place, value_extents, ReleasesPairs}
-use common.{refl, sym, ◌∙◌, ◌+◌, Some, Ok, List, [], WindowState, Kind, Map, Key, Head, Texts, true, ap, subst, length, IsTrue}
+use common.{◌≡◌, ExchangesBlocks, StringsKind, IsTextsContainer, container_at, container_place, value_extents}
+use common.{ReleasesPairs}
+use common.{refl, sym, ◌∙◌, ◌+◌, Some, Ok, List, [], WindowState, Kind, Map, Key, Head, Texts, true, ap, subst, length}
+use common.{IsTrue}
 use common.{eq-eqb, Extent, handle, Scalar, Place, Value, Pairs, Object, padded, changed, append-nil, same_Some}
 use common.{ScalarKind, ReplacesTexts, IsValueAt, HoldsObject, Directory, is_object, numbers_of, ℕ, current, code_of}
-use common.{Denotes, Becomes, Empties, emptied, has_key, kind_of, HasPairs, IsHeadOf, IsObjectInBlock, bytes_of, no_backing}
+use common.{Denotes, Becomes, Empties, emptied, has_key, kind_of, HasPairs, IsHeadOf, IsObjectInBlock, bytes_of}
+use common.{no_backing}
 use common.{ByHandle, place_at, object_at, value_len, head_len, HasObject, DenotesCurrent}
 use Rattle.segment_manager.proofs.containers.Contained.{good-with, start-place, Shape, contents-shape, value-said}
 use Rattle.segment_manager.proofs.containers.Emptied.{IsEmptied, changed-itself, emptied-is, emptied-numbers}
@@ -23,7 +26,8 @@ use Rattle.segment_manager.specs.{containers.Contents.has_storage, containers.St
 
 -- ---- the object of a handle
 
-pub held-stands : (b : List ℕ) (h : ℕ) (d : Directory) (o : Object) → DenotesCurrent b d → object_at d (ByHandle h) ≡ Some o
+pub held-stands : (b : List ℕ) (h : ℕ) (d : Directory) (o : Object) → DenotesCurrent b d
+    → object_at d (ByHandle h) ≡ Some o
     → IsObjectInBlock b h o
 held-stands b h d o k e = subst (λ g. IsObjectInBlock b g o) (sym (found-handle h d.objects o (record { is = e })))
     (standing b d (ByHandle h) o k.denotes e)

@@ -1,9 +1,11 @@
 -- A call on the container of an object that answers nothing: its step, and that it changes nothing where it is refused.
 use Rattle.segment_manager.proofs.Common as common
 use common.{NoSpace, OutOfRange, ◌⊎◌, inl, inr, TakesStep, is_read_only, ◌≡◌, refl, sym, ap, subst, ◌∙◌, Bool, true}
-use common.{false, Option, Some, None, Result, Ok, Err, OnErr, WindowState, Kind, Refusal, NotFound, Key, Command, Place}
+use common.{false, Option, Some, None, Result, Ok, Err, OnErr, WindowState, Kind, Refusal, NotFound, Key, Command}
+use common.{Place}
 use common.{Answer}
-use common.{Done, Refused, container_at, place_of_kind, Object, object_at, option_map, AnswersWith, IsSegment, TakesStepOfKind}
+use common.{Done, Refused, container_at, place_of_kind, Object, object_at, option_map, AnswersWith, IsSegment}
+use common.{TakesStepOfKind}
 use common.{SegmentState, AnswersSafely, StepsSafely, MatchResult, live_of, Located}
 use Rattle.best_fit.proofs.Laws.{gaps-refl}
 use Rattle.best_fit.specs.Heap.{KeepsGaps}
@@ -11,7 +13,8 @@ use Rattle.segment_manager.proofs.Steps.{step-segment, step_of_kind-segment}
 use Rattle.segment_manager.specs.objects.Located.{container_in, located, located_at}
 
 -- it is refused, and nothing has changed
-pub stays : (s : SegmentState) (new : WindowState) (key : Key) (kind : Kind) (c : Command) (e why : Refusal) → e ≡ why → new ≡ s.cut
+pub stays : (s : SegmentState) (new : WindowState) (key : Key) (kind : Kind) (c : Command) (e why : Refusal)
+    → e ≡ why → new ≡ s.cut
     → TakesStepOfKind s s key kind c (Refused why) → StepsSafely s new key kind c (Err e)
 stays s new key kind c e why is same step = record {
   step = subst (λ (r : Refusal). TakesStepOfKind s (record s { cut = new }) key kind c (Refused r)) (sym is)
@@ -39,19 +42,22 @@ pick-space e f h (inr y) = y
 -- ---- the segment afterwards, as its view before the call is named
 
 -- nothing has changed where it was refused
-pub seen-refused : {R : Type 0} (s t : SegmentState) (view : s ≡ t) (new : WindowState) (r : Result R Refusal) → OnErr r (new ≡ s.cut)
+pub seen-refused : {R : Type 0} (s t : SegmentState) (view : s ≡ t) (new : WindowState) (r : Result R Refusal)
+    → OnErr r (new ≡ s.cut)
     → OnErr r ((record s { cut = new }) ≡ t)
 seen-refused s t view new (Ok u) e = tt
 seen-refused s t view new (Err w) e = (λ i. record s { cut = e i }) ∙ view
 
 -- a call came to its step, changed nothing where it was refused, and left a segment
-pub record Answered {R : Type 0} (says : Result R Refusal → Answer) (s t : SegmentState) (new : WindowState) (key : Key) (kind : Kind)
+pub record Answered {R : Type 0} (says : Result R Refusal
+    → Answer) (s t : SegmentState) (new : WindowState) (key : Key) (kind : Kind)
     (c : Command) (r : Result R Refusal) : Type 0 where
   pub step : TakesStepOfKind t (record s { cut = new }) key kind c (says r)
   pub refused : OnErr r ((record s { cut = new }) ≡ t)
   pub segment : IsSegment new.bytes
 
-pub answered : {R : Type 0} {says : Result R Refusal → Answer} (s t : SegmentState) (view : s ≡ t) (b : IsSegment s.cut.bytes)
+pub answered : {R : Type 0} {says : Result R Refusal
+    → Answer} (s t : SegmentState) (view : s ≡ t) (b : IsSegment s.cut.bytes)
     (new : WindowState) (key : Key) (kind : Kind) (c : Command) (r : Result R Refusal)
     → AnswersSafely says s new key kind c r → Answered says s t new key kind c r
 answered {says = says} s t view b new key kind c r done = record {
@@ -61,7 +67,8 @@ answered {says = says} s t view b new key kind c r done = record {
 }
 
 -- what the call ensures
-pub told : {R : Type 0} {says : Result R Refusal → Answer} {s t : SegmentState} {new : WindowState} {key : Key} {kind : Kind}
+pub told : {R : Type 0} {says : Result R Refusal
+    → Answer} {s t : SegmentState} {new : WindowState} {key : Key} {kind : Kind}
     {c : Command} {r : Result R Refusal} → Answered says s t new key kind c r → record {
       step : TakesStepOfKind t (record s { cut = new }) key kind c (says r);
       refused : OnErr r ((record s { cut = new }) ≡ t);
@@ -73,7 +80,8 @@ pub record Stepped (s t : SegmentState) (new : WindowState) (c : Command) (answe
   pub step : TakesStep t (record s { cut = new }) c answer
   pub segment : IsSegment new.bytes
 
-pub stepped : (s t : SegmentState) (view : s ≡ t) (b : IsSegment s.cut.bytes) (new : WindowState) (c : Command) (answer : Answer)
+pub stepped : (s t : SegmentState) (view : s ≡ t) (b : IsSegment s.cut.bytes) (new : WindowState) (c : Command)
+    (answer : Answer)
     → is_read_only t.mode ≡ false
     → (is_read_only s.mode ≡ false → TakesStep s (record s { cut = new }) c answer) → Stepped s t new c answer
 stepped s t view b new c answer may each =
@@ -87,7 +95,8 @@ stepped s t view b new c answer may each =
 -- ---- the gaps
 
 -- what a call does to them where it is done, and where it is refused nothing changes
-pub kept-gaps : {R : Type 0} {P : R → Type 0} {F : Refusal → Type 0} {s t : SegmentState} (view : s ≡ t) {new : WindowState}
+pub kept-gaps : {R : Type 0} {P : R → Type 0} {F : Refusal
+    → Type 0} {s t : SegmentState} (view : s ≡ t) {new : WindowState}
     (r : Result R Refusal) → MatchResult r P F → ((x : R) → P x → KeepsGaps s.cut new)
     → ((e : Refusal) → F e → new ≡ s.cut) → KeepsGaps t.cut new
 kept-gaps view {new} (Ok x) m f g = subst (λ (u : SegmentState). KeepsGaps u.cut new) view (f x m)

@@ -3,10 +3,13 @@
 use Rattle.segment_manager.proofs.Common as common
 use common.{◌++◌, ◌<◌, Err, IsTrue, List, None, Ok, Option, Result, Some, [], ap, arith, false, get_or, length, map}
 use common.{nat_abs, nat_le, nat_lt, pos, refl, slice_get, subst, suc, sym, true, zero, ℕ, ◌∙◌, ◌∷◌, ◌≡◌, and_from}
-use common.{le-leb, slice_get-get_or, slice_get-map, slice_get_past, option_map, slice_set, WindowState, BackingArray, Append}
+use common.{le-leb, slice_get-get_or, slice_get-map, slice_get_past, option_map, slice_set, WindowState, BackingArray}
+use common.{Append}
 use common.{Assign, Get, Quoted, Set, literal_of, is_value, Key, String, U8, Refusal, NotFound, OutOfRange, AssignsText}
-use common.{IsSomeText, GrowsTextOk, ReplacesText, capacity_for_text, Place, Done, Element, Refused, are_bytes, bytes_at}
-use common.{container_at, Bytes, Object, Value, kind_of, live, Reply, perform, AnswersWith, IsSegment, TakesStepOfKind, SegmentState}
+use common.{IsSomeText, GrowsTextOk, ReplacesText, capacity_for_text, Place, Done, Element, Refused, are_bytes}
+use common.{bytes_at}
+use common.{container_at, Bytes, Object, Value, kind_of, live, Reply, perform, AnswersWith, IsSegment, TakesStepOfKind}
+use common.{SegmentState}
 use common.{changed, is_read_only, Command, StepsSafely, done_answer}
 use Rattle.segment_manager.proofs.containers.ContentPlans.{append-plan, byte-plan, set_byte-plan, text-plan}
 use Rattle.segment_manager.proofs.containers.ItemSteps.{HoldsItems, ListedNow, items-stay, one-kind, so-too, some-items}
@@ -76,7 +79,8 @@ texts = record {
 }
 
 -- what became of a text, with its bytes below 256
-bytes-now : {old new : WindowState} {p : Place} {t u : BackingArray} {bs : List ℕ} → IsTrue (are_bytes bs) → ReplacesText old new p t bs u
+bytes-now : {old new : WindowState} {p : Place} {t u : BackingArray} {bs : List ℕ} → IsTrue (are_bytes bs)
+    → ReplacesText old new p t bs u
     → ListedNow texts old new p t bs u
 bytes-now small r = record { change = r.change; stands = r.text; values = small }
 
@@ -87,7 +91,8 @@ bytes-grown small r = record { table = r.table; grown = r.grown; now = bytes-now
 -- ---- the calls
 
 -- what is read there are the bytes of the key's text
-pub reads-bytes : (s : SegmentState) (key : Key) (p : Place) (out : List ℕ) → AnswersWith s (λ d. container_at d key String) (Ok p)
+pub reads-bytes : (s : SegmentState) (key : Key) (p : Place) (out : List ℕ)
+    → AnswersWith s (λ d. container_at d key String) (Ok p)
     → ReadsText s.cut.bytes p out → AnswersWith s (λ d. bytes_at d key) (Ok out)
 reads-bytes s key p out found reads = record {
   answers = λ d l.

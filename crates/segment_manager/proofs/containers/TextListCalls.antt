@@ -1,14 +1,21 @@
 -- What the calls of seg_vector ensure of the texts at the place that was found, as the steps of the calls on the
 -- object's vector of texts.
 use Rattle.segment_manager.proofs.Common as common
-use common.{IsTextsContainer, option_to_list, slice_get-get_or, slice_get_past, AssignsTextsOk, AssignsTexts, is_untouched}
-use common.{◌≡◌, refl, subst, true, false, Some, None, arith, BackingArray, Place, Change, Clear, Shrink, Reply, SegmentState, effect}
-use common.{sym, ap, ◌∙◌, ℕ, ◌+◌, ◌-◌, ◌<◌, ◌≤◌, inl, inr, Ok, Err, List, [], ◌∷◌, map, Bor, WindowState, Key, Done, Plan, with}
-use common.{Option, Result, length, get_or, IsTrue, insert, remove, le-ltb, lt-ltb, Refused, Reserve, perform, AnswersWith}
+use common.{IsTextsContainer, option_to_list, slice_get-get_or, slice_get_past, AssignsTextsOk, AssignsTexts}
+use common.{is_untouched}
+use common.{◌≡◌, refl, subst, true, false, Some, None, arith, BackingArray, Place, Change, Clear, Shrink, Reply}
+use common.{SegmentState, effect}
+use common.{sym, ap, ◌∙◌, ℕ, ◌+◌, ◌-◌, ◌<◌, ◌≤◌, inl, inr, Ok, Err, List, [], ◌∷◌, map, Bor, WindowState, Key, Done}
+use common.{Plan, with}
+use common.{Option, Result, length, get_or, IsTrue, insert, remove, le-ltb, lt-ltb, Refused, Reserve, perform}
+use common.{AnswersWith}
 use common.{append-nil, option_map, slice_get, false≢true, OutOfRange, with_array, command_of, refusal_in, done_answer}
-use common.{slice_set, list_all, same_Some, shrunk_backing, UndoesRequests, all_texts, OwnedText, RefusesIndex, are_bytes, Directory}
-use common.{current, LiveSet, live_of, Refusal, NoSpace, Command, one_more, IsSegment, DenotesCurrent, answer_of, texts_of}
-use common.{StringsKind, placed_text, grown_backing, TextElement, container_at, TakesStepOfKind, is_read_only, StepsSafely}
+use common.{slice_set, list_all, same_Some, shrunk_backing, UndoesRequests, all_texts, OwnedText, RefusesIndex}
+use common.{are_bytes, Directory}
+use common.{current, LiveSet, live_of, Refusal, NoSpace, Command, one_more, IsSegment, DenotesCurrent, answer_of}
+use common.{texts_of}
+use common.{StringsKind, placed_text, grown_backing, TextElement, container_at, TakesStepOfKind, is_read_only}
+use common.{StepsSafely}
 use Rattle.segment_manager.proofs.containers.TextMoves.{TextsMove, all-other, moved, one-block, texts-stay, texts-steps}
 use Rattle.segment_manager.proofs.containers.TextMoves.{in-array, left-out, Kept, kept, led, texts_in}
 use Rattle.segment_manager.proofs.containers.TextMoves.{Led, StepsKeeping, step-leads-on, texts-lead-on, texts-restored}
@@ -98,7 +105,8 @@ module _ {s t : SegmentState} (view : s ≡ t) (b : IsSegment s.cut.bytes) {key 
   seen-kept done = kept s t view b new key _ _ done
 
   -- a call that is done
-  does : {c : Command} → ((d : Directory) (l : DenotesCurrent s.cut.bytes d) (h : Holds d) → TextsMove s.cut new d key p h c
+  does : {c : Command} → ((d : Directory) (l : DenotesCurrent s.cut.bytes d) (h : Holds d)
+      → TextsMove s.cut new d key p h c
       Done) → TakesStepOfKind s (record s { cut = new }) key StringsKind c Done
   does each = texts-steps s key p b found new _ Done writing each
 
@@ -177,14 +185,16 @@ module _ {s t : SegmentState} (view : s ≡ t) (b : IsSegment s.cut.bytes) {key 
   text-pushed bs (Ok u) small a =
       seen-kept (put-steps _ length bs small (λ d h. (a h.texts h.table h.stand, push-text h bs)))
   text-pushed bs (Err e) small a =
-      let o : UndoesRequests s.cut new (one_more heap some.texts some.table bs) e = a some.texts some.table some.stand in
+      let o : UndoesRequests s.cut new (one_more heap some.texts some.table bs) e =
+      a some.texts some.table some.stand in
       seen-kept (given-up o.refusal o.restored
       (λ d h. ap (perform d heap) (push-text h bs) ∙ put-unmet h (length h.texts) bs (a h.texts h.table h.stand).none))
 
   -- where the first block has no space, nothing changes
   pub text-first : (bs : List ℕ) → StaysAtFirst s.cut new p bs
       → UnchangedWhere t (record s { cut = new }) (LacksFirst key bs)
-  text-first bs a = subst (λ (u : SegmentState). UnchangedWhere u (record s { cut = new }) (LacksFirst key bs)) view (λ d l w.
+  text-first bs a = subst (λ (u : SegmentState). UnchangedWhere u (record s { cut = new }) (LacksFirst key bs)) view
+      (λ d l w.
       let h : Holds d = holds d l in
       let object : h.object ≡ w.object = same_Some h.object w.object (sym h.is ∙ w.is) in
       let value : Texts h.texts h.table ≡ Texts w.texts w.table =
@@ -203,7 +213,8 @@ module _ {s t : SegmentState} (view : s ≡ t) (b : IsSegment s.cut.bytes) {key 
 
   pub array-first : (n : ℕ) → (new_array heap n ≡ None → new ≡ s.cut)
       → UnchangedWhere t (record s { cut = new }) (LacksArray n)
-  array-first n a = subst (λ (u : SegmentState). UnchangedWhere u (record s { cut = new }) (LacksArray n)) view (λ d l w.
+  array-first n a = subst (λ (u : SegmentState). UnchangedWhere u (record s { cut = new }) (LacksArray n)) view
+      (λ d l w.
       let lives : live d ≡ heap = sym (denotes-live current s.cut.bytes d l.denotes) in
       let same : new ≡ s.cut = a (subst (λ (m : LiveSet). new_array m n ≡ None) lives w) in
       (λ i. record s { cut = same i }))

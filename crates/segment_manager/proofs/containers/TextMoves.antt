@@ -1,11 +1,16 @@
 -- A call on a vector of texts is one step: what the calls of seg_vector ensure of the texts at its place comes to the
 -- directory.
 use Rattle.segment_manager.proofs.Common as common
-use common.{◌≡◌, sym, ◌∙◌, true, None, Ok, List, ◌++◌, OnErr, WindowState, BackingArray, Kind, Key, Place, Value, Texts, SegmentState, [], ℕ}
-use common.{refl, option_to_list, AllByRecursion, is_untouched, container_at, TakesStepOfKind, is_read_only, LeadsOnOfKind}
-use common.{ap, subst, false, Option, Result, IfErr, Extent, Answer, StepsWithoutAnswer, changed, effect, LiveSet, live_of, remove}
-use common.{current, StringsKind, same_kind, ReplacesTexts, text_blocks, refusal_of, done_answer, step_of_kind, append-nil}
-use common.{Refusal, Command, OwnedText, Refused, kind_at, Directory, kind_of, perform, AnswersWith, IsSegment, DenotesCurrent}
+use common.{◌≡◌, sym, ◌∙◌, true, None, Ok, List, ◌++◌, OnErr, WindowState, BackingArray, Kind, Key, Place, Value, Texts}
+use common.{SegmentState, [], ℕ}
+use common.{refl, option_to_list, AllByRecursion, is_untouched, container_at, TakesStepOfKind, is_read_only}
+use common.{LeadsOnOfKind}
+use common.{ap, subst, false, Option, Result, IfErr, Extent, Answer, StepsWithoutAnswer, changed, effect, LiveSet}
+use common.{live_of, remove}
+use common.{current, StringsKind, same_kind, ReplacesTexts, text_blocks, refusal_of, done_answer, step_of_kind}
+use common.{append-nil}
+use common.{Refusal, Command, OwnedText, Refused, kind_at, Directory, kind_of, perform, AnswersWith, IsSegment}
+use common.{DenotesCurrent}
 use Rattle.segment_manager.proofs.containers.TextsHeld.{HasBytes, HoldsTexts, IsTextsMove, holds-texts, texts-changed}
 use Rattle.segment_manager.proofs.Steps.{IsMove, IsOpenFor, by_no_change_of_kind, by_step_of_kind, open-writing}
 use Rattle.segment_manager.proofs.Steps.{step_of_kind-found, step_of_kind-segment}
@@ -23,7 +28,8 @@ pub one-block : (xs : List Extent) (r : Option Extent) → xs ++ option_to_list 
 one-block xs r = ap (λ (ys : List Extent). xs ++ ys) (sym (append-nil (option_to_list r)))
 
 -- it is so where a part of them is another
-pub moved : {old new : WindowState} {p : Place} {ps qs out in_place : List OwnedText} {t u : BackingArray} {gone come : List Extent}
+pub moved : {old new : WindowState} {p : Place} {ps qs out in_place : List OwnedText} {t u : BackingArray}
+    {gone come : List Extent}
     → IsPartOther ps qs out in_place → AllByRecursion HasBytes in_place
     → gone ≡ option_to_list t.extent ++ text_blocks out → come ≡ option_to_list u.extent ++ text_blocks in_place
     → ReplacesTexts old new p gone come qs u → IsTextsMove old new p ps t qs u
@@ -105,8 +111,10 @@ module _ (s : SegmentState) (key : Key) (p : Place) (b : IsSegment s.cut.bytes)
       (λ d l. texts-move new d l c answer writing (each d l (texts_in d l)))
 
   -- the same of a call that does not say what it took away
-  pub texts-lead-on : (new : WindowState) (c : Command) (answer : (d : Directory) → DenotesCurrent s.cut.bytes d → Answer)
-      → is_read_only s.mode ≡ false → ((d : Directory) (l : DenotesCurrent s.cut.bytes d) → refusal_of (answer d l) ≡ None)
+  pub texts-lead-on : (new : WindowState) (c : Command) (answer : (d : Directory) → DenotesCurrent s.cut.bytes d
+      → Answer)
+      → is_read_only s.mode ≡ false → ((d : Directory) (l : DenotesCurrent s.cut.bytes d)
+      → refusal_of (answer d l) ≡ None)
       → ((d : Directory) (l : DenotesCurrent s.cut.bytes d) → TextsMove s.cut new d key p (texts_in d l) c (answer d l))
       → LeadsOnOfKind s (record s { cut = new }) key StringsKind c None
   texts-lead-on new c answer writing done each = record {
@@ -127,7 +135,8 @@ module _ (s : SegmentState) (key : Key) (p : Place) (b : IsSegment s.cut.bytes)
       by_no_change_of_kind s key StringsKind c answer (λ d l. texts-plan d l c may ∙ each d (texts_in d l))
 
   -- it answers so, and all blocks are as they were
-  pub texts-restored : (new : WindowState) (c : Command) (answer : Answer) → IsOpenFor s.mode c → KeepsLiveSet current s.cut new
+  pub texts-restored : (new : WindowState) (c : Command) (answer : Answer) → IsOpenFor s.mode c
+      → KeepsLiveSet current s.cut new
       → ((d : Directory) (h : Holds d) → perform d (live_of s.cut.bytes) (effect d c) ≡ (answer, d))
       → TakesStepOfKind s (record s { cut = new }) key StringsKind c answer
   texts-restored new c answer may back each = by_step_of_kind s (record s { cut = new }) key StringsKind c answer
@@ -142,12 +151,14 @@ module _ (s : SegmentState) (key : Key) (p : Place) (b : IsSegment s.cut.bytes)
 -- ---- a call that may ask for several blocks
 
 -- its step, and that it changes nothing where it is refused before it asks for one
-pub record StepsKeeping (s : SegmentState) (new : WindowState) (key : Key) (c : Command) (r : Result (Unit {0}) Refusal) : Type 0 where
+pub record StepsKeeping (s : SegmentState) (new : WindowState) (key : Key) (c : Command)
+    (r : Result (Unit {0}) Refusal) : Type 0 where
   pub step : TakesStepOfKind s (record s { cut = new }) key StringsKind c (done_answer r)
   pub refused : IfErr r (λ why. is_untouched (Refused why) ≡ true → new ≡ s.cut)
 
 -- as the view before the call names the segment
-pub record Kept (s t : SegmentState) (new : WindowState) (key : Key) (c : Command) (r : Result (Unit {0}) Refusal) : Type 0 where
+pub record Kept (s t : SegmentState) (new : WindowState) (key : Key) (c : Command) (r : Result (Unit {0}) Refusal) :
+    Type 0 where
   pub step : TakesStepOfKind t (record s { cut = new }) key StringsKind c (done_answer r)
   pub refused : IfErr r (λ why. is_untouched (Refused why) ≡ true → (record s { cut = new }) ≡ t)
   pub segment : IsSegment new.bytes
@@ -188,7 +199,8 @@ step-leads-on old new key c answer r =
 
 -- where the object of the key says its kind, the step of the kind is the command's
 pub of_kind-leads_on : (old new : SegmentState) (key : Key) (kind : Kind) (c : Command) (why : Option Refusal)
-    → AnswersWith old (λ d. kind_at d key) (Ok kind) → LeadsOnOfKind old new key kind c why → StepsWithoutAnswer old new c why
+    → AnswersWith old (λ d. kind_at d key) (Ok kind) → LeadsOnOfKind old new key kind c why
+    → StepsWithoutAnswer old new c why
 of_kind-leads_on old new key kind c why a r = record {
   stays = r.stays;
   answers = λ d l. r.answers d l ∙ ap (λ (n : Answer × Directory). refusal_of n.0)

@@ -2,9 +2,11 @@
 use Rattle.segment_manager.proofs.Common as common
 use common.{◌≡◌, refl, sym, ap, ◌∙◌, ℕ, ◌-◌, ◌*◌, Bool, true, false, Option, Some, None, Result, Ok, Err, List, [], ◌∷◌}
 use common.{length, ◌==◌, if◌then◌else◌, insert, remove, slice_get, slice_set, nat_lt, option_map, Storage, LiveSet}
-use common.{place, resized, BackingArray, shrunk_backing, no_backing, Refusal, NoSpace, OutOfRange, Key, Literal, Place, all_texts}
+use common.{place, resized, BackingArray, shrunk_backing, no_backing, Refusal, NoSpace, OutOfRange, Key, Literal, Place}
+use common.{all_texts}
 use common.{new_array, one_more, placed_text, placed_texts, with_array, with_text, OwnedText, capacity_for_one}
-use common.{grown_backing, Answer, Done, Refused, TextElement, Texts, Object, Directory, Value, found_at, live, New, Plan}
+use common.{grown_backing, Answer, Done, Refused, TextElement, Texts, Object, Directory, Value, found_at, live, New}
+use common.{Plan}
 use common.{Refuse, Reply, Request, perform, with, with_capacity, with_owned_text, with_owned_texts, with_storage}
 use common.{changed, effect, storage_of, texts_of, with_items}
 use Rattle.segment_manager.proofs.containers.ContentPlans.{reserve_with, shrink_with}
@@ -84,7 +86,8 @@ one_more_plan ps t bs next =
 
 module _ (d : Directory) (l : LiveSet) (ps : List OwnedText) (t : BackingArray) (bs : List ℕ)
     (next : BackingArray → OwnedText → Plan) where
-  pub one-more-met : (u : BackingArray) (q : OwnedText) → grown_backing l 16 (capacity_for_one (length ps) t.capacity) t ≡ Some u
+  pub one-more-met : (u : BackingArray) (q : OwnedText)
+      → grown_backing l 16 (capacity_for_one (length ps) t.capacity) t ≡ Some u
       → placed_text (with_array l t u) bs ≡ Some q
       → perform d l (one_more_plan ps t bs next) ≡ perform d (with_text (with_array l t u) q) (next u q)
   one-more-met u q g h = room-grown d l 16 t (capacity_for_one (length ps) t.capacity)
@@ -107,7 +110,8 @@ abbrev pub all_plan : List (List ℕ) → (BackingArray → List OwnedText → P
 all_plan bss next = with_storage 16 (length bss) (λ u. with_owned_texts bss (next u))
 
 module _ (d : Directory) (l : LiveSet) (bss : List (List ℕ)) (next : BackingArray → List OwnedText → Plan) where
-  pub all-met : (u : BackingArray) (qs : List OwnedText) → new_array l (length bss) ≡ Some u → placed_texts (beside_array l u)
+  pub all-met : (u : BackingArray) (qs : List OwnedText) → new_array l (length bss) ≡ Some u
+      → placed_texts (beside_array l u)
       bss ≡ Some qs → perform d l (all_plan bss next) ≡ perform d (beside_texts (beside_array l u) qs) (next u qs)
   all-met u qs g h = array-placed d l (length bss) (λ u. with_owned_texts bss (next u))
       ∙ ap (then_array d l (λ u. with_owned_texts bss (next u))) g ∙ texts-placed d (beside_array l u) bss (next u)
@@ -198,7 +202,8 @@ module _ {b : List ℕ} {d : Directory} {key : Key} {p : Place} (h : HoldsTexts 
   pub reserve-texts : (n : ℕ) → effect d (asked.Reserve key n) ≡ with_capacity 16 n h.table (λ u. assign_in u h.texts)
   reserve-texts n = by-texts (λ o v. with (storage_of v) (reserve_with d o v n))
 
-  pub shrink-texts : effect d (asked.Shrink key) ≡ assign_in (shrunk_backing (live d) 16 (length h.texts) h.table) h.texts
+  pub shrink-texts : effect d (asked.Shrink key)
+      ≡ assign_in (shrunk_backing (live d) 16 (length h.texts) h.table) h.texts
   shrink-texts = by-texts (λ o v. with (storage_of v) (shrink_with d o v))
 
   pub clear-texts : effect d (asked.Clear key) ≡ assign_in h.table []

@@ -2,11 +2,16 @@
 -- do to it is what becomes of the object.
 use Rattle.segment_manager.proofs.Common as common
 use common.{◌≡◌, sym, true, ◌&&◌, Some, None, List, ◌++◌, live, ◌∙◌, ◌+◌, ◌≢◌, ◌≤◌, Ok, [], ◌∷◌, WindowState, Key, ℕ}
-use common.{refl, Storage, LiveSet, live_of, length, IsTrue, nat_le, nat_lt, eq-eqb, Denotes, kind_of, AnswersWith, changed}
-use common.{Value, Texts, SegmentState, ap, subst, arith, le-leb, lt-ltb, Extent, handle, BackingArray, serves, Place, Object, padded}
-use common.{list_all, value_len, IsStorageBlock, ReplacesTexts, text_blocks, extents_of, ExchangesBlocks, StringsKind, IsTextsContainer}
-use common.{and_from, IsSegment, extent_at, same_kind, is_proper, AreDistinct, OwnedText, are_bytes, IsValueAt, Directory}
-use common.{eqb-true, ltb-true, bytes_of, current, has_backing, place_at, count_of, IsObjectInBlock, Option, is_object, object_at}
+use common.{refl, Storage, LiveSet, live_of, length, IsTrue, nat_le, nat_lt, eq-eqb, Denotes, kind_of, AnswersWith}
+use common.{changed}
+use common.{Value, Texts, SegmentState, ap, subst, arith, le-leb, lt-ltb, Extent, handle, BackingArray, serves, Place}
+use common.{Object, padded}
+use common.{list_all, value_len, IsStorageBlock, ReplacesTexts, text_blocks, extents_of, ExchangesBlocks, StringsKind}
+use common.{IsTextsContainer}
+use common.{and_from, IsSegment, extent_at, same_kind, is_proper, AreDistinct, OwnedText, are_bytes, IsValueAt}
+use common.{Directory}
+use common.{eqb-true, ltb-true, bytes_of, current, has_backing, place_at, count_of, IsObjectInBlock, Option, is_object}
+use common.{object_at}
 use common.{option_to_list, AllByRecursion, container_place, has_own_block, is_good_value, container_at, is_owned_text}
 use Rattle.segment_manager.proofs.containers.Contained.{good-with, start-place}
 use Rattle.segment_manager.proofs.containers.TextBlocks.{IsPartOther, others-apart, part-exchange}
@@ -98,7 +103,8 @@ fits-texts ps t h =
 -- texts that stand at a place make one
 pub good-texts : (b : List ℕ) (p : Place) (ps : List OwnedText) (t : BackingArray) → IsTexts b p ps t
     → AllByRecursion HasBytes ps → IsTrue (is_good_value (Texts ps t))
-good-texts b p ps t h s = and_from (nat_le (length ps) t.capacity && has_backing Storage 16 t) (list_all is_owned_text ps)
+good-texts b p ps t h s = and_from (nat_le (length ps) t.capacity
+    && has_backing Storage 16 t) (list_all is_owned_text ps)
     (and_from (nat_le (length ps) t.capacity) (has_backing Storage 16 t) (le-leb (length ps) t.capacity h.fits) h.table)
     (owned-each (live_of b) ps h.held s)
 
@@ -113,7 +119,8 @@ pub texts-only : (v : Value) → same_kind StringsKind (kind_of v) ≡ true
 texts-only v e = texts-if v (one-kind StringsKind (kind_of v) e)
 
 -- its blocks are in use, and no two of them and its own are one
-its-blocks : (d : Directory) (o : Object) (ps : List OwnedText) (t : BackingArray) → IsIn d o → IsTrue (is_proper (live d))
+its-blocks : (d : Directory) (o : Object) (ps : List OwnedText) (t : BackingArray) → IsIn d o
+    → IsTrue (is_proper (live d))
     → o.value ≡ Texts ps t → AllByRecursion (InUse (live d)) (option_to_list t.extent ++ text_blocks ps) × AreDistinct
     (o.extent ∷ (option_to_list t.extent ++ text_blocks ps))
 its-blocks d o ps t f proper e =
@@ -199,7 +206,8 @@ some-texts s key p b a =
 -- ---- what becomes of the object
 
 -- what a call did to the vector: which texts stand there now, in which array, and which part of them is another
-pub record IsTextsMove (old new : WindowState) (p : Place) (ps : List OwnedText) (t : BackingArray) (qs : List OwnedText)
+pub record IsTextsMove (old new : WindowState) (p : Place) (ps : List OwnedText) (t : BackingArray)
+    (qs : List OwnedText)
     (u : BackingArray) : Type 0 where
   pub out : List OwnedText
   pub in_place : List OwnedText

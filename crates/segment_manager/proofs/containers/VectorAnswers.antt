@@ -3,9 +3,11 @@
 use Rattle.segment_manager.proofs.Common as common
 use common.{◌++◌, slice_get, take-map, slice_set, same_kind, OutOfRange, RefusesIndex, Directory, IsSegment, answer_of}
 use common.{◌+◌, length-map, map-append, option_map, literal_of, ScalarKind, ReplacesVector, is_read_only, done_answer}
-use common.{◌-◌, ◌<◌, Err, [], ap, inl, inr, map, pos, sym, true, ◌∙◌, ◌∷◌, ◌≡◌, ◌≤◌, WindowState, Key, Done, live, Bool}
+use common.{◌-◌, ◌<◌, Err, [], ap, inl, inr, map, pos, sym, true, ◌∙◌, ◌∷◌, ◌≡◌, ◌≤◌, WindowState, Key, Done, live}
+use common.{Bool}
 use common.{IsTrue, Result, get_or, length, le-ltb, lt-ltb, insert, remove, Vector, AnswersWith, changed, Command, List}
-use common.{None, Some, arith, false, refl, subst, take, BackingArray, Place, Value, Reply, SegmentState, effect, Answer, Ok}
+use common.{None, Some, arith, false, refl, subst, take, BackingArray, Place, Value, Reply, SegmentState, effect}
+use common.{Answer, Ok}
 use common.{slice_get-get_or, slice_get-map, slice_get_past, value_of_literal, capacity_for_one, LacksSpace, ℕ}
 use common.{IsSomeVector, GrowsVectorOk, container_at, is_good_value, with_capacity, TakesStepOfKind, AnswersSafely, ℤ}
 use common.{list_all, flat_map, size_of, Refusal, NoSpace, Assigns, Element, Refused, Elements, kind_of, perform}
@@ -65,16 +67,19 @@ module _ {T : Type 0} {k : ScalarKind} {w : T → ℤ} {size : ℕ} {test : T �
     values = λ xs t. sym (whole-values k w size test sp law xs);
   }
 
-  now-so : {old new : WindowState} {p : Place} {t u : BackingArray} {ys : List T} → ReplacesVector size test sp old new p t ys u
+  now-so : {old new : WindowState} {p : Place} {t u : BackingArray} {ys : List T}
+      → ReplacesVector size test sp old new p t ys u
       → ListedNow typed old new p t ys u
   now-so r = record { change = r.change; stands = r.vector.stands; values = r.vector.values }
 
-  grown-so : {old new : WindowState} {p : Place} {t : BackingArray} {n : ℕ} {ys : List T} → GrowsVectorOk size test sp old new p t n ys
+  grown-so : {old new : WindowState} {p : Place} {t : BackingArray} {n : ℕ} {ys : List T}
+      → GrowsVectorOk size test sp old new p t n ys
       → ListedGrown typed old new p t n ys
   grown-so r = record { table = r.table; grown = r.grown; now = now-so r.now }
 
   -- the place that was found, as the view before the call, the type and the vector name it
-  module _ {s t : SegmentState} (view : s ≡ t) (key : Key) {l : ScalarKind} {q p : Place} (kinds : l ≡ k) (places : p ≡ q)
+  module _ {s t : SegmentState} (view : s ≡ t) (key : Key) {l : ScalarKind} {q p : Place} (kinds : l
+      ≡ k) (places : p ≡ q)
       (b : IsSegment s.cut.bytes) (there : AnswersWith t (λ d. container_at d key (Vector l)) (Ok q)) where
     found : AnswersWith s (λ d. container_at d key (Vector k)) (Ok p)
     found = subst (λ (r : Place). AnswersWith s (λ d. container_at d key (Vector k)) (Ok r)) (sym places)
@@ -109,12 +114,14 @@ module _ {T : Type 0} {k : ScalarKind} {w : T → ℤ} {size : ℕ} {test : T �
     grown-gaps g e = g.now.gaps (same-extents p.handle some.table.extent g.table.extent some.stands.heap
         some.stands.own g.now.change e)
 
-    pub set-gaps : {new : WindowState} (i : ℕ) (x : T) (r : Result (Unit {0}) Refusal) → Sets size test sp s.cut new p i x r
+    pub set-gaps : {new : WindowState} (i : ℕ) (x : T) (r : Result (Unit {0}) Refusal)
+        → Sets size test sp s.cut new p i x r
         → KeepsGaps t.cut new
     set-gaps i x r a = kept-gaps view r (a some.items some.table (vector b.0 some)) (λ u m. m.1.gaps refl)
         (λ e m. m.same)
 
-    pub erase-gaps : {new : WindowState} (i : ℕ) (r : Result (Unit {0}) Refusal) → ErasesFrom size test sp s.cut new p i r
+    pub erase-gaps : {new : WindowState} (i : ℕ) (r : Result (Unit {0}) Refusal)
+        → ErasesFrom size test sp s.cut new p i r
         → KeepsGaps t.cut new
     erase-gaps i r a = kept-gaps view r (a some.items some.table (vector b.0 some)) (λ u m. m.1.gaps refl)
         (λ e m. m.same)
@@ -127,12 +134,14 @@ module _ {T : Type 0} {k : ScalarKind} {w : T → ℤ} {size : ℕ} {test : T �
     push-gaps {new} x r a e = kept-gaps view r (a some.items some.table (vector b.0 some))
         (λ u g. grown-gaps g (same-live view new e)) (λ e m. m.same)
 
-    pub insert-gaps : {new : WindowState} (i : ℕ) (x : T) (r : Result (Unit {0}) Refusal) → InsertsInto size test sp s.cut new p
+    pub insert-gaps : {new : WindowState} (i : ℕ) (x : T) (r : Result (Unit {0}) Refusal)
+        → InsertsInto size test sp s.cut new p
         i x r → live_of new.bytes ≡ live_of t.cut.bytes → KeepsGaps t.cut new
     insert-gaps {new} i x r a e = kept-gaps view r (a some.items some.table (vector b.0 some))
         (λ u g. grown-gaps g.1 (same-live view new e)) (λ e m. elim m [ inl o ↦ o.same | inr o ↦ o.1.same ])
 
-    pub assign-gaps : {new : WindowState} (ys : List T) (r : Result (Unit {0}) Refusal) → Assigns size test sp s.cut new p ys r
+    pub assign-gaps : {new : WindowState} (ys : List T) (r : Result (Unit {0}) Refusal)
+        → Assigns size test sp s.cut new p ys r
         → live_of new.bytes ≡ live_of t.cut.bytes → KeepsGaps t.cut new
     assign-gaps {new} ys r a e = kept-gaps view r (a some.items some.table (vector b.0 some))
         (λ u g. grown-gaps g (same-live view new e)) (λ e m. m.same)
@@ -251,7 +260,8 @@ module _ {T : Type 0} {k : ScalarKind} {w : T → ℤ} {size : ℕ} {test : T �
       })
       vector-popped (Err e) a =
           let r = a some.items some.table (vector b.0 some) in
-          let stay : TakesStepOfKind s s key (Vector k) (asked.Pop key) (Refused OutOfRange) = items-stay typed s key p b
+          let stay : TakesStepOfKind s s key (Vector k) (asked.Pop key) (Refused OutOfRange) =
+          items-stay typed s key p b
           found (asked.Pop key) (Refused OutOfRange) (open-writing s.mode (asked.Pop key) writing) (λ d den h.
           let none : length h.items ≤ 0 = (a h.items h.table (vector d h)).outside in
           ap (perform d (live d)) (pop-plan d key h.object k (map w h.items) h.table h.is h.value None
@@ -259,7 +269,8 @@ module _ {T : Type 0} {k : ScalarKind} {w : T → ℤ} {size : ℕ} {test : T �
           ∙ behind h.items (length h.items - 1) (omega arith)))) in
           seen (record {
             step = subst (λ (q : Refusal). TakesStepOfKind s (record s { cut = new }) key (Vector k) (asked.Pop key)
-                (Refused q)) (sym r.refusal) (subst (λ (c : WindowState). TakesStepOfKind s (record s { cut = c }) key (Vector k)
+                (Refused q)) (sym r.refusal) (subst (λ (c : WindowState).
+                TakesStepOfKind s (record s { cut = c }) key (Vector k)
                 (asked.Pop key) (Refused OutOfRange)) (sym r.same) stay);
             refused = r.same;
           })
@@ -315,7 +326,8 @@ module _ {T : Type 0} {k : ScalarKind} {w : T → ℤ} {size : ℕ} {test : T �
         asked-places e = (λ i. grown_backing (live_of s.cut.bytes) (sym law.long i)
             (capacity_for_more (length-map h.items w i) (length-map ys w i) h.table.capacity) h.table) ∙ e
 
-        extends-to : (l : DenotesCurrent s.cut.bytes d) (r : Option BackingArray) → grown_backing (live_of s.cut.bytes) size
+        extends-to : (l : DenotesCurrent s.cut.bytes d) (r : Option BackingArray)
+            → grown_backing (live_of s.cut.bytes) size
             (capacity_for_more (length h.items) (length ys) h.table.capacity) h.table ≡ r
             → extended s.mode d key k (map w ys) ≡ then_room d (live d) h.table behind_last r
         extends-to l r e = extended-found s.mode d key k (map w ys) writing h.object h.is (map w h.items) h.table

@@ -3,7 +3,8 @@
 use Rattle.segment_manager.proofs.Common as common
 use common.{◌≡◌, refl, sym, ap, subst, ◌∙◌, ℕ, ◌+◌, ◌<◌, ◌≤◌, ◌≢◌, ◌⊎◌, inl, inr, true, false, ◌&&◌, ◌==◌, Some, None}
 use common.{List, [], ◌∷◌, length, arith, IsTrue, filter, find, insert, remove, slice_get, AllByRecursion, nat_cmp}
-use common.{slice_cmp, and_from, cases_lt, cond-true, cond-false, eq-eqb, ne_eqb, false≢true, same_Some, current, WindowState}
+use common.{slice_cmp, and_from, cases_lt, cond-true, cond-false, eq-eqb, ne_eqb, false≢true, same_Some, current}
+use common.{WindowState}
 use common.{Memory, bytes_of, handle, NamedClass, UniqueClass, Kind, code_of, same_kind, Index, Named, Unique, Name}
 use common.{Code, Found, Absent, FindsPosition, Object, Directory, IsDirectory, has_key, insert_by, is_class, kind_of}
 use common.{object_at, remove_object, rises_from, same_bytes, with_object, without_object, Denotes, handles, IsEntry}
@@ -139,7 +140,8 @@ module _ (i : Index) (c : WindowState) {d : Directory} (e : Entry) (key : names.
       (says-at j f).greater ((p.1 j (handle o.extent) (at-handle (objects_of i d) j f)).1 l)
 
   -- no entry has the key, and no object
-  pub lookup-absent : {at : ℕ} → FindsPosition (bytes_of c.bytes) e (entries_of i d) (Absent at) → IsNoEntryFor i d key at
+  pub lookup-absent : {at : ℕ} → FindsPosition (bytes_of c.bytes) e (entries_of i d) (Absent at)
+      → IsNoEntryFor i d key at
   lookup-absent {at} p = record {
     none = none-found (has_key key) (order_of i) (class_of_index i) (sought-key i e key q).other d.objects
         (all_of-ordered (λ o. has_key key o ≡ false) (order_of i) [] (filter (is_class (class_of_index i)) d.objects)

@@ -1,7 +1,8 @@
 -- One index of a directory is written, and the other stays.
 use Rattle.segment_manager.proofs.Common as common
 use common.{◌≡◌, refl, sym, ap, subst, ◌∙◌, suc, ◌+◌, ◌<◌, ◌≤◌, true, false, ◌==◌, None, length, arith, IsTrue}
-use common.{flat_map, AllByRecursion, Memory, SameBytes, SameBytes-part, IndexRole, Extent, SameBlock, BackingArray, has_backing, no_backing}
+use common.{flat_map, AllByRecursion, Memory, SameBytes, SameBytes-part, IndexRole, Extent, SameBlock, BackingArray}
+use common.{has_backing, no_backing}
 use common.{class_code, Key, ByKind, ByName, Index, place_of, IsIndexAt, Object, Directory, extents_of, is_class}
 use common.{is_index, kind_of, live, object_at, table_extents, with_object, handles, class_of_index, entries_of}
 use common.{objects_of, order_of, table_of, with_table_of, by_name, by_kind, NamedClass, UniqueClass}
@@ -92,7 +93,8 @@ other-one index.Named d t o a b = record { is = a; at = b }
 other-one index.Unique d t o a b = record { is = a; at = b }
 
 -- the other index with the object
-pub entered-other : (i : Index) {m : Memory} {d : Directory} (t : BackingArray) (o : Object) → o.class ≡ class_of_index i
+pub entered-other : (i : Index) {m : Memory} {d : Directory} (t : BackingArray) (o : Object)
+    → o.class ≡ class_of_index i
     → HasOne (other i) m d → HasOne (other i) m (with_object (with_table_of i d t) o)
 entered-other i {m} {d} t o c h =
     let e = sym (other-with i d o (other_class i o c)) in

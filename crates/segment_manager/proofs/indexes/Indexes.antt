@@ -3,7 +3,8 @@ use Rattle.segment_manager.proofs.Common as common
 use common.{◌≡◌, refl, sym, ap, subst, ◌∙◌, ℕ, ◌+◌, ◌<◌, ◌≤◌, ◌≢◌, Bool, true, false, ◌&&◌, Option, Some, None, List}
 use common.{[], ◌∷◌, length, arith, if◌then◌else◌, cond, IsTrue, nat_le, find, filter, AllByRecursion, Ordering, Less}
 use common.{Equal, Greater, nat_cmp, is_lt, is_eq, ordering_reverse, slice_cmp, texts_ties, nat_list_cmp_total}
-use common.{and_from, ltb-true, ltb-false, lt-ltb, le-ltb, le-leb, eqb-false, handle, is_proper, BackingArray, has_backing, Class}
+use common.{and_from, ltb-true, ltb-false, lt-ltb, le-ltb, le-leb, eqb-false, handle, is_proper, BackingArray}
+use common.{has_backing, Class}
 use common.{code_of, same_kind, ByName, ByKind, Object, Directory, IsDirectory, live, kind_of, same_bytes, has_key}
 use common.{object_at, is_class, is_object, is_index, rises, rises_from, remove_object, with_object, without_object}
 use common.{by_name, by_kind, insert_by, named_objects, unique_objects}
@@ -130,13 +131,15 @@ index-from t os lt a b c = and_from (has_backing Index 8 t && nat_le (length os)
     (and_from (has_backing Index 8 t) (nat_le (length os) t.capacity) a (le-leb (length os) t.capacity b)) c
 
 -- an index with a place left is one with the entry
-pub index-more : (lt : Object → Object → Bool) (t : BackingArray) (o : Object) (os : List Object) → IsTrue (has_backing Index 8 t)
+pub index-more : (lt : Object → Object → Bool) (t : BackingArray) (o : Object) (os : List Object)
+    → IsTrue (has_backing Index 8 t)
     → length os < t.capacity → AllRanked lt o os → IsTrue (rises lt os) → IsTrue (is_index t (insert_by lt o os) lt)
 index-more lt t o os a b r h =
     index-from t (insert_by lt o os) lt a (omega (arith, insert_by-length lt o os)) (insert_by-rises lt o os r h)
 
 -- the same of the order of a class, of which an object is that is ranked with each of the others
-pub ordered-more : (c : Class) (lt : Object → Object → Bool) → IsStrict lt → (d : Directory) (t u : BackingArray) (o : Object)
+pub ordered-more : (c : Class) (lt : Object → Object → Bool) → IsStrict lt
+    → (d : Directory) (t u : BackingArray) (o : Object)
     → is_class c o ≡ true → AllRanked lt o (filter (is_class c) d.objects)
     → IsTrue (is_index u (ordered c lt d.objects) lt) → IsTrue (has_backing Index 8 t)
     → length (ordered c lt d.objects) < t.capacity → IsTrue (is_index t (ordered c lt (with_object d o).objects) lt)
@@ -229,7 +232,8 @@ remove-insert_by lt o (p ∷ ps) h = remove-insert-if (lt o p) o p (insert_by lt
 
 -- the order of a class without one
 pub one-removed : (c : Class) (lt : Object → Object → Bool) → IsStrict lt → (d : Directory) (o : Object) → IsIn d o
-    → is_class c o ≡ true → IsTrue (rises_from 0 d.objects) → (t : BackingArray) → IsTrue (is_index t (ordered c lt d.objects)
+    → is_class c o ≡ true → IsTrue (rises_from 0 d.objects) → (t : BackingArray)
+    → IsTrue (is_index t (ordered c lt d.objects)
     lt) → ordered c lt (without_object d o).objects ≡ remove_object (handle o.extent) (ordered c lt d.objects)
 one-removed c lt s d o f e r t h = sym (remove-insert_by lt o (ordered c lt (without_object d o).objects)
     (all-ordered (λ (q : Object). handle o.extent ≢ handle q.extent) c lt (remove_object (handle o.extent) d.objects)

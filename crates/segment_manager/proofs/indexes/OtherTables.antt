@@ -1,13 +1,19 @@
 -- What the bytes denote where an index has another table, and where one object is gone.
 use Rattle.segment_manager.proofs.Common as common
-use common.{◌≡◌, SameBytes-part, IndexRole, is_proper, SameBlock, entries_of, option_map, ReservesIndexOk, rises_from, objects_of}
-use common.{refl, Option, IsTrue, Memory, Extent, LiveSet, handle, EncodesLiveSet, live_of, Denotes, resized, link_at, handles}
+use common.{◌≡◌, SameBytes-part, IndexRole, is_proper, SameBlock, entries_of, option_map, ReservesIndexOk, rises_from}
+use common.{objects_of}
+use common.{refl, Option, IsTrue, Memory, Extent, LiveSet, handle, EncodesLiveSet, live_of, Denotes, resized, link_at}
+use common.{handles}
 use common.{sym, ◌∙◌, ◌+◌, ◌≤◌, Some, None, List, WindowState, live, ◌*◌, Bool, true, ◌&&◌, ◌==◌, [], ◌||◌, place, ◌∷◌}
-use common.{ap, subst, arith, added, KeepsBlocks, BackingArray, Index, Object, false, length, nat_le, nat_lt, eq-eqb, serves}
-use common.{ℕ, flat_map, bytes_of, no_backing, unlinked, IsIndexOf, Directory, is_object, shrunk_backing, KeepsOutsideIndex, IsIndexAt}
+use common.{ap, subst, arith, added, KeepsBlocks, BackingArray, Index, Object, false, length, nat_le, nat_lt, eq-eqb}
+use common.{serves}
+use common.{ℕ, flat_map, bytes_of, no_backing, unlinked, IsIndexOf, Directory, is_object, shrunk_backing}
+use common.{KeepsOutsideIndex, IsIndexAt}
 use common.{AllByRecursion, class_of_index, with_table_of, if◌then◌else◌, placed_is_proper, lay_out_one, without_object}
-use common.{current, place_of, table_of, list_all, eqb-true, released, has_backing, ShrinksIndex, IsHeader, is_index, order_of}
-use common.{SameBytes-trans, blocks-trans, beside_table, without_link, extents_of, IsObjectAt, remove_object, table_extents}
+use common.{current, place_of, table_of, list_all, eqb-true, released, has_backing, ShrinksIndex, IsHeader, is_index}
+use common.{order_of}
+use common.{SameBytes-trans, blocks-trans, beside_table, without_link, extents_of, IsObjectAt, remove_object}
+use common.{table_extents}
 use Rattle.segment_manager.proofs.indexes.Entered.{HasOne, has_both, of_rest, other, other-stays, other-words}
 use Rattle.segment_manager.proofs.indexes.Tables.{index-left_out, left_out, live-moved_index, live-no_index}
 use Rattle.segment_manager.proofs.indexes.Tabled.{same-size, same-objects, has-one, place-high}
@@ -31,7 +37,8 @@ pub record IsTabled (i : Index) (old new : WindowState) (d : Directory) (t : Bac
   pub stands : IsIndexOf new (place_of i) t (entries_of i d)
   pub keeps : KeepsOutsideIndex old new (place_of i) (live (with_table_of i d no_backing)).extents
 
-own-table : (i : Index) {m : Memory} (d : Directory) {t : BackingArray} → IsTrue (is_index t (objects_of i d) (order_of i))
+own-table : (i : Index) {m : Memory} (d : Directory) {t : BackingArray}
+    → IsTrue (is_index t (objects_of i d) (order_of i))
     → IsIndexAt m (place_of i) t (entries_of i d) → HasOne i m (with_table_of i d t)
 own-table index.Named d a b = record { is = a; at = b }
 own-table index.Unique d a b = record { is = a; at = b }
@@ -120,7 +127,10 @@ module _ (i : Index) (d : Directory) (n : ℕ) (proper : IsTrue (is_proper (live
       ]
 
   abbrev cut_to : Option Extent → Bool → BackingArray
-  cut_to o b = if b then no_backing else record { capacity = n; extent = option_map (λ x. shorter (live d) x (8 * n)) o }
+  cut_to o b = if b then no_backing else record {
+    capacity = n;
+    extent = option_map (λ x. shorter (live d) x (8 * n)) o;
+  }
 
   cut-cases : (o : Option Extent) (b : Bool) → (table_of i d).extent ≡ o → (o ≡ None → b ≡ true)
       → cut_live o b ≡ live (with_table_of i d (cut_to o b))
@@ -135,7 +145,8 @@ module _ (i : Index) (d : Directory) (n : ℕ) (proper : IsTrue (is_proper (live
   unfolding shrunk_backing
   cut-live f = cut-cases (table_of i d).extent (n == 0) refl f
 
-no-places : (t : BackingArray) (n : ℕ) → IsTrue (has_backing IndexRole 8 t) → n ≤ t.capacity → t.extent ≡ None → (n == 0) ≡ true
+no-places : (t : BackingArray) (n : ℕ) → IsTrue (has_backing IndexRole 8 t) → n ≤ t.capacity → t.extent ≡ None
+    → (n == 0) ≡ true
 no-places t n h few e = eq-eqb n 0 (omega (
   arith,
   few,
@@ -145,8 +156,10 @@ no-places t n h few e = eq-eqb n 0 (omega (
   ])) e h)),
 ))
 
-pub shrunk-tabled : {i : Index} {a c : WindowState} {d : Directory} → Denotes current a.bytes d → ShrinksIndex a c (place_of i)
-    (table_of i d) (entries_of i d) → IsTabled i a c d (shrunk_backing (live d) 8 (length (objects_of i d)) (table_of i d))
+pub shrunk-tabled : {i : Index} {a c : WindowState} {d : Directory} → Denotes current a.bytes d
+    → ShrinksIndex a c (place_of i)
+    (table_of i d) (entries_of i d)
+    → IsTabled i a c d (shrunk_backing (live d) 8 (length (objects_of i d)) (table_of i d))
 shrunk-tabled {i} {a} {c} {d} k r =
     let x = denotes-index i a k in let now = denotes-live current a.bytes d k in
     let len = handles-length (objects_of i d) in
@@ -157,7 +170,8 @@ shrunk-tabled {i} {a} {c} {d} k r =
           (no-places (table_of i d) (length (objects_of i d)) x.places (omega (arith, x.few, len)))) laid;
       stands = subst (λ (t : BackingArray). IsIndexOf c (place_of i) t (entries_of i d))
           (λ j. shrunk_backing (now j) 8 (len j) (table_of i d)) r.index;
-      keeps = subst (KeepsOutsideIndex a c (place_of i)) (ap (λ (l : LiveSet). beside_table (table_of i d) l.extents) now
+      keeps = subst (KeepsOutsideIndex a c (place_of i))
+          (ap (λ (l : LiveSet). beside_table (table_of i d) l.extents) now
           ∙ index-left_out i d [] (live-rises (live d) k.directory.proper)) r.keeps;
     }
 
@@ -208,7 +222,8 @@ table-in index.Named P d o e = e.named
 table-in index.Unique P d o e = e.unique
 
 -- the directory without the object is what the new bytes denote
-pub removed-denotes : {i : Index} {a b c : WindowState} {d : Directory} (o : Object) → Denotes current a.bytes d → IsIn d o
+pub removed-denotes : {i : Index} {a b c : WindowState} {d : Directory} (o : Object) → Denotes current a.bytes d
+    → IsIn d o
     → o.class ≡ class_of_index i → IsLeft i a b (table_of i d) (entries_of i (without_object d o))
     → IsGone b c (extents_of o) → Denotes current c.bytes (without_object d o)
 removed-denotes {i} {a} {b} {c} {d} o k f class e g =

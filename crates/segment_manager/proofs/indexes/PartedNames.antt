@@ -1,8 +1,10 @@
 -- A look-up in the index of names parts them by the text that is looked up.
 use Rattle.segment_manager.proofs.Common as common
 use common.{◌≡◌, sym, ap, subst, ◌∙◌, ℕ, ◌<◌, ◌≤◌, ◌⊎◌, inl, inr, true, false, Some, length, arith, cases_lt}
-use common.{slice_get, slice_get_within, List, slice_cmp, nat_cmp, is_lt, Equal, same_Some, WindowState, bytes_of, Entry}
-use common.{Name, Found, Absent, FindsPosition, handle, Object, Directory, by_name, named_objects, Denotes, IsEntry, Named}
+use common.{slice_get, slice_get_within, List, slice_cmp, nat_cmp, is_lt, Equal, same_Some, WindowState, bytes_of}
+use common.{Entry}
+use common.{Name, Found, Absent, FindsPosition, handle, Object, Directory, by_name, named_objects, Denotes, IsEntry}
+use common.{Named}
 use common.{entries_of, current, SegmentState}
 use Rattle.segment_manager.proofs.indexes.HeldIndexes.{entries-in, objects-ascend}
 use Rattle.segment_manager.proofs.indexes.EntryPlaces.{all-at, ascends-at, at-handle, stands-at}

@@ -1,9 +1,13 @@
 -- The calls that give the indexes other capacities, as steps of the machine.
 use Rattle.segment_manager.proofs.Common as common
-use common.{◌≡◌, cases_lt, IndexRole, AllocatesNoSpace, shrunk_backing, IsIndexOf, Directory, objects_of, reserve_of, IsSegment}
-use common.{refl, if◌then◌else◌, SameSurroundings-trans, is_changing, capacity_at, entries_of, with_table_of, is_read_only}
-use common.{sym, ap, ◌∙◌, ◌*◌, ◌<◌, ◌≤◌, ◌⊎◌, inl, inr, List, WindowState, Done, live, Plan, New, Bool, subst, true, false}
-use common.{arith, nat_le, le-leb, lt-leb, place, BackingArray, Index, Reply, TakesStep, SegmentState, effect, ℕ, length, current}
+use common.{◌≡◌, cases_lt, IndexRole, AllocatesNoSpace, shrunk_backing, IsIndexOf, Directory, objects_of, reserve_of}
+use common.{IsSegment}
+use common.{refl, if◌then◌else◌, SameSurroundings-trans, is_changing, capacity_at, entries_of, with_table_of}
+use common.{is_read_only}
+use common.{sym, ap, ◌∙◌, ◌*◌, ◌<◌, ◌≤◌, ◌⊎◌, inl, inr, List, WindowState, Done, live, Plan, New, Bool, subst, true}
+use common.{false}
+use common.{arith, nat_le, le-leb, lt-leb, place, BackingArray, Index, Reply, TakesStep, SegmentState, effect, ℕ}
+use common.{length, current}
 use common.{NoSpace, KeepsRoomyIndex, ShrinksIndex, HasIndex, place_of, Refused, Denotes, table_of, Request}
 use Rattle.segment_manager.proofs.indexes.OtherTables.{places_in, reserved-tabled, shrunk-tabled, tabled-denotes}
 use Rattle.segment_manager.proofs.Steps.{by_no_change, by_step, lands, open-writing, perform-new, perform-no_space}
@@ -50,7 +54,8 @@ reserves {s} {t} view b {c} i {n} may r = stepped s t view b c (reserve_of i n) 
         }))
 
 -- or their block is refused
-pub reserves-none : {s t : SegmentState} (view : s ≡ t) (b : IsSegment s.cut.bytes) {c : WindowState} (i : Index) (n : ℕ)
+pub reserves-none : {s t : SegmentState} (view : s ≡ t) (b : IsSegment s.cut.bytes) {c : WindowState} (i : Index)
+    (n : ℕ)
     → is_read_only t.mode ≡ false → capacity_at s.cut (place_of i) < n → AllocatesNoSpace s.cut c (8 * n) IndexRole
     → Stepped s t c (reserve_of i n) (Refused NoSpace)
 reserves-none {s} {t} view b {c} i n may h r = stepped s t view b c (reserve_of i n) (Refused NoSpace) may (λ writing.
@@ -77,7 +82,8 @@ pub shrunk-denotes : (i : Index) {a c : WindowState} {d : Directory} → Denotes
 shrunk-denotes i {a} {d} k r =
     tabled-denotes k (shrunk-tabled k (r (table_of i d) (entries_of i d) (denotes-index i a k)))
 
-pub shrinks : {s t : SegmentState} (view : s ≡ t) (g : IsSegment s.cut.bytes) {b c : WindowState} → is_read_only t.mode ≡ false
+pub shrinks : {s t : SegmentState} (view : s ≡ t) (g : IsSegment s.cut.bytes) {b c : WindowState}
+    → is_read_only t.mode ≡ false
     → Shrinks index.Named s.cut b → Shrinks index.Unique b c → Stepped s t c asked.ShrinkIndexes Done
 shrinks {s} {t} view g {b} {c} may n u =
     let k0 = g.1.denotes in let e0 = shrunk index.Named g.0 in
@@ -93,7 +99,8 @@ shrinks {s} {t} view g {b} {c} may n u =
     })))
 
 -- the other index stands still where one is shrunk
-pub shrunk-index : {a b : WindowState} → IsSegment a.bytes → Shrinks index.Named a b → HasIndex b (place_of index.Unique)
+pub shrunk-index : {a b : WindowState} → IsSegment a.bytes → Shrinks index.Named a b
+    → HasIndex b (place_of index.Unique)
 shrunk-index {b} g n =
     let e = shrunk index.Named g.0 in
     record {

@@ -1,8 +1,10 @@
 -- What the bytes denote after an index has an entry more or less, or another capacity.
 use Rattle.segment_manager.proofs.Common as common
 use common.{◌≡◌, refl, sym, ap, subst, ◌∙◌, ℕ, ◌+◌, ◌≤◌, Some, None, Option, List, arith, IsTrue, flat_map, insert}
-use common.{AllByRecursion, WindowState, SameBytes, SameSurroundings, bytes_of, current, SameBytes-part, SameBytes-trans, IndexRole, Extent, LiveSet}
-use common.{handle, is_proper, added, others, AllocatesOk, KeepsBlocks, EncodesLiveSet, SameBlock, extent_at, live_of, BackingArray}
+use common.{AllByRecursion, WindowState, SameBytes, SameSurroundings, bytes_of, current, SameBytes-part}
+use common.{SameBytes-trans, IndexRole, Extent, LiveSet}
+use common.{handle, is_proper, added, others, AllocatesOk, KeepsBlocks, EncodesLiveSet, SameBlock, extent_at, live_of}
+use common.{BackingArray}
 use common.{no_backing, allocated-live, blocks-trans, Index, AddKeeps, AddsEntry, beside_table, unlinked, without_link}
 use common.{IsIndexOf, place_of, grown_capacity, Object, Directory, extents_of, is_object, live, object_at, with_object}
 use common.{Denotes, IsObjectAt, class_of_index, entries_of, table_of, with_table_of}
@@ -64,7 +66,8 @@ entered-denotes {i} a {b} {c} {d} {t} {o} k keeps good at class none e =
     let one = other-stays i (has-one (other i) k) (other-words i (SameBytes-trans A B C 32 (place_of i)
     (SameBytes-part A B 32 128 32 (place_of i) keeps.behind (omega arith) (omega arith)) e.before)
     (SameBytes-trans A B C (place_of i + 24) 128
-    (SameBytes-part A B 32 128 (place_of i + 24) 128 keeps.behind (omega arith) (omega arith)) e.behind)) all.other_table in
+    (SameBytes-part A B 32 128 (place_of i + 24) 128 keeps.behind (omega arith) (omega arith)) e.behind))
+    all.other_table in
     let front : KeepsFront A C = record {
       front = SameBytes-trans A B C 0 24 keeps.front e.front;
       zeros = SameBytes-trans A B C 80 128 (SameBytes-part A B 32 128 80 128 keeps.behind (omega arith) (omega arith))
@@ -77,15 +80,18 @@ entered-denotes {i} a {b} {c} {d} {t} {o} k keeps good at class none e =
 -- ---- after `prepare`, the making of an object, and `add`
 
 -- the index had a place left
-pub entered-none : {i : Index} (a : WindowState) {b : WindowState} {c : WindowState} {d : Directory} {o : Object} (at : ℕ)
+pub entered-none : {i : Index} (a : WindowState) {b : WindowState} {c : WindowState} {d : Directory} {o : Object}
+    (at : ℕ)
     → Denotes current a.bytes d → IsMade a b o → IsIndexOf b (place_of i) (table_of i d) (entries_of i d)
     → insert (entries_of i d) at (handle o.extent) ≡ entries_of i (with_object d o) → AddsEntry b c (place_of i)
-    (table_of i d) (insert (entries_of i d) at (handle o.extent)) None → EncodesLiveSet current c.bytes (live_of b.bytes)
+    (table_of i d) (insert (entries_of i d) at (handle o.extent)) None
+    → EncodesLiveSet current c.bytes (live_of b.bytes)
     → AddKeeps b c (place_of i) (table_of i d) None → IsEntered i b c d (table_of i d) o
 entered-none {i} a {b} {c} {d} {o} at k m x e adds laid keeps =
     let ys = extents_of o in
     let same = taken-live a b (extents_of o) m.taken ∙ ap (λ l. adding l ys) (denotes-live current a.bytes d k) in
-    let laid' : EncodesLiveSet current c.bytes (adding (live d) ys) = subst (EncodesLiveSet current c.bytes) same laid in
+    let laid' : EncodesLiveSet current c.bytes (adding (live d) ys) =
+    subst (EncodesLiveSet current c.bytes) same laid in
     let gone = ap (λ (l : LiveSet). beside_table (table_of i d) l.extents) same
     ∙ index-left_out i d ys (live-rises (adding (live d) ys) laid'.proper) in
     record {
@@ -121,7 +127,8 @@ entered-some {i} {a} {m} {b} {c} {d} {o} at {n} {h} k g made x e adds laid keeps
     subst (EncodesLiveSet current c.bytes) left laid in
     let all : others h (unlinked b (place_of i)).extents ≡ inserted ys (live (with_table_of i d no_backing)).extents =
     (λ j. others (g.at j) (left j).extents)
-    ∙ (ap (λ (u : BackingArray). left_out u.extent (inserted ys (live (with_table_of i d t)).extents)) (sym (table-of i d))
+    ∙ (ap (λ (u : BackingArray). left_out u.extent (inserted ys (live (with_table_of i d t)).extents))
+    (sym (table-of i d))
     ∙ index-left_out i (with_table_of i d t) ys (live-rises (adding (live (with_table_of i d t)) ys) laid'.proper)
     ∙ ap (λ e. inserted ys (live e).extents) (last-table i d t no_backing)) in
     let found = taken-found m b (extents_of o) h made.taken (allocated-found g) in

@@ -5,7 +5,8 @@ use common.{slice_set, eq-eqb, same_Some, Kind, ScalarOf, StringKind, VectorKind
 use common.{NotFound, WrongKind, code_of, is_value, Key, ByHandle, Command, Literal, literal_of, value_of_literal, Mode}
 use common.{Located, Answer, Done, Refused, elements_at, elements_of, kind_at, Value, Numbers, Elements, Bytes, Pairs}
 use common.{Texts, Object, Directory, kind_of, live, object_at, IsMissing, IsLocated, Plan, Refuse, Reply, perform}
-use common.{with, AnswersWith, AnswersQuery, AnswersQueryOfKind, TakesStep, SegmentState, DenotesCurrent, changed, effect, element_at, get}
+use common.{with, AnswersWith, AnswersQuery, AnswersQueryOfKind, TakesStep, SegmentState, DenotesCurrent, changed}
+use common.{effect, element_at, get}
 use common.{is_read_only, set, step, with_items, ne_eqb, scalar_code, size_of, same_kind, handle, arith, bytes_of}
 use common.{◌+◌, ◌≤◌, ◌==◌, SameBytesExcept, Place}
 use Rattle.std.specs.Prelude.{IfOk, OnOk}
@@ -115,7 +116,8 @@ of_kind-replies {s} key {kind} c a f r = record {
 }
 
 -- it has no scalars
-pub of_kind-none : (s : SegmentState) (key : Key) (kind : Kind) (r : Refusal) (c : Command) → AnswersWith s (λ d. kind_at d key)
+pub of_kind-none : (s : SegmentState) (key : Key) (kind : Kind) (r : Refusal) (c : Command)
+    → AnswersWith s (λ d. kind_at d key)
     (Ok kind) → elements_of kind ≡ Err r → AnswersWith s (λ d. scalar_reply s.mode d key c) (Refused r)
 of_kind-none s key kind r c a f = record {
   answers = λ d l. sym (ap (reply_of s.mode d c) (elements-told d key kind (kind-told d key kind (a.answers d l)) ∙ f));
@@ -130,7 +132,8 @@ other-elements (VectorKind k) n v t = absurd (v k refl)
 other-elements w n v t = refl
 
 -- an object that was located is of a kind that has scalars
-pub located-replies : (s : SegmentState) (key : Key) (o : Located) (l : IsLocated s key o) (kind : Kind) (k : ScalarKind)
+pub located-replies : (s : SegmentState) (key : Key) (o : Located) (l : IsLocated s key o) (kind : Kind)
+    (k : ScalarKind)
     (i : ℕ) (answer : Answer) → o.kind ≡ kind → elements_of kind ≡ Ok k → AnswersQueryOfKind s (ByHandle o.handle) kind
     (asked.Get (ByHandle o.handle) i) answer → AnswersWith s (λ d. scalar_reply s.mode d key (asked.Get key i)) answer
 located-replies s key o l kind k i answer is f r = of_kind-replies key (asked.Get key i)
@@ -147,7 +150,8 @@ any-missing s key c why m = record {
 -- ---- writing: the kind of the object
 
 -- a vector of which it is known what its elements are
-pub vector-kind : (s : SegmentState) (key : Key) (l k : ScalarKind) → AnswersWith s (λ d. kind_at d key) (Ok (VectorKind l))
+pub vector-kind : (s : SegmentState) (key : Key) (l k : ScalarKind)
+    → AnswersWith s (λ d. kind_at d key) (Ok (VectorKind l))
     → AnswersWith s (λ d. elements_at d key) (Ok k) → AnswersWith s (λ d. kind_at d key) (Ok (VectorKind k))
 vector-kind s key l k a b = record {
   answers = λ d w.
@@ -164,8 +168,10 @@ left-kind (VectorKind j) e t v = absurd (v j refl)
 left-kind kind e t v = absurd (cc)
 
 -- neither a text nor a vector: scalars
-pub scalar-kind : (s : SegmentState) (key : Key) (kind : Kind) (k : ScalarKind) → AnswersWith s (λ d. kind_at d key) (Ok kind)
-    → AnswersWith s (λ d. elements_at d key) (Ok k) → (kind ≡ StringKind → ⊥) → ((l : ScalarKind) → kind ≡ VectorKind l → ⊥)
+pub scalar-kind : (s : SegmentState) (key : Key) (kind : Kind) (k : ScalarKind)
+    → AnswersWith s (λ d. kind_at d key) (Ok kind)
+    → AnswersWith s (λ d. elements_at d key) (Ok k) → (kind ≡ StringKind → ⊥)
+    → ((l : ScalarKind) → kind ≡ VectorKind l → ⊥)
     → AnswersWith s (λ d. kind_at d key) (Ok (ScalarOf k))
 scalar-kind s key kind k a b t v = record {
   answers = λ d w. ap Ok (left-kind kind
@@ -199,7 +205,8 @@ set-effect {d} {key} i l e f =
 
 -- a literal that is read as the value is as good as the value's own
 pub any-literal : {old : SegmentState} {new : SegmentState} (key : Key) {k : ScalarKind} (i : ℕ) (l : Literal) {z : ℤ}
-    {answer : Answer} → AnswersWith old (λ d. elements_at d key) (Ok k) → value_of_literal k l ≡ Ok z → is_value k z ≡ true
+    {answer : Answer} → AnswersWith old (λ d. elements_at d key) (Ok k) → value_of_literal k l ≡ Ok z
+    → is_value k z ≡ true
     → TakesStep old new (asked.Set key i (literal_of k z)) answer → TakesStep old new (asked.Set key i l) answer
 any-literal {old} {new} key {k} i l {z} {answer} a f v r =
     same_plan-steps old new (asked.Set key i l) (asked.Set key i (literal_of k z)) answer refl (λ d w.
@@ -252,7 +259,8 @@ no-place P (Some o) k i n e f =
 pub element-elsewhere : (old new : SegmentState) (key : Key) (k : ScalarKind) (i : ℕ) (n : Kind)
     → same_kind (ScalarOf k) n ≡ false → AnswersWith old (λ d. kind_at d key) (Ok n) → ChangesElement old new key k i
 element-elsewhere old new key k i n e a = λ d w.
-    no-place (λ (p : Place). SameBytesExcept (bytes_of old.cut.bytes) (bytes_of new.cut.bytes) (p.handle + p.at) (size_of k))
+    no-place (λ (p : Place). SameBytesExcept (bytes_of old.cut.bytes) (bytes_of new.cut.bytes) (p.handle + p.at)
+    (size_of k))
     (object_at d key) k i n e (a.answers d w)
 
 pub element-of_text : (old new : SegmentState) (key : Key) (k : ScalarKind) (i : ℕ)

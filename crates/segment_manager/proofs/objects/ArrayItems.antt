@@ -5,8 +5,10 @@ use common.{Result, Ok, Err, List, [], ◌∷◌, ◌++◌, length, map, replica
 use common.{Yields, le-ltb, lt-ltb, length-map, length-replicate, take_all, ObjectRole, Extent, LiveSet, handle}
 use common.{resized, Class, Anonymous, ScalarKind, Refusal, Exists, NoSpace, OutOfRange, size_of, Key, Mode, Write}
 use common.{CopyOnWrite, Answer, Made, Refused, is_untouched, Numbers, Object, Directory, live, named_objects}
-use common.{object_at, object_len, padded, unique_objects, with_object, ConstructsFromItems, head_len, Need, New, Plan, Refuse}
-use common.{Reply, Request, class_of, met, name_of, perform, with_entry, with_new_object, TakesStep, UnchangedIfRefused, SegmentState}
+use common.{object_at, object_len, padded, unique_objects, with_object, ConstructsFromItems, head_len, Need, New, Plan}
+use common.{Refuse}
+use common.{Reply, Request, class_of, met, name_of, perform, with_entry, with_new_object, TakesStep, UnchangedIfRefused}
+use common.{SegmentState}
 use common.{DenotesCurrent, handle_answer, step}
 use Rattle.std.specs.Iterator.{YieldsFirst, YieldsThen}
 use Rattle.std.proofs.lemmas.List.{append-nil, length-append}
@@ -135,8 +137,10 @@ module _ (r : Refusal) (other : r ≡ OutOfRange → ⊥) where
 
 -- ---- the call takes all items, or none
 
-module _ {S A : Type 0} (items : S → List A) {whole : A → ℤ} {old new : SegmentState} {key : Key} {k : ScalarKind} {n : ℕ}
-    {w t : S} {result : Result ℕ Refusal} (takes : ConstructsFromItems (YieldsFirst items) whole old new key k n w t result)
+module _ {S A : Type 0} (items : S → List A) {whole : A
+    → ℤ} {old new : SegmentState} {key : Key} {k : ScalarKind} {n : ℕ}
+    {w t : S} {result : Result ℕ Refusal}
+    (takes : ConstructsFromItems (YieldsFirst items) whole old new key k n w t result)
     (long : length (items w) ≡ n) where
   -- it is refused before an item is taken
   early : {xs : List A} (r : Refusal) → (r ≡ OutOfRange → ⊥) → TakesUntil (YieldsFirst items) n w xs t r → xs ≡ []

@@ -1,12 +1,18 @@
 -- An object made under a key with an entry: what the bytes denote, and what the machine does.
 use Rattle.segment_manager.proofs.Common as common
-use common.{◌≡◌, sym, ◌∙◌, ◌*◌, ◌<◌, ◌≤◌, inl, inr, Some, None, List, WindowState, Kind, AddsEntry, Value, live, Plan, New, bare}
-use common.{refl, IndexRole, AddKeeps, IsIndexOf, Directory, objects_of, IsNewKeyOf, RestoresBlocks, with_entry, with_value}
-use common.{ap, current, LiveSet, resized, EncodesLiveSet, live_of, IsGrowth, place_of, count_of, IsDenied, table_of, class_of}
-use common.{subst, ℤ, length, arith, insert, Extent, handle, added, place, KeepsBlocks, BackingArray, Scalar, Index, Absent, Object}
+use common.{◌≡◌, sym, ◌∙◌, ◌*◌, ◌<◌, ◌≤◌, inl, inr, Some, None, List, WindowState, Kind, AddsEntry, Value, live, Plan}
+use common.{New, bare}
+use common.{refl, IndexRole, AddKeeps, IsIndexOf, Directory, objects_of, IsNewKeyOf, RestoresBlocks, with_entry}
+use common.{with_value}
+use common.{ap, current, LiveSet, resized, EncodesLiveSet, live_of, IsGrowth, place_of, count_of, IsDenied, table_of}
+use common.{class_of}
+use common.{subst, ℤ, length, arith, insert, Extent, handle, added, place, KeepsBlocks, BackingArray, Scalar, Index}
+use common.{Absent, Object}
 use common.{ℕ, allocated-live, keeps-trans, grown_bytes, grown_capacity, class_of_index, with_table_of, with_new_object}
-use common.{Option, Content, FindsPosition, Refused, Denotes, Numbers, kind_of, IsGiven, Request, name_of, perform, NoSpace}
-use common.{bytes_of, ObjectRole, ScalarKind, entry_count, extents_of, object_len, with_object, entries_of, RequestsBlocksOk}
+use common.{Option, Content, FindsPosition, Refused, Denotes, Numbers, kind_of, IsGiven, Request, name_of, perform}
+use common.{NoSpace}
+use common.{bytes_of, ObjectRole, ScalarKind, entry_count, extents_of, object_len, with_object, entries_of}
+use common.{RequestsBlocksOk}
 use Rattle.segment_manager.proofs.objects.Requests.{entry-grows, entry-refused, entry-room}
 use Rattle.segment_manager.proofs.indexes.Tabled.{IsEntered, entered-denotes, entered-none, entered-some, grown_into}
 use Rattle.segment_manager.proofs.objects.NewKeys.{key-class, key-has, key-name, key-own, key-seeks, object_of}
@@ -49,13 +55,15 @@ pub record IsMet (d : Directory) (key : names.Key) (content : Content) : Type 0 
 -- the same blocks are in use, and nothing in them changed: the bytes denote the same directory
 pub restored-denotes : (a c : WindowState) (d : Directory) → Denotes current a.bytes d → RestoresBlocks a c
     → Denotes current c.bytes d
-restored-denotes a c d said r = denotes-kept a c said (subst (EncodesLiveSet current c.bytes) (denotes-live current a.bytes d
+restored-denotes a c d said r =
+    denotes-kept a c said (subst (EncodesLiveSet current c.bytes) (denotes-live current a.bytes d
     said) r.laid) (subst (λ (l : LiveSet). KeepsBlocks a c l.extents) (denotes-live current a.bytes d said) r.keeps)
 
 -- ---- the index grows, or not
 
 -- the directory where its index has what it grew into
-abbrev pub grown : (i : Index) (d : Directory) (a b : WindowState) (g : Option ℕ) → IsGrowth a b (place_of i) g → Directory
+abbrev pub grown : (i : Index) (d : Directory) (a b : WindowState) (g : Option ℕ) → IsGrowth a b (place_of i) g
+    → Directory
 grown i d a b None h = d
 grown i d a b (Some g) h = with_table_of i d (grown_into i d h.1.extent)
 
@@ -83,7 +91,8 @@ grows-performs i a b {d} (Some g) next k h =
     ∙ sym (allocated-live current a b (grown_bytes a (place_of i)) IndexRole g h.1))
 
 -- what the directory had stays while the index takes its block and the object is made
-pub keeps-front : (b c : WindowState) (x : Extent) (l : LiveSet) → KeepsBlocks b c (added l x).extents → KeepsBlocks b c l.extents
+pub keeps-front : (b c : WindowState) (x : Extent) (l : LiveSet) → KeepsBlocks b c (added l x).extents
+    → KeepsBlocks b c l.extents
 keeps-front b c x l k = record {
   place = k.place;
   front = k.front;
@@ -93,17 +102,21 @@ keeps-front b c x l k = record {
 
 pub grows-keeps : (i : Index) (a b c : WindowState) {d : Directory} (g : Option ℕ) → Denotes current a.bytes d
     → IsGrowth a b (place_of i) g → KeepsBlocks b c (live_of b.bytes).extents → KeepsBlocks a c (live d).extents
-grows-keeps i a b c {d} None k h keeps = subst (λ (l : LiveSet). KeepsBlocks a c l.extents) (denotes-live current a.bytes d k)
+grows-keeps i a b c {d} None k h keeps =
+    subst (λ (l : LiveSet). KeepsBlocks a c l.extents) (denotes-live current a.bytes d k)
     (subst (λ (x : WindowState). KeepsBlocks x c (live_of x.bytes).extents) h.1 keeps)
-grows-keeps i a b c {d} (Some g) k h keeps = subst (λ (l : LiveSet). KeepsBlocks a c l.extents) (denotes-live current a.bytes
+grows-keeps i a b c {d} (Some g) k h keeps =
+    subst (λ (l : LiveSet). KeepsBlocks a c l.extents) (denotes-live current a.bytes
     d k) (keeps-trans a b c (live_of a.bytes).extents h.1.keeps (keeps-front b c h.1.extent (live_of a.bytes)
-    (subst (λ (l : LiveSet). KeepsBlocks b c l.extents) (allocated-live current a b (grown_bytes a (place_of i)) IndexRole g
+    (subst (λ (l : LiveSet). KeepsBlocks b c l.extents)
+    (allocated-live current a b (grown_bytes a (place_of i)) IndexRole g
     h.1) keeps)))
 
 -- ---- the entry is there
 
 -- the table that the index has then
-abbrev table_then : (i : Index) (d : Directory) (a b : WindowState) (g : Option ℕ) → IsGrowth a b (place_of i) g → BackingArray
+abbrev table_then : (i : Index) (d : Directory) (a b : WindowState) (g : Option ℕ) → IsGrowth a b (place_of i) g
+    → BackingArray
 table_then i d a b None h = table_of i d
 table_then i d a b (Some g) h = grown_into i d h.1.extent
 
@@ -112,10 +125,12 @@ grown-is : (i : Index) (d : Directory) (a b : WindowState) (g : Option ℕ) (h :
 grown-is i d a b None h = sym (same-table i)
 grown-is i d a b (Some g) h = refl
 
-entered : {i : Index} (a b : WindowState) {c : WindowState} {e : WindowState} {d : Directory} {o : Object} (at : ℕ) (g : Option ℕ)
+entered : {i : Index} (a b : WindowState) {c : WindowState} {e : WindowState} {d : Directory} {o : Object} (at : ℕ)
+    (g : Option ℕ)
     → Denotes current a.bytes d → (h : IsGrowth a b (place_of i) g) → IsMade b c o → IsIndexOf c (place_of i)
     (table_of i d) (entries_of i d) → insert (entries_of i d) at (handle o.extent) ≡ entries_of i (with_object d o)
-    → AddsEntry c e (place_of i) (table_of i d) (insert (entries_of i d) at (handle o.extent)) g → EncodesLiveSet current e.bytes
+    → AddsEntry c e (place_of i) (table_of i d) (insert (entries_of i d) at (handle o.extent)) g
+    → EncodesLiveSet current e.bytes
     (grown_live c (place_of i) g) → AddKeeps c e (place_of i) (table_of i d) g → IsEntered i c e d (table_then i d a b g
     h) o
 entered a b {c} {o} at None k h made x same adds laid keeps =
@@ -147,7 +162,8 @@ content-plan i d key {name} content next e f = λ j.
 
 -- an entry that leads to a handle was made in an index
 pub record IsLed (i : Index) (w c : WindowState) (at h : ℕ) (g : Option ℕ) : Type 0 where
-  pub adds : (t : BackingArray) (hs : List ℕ) → IsIndexOf w (place_of i) t hs → AddsEntry w c (place_of i) t (insert hs at h) g
+  pub adds : (t : BackingArray) (hs : List ℕ) → IsIndexOf w (place_of i) t hs
+      → AddsEntry w c (place_of i) t (insert hs at h) g
   pub live : EncodesLiveSet current c.bytes (grown_live w (place_of i) g)
   pub keeps : (t : BackingArray) (hs : List ℕ) → IsIndexOf w (place_of i) t hs → AddKeeps w c (place_of i) t g
 
@@ -194,10 +210,12 @@ module _ (i : Index) (a : WindowState) (d : Directory) (e : Entry) (key : names.
       (sym len) ∙ r.3)
 
   -- the object is made, and its entry is added
-  pub content-entered : (b w : WindowState) {c : WindowState} {x : Extent} {v : Value} {left : LiveSet} (at : ℕ) {h : ℕ} (g : Option ℕ)
+  pub content-entered : (b w : WindowState) {c : WindowState} {x : Extent} {v : Value} {left : LiveSet} (at : ℕ)
+      {h : ℕ} (g : Option ℕ)
       → IsGrowth a b (place_of i) g → place (live_of b.bytes) (object_len name (bare content)) ObjectRole ≡ Some x
       → IsGiven d (resized (live_of b.bytes) x) content v left → kind_of v ≡ kind → count_of v ≡ count_of (bare content)
-      → IsMade b w (object_of i name v x) → h ≡ handle x → FindsPosition (bytes_of a.bytes) e (entries_of i d) (Absent at)
+      → IsMade b w (object_of i name v x) → h ≡ handle x
+      → FindsPosition (bytes_of a.bytes) e (entries_of i d) (Absent at)
       → IsLed i w c at h g → IsNewObject c d key content h
   content-entered b w {c} {x} {v} {left} at g grows placed given is_kind counts made is away led =
       let o = object_of i name v x in

@@ -1,11 +1,15 @@
 -- The object of a handle and its own entry, and what it is to destroy an object.
 use Rattle.segment_manager.proofs.Common as common
-use common.{◌≡◌, sym, ap, ◌∙◌, ◌<◌, [], ◌∷◌, WindowState, refl, true, ◌==◌, Some, None, List, BackingArray, Found, Truth, Seeks, Plan}
+use common.{◌≡◌, sym, ap, ◌∙◌, ◌<◌, [], ◌∷◌, WindowState, refl, true, ◌==◌, Some, None, List, BackingArray, Found}
+use common.{Truth, Seeks, Plan}
 use common.{Reply, subst, Directory, Deallocates, is_live_in, HoldsObject, entries_of, objects_of, ℕ, Option, handle}
-use common.{Class, Index, Absent, Object, SegmentState, arith, remove, TakesStep, false, EncodesLiveSet, live_of, Refused, Denotes}
+use common.{Class, Index, Absent, Object, SegmentState, arith, remove, TakesStep, false, EncodesLiveSet, live_of}
+use common.{Refused, Denotes}
 use common.{Becomes, Empties, emptied, changed, bytes_of, IsAnonymousAt, lay_out_one, beside_table, entry_count}
-use common.{is_read_only, current, FindsPosition, is_class, NotFound, HasIndex, place_of, order_of, table_of, class_code}
-use common.{slice_get_within, SameSurroundings-trans, without_object, class_of_index, object_at, IsSegment, DenotesCurrent}
+use common.{is_read_only, current, FindsPosition, is_class, NotFound, HasIndex, place_of, order_of, table_of}
+use common.{class_code}
+use common.{slice_get_within, SameSurroundings-trans, without_object, class_of_index, object_at, IsSegment}
+use common.{DenotesCurrent}
 use common.{slice_get, same_Some, KeepsOutsideIndex, IsIndexOf}
 use Rattle.segment_manager.proofs.indexes.Bridge.{lookup-absent, IsEntryFor, entry-removed, in-handles, lookup-found}
 use Rattle.segment_manager.proofs.containers.Emptied.{changed-entries, changed-in, changed-others, emptied-is}
@@ -86,7 +90,8 @@ pub record IsUnlisted (i : Index) (old new : WindowState) (at : ℕ) : Type 0 wh
 -- ---- once its contents are released
 
 -- an object of a handle, and the directory with its value emptied, which the bytes denote then
-module _ {a b : WindowState} (h : ℕ) (empties : Empties a b h) {d : Directory} {o : Object} (k : DenotesCurrent a.bytes d)
+module _ {a b : WindowState} (h : ℕ) (empties : Empties a b h) {d : Directory} {o : Object}
+    (k : DenotesCurrent a.bytes d)
     (e : object_at d (names.ByHandle h) ≡ Some o) where
   abbrev emptied_object : Object
   emptied_object = with_value o (emptied o.value)
@@ -170,7 +175,8 @@ module _ {a b : WindowState} {i : Index} {at h : ℕ} (leads : LeadsTo a i at h)
     )
 
     -- its block is in use, also where the entry is removed
-    pub block-still : (c : WindowState) → EncodesLiveSet current c.bytes (live_of b.bytes) → is_live_in (live_of c.bytes) h ≡ true
+    pub block-still : (c : WindowState) → EncodesLiveSet current c.bytes (live_of b.bytes)
+        → is_live_in (live_of c.bytes) h ≡ true
     block-still c l =
         ap (λ s. is_live_in s h) (lay_out_one current c.bytes (live_of b.bytes) l) ∙ still-live h empties x.stands held
 
@@ -181,22 +187,26 @@ module _ {a b : WindowState} {i : Index} {at h : ℕ} (leads : LeadsTo a i at h)
 
 -- what a look-up ends with in the index of a heap
 abbrev pub Ends : WindowState → Index → Entry → Lookup → Type 0
-Ends c i e r = (t : BackingArray) (hs : List ℕ) → IsIndexOf c (place_of i) t hs → FindsPosition (bytes_of c.bytes) e hs r
+Ends c i e r = (t : BackingArray) (hs : List ℕ) → IsIndexOf c (place_of i) t hs
+    → FindsPosition (bytes_of c.bytes) e hs r
 
-found-for : (c : WindowState) {i : Index} (e : Entry) {key : names.Key} {at : ℕ} {d : Directory} → Denotes current c.bytes d
+found-for : (c : WindowState) {i : Index} (e : Entry) {key : names.Key} {at : ℕ} {d : Directory}
+    → Denotes current c.bytes d
     → Seeks i e key → Ends c i e (Found at) → IsEntryFor i d key at
 found-for c {i} e {key} {at} {d} k q p =
     lookup-found i c e key k q at (p (table_of i d) (entries_of i d) (denotes-index i c k))
 
 -- the entry that was found is an object's
-pub found-entry : (c : WindowState) (b : IsSegment c.bytes) (i : Index) (e : Entry) (key : names.Key) (at : ℕ) → Seeks i e key
+pub found-entry : (c : WindowState) (b : IsSegment c.bytes) (i : Index) (e : Entry) (key : names.Key) (at : ℕ)
+    → Seeks i e key
     → Ends c i e (Found at) → HoldsEntry c.bytes i at
 found-entry c b i e key at q p =
     let there = found-for c e b.1.denotes q p in
     record { directory = b.0; stands = b.1; object = there.object; is = there.stands }
 
 -- the look-up found its entry
-pub destroys-entered : {s t : SegmentState} (view : s ≡ t) (b : IsSegment s.cut.bytes) {c : WindowState} (i : Index) (e : Entry)
+pub destroys-entered : {s t : SegmentState} (view : s ≡ t) (b : IsSegment s.cut.bytes) {c : WindowState} (i : Index)
+    (e : Entry)
     (key : names.Key) (at : ℕ) → is_read_only t.mode ≡ false → Seeks i e key → Ends s.cut i e (Found at)
     → RemovesEntry s.cut c i at → Stepped s t c (asked.Destroy key) (Truth true)
 destroys-entered {s} {t} view b {c} i e key at may q p r =
@@ -219,8 +229,10 @@ pub destroys-none : {s t : SegmentState} (view : s ≡ t) (i : Index) (e : Entry
     → is_read_only t.mode
     ≡ false → Seeks i e key → Ends s.cut i e (Absent at) → TakesStep t t (asked.Destroy key) (Truth false)
 destroys-none {s} view i e key at may q p =
-    let writing : is_read_only s.mode ≡ false = subst (λ (u : SegmentState). is_read_only u.mode ≡ false) (sym view) may in
-    subst (λ (u : SegmentState). TakesStep u u (asked.Destroy key) (Truth false)) view (by_no_change s (asked.Destroy key)
+    let writing : is_read_only s.mode ≡ false =
+    subst (λ (u : SegmentState). is_read_only u.mode ≡ false) (sym view) may in
+    subst (λ (u : SegmentState). TakesStep u u (asked.Destroy key) (Truth false)) view
+    (by_no_change s (asked.Destroy key)
     (Truth false) (λ d k. step-reply s.mode d (asked.Destroy key) (Truth false) d (open-writing s.mode
     (asked.Destroy key) writing) (ap (λ (r : Option Object).
     elim r as (λ _. Plan) [ None ↦ Reply (Truth false) d | Some o ↦ Reply (Truth true) (without_object d o) ])
@@ -230,7 +242,8 @@ destroys-none {s} view i e key at may q p =
 -- ---- destroying by a handle
 
 -- the object of the handle is gone from each directory
-destroys-object : {s : SegmentState} (c : WindowState) (h : ℕ) → is_read_only s.mode ≡ false → IsSegment s.cut.bytes → ((d : Directory)
+destroys-object : {s : SegmentState} (c : WindowState) (h : ℕ) → is_read_only s.mode ≡ false → IsSegment s.cut.bytes
+    → ((d : Directory)
     → DenotesCurrent s.cut.bytes d → (o : Object) × ((object_at d (names.ByHandle h) ≡ Some o)
     × Becomes s.cut c (without_object d o))) → TakesStep s (record s { cut = c }) (asked.DestroyPtr h) (Truth true)
 destroys-object {s} c h writing b each =
@@ -273,7 +286,8 @@ destroys-anonymous {s} {t} view b {c} h may listed r =
     destroys-object c h writing b (λ d k. let x = each d k in (x.0, (x.1, r d x.0 k x.1 x.2))))
 
 -- no object has the handle
-pub destroys-no_ptr : {s : SegmentState} (h : ℕ) → is_read_only s.mode ≡ false → ((d : Directory) → DenotesCurrent s.cut.bytes d
+pub destroys-no_ptr : {s : SegmentState} (h : ℕ) → is_read_only s.mode ≡ false
+    → ((d : Directory) → DenotesCurrent s.cut.bytes d
     → object_at d (names.ByHandle h) ≡ None) → TakesStep s s (asked.DestroyPtr h) (Refused NotFound)
 destroys-no_ptr {s} h writing each = by_no_change s (asked.DestroyPtr h) (Refused NotFound) (λ d k.
     step-refuse s.mode d (asked.DestroyPtr h) NotFound (open-writing s.mode (asked.DestroyPtr h) writing)

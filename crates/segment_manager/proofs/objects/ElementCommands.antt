@@ -1,10 +1,15 @@
 -- Commands on elements by literals: which call is the step of the command, by the kind of the object.
 use Rattle.segment_manager.proofs.Common as common
-use common.{◌≡◌, true, Some, None, List, Kind, Value, Pairs, Texts, Refuse, TakesStep, SegmentState, refl, NotFound, is_value}
-use common.{ByHandle, Elements, Directory, IsLocated, DenotesCurrent, sym, ap, ◌∙◌, ◌⊎◌, inl, inr, ℕ, ℤ, Ok, Err, Key, subst}
-use common.{literal_of, OwnedText, elements_at, elements_of, IsChangeableObject, IsValueOf, false, MapKind, Refusal, Literal}
-use common.{Located, Refused, kind_at, kind_of, AnswersWith, Option, Result, length, nat_lt, BackingArray, Scalar, Vector, Quoted}
-use common.{Answer, Object, StringsKind, WrongKind, ScalarValue, IsChangeable, TakesStepOfKind, is_read_only, ScalarKind}
+use common.{◌≡◌, true, Some, None, List, Kind, Value, Pairs, Texts, Refuse, TakesStep, SegmentState, refl, NotFound}
+use common.{is_value}
+use common.{ByHandle, Elements, Directory, IsLocated, DenotesCurrent, sym, ap, ◌∙◌, ◌⊎◌, inl, inr, ℕ, ℤ, Ok, Err, Key}
+use common.{subst}
+use common.{literal_of, OwnedText, elements_at, elements_of, IsChangeableObject, IsValueOf, false, MapKind, Refusal}
+use common.{Literal}
+use common.{Located, Refused, kind_at, kind_of, AnswersWith, Option, Result, length, nat_lt, BackingArray, Scalar}
+use common.{Vector, Quoted}
+use common.{Answer, Object, StringsKind, WrongKind, ScalarValue, IsChangeable, TakesStepOfKind, is_read_only}
+use common.{ScalarKind}
 use common.{value_of_literal, kind_of_scalar, value_of_scalar, IsUnchangeable}
 use Rattle.segment_manager.proofs.containers.AnyStorage.{IsOfKindAt, kind-told, of_kind-steps}
 use Rattle.segment_manager.proofs.containers.ContentPlans.{erase-other, insert-other, insert-plan, is_no_vector}
@@ -109,7 +114,8 @@ module _ {s : SegmentState} (key : Key) (k : ScalarKind) (a : AnswersWith s (λ 
   held {d} st = vector-if k (told a d st).object.value (told a d st).kind_is
 
   -- a literal that is read as a value of the kind is as good as the value's own
-  push-read : {new : SegmentState} (l : Literal) {z : ℤ} {answer : Answer} → value_of_literal k l ≡ Ok z → is_value k z ≡ true
+  push-read : {new : SegmentState} (l : Literal) {z : ℤ} {answer : Answer} → value_of_literal k l ≡ Ok z
+      → is_value k z ≡ true
       → TakesStepOfKind s new key (Vector k) (asked.Push key (literal_of k z)) answer
       → TakesStep s new (asked.Push key l) answer
   push-read {new} l {z} {answer} e v r =
@@ -142,7 +148,8 @@ module _ {s : SegmentState} (key : Key) (k : ScalarKind) (a : AnswersWith s (λ 
   }
 
 -- what the literal is for it
-module _ {s : SegmentState} {key : Key} {o : Located} (h : IsChangeableObject s key o) {k : ScalarKind} (is : o.kind ≡ Vector k) where
+module _ {s : SegmentState} {key : Key} {o : Located} (h : IsChangeableObject s key o) {k : ScalarKind} (is : o.kind
+    ≡ Vector k) where
   pub element-read : {l : Literal} (v : ScalarValue) → IsValueOf k (value_of_literal k l) (Ok v) → IsElement s key l v
   element-read {l} v (same, value, range) = record {
     is = says-kind h.located (is ∙ ap Vector (sym same));
@@ -231,7 +238,8 @@ elements-either h (inl e) = elements-told h (ap elements_of e)
 elements-either h (inr e) = elements-told h (ap elements_of e)
 
 -- a value of the kind that they have
-pub set-step : {old new : SegmentState} (key : Key) {k : ScalarKind} (i : ℕ) (l : Literal) (v : ScalarValue) {answer : Answer}
+pub set-step : {old new : SegmentState} (key : Key) {k : ScalarKind} (i : ℕ) (l : Literal) (v : ScalarValue)
+    {answer : Answer}
     → AnswersWith old (λ d. elements_at d key) (Ok k) → IsValueOf k (value_of_literal k l) (Ok v)
     → TakesStep old new (asked.Set key i (literal_of (kind_of_scalar v) (value_of_scalar v))) answer
     → TakesStep old new (asked.Set key i l) answer

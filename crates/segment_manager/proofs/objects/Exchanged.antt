@@ -1,8 +1,10 @@
 -- An object in the place of one like it, whose value has other blocks: the blocks of all other objects stay.
 use Rattle.segment_manager.proofs.Common as common
 use common.{◌≡◌, refl, sym, ap, subst, ◌∙◌, ℕ, ◌+◌, ◌≤◌, ◌≢◌, inl, inr, List, [], ◌∷◌, ◌++◌, length, arith, IsTrue}
-use common.{AllByRecursion, Memory, WindowState, SameBytes, bytes_of, exchanged, SameBlockExcept, ExchangesBlocks, Extent, LiveSet, handle}
-use common.{end_of, is_proper, EncodesLiveSet, SameBlock, KeepsBlocks, live_of, Value, Object, Directory, live, extents_of, padded}
+use common.{AllByRecursion, Memory, WindowState, SameBytes, bytes_of, exchanged, SameBlockExcept, ExchangesBlocks}
+use common.{Extent, LiveSet, handle}
+use common.{end_of, is_proper, EncodesLiveSet, SameBlock, KeepsBlocks, live_of, Value, Object, Directory, live}
+use common.{extents_of, padded}
 use common.{count_of, kind_of, value_len, value_extents, is_object, remove_object, with_changed, without_object}
 use common.{Denotes, IsObjectAt, IsValueAt, changed, SameSpread, inserted-append, live-spaced, middle-first}
 use common.{spaced-insert, ◌-◌, current, Some, ChangesBytes, extent_at}
@@ -129,9 +131,11 @@ others-beside d o o' p =
 -- What the bytes denote once an object's value has other blocks, whatever its class: a vector or text regrown, cut or
 -- released, texts put or gone, pairs put or removed. In its own block n bytes changed. A block of the value that is
 -- written in is gone, and comes.
-pub denotes-exchanged : {format : ℕ} {old new : WindowState} {d : Directory} {o o' : Object} {from n : ℕ} {gone come : List
+pub denotes-exchanged : {format : ℕ} {old new : WindowState} {d : Directory} {o o' : Object} {from n : ℕ}
+    {gone come : List
     Extent} → Denotes format old.bytes d → IsFound (handle o'.extent) d.objects o → IsLike o o' → Exchange o o' gone
-    come → IsTrue (is_object format o') → handle o.extent ≤ from → from + n ≤ end_of o.extent → ExchangesBlocks format old
+    come → IsTrue (is_object format o') → handle o.extent ≤ from → from + n ≤ end_of o.extent
+    → ExchangesBlocks format old
     new from n gone come → IsObjectAt (bytes_of new.bytes) o' → Denotes format new.bytes (with_changed d o')
 denotes-exchanged {format} {old} {new} {d} {o} {o'} {from} {n} {gone} {come} k found like x good f g c at =
     let m = bytes_of old.bytes in let m' = bytes_of new.bytes in
@@ -172,7 +176,8 @@ denotes-held {format} old new {d} o v from n gone come k found x kind count good
     (object-held m m' o v (object-at format old.bytes d (handle o.extent) o k found) kind count s at)
 
 -- So the calls of seg_vector and seg_map change a container of an object: its 24 bytes are written.
-pub denotes-container : (format : ℕ) (old new : WindowState) (d : Directory) (o : Object) (v : Value) (gone come : List Extent)
+pub denotes-container : (format : ℕ) (old new : WindowState) (d : Directory) (o : Object) (v : Value)
+    (gone come : List Extent)
     → Denotes format old.bytes d → IsIn d o → Exchange o (with_value o v) gone come → kind_of v ≡ kind_of o.value
     → count_of v ≡ count_of o.value → value_len o.value ≡ 24 → IsTrue (is_object format o)
     → IsTrue (is_object format (with_value o v)) → ExchangesBlocks format old new (value_start o) 24 gone come
@@ -186,7 +191,8 @@ denotes-container format old new d o v gone come k found x kind count len was go
 pub denotes-rewritten : {old new : WindowState} {d : Directory} (o : Object) (v : Value) {from n : ℕ}
     → Denotes current old.bytes d → IsIn d o → kind_of v ≡ kind_of o.value → count_of v ≡ count_of o.value
     → value_extents v ≡ value_extents o.value → IsTrue (is_object current (with_value o v)) → value_start o ≤ from
-    → from + n ≤ end_of o.extent → ChangesBytes current old new from n → IsValueAt (bytes_of new.bytes) (value_start o) v
+    → from + n ≤ end_of o.extent → ChangesBytes current old new from n
+    → IsValueAt (bytes_of new.bytes) (value_start o) v
     → Denotes current new.bytes (changed d o v)
 denotes-rewritten {old} {new} {d} o v {from} {n} k found kind count extents good low high c at =
     let l = live_of old.bytes in let x : Extent = o.extent in

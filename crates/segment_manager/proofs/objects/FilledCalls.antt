@@ -1,10 +1,12 @@
 -- Calls that construct an object, of what fills it or of numbers from items, as the code makes them.
 use Rattle.segment_manager.proofs.Common as common
 use common.{false≢true, ◌≡◌, refl, sym, ap, subst, ◌∙◌, ℕ, true, false, Some, None, Option, Ok, Err, Result, List}
-use common.{IfErr, none-some, WindowState, Kind, Refusal, Exists, NoSpace, Command, Content, Index, PendingEntry, Mode, Answer}
+use common.{IfErr, none-some, WindowState, Kind, Refusal, Exists, NoSpace, Command, Content, Index, PendingEntry, Mode}
+use common.{Answer}
 use common.{Made, Refused, is_untouched, BeginsObject, IsAbsentAt, IsNotBegun, Object, Directory, count_of, kind_of}
 use common.{object_at, value_len, Constructs, FindsOrConstructs, IsBegunFor, MakesValue, with_count, handle_at}
-use common.{pair_answer, IsNewKeyOf, bare, IsObjectInBlock, pair_of_kind, AnswersWith, IsSegment, TakesStep, SegmentState, answer_of}
+use common.{pair_answer, IsNewKeyOf, bare, IsObjectInBlock, pair_of_kind, AnswersWith, IsSegment, TakesStep}
+use common.{SegmentState, answer_of}
 use common.{handle_answer, is_read_only, Reply, effect, found, with_new_object}
 use Rattle.segment_manager.proofs.objects.FoundOrMade.{constructs-exists, finds, found-there, made_for, made_handle}
 use Rattle.segment_manager.proofs.objects.FoundOrMade.{makes, makes-nothing}
@@ -34,14 +36,16 @@ begun-for old new key {content} {s} r is g = subst (λ (k : Kind). BeginsObject 
 
 pub has-begun : (old new : WindowState) (key : names.Key) {content : Content} {s : ObjectShape} (r : PendingObject)
     → IsSegment old.bytes
-    → IsShapeOf content s → BeginsObject old new key s.kind s.count s.len (Ok r) → HasBegun new content r.handle r.at r.entry
+    → IsShapeOf content s → BeginsObject old new key s.kind s.count s.len (Ok r)
+    → HasBegun new content r.handle r.at r.entry
 has-begun old new key r b is g = (old, (b, (key, begun-for old new key (Ok r) is g)))
 
 -- ---- filled
 
 module _ (content : Content) where
   -- what the end wants of a value that was made, or was refused its blocks
-  pub ending : (a m : WindowState) (b : IsSegment a.bytes) (key : names.Key) (h at : ℕ) (entry : Option PendingEntry) (w : WindowState)
+  pub ending : (a m : WindowState) (b : IsSegment a.bytes) (key : names.Key) (h at : ℕ)
+      (entry : Option PendingEntry) (w : WindowState)
       (r : Result (Unit {0}) Refusal) → IsBegunFor a m key content h at entry
       → MakesValue content m w (record { handle = h; at = at }) r → IsEnding w h entry r
   ending a m b key h at entry w (Ok u) g r = value-ready content a b key h at entry g r
@@ -151,7 +155,8 @@ module _ {a : WindowState} (b : IsSegment a.bytes) (key : names.Key) (content : 
 -- ---- under an entry
 
 -- a look-up finds no object
-pub no-object : {a : WindowState} (b : IsSegment a.bytes) (i : Index) (e : Entry) (at : ℕ) (key : names.Key) (name : List ℕ)
+pub no-object : {a : WindowState} (b : IsSegment a.bytes) (i : Index) (e : Entry) (at : ℕ) (key : names.Key)
+    (name : List ℕ)
     (kind : Kind) → IsNewKeyOf i e key name kind → IsAbsentAt a i e at → object_at b.0 key ≡ None
 no-object {a} b i e at key name kind new away =
     (lookup-absent i a e key b.1.denotes (key-seeks i e key name kind new) (away-in i e at b.1.denotes away)).none
@@ -168,7 +173,8 @@ found-absent {a} i e at {key} name kind new away done = record {
 
 -- ---- the segment afterwards, as its view before the call is named
 
-module _ {A : Type 0} {s t : SegmentState} (view : s ≡ t) {c : WindowState} {command : Command} {answer : Result A Refusal → Answer}
+module _ {A : Type 0} {s t : SegmentState} (view : s ≡ t) {c : WindowState} {command : Command}
+    {answer : Result A Refusal → Answer}
     {r : Result A Refusal} (done : Constructs s.cut c command answer r) where
   pub made-step : is_read_only t.mode ≡ false → TakesStep t (record s { cut = c }) command (answer r)
   made-step writing = subst (λ (u : SegmentState). TakesStep u (record s { cut = c }) command (answer r)) view

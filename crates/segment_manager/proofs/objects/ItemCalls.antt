@@ -1,11 +1,15 @@
 -- Calls that construct an object of numbers from items, as the code makes them.
 use Rattle.segment_manager.proofs.Common as common
 use common.{◌≡◌, sym, ap, ◌∙◌, Ok, Err, WindowState, ◌+◌, ◌*◌, ◌≤◌, ℤ, [], map, ◌<◌, pos, live, step, Plan}
-use common.{refl, true, Some, None, List, Made, SegmentState, Reply, Bool, arith, take, Extent, handle, place, Scalar, padded}
-use common.{subst, Directory, object_at, IsSegment, replicate, SameSurroundings, ChangesBytes, ConstructsFromItems, RestoresBlocks}
-use common.{ℕ, Option, Result, Exists, Object, TakesStep, effect, length, IsTrue, nat_lt, lt-ltb, le-ltb, perform, live_of}
+use common.{refl, true, Some, None, List, Made, SegmentState, Reply, Bool, arith, take, Extent, handle, place, Scalar}
+use common.{padded}
+use common.{subst, Directory, object_at, IsSegment, replicate, SameSurroundings, ChangesBytes, ConstructsFromItems}
+use common.{RestoresBlocks}
+use common.{ℕ, Option, Result, Exists, Object, TakesStep, effect, length, IsTrue, nat_lt, lt-ltb, le-ltb, perform}
+use common.{live_of}
 use common.{false, PendingEntry, list_all, take_all, Anonymous, ReadOnly, is_value, head_len, room_for, DenotesCurrent}
-use common.{Refusal, NoSpace, Command, Refused, current, resized, size_of, BeginsObjectOk, IsUnindexedObject, Denotes, Numbers, has_room}
+use common.{Refusal, NoSpace, Command, Refused, current, resized, size_of, BeginsObjectOk, IsUnindexedObject, Denotes}
+use common.{Numbers, has_room}
 use common.{IsNotBegun, length-map, ObjectRole, ScalarKind, OutOfRange, RefusesKey, LeadsThere, object_len, with_object}
 use common.{is_read_only, with_new_object, if◌then◌else◌, mul-le-mul_left, length-replicate, AllocatesOk, is_good_value}
 use common.{inl, inr, option_map, Mode, AnswersWith, IsObjectInBlock, handle_at, pair_of_kind, with_count, Index, Kind}
@@ -55,7 +59,8 @@ module _ (old : SegmentState) (key : names.Key) (k : ScalarKind) (count : ℕ) (
       (λ d e. plan-of d e (le-ltb (length zs) count enough)) (λ d n. ap Made (sym n.at)) each
 
   -- there are too few: what was taken is given back
-  pub items-few : {new : WindowState} → SameSurroundings old.cut new → length zs < count → ((d : Directory) → DenotesCurrent old.cut.bytes d
+  pub items-few : {new : WindowState} → SameSurroundings old.cut new → length zs < count
+      → ((d : Directory) → DenotesCurrent old.cut.bytes d
       → (object_at d key ≡ None) × IsMet d key (asked.Numbers k (replicate count (pos 0)))
       × Denotes current new.bytes d) → TakesStep old (record old { cut = new }) c (Refused OutOfRange)
   items-few {new} place few each = by_step c (record { mode = refl; place = place }) (λ d st.
@@ -76,7 +81,8 @@ module _ (old : SegmentState) (key : names.Key) (k : ScalarKind) (count : ℕ) (
       ∙ none (λ o e. Reply (Made (handle o.extent)) e)
 
   -- a request is refused, and no item is taken
-  pub items-none : {new : WindowState} → SameSurroundings old.cut new → ((d : Directory) → DenotesCurrent old.cut.bytes d
+  pub items-none : {new : WindowState} → SameSurroundings old.cut new
+      → ((d : Directory) → DenotesCurrent old.cut.bytes d
       → (object_at d key ≡ None) × IsNoObject new d key (asked.Numbers k (asked_for count zs)))
       → TakesStep old (record old { cut = new }) c (Refused NoSpace)
   items-none {new} place each = by_step c (record { mode = refl; place = place }) (λ d st.
@@ -156,7 +162,8 @@ module _ (S : Type 0) {A : Type 0} (gives : S → Option A → S → Type 0) (wh
 
   -- no object had the key, and the requests for zeros are met
   begun-met : (entry : Option PendingEntry) (m : WindowState) (h at : ℕ)
-      → BeginsObjectOk s.cut m key (Scalar k) count (size_of k * count) h at entry → {d : Directory} → DenotesCurrent s.cut.bytes d
+      → BeginsObjectOk s.cut m key (Scalar k) count (size_of k * count) h at entry → {d : Directory}
+      → DenotesCurrent s.cut.bytes d
       → (object_at d key ≡ None) × IsMet d key (asked.Numbers k (replicate count (pos 0)))
   begun-met None m h at g {d} st =
       subst (λ (q : names.Key). (object_at d q ≡ None) × IsMet d q (asked.Numbers k (replicate count (pos 0))))
@@ -233,7 +240,8 @@ module _ (S : Type 0) {A : Type 0} (gives : S → Option A → S → Type 0) (wh
 
 -- ---- it is refused before an item is taken
 
-module _ (S : Type 0) {A : Type 0} (gives : S → Option A → S → Type 0) (whole : A → ℤ) {s : SegmentState} (key : names.Key)
+module _ (S : Type 0) {A : Type 0} (gives : S → Option A → S → Type 0) (whole : A
+    → ℤ) {s : SegmentState} (key : names.Key)
     (k : ScalarKind) (count : ℕ) (at : S) where
   pub takes-nothing : is_read_only s.mode ≡ true → ConstructsFromItems gives whole s s key k count at at (Err ReadOnly)
   takes-nothing e = record {
@@ -245,18 +253,21 @@ module _ (S : Type 0) {A : Type 0} (gives : S → Option A → S → Type 0) (wh
 
   exists-step : {c : WindowState} → is_read_only s.mode ≡ false → RefusesKey s.cut c key (Scalar k)
       → TakesStep s (record s { cut = c }) (asked.ConstructIt key k count []) (Refused Exists)
-  exists-step writing t = subst (λ (u : WindowState). TakesStep s (record s { cut = u }) (asked.ConstructIt key k count [])
+  exists-step writing t = subst (λ (u : WindowState).
+      TakesStep s (record s { cut = u }) (asked.ConstructIt key k count [])
       (Refused Exists)) (sym t.same) (items-exists s key k count [] writing (key-taken key (asked.Numbers k []) t))
 
   none-step : (c : WindowState) → is_read_only s.mode ≡ false → 1 ≤ count → IsNotBegun s.cut c key (Scalar k)
-      (size_of k * count) NoSpace → TakesStep s (record s { cut = c }) (asked.ConstructIt key k count []) (Refused NoSpace)
+      (size_of k * count) NoSpace → TakesStep s (record s { cut = c }) (asked.ConstructIt key k count [])
+      (Refused NoSpace)
   none-step c writing low t =
       let never = value-not_begun key (asked.Numbers k (asked_for count []))
       (subst (λ n. IsNotBegun s.cut c key (Scalar k) (size_of k * n) NoSpace) (sym (asked-long low)) t) in
       items-none s key k count [] writing never.place never.each
 
   pub takes-none : (why : Refusal) (c : WindowState) → is_read_only s.mode ≡ false → 1 ≤ count → IsNotBegun s.cut c key
-      (Scalar k) (size_of k * count) why → ConstructsFromItems gives whole s (record s { cut = c }) key k count at at (Err why)
+      (Scalar k) (size_of k * count) why
+      → ConstructsFromItems gives whole s (record s { cut = c }) key k count at at (Err why)
   takes-none Exists c writing low t = record {
     items = [];
     step = exists-step writing t;
@@ -272,15 +283,18 @@ module _ (S : Type 0) {A : Type 0} (gives : S → Option A → S → Type 0) (wh
   takes-none why c writing low t = absurd t
 
 -- a shape of so many numbers
-pub begun-numbers : (a m : WindowState) (key : names.Key) {k : ScalarKind} {count : ℕ} (h at : ℕ) (entry : Option PendingEntry)
-    {shape : ObjectShape} → shape ≡ numbers_shape k count → BeginsObjectOk a m key shape.kind shape.count shape.len h at entry
+pub begun-numbers : (a m : WindowState) (key : names.Key) {k : ScalarKind} {count : ℕ} (h at : ℕ)
+    (entry : Option PendingEntry)
+    {shape : ObjectShape} → shape ≡ numbers_shape k count
+    → BeginsObjectOk a m key shape.kind shape.count shape.len h at entry
     → BeginsObjectOk a m key (Scalar k) count (size_of k * count) h at entry
 begun-numbers a m key h at entry same begun =
     subst (λ (j : ObjectShape). BeginsObjectOk a m key j.kind j.count j.len h at entry) same begun
 
 -- ---- the same, as the segment is named before the call, and its shape is made for it
 
-module _ (S : Type 0) {A : Type 0} (gives : S → Option A → S → Type 0) (whole : A → ℤ) {s t : SegmentState} (view : s ≡ t)
+module _ (S : Type 0) {A : Type 0} (gives : S → Option A → S → Type 0) (whole : A
+    → ℤ) {s t : SegmentState} (view : s ≡ t)
     (b : IsSegment s.cut.bytes) (key : names.Key) (k : ScalarKind) (count : ℕ) {shape : ObjectShape}
     (same : shape ≡ numbers_shape k count) (writing : is_read_only t.mode ≡ false) (low : 1 ≤ count) (before : S) where
   writes : is_read_only s.mode ≡ false
@@ -291,13 +305,17 @@ module _ (S : Type 0) {A : Type 0} (gives : S → Option A → S → Type 0) (wh
   none-taken {why} c not = takes-none S gives whole key k count before why c writes low
       (subst (λ (j : ObjectShape). IsNotBegun s.cut c key j.kind j.len why) same not)
 
-  pub refused-segment : (why : Refusal) (c : WindowState) → IsNotBegun s.cut c key shape.kind shape.len why → IsSegment c.bytes
+  pub refused-segment : (why : Refusal) (c : WindowState) → IsNotBegun s.cut c key shape.kind shape.len why
+      → IsSegment c.bytes
   refused-segment why c not = step-segment s (record s { cut = c }) _ _ (none-taken c not).step b
 
-  pub refused-items : {why : Refusal} (c : WindowState) {r : Result ℕ Refusal} → r ≡ Err why → IsNotBegun s.cut c key shape.kind
+  pub refused-items : {why : Refusal} (c : WindowState) {r : Result ℕ Refusal} → r ≡ Err why
+      → IsNotBegun s.cut c key shape.kind
       shape.len why → ConstructsFromItems gives whole t (record s { cut = c }) key k count before before r
-  refused-items {why} c is not = subst (λ (q : Result ℕ Refusal). ConstructsFromItems gives whole t (record s { cut = c }) key k
-      count before before q) (sym is) (subst (λ (u : SegmentState). ConstructsFromItems gives whole u (record s { cut = c }) key k count
+  refused-items {why} c is not =
+      subst (λ (q : Result ℕ Refusal). ConstructsFromItems gives whole t (record s { cut = c }) key k
+      count before before q) (sym is) (subst (λ (u : SegmentState).
+      ConstructsFromItems gives whole u (record s { cut = c }) key k count
       before before (Err why)) view (none-taken c not))
 
   module _ (m : WindowState) (h at : ℕ) (entry : Option PendingEntry)
@@ -315,15 +333,18 @@ module _ (S : Type 0) {A : Type 0} (gives : S → Option A → S → Type 0) (wh
       items-segment = step-segment s (record s { cut = c }) _ _ finished.step b
 
       pub items-taken : ConstructsFromItems gives whole t (record s { cut = c }) key k count before after result
-      items-taken = subst (λ (u : SegmentState). ConstructsFromItems gives whole u (record s { cut = c }) key k count before after
+      items-taken = subst (λ (u : SegmentState).
+          ConstructsFromItems gives whole u (record s { cut = c }) key k count before after
           result) view finished
 
 -- ---- found, or made of items
 
-module _ (S : Type 0) {A : Type 0} (gives : S → Option A → S → Type 0) (whole : A → ℤ) {a : WindowState} (key : names.Key)
+module _ (S : Type 0) {A : Type 0} (gives : S → Option A → S → Type 0) (whole : A
+    → ℤ) {a : WindowState} (key : names.Key)
     (k : ScalarKind) (count : ℕ) (before : S) where
   -- an object has the key
-  pub found-items : {h : ℕ} {r : Result (ℕ × ℕ) Refusal} → ((mode : Mode) → AnswersWith (record { cut = a; mode = mode })
+  pub found-items : {h : ℕ} {r : Result (ℕ × ℕ) Refusal}
+      → ((mode : Mode) → AnswersWith (record { cut = a; mode = mode })
       (λ d. handle_at d key) (Some h)) → ((o : Object) → IsObjectInBlock a.bytes h o → r ≡ pair_of_kind o (Scalar k))
       → FindsOrTakesIn gives whole a a key k count before before r
   found-items {h} there each mode writing = inr (inl (record {
@@ -338,7 +359,8 @@ module _ (S : Type 0) {A : Type 0} (gives : S → Option A → S → Type 0) (wh
   }))
 
   -- none has: one is made, or refused
-  pub made-items_or_none : {c : WindowState} {after : S} (r : Result ℕ Refusal) → ((d : Directory) → DenotesCurrent a.bytes d
+  pub made-items_or_none : {c : WindowState} {after : S} (r : Result ℕ Refusal)
+      → ((d : Directory) → DenotesCurrent a.bytes d
       → object_at d key ≡ None) → TakesItemsIn gives whole a c key k count before after r
       → FindsOrTakesIn gives whole a c key k count before after (with_count count r)
   made-items_or_none (Ok h) none done mode writing =
@@ -347,7 +369,8 @@ module _ (S : Type 0) {A : Type 0} (gives : S → Option A → S → Type 0) (wh
       inr (inr (record { writing = writing; missing = none; takes = done mode writing; counted = tt }))
 
   -- it is not begun, with a shape of so many numbers
-  pub none-items : {c : WindowState} {shape : ObjectShape} {j : ScalarKind} {why : Refusal} → shape ≡ numbers_shape j count
+  pub none-items : {c : WindowState} {shape : ObjectShape} {j : ScalarKind} {why : Refusal}
+      → shape ≡ numbers_shape j count
       → j ≡ k
       → 1 ≤ count → IsNotBegun a c key shape.kind shape.len why
       → TakesItemsIn gives whole a c key k count before before (Err why)
@@ -372,7 +395,8 @@ no-objects {a} i e at key name kind new away d st =
 
 -- ---- the segment afterwards
 
-pub found-segment : {S A : Type 0} {gives : S → Option A → S → Type 0} {whole : A → ℤ} {a c : WindowState} {key : names.Key}
+pub found-segment : {S A : Type 0} {gives : S → Option A → S → Type 0} {whole : A
+    → ℤ} {a c : WindowState} {key : names.Key}
     {k : ScalarKind} {count : ℕ} {before after : S} {r : Result (ℕ × ℕ) Refusal} → IsSegment a.bytes
     → FindsOrTakesIn gives whole a c key k count before after r → IsSegment c.bytes
 found-segment b done = elim (done Write refl) [
@@ -383,7 +407,8 @@ found-segment b done = elim (done Write refl) [
   ]
 ]
 
-pub seen-found_items : {S A : Type 0} {gives : S → Option A → S → Type 0} {whole : A → ℤ} {s t : SegmentState} (view : s ≡ t)
+pub seen-found_items : {S A : Type 0} {gives : S → Option A → S → Type 0} {whole : A
+    → ℤ} {s t : SegmentState} (view : s ≡ t)
     {c : WindowState} {key : names.Key} {k : ScalarKind} {count : ℕ} {before after : S} {r : Result (ℕ × ℕ) Refusal}
     → is_read_only t.mode ≡ false → FindsOrTakesIn gives whole s.cut c key k count before after r
     → FindsOrTakes gives whole t (record s { cut = c }) key k count before after r

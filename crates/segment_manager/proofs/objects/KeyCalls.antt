@@ -1,12 +1,16 @@
 -- What calls that look a key up find, and what they say of it, for each directory that the bytes stand for.
 use Rattle.segment_manager.proofs.Common as common
-use common.{◌≡◌, Option, ne_eqb, Extent, handle, Absent, Object, length, Unique, IsBelow, AnswersQuery, Command, Refusal}
+use common.{◌≡◌, Option, ne_eqb, Extent, handle, Absent, Object, length, Unique, IsBelow, AnswersQuery, Command}
+use common.{Refusal}
 use common.{refl, none-some, same_Some, extent_at, same_role, IsIndexOf, Directory, object_at, handle_at, IsSegment}
-use common.{sym, ◌∙◌, ℕ, ◌+◌, ◌<◌, [], ◌∷◌, WindowState, Key, live, Kind, Plan, Mode, step, Err, Ok, ap, Bool, true, ◌&&◌, ◌||◌}
-use common.{◌==◌, Some, None, List, cond, find, Role, SegmentState, subst, Named, Reply, found, false, arith, BackingArray, Index}
+use common.{sym, ◌∙◌, ℕ, ◌+◌, ◌<◌, [], ◌∷◌, WindowState, Key, live, Kind, Plan, Mode, step, Err, Ok, ap, Bool, true}
+use common.{◌&&◌, ◌||◌}
+use common.{◌==◌, Some, None, List, cond, find, Role, SegmentState, subst, Named, Reply, found, false, arith}
+use common.{BackingArray, Index}
 use common.{Entry, Found, Seeks, Answer, Number, Refuse, Result, effect, SaysAt, SaysOf, is_some, option_map, slice_get}
 use common.{ObjectRole, is_live_in, entries_of, objects_of, pair_answer, IsInstance, list_any, eqb-true, bytes_of}
-use common.{ByHandle, HasIndex, place_of, DenotesCurrent, WrongKind, same_kind, HasObject, slice_get_within, entry_count}
+use common.{ByHandle, HasIndex, place_of, DenotesCurrent, WrongKind, same_kind, HasObject, slice_get_within}
+use common.{entry_count}
 use common.{is_object_at, if◌then◌else◌, named_objects, unique_objects, pair_of_kind, current, live_of, FindsPosition}
 use common.{has_key, Denotes, table_of, AnswersWith, kind_of, IsObjectInBlock, count_of, Instance}
 use Rattle.segment_manager.proofs.indexes.Bridge.{lookup-absent, lookup-found, in-handles}
@@ -84,7 +88,8 @@ of-role (Some x) {r} e = ap (λ role. same_role role ObjectRole) (same_Some x.ro
 
 -- the answer of the two tests, for a block in use of this role
 pub role-answers : {s : SegmentState} (h : ℕ) {r : Role} {b : Bool} → option_map (λ (x : Extent). x.role)
-    (extent_at (live_of s.cut.bytes) h) ≡ Some r → b ≡ sameb the_type r ObjectRole → AnswersWith s (λ d. is_object_at d h) b
+    (extent_at (live_of s.cut.bytes) h) ≡ Some r → b ≡ sameb the_type r ObjectRole
+    → AnswersWith s (λ d. is_object_at d h) b
 role-answers {s} h {r} e f = record {
   answers =
       λ d k. f ∙ same-test r ∙ sym (of-role (extent_at (live_of s.cut.bytes) h) e) ∙ sym (object-passes h k.denotes);
@@ -120,7 +125,8 @@ place-below {c} i e place s f =
     omega (arith, slice_get_within (entries_of i s.0) place at.0 at.1, stands.stands.count)
 
 -- the object's handle is what the entry leads to
-pub found-answers : (s : SegmentState) (i : Index) (e : Entry) (place : ℕ) {h : ℕ} → ForIndex s.cut i (λ hs. FindsPosition
+pub found-answers : (s : SegmentState) (i : Index) (e : Entry) (place : ℕ) {h : ℕ}
+    → ForIndex s.cut i (λ hs. FindsPosition
     (bytes_of s.cut.bytes) e hs (Found place)) → ForIndex s.cut i (λ hs. slice_get hs place ≡ Some h) → (key : Key)
     → Seeks i e key → AnswersWith s (λ d. handle_at d key) (Some h)
 found-answers s i e place {h} f g key q = record {
@@ -133,7 +139,8 @@ found-answers s i e place {h} f g key q = record {
 
 -- or no object has the key
 pub absent-answers : {s : SegmentState} (i : Index) (e : Entry) (place : ℕ) → ForIndex s.cut i (λ hs. FindsPosition
-    (bytes_of s.cut.bytes) e hs (Absent place)) → (key : Key) → Seeks i e key → AnswersWith s (λ d. handle_at d key) None
+    (bytes_of s.cut.bytes) e hs (Absent place)) → (key : Key) → Seeks i e key
+    → AnswersWith s (λ d. handle_at d key) None
 absent-answers {s} i e place f key q = record {
   answers = λ d k. sym (ap (option_map (λ (o : Object). handle o.extent)) (lookup-absent i s.cut e key k.denotes q
       (of-directory s i (λ hs. FindsPosition (bytes_of s.cut.bytes) e hs (Absent place)) k f)).none);
@@ -196,12 +203,14 @@ kind-step mode d c o kind may e = kind-if mode d c o (same_kind kind (kind_of o.
 
 -- an object has it, of the kind or of another
 pub find-there : {s t : SegmentState} (view : s ≡ t) (key : Key) (kind : Kind) {h : ℕ} {r : Result (ℕ × ℕ) Refusal}
-    → AnswersWith t (λ d. handle_at d key) (Some h) → ((o : Object) → IsObjectInBlock s.cut.bytes h o → r ≡ pair_of_kind o kind)
+    → AnswersWith t (λ d. handle_at d key) (Some h)
+    → ((o : Object) → IsObjectInBlock s.cut.bytes h o → r ≡ pair_of_kind o kind)
     → AnswersQuery t (asked.Find key kind) (pair_answer r)
 find-there {t} view key kind {h} a each = record {
   answers = λ d k.
       let o = here t.cut.bytes d key h k.denotes (a.answers d k) in
-      ap pair_answer (each o.object (subst (λ (u : SegmentState). IsObjectInBlock u.cut.bytes h o.object) (sym view) o.stands))
+      ap pair_answer (each o.object (subst (λ (u : SegmentState).
+      IsObjectInBlock u.cut.bytes h o.object) (sym view) o.stands))
       ∙ sym (ap (λ (q : Answer × Directory). q.0) (kind-step t.mode d (asked.Find key kind) o.object kind
       (open-reading t.mode (asked.Find key kind) refl) (ap (finds d kind) o.is)));
 }
@@ -243,7 +252,8 @@ below-count {s} view i {n} g b =
 -- and what stands there is an entry of the directory
 pub at-answers : {s t : SegmentState} (view : s ≡ t) (i : Index) (n : ℕ) {h : ℕ}
     → ForIndex s.cut i (λ hs. slice_get hs n ≡ Some h) → AnswersWith t (λ d. slice_get (entries_of i d) n) (Some h)
-at-answers {s} view i n {h} f = subst (λ (u : SegmentState). AnswersWith u (λ d. slice_get (entries_of i d) n) (Some h)) view
+at-answers {s} view i n {h} f =
+    subst (λ (u : SegmentState). AnswersWith u (λ d. slice_get (entries_of i d) n) (Some h)) view
     (record { answers = λ d k. sym (of-directory s i (λ hs. slice_get hs n ≡ Some h) k f) })
 
 -- ---- an index below that number
@@ -270,7 +280,8 @@ pub record IsEntered (s : SegmentState) (d : Directory) (i : Index) (n h : ℕ) 
   pub is : slice_get (objects_of i d) n ≡ Some object
   pub stands : IsObjectInBlock s.cut.bytes h object
 
-pub entered : (s : SegmentState) {i : Index} {n h : ℕ} → ForIndex s.cut i (λ hs. slice_get hs n ≡ Some h) → {d : Directory}
+pub entered : (s : SegmentState) {i : Index} {n h : ℕ} → ForIndex s.cut i (λ hs. slice_get hs n ≡ Some h)
+    → {d : Directory}
     → DenotesCurrent s.cut.bytes d → IsEntered s d i n h
 entered s {i} {n} {h} f {d} k =
     let at = stands-at (objects_of i d) n (of-directory s i (λ hs. slice_get hs n ≡ Some h) k f) in let o = at.object in
@@ -288,7 +299,8 @@ pub entered-object : (s : SegmentState) (i : Index) (n h : ℕ) → IsSegment s.
 entered-object s i n h g f = let o = entered s f g.1 in (o.object, o.stands)
 
 -- what was read is said of it
-pub entered-says : {s : SegmentState} (i : Index) {n h : ℕ} {said : Instance} → ForIndex s.cut i (λ hs. slice_get hs n ≡ Some
+pub entered-says : {s : SegmentState} (i : Index) {n h : ℕ} {said : Instance}
+    → ForIndex s.cut i (λ hs. slice_get hs n ≡ Some
     h) → ((o : Object) → IsObjectInBlock s.cut.bytes h o → IsInstance o said) → SaysAt s (objects_of i) n said
 entered-says {s} i {n} {h} f each = record {
   says = λ d k. let o = entered s f k in (o.object, o.is, each o.object o.stands);

@@ -4,7 +4,8 @@ use common.{◌≡◌, refl, sym, ap, subst, ◌∙◌, ℕ, ◌&&◌, Option, S
 use common.{option_map, same_Some, Kind, Refusal, NotFound, ReadOnly, WrongKind, same_kind, Key, ByHandle, Command}
 use common.{is_changing, Change, Clear, Reserve, Shrink, Located, Answer, kind_at, sizes_at, sizes_at_kind, handle}
 use common.{sizes_of, sizes_of_kind, Object, Directory, kind_of, live, object_at, handle_at, HasPlaces, UnchangedWhere}
-use common.{IsLocated, IsSegment, Plan, Refuse, perform, with, IsObjectInBlock, AnswersWith, AnswersQueryOfKind, TakesStep, TakesStepOfKind}
+use common.{IsLocated, IsSegment, Plan, Refuse, perform, with, IsObjectInBlock, AnswersWith, AnswersQueryOfKind}
+use common.{TakesStep, TakesStepOfKind}
 use common.{SegmentState, DenotesCurrent, effect, is_read_only, step, step_of_kind, HasEnough, command_of}
 use Rattle.segment_manager.proofs.containers.AnyStorage.{measures-kind, of_kind-steps}
 use Rattle.segment_manager.proofs.{indexes.Bridge.by-handle, objects.Here.here, objects.Here.seen-handle}
@@ -30,7 +31,8 @@ located-said : (d : Directory) (key : Key) {o : Located} → Some o ≡ located_
 located-said d key e = said-if (object_at d key) refl e
 
 -- it is located by its handle
-pub locates : {s : SegmentState} {key : Key} {o : Located} → AnswersWith s (λ d. located_at d key) (Some o) → IsLocated s key o
+pub locates : {s : SegmentState} {key : Key} {o : Located} → AnswersWith s (λ d. located_at d key) (Some o)
+    → IsLocated s key o
 locates {s} {key} {o} a = record {
   at = a;
   here = record {
@@ -63,14 +65,16 @@ head-located {s} {t} view key {h} {q} a each =
 
 -- and of whatever stands at that handle
 pub located-there : {s t : SegmentState} (view : s ≡ t) (key : Key) {q : Located} → IsSegment s.cut.bytes
-    → AnswersWith t (λ d. located_at d key) (Some q) → (o : Object) → IsObjectInBlock s.cut.bytes q.handle o → q ≡ located o
+    → AnswersWith t (λ d. located_at d key) (Some q) → (o : Object) → IsObjectInBlock s.cut.bytes q.handle o
+    → q ≡ located o
 located-there {s} {t} view key {q} g a o stands =
     let b = subst (λ (u : SegmentState). AnswersWith u (λ d. located_at d key) (Some q)) (sym view) a in
     let p = located-said g.0 key (b.answers g.0 g.1) in
     let there = here s.cut.bytes g.0 key q.handle g.1.denotes ((handle-located key b).answers g.0 g.1) in
     p.said ∙ ap located (same_Some p.object there.object (sym p.is ∙ there.is)) ∙ alike there.stands stands
 
-pub said-at : (s : SegmentState) (key : Key) (o : Located) → IsLocated s key o → (d : Directory) → DenotesCurrent s.cut.bytes d
+pub said-at : (s : SegmentState) (key : Key) (o : Located) → IsLocated s key o → (d : Directory)
+    → DenotesCurrent s.cut.bytes d
     → IsSaidAt d key o
 said-at s key o l d k = said-if (object_at d key) refl (l.at.answers d k)
 
@@ -134,7 +138,8 @@ module _ (old : SegmentState) (key : Key) (o : Located) (l : IsLocated old key o
 
   -- what is said of the object
   pub told-by_key : {A : Type 0} (say : Directory → Option Object → A) (r : A)
-      → AnswersWith old (λ d. say d (object_at d (ByHandle o.handle))) r → AnswersWith old (λ d. say d (object_at d key)) r
+      → AnswersWith old (λ d. say d (object_at d (ByHandle o.handle))) r
+      → AnswersWith old (λ d. say d (object_at d key)) r
   told-by_key say r a = record { answers = λ d k. a.answers d k ∙ ap (say d) (same d k) }
 
   pub kind-by_key : AnswersWith old (λ d. kind_at d key) (Ok o.kind)
@@ -149,7 +154,8 @@ module _ (old : SegmentState) (key : Key) (o : Located) (l : IsLocated old key o
       → step old.mode d (at_key (ByHandle o.handle) c) ≡ step old.mode d (at_key key c)
   step-same c d k = keys-same old.mode d (ByHandle o.handle) key c (same d k)
 
-  pub step-by_key : (new : SegmentState) (c : Command) (answer : Answer) → TakesStep old new (at_key (ByHandle o.handle) c) answer
+  pub step-by_key : (new : SegmentState) (c : Command) (answer : Answer)
+      → TakesStep old new (at_key (ByHandle o.handle) c) answer
       → TakesStep old new (at_key key c) answer
   step-by_key new c answer m = moves-same old new answer (λ d. step old.mode d (at_key (ByHandle o.handle) c))
       (λ d. step old.mode d (at_key key c)) (step-same c) m
@@ -161,7 +167,8 @@ module _ (old : SegmentState) (key : Key) (o : Located) (l : IsLocated old key o
       kind (at_key (ByHandle o.handle) c)) (λ d. step_of_kind old.mode d key kind (at_key key c))
       (λ d k. keys_of_kind-same old.mode d (ByHandle o.handle) key kind c (same d k)) m
 
-  pub reply_of_kind-by_key : (kind : Kind) (c : Command) (answer : Answer) → AnswersQueryOfKind old (ByHandle o.handle) kind
+  pub reply_of_kind-by_key : (kind : Kind) (c : Command) (answer : Answer)
+      → AnswersQueryOfKind old (ByHandle o.handle) kind
       (at_key (ByHandle o.handle) c) answer → AnswersQueryOfKind old key kind (at_key key c) answer
   reply_of_kind-by_key kind c answer a = record {
     answers = λ d k. a.answers d k ∙ ap (λ (n : Answer × Directory). n.0)
@@ -170,7 +177,8 @@ module _ (old : SegmentState) (key : Key) (o : Located) (l : IsLocated old key o
 
   -- ---- it says of which kind it is
 
-  pub located-steps : (new : SegmentState) (kind : Kind) (c : Command) (answer : Answer) → o.kind ≡ kind → TakesStepOfKind old new
+  pub located-steps : (new : SegmentState) (kind : Kind) (c : Command) (answer : Answer) → o.kind ≡ kind
+      → TakesStepOfKind old new
       (ByHandle o.handle) kind (at_key (ByHandle o.handle) c) answer → TakesStep old new (at_key key c) answer
   located-steps new kind c answer is m = of_kind-steps old new key kind (at_key key c) answer
       (subst (λ (n : Kind). AnswersWith old (λ d. kind_at d key) (Ok n)) is kind-by_key)
@@ -203,7 +211,8 @@ module _ (old : SegmentState) (key : Key) (o : Located) (l : IsLocated old key o
   located-changes Shrink new kind answer is m = located-steps new kind (asked.Shrink key) answer is m
   located-changes Clear new kind answer is m = located-steps new kind (asked.Clear key) answer is m
 
-  pub enough-by_key : (change : Change) (new : SegmentState) → UnchangedWhere old new (HasEnough change (ByHandle o.handle))
+  pub enough-by_key : (change : Change) (new : SegmentState)
+      → UnchangedWhere old new (HasEnough change (ByHandle o.handle))
       → UnchangedWhere old new (HasEnough change key)
   enough-by_key (Reserve n) new m = places-by_key n m
   enough-by_key Shrink new m = λ d k e. absurd e

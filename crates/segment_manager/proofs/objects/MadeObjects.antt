@@ -2,11 +2,13 @@
 use Rattle.segment_manager.proofs.Common as common
 use common.{◌≡◌, ◌&&◌, refl, sym, ap, ◌∙◌, ℕ, ◌==◌, Bool, true, false, Option, Some, None, List, [], ◌∷◌, length}
 use common.{cond, nat_lt, Exists}
-use common.{if◌then◌else◌, is_some, eq-eqb, Extent, handle, LiveSet, resized, Refusal, NoSpace, BackingArray, OwnedText, Class}
+use common.{if◌then◌else◌, is_some, eq-eqb, Extent, handle, LiveSet, resized, Refusal, NoSpace, BackingArray, OwnedText}
+use common.{Class}
 use common.{Anonymous, size_of, Key, ByHandle, Mode, Content, Answer, Made, Refused, Directory, Object, Value, live}
 use common.{has_key, object_at, put_object, with_object, Elements, Bytes, Texts, Plan, Refuse, Reply, Request, perform}
 use common.{met, with_place, with_entry, with_storage, with_owned_text, with_owned_texts, with_value, with_new_object}
-use common.{class_of, name_of, Need, is_read_only, plan, step, is_object_at, AnswersWith, IsSegment, TakesStep, SegmentState, find}
+use common.{class_of, name_of, Need, is_read_only, plan, step, is_object_at, AnswersWith, IsSegment, TakesStep}
+use common.{SegmentState, find}
 use Rattle.segment_manager.proofs.objects.KeyCalls.{object-passes}
 use Rattle.seg_types.specs.declared.kinds.Class.TheVariants.{Named, Unique}
 use Rattle.seg_types.specs.Commands as asked

@@ -1,13 +1,18 @@
 -- A value made in the block of a new object, by the heap's contracts: its blocks are taken and written, and it stands
 -- there.
 use Rattle.segment_manager.proofs.Common as common
-use common.{◌≡◌, HasBytesAt-same, ChangesBytes, no_backing, same_role, WritesObjectHeader, IsValueAt, Directory, refl, zero, Some, None, List}
-use common.{arith, holds, added, place, BackingArray, Class, Value, sym, ◌∙◌, suc, ◌+◌, ◌*◌, ◌≤◌, inl, [], ◌∷◌, WindowState, HasBytesAt, SameBytes}
-use common.{Kind, Plan, New, ap, word_at, Storage, LiveSet, resized, EncodesLiveSet, count_of, IsHeadAt, room_for, subst}
+use common.{◌≡◌, HasBytesAt-same, ChangesBytes, no_backing, same_role, WritesObjectHeader, IsValueAt, Directory, refl}
+use common.{zero, Some, None, List}
+use common.{arith, holds, added, place, BackingArray, Class, Value, sym, ◌∙◌, suc, ◌+◌, ◌*◌, ◌≤◌, inl, [], ◌∷◌}
+use common.{WindowState, HasBytesAt, SameBytes}
+use common.{Kind, Plan, New, ap, word_at, Storage, LiveSet, resized, EncodesLiveSet, count_of, IsHeadAt, room_for}
+use common.{subst}
 use common.{lt-leb, ne_eqb, Memory, Extent, end_of, handle, regrow, Answer, padded, ℕ, option_map, SameBytes-trans}
 use common.{AllocatesOk, grown_backing, padded_name, live-spaced, Option, length, live_of, NoSpace, code_of, Refused}
-use common.{kind_of, Request, perform, if◌then◌else◌, AllByRecursion, SameSurroundings-trans, allocated-live, spaced-insert}
-use common.{current, SameBytes-word, ObjectRole, exchanged, class_code, IsObjectAt, two_halves, bytes_of, SameBytesExcept-SameBytes}
+use common.{kind_of, Request, perform, if◌then◌else◌, AllByRecursion, SameSurroundings-trans, allocated-live}
+use common.{spaced-insert}
+use common.{current, SameBytes-word, ObjectRole, exchanged, class_code, IsObjectAt, two_halves, bytes_of}
+use common.{SameBytesExcept-SameBytes}
 use common.{SameBlockExcept, ExchangesBlocks, blocks-trans, with_storage}
 use Rattle.segment_manager.proofs.objects.Taking.{IsTaken, requested-taken, taken-live, written-taken}
 use Rattle.segment_manager.proofs.{objects.Exchanged.all-but-beside, blocks.NewBlocks.allocated-serves, Order.inserted}
@@ -46,10 +51,12 @@ more-asked each n next = ap (λ b. if b then next no_backing else Request (New S
     (λ x. next (with_extent (suc n) x))) (ne_eqb (suc n) 0 (λ e. omega (arith, e)))
 
 -- it is there
-pub storage-met : (d : Directory) (l : LiveSet) (each len : ℕ) (t : BackingArray) (next : BackingArray → Plan) → grown_backing l each
+pub storage-met : (d : Directory) (l : LiveSet) (each len : ℕ) (t : BackingArray) (next : BackingArray → Plan)
+    → grown_backing l each
     len no_backing ≡ Some t → perform d l (with_storage each len next) ≡ perform d (stored l t) (next t)
 unfolding grown_backing
-storage-met d l each zero t next e = let same : no_backing ≡ t = cc in λ i. perform d (stored l (same i)) (next (same i))
+storage-met d l each zero t next e = let same : no_backing ≡ t = cc
+    in λ i. perform d (stored l (same i)) (next (same i))
 storage-met d l each (suc n) t next e = ap (perform d l) (more-asked each n next)
     ∙ met-storage d l (suc n) next (place l (each * suc n) Storage) (sym (more-places l each n) ∙ e)
 
@@ -80,7 +87,8 @@ pub record StaysBut (a b c : WindowState) (x : Extent) (from n : ℕ) : Type 0 w
   pub own : SameBlockExcept (bytes_of b.bytes) (bytes_of c.bytes) from n x
   pub others : AllByRecursion (SameBlockExcept (bytes_of b.bytes) (bytes_of c.bytes) from n) (live_of a.bytes).extents
 
-pub stays-but : {a : WindowState} {b c : WindowState} {x : Extent} {from n : ℕ} {come : List Extent} → IsTaken a b (x ∷ [])
+pub stays-but : {a : WindowState} {b c : WindowState} {x : Extent} {from n : ℕ} {come : List Extent}
+    → IsTaken a b (x ∷ [])
     → ExchangesBlocks current b c from n [] come → StaysBut a b c x from n
 stays-but {a} {b} {c} {x} {from} {n} m r =
     let both = all_of-insert (SameBlockExcept (bytes_of b.bytes) (bytes_of c.bytes) from n) x (live_of a.bytes).extents
@@ -89,13 +97,15 @@ stays-but {a} {b} {c} {x} {from} {n} m r =
     record { own = both.0; others = both.1 }
 
 -- a block was taken; then n of its bytes are written, and more blocks are taken
-pub taken-more : (a : WindowState) {b c : WindowState} (x : Extent) {from n : ℕ} {come : List Extent} → IsTaken a b (x ∷ [])
+pub taken-more : (a : WindowState) {b c : WindowState} (x : Extent) {from n : ℕ} {come : List Extent}
+    → IsTaken a b (x ∷ [])
     → handle x ≤ from → from + n ≤ end_of x → ExchangesBlocks current b c from n [] come → IsTaken a c (x ∷ come)
 taken-more a {b} {c} x {from} {n} {come} m low high r =
     let A = bytes_of a.bytes in let B = bytes_of b.bytes in
     let C = bytes_of c.bytes in let l = live_of a.bytes in
     let laid : EncodesLiveSet current c.bytes (with_live l (inserted come (insert x l.extents))) =
-    subst (EncodesLiveSet current c.bytes) (ap (λ (s : LiveSet). exchanged s [] come) (taken-live a b (x ∷ []) m)) r.live in
+    subst (EncodesLiveSet current c.bytes) (ap (λ (s : LiveSet). exchanged s [] come) (taken-live a b (x ∷ []) m))
+    r.live in
     let up = live-rises (with_live l (inserted come (insert x l.extents))) laid.proper in
     let alone = spaced-insert 128 x l.extents (live-spaced (added l x) m.live.proper) in
     record {
@@ -119,7 +129,8 @@ placed-next {a} {b} {n} {h} t =
 
 -- ---- the object
 
-changed-wider : {a b : WindowState} {from m : ℕ} {n : ℕ} → m ≤ n → ChangesBytes current a b from m → ChangesBytes current a b from n
+changed-wider : {a b : WindowState} {from m : ℕ} {n : ℕ} → m ≤ n → ChangesBytes current a b from m
+    → ChangesBytes current a b from n
 changed-wider {a} {b} {from} {m} {n} l c = record {
   place = c.place;
   live = c.live;
@@ -127,11 +138,13 @@ changed-wider {a} {b} {from} {m} {n} l c = record {
 }
 
 -- what was written behind the head stands in the payload
-pub headed-change : {a b c : WindowState} {kind : Kind} {class : Class} {name : List ℕ} {count : ℕ} (body : ℕ) {h at n : ℕ}
+pub headed-change : {a b c : WindowState} {kind : Kind} {class : Class} {name : List ℕ} {count : ℕ} (body : ℕ)
+    {h at n : ℕ}
     → WritesObjectHeader a b kind class name count h at → ChangesBytes current b c (h + at) n → n ≤ body
     → ChangesBytes current a c h (room_for name body)
 headed-change {b} {c} {name} body {h} {at} {n} hd change l =
-    changed-wider (omega arith) (changed-trans hd.change (subst (λ p. ChangesBytes current b c (h + p) n) hd.start change))
+    changed-wider (omega arith) (changed-trans hd.change
+    (subst (λ p. ChangesBytes current b c (h + p) n) hd.start change))
 
 -- the block was taken, its head written, and then the n bytes behind it
 pub empty-taken : {a t m e : WindowState} {kind : Kind} {class : Class} {name : List ℕ} {count n h at : ℕ}
@@ -168,20 +181,25 @@ headed-object {m} {m'} {h} {at} {class} {name} v x is start head s w = record {
       (SameBytes-word m m' h (h + at) h s (omega arith) (omega arith) ∙ head.kind_count);
   name_class = subst (λ g. word_at m' (g + 8) ≡ two_halves (length name) (class_code class)) is
       (SameBytes-word m m' h (h + at) (h + 8) s (omega arith) (omega arith) ∙ head.name_class);
-  name = subst (λ g. HasBytesAt m' (g + 16) (padded_name name)) is (HasBytesAt-same m m' h (h + at) (h + 16) (padded_name name) s
+  name = subst (λ g. HasBytesAt m' (g + 16) (padded_name name)) is
+      (HasBytesAt-same m m' h (h + at) (h + 16) (padded_name name) s
       (omega arith) (omega (arith, (padded_name-length name))) head.name);
   value = subst (λ p. IsValueAt m' p v) (omega arith) w;
 }
 
 -- the object stands there with its value
-pub made-object : {a t m e w : WindowState} {class : Class} {name : List ℕ} {n h at : ℕ} (v : Value) {come : List Extent}
-    → (took : AllocatesOk current a e (room_for name n) ObjectRole h) → WritesObjectHeader t m (kind_of v) class name (count_of v)
-    h at → ChangesBytes current m e (h + at) n → ExchangesBlocks current e w (h + at) n [] come → IsValueAt (bytes_of w.bytes)
+pub made-object : {a t m e w : WindowState} {class : Class} {name : List ℕ} {n h at : ℕ} (v : Value)
+    {come : List Extent}
+    → (took : AllocatesOk current a e (room_for name n) ObjectRole h)
+    → WritesObjectHeader t m (kind_of v) class name (count_of v)
+    h at → ChangesBytes current m e (h + at) n → ExchangesBlocks current e w (h + at) n [] come
+    → IsValueAt (bytes_of w.bytes)
     (h + at) v → IsObjectAt (bytes_of w.bytes) (record { class = class; name = name; value = v; extent = took.extent })
 made-object {a} {m} {e} {w} {name} {n} {h} {at} v took headed change storage says =
     let M = bytes_of m.bytes in let E = bytes_of e.bytes in
     let W = bytes_of w.bytes in let high = (inside name took headed.start).high in
     let but = stays-but (requested-taken took) storage in
     let front = SameBytesExcept-SameBytes M E (h + at) n h (h + at) change.rest (inl (omega arith)) in
-    let back : SameBytes E W h (h + at) = record { at = λ k f g. but.own.payload k (omega arith) (omega arith) (inl g) } in
+    let back : SameBytes E W h (h + at) =
+    record { at = λ k f g. but.own.payload k (omega arith) (omega arith) (inl g) } in
     headed-object v took.extent took.at headed.start headed.head (SameBytes-trans M E W h (h + at) front back) says

@@ -2,12 +2,17 @@
 -- requests are met in order, or one is refused and all is given back.
 use Rattle.segment_manager.proofs.Common as common
 use common.{◌≡◌, sym, true, ◌&&◌, Some, None, List, find, Kind, Value, live, Plan, bare, refl, LiveSet, resized}
-use common.{EncodesLiveSet, live_of, Refusal, Content, FindsPosition, room_for, ap, Extent, place, KeepsBlocks, BackingArray, serves, Class}
+use common.{EncodesLiveSet, live_of, Refusal, Content, FindsPosition, room_for, ap, Extent, place, KeepsBlocks}
+use common.{BackingArray, serves, Class}
 use common.{Index, Absent, Object, padded, subst, IsAbsentAt, IsReadyFor, LeadsThere, extents_of, object_len}
-use common.{entries_of, ◌∙◌, ℕ, ◌+◌, [], ◌∷◌, WindowState, Option, length, IsTrue, BeginsObjectOk, IsUnindexedObject, Denotes, has_key}
-use common.{kind_of, IsGiven, and_from, SameSurroundings, ChangesBytes, laid-heap, IsNewKeyOf, RestoresBlocks, with_value, current}
-use common.{PendingEntry, WritesObjectHeader, IsReadyForEntry, count_of, IsDenied, table_of, head_len, bytes_of, added, place_of, AddKeeps}
-use common.{IsGrowth, prepared, IsSegment, DenotesCurrent, SameSurroundings-trans, BeginsAnonymous, is_good_value, value_extents}
+use common.{entries_of, ◌∙◌, ℕ, ◌+◌, [], ◌∷◌, WindowState, Option, length, IsTrue, BeginsObjectOk, IsUnindexedObject}
+use common.{Denotes, has_key}
+use common.{kind_of, IsGiven, and_from, SameSurroundings, ChangesBytes, laid-heap, IsNewKeyOf, RestoresBlocks}
+use common.{with_value, current}
+use common.{PendingEntry, WritesObjectHeader, IsReadyForEntry, count_of, IsDenied, table_of, head_len, bytes_of, added}
+use common.{place_of, AddKeeps}
+use common.{IsGrowth, prepared, IsSegment, DenotesCurrent, SameSurroundings-trans, BeginsAnonymous, is_good_value}
+use common.{value_extents}
 use common.{class_of_index, ObjectRole, AllocatesOk, is_kind_of, BeginsEntryOk, with_object, MakesValueOk, Anonymous}
 use common.{IsIndexOf, Directory, is_object, object_at, value_len, MakesValueErr, handle}
 use Rattle.segment_manager.proofs.objects.Taking.{IsMade, IsTaken, taken-growth, taken-index, growth-index}
@@ -31,7 +36,8 @@ growth-place : {a b : WindowState} (at : ℕ) (g : Option ℕ) → IsGrowth a b 
 growth-place {a} at None h = subst (SameSurroundings a) (sym h.1) (record { before = refl; after = refl })
 growth-place at (Some g) h = h.1.keeps.place
 
-keeps-place : {a b : WindowState} (at : ℕ) (t : BackingArray) (g : Option ℕ) → AddKeeps a b at t g → SameSurroundings a b
+keeps-place : {a b : WindowState} (at : ℕ) (t : BackingArray) (g : Option ℕ) → AddKeeps a b at t g
+    → SameSurroundings a b
 keeps-place at t None k = k.place
 keeps-place at t (Some g) k = k.place
 
@@ -58,7 +64,8 @@ pub record IsMadeNever (a c : WindowState) (key : names.Key) (content : Content)
   pub place : SameSurroundings a c
   pub each : (d : Directory) → DenotesCurrent a.bytes d → (object_at d key ≡ None) × IsNoObject c d key content
 
-unchanged : {w : WindowState} (l : LiveSet) {from n : ℕ} → EncodesLiveSet current w.bytes l → ChangesBytes current w w from n
+unchanged : {w : WindowState} (l : LiveSet) {from n : ℕ} → EncodesLiveSet current w.bytes l
+    → ChangesBytes current w w from n
 unchanged {w} l laid = record {
   place = record { before = refl; after = refl };
   live = laid-heap w.bytes l laid;
@@ -78,7 +85,8 @@ module _ (content : Content) where
   -- ---- the value in its object's block
 
   module _ (a t m w : WindowState) (class : Class) (name : List ℕ) (h at : ℕ)
-      (take : AllocatesOk current a t (room_for name long) ObjectRole h) (headed : WritesObjectHeader t m kind class name many h
+      (take : AllocatesOk current a t (room_for name long) ObjectRole h)
+      (headed : WritesObjectHeader t m kind class name many h
       at) (r : MakesValueOk content m w (record { handle = h; at = at })) where
     block : AllocatesOk current a r.empty (room_for name long) ObjectRole h
     block = empty-taken take headed r.change
@@ -112,7 +120,8 @@ module _ (content : Content) where
 
   -- ---- the directory, under a key with an entry
 
-  module _ {a m : WindowState} {key : names.Key} {h at : ℕ} {e : PendingEntry} (g : BeginsEntryOk a m key kind many long h at e)
+  module _ {a m : WindowState} {key : names.Key} {h at : ℕ} {e : PendingEntry}
+      (g : BeginsEntryOk a m key kind many long h at e)
       {d : Directory} (said : Denotes current a.bytes d) where
     absent : object_at d key ≡ None
     absent = (lookup-absent e.index a g.entry key said (key-seeks e.index g.entry key g.name kind g.is)
@@ -177,7 +186,8 @@ module _ (content : Content) where
               Anonymous [] h at g.takes g.headed r) ∙ (subst (λ l. IsGiven d (resized l x) content r.value r.left) same
               (given-in a g.taken m w Anonymous [] h at g.takes g.headed r)).met (λ w. next (alone_in x w)
               (with_object d (alone_in x w)));
-          denotes = denotes-with a w said made.good refl (subst (λ l. EncodesLiveSet current w.bytes (adding l (extents_of o)))
+          denotes = denotes-with a w said made.good refl
+              (subst (λ l. EncodesLiveSet current w.bytes (adding l (extents_of o)))
               same made.taken.live) (subst (λ (l : LiveSet). KeepsBlocks a w l.extents) same made.taken.keeps) made.at;
         }
 
@@ -246,7 +256,8 @@ module _ (content : Content) where
     value-ready None g r = tt
     value-ready (Some e) g r = entry-wanted g r
 
-    pub value-loose : (entry : Option PendingEntry) (w : WindowState) (why : Refusal) → BeginsObjectOk a m key kind many long h at entry
+    pub value-loose : (entry : Option PendingEntry) (w : WindowState) (why : Refusal)
+        → BeginsObjectOk a m key kind many long h at entry
         → MakesValueErr content m w (record { handle = h; at = at }) why → IsUnindexedObject a w h entry
     value-loose None w why g r = record {
       len = room_for [] long;
@@ -285,7 +296,8 @@ module _ (content : Content) where
         each = λ d st. (absent g st.denotes, entry-new g st.denotes r added);
       }
 
-      value-refused : {why : Refusal} → MakesValueErr content m w (record { handle = h; at = at }) why → RestoresBlocks a c
+      value-refused : {why : Refusal} → MakesValueErr content m w (record { handle = h; at = at }) why
+          → RestoresBlocks a c
           → IsMadeNever a c key content
       value-refused r back = record {
         place = back.keeps.place;
@@ -310,7 +322,8 @@ module _ (content : Content) where
 
   -- the same whatever the key
   module _ {a m : WindowState} (b : IsSegment a.bytes) {key : names.Key} (h at : ℕ) where
-    pub value-built : (entry : Option PendingEntry) {w : WindowState} {c : WindowState} → BeginsObjectOk a m key kind many long h at entry
+    pub value-built : (entry : Option PendingEntry) {w : WindowState} {c : WindowState}
+        → BeginsObjectOk a m key kind many long h at entry
         → MakesValueOk content m w (record { handle = h; at = at }) → LeadsThere w c h entry
         → IsMadeNow a c key content h
     value-built None {c} g r same = subst (λ (q : names.Key). IsMadeNow a c q content h) (sym g.is)
@@ -319,7 +332,8 @@ module _ (content : Content) where
     value-built (Some e) g r added = value-made a b key h at g r added
 
     pub value-not_built : (entry : Option PendingEntry) {w : WindowState} {c : WindowState} {why : Refusal}
-        → BeginsObjectOk a m key kind many long h at entry → MakesValueErr content m w (record { handle = h; at = at }) why
+        → BeginsObjectOk a m key kind many long h at entry
+        → MakesValueErr content m w (record { handle = h; at = at }) why
         → GivesAllBack w c h entry → IsMadeNever a c key content
     value-not_built None {w} {c} {why} g r gives =
         let back = gives a (value-loose a b key h at None w why g r) in

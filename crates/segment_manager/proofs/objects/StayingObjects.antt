@@ -1,7 +1,8 @@
 -- What destroys no object leaves what is said of each.
 use Rattle.segment_manager.proofs.Common as common
 use common.{◌≡◌, sym, not, ◌∙◌, ℕ, None, List, [], ◌∷◌, find, cond, Kind, Key, Mode, live, Plan, met, plan, step}
-use common.{refl, ◌==◌, Bool, true, false, Option, Some, Extent, handle, Object, Answer, Refused, perform, Transitions, SegmentState}
+use common.{refl, ◌==◌, Bool, true, false, Option, Some, Extent, handle, Object, Answer, Refused, perform, Transitions}
+use common.{SegmentState}
 use common.{ap, is_some, LiveSet, resized, Refusal, NoSpace, ByHandle, Command, Directory, has_key, IsSegment, current}
 use common.{subst, if◌then◌else◌, false≢true, replace_object, is_elementwise, step_of_kind, LeadsOnOfKind, option_map}
 use common.{IsDirectory, Denotes, Located, object_at, is_object_at, handle_at, same_Some}
@@ -98,7 +99,8 @@ one-said {b} {d} {e} h q k l f =
     let p = here b e (ByHandle h) h l (own-handle e h (object-passes h l ∙ sym (object-passes h k) ∙ there)) in
     ap (option_map located) p.is ∙ ap Some (alike p.stands o.stands) ∙ sym (ap (option_map located) o.is) ∙ f
 
-moved-keeps : {A : Type 0} {old new : SegmentState} {answer : A} {next : Directory → A × Directory} → IsSegment old.cut.bytes
+moved-keeps : {A : Type 0} {old new : SegmentState} {answer : A} {next : Directory → A × Directory}
+    → IsSegment old.cut.bytes
     → Transitions old new answer next → ((d : Directory) → IsDirectory current d → (h : ℕ) (q : Located)
     → located_at d (ByHandle h) ≡ Some q → located_at (next d).1 (ByHandle h) ≡ Some q) → KeepsObjects old new
 moved-keeps g m keeps q is = record {

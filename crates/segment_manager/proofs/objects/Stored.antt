@@ -1,13 +1,17 @@
 -- The elements of the object of a key: where each stands and its number, what reading one answers, and writing one.
 use Rattle.segment_manager.proofs.Common as common
 use common.{◌≡◌, Option, Result, length, IsTrue, nat_lt, handle, Scalar, Object, padded, eq-eqb, Answer, Refuse, effect}
-use common.{refl, subst, zero, Bool, true, false, Some, None, List, arith, read, SegmentState, Mode, Done, live, Reply, with}
+use common.{refl, subst, zero, Bool, true, false, Some, None, List, arith, read, SegmentState, Mode, Done, live, Reply}
+use common.{with}
 use common.{sym, ap, ◌∙◌, suc, ◌+◌, ◌*◌, ◌<◌, ◌≤◌, pos, Ok, Err, [], ◌∷◌, HasBytesAt, Key, get, map}
 use common.{ℕ, list_all, ltb-true, bytes_of, has_room, option_map, Located, slice_set, ltb-false, IsSegment, answer_of}
 use common.{values_of}
-use common.{ℤ, live_of, Refusal, NotFound, is_value, size_of, spelling, spelled, count_of, IsObjectInBlock, BoolKind, cons_values}
-use common.{get_or, Numbers, kind_of, Denotes, AnswersWith, code_of, Literal, Element, Refused, perform, changed, Command}
-use common.{if◌then◌else◌, ScalarKind, OutOfRange, is_good_value, MatchOption, false≢true, AnswersQueryOfKind, step_of_kind}
+use common.{ℤ, live_of, Refusal, NotFound, is_value, size_of, spelling, spelled, count_of, IsObjectInBlock, BoolKind}
+use common.{cons_values}
+use common.{get_or, Numbers, kind_of, Denotes, AnswersWith, code_of, Literal, Element, Refused, perform, changed}
+use common.{Command}
+use common.{if◌then◌else◌, ScalarKind, OutOfRange, is_good_value, MatchOption, false≢true, AnswersQueryOfKind}
+use common.{step_of_kind}
 use common.{slice_get, current, WrongKind, same_kind, Directory, is_object, object_at, value_len, IsValueAt, literal_of}
 use common.{mul-le-mul_left, slice_get-get_or, slice_get_within, slice_get_past, value_of_literal, set as set_element}
 use Rattle.segment_manager.proofs.Steps.{open-reading, step_of_kind-found, step_of_kind-not_found, step_of_kind-other}

@@ -3,10 +3,13 @@
 use Rattle.segment_manager.proofs.Common as common
 use common.{◌≡◌, sym, ap, subst, ◌∙◌, ℕ, ◌+◌, ◌-◌, ◌/◌, ◌%◌, ◌==◌, inr, Some, None, Option, List, arith, Role, LiveSet}
 use common.{SameBlock, allocated-live, bytes_of, keeps-trans, word_at, IfSome, IsTrue, WindowState, current, ObjectRole}
-use common.{IndexRole, AllocatesOk, ChangesBytes, IsHeap, AllocatesNoSpace, KeepsBlocks, EncodesLiveSet, is_live_in, live_of, BackingArray, added}
+use common.{IndexRole, AllocatesOk, ChangesBytes, IsHeap, AllocatesNoSpace, KeepsBlocks, EncodesLiveSet, is_live_in}
+use common.{live_of, BackingArray, added}
 use common.{allocated-is_live, allocated-room, keeps-refl, laid-heap, Index, CanGrow, FreesGrowth, IsGrowth}
-use common.{grown_bytes, IsIndexOf, place_of, RequestsBlocksOk, RestoresBlocks, RequestsBlocksErr, ◌≤◌, Bool, [], ◌∷◌, find}
-use common.{SameBytes-part, SameBytes-word, SameBytes-link, Extent, handle, extent_at, lay_out_one, grown_capacity, Object, extents_of}
+use common.{grown_bytes, IsIndexOf, place_of, RequestsBlocksOk, RestoresBlocks, RequestsBlocksErr, ◌≤◌, Bool, [], ◌∷◌}
+use common.{find}
+use common.{SameBytes-part, SameBytes-word, SameBytes-link, Extent, handle, extent_at, lay_out_one, grown_capacity}
+use common.{Object, extents_of}
 use common.{is_object, IsObjectAt, value_extents}
 use Rattle.segment_manager.proofs.{Order.all_of-insert, Order.live-rises, Order.rising-insert, Live.adding}
 use Rattle.best_fit.proofs.Laws.{still_allocated-block, found-inserted, found-new, found-none}
@@ -56,11 +59,13 @@ taken-found old new xs h {x} m e =
     ∙ found-inserted h x xs zs (found-none h x xs zs (live-rises (adding (live_of old.bytes) xs) m.live.proper) e) e
 
 -- an index stays
-pub taken-index : {old : WindowState} {new : WindowState} (xs : List Extent) {at : ℕ} {t : BackingArray} {hs : List ℕ} → IsTaken old new xs
+pub taken-index : {old : WindowState} {new : WindowState} (xs : List Extent) {at : ℕ} {t : BackingArray}
+    {hs : List ℕ} → IsTaken old new xs
     → 32 ≤ at → at + 24 ≤ 128 → IsIndexOf old at t hs → IsIndexOf new at t hs
 taken-index {old} {new} xs {at} {t} {hs} m low high i = stays old new at t hs i
     (Around-kept old new at t (live_of old.bytes).extents (laid-heap new.bytes (adding (live_of old.bytes) xs) m.live)
-    (SameBytes-part (bytes_of old.bytes) (bytes_of new.bytes) 32 128 at (at + 24) m.keeps.behind low high) m.keeps.blocks
+    (SameBytes-part (bytes_of old.bytes) (bytes_of new.bytes) 32 128 at (at + 24) m.keeps.behind low high)
+    m.keeps.blocks
     (λ x e.
     let f : extent_at (live_of old.bytes) (handle x) ≡ Some x =
     subst (λ (s : Option Extent). IfSome s (λ y. extent_at (live_of old.bytes) (handle y) ≡ Some y)) e i.held in
@@ -72,12 +77,14 @@ pub taken-growth : (old new : WindowState) (xs : List Extent) (at : ℕ) (g : Op
 taken-growth old new xs at None m low high c = omega (
   arith,
   (SameBytes-word (bytes_of old.bytes) (bytes_of new.bytes) 32 128 (at + 8) m.keeps.behind (omega arith) (omega arith)),
-  (SameBytes-word (bytes_of old.bytes) (bytes_of new.bytes) 32 128 (at + 16) m.keeps.behind (omega arith) (omega arith)),
+  (SameBytes-word (bytes_of old.bytes) (bytes_of new.bytes) 32 128 (at + 16) m.keeps.behind (omega arith)
+      (omega arith)),
   c,
 )
 taken-growth old new xs at (Some h) m low high c =
     let cap =
-    SameBytes-word (bytes_of old.bytes) (bytes_of new.bytes) 32 128 (at + 16) m.keeps.behind (omega arith) (omega arith) in
+    SameBytes-word (bytes_of old.bytes) (bytes_of new.bytes) 32 128 (at + 16) m.keeps.behind (omega arith)
+    (omega arith) in
     let link = SameBytes-link (bytes_of old.bytes) (bytes_of new.bytes) 32 128 at m.keeps.behind low (omega arith) in (
       subst (λ n. IsBlockFor new h (grown_capacity n)) (sym cap)
           (record { extent = c.0.extent; found = taken-found old new xs h m c.0.found; fits = c.0.fits }),
@@ -105,7 +112,8 @@ unchanged {a} heap e =
 pub request-unmet : (a b c d : WindowState) (at n : ℕ) (g : Option ℕ) → IsHeap current a.bytes → IsGrowth a b at g
     → AllocatesNoSpace b c n ObjectRole → FreesGrowth c d g
     → IfSome g (λ h. (before : WindowState) (n : ℕ) → AllocatesOk current before c n IndexRole h
-    → EncodesLiveSet current d.bytes (live_of before.bytes) × KeepsBlocks before d (live_of before.bytes).extents) → RequestsBlocksErr a d at n
+    → EncodesLiveSet current d.bytes (live_of before.bytes) × KeepsBlocks before d (live_of before.bytes).extents)
+    → RequestsBlocksErr a d at n
 request-unmet a b c d at n None heap grows refused back restored = record {
   restored = unchanged heap (back ∙ refused.same ∙ grows.1);
   none = inr (None, b, grows, refused.none);
@@ -123,7 +131,8 @@ growth-index i None {t} {hs} g x = subst (λ (c : WindowState). IsIndexOf c (pla
 growth-index i (Some h) g x = taken-index _ (requested-taken g.1) (place_behind i) (place_small i) x
 
 -- the block is requested, and written where it was asked for
-pub written-taken : {a m b : WindowState} {n h : ℕ} → AllocatesOk current a m n ObjectRole h → ChangesBytes current m b h n
+pub written-taken : {a m b : WindowState} {n h : ℕ} → AllocatesOk current a m n ObjectRole h
+    → ChangesBytes current m b h n
     → AllocatesOk current a b n ObjectRole h
 written-taken {a} {m} {b} {n} {h} take change = still_allocated-block current a m b n ObjectRole h h n n take change
     (allocated-room current a m n ObjectRole h n take (omega arith)) (omega arith) (omega arith)
@@ -161,7 +170,8 @@ made-key i {a} {b} {o} m =
 -- ---- blocks as they were
 
 -- a block that was taken is taken still
-pub restored-taken : {a m w : WindowState} {n : ℕ} {role : Role} {h : ℕ} → AllocatesOk current a m n role h → RestoresBlocks m w
+pub restored-taken : {a m w : WindowState} {n : ℕ} {role : Role} {h : ℕ} → AllocatesOk current a m n role h
+    → RestoresBlocks m w
     → AllocatesOk current a w n role h
 restored-taken {a} {m} {w} {n} {role} {h} t r =
     let is = allocated-live current a m n role h t in

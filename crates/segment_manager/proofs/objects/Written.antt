@@ -1,11 +1,13 @@
 -- A number of the object of a key is written: what the bytes denote then, and that it is the step.
 use Rattle.segment_manager.proofs.Common as common
 use common.{◌≡◌, refl, sym, ap, subst, ◌∙◌, ℕ, zero, suc, ◌+◌, ◌*◌, ◌<◌, ◌≤◌, ℤ, Bool, true, false, Some, None, Ok, Err}
-use common.{List, [], ◌∷◌, length, arith, IsTrue, list_all, mul-le-mul_left, slice_get_within, current, HasBytesAt, bytes_of}
+use common.{List, [], ◌∷◌, length, arith, IsTrue, list_all, mul-le-mul_left, slice_get_within, current, HasBytesAt}
+use common.{bytes_of}
 use common.{ScalarKind, Scalar, Refusal, is_value, size_of, spelling, Key, spelled, Numbers, Object, Directory}
 use common.{count_of, is_object, kind_of, padded, value_len, Denotes, IsValueAt, AnswersWith, SegmentState, Literal}
 use common.{value_of_literal, Mode, Refused, Done, live, perform, IsSegment, step_of_kind, done_answer, ◌&&◌, nat_le}
-use common.{and_from, WindowState, SameBytesExcept, ObjectRole, ChangesBytes, serves, literal_of, has_good_name, value_extents}
+use common.{and_from, WindowState, SameBytesExcept, ObjectRole, ChangesBytes, serves, literal_of, has_good_name}
+use common.{value_extents}
 use common.{with_changed, TakesStepOfKind, is_read_only}
 use Rattle.segment_manager.proofs.Steps.{step_of_kind-found, by_no_change_of_kind, by_step_of_kind, lands, open-writing}
 use Rattle.segment_manager.proofs.objects.Stored.{ElementAt, numbers-good, element-found, element-missing}
@@ -120,10 +122,12 @@ stores-nothing {s} key k i z {r} writing v a = by_no_change_of_kind s key (Scala
     (element-missing (a.answers d l)))
 
 -- a spelling was written at the place: the call is the step
-pub stores-number : {s t : SegmentState} (view : s ≡ t) (b : IsSegment s.cut.bytes) {new : WindowState} {key : Key} (k : ScalarKind)
+pub stores-number : {s t : SegmentState} (view : s ≡ t) (b : IsSegment s.cut.bytes) {new : WindowState} {key : Key}
+    (k : ScalarKind)
     (i : ℕ) {p : Place} (z : ℤ) {bytes : List ℕ} → is_read_only t.mode ≡ false → is_value k z ≡ true
     → bytes ≡ spelling k z → AnswersWith t (λ d. place_at d key k i) (Ok p)
-    → ChangesBytes current s.cut new (p.handle + p.at) (length bytes) → HasBytesAt (bytes_of new.bytes) (p.handle + p.at) bytes
+    → ChangesBytes current s.cut new (p.handle + p.at) (length bytes)
+    → HasBytesAt (bytes_of new.bytes) (p.handle + p.at) bytes
     → Answered done_answer s t new key (Scalar k) (asked.Set key i (literal_of k z)) (Ok tt)
 stores-number {s} {t} view b {new} {key} k i {p} z may v f there c w = answered s t view b new key (Scalar k)
     (asked.Set key i (literal_of k z)) (Ok tt) (done-so (by_step_of_kind s (record s { cut = new }) key (Scalar k)

@@ -30,7 +30,7 @@ const USAGE: CommandFault = CommandFault::Program(ProgramFault::Usage);
 /// The status where the reader of standard output ended first, as of a program that SIGPIPE ends.
 const CLOSED_PIPE: u8 = 141;
 
-/// Ends with the status of what came of the command line; where that is a fault, its line goes to standard error.
+/// Ends with the status of what came of the command line; if that is a fault, its line goes to standard error.
 fn main(rt: HostRuntime) -> ExitCode {
     let status = match obey(&rt) {
         Ok(status) => status,
@@ -39,14 +39,13 @@ fn main(rt: HostRuntime) -> ExitCode {
     ExitCode::from(status)
 }
 
-/// Says what a fault is, and answers its status.
+/// Says what a fault is, and returns its status.
 fn tell(rt: &HostRuntime, fault: CommandFault) -> u8 {
     report(fault, &mut StdSink::new(rt.stderr()))
 }
 
-/// Does what the program's own command line asks for, and answers the status. Words that are no text are a wrong
-/// command
-/// line.
+/// Does what the program's own command line asks for, and returns the status. Words that are no text are a wrong
+/// command line.
 fn obey(rt: &HostRuntime) -> Result<u8, NoAnswerMemory> {
     let Some(owned) = words(rt)? else {
         let _ = eprintln!(rt; "error: the command line is no UTF-8");
@@ -62,9 +61,9 @@ fn obey(rt: &HostRuntime) -> Result<u8, NoAnswerMemory> {
     }
 }
 
-/// Does what the command line asks for, with the files of the system, standard input and standard output, and answers
-/// the status. Where a person reads standard error, or more is asked for, it is told behind the line of a fault why the
-/// system did not open or make the file, as far as it said so.
+/// Does what the command line asks for, with the files of the system, standard input and standard output, and returns
+/// the status. If a person reads standard error or `--verbose` is given, a second line says why the system did not open
+/// or make the file.
 fn perform(
     rt: &HostRuntime,
     asked: &Invocation<'_>,
@@ -88,7 +87,7 @@ fn perform(
     Ok(status)
 }
 
-/// What the system said of the script that was to be opened, or else of the file, and its path.
+/// Returns what the system said of the script that was to be opened, or else of the file, and its path.
 fn trouble_of<'a>(
     asked: &Invocation<'a>,
     disk: &HostDisk<'_, HostRuntime>,
@@ -100,7 +99,7 @@ fn trouble_of<'a>(
     }
 }
 
-/// How the file that the command line names is taken and saved.
+/// Returns how the file that the command line names is taken and saved.
 fn keeping_of(asked: &Invocation<'_>) -> Keeping {
     match asked {
         Invocation::ChangeWith(_, _, keeping) | Invocation::Load(_, _, keeping) => *keeping,
@@ -109,7 +108,7 @@ fn keeping_of(asked: &Invocation<'_>) -> Keeping {
     }
 }
 
-/// Does what the command line asks for, and answers the status.
+/// Does what the command line asks for, and returns the status.
 fn command<W: Write + Drop>(
     rt: &HostRuntime,
     disk: &mut HostDisk<'_, HostRuntime>,
@@ -192,7 +191,7 @@ fn command<W: Write + Drop>(
     }
 }
 
-/// Whether a command says nothing where the reader of standard output ended first, as other tools have it.
+/// Tells whether a command says nothing where the reader of standard output ended first, as other tools have it.
 fn ends_quietly(asked: &Invocation<'_>) -> bool {
     matches!(
         asked,
@@ -230,7 +229,7 @@ fn answer<O: Lined + Drop>(
     answer_to(rt, disk, scripts, run, how, &mut plain)
 }
 
-/// The same to an output as it is.
+/// Runs the script, and gives its answers to an output as they are.
 fn answer_to<O: Lined>(
     rt: &HostRuntime,
     disk: &mut HostDisk<'_, HostRuntime>,
@@ -329,7 +328,7 @@ impl<'a, R: Read> ReadOnce for Prompted<'a, R> {
     }
 }
 
-/// The file with the script that the command line names, if there is one.
+/// Returns the file with the script that the command line names, if there is one.
 fn script_of<'a>(asked: &Invocation<'a>) -> Option<&'a str> {
     match asked {
         Invocation::RunWith(
@@ -345,7 +344,7 @@ fn script_of<'a>(asked: &Invocation<'a>) -> Option<&'a str> {
     }
 }
 
-/// The file that the command line names, if there is one alone.
+/// Returns the file that the command line names, if there is one alone.
 fn file_of<'a>(asked: &Invocation<'a>) -> Option<&'a str> {
     match asked {
         Invocation::Create(file, _)
@@ -367,7 +366,7 @@ fn file_of<'a>(asked: &Invocation<'a>) -> Option<&'a str> {
     }
 }
 
-/// Whether a fault can be one of the file.
+/// Tells whether a fault can be one of the file.
 fn is_of_file(fault: CommandFault) -> bool {
     matches!(
         fault,

@@ -113,13 +113,13 @@ const SIZES: &str = "A number of bytes: 144, or a multiple of 16 from 176 to 107
 pub enum CommandWord {
     /// A value in its place, which must be there; help calls it by the second text.
     Operand(&'static str, &'static str, &'static str),
-    /// The same, and there may be more of them.
+    /// A value in its place, of which there may be more.
     Operands(&'static str, &'static str, &'static str),
-    /// The same, which may be left out.
+    /// A value in its place, which may be left out.
     Optional(&'static str, &'static str, &'static str),
-    /// A value behind its name, which may be left out; help calls it by the second text.
+    /// A value after its name, which may be left out; help calls it by the second text.
     Option(&'static str, &'static str, &'static str),
-    /// A value behind a hyphen and a letter, as often as there are values; help calls it by the second text.
+    /// A value after a hyphen and a letter, as often as there are values; help calls it by the second text.
     Short(&'static str, char, &'static str, &'static str),
     /// A name that stands alone, and may be left out.
     Flag(&'static str, &'static str),
@@ -187,7 +187,7 @@ const WAIT: CommandWord = CommandWord::Option(
     "How long to wait for FILE where another program writes it; without it that is told at once",
 );
 
-/// What a run does behind an error.
+/// What a run does after an error.
 const STRICT: CommandWord = CommandWord::Flag(
     "strict",
     "The first answer that is an error ends the run, with status 1, and nothing is saved",
@@ -223,7 +223,7 @@ const JSON: CommandWord = CommandWord::Flag(
     "Writes each object as a line of JSON: class, name, kind and value; then --capacities tells nothing",
 );
 
-/// What a dump has behind its end.
+/// What a dump has after its end.
 const CAPACITIES: CommandWord = CommandWord::Flag(
     "capacities",
     "Behind the objects, tells the capacities: of the indexes, vectors, strings and vectors of strings",
@@ -276,7 +276,7 @@ static COMMANDS: [Row; 13] = [
     ("language", LANGUAGE, Some(WORDS), &[VERBOSE]),
 ];
 
-/// A word of a command, for clap.
+/// Returns a word of a command, for clap.
 fn arg_of<'a>(alloc: Global, word: &CommandWord) -> Arg<'a>
     ensures rule { rule_of result ≡ word_rule word.now }
     ensures local { result.global ≡ false }
@@ -311,7 +311,7 @@ fn arg_of<'a>(alloc: Global, word: &CommandWord) -> Arg<'a>
     }
 }
 
-/// A command without its words.
+/// Returns a command without its words.
 fn bare_command<'a>(
     alloc: Global,
     name: &'a str,
@@ -328,7 +328,7 @@ fn bare_command<'a>(
     }
 }
 
-/// A command with these words behind those that it has.
+/// Returns a command with these words after those that it has.
 fn with_words<'a>(
     alloc: Global,
     begun: Command<'a>,
@@ -347,7 +347,7 @@ fn with_words<'a>(
     Ok(command)
 }
 
-/// The program, without its commands.
+/// Returns the program, without its commands.
 fn program<'a>(alloc: Global, about: &'a str, statuses: &'a str) -> Command<'a>
     ensures { app_of result ≡ program }
 {
@@ -357,7 +357,7 @@ fn program<'a>(alloc: Global, about: &'a str, statuses: &'a str) -> Command<'a>
         .arg_required_else_help(true)
 }
 
-/// The program with a command behind those that it has.
+/// Returns the program with a command after those that it has.
 fn with_command<'a>(
     alloc: Global,
     program: Command<'a>,
@@ -369,7 +369,7 @@ fn with_command<'a>(
     program.subcommand(with_words(alloc, command, row.3)?)
 }
 
-/// The program with these commands behind those that it has.
+/// Returns the program with these commands after those that it has.
 fn with_commands<'a>(
     alloc: Global,
     begun: Command<'a>,
@@ -386,7 +386,7 @@ fn with_commands<'a>(
     Ok(program)
 }
 
-/// The command lines of the program.
+/// Returns the command lines of the program.
 pub fn command_line<'a>(alloc: Global) -> Result<Command<'a>, AllocError>
     ensures { IfOk result (λ c. app_of c ≡ command_line) }
 {

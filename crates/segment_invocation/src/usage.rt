@@ -17,7 +17,7 @@ pub enum UsageError {
     /// The words do not fit, or ask for help.
     #[error("{0}")]
     Words(Misread),
-    /// No command stands behind the program's name.
+    /// No command stands after the program's name.
     #[error("error: a command is missing\n")]
     Command,
     /// A command has no file.
@@ -43,7 +43,7 @@ pub enum UsageError {
 /// Why a command line asks for nothing that the program does.
 #[derive(Debug, Drop, Error)]
 pub enum InvocationFault {
-    /// It is wrong, or asks for help.
+    /// The command line is wrong, or asks for help.
     #[error("{0}")]
     Usage(UsageError),
     /// Memory for reading it was refused.

@@ -62,13 +62,13 @@ static KINDS: [Kind; 37] = [
     Kind::Map(ScalarKind::U64, ScalarKind::U64),
 ];
 
-/// Writes the figures of a segment, a line for each, of a word and a number: its size, its free bytes, how many gaps it
-/// has and the longest of them; how many blocks of each role it has, and their bytes, with their tags; how many objects
-/// of each class; for how many entries its indexes have places; and by how many bytes it would be shorter if it ended
-/// behind its last block. Then there is a line for each kind that some of its objects have, with their number.
+/// Writes the figures of a segment, a line for each, of a word and a number. They are its size, its free bytes, the
+/// number of gaps and the longest gap. The number and bytes of the blocks of each role follow, tags included, then the
+/// number of objects of each class and the capacities of the indexes. The last is how many bytes shorter the segment
+/// would be if it ended after its last block. Then there is a line for each kind that some of its objects have, with
+/// their number.
 ///
-/// It answers `DeviceFault` where the writer failed: what went out is then shorter than the text, and the text begins
-/// with it.
+/// Returns `DeviceFault` if the writer failed: what went out is then a proper prefix of the text.
 pub fn stat<W: Sink>(segment: &Segment, out: &mut W) -> Result<(), DeviceFault>
     requires { (W.history out.old).failures < 2 ^ 64 - 1 }
     ensures { WritesReport segment.now (W.history out.old) (W.history out.new) result stat_text }
@@ -143,14 +143,14 @@ fn put_lines<W: Sink>(
     )
 }
 
-/// For how many entries the index of names has places.
+/// Returns the number of entries that the index of names has places for.
 fn named_capacity(segment: &Segment) -> u64
     ensures { AnswersWith segment.now (λ d. d.named.capacity) result }
 {
     word_in(segment.as_bytes(), NAMED_AT as usize + CAPACITY)
 }
 
-/// For how many entries the index of kinds has places.
+/// Returns the number of entries that the index of kinds has places for.
 fn unique_capacity(segment: &Segment) -> u64
     ensures { AnswersWith segment.now (λ d. d.unique.capacity) result }
 {
@@ -181,7 +181,7 @@ fn put_kind_lines<W: Sink>(
     Ok(())
 }
 
-/// Writes the line of a kind that so many objects have, where there are some.
+/// Writes the line of a kind that so many objects have, if there are some.
 fn put_kind<W: Sink>(out: &mut W, kind: Kind, count: u64) -> Result<(), DeviceFault>
     requires { (W.history out.old).failures < 2 ^ 64 - 1 }
     ensures { Writes (W.history out.old) (W.history out.new) result (kind_line kind count) }
@@ -200,7 +200,7 @@ fn put_kind<W: Sink>(out: &mut W, kind: Kind, count: u64) -> Result<(), DeviceFa
     )
 }
 
-/// All kinds, in their order.
+/// Returns all kinds, in their order.
 fn all_kinds() -> &'static [Kind]
     ensures { result.now ≡ kinds }
 {

@@ -11,8 +11,7 @@ use segment_manager::Segment;
 /// Writes the names that begin with a text, in the order of their bytes and a line each, at most so many. A name stands
 /// there as in a script.
 ///
-/// It answers `DeviceFault` where the writer failed: what went out is then shorter than the text, and the text begins
-/// with it.
+/// Returns `DeviceFault` if the writer failed: what went out is then a proper prefix of the text.
 pub fn put_names<W: Sink>(
     segment: &Segment,
     prefix: &[u8],
@@ -29,7 +28,7 @@ pub fn put_names<W: Sink>(
     Ok(())
 }
 
-/// Writes a name that begins with the text, where so many more are to be written, and answers how many more are then.
+/// Writes a name that begins with the text, where so many more are to be written, and returns how many more are then.
 fn put_listed<W: Sink>(
     out: &mut W,
     name: &[u8],
@@ -47,7 +46,7 @@ fn put_listed<W: Sink>(
     Ok(left - 1)
 }
 
-/// Whether a name begins with a text.
+/// Tells whether a name begins with a text.
 fn begins_with(name: &[u8], prefix: &[u8]) -> bool
     ensures { result ≡ begins_with name.now prefix.now }
 {

@@ -15,8 +15,8 @@ use segment_manager::{Instance, Segment};
 /// Writes a page of HTML that shows a segment: its picture, its figures, and its objects as a table that can be sorted
 /// and searched. The page needs no other file.
 ///
-/// It answers `DeviceFault` where the writer failed: what went out is then shorter than the page, and the page begins
-/// with it.
+/// It returns `DeviceFault` if the writer failed: what went out is then shorter than the page, and the page begins with
+/// it.
 pub fn draw_page<W: Sink>(segment: &Segment, out: &mut W) -> Result<(), DeviceFault>
     requires { (W.history out.old).failures < 2 ^ 64 - 1 }
     ensures { WritesReport segment.now (W.history out.old) (W.history out.new) result page_of }

@@ -21,7 +21,7 @@ pub enum Part<'a> {
     Kind(Kind),
 }
 
-/// Writes parts, one behind another.
+/// Writes parts, one after another.
 pub fn put_parts<W: Sink>(out: &mut W, parts: &[Part<'_>]) -> Result<(), DeviceFault>
     requires { (W.history out.old).failures < 2 ^ 64 - 1 }
     ensures { Writes (W.history out.old) (W.history out.new) result (flat_map part_text parts.now) }
@@ -60,7 +60,7 @@ fn put_escaped<W: Sink>(out: &mut W, text: &[u8]) -> Result<(), DeviceFault>
     Ok(())
 }
 
-/// Writes a byte of a text that stands behind two others.
+/// Writes a byte of a text that stands after two others.
 fn put_byte<W: Sink>(out: &mut W, before: u8, last: u8, byte: u8) -> Result<(), DeviceFault>
     requires { (W.history out.old).failures < 2 ^ 64 - 1 }
     ensures { Writes (W.history out.old) (W.history out.new) result (xml_byte before last byte) }
@@ -113,7 +113,7 @@ fn put_kind<W: Sink>(out: &mut W, kind: Kind) -> Result<(), DeviceFault>
     }
 }
 
-/// Writes slices, one behind another.
+/// Writes slices, one after another.
 fn put_slices<W: Sink>(out: &mut W, slices: &[&[u8]]) -> Result<(), DeviceFault>
     requires { (W.history out.old).failures < 2 ^ 64 - 1 }
     ensures { Writes (W.history out.old) (W.history out.new) result (flat_map slice_text slices.now) }

@@ -21,8 +21,8 @@ use segment_manager::unchecked::{instance_here, next_tile};
 /// The bytes of a segment's header.
 const HEADER: u64 = 128;
 
-/// Writes a picture of a segment as a text of SVG, and answers `DeviceFault` where the writer failed: what went out is
-/// then shorter than the text, and the text begins with it.
+/// Writes a picture of a segment as a text of SVG. Returns `DeviceFault` if the writer failed: what went out is then a
+/// proper prefix of the text.
 pub fn draw<W: Sink>(segment: &Segment, out: &mut W) -> Result<(), DeviceFault>
     requires { (W.history out.old).failures < 2 ^ 64 - 1 }
     ensures { WritesReport segment.now (W.history out.old) (W.history out.new) result picture_of }
@@ -33,7 +33,7 @@ pub fn draw<W: Sink>(segment: &Segment, out: &mut W) -> Result<(), DeviceFault>
     put_end(segment, scale, out)
 }
 
-/// The scale of a segment's picture.
+/// Returns the scale of a segment's picture.
 fn scale_of(segment: &Segment) -> Scale
     ensures { HasScale segment.now result.row }
 {
@@ -140,7 +140,7 @@ fn put_tile<W: Sink>(
     put_inside(segment, scale, tile, out)
 }
 
-/// Writes what stands in a block, where it is an object's.
+/// Writes what stands in a block, if it is an object's.
 fn put_inside<W: Sink>(
     segment: &Segment,
     scale: Scale,
@@ -184,7 +184,7 @@ fn put_object<W: Sink>(
     )
 }
 
-/// The word for what bytes are used for.
+/// Returns the word for what bytes are used for.
 fn sort_of(use_of: Option<Role>) -> &'static [u8]
     ensures { result.now ≡ sort_of use_of }
 {

@@ -5,7 +5,7 @@ ghost use Rattle.segment_manager.specs.State.{AnswersQuery, IsSegment};
 
 use segment_manager::Segment;
 
-/// The number of bytes of a segment, which are those of a directory.
+/// Returns the number of bytes of a segment, which are those of a directory.
 pub fn size_of(segment: &Segment) -> u64
     ensures size { AnswersQuery segment.now Size (Number result) }
     ensures denotation { IsSegment segment.now.cut.bytes }

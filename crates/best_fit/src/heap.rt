@@ -11,7 +11,6 @@ ghost use Rattle.best_fit.specs.FreeTree.{span};
 ghost use Rattle.best_fit.specs.Heap.{ChangesBytes, FormatsHeap, IsHeap, IsTileOf, ZeroesFree, extent_at, has_room};
 ghost use Rattle.best_fit.specs.Heap.{is_live_in, live_of, payload_at, with_payload};
 ghost use Rattle.best_fit.specs.Pairs.{CallsOnTwo, TakesTwo};
-ghost use Rattle.best_fit.specs.BlockHints.{LeadToBlocks};
 
 mod free_tree_build;
 mod links;
@@ -76,17 +75,27 @@ impl Heap {
         ensures { result ≡ window }
     {
         let points = tile_walk::way_points(&window);
-        Heap::adopt_noted(window, points)
-    }
-
-    /// As `adopt`, with way-points that are known to lead to blocks in use. No tile is read.
-    pub fn adopt_noted(window: Window, points: BlockHints) -> Heap
-        requires heap { IsHeap current window.bytes }
-        requires points { LeadToBlocks points window.bytes }
-        ensures { result ≡ window }
-    {
         let gaps = GapTree { window };
         Heap { gaps, points }
+    }
+
+    /// As `adopt`, with no way-point, which `insert_hint` notes. No tile is read.
+    pub fn adopt_without_hints(window: Window) -> Heap
+        requires { IsHeap current window.bytes }
+        ensures { result ≡ window }
+    {
+        let points = BlockHints::none();
+        let gaps = GapTree { window };
+        Heap { gaps, points }
+    }
+
+    /// Notes the handle of a block in use, from which blocks behind it are looked for. No byte changes, and no tile is
+    /// read.
+    pub fn insert_hint(&mut self, handle: u64)
+        requires { IsTrue (is_live_in (live_of self.old.bytes) handle) }
+        ensures { self.new ≡ self.old }
+    {
+        self.points.insert(handle);
     }
 
     /// The heap's window, with the bytes that it has now.

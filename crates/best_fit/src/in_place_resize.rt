@@ -17,7 +17,8 @@ pub fn extend(touches: &mut TouchCounter, at: u64, n: u64) -> bool
     requires heap { IsHeap current touches.old.gaps.now.window.bytes }
     requires live { IsTrue (is_live_in (live_of touches.old.gaps.now.window.bytes) (at + TAG_LEN)) }
     requires count { touches.old.count ≡ 0 }
-    ensures changes { TryExtends current touches.old.gaps.now.window touches.new.gaps.now.window (at + TAG_LEN) n result }
+    ensures changes { TryExtends current touches.old.gaps.now.window touches.new.gaps.now.window (at + TAG_LEN) n
+        result }
     ensures touches { touches.new.count ≤ heap_touches (live_of touches.old.gaps.now.window.bytes) }
     ensures steps_lower { result ≡ true → touches.old.count < touches.new.count }
     ensures same_borrow { touches.new.gaps.ghost_name ≡ touches.old.gaps.ghost_name }

@@ -31,7 +31,8 @@ pub fn append_free(window: &mut Window, old_size: u64)
     ensures tags { (ts : List Tile) → FrontSaysTiles window.old old_size ts
         → EncodesTiles window.new (with_free ts (old_size - TAG_LEN) (length window.old.bytes - TAG_LEN)) }
     ensures frame { (ts : List Tile) → FrontSaysTiles window.old old_size ts
-        → SameExceptTags window.old window.new ts (with_free ts (old_size - TAG_LEN) (length window.old.bytes - TAG_LEN)) }
+        → SameExceptTags window.old window.new ts
+        (with_free ts (old_size - TAG_LEN) (length window.old.bytes - TAG_LEN)) }
 {
     let size = window.size();
     let end = size - TAG_LEN;

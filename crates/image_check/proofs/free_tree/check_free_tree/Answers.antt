@@ -38,7 +38,8 @@ returns-in_default-nodes-clause-value c =
     let m = bytes_of w.bytes in
     sym (tree-false w (λ t.
     let p = planted w (tagged w c.requires.size c.requires.tags) t in
-    let s = subst (λ (o : Option ℕ). IsSearchTree (stands_before m) (place_cells w) o p.tree) (sym c.in-Ok.ensures.on_ok)
+    let s = subst (λ (o : Option ℕ).
+    IsSearchTree (stands_before m) (place_cells w) o p.tree) (sym c.in-Ok.ensures.on_ok)
     p.search in
     c.in_default-nodes.not-Some (length (nodes_of p.tree))
     ((c.check_places-tree.ensures.count (length (nodes_of p.tree))).1 (p.tree, s, refl))))
@@ -64,7 +65,8 @@ returns-in_default-count_planted-clause-value c =
     let m = bytes_of w.bytes in
     sym (tree-false w (λ t.
     let p = planted w (tagged w c.requires.size c.requires.tags) t in
-    let s = subst (λ (o : Option ℕ). IsSearchTree (stands_before m) (place_cells w) o p.tree) (sym c.in-Ok.ensures.on_ok)
+    let s = subst (λ (o : Option ℕ).
+    IsSearchTree (stands_before m) (place_cells w) o p.tree) (sym c.in-Ok.ensures.on_ok)
     p.search in
     both_ways (is_some c.count_planted.result) (not-given c.count_planted.result c.in_default-count_planted.not-Some)
     (c.count_planted.ensures.value p.tree s ∙ p.all)))
@@ -76,7 +78,8 @@ returns-then-counts-nodes-clause-value c =
     let m = bytes_of w.bytes in
     sym (tree-false w (λ t.
     let p = planted w (tagged w c.requires.size c.requires.tags) t in
-    let s = subst (λ (o : Option ℕ). IsSearchTree (stands_before m) (place_cells w) o p.tree) (sym c.in-Ok.ensures.on_ok)
+    let s = subst (λ (o : Option ℕ).
+    IsSearchTree (stands_before m) (place_cells w) o p.tree) (sym c.in-Ok.ensures.on_ok)
     p.search in
     let n = some_same c.in-Some.nodes (length (nodes_of p.tree)) (sym c.in-Some.is
     ∙ (c.check_places-tree.ensures.count (length (nodes_of p.tree))).1 (p.tree, s, refl)) in

@@ -11,7 +11,8 @@ abbrev Seeks : (g : Over) → g.row.N.Denot → g.row.N-Probe.Denot → Option �
     → g.row.K.Denot → ℕ → Type 0
 Seeks g s probe root start link at notes steps =
     (t : Tree) → IsSearchTree (g.N.Nodes.order s) (g.N.Nodes.cells s) root t
-    → Seeking g.K.PathFold.passed start (g.N.Nodes.order s) (g.N.Nodes.cells s) (g.N.Nodes.before s probe) t link at notes
+    → Seeking g.K.PathFold.passed start (g.N.Nodes.order s) (g.N.Nodes.cells s) (g.N.Nodes.before s probe) t link at
+    notes
     steps
 
 -- the search, one node further down

@@ -14,7 +14,8 @@ pub returns-in_err-target-clause-step : goal.returns-in_err-target-clause-step
 returns-in_err-target-clause-step g c = rw (exit-is c.from_residual.result _ c.from_residual.ensures.1) (stores-nothing
     (g.O.ObjectRef.key c.args.key.now) g.T.Scalar.kind c.args.index (g.T.Scalar.whole c.args.value)
     (sym c.is_read_only.ensures ∙ c.if-is_read_only.false) (sym (g.met.T.Scalar.values c.args.value)
-    ∙ c.write.ensures.value) (subst (λ k. AnswersWith c.args.self.now (λ d. place_at d (g.O.ObjectRef.key c.args.key.now) k
+    ∙ c.write.ensures.value) (subst (λ k.
+    AnswersWith c.args.self.now (λ d. place_at d (g.O.ObjectRef.key c.args.key.now) k
     c.args.index) (Err c.in_err-target.field-0.0)) c.kind.ensures c.in_err-target.ensures))
 
 pub write-requires-2 : goal.write-requires-2

@@ -6,7 +6,8 @@ use Rattle.segment_manager.proofs.containers.RangeCalls.{range-reading, range-st
 use Rattle.segment_manager.proofs.segment.Segment.write_range.Goals as goal
 
 pub returns-then-is_read_only-clause-step : goal.returns-then-is_read_only-clause-step
-returns-then-is_read_only-clause-step g c = range-stays c.args.self.now (g.O.ObjectRef.key c.args.key.now) g.T.Scalar.kind
+returns-then-is_read_only-clause-step g c =
+    range-stays c.args.self.now (g.O.ObjectRef.key c.args.key.now) g.T.Scalar.kind
     c.args.first (map g.T.Scalar.whole c.args.values.now) _ (λ d st. range-reading c.args.self.now.mode d
     (g.O.ObjectRef.key c.args.key.now) g.T.Scalar.kind c.args.first (map g.T.Scalar.whole c.args.values.now)
     (sym c.is_read_only.ensures ∙ c.if-is_read_only.true))

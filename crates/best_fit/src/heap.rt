@@ -84,9 +84,10 @@ impl Heap {
         requires { IsHeap current window.bytes }
         ensures { result ≡ window }
     {
-        let points = BlockHints::none();
-        let gaps = GapTree { window };
-        Heap { gaps, points }
+        Heap {
+            gaps: GapTree { window },
+            points: BlockHints::none(),
+        }
     }
 
     /// Notes the handle of a block in use, from which blocks behind it are looked for. No byte changes, and no tile is

@@ -68,9 +68,9 @@ pub record AreBlocks (ts : List Tile) (es : Blocks) : Type 0 where
   pub tiles : (n : ℕ) (b : Block) → block_at es n ≡ Some b → IsTileAt ts n b
   pub blocks : (n : ℕ) (role : Role) (t : Tile) → tile_of ts role n ≡ Some t → IsBlockAt es n role t
 
--- they are among the blocks of the live set
-abbrev pub AreLive : LiveSet → Blocks → Type 0
-AreLive live es = (n : ℕ) (b : Block) → block_at es n ≡ Some b → IsTrue (is_live_in live n)
+-- each is a block of the live set
+abbrev pub AreBlocksIn : LiveSet → Blocks → Type 0
+AreBlocksIn live es = (n : ℕ) (b : Block) → block_at es n ≡ Some b → IsTrue (is_live_in live n)
 
 -- The visits that the links behind a block may take once a link is met to lead to it: six for a node, and three for
 -- each 16 bytes of storage.

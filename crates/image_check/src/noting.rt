@@ -1,7 +1,7 @@
 //! The way-points of a heap, from the map of the blocks of an image.
 ghost use Rattle.std.specs.Prelude.{◌≡◌, ◌+◌, length};
 ghost use Rattle.best_fit.specs.Heap.{live_of};
-ghost use Rattle.image_check.specs.Owners.{AreLive};
+ghost use Rattle.image_check.specs.Owners.{AreBlocksIn};
 
 use crate::checking::VisitCounter;
 use crate::image_window::BlockTable;
@@ -10,7 +10,7 @@ use best_fit::Heap;
 /// Notes each block in use as a way-point of a heap that has them. One visit for each; no tag is read, and no byte
 /// changes.
 pub(crate) fn note_blocks(blocks: &BlockTable, heap: &mut Heap, visits: &mut VisitCounter)
-    requires { AreLive (live_of heap.old.bytes) blocks.now.entries }
+    requires { AreBlocksIn (live_of heap.old.bytes) blocks.now.entries }
     ensures unchanged { heap.new ≡ heap.old }
     ensures visits { visits.new ≡ visits.old + length blocks.now.entries }
 {

@@ -12,7 +12,8 @@ version-format-requires c =
 
 pub pass_all-checked-requires-clause-format : goal.pass_all-checked-requires-clause-format
 pass_all-checked-requires-clause-format c =
-    let same = HasFront-version c.requires.0 c.args.window c.version-format.result c.requires.1.0 c.version-format.ensures in
+    let same = HasFront-version c.requires.0 c.args.window c.version-format.result c.requires.1.0
+    c.version-format.ensures in
     let few = c.requires.1.1 in
     omega arith
 

@@ -21,7 +21,8 @@ version-format-requires c =
 
 pub pass_all-requires-clause-format : goal.pass_all-requires-clause-format
 pass_all-requires-clause-format c =
-    let same = HasFront-version c.requires.0 c.args.window c.version-format.result c.requires.1.0 c.version-format.ensures in
+    let same = HasFront-version c.requires.0 c.args.window c.version-format.result c.requires.1.0
+    c.version-format.ensures in
     let few = c.requires.1.1 in
     omega arith
 
@@ -33,7 +34,8 @@ pass_all-requires-clause-front c =
 
 pub into_segment-requires-clause-format : goal.into_segment-requires-clause-format
 into_segment-requires-clause-format c =
-    let same = HasFront-version c.requires.0 c.args.window c.version-format.result c.requires.1.0 c.version-format.ensures in
+    let same = HasFront-version c.requires.0 c.args.window c.version-format.result c.requires.1.0
+    c.version-format.ensures in
     let few = c.requires.1.1 in
     omega arith
 
@@ -41,7 +43,8 @@ pub into_segment-requires-clause-blocks : goal.into_segment-requires-clause-bloc
 into_segment-requires-clause-blocks c =
     let b = c.args.window.bytes in
     let p = c.in-Ok.ensures.pass in
-    frame-AreBlocks (tiles_in b) c.in-Ok.owners.blocks.entries (entries_of (tiles_in b)) p.frame (tags-blocks b p.tiles)
+    frame-AreBlocks (tiles_in b) c.in-Ok.owners.blocks.entries (entries_of (tiles_in b)) p.frame
+    (tags-blocks b p.tiles)
 
 pub returns-in-Ok-clause-opening : goal.returns-in-Ok-clause-opening
 returns-in-Ok-clause-opening c = λ format front.
@@ -59,7 +62,8 @@ returns-in-Ok-clause-steps c =
     let b = c.args.window.bytes in
     let p = c.in-Ok.ensures.pass in
     noted-raised c.args.window _ _ _ _ p.tiles
-    (subst (λ n. Spends all_rates 115 b n c.pass_all.new.visits) (c.new-visits.ensures ∙ c.replace.ensures.value) p.spent)
+    (subst (λ n. Spends all_rates 115 b n c.pass_all.new.visits) (c.new-visits.ensures ∙ c.replace.ensures.value)
+    p.spent)
     (rows-weigh b c.in-Ok.owners.blocks.entries p.tiles p.frame)
     (c.into_steps.ensures ∙ c.into_segment-segment.ensures.visits)
 

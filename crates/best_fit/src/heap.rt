@@ -11,7 +11,6 @@ ghost use Rattle.best_fit.specs.FreeTree.{span};
 ghost use Rattle.best_fit.specs.Heap.{ChangesBytes, FormatsHeap, IsHeap, IsTileOf, ZeroesFree, extent_at, has_room};
 ghost use Rattle.best_fit.specs.Heap.{is_live_in, live_of, payload_at, with_payload};
 ghost use Rattle.best_fit.specs.Pairs.{CallsOnTwo, TakesTwo};
-ghost use Rattle.best_fit.specs.BlockHints.{LeadToBlocks};
 
 mod free_tree_build;
 mod links;
@@ -76,17 +75,28 @@ impl Heap {
         ensures { result ≡ window }
     {
         let points = tile_walk::way_points(&window);
-        Heap::adopt_noted(window, points)
-    }
-
-    /// Makes a heap as `adopt` does, with hints that are known to lead to blocks in use. It reads no tile.
-    pub fn adopt_noted(window: Window, points: BlockHints) -> Heap
-        requires heap { IsHeap current window.bytes }
-        requires points { LeadToBlocks points window.bytes }
-        ensures { result ≡ window }
-    {
         let gaps = GapTree { window };
         Heap { gaps, points }
+    }
+
+    /// Makes a heap as `adopt` does, without hints, which `insert_hint` notes. It reads no tile.
+    pub fn adopt_without_hints(window: Window) -> Heap
+        requires { IsHeap current window.bytes }
+        ensures { result ≡ window }
+    {
+        Heap {
+            gaps: GapTree { window },
+            points: BlockHints::none(),
+        }
+    }
+
+    /// Notes the handle of a block in use, from which blocks behind it are looked for. No byte changes, and no tile is
+    /// read.
+    pub fn insert_hint(&mut self, handle: u64)
+        requires { IsTrue (is_live_in (live_of self.old.bytes) handle) }
+        ensures { self.new ≡ self.old }
+    {
+        self.points.insert(handle);
     }
 
     /// Returns the heap's window, with the bytes that it has now.

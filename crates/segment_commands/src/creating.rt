@@ -1,7 +1,7 @@
 //! The command that makes an empty segment in a file.
 ghost use Rattle.segment_commands.specs.Commands.{IsCreate, MakesSegment};
 
-use crate::command_faults::{CommandFault, WRITE_FAULT};
+use crate::command_faults::CommandFault;
 use block_tags::is_legal_size;
 use grow_shrink::region_for;
 use raw_region::std_io::StdSource;
@@ -50,8 +50,6 @@ pub fn create<D: Disk>(
         return Err(CommandFault::Program(ProgramFault::Exists));
     }
     let segment = new_segment(alloc, size)?;
-    match write_image(disk, path, CreateMode::New, &mut D::hold_none(), &segment) {
-        Ok(()) => Ok(()),
-        Err(_) => Err(WRITE_FAULT),
-    }
+    let mut hold = D::hold_none();
+    Ok(write_image(disk, path, CreateMode::New, &mut hold, &segment)?)
 }

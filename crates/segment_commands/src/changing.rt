@@ -1,22 +1,25 @@
-//! The commands that change the size of the segment in a file.
+//! The commands that write the segment in a file anew: larger, smaller, or by the current format.
 ghost use Rattle.std.specs.Prelude.{◌≡◌, ◌^◌, ◌-◌, ◌<◌, OnOk};
-ghost use Rattle.grow_shrink.specs.Resized.{IsRefusedBy, growth_refusal, grown, room_of, shrink_refusal, shrunk};
+ghost use Rattle.grow_shrink.specs.Resized.{IsRefusedBy};
 ghost use Rattle.segment_manager.specs.blocks.Resized.{Resizes};
+ghost use Rattle.segment_commands.specs.Changing.{Changes};
 ghost use Rattle.segment_commands.specs.Holding.{HoldsLock};
+ghost use Rattle.segment_commands.specs.Migrating.{IsMigrate};
 ghost use Rattle.segment_commands.specs.Modes.{making_of};
 ghost use Rattle.segment_commands.specs.Resizing.{IsResize, TellsAndWrites, TellsSize, more_by, next_by, refusal_by};
 ghost use Rattle.segment_commands.specs.Resizing.{size_line};
 ghost use Rattle.segment_commands.specs.Telling.{WritesAndFlushes};
 
-use crate::command_faults::{CommandFault, WRITE_FAULT};
-use crate::modes::making_for;
-use crate::opening::open_segment;
+use crate::command_faults::CommandFault;
+use crate::opening::{open_any_segment, open_segment};
+use crate::running::making_for;
+use crate::telling::write_and_flush;
 use grow_shrink::{GrowError, shrink_to_fit};
+use image_check::AcceptedVersions;
 use raw_region::DeviceFault;
-use segment_cli::ProgramFault;
 use segment_disk::{CreateMode, Disk, Output};
 use segment_file::write_image;
-use segment_invocation::SaveMode;
+use segment_invocation::{FileChange, SaveMode};
 use segment_lang::put_number_line;
 use segment_manager::{Mode, Segment};
 use std::alloc::Global;
@@ -44,8 +47,7 @@ fn tell_size<O: Output>(segment: &Segment, out: &mut O) -> Result<(), DeviceFaul
     requires { (O.history out.old).failures < 2 ^ 64 - 1 }
     ensures { TellsSize O.history O.flushes out.old out.new segment.now result }
 {
-    let size = segment.size();
-    tell_number(out, size)
+    tell_number(out, segment.size())
 }
 
 /// Says the size of a segment, and then writes its image to the file that is emptied or made for it.
@@ -61,10 +63,8 @@ fn tell_and_write<D: Disk, O: Output>(
     ensures { TellsAndWrites D.step disk.old disk.new path.now making O.history O.flushes out.old out.new
         segment.now result }
 {
-    match tell_size(segment, out) {
-        Ok(()) => write_image(disk, path, making, hold, segment),
-        Err(fault) => Err(fault),
-    }
+    tell_size(segment, out)?;
+    write_image(disk, path, making, hold, segment)
 }
 
 /// Makes a segment larger or smaller.
@@ -103,81 +103,74 @@ fn resize_held<D: Disk, O: Output>(
         (more_by how) (refusal_by how) (next_by how) result }
 {
     let mut segment = open_segment(alloc, disk, path, Mode::Write, more_for(how))?;
-    match resize_segment(&mut segment, how) {
-        Ok(()) => match tell_and_write(disk, path, making, hold, &segment, out) {
-            Ok(()) => Ok(()),
-            Err(_) => Err(WRITE_FAULT),
-        },
-        Err(error) => Err(CommandFault::Program(ProgramFault::Growth(error))),
+    resize_segment(&mut segment, how)?;
+    Ok(tell_and_write(disk, path, making, hold, &segment, out)?)
+}
+
+/// Writes the segment in a file by the current format, with the right to write the file, and then says `ok`.
+fn migrate_held<D: Disk, O: Output>(
+    alloc: Global,
+    disk: &mut D,
+    path: &str,
+    making: CreateMode,
+    hold: &mut D::Hold,
+    out: &mut O,
+) -> Result<(), CommandFault>
+    requires { (O.history out.old).failures < 2 ^ 64 - 1 }
+    ensures { IsMigrate D.step disk.old disk.new path.now making O.history O.flushes out.old out.new result }
+{
+    let segment = open_any_segment(alloc, disk, path, AcceptedVersions::All, Mode::Write, 0)?;
+    write_image(disk, path, making, hold, &segment)?;
+    Ok(write_and_flush(out, b"ok\n")?)
+}
+
+/// Changes the segment in a file, with the right to write the file.
+fn change_held<D: Disk, O: Output>(
+    alloc: Global,
+    disk: &mut D,
+    path: &str,
+    change: FileChange,
+    making: CreateMode,
+    hold: &mut D::Hold,
+    out: &mut O,
+) -> Result<(), CommandFault>
+    requires { (O.history out.old).failures < 2 ^ 64 - 1 }
+    ensures { Changes D.step disk.old disk.new path.now making O.history O.flushes out.old out.new result change }
+{
+    match change {
+        FileChange::Grow(extra) => {
+            resize_held(alloc, disk, path, Resize::Grow(extra), making, hold, out)
+        }
+        FileChange::Shrink => resize_held(alloc, disk, path, Resize::Shrink, making, hold, out),
+        FileChange::Migrate => migrate_held(alloc, disk, path, making, hold, out),
     }
 }
 
-/// The same, and takes the right to write the file and gives it back.
-fn resize_file<D: Disk, O: Output>(
+/// Makes the segment in a file larger by some bytes, or as small as its last block lets it be, and says its size; or
+/// writes it by the current format, whichever of the three it has, and says `ok`. The file is emptied or replaced for
+/// its image, as `saving` says: behind the size when that went out, and before the `ok`.
+///
+/// # Errors
+///
+/// `InUse` if another has the right to write the file. Those of opening it, `GrowthFault` if the segment does not
+/// grow: the file is as it was. `WriteFault` if the size does not go out, if the file can't be emptied or replaced,
+/// takes not the whole image or need not last, and if the `ok` does not go out.
+pub fn change<D: Disk, O: Output>(
     alloc: Global,
     disk: &mut D,
     path: &str,
-    how: Resize,
-    making: CreateMode,
+    change: FileChange,
+    saving: SaveMode,
     out: &mut O,
 ) -> Result<(), CommandFault>
     requires { (O.history out.old).failures < 2 ^ 64 - 1 }
     ensures { HoldsLock D.step disk.old disk.new path.now (out.new ≡ out.old)
-        (λ held done. IsResize D.step held done path.now making O.history O.flushes out.old out.new
-        (more_by how) (refusal_by how) (next_by how) result) result }
+        (λ held done. Changes D.step held done path.now (making_of saving) O.history O.flushes out.old out.new
+        result change) result }
 {
-    let Ok(mut hold) = disk.lock(path) else {
-        return Err(CommandFault::InUse);
-    };
-    let answer = resize_held(alloc, disk, path, how, making, &mut hold, out);
+    let making = making_for(saving);
+    let mut hold = disk.lock(path)?;
+    let answer = change_held(alloc, disk, path, change, making, &mut hold, out);
     disk.unlock(hold);
     answer
-}
-
-/// Makes the segment in a file larger by `extra` bytes, says its size, and then writes its image to the file, which is
-/// emptied or replaced for it, as `saving` says, when the size went out.
-///
-/// # Errors
-///
-/// Those of opening it; `GrowthFault` where it does not grow; `WriteFault` where the size does not go out, or the file
-/// can't
-/// be emptied or replaced, takes not the whole image, or need not last. `AlreadyLocked` where another has the right to
-/// write it.
-pub fn grow<D: Disk, O: Output>(
-    alloc: Global,
-    disk: &mut D,
-    path: &str,
-    extra: u64,
-    saving: SaveMode,
-    out: &mut O,
-) -> Result<(), CommandFault>
-    requires { (O.history out.old).failures < 2 ^ 64 - 1 }
-    ensures { HoldsLock D.step disk.old disk.new path.now (out.new ≡ out.old)
-        (λ held done. IsResize D.step held done path.now (making_of saving) O.history O.flushes out.old out.new
-        extra (λ s d. growth_refusal s.mode d.size extra (room_of s.cut)) (λ d. grown d extra) result) result }
-{
-    let making = making_for(saving);
-    resize_file(alloc, disk, path, Resize::Grow(extra), making, out)
-}
-
-/// Makes the segment in a file as small as its last block lets it be, says its size, and then writes its image to the
-/// file, which is emptied or replaced for it, as `saving` says, when the size went out.
-///
-/// # Errors
-///
-/// Those of [`grow`], but for `GrowthFault`.
-pub fn shrink<D: Disk, O: Output>(
-    alloc: Global,
-    disk: &mut D,
-    path: &str,
-    saving: SaveMode,
-    out: &mut O,
-) -> Result<(), CommandFault>
-    requires { (O.history out.old).failures < 2 ^ 64 - 1 }
-    ensures { HoldsLock D.step disk.old disk.new path.now (out.new ≡ out.old)
-        (λ held done. IsResize D.step held done path.now (making_of saving) O.history O.flushes out.old out.new
-        0 (λ s d. shrink_refusal s.mode) (λ d. shrunk d) result) result }
-{
-    let making = making_for(saving);
-    resize_file(alloc, disk, path, Resize::Shrink, making, out)
 }

@@ -1,6 +1,6 @@
 use Rattle.segment_report.specs.Names.{names_text}
 use Rattle.segment_commands.proofs.Reported.{went_out}
-use Rattle.segment_commands.proofs.naming.tell_names.Goals as goal
+use Rattle.segment_commands.proofs.reporting.tell_names.Goals as goal
 
 pub returns : goal.returns
 returns g c d stands = went_out g.O.Sink.history g.O.Output.flushes c.args.out.now c.put_names.new.out

@@ -44,7 +44,7 @@ pub fn allocate(touches: &mut TouchCounter, n: u64, role: Role) -> Result<u64, N
 /// be left. What is left enters the tree.
 fn take(touches: &mut TouchCounter, at: u64, wanted: u64, role: Role)
     requires gap { (len : ℕ) × IsUnlinkedGap touches.old.gaps.now.window at len × (wanted ≤ len) }
-    requires min_len { LEAST ≤ wanted }
+    requires min_len { MIN_BLOCK_LEN ≤ wanted }
     requires aligned { wanted % 16 ≡ 0 }
     requires no_overflow { touches.old.count < 2 ^ 62 }
     ensures live { (len : ℕ) → IsUnlinkedGap touches.old.gaps.now.window at len → wanted ≤ len
@@ -54,7 +54,7 @@ fn take(touches: &mut TouchCounter, at: u64, wanted: u64, role: Role)
           len = share len wanted;
           role = role;
         })) }
-    ensures black { is_red (bytes_of touches.new.gaps.now.window.bytes) (at + TAG) ≡ false }
+    ensures black { is_red (bytes_of touches.new.gaps.now.window.bytes) (at + TAG_LEN) ≡ false }
     ensures frame { KeepsBlocks touches.old.gaps.now.window touches.new.gaps.now.window
         (live_of touches.old.gaps.now.window.bytes).extents }
     ensures steps { touches.new.count ≤ touches.old.count + 32 * bits (length (gaps_in touches.old.gaps.now.window))
@@ -74,7 +74,7 @@ fn take(touches: &mut TouchCounter, at: u64, wanted: u64, role: Role)
 /// would be left.
 pub fn split_tail(touches: &mut TouchCounter, at: u64, len: u64) -> bool
     requires tile { HasTileAt touches.old.gaps.now.window at }
-    requires min_len { LEAST ≤ len }
+    requires min_len { MIN_BLOCK_LEN ≤ len }
     requires aligned { len % 16 ≡ 0 }
     requires max_size { len ≤ 1073741856 }
     requires no_overflow { touches.old.count + 2 < 2 ^ 64 }

@@ -17,9 +17,9 @@ use block_tags::{TAG_LEN, Tile};
 /// tree.
 pub fn release(touches: &mut TouchCounter, at: u64)
     requires heap { IsHeap current touches.old.gaps.now.window.bytes }
-    requires live { IsTrue (is_live_in (live_of touches.old.gaps.now.window.bytes) (at + TAG)) }
+    requires live { IsTrue (is_live_in (live_of touches.old.gaps.now.window.bytes) (at + TAG_LEN)) }
     requires no_overflow { touches.old.count < 2 ^ 60 }
-    ensures released { Deallocates current touches.old.gaps.now.window touches.new.gaps.now.window (at + TAG) }
+    ensures released { Deallocates current touches.old.gaps.now.window touches.new.gaps.now.window (at + TAG_LEN) }
     ensures steps { touches.new.count
         ≤ touches.old.count + 96 * bits (length (gaps_in touches.old.gaps.now.window) + 1) + 108 }
     ensures steps_lower { touches.old.count < touches.new.count }

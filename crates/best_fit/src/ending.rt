@@ -52,13 +52,13 @@ impl Heap {
 /// begins.
 fn append_block(touches: &mut TouchCounter, extra: u64) -> u64
     requires heap { IsHeap current touches.old.gaps.now.window.bytes }
-    requires min_len { LEAST ≤ extra }
+    requires min_len { MIN_BLOCK_LEN ≤ extra }
     requires multiple { extra % 16 ≡ 0 }
     requires max_size { length touches.old.gaps.now.window.bytes + extra ≤ 1073741824 }
     requires in_bounds { length touches.old.gaps.now.window.before
         + (length touches.old.gaps.now.window.bytes + extra) ≤ length (whole touches.old.gaps.now.window) }
     requires no_overflow { touches.old.count + 2 < 2 ^ 64 }
-    ensures position { result + TAG ≡ length touches.old.gaps.now.window.bytes }
+    ensures position { result + TAG_LEN ≡ length touches.old.gaps.now.window.bytes }
     ensures block { AppendsBlock current touches.old.gaps.now.window touches.new.gaps.now.window extra }
     ensures gaps { gaps_in touches.new.gaps.now.window ≡ gaps_in touches.old.gaps.now.window }
     ensures steps_exact { touches.new.count ≡ touches.old.count + 2 }

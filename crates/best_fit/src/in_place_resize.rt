@@ -15,9 +15,10 @@ use block_tags::{MAX_SEGMENT_LEN, TAG_LEN};
 /// Lengthens the block whose tag begins at `at` to hold `n` bytes, where it is too short and the gap behind it allows.
 pub fn extend(touches: &mut TouchCounter, at: u64, n: u64) -> bool
     requires heap { IsHeap current touches.old.gaps.now.window.bytes }
-    requires live { IsTrue (is_live_in (live_of touches.old.gaps.now.window.bytes) (at + TAG)) }
+    requires live { IsTrue (is_live_in (live_of touches.old.gaps.now.window.bytes) (at + TAG_LEN)) }
     requires count { touches.old.count ≡ 0 }
-    ensures changes { TryExtends current touches.old.gaps.now.window touches.new.gaps.now.window (at + TAG) n result }
+    ensures changes { TryExtends current touches.old.gaps.now.window touches.new.gaps.now.window (at + TAG_LEN) n
+        result }
     ensures touches { touches.new.count ≤ heap_touches (live_of touches.old.gaps.now.window.bytes) }
     ensures steps_lower { result ≡ true → touches.old.count < touches.new.count }
     ensures same_borrow { touches.new.gaps.ghost_name ≡ touches.old.gaps.ghost_name }
@@ -41,9 +42,9 @@ pub fn extend(touches: &mut TouchCounter, at: u64, n: u64) -> bool
 /// Shortens the block whose tag begins at `at` to hold `n` bytes, where what is cut off can be a gap.
 pub fn shorten(touches: &mut TouchCounter, at: u64, n: u64)
     requires heap { IsHeap current touches.old.gaps.now.window.bytes }
-    requires live { IsTrue (is_live_in (live_of touches.old.gaps.now.window.bytes) (at + TAG)) }
+    requires live { IsTrue (is_live_in (live_of touches.old.gaps.now.window.bytes) (at + TAG_LEN)) }
     requires count { touches.old.count ≡ 0 }
-    ensures changes { ShrinksInPlace current touches.old.gaps.now.window touches.new.gaps.now.window (at + TAG) n }
+    ensures changes { ShrinksInPlace current touches.old.gaps.now.window touches.new.gaps.now.window (at + TAG_LEN) n }
     ensures touches { touches.new.count ≤ heap_touches (live_of touches.old.gaps.now.window.bytes) }
     ensures steps_lower { touches.new.gaps.now.window ≢ touches.old.gaps.now.window
         → touches.old.count < touches.new.count }
@@ -74,12 +75,12 @@ fn leaves_gap(cut: u64, behind: u64) -> bool
 /// gap is left, which enters the tree.
 pub fn absorb_and_split(touches: &mut TouchCounter, at: u64, wanted: u64)
     requires heap { IsHeap current touches.old.gaps.now.window.bytes }
-    requires live { IsTrue (is_live_in (live_of touches.old.gaps.now.window.bytes) (at + TAG)) }
-    requires min_len { LEAST ≤ wanted }
+    requires live { IsTrue (is_live_in (live_of touches.old.gaps.now.window.bytes) (at + TAG_LEN)) }
+    requires min_len { MIN_BLOCK_LEN ≤ wanted }
     requires aligned { wanted % 16 ≡ 0 }
     requires max_size { wanted ≤ 1073741856 }
     requires no_overflow { touches.old.count < 2 ^ 60 }
-    ensures cut { SplitsBlock current touches.old.gaps.now.window touches.new.gaps.now.window (at + TAG) wanted }
+    ensures cut { SplitsBlock current touches.old.gaps.now.window touches.new.gaps.now.window (at + TAG_LEN) wanted }
     ensures steps { touches.new.count
         ≤ touches.old.count + 64 * bits (length (gaps_in touches.old.gaps.now.window) + 1) + 74 }
     ensures steps_lower { touches.old.count ≤ touches.new.count }

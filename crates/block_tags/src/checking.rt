@@ -81,7 +81,7 @@ pub fn check_counted(format: u64, window: &Window) -> CheckedTags
 /// Whether the end tag stands at `end`, behind a tile of `before` bytes.
 fn ends_well(window: &Window, end: u64, before: u64) -> bool
     requires max_size { end < 2 ^ 63 }
-    requires in_bounds { end + TAG ≤ length window.now.bytes }
+    requires in_bounds { end + TAG_LEN ≤ length window.now.bytes }
     ensures { result ≡ ((word_at (bytes_of window.now.bytes) end == before)
         && (word_at (bytes_of window.now.bytes) (end + 8) == 1)) }
 {
@@ -93,7 +93,7 @@ fn ends_well(window: &Window, end: u64, before: u64) -> bool
 fn is_good(format: u64, window: &Window, at: u64, before: u64, behind_free: bool, end: u64) -> bool
     requires in_bounds { at < end }
     requires max_size { end < 2 ^ 63 }
-    requires end { end + TAG ≤ length window.now.bytes }
+    requires end { end + TAG_LEN ≤ length window.now.bytes }
     ensures { result ≡ is_good_tile format (bytes_of window.now.bytes) at before behind_free end }
 {
     let tile = tile_there(window, at);

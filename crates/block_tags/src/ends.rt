@@ -29,9 +29,10 @@ pub fn lay(window: &mut Window)
 pub fn append_free(window: &mut Window, old_size: u64)
     requires { CanAppend window.old old_size }
     ensures tags { (ts : List Tile) → FrontSaysTiles window.old old_size ts
-        → EncodesTiles window.new (with_free ts (old_size - TAG) (length window.old.bytes - TAG)) }
+        → EncodesTiles window.new (with_free ts (old_size - TAG_LEN) (length window.old.bytes - TAG_LEN)) }
     ensures frame { (ts : List Tile) → FrontSaysTiles window.old old_size ts
-        → SameExceptTags window.old window.new ts (with_free ts (old_size - TAG) (length window.old.bytes - TAG)) }
+        → SameExceptTags window.old window.new ts
+        (with_free ts (old_size - TAG_LEN) (length window.old.bytes - TAG_LEN)) }
 {
     let size = window.size();
     let end = size - TAG_LEN;

@@ -79,7 +79,7 @@ pub fn may_be_red(format: u64, use_of: Option<Role>) -> bool
 /// The tile that the 16 bytes at `at` say.
 pub fn tile_there(window: &Window, at: u64) -> Tile
     requires max_size { at < 2 ^ 63 }
-    requires in_bounds { at + TAG ≤ length window.now.bytes }
+    requires in_bounds { at + TAG_LEN ≤ length window.now.bytes }
     ensures { result ≡ tile_said (bytes_of window.now.bytes) at }
 {
     tile_of_word(at, window.read_u64(at + 8))

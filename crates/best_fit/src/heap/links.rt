@@ -19,8 +19,8 @@ impl Heap {
     /// Where the header's link at `at` leads: a multiple of 8 below 128, and not 24.
     pub fn header_link(&self, at: u64) -> Option<u64>
         requires aligned { at % 8 ≡ 0 }
-        requires subtree { at < FIRST }
-        requires peer { at ≢ FREE_TREE }
+        requires subtree { at < HEADER_LEN }
+        requires peer { at ≢ FREE_TREE_ROOT }
         ensures { result ≡ link_at (bytes_of self.now.bytes) at }
     {
         load(&self.gaps.window, at)
@@ -29,8 +29,8 @@ impl Heap {
     /// Makes the header's link at `at`, a multiple of 8 below 128 and not 24, lead to a multiple of 16, or nowhere.
     pub fn set_header_link(&mut self, at: u64, to: Option<u64>)
         requires aligned { at % 8 ≡ 0 }
-        requires subtree { at < FIRST }
-        requires peer { at ≢ FREE_TREE }
+        requires subtree { at < HEADER_LEN }
+        requires peer { at ≢ FREE_TREE_ROOT }
         requires target { IfSome to (λ target. target % 16 ≡ 0) }
         ensures changes { ChangesBytes current self.old self.new at 8 }
         ensures link_target { link_at (bytes_of self.new.bytes) at ≡ to }

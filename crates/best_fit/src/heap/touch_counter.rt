@@ -276,10 +276,10 @@ impl<'a> TouchCounter<'a> {
         requires no_overflow { self.old.count + 1 < 2 ^ 64 }
         ensures tags { (ts : List ATile) → FrontSaysTiles self.old.gaps.now.window old_size ts
             → EncodesTiles self.new.gaps.now.window
-            (with_free ts (old_size - TAG) (length self.old.gaps.now.window.bytes - TAG)) }
+            (with_free ts (old_size - TAG_LEN) (length self.old.gaps.now.window.bytes - TAG_LEN)) }
         ensures frame { (ts : List ATile) → FrontSaysTiles self.old.gaps.now.window old_size ts
             → SameExceptTags self.old.gaps.now.window self.new.gaps.now.window ts
-            (with_free ts (old_size - TAG) (length self.old.gaps.now.window.bytes - TAG)) }
+            (with_free ts (old_size - TAG_LEN) (length self.old.gaps.now.window.bytes - TAG_LEN)) }
         ensures steps_exact { self.new.count ≡ self.old.count + 1 }
         ensures same_borrow { self.new.gaps.ghost_name ≡ self.old.gaps.ghost_name }
     {

@@ -11,14 +11,15 @@ abbrev Seeks : (g : Over) → g.row.N.Denot → g.row.N-Probe.Denot → Option �
     → g.row.K.Denot → ℕ → Type 0
 Seeks g s probe root start link at notes steps =
     (t : Tree) → IsSearchTree (g.N.Nodes.order s) (g.N.Nodes.cells s) root t
-    → Seeking g.K.Notes.passed start (g.N.Nodes.order s) (g.N.Nodes.cells s) (g.N.Nodes.before s probe) t link at notes
+    → Seeking g.K.PathFold.passed start (g.N.Nodes.order s) (g.N.Nodes.cells s) (g.N.Nodes.before s probe) t link at
+    notes
     steps
 
 -- the search, one node further down
 further : (g : Over) (s : g.row.N.Denot) (probe : g.row.N-Probe.Denot) (root : Option ℕ) (start : g.row.K.Denot)
     (b : Bool) (n : ℕ) (link at at' : Option ℕ) (notes notes' : g.row.K.Denot) (steps steps' : ℕ)
     → Seeks g s probe root start (Some n) at notes steps → g.N.Nodes.before s probe n ≡ b
-    → notes' ≡ g.K.Notes.passed notes n (g.N.Nodes.cells s n).red b → ((at ≡ Some n → ⊥) → steps' ≡ steps + 1)
+    → notes' ≡ g.K.PathFold.passed notes n (g.N.Nodes.cells s n).red b → ((at ≡ Some n → ⊥) → steps' ≡ steps + 1)
     → at' ≡ Some n → link ≡ child_of (onward b) (g.N.Nodes.cells s n)
     → Seeks g s probe root start link at' notes' steps'
 further g s probe root start b n link at at' notes notes' steps steps' seeks e k goes here is = λ t w.

@@ -10,7 +10,7 @@ invariant-loop-link g l = record {
   good : leads (g.N.Nodes.is_node l.nodes) l.link ≡ true;
   room : l.visits.steps ≤ 80;
   seeks : (t : Tree) → IsSearchTree (g.N.Nodes.order l.nodes) (g.N.Nodes.cells l.nodes) l.fn.root t
-      → Seeking g.K.Notes.passed l.fn.start (g.N.Nodes.order l.nodes) (g.N.Nodes.cells l.nodes)
+      → Seeking g.K.PathFold.passed l.fn.start (g.N.Nodes.order l.nodes) (g.N.Nodes.cells l.nodes)
       (g.N.Nodes.before l.nodes l.probe) t l.link l.visits.at l.notes l.visits.steps;
 }
 

@@ -13,7 +13,8 @@ objects-init g c =
     let s = c.args.segment.now in
     let old = g.W.Sink.history c.args.out.now in
     let walk = c.into_iter-said-iterator.result in
-    let part = object_at_place (where_anonymous (g.T.Telling.text c.args.telling.now)) (λ (d : Directory). d.objects) in
+    let part = object_at_place (where_anonymous (g.T.ObjectWriter.text c.args.telling.now)) (λ (d : Directory).
+    d.objects) in
     let same : walk ≡ record { segment = s; at = 0 } = search rules in
     record {
       can = tt;
@@ -41,7 +42,7 @@ returns-in_err-put_if_anonymous g c =
     c.objects.invariant.segment c.in-Some.ensures.steps.says in
     of-same (places-cut at (λ d st. all-objects s.cut.bytes d st) c.objects.invariant.told
     c.in_err-put_if_anonymous.ensures c.from_residual.ensures.0)
-    (λ d st. anonymous-filtered (g.T.Telling.text c.args.telling.now) d.objects)
+    (λ d st. anonymous-filtered (g.T.ObjectWriter.text c.args.telling.now) d.objects)
 
 pub objects-preserved : goal.objects-preserved
 objects-preserved g c =
@@ -50,7 +51,8 @@ objects-preserved g c =
     let old = g.W.Sink.history c.args.out.now in
     let new = g.W.Sink.history c.put_if_anonymous.new.out in
     let steps = c.in-Some.ensures.steps in
-    let part = object_at_place (where_anonymous (g.T.Telling.text c.args.telling.now)) (λ (d : Directory). d.objects) in
+    let part = object_at_place (where_anonymous (g.T.ObjectWriter.text c.args.telling.now)) (λ (d : Directory).
+    d.objects) in
     let at : SaysAt s (λ (d : Directory). d.objects) walk.at c.in-Some.said =
     subst (λ (t : SegmentState). SaysAt t (λ (d : Directory). d.objects) walk.at c.in-Some.said)
     c.objects.invariant.segment
@@ -72,5 +74,6 @@ returns g c =
     let none : (d : Directory) → DenotesCurrent s.cut.bytes d → length d.objects ≤ walk.at =
     subst (λ (t : SegmentState). (d : Directory) → DenotesCurrent t.cut.bytes d
     → length d.objects ≤ walk.at) c.objects.invariant.segment c.in-None.ensures.steps.says in
-    of-same (places-all s (λ (d : Directory). d.objects) (where_anonymous (g.T.Telling.text c.args.telling.now)) walk.at
-    c.objects.invariant.told none) (λ d st. anonymous-filtered (g.T.Telling.text c.args.telling.now) d.objects)
+    of-same (places-all s (λ (d : Directory).
+    d.objects) (where_anonymous (g.T.ObjectWriter.text c.args.telling.now)) walk.at
+    c.objects.invariant.told none) (λ d st. anonymous-filtered (g.T.ObjectWriter.text c.args.telling.now) d.objects)

@@ -10,6 +10,6 @@ invariant-objects g l = record {
   finite : (goal.iterator-objects g).is_finite l.said-iterator;
   segment : l.said-iterator.segment ≡ l.segment;
   told : WritesOf l.segment (g.W.Sink.history l.initial.out) (g.W.Sink.history l.out) well
-      (λ d. parts_until (object_at_place (where_anonymous (g.T.Telling.text l.initial.telling))
+      (λ d. parts_until (object_at_place (where_anonymous (g.T.ObjectWriter.text l.initial.telling))
       (λ (d : Directory). d.objects) d) l.said-iterator.at);
 }

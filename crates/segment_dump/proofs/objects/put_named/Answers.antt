@@ -21,7 +21,7 @@ tell-requires-clause-text g c =
     all-named s.cut.bytes d st)
 
 pub names-init : goal.names-init
-names-init g c = of-start (object_at_place (g.T.Telling.text c.args.telling.now) named_objects)
+names-init g c = of-start (object_at_place (g.T.ObjectWriter.text c.args.telling.now) named_objects)
 
 pub returns-in_err-tell : goal.returns-in_err-tell
 returns-in_err-tell g c =
@@ -35,5 +35,6 @@ names-preserved g c = places-more c.named_instance.ensures (λ d st. all-named c
 pub returns : goal.returns
 returns g c =
     let n = c.num_named-index-end in
-    places-all c.args.segment.now named_objects (g.T.Telling.text c.args.telling.now) c.names.index c.names.invariant
+    places-all c.args.segment.now named_objects (g.T.ObjectWriter.text c.args.telling.now) c.names.index
+    c.names.invariant
     (λ d k. omega (arith, c.names-test.false, named-is c.args.segment.now.mode d n.result (n.ensures.answers d k)))

@@ -21,7 +21,7 @@ tell-requires-clause-text g c =
     all-unique s.cut.bytes d st)
 
 pub kinds-init : goal.kinds-init
-kinds-init g c = of-start (object_at_place (g.T.Telling.text c.args.telling.now) unique_objects)
+kinds-init g c = of-start (object_at_place (g.T.ObjectWriter.text c.args.telling.now) unique_objects)
 
 pub returns-in_err-tell : goal.returns-in_err-tell
 returns-in_err-tell g c =
@@ -35,5 +35,6 @@ kinds-preserved g c = places-more c.unique_instance.ensures (λ d st. all-unique
 pub returns : goal.returns
 returns g c =
     let n = c.num_unique-index-end in
-    places-all c.args.segment.now unique_objects (g.T.Telling.text c.args.telling.now) c.kinds.index c.kinds.invariant
+    places-all c.args.segment.now unique_objects (g.T.ObjectWriter.text c.args.telling.now) c.kinds.index
+    c.kinds.invariant
     (λ d k. omega (arith, c.kinds-test.false, unique-is c.args.segment.now.mode d n.result (n.ensures.answers d k)))

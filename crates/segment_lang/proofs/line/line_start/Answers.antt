@@ -5,6 +5,6 @@ use Rattle.segment_lang.proofs.line.line_start.Goals as goal
 
 pub returns-in-Some : goal.returns-in-Some
 returns-in-Some c =
-    let short = c.if-line-gt-LONGEST_LINE.false in
+    let short = c.if-line-gt-MAX_LINE_LEN.false in
     command_in_front c.args.line.now c.without_return-line.result.now c.in-Some.rest.now (reader_of c.in-Some.form)
     c.without_return-line.ensures (grind arith) c.in-Some.ensures

@@ -3,16 +3,16 @@ use Rattle.best_fit.proofs.Common.{◌≡◌, false, Bool, IsTrue, ◌+◌, ◌-
 use Rattle.best_fit.proofs.Common.{false≢true, bytes_of, word_at, Tile, tile_at, tile_is_read_off}
 use Rattle.best_fit.proofs.Common.{is_gap_node-GapNode, tiles_in}
 use Rattle.best_fit.proofs.GapFacts.{node_at, node_len}
-use Rattle.best_fit.proofs.heap.summing.len_before.Goals.{then-node-lt-TAG-via-then-node-lt-TAG}
-use Rattle.best_fit.proofs.heap.summing.len_before.Goals.{then-node-lt-TAG-via-else-node-lt-TAG+then-not-in_range}
+use Rattle.best_fit.proofs.heap.summing.len_before.Goals.{then-node-lt-TAG_LEN-via-then-node-lt-TAG_LEN}
+use Rattle.best_fit.proofs.heap.summing.len_before.Goals.{then-node-lt-TAG_LEN-via-else-node-lt-TAG_LEN+then-not-in_range}
 use Rattle.best_fit.proofs.heap.summing.len_before.Goals as goal
 
-pub returns-then-node-lt-TAG : goal.returns-then-node-lt-TAG
-returns-then-node-lt-TAG c = λ node.
+pub returns-then-node-lt-TAG_LEN : goal.returns-then-node-lt-TAG_LEN
+returns-then-node-lt-TAG_LEN c = λ node.
     let w = c.args.window.now in let d = node_at w c.args.node (is_gap_node-GapNode w c.args.node node) in
-    elim c.then-node-lt-TAG.branch [
-      | then-node-lt-TAG-via-then-node-lt-TAG v ↦ let small = v.if-node-lt-TAG.true in absurd (omega arith)
-      | then-node-lt-TAG-via-else-node-lt-TAG+then-not-in_range v ↦ let long = d.long in
+    elim c.then-node-lt-TAG_LEN.branch [
+      | then-node-lt-TAG_LEN-via-then-node-lt-TAG_LEN v ↦ let small = v.if-node-lt-TAG_LEN.true in absurd (omega arith)
+      | then-node-lt-TAG_LEN-via-else-node-lt-TAG_LEN+then-not-in_range v ↦ let long = d.long in
           let no : IsTrue false = subst (λ (b : Bool). IsTrue b) v.if-not-in_range.true
           (v.in_range.ensures.1 (omega arith)) in absurd (false≢true no)
     ]

@@ -3,10 +3,10 @@ use Rattle.segment_lang.proofs.TextItems.{text_in-item, text_in-end, moved_byte,
 use Rattle.segment_lang.proofs.QuotedNames.{byte_too_much, named_bytes}
 use Rattle.segment_lang.proofs.words.Quoted.decode_name.Goals as goal
 
-pub returns-then-len-eq-LONGEST_NAME : goal.returns-then-len-eq-LONGEST_NAME
-returns-then-len-eq-LONGEST_NAME c =
+pub returns-then-len-eq-MAX_NAME_LEN : goal.returns-then-len-eq-MAX_NAME_LEN
+returns-then-len-eq-MAX_NAME_LEN c =
     let p = text_in-item _ _ _ (sym c.in-Some.ensures.value) c.items.invariant.text in
-    byte_too_much c.items.scratch _ _ c.args.self.now _ (sym c.len.ensures ∙ c.if-len-eq-LONGEST_NAME.true) p.1
+    byte_too_much c.items.scratch _ _ c.args.self.now _ (sym c.len.ensures ∙ c.if-len-eq-MAX_NAME_LEN.true) p.1
     c.items.invariant.copied
 
 pub items-preserved : goal.items-preserved
@@ -20,7 +20,7 @@ items-preserved c =
         ap length c.push.ensures,
         length-append c.items.scratch (c.in-Some.byte ∷ []),
         c.len.ensures,
-        c.if-len-eq-LONGEST_NAME.false,
+        c.if-len-eq-MAX_NAME_LEN.false,
         c.items.invariant.room,
       );
     }

@@ -9,7 +9,7 @@ use Rattle.segment_manager.proofs.containers.any_elements.set_any.Goals as goal
 
 pub returns-in-U8-clause-step : goal.returns-in-U8-clause-step
 returns-in-U8-clause-step g c =
-    let key : Key = g.O.Target.key c.args.key.now in let k : ScalarKind = kind_of_scalar c.args.value in
+    let key : Key = g.O.ObjectRef.key c.args.key.now in let k : ScalarKind = kind_of_scalar c.args.value in
     of_kind-steps c.args.segment.now c.string_set.new.self key String (Set key c.args.index (literal_of k
     (value_of_scalar c.args.value))) (done_answer c.string_set.result) (subst (λ (n : Kind). AnswersWith
     c.args.segment.now (λ d. kind_at d key) (Ok n)) c.in-String.is (kind-by_key c.args.segment.now key
@@ -21,7 +21,7 @@ returns-in-U8-clause-step g c =
 
 pub returns-in-Vector-clause-step : goal.returns-in-Vector-clause-step
 returns-in-Vector-clause-step g c =
-    let key : Key = g.O.Target.key c.args.key.now in
+    let key : Key = g.O.ObjectRef.key c.args.key.now in
     of_kind-steps _ _ _ (Vector (kind_of_scalar c.args.value)) (Set key c.args.index _) _ (vector-kind _ _
     c.in-Vector.field-0 _ (subst (λ (n : Kind). AnswersWith c.args.segment.now (λ d. kind_at d key) (Ok n))
     c.in-Vector.is (kind-by_key _ key _ c.in_ok-object.ensures)) c.requires.kind_fit) (step_of_kind-by_key _ key _
@@ -29,27 +29,27 @@ returns-in-Vector-clause-step g c =
 
 pub returns-in_default-clause-step : goal.returns-in_default-clause-step
 returns-in_default-clause-step g c =
-    let key : Key = g.O.Target.key c.args.key.now in
+    let key : Key = g.O.ObjectRef.key c.args.key.now in
     of_kind-steps _ _ _ (Scalar (kind_of_scalar c.args.value)) (Set key c.args.index _) _ (scalar-kind _ _ _ _
     (kind-by_key _ key _ c.in_ok-object.ensures) c.requires.kind_fit c.in_default.not-String c.in_default.not-Vector)
     (step_of_kind-by_key _ key _ c.in_ok-object.ensures _ _ (Set key c.args.index _) _ c.set_value.ensures.step)
 
 pub returns-in-U8-clause-element : goal.returns-in-U8-clause-element
 returns-in-U8-clause-element g c =
-    let key : Key = g.O.Target.key c.args.key.now in
+    let key : Key = g.O.ObjectRef.key c.args.key.now in
     on_ok c.string_set.result (element-of_text c.args.segment.now c.string_set.new.self key
     (kind_of_scalar c.args.value) c.args.index (subst (λ (n : Kind). AnswersWith c.args.segment.now (λ d. kind_at d key)
     (Ok n)) c.in-String.is (kind-by_key c.args.segment.now key c.in_ok-object.object c.in_ok-object.ensures)))
 
 pub returns-in-Vector-clause-element : goal.returns-in-Vector-clause-element
 returns-in-Vector-clause-element g c =
-    let key : Key = g.O.Target.key c.args.key.now in
+    let key : Key = g.O.ObjectRef.key c.args.key.now in
     on_ok c.set_in_vector.result (element-of_vector c.args.segment.now c.set_in_vector.new.self key
     (kind_of_scalar c.args.value) c.in-Vector.field-0 c.args.index (subst (λ (n : Kind). AnswersWith c.args.segment.now
     (λ d. kind_at d key) (Ok n)) c.in-Vector.is (kind-by_key _ key _ c.in_ok-object.ensures)))
 
 pub returns-in_default-clause-element : goal.returns-in_default-clause-element
 returns-in_default-clause-element g c =
-    let key : Key = g.O.Target.key c.args.key.now in
+    let key : Key = g.O.ObjectRef.key c.args.key.now in
     on_ok-map c.set_value.result (element-by_key c.args.segment.now c.set_value.new.self key c.in_ok-object.object
     c.in_ok-object.ensures (kind_of_scalar c.args.value) c.args.index) c.set_value.ensures.element

@@ -13,7 +13,7 @@ pub lookup-requires : goal.lookup-requires
 lookup-requires g c = record {
   index = denotes-sorted_index c.args.index c.requires.segment.1.denotes;
   sort = key-sort c.args.index c.args.entry c.requires.key.0 c.args.name.now
-      (kind_of (bare (g.F.Filling.content c.args.filling.now))) c.requires.key.1;
+      (kind_of (bare (g.F.ObjectInit.content c.args.filling.now))) c.requires.key.1;
 }
 
 pub at-requires-clause-index : goal.at-requires-clause-index
@@ -28,11 +28,11 @@ found_of-requires g c =
     let s : SegmentState = record { cut = c.args.heap.now; mode = Write } in let key = c.requires.key in
     has-object key.0 c.requires.segment (found-answers s c.args.index c.args.entry c.in-Found.place
     c.in-Found.ensures.place c.at.ensures key.0 (key-seeks c.args.index c.args.entry key.0 c.args.name.now
-    (kind_of (bare (g.F.Filling.content c.args.filling.now))) key.1))
+    (kind_of (bare (g.F.ObjectInit.content c.args.filling.now))) key.1))
 
 pub returns-in-Found : goal.returns-in-Found
 returns-in-Found g c = λ key n.
-    let content = g.F.Filling.content c.args.filling.now in
+    let content = g.F.ObjectInit.content c.args.filling.now in
     found-all c.requires.segment key content (λ mode.
     let s : SegmentState = record { cut = c.args.heap.now; mode = mode } in
     found-answers s c.args.index c.args.entry c.in-Found.place c.in-Found.ensures.place c.at.ensures key
@@ -46,11 +46,11 @@ begin_at-requires-clause-index g c = segment-index c.args.index c.requires.segme
 
 pub begin_at-requires-clause-max_len : goal.begin_at-requires-clause-max_len
 begin_at-requires-clause-max_len g c = key-short c.args.index c.args.entry c.requires.key.0 c.args.name.now
-    (kind_of (bare (g.F.Filling.content c.args.filling.now))) c.requires.key.1
+    (kind_of (bare (g.F.ObjectInit.content c.args.filling.now))) c.requires.key.1
 
 pub returns-in_err-begun : goal.returns-in_err-begun
 returns-in_err-begun g c = rw (exit-is c.from_residual.result _ c.from_residual.ensures.1) (λ key n.
-    let content = g.F.Filling.content c.args.filling.now in let is = c.shape-shape.ensures in
+    let content = g.F.ObjectInit.content c.args.filling.now in let is = c.shape-shape.ensures in
     let away = c.in-Absent.ensures.place in
     found-absent c.args.index c.args.entry c.in-Absent.place c.args.name.now (kind_of (bare content)) n away
     (found-not_begun c.requires.segment key content c.in_err-begun.field-0.0 (no-object c.requires.segment
@@ -60,7 +60,7 @@ returns-in_err-begun g c = rw (exit-is c.from_residual.result _ c.from_residual.
 
 pub returns : goal.returns
 returns g c = λ key n.
-    let content = g.F.Filling.content c.args.filling.now in let is = c.shape-shape.ensures in
+    let content = g.F.ObjectInit.content c.args.filling.now in let is = c.shape-shape.ensures in
     let away = c.in-Absent.ensures.place in let b = c.in_ok-begun.begun in
     subst (FindsOrConstructs c.args.heap.now c.build.new.heap key content) (sym c.counted.ensures)
     (found-absent c.args.index c.args.entry c.in-Absent.place c.args.name.now (kind_of (bare content)) n away

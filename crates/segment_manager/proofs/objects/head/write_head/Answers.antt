@@ -26,5 +26,5 @@ returns c =
     c.set_word.ensures.word ∙ (λ i. two_halves ((c.from.ensures ∙ c.code.ensures) i) (c.from-2.ensures i)) in
     let w = head-written c.set_word.ensures.changes kinds c.set_word-2.ensures.changes
     (c.set_word-2.ensures.word ∙ ap (two_halves (length c.args.name.now)) (c.from-3.ensures ∙ c.code_of_class.ensures))
-    (record { changes = c.write_name.ensures.changes; content = c.write_name.ensures.name }) in
+    (record { change = c.write_name.ensures.changes; content = c.write_name.ensures.name }) in
     record { changes = w.change; head = w.head }

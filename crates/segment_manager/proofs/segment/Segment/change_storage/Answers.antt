@@ -55,13 +55,13 @@ elements-done g c = answered _ _ c.self.view_is c.self.invariant _ _ _ _ _
 
 pub returns-then-is_read_only-clause-step : goal.returns-then-is_read_only-clause-step
 returns-then-is_read_only-clause-step g c =
-    let key : Key = g.O.Target.key c.args.key.now in
+    let key : Key = g.O.ObjectRef.key c.args.key.now in
     refuses-read_only c.args.self.now (command_of c.args.change key)
     (sym c.is_read_only.ensures ∙ c.if-is_read_only.true) (change-changes c.args.change key)
 
 pub returns-in_err-object-clause-step : goal.returns-in_err-object-clause-step
 returns-in_err-object-clause-step g c =
-    rw (exit-is c.from_residual.result _ c.from_residual.ensures.1) (let key : Key = g.O.Target.key c.args.key.now in
+    rw (exit-is c.from_residual.result _ c.from_residual.ensures.1) (let key : Key = g.O.ObjectRef.key c.args.key.now in
     nowhere-steps c.args.self.now key c.in_err-object.field-0.0 (command_of c.args.change key)
     (sym c.is_read_only.ensures
     ∙ c.if-is_read_only.false) c.in_err-object.ensures (λ d e. change-nowhere c.args.change d key e))

@@ -9,12 +9,12 @@ use Rattle.segment_manager.proofs.segment.Segment.construct_under.Goals as goal
 
 -- what the call does, under the key of the object's kind
 done : (g : Over) (c : After-build g) → Constructs c.self.inside.heap c.build.new.heap
-    (Construct (g.D.Destination.key c.args.key.now (kind_of (bare (g.F.Filling.content c.args.filling.now))))
-    (g.F.Filling.content c.args.filling.now)) handle_answer c.build.result
+    (Construct (g.D.ConstructKey.key c.args.key.now (kind_of (bare (g.F.ObjectInit.content c.args.filling.now))))
+    (g.F.ObjectInit.content c.args.filling.now)) handle_answer c.build.result
 done g c =
-    let content = g.F.Filling.content c.args.filling.now in let b = c.in_ok-begun.begun in
+    let content = g.F.ObjectInit.content c.args.filling.now in let b = c.in_ok-begun.begun in
     subst (λ (key : Key). Constructs c.self.inside.heap c.build.new.heap (Construct key content) handle_answer
-    c.build.result) (c.key_for-key.ensures.key ∙ ap (g.D.Destination.key c.args.key.now) c.shape-shape.ensures.kind)
+    c.build.result) (c.key_for-key.ensures.key ∙ ap (g.D.ConstructKey.key c.args.key.now) c.shape-shape.ensures.kind)
     (construct-built c.self.invariant (new_key_seen c.key_for-key.result) content b.entry c.begin_object.new.heap
     b.handle
     b.at c.build.result (begun-for c.self.inside.heap c.begin_object.new.heap _ (Ok b) c.shape-shape.ensures
@@ -22,12 +22,12 @@ done g c =
 
 -- or where it is not begun
 none : (g : Over) (c : In_err-begun g) → Constructs c.self.inside.heap c.begin_object.new.heap
-    (Construct (g.D.Destination.key c.args.key.now (kind_of (bare (g.F.Filling.content c.args.filling.now))))
-    (g.F.Filling.content c.args.filling.now)) handle_answer (Err c.in_err-begun.field-0.0)
+    (Construct (g.D.ConstructKey.key c.args.key.now (kind_of (bare (g.F.ObjectInit.content c.args.filling.now))))
+    (g.F.ObjectInit.content c.args.filling.now)) handle_answer (Err c.in_err-begun.field-0.0)
 none g c =
-    let content = g.F.Filling.content c.args.filling.now in
+    let content = g.F.ObjectInit.content c.args.filling.now in
     subst (λ (key : Key). Constructs c.self.inside.heap c.begin_object.new.heap (Construct key content) handle_answer
-    (Err c.in_err-begun.field-0.0)) (c.key_for-key.ensures.key ∙ ap (g.D.Destination.key c.args.key.now)
+    (Err c.in_err-begun.field-0.0)) (c.key_for-key.ensures.key ∙ ap (g.D.ConstructKey.key c.args.key.now)
     c.shape-shape.ensures.kind) (construct-not_begun c.self.invariant (new_key_seen c.key_for-key.result) content
     c.in_err-begun.field-0.0 c.begin_object.new.heap (begun-for c.self.inside.heap c.begin_object.new.heap _
     (Err c.in_err-begun.field-0.0) c.shape-shape.ensures c.in_err-begun.ensures))

@@ -10,11 +10,11 @@ use Rattle.segment_manager.proofs.segment.Segment.find_or_construct_under.Goals 
 -- what the call does, under the key of the object's kind
 done : (g : Over) (c : After-find_or_construct_entered g)
     → FindsOrConstructs c.self.inside.heap c.find_or_construct_entered.new.heap
-    (g.D.Destination.key c.args.key.now (kind_of (bare (g.F.Filling.content c.args.filling.now))))
-    (g.F.Filling.content c.args.filling.now) c.find_or_construct_entered.result
+    (g.D.ConstructKey.key c.args.key.now (kind_of (bare (g.F.ObjectInit.content c.args.filling.now))))
+    (g.F.ObjectInit.content c.args.filling.now) c.find_or_construct_entered.result
 done g c = subst (λ (key : Key). FindsOrConstructs c.self.inside.heap c.find_or_construct_entered.new.heap key
-    (g.F.Filling.content c.args.filling.now) c.find_or_construct_entered.result)
-    (c.entry_for-key.ensures.key ∙ ap (g.D.Destination.key c.args.key.now) c.shape.ensures.kind)
+    (g.F.ObjectInit.content c.args.filling.now) c.find_or_construct_entered.result)
+    (c.entry_for-key.ensures.key ∙ ap (g.D.ConstructKey.key c.args.key.now) c.shape.ensures.kind)
     (c.find_or_construct_entered.ensures (index_key_seen c.entry_for-key.result) (c.entry_of-index.ensures.new _
     (subst (IsOfKind (index_key_seen c.entry_for-key.result)) c.shape.ensures.kind c.entry_for-key.ensures.kind)))
 
@@ -29,5 +29,5 @@ invariant_of-self g c =
 
 pub returns-clause-search : goal.returns-clause-search
 returns-clause-search g c = keeps-cut _ _ c.self.view_is c.find_or_construct_entered.new.heap
-    (IsBoundKey (g.D.Destination.key c.args.key.now (kind_of (bare (g.F.Filling.content c.args.filling.now)))))
+    (IsBoundKey (g.D.ConstructKey.key c.args.key.now (kind_of (bare (g.F.ObjectInit.content c.args.filling.now)))))
     (done g (goal.at.returns-clause-search g c).After-find_or_construct_entered).found

@@ -10,11 +10,11 @@ read_instance-requires-clause-heap g c =
 
 pub read_instance-requires-clause-object : goal.read_instance-requires-clause-object
 read_instance-requires-clause-object g c =
-    seen-object _ _ c.self.view_is (g.O.Target.key c.args.key.now) _ c.self.invariant
+    seen-object _ _ c.self.view_is (g.O.ObjectRef.key c.args.key.now) _ c.self.invariant
     (handle-located _ c.in-Some.ensures)
 
 pub returns-in-Some : goal.returns-in-Some
 returns-in-Some g c =
-    subst (λ t. SaysOf t (g.O.Target.key c.args.key.now) c.read_instance.result) c.self.view_is (key-says
-    (seen-handle _ _ c.self.view_is (g.O.Target.key c.args.key.now) _
+    subst (λ t. SaysOf t (g.O.ObjectRef.key c.args.key.now) c.read_instance.result) c.self.view_is (key-says
+    (seen-handle _ _ c.self.view_is (g.O.ObjectRef.key c.args.key.now) _
     (handle-located _ c.in-Some.ensures)) c.read_instance.ensures)

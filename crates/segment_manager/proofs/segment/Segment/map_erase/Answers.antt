@@ -15,7 +15,7 @@ erase-requires g c = some-there (of-map g.met.K.Scalar) (of-map g.met.V.Scalar) 
 
 pub returns-in_err-place-clause-step : goal.returns-in_err-place-clause-step
 returns-in_err-place-clause-step g c = rw (exit-is c.from_residual.result _ c.from_residual.ensures.1)
-    (let asked : Command = Remove (g.O.Target.key c.args.key.now)
+    (let asked : Command = Remove (g.O.ObjectRef.key c.args.key.now)
     (literal_of g.K.Scalar.kind (g.K.Scalar.whole c.args.at)) in
     finds-no_map _ _ _ _ _ _
     (open-writing _ asked (sym c.is_read_only.ensures ∙ c.if-is_read_only.false)) c.in_err-place.ensures)

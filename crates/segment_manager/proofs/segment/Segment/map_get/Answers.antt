@@ -11,7 +11,7 @@ get-requires g c = some-there (of-map g.met.K.Scalar) (of-map g.met.V.Scalar) c.
 
 pub returns-in_err-place : goal.returns-in_err-place
 returns-in_err-place g c = rw (exit-is c.from_residual.result _ c.from_residual.ensures.1) (let asked : Command = Lookup
-    (g.O.Target.key c.args.key.now) (literal_of g.K.Scalar.kind (g.K.Scalar.whole c.args.at)) in
+    (g.O.ObjectRef.key c.args.key.now) (literal_of g.K.Scalar.kind (g.K.Scalar.whole c.args.at)) in
     step_of_kind-reply _ _ _ _ _ (finds-no_map _ _ _ _ _ _ (open-reading _ asked refl) c.in_err-place.ensures))
 
 pub returns : goal.returns

@@ -19,8 +19,8 @@ answer g c =
 -- what the call does, in each goal behind it
 done : (g : Over) (c : Joined-put g)
     → Answered truth_answer (record { cut = c.self.inside.heap; mode = c.self.inside.mode })
-    c.args.self.now c.put.new.heap (g.O.Target.key c.args.key.now) (Map g.K.Scalar.kind g.V.Scalar.kind) (Put
-    (g.O.Target.key c.args.key.now) (literal_of g.K.Scalar.kind (g.K.Scalar.whole c.args.at))
+    c.args.self.now c.put.new.heap (g.O.ObjectRef.key c.args.key.now) (Map g.K.Scalar.kind g.V.Scalar.kind) (Put
+    (g.O.ObjectRef.key c.args.key.now) (literal_of g.K.Scalar.kind (g.K.Scalar.whole c.args.at))
     (literal_of g.V.Scalar.kind (g.V.Scalar.whole c.args.value))) c.match-put.result
 done g c = put-there (of-map g.met.K.Scalar) (of-map g.met.V.Scalar) c.self.view_is _ c.at.ensures c.self.invariant
     c.in_ok-place.ensures _ (sym c.is_read_only.ensures ∙ c.if-is_read_only.false) _ _ c.put.result _ (answer g c)
@@ -36,7 +36,8 @@ put-requires g c = some-there (of-map g.met.K.Scalar) (of-map g.met.V.Scalar) c.
 
 pub returns-in_err-place-clause-step : goal.returns-in_err-place-clause-step
 returns-in_err-place-clause-step g c = rw (exit-is c.from_residual.result _ c.from_residual.ensures.1)
-    (let asked : Command = Put (g.O.Target.key c.args.key.now) (literal_of g.K.Scalar.kind (g.K.Scalar.whole c.args.at))
+    (let asked : Command = Put (g.O.ObjectRef.key c.args.key.now)
+    (literal_of g.K.Scalar.kind (g.K.Scalar.whole c.args.at))
     (literal_of g.V.Scalar.kind (g.V.Scalar.whole c.args.value)) in
     finds-no_map _ _ _ _ _ _ (open-writing _ asked (sym c.is_read_only.ensures ∙ c.if-is_read_only.false))
     c.in_err-place.ensures)

@@ -3,5 +3,5 @@ use Rattle.segment_manager.proofs.{Common.refl, objects.Locating.located-measure
 use Rattle.segment_manager.proofs.segment.Segment.measure.Goals as goal
 
 pub returns-in_default : goal.returns-in_default
-returns-in_default g c = located-measures c.args.self.now (g.O.Target.key c.args.key.now) c.in_ok-object.object
+returns-in_default g c = located-measures c.args.self.now (g.O.ObjectRef.key c.args.key.now) c.in_ok-object.object
     c.in_ok-object.ensures c.in_ok-object.object.kind c.measure_kind.result refl c.measure_kind.ensures

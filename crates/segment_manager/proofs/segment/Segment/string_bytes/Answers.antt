@@ -8,6 +8,6 @@ pub as_bytes-requires : goal.as_bytes-requires
 as_bytes-requires g c = text-standing c.self.view_is _ _ c.self.invariant c.in_ok-place.ensures
 
 pub returns : goal.returns
-returns g c = subst (λ (t : SegmentState). AnswersWith t (λ d. bytes_at d (g.O.Target.key c.args.key.now))
+returns g c = subst (λ (t : SegmentState). AnswersWith t (λ d. bytes_at d (g.O.ObjectRef.key c.args.key.now))
     (Ok c.as_bytes.result.now)) c.self.view_is
     (reads-bytes _ _ _ _ (seen-found _ _ c.self.view_is _ String _ c.in_ok-place.ensures) c.as_bytes.ensures)

@@ -11,7 +11,7 @@ invariant_of-self g c = (text-popped c.self.view_is c.self.invariant c.in_ok-pla
 
 pub returns-in_err-place-clause-step : goal.returns-in_err-place-clause-step
 returns-in_err-place-clause-step g c = rw (exit-is c.from_residual.result _ c.from_residual.ensures.1)
-    (step-leads-on _ _ _ _ _ (c.in_err-place.ensures.refused (Pop (g.O.Target.key c.args.key.now)) refl))
+    (step-leads-on _ _ _ _ _ (c.in_err-place.ensures.refused (Pop (g.O.ObjectRef.key c.args.key.now)) refl))
 
 pub returns : goal.returns
 returns g c =

@@ -6,19 +6,19 @@ use Rattle.segment_manager.proofs.containers.{Extending.extended-stays, VectorAn
 use Rattle.segment_manager.proofs.segment.Segment.vec_extend.Goals as goal
 
 pub returns-then-is_read_only-clause-step : goal.returns-then-is_read_only-clause-step
-returns-then-is_read_only-clause-step g c = extended-stays c.args.self.now (g.O.Target.key c.args.key.now)
+returns-then-is_read_only-clause-step g c = extended-stays c.args.self.now (g.O.ObjectRef.key c.args.key.now)
     g.T.Scalar.kind (map g.T.Scalar.whole c.args.values.now) _ (λ d st. extended-reading c.args.self.now.mode d
-    (g.O.Target.key c.args.key.now) g.T.Scalar.kind (map g.T.Scalar.whole c.args.values.now)
+    (g.O.ObjectRef.key c.args.key.now) g.T.Scalar.kind (map g.T.Scalar.whole c.args.values.now)
     (sym c.is_read_only.ensures ∙ c.if-is_read_only.true))
 
 pub returns-in_err-place-clause-step : goal.returns-in_err-place-clause-step
 returns-in_err-place-clause-step g c = rw (exit-is c.from_residual.result _ c.from_residual.ensures.1)
     (let there = subst (λ k. AnswersWith c.args.self.now (λ d.
-    container_at d (g.O.Target.key c.args.key.now) (Vector k))
+    container_at d (g.O.ObjectRef.key c.args.key.now) (Vector k))
     (Err c.in_err-place.field-0.0)) c.kind.ensures c.in_err-place.ensures in
-    extended-stays c.args.self.now (g.O.Target.key c.args.key.now) g.T.Scalar.kind
+    extended-stays c.args.self.now (g.O.ObjectRef.key c.args.key.now) g.T.Scalar.kind
     (map g.T.Scalar.whole c.args.values.now) _ (λ d st. extended-missing c.args.self.now.mode d
-    (g.O.Target.key c.args.key.now) g.T.Scalar.kind (map g.T.Scalar.whole c.args.values.now)
+    (g.O.ObjectRef.key c.args.key.now) g.T.Scalar.kind (map g.T.Scalar.whole c.args.values.now)
     (sym c.is_read_only.ensures ∙ c.if-is_read_only.false) _ (there.answers d st)))
 
 pub extend-requires : goal.extend-requires

@@ -11,9 +11,10 @@ get-requires g c = some-vector (of-vector g.met.T.Scalar) c.self.view_is _ c.kin
 
 pub returns-in_err-place : goal.returns-in_err-place
 returns-in_err-place g c = rw (exit-is c.from_residual.result _ c.from_residual.ensures.1) (no_container-reply _ _ _
-    (Get (g.O.Target.key c.args.key.now) c.args.index) _ refl
+    (Get (g.O.ObjectRef.key c.args.key.now) c.args.index) _ refl
     (subst (λ l. AnswersWith c.args.self.now (λ d. container_at d
-    (g.O.Target.key c.args.key.now) (Vector l)) (Err c.in_err-place.field-0.0)) c.kind.ensures c.in_err-place.ensures))
+    (g.O.ObjectRef.key c.args.key.now) (Vector l)) (Err c.in_err-place.field-0.0)) c.kind.ensures
+    c.in_err-place.ensures))
 
 pub returns : goal.returns
 returns g c = seen-reply _ _ c.self.view_is _ _ _ _ (vector-got (of-vector g.met.T.Scalar) c.self.view_is _

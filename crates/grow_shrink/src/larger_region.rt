@@ -54,8 +54,7 @@ pub fn region_for(alloc: Global, bytes: u64) -> Result<RawRegion, OutOfMemory>
 }
 
 /// Lengthens a segment by `extra` bytes, which are free: a multiple of 16, at least 32. It moves into a larger region
-/// if
-/// its own has no room. Every object keeps its handle and its value.
+/// if its own has no room. Every object keeps its handle and its value.
 ///
 /// # Errors
 ///

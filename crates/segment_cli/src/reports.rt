@@ -80,8 +80,7 @@ pub fn session_status(fault: SessionFault) -> u8
 }
 
 /// The status that the program ends with: 1 where an image, a size or a growth is refused, 2 for a wrong command line,
-/// 3
-/// for a file that exists and for faults, 4 for want of memory.
+/// 3 for a file that exists and for faults, 4 for want of memory.
 fn status_of(fault: ProgramFault) -> u8
     ensures { result ≡ status_of fault }
 {

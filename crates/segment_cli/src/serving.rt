@@ -15,8 +15,7 @@ use segment_scripts::{End, RunObserver, Until, run_until};
 /// # Errors
 ///
 /// `ReadFault` where the script's reader failed, `WriteFault` where the writer failed in an answer, `ScriptTooLong`
-/// where
-/// the script has more than 16777216 bytes. The segment is left as the lines that were executed leave it.
+/// where the script has more than 16777216 bytes. The segment is left as the lines that were executed leave it.
 pub fn serve<S: Source, O: Sink, F: RunObserver<O>>(
     segment: &mut Segment,
     script: &mut S,

@@ -71,18 +71,16 @@ fn save_segment<W: Sink>(segment: &Segment, image_out: &mut W) -> Result<(), Dev
     Ok(())
 }
 
-/// Makes an empty segment in the region, from `base` on, which is a multiple of 16 bytes, or opens
-/// the one of the image there; executes the script, and writes the answers to `out`; and then, if
-/// the mode is `Write`, writes the segment's image to `image_out`. The check of an image alone takes
-/// memory.
+/// Makes an empty segment in the region, from `base` on, which is a multiple of 16 bytes, or opens the one of the image
+/// there; executes the script, and writes the answers to `out`; and then, if the mode is `Write`, writes the segment's
+/// image to `image_out`. The check of an image alone takes memory.
 ///
 /// # Errors
 ///
-/// `BadSize` and `RegionTooSmall` wherever they apply. A class of the image where it denotes no
-/// directory. `ReadFault` and `WriteFault` where a reader or a writer failed, and `ScriptTooLong`
-/// where the script has more than 16777216 bytes. `OutOfMemory` where memory for the check of the
-/// image was refused, which has a tile in use; never for a fresh segment. Nothing is saved after a
-/// fault, but for a proper prefix of the image where writing it failed.
+/// `BadSize` and `RegionTooSmall` wherever they apply. A class of the image where it denotes no directory. `ReadFault`
+/// and `WriteFault` where a reader or a writer failed, and `ScriptTooLong` where the script has more than 16777216
+/// bytes. `OutOfMemory` where memory for the check of the image was refused, which has a tile in use; never for a fresh
+/// segment. Nothing is saved after a fault, but for a proper prefix of the image where writing it failed.
 pub fn session<I: Source, S: Source, O: Sink, W: Sink>(
     alloc: Global,
     start: Start,

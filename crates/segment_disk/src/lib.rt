@@ -3,7 +3,6 @@
 #![tactic(auto)]
 
 mod disk;
-mod durable;
 mod host;
 mod limits;
 mod locks;

@@ -8,10 +8,10 @@ ghost use Rattle.segment_disk.specs.Events.{nothing_given};
 ghost use Rattle.segment_file.specs.Opening.{ExaminesFile, ExaminesImage, unfit_for};
 ghost use Rattle.segment_file.specs.ReadingOn.{IsFrontGiven};
 
+use crate::file_errors::Unfit;
 use crate::heading::Headed;
 use crate::opening::file_region;
 use crate::reading_on::read_on;
-use crate::unfit::Unfit;
 use image_check::{AcceptedVersions, ExamineError, MemoryFault, examine, examine_bytes};
 use raw_region::{Source, Steps};
 use segment_disk::{Disk, OpenedFile};

@@ -69,35 +69,20 @@ fn put_head<W: Sink>(out: &mut W, size: u64, free: u64) -> Result<(), DeviceFaul
         out,
         &[
             Part::Bytes(
-                b"<svg xmlns='http://www.w3.org/2000/svg' viewBox='0 0 1080 600' font-family='sans-serif' font-size='13'>\n",
-            ),
-            Part::Bytes(
-                b"<style>path{stroke:#456}.header,.end{fill:#bcc3ca}.free{fill:#fff}.object{fill:#9cc9ea}.index{fill:#f5c883}",
-            ),
-            Part::Bytes(
-                b".storage{fill:#a9d8a2}.node{fill:#cdb9e6}</style>\n<rect width='1080' height='600' fill='#f2f4f6'/>\n<text x='28' y='26' font-size='16'>",
+                b"<svg xmlns='http://www.w3.org/2000/svg' viewBox='0 0 1080 600' font-family='sans-serif' font-size='13'>\n\
+                <style>path{stroke:#456}.header,.end{fill:#bcc3ca}.free{fill:#fff}.object{fill:#9cc9ea}.index{fill:#f5c883}\
+                .storage{fill:#a9d8a2}.node{fill:#cdb9e6}</style>\n<rect width='1080' height='600' fill='#f2f4f6'/>\n<text x='28' y='26' font-size='16'>",
             ),
             Part::Number(size),
             Part::Bytes(b" bytes, "),
             Part::Number(free),
-            Part::Bytes(b" free"),
             Part::Bytes(
-                b"</text>\n<path class='object' d='M28 40H44V56H28Z'/><text x='50' y='53'>object</text>",
-            ),
-            Part::Bytes(
-                b"<path class='index' d='M128 40H144V56H128Z'/><text x='150' y='53'>index</text>",
-            ),
-            Part::Bytes(
-                b"<path class='storage' d='M228 40H244V56H228Z'/><text x='250' y='53'>storage</text>",
-            ),
-            Part::Bytes(
-                b"<path class='node' d='M328 40H344V56H328Z'/><text x='350' y='53'>node</text>",
-            ),
-            Part::Bytes(
-                b"<path class='free' d='M428 40H444V56H428Z'/><text x='450' y='53'>free</text>",
-            ),
-            Part::Bytes(
-                b"<path class='end' d='M528 40H544V56H528Z'/><text x='550' y='53'>header and end tag</text>\n",
+                b" free</text>\n<path class='object' d='M28 40H44V56H28Z'/><text x='50' y='53'>object</text>\
+                <path class='index' d='M128 40H144V56H128Z'/><text x='150' y='53'>index</text>\
+                <path class='storage' d='M228 40H244V56H228Z'/><text x='250' y='53'>storage</text>\
+                <path class='node' d='M328 40H344V56H328Z'/><text x='350' y='53'>node</text>\
+                <path class='free' d='M428 40H444V56H428Z'/><text x='450' y='53'>free</text>\
+                <path class='end' d='M528 40H544V56H528Z'/><text x='550' y='53'>header and end tag</text>\n",
             ),
         ],
     )

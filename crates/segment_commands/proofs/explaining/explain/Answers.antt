@@ -1,6 +1,6 @@
 use Rattle.std.proofs.Common.{inl, inr, Ok, Err, refl, subst}
 use Rattle.segment_cli.specs.declared.faults.SessionFault.TheVariants.{WriteFault}
-use Rattle.segment_file.specs.declared.unfit.Unfit.{Unfit}
+use Rattle.segment_file.specs.declared.file_errors.Unfit.{Unfit}
 use Rattle.segment_file.specs.Opening.{ExaminesFile}
 use Rattle.segment_commands.specs.Faults.{Session}
 use Rattle.segment_commands.proofs.explaining.explain.Goals as goal

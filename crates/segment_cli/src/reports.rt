@@ -1,11 +1,9 @@
 //! What the program says of a fault, and the status that it ends with.
 ghost use Rattle.std.specs.Prelude.{◌≡◌, ◌++◌, ◌-◌, ◌^◌, ◌<◌, codes};
 ghost use Rattle.segment_cli.specs.Reports.{Puts, fault_text, growth_name, line, session_status, session_words};
-ghost use Rattle.segment_cli.specs.Reports.{status_of};
-ghost use Rattle.segment_cli.specs.declared.faults.SessionFault.TheVariants.{Image};
+ghost use Rattle.segment_cli.specs.{Reports.status_of, declared.faults.SessionFault.TheVariants.Image};
 
-use crate::faults::SessionFault;
-use crate::program_faults::ProgramFault;
+use crate::faults::{ProgramFault, SessionFault};
 use grow_shrink::GrowError;
 use image_check::ImageClass;
 use raw_region::{Sink, write_all};

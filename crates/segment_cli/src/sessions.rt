@@ -4,15 +4,14 @@ ghost use Rattle.raw_region.specs.Device.{read_delta, write_delta, EndsAtMostOnc
 ghost use Rattle.raw_region.specs.Answers.{failures_in};
 ghost use Rattle.segment_manager.specs.{declared.modes.Mode.TheVariants.Write, Directory.Directory};
 ghost use Rattle.segment_manager.specs.{State.DenotesCurrent};
-ghost use Rattle.segment_cli.specs.{Session.RunsSession, Session.SavesImage, Beginning.BeginsSession};
-ghost use Rattle.segment_scripts.specs.Lines.{script_limit};
+ghost use Rattle.segment_cli.specs.{Session.RunsSession, Session.SavesImage, Beginning.BeginsSession, Serving.Serves};
+ghost use Rattle.segment_scripts.specs.{Lines.script_limit, Segments.IsMachineAt, Segments.MachineState};
 
 use crate::faults::{SessionFault, Start};
-use crate::serving::serve;
 use image_check::{open, save};
 use raw_region::{DeviceFault, RawRegion, Sink, Source, Steps};
 use segment_manager::{Mode, Segment};
-use segment_scripts::{NoObserver, Until};
+use segment_scripts::{End, NoObserver, RunObserver, Until, run_until};
 use std::alloc::Global;
 
 /// The segment that a session runs its script on: an empty one of the fresh size, or the one of the image, whose reader
@@ -46,6 +45,39 @@ pub fn begin<I: Source>(
             let opened = open(alloc, image, region, base, mode, &mut Steps::new());
             Ok(opened?)
         }
+    }
+}
+
+/// Executes a script on a segment, and writes the answers: to its end, or to the first line that is refused. The
+/// follower is asked before each read of the script, and before each line. It takes no memory.
+///
+/// # Errors
+///
+/// `ReadFault` where the script's reader failed, `WriteFault` where the writer failed in an answer, `ScriptTooLong`
+/// where the script has more than 16777216 bytes. The segment is left as the lines that were executed leave it.
+pub fn serve<S: Source, O: Sink, F: RunObserver<O>>(
+    segment: &mut Segment,
+    script: &mut S,
+    out: &mut O,
+    follower: &mut F,
+    until: Until,
+) -> Result<End, SessionFault>
+    requires script_reader { (S.history script.old).failures < 2 ^ 64 - 1 }
+    requires answer_writer { (O.history out.old).failures < 2 ^ 64 - 1 }
+    ensures service { Serves until segment.old segment.new
+        (read_delta (S.history script.old) (S.history script.new))
+        (write_delta (O.history out.old) (O.history out.new))
+        result }
+    ensures script_history { AppendsBytes (S.history script.old).bytes (S.history script.new).bytes }
+    ensures script_end { EndsAtMostOnce (S.history script.old) (S.history script.new) }
+    ensures read_limit { length (S.history script.new).bytes
+        ≤ length (S.history script.old).bytes + script_limit + 1 }
+    ensures output_history { (at : MachineState) → IsMachineAt segment.old at
+        → AppendsBytes (O.history out.old).bytes (O.history out.new).bytes }
+{
+    match run_until(segment, script, out, follower, until) {
+        Ok(end) => Ok(end),
+        Err(fault) => Err(SessionFault::from(fault)),
     }
 }
 

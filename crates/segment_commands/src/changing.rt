@@ -2,13 +2,9 @@
 ghost use Rattle.std.specs.Prelude.{◌≡◌, ◌^◌, ◌-◌, ◌<◌, OnOk};
 ghost use Rattle.grow_shrink.specs.Resized.{IsRefusedBy};
 ghost use Rattle.segment_manager.specs.blocks.Resized.{Resizes};
-ghost use Rattle.segment_commands.specs.Changing.{Changes};
-ghost use Rattle.segment_commands.specs.Holding.{HoldsLock};
-ghost use Rattle.segment_commands.specs.Migrating.{IsMigrate};
-ghost use Rattle.segment_commands.specs.Modes.{making_of};
+ghost use Rattle.segment_commands.specs.{Changing.Changes, Holding.HoldsLock, Migrating.IsMigrate, Modes.making_of};
 ghost use Rattle.segment_commands.specs.Resizing.{IsResize, TellsAndWrites, TellsSize, more_by, next_by, refusal_by};
-ghost use Rattle.segment_commands.specs.Resizing.{size_line};
-ghost use Rattle.segment_commands.specs.Telling.{WritesAndFlushes};
+ghost use Rattle.segment_commands.specs.{Resizing.size_line, Telling.WritesAndFlushes};
 
 use crate::command_faults::CommandFault;
 use crate::opening::{open_any_segment, open_segment};

@@ -1,9 +1,8 @@
 //! The command that runs a script on the segment in a file.
 ghost use Rattle.std.specs.Prelude.{◌≡◌, ◌+◌, ◌^◌, ◌-◌, ◌<◌, true, false};
 ghost use Rattle.segment_disk.specs.Events.{IsFlushed};
-ghost use Rattle.segment_commands.specs.Modes.{RunsInMode, making_of};
+ghost use Rattle.segment_commands.specs.{Modes.RunsInMode, Modes.making_of, Running.as_program};
 ghost use Rattle.segment_commands.specs.Running.{MakesRun, RunsAnyFile, RunsFile, RunsHeld, RunsNewFile, RunsOpened};
-ghost use Rattle.segment_commands.specs.Running.{as_program};
 
 use crate::answering::answer_and_save;
 use crate::command_faults::CommandFault;
@@ -57,39 +56,21 @@ pub fn run<D: Disk, S: Source, O: Lined>(
         O.history (IsFlushed O.history O.flushes out.new) out.old out.new result mode size saving }
 {
     let how = making_for(saving);
-    match mode {
-        ModeName::CreateOnly => match size {
-            Some(size) => run_in_new_file(alloc, disk, path, size, until, script, out),
-            None => Err(CommandFault::Program(ProgramFault::Usage)),
-        },
-        ModeName::OpenOrCreate => match size {
-            Some(size) => run_on_file_or_new(alloc, disk, path, size, how, until, script, out),
-            None => Err(CommandFault::Program(ProgramFault::Usage)),
-        },
-        ModeName::OpenOnly => run_on_file(alloc, disk, path, Mode::Write, how, until, script, out),
-        ModeName::OpenReadOnly => run_on_file(
-            alloc,
-            disk,
-            path,
-            Mode::ReadOnly,
-            how,
-            until,
-            script,
-            out,
-        ),
-        ModeName::OpenCopyOnWrite => {
-            run_on_file(
-                alloc,
-                disk,
-                path,
-                Mode::CopyOnWrite,
-                how,
-                until,
-                script,
-                out,
-            )
+    let mode = match (mode, size) {
+        (ModeName::CreateOnly, Some(size)) => {
+            return run_in_new_file(alloc, disk, path, size, until, script, out);
         }
-    }
+        (ModeName::OpenOrCreate, Some(size)) => {
+            return run_on_file_or_new(alloc, disk, path, size, how, until, script, out);
+        }
+        (ModeName::CreateOnly | ModeName::OpenOrCreate, None) => {
+            return Err(CommandFault::Program(ProgramFault::Usage));
+        }
+        (ModeName::OpenOnly, _) => Mode::Write,
+        (ModeName::OpenReadOnly, _) => Mode::ReadOnly,
+        (ModeName::OpenCopyOnWrite, _) => Mode::CopyOnWrite,
+    };
+    run_on_file(alloc, disk, path, mode, how, until, script, out)
 }
 
 /// Whether a script can be read at all. A closed standard input can't, and a file that is opened then would take its

@@ -1,8 +1,7 @@
 //! What a command says, and that it went out.
 ghost use Rattle.std.specs.Prelude.{◌≡◌, ◌^◌, ◌-◌, ◌<◌, flat_map};
 ghost use Rattle.segment_scripts.specs.CommandRows.{row_text};
-ghost use Rattle.segment_commands.specs.Commands.{Prints};
-ghost use Rattle.segment_commands.specs.Telling.{WritesAndFlushes};
+ghost use Rattle.segment_commands.specs.{Commands.Prints, Telling.WritesAndFlushes};
 
 use crate::command_faults::CommandFault;
 use raw_region::{DeviceFault, write_all};

@@ -1,7 +1,6 @@
 //! The check of the image in a file, of which no segment is made.
 ghost use Rattle.std.specs.Prelude.{◌≡◌, ◌+◌};
-ghost use Rattle.raw_region.specs.Device.{read_delta};
-ghost use Rattle.raw_region.specs.Format.{current};
+ghost use Rattle.raw_region.specs.{Device.read_delta, Format.current};
 ghost use Rattle.image_check.specs.Opening.{IsTooSmallFor};
 ghost use Rattle.grow_shrink.specs.LargerRegion.{region_len};
 ghost use Rattle.segment_disk.specs.Events.{nothing_given};

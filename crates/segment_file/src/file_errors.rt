@@ -4,8 +4,7 @@ ghost use Rattle.image_check.specs.declared.errors.MemoryFault.TheVariants.{Byte
 ghost use Rattle.segment_file.specs.declared.file_errors.FileError.TheVariants.{Growth, OutOfMemory as NoMemory};
 ghost use Rattle.segment_file.specs.declared.file_errors.FileError.TheVariants.{WriteFault as NotWritten};
 ghost use Rattle.segment_file.specs.declared.file_errors.Unfit.TheVariants.{OutOfMemory as NoMemoryForIt};
-ghost use Rattle.segment_file.specs.Opening.{unfit_error};
-ghost use Rattle.segment_file.specs.SegmentFiles.{growing_error};
+ghost use Rattle.segment_file.specs.{Opening.unfit_error, SegmentFiles.growing_error};
 
 use grow_shrink::{GrowError, GrowOrMoveError};
 use image_check::{ImageClass, MemoryFault, Verdict};

@@ -16,10 +16,8 @@ fn fill<D: Disk>(disk: &mut D, mut writer: D::Writer, segment: &Segment) -> Resu
 {
     let saved = save(segment, &mut writer);
     let lasting = disk.sync_and_close(writer);
-    match saved {
-        Ok(()) => lasting,
-        Err(fault) => Err(fault),
-    }
+    saved?;
+    lasting
 }
 
 /// Makes or empties a file, writes the image of a segment to it and closes it.
@@ -33,10 +31,8 @@ fn write_here<D: Disk>(
     requires { how ≢ Replacement }
     ensures { MakesImage D.step disk.old disk.new how path.now segment.now.cut.bytes result }
 {
-    match disk.create(path, how, hold) {
-        Ok(writer) => fill(disk, writer, segment),
-        Err(fault) => Err(fault),
-    }
+    let writer = disk.create(path, how, hold)?;
+    fill(disk, writer, segment)
 }
 
 /// Puts the file that was made beside another in its place, or removes it.
@@ -92,8 +88,8 @@ fn make_image<D: Disk>(
     }
 }
 
-/// Writes the image of a segment to a file that is made, emptied or replaced for it, with the right to write it. A check
-/// of the image accepts it. A file that is there is left alone if another has taken its name.
+/// Writes the image of a segment to a file that is made, emptied or replaced for it, with the right to write it. A
+/// check of the image accepts it. A file that is there is left alone if another has taken its name.
 pub fn write_image<D: Disk>(
     disk: &mut D,
     path: &str,

@@ -1,7 +1,6 @@
 //! The command line of the program, and its help.
 ghost use Rattle.std.specs.Prelude.{◌≡◌, false, fold, map, IfOk};
-ghost use Rattle.clap.specs.Walk.{rule_of};
-ghost use Rattle.clap.specs.Simple.{app_of, new_app, with_rule, with_subcommand};
+ghost use Rattle.clap.specs.{Walk.rule_of, Simple.app_of, Simple.new_app, Simple.with_rule, Simple.with_subcommand};
 ghost use Rattle.clap.specs.declared.builder.command.Command.TheViews.{out-Command as fields_of};
 ghost use Rattle.segment_invocation.specs.Invocations.{command_line, program};
 ghost use Rattle.segment_invocation.specs.Table.{row_shape, word_rule};

@@ -3,12 +3,10 @@ ghost use Rattle.std.specs.Prelude.{◌≡◌, ◌-◌, ◌^◌, ◌<◌, flat_m
 ghost use Rattle.raw_region.specs.Device.{Writes};
 ghost use Rattle.seg_types.specs.Kinds.{kinds};
 ghost use Rattle.segment_manager.specs.State.{AnswersWith};
-ghost use Rattle.segment_report.specs.Objects.{object_tally_of};
+ghost use Rattle.segment_report.specs.{Entries.entry_line, Entries.entry_text, Objects.object_tally_of};
 ghost use Rattle.segment_report.specs.Stat.{counted_line, figures_text, kind_line, stat_text};
-ghost use Rattle.segment_report.specs.Telling.{WritesReport};
-ghost use Rattle.segment_report.specs.Usages.{tally_of};
+ghost use Rattle.segment_report.specs.{Telling.WritesReport, Usages.tally_of};
 
-use crate::entries::put_entries;
 use crate::objects::{ObjectTally, tally_objects};
 use crate::sizes::size_of;
 use crate::tallies::{Tally, tally_blocks};
@@ -139,6 +137,33 @@ fn put_lines<W: Sink>(
             (b"named_capacity", places.named),
             (b"unique_capacity", places.unique),
             (b"shrink_frees", blocks.end_gap),
+        ],
+    )
+}
+
+/// Writes a line for each of these words and numbers, one behind another.
+fn put_entries<W: Sink>(out: &mut W, entries: &[(&[u8], u64)]) -> Result<(), DeviceFault>
+    requires { (W.history out.old).failures < 2 ^ 64 - 1 }
+    ensures { Writes (W.history out.old) (W.history out.new) result (flat_map entry_text entries.now) }
+{
+    'entries: for entry in entries {
+        put_entry(out, entry.0, entry.1)?;
+    }
+    Ok(())
+}
+
+/// Writes a word, a number behind it, and the end of the line.
+fn put_entry<W: Sink>(out: &mut W, key: &[u8], number: u64) -> Result<(), DeviceFault>
+    requires { (W.history out.old).failures < 2 ^ 64 - 1 }
+    ensures { Writes (W.history out.old) (W.history out.new) result (entry_line key.now number) }
+{
+    put_pieces(
+        out,
+        &[
+            Piece::Bytes(key),
+            Piece::Bytes(b" "),
+            Piece::Number(number),
+            Piece::Bytes(b"\n"),
         ],
     )
 }

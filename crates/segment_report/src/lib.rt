@@ -1,7 +1,6 @@
 //! What people want to see of a segment: how its bytes are used, in figures and as a picture, and what its names are.
 #![tactic(auto)]
 
-mod entries;
 mod figures;
 mod names;
 mod objects;

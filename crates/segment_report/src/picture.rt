@@ -2,9 +2,7 @@
 ghost use Rattle.std.specs.Prelude.{◌≡◌, ◌+◌, ◌-◌, ◌^◌, ◌<◌, ◌≤◌, ◌++◌, true};
 ghost use Rattle.raw_region.specs.Device.{Writes};
 ghost use Rattle.seg_types.specs.Names.{ByHandle};
-ghost use Rattle.segment_manager.specs.Directory.{object_at};
-ghost use Rattle.segment_manager.specs.objects.Found.{is_object_at};
-ghost use Rattle.segment_manager.specs.State.{AnswersWith};
+ghost use Rattle.segment_manager.specs.{Directory.object_at, objects.Found.is_object_at, State.AnswersWith};
 ghost use Rattle.segment_report.specs.Picture.{HasOwner, HasScale, end_text, front_text, head_text, object_in};
 ghost use Rattle.segment_report.specs.Picture.{object_label, picture_of, shape_text, sort_of, spans_text};
 ghost use Rattle.segment_report.specs.Telling.{WritesReport};

@@ -1,7 +1,6 @@
 //! The size of a segment.
 ghost use Rattle.seg_types.specs.Commands.{Size};
-ghost use Rattle.segment_manager.specs.Answers.{Number};
-ghost use Rattle.segment_manager.specs.State.{AnswersQuery, IsSegment};
+ghost use Rattle.segment_manager.specs.{Answers.Number, State.AnswersQuery, State.IsSegment};
 
 use segment_manager::Segment;
 

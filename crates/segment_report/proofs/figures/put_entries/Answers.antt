@@ -1,6 +1,6 @@
 use Rattle.raw_region.proofs.Laws.{writes-element}
 use Rattle.segment_report.specs.Entries.{entry_text}
-use Rattle.segment_report.proofs.entries.put_entries.Goals as goal
+use Rattle.segment_report.proofs.figures.put_entries.Goals as goal
 
 pub returns-in_err-put_entry : goal.returns-in_err-put_entry
 returns-in_err-put_entry g c =

@@ -1,4 +1,4 @@
-use Rattle.segment_cli.proofs.serving.serve.Goals as goal
+use Rattle.segment_cli.proofs.sessions.serve.Goals as goal
 
 pub returns-in-Ok-clause-service : goal.returns-in-Ok-clause-service
 returns-in-Ok-clause-service g c = record { left = c.in-Ok.ensures.remainder }

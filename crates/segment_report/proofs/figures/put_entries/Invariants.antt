@@ -1,7 +1,7 @@
 use Rattle.std.proofs.Common.{◌≡◌, ◌++◌, take}
 use Rattle.std.specs.List.{flat_map}
 use Rattle.segment_report.specs.Entries.{entry_text}
-use Rattle.segment_report.proofs.entries.put_entries.Given as goal
+use Rattle.segment_report.proofs.figures.put_entries.Given as goal
 
 abbrev pub invariant-entries : goal.invariant-entries
 invariant-entries g l = record {

@@ -73,7 +73,7 @@ pub fn stat<W: Sink>(segment: &Segment, out: &mut W) -> Result<(), DeviceFault>
 {
     let objects = tally_objects(segment);
     put_figures(segment, &objects, out)?;
-    put_kinds(&objects, out)
+    put_kind_lines(&objects, all_kinds(), out)
 }
 
 /// Writes the figures that each segment has.
@@ -88,38 +88,10 @@ fn put_figures<W: Sink>(
         figures_text d.size (tally_of d) (object_tally_of d) d.named.capacity d.unique.capacity) }
 {
     let blocks = tally_blocks(segment);
-    let places = Places {
-        named: named_capacity(segment),
-        unique: unique_capacity(segment),
-    };
-    put_lines(out, size_of(segment), &blocks, objects, places)
-}
-
-/// For how many entries the indexes have places.
-#[derive(Clone, Copy)]
-struct Places {
-    /// The index of names.
-    named: u64,
-    /// The index of kinds.
-    unique: u64,
-}
-
-/// Writes figures, a line for each.
-fn put_lines<W: Sink>(
-    out: &mut W,
-    size: u64,
-    blocks: &Tally,
-    objects: &ObjectTally,
-    places: Places,
-) -> Result<(), DeviceFault>
-    requires { (W.history out.old).failures < 2 ^ 64 - 1 }
-    ensures { Writes (W.history out.old) (W.history out.new) result
-        (figures_text size blocks.now objects.now places.named places.unique) }
-{
     put_entries(
         out,
         &[
-            (b"size", size),
+            (b"size", size_of(segment)),
             (b"free", blocks.gaps.bytes),
             (b"gaps", blocks.gaps.count),
             (b"largest_gap", blocks.longest_gap),
@@ -134,8 +106,8 @@ fn put_lines<W: Sink>(
             (b"named", objects.named),
             (b"unique", objects.unique),
             (b"anonymous", objects.anonymous),
-            (b"named_capacity", places.named),
-            (b"unique_capacity", places.unique),
+            (b"named_capacity", named_capacity(segment)),
+            (b"unique_capacity", unique_capacity(segment)),
             (b"shrink_frees", blocks.end_gap),
         ],
     )
@@ -180,14 +152,6 @@ fn unique_capacity(segment: &Segment) -> u64
     ensures { AnswersWith segment.now (λ d. d.unique.capacity) result }
 {
     word_in(segment.as_bytes(), UNIQUE_AT as usize + CAPACITY)
-}
-
-/// Writes a line for each kind that some objects have, with their number.
-fn put_kinds<W: Sink>(objects: &ObjectTally, out: &mut W) -> Result<(), DeviceFault>
-    requires { (W.history out.old).failures < 2 ^ 64 - 1 }
-    ensures { Writes (W.history out.old) (W.history out.new) result (flat_map (counted_line objects.now.kinds) kinds) }
-{
-    put_kind_lines(objects, all_kinds(), out)
 }
 
 /// Writes a line for each of these kinds that some objects have, with their number.

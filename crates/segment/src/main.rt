@@ -15,7 +15,7 @@ use segment_commands::{
     CommandFault, change, check, check_all, create, explain, lint, load, load_over, names, print,
     print_language, put_trouble, report, report_no_memory, tell_segment,
 };
-use segment_disk::{Disk, FileProblem, HostDisk, StdOutput};
+use segment_disk::{Disk, FileProblem, HostDisk, OpenedFile, StdOutput};
 use segment_invocation::{
     FileChange, Invocation, Keeping, ModeName, Running, SaveMode, Script, VERSION, is_verbose,
     script_text,
@@ -221,7 +221,8 @@ impl<'a> Host<'a> {
                 let Ok(opened) = self.scripts.open(path) else {
                     return Err(CommandFault::from(SessionFault::ReadFault));
                 };
-                let mut script = opened.reader;
+                let OpenedFile { reader, len: _ } = opened;
+                let mut script = reader;
                 self.run(run, how, &mut script, out)
             }
             Script::Lines(lines) => {

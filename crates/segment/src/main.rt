@@ -251,18 +251,8 @@ impl<'a> Host<'a> {
         } else {
             Until::End
         };
-        let alloc = self.rt.alloc();
-        segment_commands::run(
-            alloc,
-            &mut self.disk,
-            file,
-            mode,
-            size,
-            saving,
-            until,
-            script,
-            out,
-        )?;
+        let (alloc, disk) = (self.rt.alloc(), &mut self.disk);
+        segment_commands::run(alloc, disk, file, mode, size, saving, until, script, out)?;
         Ok(0)
     }
 }

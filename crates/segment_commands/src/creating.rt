@@ -21,14 +21,8 @@ pub(crate) fn new_segment(alloc: Global, size: u64) -> Result<Segment, SessionFa
     }
     let region = region_for(alloc, size)?;
     let mut nothing = StdSource::new(io::empty());
-    begin(
-        alloc,
-        Start::Fresh(size),
-        Mode::Write,
-        &mut nothing,
-        region,
-        0,
-    )
+    let start = Start::Fresh(size);
+    begin(alloc, start, Mode::Write, &mut nothing, region, 0)
 }
 
 /// Makes an empty segment of `size` bytes in a file that is not there.

@@ -158,13 +158,8 @@ fn put_object<W: Sink>(
     ensures { WritesReport segment.now (W.history out.old) (W.history out.new) result (λ d.
         object_label scale.row from len (object_at d (ByHandle (from + 16)))) }
 {
-    put_label(
-        out,
-        scale,
-        from,
-        len,
-        instance_here(segment, from + TAG_LEN),
-    )
+    let said = instance_here(segment, from + TAG_LEN);
+    put_label(out, scale, from, len, said)
 }
 
 /// The word for what bytes are used for.

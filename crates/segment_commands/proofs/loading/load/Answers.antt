@@ -32,12 +32,12 @@ returns-clause-success g c = record {
       }));
 }
 
-pub returns-in_err-load_dump-clause-success : goal.returns-in_err-load_dump-clause-success
-returns-in_err-load_dump-clause-success g c = record {
+pub returns-in_err-segment-clause-success : goal.returns-in_err-segment-clause-success
+returns-in_err-segment-clause-success g c = record {
   loads = λ text r f. inr (inl (
-    c.in_err-load_dump.field-0,
+    c.in_err-segment.field-0,
     unmade c.args.size (g.S.Source.history c.args.script.now) (g.S.Source.history c.load_dump.new.script)
-        c.in_err-load_dump.field-0 text c.in_err-load_dump.ensures r f,
+        c.in_err-segment.field-0 text c.in_err-segment.ensures r f,
     refl,
   ));
 }

@@ -37,14 +37,8 @@ pub fn begin<I: Source>(
     ensures image_end { EndsAtMostOnce (I.history image.old) (I.history image.new) }
 {
     match start {
-        Start::Fresh(size) => {
-            let segment = Segment::create(region, base, size, mode)?;
-            Ok(segment)
-        }
-        Start::Image => {
-            let opened = open(alloc, image, region, base, mode, &mut Steps::new());
-            Ok(opened?)
-        }
+        Start::Fresh(size) => Ok(Segment::create(region, base, size, mode)?),
+        Start::Image => Ok(open(alloc, image, region, base, mode, &mut Steps::new())?),
     }
 }
 

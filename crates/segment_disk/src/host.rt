@@ -2,11 +2,10 @@
 ghost use Rattle.std.specs.Prelude.{⊤};
 
 use crate::disk::{Disk, OpenedFile};
-use crate::limits::longest_file;
 use crate::locks::{Identity, PAUSE, lock, lock_made, open_to_write, sync_file};
 use crate::presence::{AlreadyLocked, CreateMode, FileProblem, Presence};
 use crate::replacement_file::ReplacementFile;
-use crate::sparse::SparseFile;
+use crate::sparse::{SparseFile, longest_file};
 use crate::std_output::StdOutput;
 use crate::troubles::{making_trouble, trouble_of};
 use raw_region::DeviceFault;

@@ -4,7 +4,6 @@
 
 mod disk;
 mod host;
-mod limits;
 mod locks;
 mod presence;
 mod replacement_file;

@@ -8,8 +8,7 @@ ghost use Rattle.segment_report.specs.Stat.{counted_line, figures_text, kind_lin
 ghost use Rattle.segment_report.specs.{Telling.WritesReport, Usages.tally_of};
 
 use crate::objects::{ObjectTally, tally_objects};
-use crate::sizes::size_of;
-use crate::tallies::{Tally, tally_blocks};
+use crate::tallies::{size_of, tally_blocks};
 use raw_region::{DeviceFault, Sink, word_in};
 use seg_types::{Kind, ScalarKind};
 use segment_lang::{Piece, put_pieces};

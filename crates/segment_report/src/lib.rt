@@ -9,7 +9,6 @@ mod parts;
 mod picture;
 mod scale;
 mod shapes;
-mod sizes;
 mod tallies;
 
 pub use figures::stat;

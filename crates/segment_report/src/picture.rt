@@ -10,7 +10,7 @@ ghost use Rattle.segment_report.specs.Telling.{WritesReport};
 use crate::parts::{Part, put_parts};
 use crate::scale::Scale;
 use crate::shapes::{put_label, put_shape};
-use crate::sizes::size_of;
+use crate::tallies::size_of;
 use block_tags::{Role, TAG_LEN, Tile};
 use raw_region::{DeviceFault, Sink};
 use segment_manager::Segment;

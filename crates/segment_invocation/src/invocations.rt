@@ -183,8 +183,7 @@ pub enum Invocation<'a> {
     /// To make an empty segment of this size in a file that is not there.
     Create(&'a str, u64),
     /// To run the script of standard input on the segment in a file, in a mode, with the size of a segment that is
-    /// made.
-    /// The modes `create_only` and `open_or_create` have a size.
+    /// made. The modes `create_only` and `open_or_create` have a size.
     Run(&'a str, ModeName, Option<u64>),
     /// To run a script on the segment in a file, with options.
     RunWith(&'a str, ModeName, Option<u64>, Running<'a>),

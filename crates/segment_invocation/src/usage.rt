@@ -1,7 +1,6 @@
 //! What is wrong with a command line.
 ghost use Rattle.std.specs.Prelude.{◌≡◌};
-ghost use Rattle.clap.specs.Values.{kind_of};
-ghost use Rattle.clap.specs.declared.error.kind.ErrorKind.TheVariants.{OutOfMemory as NoMemory};
+ghost use Rattle.clap.specs.{Values.kind_of, declared.error.kind.ErrorKind.TheVariants.OutOfMemory as NoMemory};
 ghost use Rattle.segment_invocation.specs.declared.usage.InvocationFault.TheVariants.{OutOfMemory, Usage};
 ghost use Rattle.segment_invocation.specs.declared.usage.UsageError.TheVariants.{Words};
 

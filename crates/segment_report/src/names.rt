@@ -1,7 +1,7 @@
 //! The names of a segment that begin with a text.
 ghost use Rattle.std.specs.Prelude.{◌≡◌, ◌-◌, ◌^◌, ◌<◌, IfOk};
 ghost use Rattle.raw_region.specs.Device.{Writes};
-ghost use Rattle.segment_report.specs.Names.{begins_with, left_behind, listed_line, name_line, names_text};
+ghost use Rattle.segment_report.specs.Names.{left_behind, listed_line, names_text};
 ghost use Rattle.segment_report.specs.Telling.{WritesReport};
 
 use raw_region::{DeviceFault, Sink};
@@ -39,24 +39,9 @@ fn put_listed<W: Sink>(
     ensures remainder { IfOk result (λ n. n ≡ left_behind prefix.now left name.now) }
     ensures output { Writes (W.history out.old) (W.history out.new) result (listed_line prefix.now left name.now) }
 {
-    if left == 0 || !begins_with(name, prefix) {
+    if left == 0 || !name.starts_with(prefix) {
         return Ok(left);
     }
-    put_name(out, name)?;
+    put_pieces(out, &[Piece::Name(name), Piece::Bytes(b"\n")])?;
     Ok(left - 1)
-}
-
-/// Tells whether a name begins with a text.
-fn begins_with(name: &[u8], prefix: &[u8]) -> bool
-    ensures { result ≡ begins_with name.now prefix.now }
-{
-    name.starts_with(prefix)
-}
-
-/// Writes a name, and the end of its line.
-fn put_name<W: Sink>(out: &mut W, name: &[u8]) -> Result<(), DeviceFault>
-    requires { (W.history out.old).failures < 2 ^ 64 - 1 }
-    ensures { Writes (W.history out.old) (W.history out.new) result (name_line name.now) }
-{
-    put_pieces(out, &[Piece::Name(name), Piece::Bytes(b"\n")])
 }

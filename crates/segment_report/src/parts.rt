@@ -99,16 +99,10 @@ fn put_kind<W: Sink>(out: &mut W, kind: Kind) -> Result<(), DeviceFault>
         Kind::Scalar(kind) => write_all(out, kind.as_str().as_bytes()),
         Kind::String => write_all(out, b"string"),
         Kind::Vector(kind) => put_slices(out, &[b"vec&lt;", kind.as_str().as_bytes(), b"&gt;"]),
-        Kind::Map(key, value) => put_slices(
-            out,
-            &[
-                b"map&lt;",
-                key.as_str().as_bytes(),
-                b",",
-                value.as_str().as_bytes(),
-                b"&gt;",
-            ],
-        ),
+        Kind::Map(key, value) => {
+            let (key, value) = (key.as_str().as_bytes(), value.as_str().as_bytes());
+            put_slices(out, &[b"map&lt;", key, b",", value, b"&gt;"])
+        }
         Kind::Strings => write_all(out, b"vec&lt;string&gt;"),
     }
 }

@@ -1,10 +1,10 @@
 //! How the bytes of a segment are used, counted in one walk over its blocks and gaps.
 ghost use Rattle.std.specs.Prelude.{◌≡◌, ◌+◌, ◌^◌, ◌<◌, []};
-ghost use Rattle.segment_manager.specs.State.{AnswersWith};
+ghost use Rattle.seg_types.specs.Commands.{Size};
+ghost use Rattle.segment_manager.specs.{Answers.Number, State.AnswersQuery, State.AnswersWith, State.IsSegment};
 ghost use Rattle.segment_report.specs.Counting.{counted, more, tally_in, total_bytes, total_count};
 ghost use Rattle.segment_report.specs.Usages.{tally_of};
 
-use crate::sizes::size_of;
 use block_tags::Role;
 use segment_manager::Segment;
 use segment_manager::unchecked::next_tile;
@@ -104,4 +104,13 @@ pub fn tally_blocks(segment: &Segment) -> Tally
         ahead = next_tile(segment, tile);
     }
     tally
+}
+
+/// The number of bytes of a segment, which are those of a directory.
+pub fn size_of(segment: &Segment) -> u64
+    ensures size { AnswersQuery segment.now Size (Number result) }
+    ensures denotation { IsSegment segment.now.cut.bytes }
+{
+    let _bytes = segment.as_bytes();
+    segment.size()
 }

@@ -1,7 +1,7 @@
 -- The object of a view stays.
-use Rattle.std.proofs.Common.{◌≡◌, subst, true, List, Option, ℕ}
+use Rattle.std.proofs.Common.{◌≡◌, subst, true, List, Option, ℕ, ℤ}
 use Rattle.seg_types.specs.declared.refusals.Refusal.{Refusal}
-use Rattle.seg_types.specs.declared.kinds.Kind.{Kind}
+use Rattle.seg_types.specs.declared.kinds.{Kind.Kind, ScalarKind.ScalarKind}
 use Rattle.seg_types.specs.Names.{Key}
 use Rattle.seg_types.specs.Commands.{Command}
 use Rattle.segment_manager.specs.declared.objects.object_ref.Object.{Object}
@@ -9,8 +9,8 @@ use Rattle.segment_manager.specs.Answers.{Answer}
 use Rattle.segment_manager.specs.objects.Located.{IsObject}
 use Rattle.segment_manager.specs.Staying.{is_elementwise}
 use Rattle.segment_manager.specs.State.{IsSegment, TakesStepOfKind, SegmentState}
-use Rattle.segment_manager.proofs.Laws.{leads_on-stay, objects_stay}
-use Rattle.segment_manager.specs.containers.TextLists.{LeadsOnOfKind}
+use Rattle.segment_manager.proofs.Laws.{extends-stay, leads_on-stay, objects_stay, writes-stay}
+use Rattle.segment_manager.specs.containers.{Ranges.ExtendsVector, Ranges.WritesRange, TextLists.LeadsOnOfKind}
 
 -- behind a call that is a step of its kind
 pub stays_of_kind : (old new : SegmentState) (o : Object) (key : Key) (kind : Kind) (c : Command) (answer : Answer)
@@ -24,3 +24,16 @@ pub stays_led : (old new : SegmentState) (o : Object) (key : Key) (kind : Kind) 
     (b : List ℕ) → b ≡ old.cut.bytes → IsSegment b → is_elementwise c ≡ true
     → LeadsOnOfKind old new key kind c why → IsObject o old → IsObject o new
 stays_led old new o key kind c why b e g w m is = leads_on-stay old new key kind c why (subst IsSegment e g) w m o is
+
+-- and behind one on a range of elements
+pub stays_extended : (old new : SegmentState) (o : Object) (key : Key) (k : ScalarKind) (more : List ℤ)
+    (answer : Answer) (b : List ℕ) → b ≡ old.cut.bytes → IsSegment b → ExtendsVector old new key k more answer
+    → IsObject o old → IsObject o new
+stays_extended old new o key k more answer b e g m is =
+    extends-stay old new key k more answer (subst IsSegment e g) m o is
+
+pub stays_written : (old new : SegmentState) (o : Object) (key : Key) (k : ScalarKind) (first : ℕ) (zs : List ℤ)
+    (answer : Answer) (b : List ℕ) → b ≡ old.cut.bytes → IsSegment b → WritesRange old new key k first zs answer
+    → IsObject o old → IsObject o new
+stays_written old new o key k first zs answer b e g m is =
+    writes-stay old new key k first zs answer (subst IsSegment e g) m o is

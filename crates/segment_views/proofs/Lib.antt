@@ -1,6 +1,5 @@
 mod Here
 mod Reading
-mod Repeating
 mod Between
 mod RangeReads
 mod Copies

@@ -3,10 +3,9 @@ ghost use Rattle.std.specs.Prelude.{◌≡◌, OnErr, map, ⊤};
 ghost use Rattle.seg_types.specs.declared.kinds.Kind.TheVariants.{Vector as VectorOf};
 ghost use Rattle.seg_types.specs.Commands.{Assign, Erase, Insert, Pop, Push, literal_of};
 ghost use Rattle.segment_manager.specs.Answers.{Element};
-ghost use Rattle.segment_manager.specs.containers.Contents.{sizes_at};
+ghost use Rattle.segment_manager.specs.containers.{Contents.sizes_at, Ranges.ExtendsVector};
 ghost use Rattle.segment_manager.specs.objects.ElementLists.{length_at_kind, vector_at};
 ghost use Rattle.segment_manager.specs.State.{AnswersWith, TakesStepOfKind, answer_of, done_answer};
-ghost use Rattle.segment_views.specs.Repeated.{StepsOn};
 
 use crate::elements::RowItems;
 use crate::rows::{Row, Storage};
@@ -152,22 +151,22 @@ impl<'a, T: Scalar> View<'a, Row<T, Vector>> {
         self.segment.vec_assign(&self.object, values)
     }
 
-    /// Puts values behind the last element, one after another.
+    /// Puts values behind the last element, one after another. Where there are not places for all of them, the vector
+    /// gets twice as many as before, and at least 4, and as many as are needed.
     ///
     /// Example: `queue.extend(&[8, 9])?`.
     ///
     /// # Errors
     ///
-    /// Those of `push`, of the first value that is refused: the values before it are elements then.
+    /// `ReadOnly` where the segment is open for reading, else `WrongKind` where the object is no vector of the type,
+    /// `NoSpace` where its storage cannot be regrown. Nothing changes.
     pub fn extend(&mut self, values: &[T]) -> Result<(), Refusal>
         ensures unchanged { SameView self.old self.new }
-        ensures steps { StepsOn (key_of self.old) (VectorOf T.kind) (λ i z.
-            Push (key_of self.old) (literal_of T.kind z)) (λ old new i.
-            ⊤) (map T.whole values.now) (segment_of self.old) (segment_of self.new) result }
+        ensures step { ExtendsVector (segment_of self.old) (segment_of self.new) (key_of self.old) T.kind
+            (map T.whole values.now) (done_answer result) }
+        ensures refused { OnErr result (segment_of self.new ≡ segment_of self.old) }
     {
-        'values: for i in 0..values.len() {
-            self.push(values[i])?;
-        }
-        Ok(())
+        let _ = self.segment.as_bytes();
+        self.segment.vec_extend(&self.object, values)
     }
 }

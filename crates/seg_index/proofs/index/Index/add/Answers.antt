@@ -112,7 +112,7 @@ spread-requires-in-Some c =
     let p = written o c.shift_non_null_links.ensures.changes (omega arith) in let s = source p in
     record {
       heap = p.index.heap;
-      within = omega arith;
+      in_bounds = omega arith;
       source = s.room (8 * count) (omega arith);
       target = target (8 * count + 8) p (omega arith);
       links = links_lead c.unwrap_or-from.result place (count - place) q.handles s.links q.index.index.whole

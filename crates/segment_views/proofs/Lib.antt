@@ -2,4 +2,3 @@ mod Here
 mod Reading
 mod Between
 mod RangeReads
-mod Copies

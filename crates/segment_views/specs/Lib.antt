@@ -1,5 +1,4 @@
 pub mod OfView
 pub mod Opened
 pub mod Walked
-pub mod Copied
 pub mod Ranged

@@ -620,6 +620,12 @@ extended-not c {p} {each} {len} {k} n {o = None} {bytes} more s f long link =
     (unchanged-rewritten c s)))
 extended-not c n {o = Some x} more s f long link = none-some link s.words.link
 
+-- without storage there is no place
+pub none-free : {b : List ℕ} {p : Place} {each len k : ℕ} (n : ℕ) {o : Option Extent} {bytes : List ℕ}
+    → IsContainer b p each len (table k o) bytes → len + n ≤ k → link_at (bytes_of b) (place_at p) ≡ None → n ≡ 0
+none-free {k = k} n {o = None} s f link = let none = eqb-true k 0 s.table in omega (arith, f, none)
+none-free n {o = Some x} s f link = none-some link s.words.link
+
 -- ---- how many bytes there are before and behind an element
 
 record Pieces (each len i : ℕ) (bytes : List ℕ) : Type 0 where

@@ -368,6 +368,14 @@ module _ {T : Type 0} {size : ℕ} {test : T → Bool} {sp : T
       (ap (λ bs. flat_map sp xs ++ bs) (sym (append-nil (sp y))) ∙ sym (flat_map-append sp xs (y ∷ [])))
       (all-both test xs (y ∷ []) v.values (all-one test y good))
 
+  pub appended-all : (ys : List T) → IsTrue (list_all test ys) → Extends old mid p k (length ys) (flat_map sp ys)
+      → ReplacesVector size test sp old mid p t (xs ++ ys) t
+  appended-all ys good h =
+      let r = subst (λ j. Extends old mid p j (length ys) (flat_map sp ys)) e h (length xs) t (flat_map sp xs)
+      v.stands in
+      vector-now test sp (xs ++ ys) r (sym (length-append xs ys)) (sym (flat_map-append sp xs ys))
+      (all-both test xs ys v.values good)
+
   pub inserted-now : (i : ℕ) (y : T) → ((x : T) → test x ≡ true → length (sp x) ≡ size) → i ≤ length xs → test y ≡ true
       → Inserts old mid p k i (sp y) → ReplacesVector size test sp old mid p t (insert xs i y) t
   inserted-now i y spells f good h =

@@ -42,7 +42,7 @@ pub use Rattle.segment_manager.proofs.containers.TextMoves.{of_kind-leads_on}
 -- what bytes denote by an older format, where the version, the tags and the free tree are made those of the current one
 pub use Rattle.segment_manager.proofs.Renewed.{denotes-later, directory-later}
 -- a command on the elements of an object keeps each object
-pub use Rattle.segment_manager.proofs.objects.StayingObjects.{leads_on-stay, objects_stay}
+pub use Rattle.segment_manager.proofs.objects.StayingObjects.{extends-stay, leads_on-stay, objects_stay, writes-stay}
 -- an object whose handle is answered when it is made is there, as is one whose block a walk over the tiles comes to
 pub use Rattle.segment_manager.proofs.objects.MadeObjects.{made-here}
 pub use Rattle.segment_manager.proofs.blocks.OwnWalks.{objects-few, tile-here}

@@ -71,11 +71,11 @@ whole-replaced w xs i ys =
 
 -- ---- what is answered
 
-abbrev row_in : ScalarKind → Option Object → Result (List ℤ) Refusal
+abbrev pub row_in : ScalarKind → Option Object → Result (List ℤ) Refusal
 row_in k r =
     elim r as (λ _. Result (List ℤ) Refusal) [ None ↦ Err NotFound | Some o ↦ numbers_if k o.value ]
 
-abbrev range_with : Directory → ℕ → List ℤ → Option Object → Directory
+abbrev pub range_with : Directory → ℕ → List ℤ → Option Object → Directory
 range_with d first zs r = elim r as (λ _. Directory) [
   | None ↦ d
   | Some o ↦ changed d o (with_items o.value (replaced (numbers_in o.value) first zs))

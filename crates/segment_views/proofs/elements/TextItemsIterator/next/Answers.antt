@@ -7,7 +7,7 @@ use Rattle.segment_manager.specs.objects.ElementLists.{texts_at}
 use Rattle.segment_manager.specs.State.{AnswersWith}
 use Rattle.segment_views.specs.Walked.{ElementWalk, GoesOnElements, element_of}
 use Rattle.segment_views.proofs.Reading.{text-item}
-use Rattle.segment_views.proofs.elements.StringBytesItemsIterator.next.Goals as goal
+use Rattle.segment_views.proofs.elements.TextItemsIterator.next.Goals as goal
 
 abbrev bytes : Bor (List ℕ) → List ℕ
 bytes text = text.now

@@ -107,10 +107,7 @@ pub use Rattle.segment_dump.specs.Comparing.{compared}
 pub use Rattle.segment_dump.specs.Counting.{AreCountable, AreTexts, CountsDump, HasContentShape, IsCountable, IsFront}
 pub use Rattle.segment_dump.specs.Counting.{IsNameless, fronted}
 pub use Rattle.segment_dump.specs.Filling.{IsByteList, AreRising, AreValues, FillState, FillsAt, IsBuildableContent}
-pub use Rattle.segment_dump.specs.Filling.{IsNameIn}
-pub use Rattle.segment_dump.specs.Filling.{IsTypedPair, IsPartialValue, StandsBuilt, StandsFilling, StringsPart}
-pub use Rattle.segment_dump.specs.Filling.{VectorPart}
-pub use Rattle.segment_dump.specs.Filling.{head_of}
+pub use Rattle.segment_dump.specs.Filling.{IsNameIn, IsTypedPair, IsPartialValue, StandsBuilt, StandsFilling, head_of}
 pub use Rattle.segment_dump.specs.Items.{ValueContent, DumpItem, Items, Map, Scalars, String, Strings, Vector}
 pub use Rattle.segment_dump.specs.Items.{anonymous_objects}
 pub use Rattle.segment_dump.specs.Items.{bytes_in, content_of, count_of_content, item_of_object, kind_of_content}

@@ -239,17 +239,17 @@ pub record LongerWindow (c : WindowState) (extra size : ℕ) (c1 : WindowState) 
       → ((us : List Tile) → FrontSaysTiles c1 size us
       → EncodesTiles c2 (with_free us (size - 16) (length c1.bytes - 16)))
       → ((us : List Tile) → FrontSaysTiles c1 size us
-      → SameBesideTags c1 c2 us (with_free us (size - 16) (length c1.bytes - 16)))
+      → SameExceptTags c1 c2 us (with_free us (size - 16) (length c1.bytes - 16)))
       → MayBeUsed c2 (size - 16) (Some Object)
   pub block : (c2 : WindowState)
       → ((us : List Tile) → FrontSaysTiles c1 size us
       → EncodesTiles c2 (with_free us (size - 16) (length c1.bytes - 16)))
       → ((us : List Tile) → FrontSaysTiles c1 size us
-      → SameBesideTags c1 c2 us (with_free us (size - 16) (length c1.bytes - 16)))
+      → SameExceptTags c1 c2 us (with_free us (size - 16) (length c1.bytes - 16)))
       → (c3 : WindowState) → ((us : List Tile) → EncodesTiles c2 us
       → EncodesTiles c3 (with_use_at (size - 16) (Some Object) us))
       → ((us : List Tile) → EncodesTiles c2 us → SameExceptTags c2 c3 us (with_use_at (size - 16) (Some Object) us))
-      → HasBlockBehind current c c3 extra × (gaps_in c3 ≡ gaps_in c)
+      → AppendsBlock current c c3 extra × (gaps_in c3 ≡ gaps_in c)
 
 pub longer_window : (c : WindowState) (extra : ℕ) → IsHeap current c.bytes → 32 ≤ extra → extra % 16 ≡ 0
     → length c.bytes + extra ≤ 1073741824

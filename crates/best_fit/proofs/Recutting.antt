@@ -58,7 +58,7 @@ pub record Recut (w new : WindowState) (at wanted : ℕ) (is_cut : Bool) : Type 
   pub few : length (front ++ back) ≤ length (gaps_in w)
   pub whole : is_cut ≡ false → SplitsBlock current w new (at + 16) wanted
   pub split : is_cut ≡ true → (e : WindowState) → HasGapTree e (front ++ (gap ∷ back)) → Regrown new e
-      → IsCut current w e (at + 16) wanted
+      → SplitsBlock current w e (at + 16) wanted
 
 module _ (w : WindowState) (at : ℕ) (heap : IsHeap current w.bytes) (b : Block w (at + 16)) (wanted : ℕ) where
   begins : b.tile.offset ≡ at

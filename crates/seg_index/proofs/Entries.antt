@@ -1,12 +1,15 @@
 -- Blocks in use, their links, and the entries of an index.
 use Rattle.seg_index.proofs.Common as common
-use common.{◌≡◌, refl, ◌+◌, List, arith, ◌==◌, Some, among, zero, None, holds, Table, Lookup, Found, Absent, order}
-use common.{subst, slice_get, cases_lt, unwrap_or, and_parts, same_role, room-less, IsIndexOf, IsPlaceIn, IndexRole, ℕ}
-use common.{◌≤◌, [], ◌∷◌, Cut, sym, ap, ◌∙◌, suc, ◌-◌, ◌*◌, ◌%◌, ◌<◌, inl, inr, Entry, length, IsTrue, Option, Extent}
+use common.{◌≡◌, refl, ◌+◌, List, arith, ◌==◌, Some, among, zero, None, holds, BackingArray, Lookup, Found, Absent}
+use common.{order}
+use common.{subst, slice_get, cases_lt, unwrap_or, and_parts, same_role, room-less, IsIndexOf, FindsPositionIn}
+use common.{IndexRole, ℕ}
+use common.{◌≤◌, [], ◌∷◌, WindowState, sym, ap, ◌∙◌, suc, ◌-◌, ◌*◌, ◌%◌, ◌<◌, inl, inr, Entry, length, IsTrue, Option}
+use common.{Extent}
 use common.{handle, IsHeap, get_or, insert, remove, Memory, nat_lt, others, serves, AllByRecursion, none-some}
 use common.{length-insert, length-remove, slice_get-get_or, comparisons_in, beside_table, same_Some, extent_at}
 use common.{has_room, live-rises, room_block, KeepTargets, cases_Bool, found-room, is_live_in, current, live_of}
-use common.{link_at, AllLead, AreLinks, leb-true, bytes_of, word_at, order_at, place_of, AreKeys, Less, ap₂}
+use common.{link_at, AllLinksLead, AreLinksTo, leb-true, bytes_of, word_at, order_at, place_of, AreKeys, Less, ap₂}
 use Rattle.seg_index.proofs.Changing.{changed_used, changed_touches, InHeader}
 use Rattle.seg_index.proofs.Orders.{none_left, same_comparisons}
 use Rattle.std.proofs.lemmas.List.Edits.{get_or-insert_above, get_or-insert_at, get_or-insert_below}
@@ -43,27 +46,29 @@ found_live h (y ∷ ys) x e = elim (cases_Bool (handle y == h)) [
   | inr other ↦ rw other (found_live h ys x (rw other at e))
 ]
 
-pub found_handle : (c : Cut) (h : ℕ) (x : Extent) → IsHeap current c.bytes → extent_at (live_of c.bytes) h ≡ Some x
+pub found_handle : (c : WindowState) (h : ℕ) (x : Extent) → IsHeap current c.bytes
+    → extent_at (live_of c.bytes) h ≡ Some x
     → handle x ≡ h
 found_handle c h x heap e = let l = live_of c.bytes in (among 128 h x l.extents (live-rises l heap.proper) e).at
 
 -- a block lies behind the header, and behind it are 16 bytes more
-pub record Inside (c : Cut) (h n : ℕ) : Type 0 where
+pub record Inside (c : WindowState) (h n : ℕ) : Type 0 where
   pub low : 144 ≤ h
   pub ends : h + n + 16 ≤ length c.bytes
   pub small : length c.bytes ≤ 1073741824
 
-pub inside : (c : Cut) (h n : ℕ) → IsHeap current c.bytes → IsTrue (has_room (live_of c.bytes) h n) → Inside c h n
+pub inside : (c : WindowState) (h n : ℕ) → IsHeap current c.bytes → IsTrue (has_room (live_of c.bytes) h n)
+    → Inside c h n
 inside c h n heap has =
     let r = room_block c h n heap has in let b = r.block in let low = b.low in
     let ends = b.inside in
     record { low = omega arith; ends = omega arith; small = omega arith }
 
-pub block_small : (c : Cut) (h n : ℕ) → IsHeap current c.bytes → IsTrue (has_room (live_of c.bytes) h n)
+pub block_small : (c : WindowState) (h n : ℕ) → IsHeap current c.bytes → IsTrue (has_room (live_of c.bytes) h n)
     → h + n + 16 ≤ 1073741824
 block_small c h n heap has = let s = inside c h n heap has in omega (arith, s.ends, s.small)
 
-pub block_ends : (c : Cut) (h n : ℕ) → IsHeap current c.bytes → IsTrue (has_room (live_of c.bytes) h n)
+pub block_ends : (c : WindowState) (h n : ℕ) → IsHeap current c.bytes → IsTrue (has_room (live_of c.bytes) h n)
     → h + n + 16 ≤ length c.bytes
 block_ends c h n heap has = (inside c h n heap has).ends
 
@@ -80,23 +85,23 @@ all_from P [] f = tt
 all_from P (x ∷ xs) f = (f 0 (omega arith), all_from P xs (λ k l. f (suc k) (omega arith)))
 
 -- the link of an entry
-pub links_at : (m : Memory) (at : ℕ) (hs : List ℕ) (j h : ℕ) → AreLinks m at hs → slice_get hs j ≡ Some h
+pub links_at : (m : Memory) (at : ℕ) (hs : List ℕ) (j h : ℕ) → AreLinksTo m at hs → slice_get hs j ≡ Some h
     → link_at m (at + 8 * j) ≡ Some h
 links_at m at [] j h a e = absurd (none-some h e)
 links_at m at (x ∷ xs) zero h a e = let z : at + 8 * 0 ≡ at = omega arith in ap (λ k. link_at m k) z ∙ a.0 ∙ e
 links_at m at (x ∷ xs) (suc j) h a e =
     let z : at + 8 * suc j ≡ at + 8 + 8 * j = omega arith in ap (λ k. link_at m k) z ∙ links_at m (at + 8) xs j h a.1 e
 
-pub entry_here : (m : Memory) (at : ℕ) (hs : List ℕ) (j : ℕ) → AreLinks m at hs → j < length hs
+pub entry_here : (m : Memory) (at : ℕ) (hs : List ℕ) (j : ℕ) → AreLinksTo m at hs → j < length hs
     → link_at m (at + 8 * j) ≡ Some (get_or hs j 0)
 entry_here m at hs j a l = links_at m at hs j (get_or hs j 0) a (slice_get-get_or hs j 0 l)
 
-pub at_links : (m : Memory) (at : ℕ) (hs : List ℕ) (j h : ℕ) → AreLinks m at hs → j < length hs
+pub at_links : (m : Memory) (at : ℕ) (hs : List ℕ) (j h : ℕ) → AreLinksTo m at hs → j < length hs
     → link_at m (at + 8 * j) ≡ Some h → slice_get hs j ≡ Some h
 at_links m at hs j h a l e = slice_get-get_or hs j 0 l ∙ sym (entry_here m at hs j a l) ∙ e
 
 links_from : (m : Memory) (at : ℕ) (hs : List ℕ)
-    → ((k : ℕ) → k < length hs → link_at m (at + 8 * k) ≡ Some (get_or hs k 0)) → AreLinks m at hs
+    → ((k : ℕ) → k < length hs → link_at m (at + 8 * k) ≡ Some (get_or hs k 0)) → AreLinksTo m at hs
 links_from m at [] f = tt
 links_from m at (x ∷ xs) f =
     let z : at ≡ at + 8 * 0 = omega arith in (
@@ -105,13 +110,13 @@ links_from m at (x ∷ xs) f =
           let e : at + 8 + 8 * k ≡ at + 8 * suc k = omega arith in ap (λ j. link_at m j) e ∙ f (suc k) (omega arith)),
     )
 
-pub links_moved : (m m' : Memory) (at to : ℕ) (hs : List ℕ) → AreLinks m at hs
-    → ((k : ℕ) → k < length hs → link_at m' (to + 8 * k) ≡ link_at m (at + 8 * k)) → AreLinks m' to hs
+pub links_moved : (m m' : Memory) (at to : ℕ) (hs : List ℕ) → AreLinksTo m at hs
+    → ((k : ℕ) → k < length hs → link_at m' (to + 8 * k) ≡ link_at m (at + 8 * k)) → AreLinksTo m' to hs
 links_moved m m' at to hs a f = links_from m' to hs (λ k l. f k l ∙ entry_here m at hs k a l)
 
 -- a run of the links of an index leads to multiples of 16
-pub links_lead : {m : Memory} (block i n : ℕ) (hs : List ℕ) → AreLinks m block hs
-    → AllByRecursion (λ h. h % 16 ≡ 0) hs → i + n ≤ length hs → AllLead m (block + 8 * i) n
+pub links_lead : {m : Memory} (block i n : ℕ) (hs : List ℕ) → AreLinksTo m block hs
+    → AllByRecursion (λ h. h % 16 ≡ 0) hs → i + n ≤ length hs → AllLinksLead m (block + 8 * i) n
 links_lead {m} block i n hs a whole within = record {
   each = λ k l.
       let e : block + 8 * i + 8 * k ≡ block + 8 * (i + k) = omega arith in
@@ -149,9 +154,9 @@ insert_all P hs i h within a p =
     all_from P (insert hs i h) (insert_each (λ k x. P x) hs i h within (λ k l. each k (omega arith)) p (λ k l. each k))
 
 -- the links behind a place make way for a new one
-pub insert_links : {m m' : Memory} (from to i h : ℕ) (hs : List ℕ) → AreLinks m from hs → i ≤ length hs
+pub insert_links : {m m' : Memory} (from to i h : ℕ) (hs : List ℕ) → AreLinksTo m from hs → i ≤ length hs
     → ((k : ℕ) → k < i → link_at m' (to + 8 * k) ≡ link_at m (from + 8 * k)) → link_at m' (to + 8 * i) ≡ Some h
-    → KeepTargets m m' (from + 8 * i) (to + 8 * i + 8) (length hs - i) → AreLinks m' to (insert hs i h)
+    → KeepTargets m m' (from + 8 * i) (to + 8 * i + 8) (length hs - i) → AreLinksTo m' to (insert hs i h)
 insert_links {m} {m'} from to i h hs a within low here tail =
     links_from m' to (insert hs i h) (insert_each (λ k x. link_at m' (to + 8 * k) ≡ Some x) hs i h within
     (λ k l. low k l ∙ entry_here m from hs k a (omega arith)) here (λ k f l.
@@ -178,9 +183,9 @@ remove_all P hs i within a =
     all_from P (remove hs i) (remove_each (λ k x. P x) hs i within (λ k l. each k (omega arith)) (λ k f. each (k + 1)))
 
 -- the links behind a place close up
-pub remove_links : {m m' : Memory} (at i : ℕ) (hs : List ℕ) → AreLinks m at hs → i < length hs
+pub remove_links : {m m' : Memory} (at i : ℕ) (hs : List ℕ) → AreLinksTo m at hs → i < length hs
     → ((k : ℕ) → k < i → link_at m' (at + 8 * k) ≡ link_at m (at + 8 * k))
-    → KeepTargets m m' (at + (8 * i + 8)) (at + 8 * i) (length hs - i - 1) → AreLinks m' at (remove hs i)
+    → KeepTargets m m' (at + (8 * i + 8)) (at + 8 * i) (length hs - i - 1) → AreLinksTo m' at (remove hs i)
 remove_links {m} {m'} at i hs a within low tail = links_from m' at (remove hs i) (remove_each (λ k x. link_at m'
     (at + 8 * k) ≡ Some x) hs i within (λ k l. low k l ∙ entry_here m at hs k a (omega arith)) (λ k f l.
     let p : at + 8 * k ≡ at + 8 * i + 8 * (k - i) = omega arith in
@@ -204,14 +209,14 @@ in_header i = record { behind = place_behind i; small = place_small i }
 -- ---- its block
 
 -- what holds of each table without a block, and of each with one, holds of all
-pub table_cases : (P : Table → Type 0) → ((cap : ℕ) → P (record { capacity = cap; extent = None }))
-    → ((cap : ℕ) (x : Extent) → P (record { capacity = cap; extent = Some x })) → (t : Table) → P t
+pub table_cases : (P : BackingArray → Type 0) → ((cap : ℕ) → P (record { capacity = cap; extent = None }))
+    → ((cap : ℕ) (x : Extent) → P (record { capacity = cap; extent = Some x })) → (t : BackingArray) → P t
 table_cases P none some t = elim t.extent as (λ o. P (record { capacity = t.capacity; extent = o })) [
   | None ↦ none t.capacity
   | Some x ↦ some t.capacity x
 ]
 
-pub record Placed (c : Cut) (at : ℕ) (t : Table) (hs : List ℕ) (block : ℕ) : Type 0 where
+pub record Placed (c : WindowState) (at : ℕ) (t : BackingArray) (hs : List ℕ) (block : ℕ) : Type 0 where
   pub index : IsIndexOf c at t hs
   pub extent : Extent
   pub is : t.extent ≡ Some extent
@@ -219,15 +224,15 @@ pub record Placed (c : Cut) (at : ℕ) (t : Table) (hs : List ℕ) (block : ℕ)
   pub found : extent_at (live_of c.bytes) block ≡ Some extent
   pub room : IsTrue (has_room (live_of c.bytes) block (8 * t.capacity))
   pub inside : Inside c block (8 * t.capacity)
-  pub links : AreLinks (bytes_of c.bytes) block hs
+  pub links : AreLinksTo (bytes_of c.bytes) block hs
 
-pub long_enough : {c : Cut} {at cap : ℕ} {x : Extent} {hs : List ℕ}
+pub long_enough : {c : WindowState} {at cap : ℕ} {x : Extent} {hs : List ℕ}
     → IsIndexOf c at (record { capacity = cap; extent = Some x }) hs → 8 * cap + 16 ≤ x.len
 long_enough {cap = cap} {x} i =
     let two = and_parts (nat_lt 0 cap) (serves x IndexRole (8 * cap)) i.places in
     leb-true (8 * cap + 16) x.len (and_parts (same_role x.role IndexRole) (holds x (8 * cap)) two.1).1
 
-pub placed : {c : Cut} {at : ℕ} {t : Table} {hs : List ℕ} (block : ℕ) → IsIndexOf c at t hs
+pub placed : {c : WindowState} {at : ℕ} {t : BackingArray} {hs : List ℕ} (block : ℕ) → IsIndexOf c at t hs
     → link_at (bytes_of c.bytes) at ≡ Some block → Placed c at t hs block
 placed {c} {at} {t} {hs} block i leads = table_cases (λ u. IsIndexOf c at u hs → Placed c at u hs block)
     (λ cap j. absurd (none-some block (sym j.stands.link ∙ leads))) (λ cap x j.
@@ -243,38 +248,42 @@ placed {c} {at} {t} {hs} block i leads = table_cases (λ u. IsIndexOf c at u hs 
       found = found;
       room = room;
       inside = inside c block (8 * cap) j.heap room;
-      links = subst (λ k. AreLinks (bytes_of c.bytes) k hs) same j.stands.entries;
+      links = subst (λ k. AreLinksTo (bytes_of c.bytes) k hs) same j.stands.entries;
     }) t i
 
 -- the blocks beside that of the index
-pub beside : {c : Cut} {at : ℕ} {t : Table} {hs : List ℕ} {block : ℕ} → Placed c at t hs block → (xs : List Extent)
+pub beside : {c : WindowState} {at : ℕ} {t : BackingArray} {hs : List ℕ} {block : ℕ} → Placed c at t hs block
+    → (xs : List Extent)
     → others block xs ≡ beside_table t xs
 beside {t = t} p xs = ap (λ k. others k xs) (sym p.begins) ∙ ap (λ (o : Option Extent).
     elim o [ None ↦ xs | Some x ↦ others (handle x) xs ]) (sym p.is)
 
 -- without a block there is no place
-pub bare : {c : Cut} {at : ℕ} {t : Table} {hs : List ℕ} → IsIndexOf c at t hs → link_at (bytes_of c.bytes) at ≡ None
+pub bare : {c : WindowState} {at : ℕ} {t : BackingArray} {hs : List ℕ} → IsIndexOf c at t hs
+    → link_at (bytes_of c.bytes) at ≡ None
     → t.capacity ≡ 0
 bare {c} {at} {t} {hs} i leads = table_cases (λ u. IsIndexOf c at u hs → u.capacity ≡ 0) (λ cap j. let p = j.places
     in eqb-true cap 0 p) (λ cap x j. absurd (none-some (handle x) (sym leads ∙ j.stands.link))) t i
 
-pub no_entries : {c : Cut} {at : ℕ} {t : Table} {hs : List ℕ} → IsIndexOf c at t hs
+pub no_entries : {c : WindowState} {at : ℕ} {t : BackingArray} {hs : List ℕ} → IsIndexOf c at t hs
     → link_at (bytes_of c.bytes) at ≡ None → length hs ≡ 0
 no_entries i leads = let z = bare i leads in omega arith
 
-pub capacity_small : {c : Cut} {at : ℕ} {t : Table} {hs : List ℕ} → IsIndexOf c at t hs → t.capacity ≤ 134217728
+pub capacity_small : {c : WindowState} {at : ℕ} {t : BackingArray} {hs : List ℕ} → IsIndexOf c at t hs
+    → t.capacity ≤ 134217728
 capacity_small {c} {at} {t} i = by_case (link_at (bytes_of c.bytes) at) refl
   where
     by_case : (o : Option ℕ) → link_at (bytes_of c.bytes) at ≡ o → t.capacity ≤ 134217728
     by_case None e = let z = bare i e in omega arith
     by_case (Some b) e = let s = (placed b i e).inside in omega arith
 
-pub leads_from : (c : Cut) {at place : ℕ} {o p : Option ℕ} → place ≡ at → o ≡ link_at (bytes_of c.bytes) place
+pub leads_from : (c : WindowState) {at place : ℕ} {o p : Option ℕ} → place ≡ at → o ≡ link_at (bytes_of c.bytes) place
     → o ≡ p → link_at (bytes_of c.bytes) at ≡ p
 leads_from c e f g = ap (λ k. link_at (bytes_of c.bytes) k) (sym e) ∙ sym f ∙ g
 
 -- where there are places there is a block, to which the link leads
-pub has_places : {c : Cut} {at : ℕ} {t : Table} {hs : List ℕ} {block place : ℕ} {o : Option ℕ} → IsIndexOf c at t hs
+pub has_places : {c : WindowState} {at : ℕ} {t : BackingArray} {hs : List ℕ} {block place : ℕ} {o : Option ℕ}
+    → IsIndexOf c at t hs
     → 0 < t.capacity → place ≡ at → o ≡ link_at (bytes_of c.bytes) place → block ≡ unwrap_or o 0
     → Placed c at t hs block
 has_places {c} {at} {t} {hs} {block} {place} {o} i some e f b = by_case o refl
@@ -285,13 +294,14 @@ has_places {c} {at} {t} {hs} {block} {place} {o} i some e f b = by_case o refl
         let same : block ≡ h = b ∙ ap (λ (r : Option ℕ). unwrap_or r 0) q in
         placed block i (leads_from c e f q ∙ ap (λ k. Some k) (sym same))
 
-pub places_room : {c : Cut} {at : ℕ} {t : Table} {hs : List ℕ} (block place : ℕ) {o : Option ℕ} (k : ℕ)
+pub places_room : {c : WindowState} {at : ℕ} {t : BackingArray} {hs : List ℕ} (block place : ℕ) {o : Option ℕ} (k : ℕ)
     → IsIndexOf c at t hs → 0 < t.capacity → place ≡ at → o ≡ link_at (bytes_of c.bytes) place → block ≡ unwrap_or o 0
     → k ≤ 8 * t.capacity → IsTrue (has_room (live_of c.bytes) block k)
 places_room {c} {t = t} block place k i some e f b few =
     room-less (live_of c.bytes) block (8 * t.capacity) k few (has_places i some e f b).room
 
-pub link_used : {c : Cut} {at : ℕ} {t : Table} {hs : List ℕ} (block place : ℕ) {o : Option ℕ} → IsIndexOf c at t hs
+pub link_used : {c : WindowState} {at : ℕ} {t : BackingArray} {hs : List ℕ} (block place : ℕ) {o : Option ℕ}
+    → IsIndexOf c at t hs
     → place ≡ at → o ≡ link_at (bytes_of c.bytes) place → o ≡ Some block → IsTrue (is_live_in (live_of c.bytes) block)
 link_used {c} block place i e f is =
     let p = placed block i (leads_from c e f is) in found_live block (live_of c.bytes).extents p.extent p.found
@@ -320,7 +330,8 @@ less_at o hs i j g h s l e f =
     (same_Some h (get_or hs j 0) (sym f ∙ slice_get-get_or hs j 0 within)) ∙ Less-from_sorted o hs i j 0 s l within
 
 -- the object of an entry has room for a key of the sort of its index
-key_given : {c : Cut} {i : Index} (key : Entry) (h : ℕ) → index_of key ≡ i → IsHeap current c.bytes → HasSortKey c i h
+key_given : {c : WindowState} {i : Index} (key : Entry) (h : ℕ) → index_of key ≡ i → IsHeap current c.bytes
+    → HasSortKey c i h
     → IsKeyReadable c key h
 key_given {c} {i} key h e heap k =
     let m = bytes_of c.bytes in let l = live_of c.bytes in let x = k.extent in let n = sort_key_end i m h in
@@ -331,7 +342,8 @@ key_given {c} {i} key h e heap k =
           (found-room l h n x k.found (leb-true (n + 16) x.len two.1));
     }
 
-pub keys_given : (c : Cut) (i : Index) (key : Entry) (block count : ℕ) → (k : HasSortedIndex c i) → index_of key ≡ i
+pub keys_given : (c : WindowState) (i : Index) (key : Entry) (block count : ℕ) → (k : HasSortedIndex c i)
+    → index_of key ≡ i
     → Placed c (place_of i) k.table k.handles block → count ≡ word_at (bytes_of c.bytes) (place_of i + 8)
     → AreKeys c block count key
 keys_given c i key block count k sort p e =
@@ -346,8 +358,8 @@ keys_given c i key block count k sort p e =
           (at_links m block hs x g p.links (omega arith) gx) (at_links m block hs y h p.links (omega arith) hy));
     }
 
-pub place_found : (m : Memory) (key : Entry) (hs : List ℕ) (block count : ℕ) (r : Lookup) → AreLinks m block hs
-    → count ≡ length hs → IsPlaceIn m key block count r → FindsPosition m key hs r
+pub place_found : (m : Memory) (key : Entry) (hs : List ℕ) (block count : ℕ) (r : Lookup) → AreLinksTo m block hs
+    → count ≡ length hs → FindsPositionIn m key block count r → FindsPosition m key hs r
 place_found m key hs block count (Found j) a long p = (
   get_or hs j 0,
   slice_get-get_or hs j 0 (omega arith),
@@ -359,7 +371,7 @@ place_found m key hs block count (Absent j) a long p = (
 )
 
 -- the comparisons over the links of the block are those over the handles
-pub comparisons_found : (m : Memory) (key : Entry) (hs : List ℕ) (block count : ℕ) → AreLinks m block hs
+pub comparisons_found : (m : Memory) (key : Entry) (hs : List ℕ) (block count : ℕ) → AreLinksTo m block hs
     → count ≡ length hs → comparisons_in m key block count ≡ comparisons m key hs
 comparisons_found m key hs block count a long = ap (λ n. comparisons_in m key block n) long
     ∙ same_comparisons (length hs) (order_at m key block) (λ j. order m key (unwrap_or (slice_get hs j) 0)) 0
@@ -370,7 +382,7 @@ pub comparisons_none : (m : Memory) (key : Entry) (hs : List ℕ) → length hs 
 comparisons_none m key hs z =
     none_left (length hs) (λ i. order m key (unwrap_or (slice_get hs i) 0)) 0 (length hs) (omega arith)
 
-pub entry_found : (m : Memory) (hs : List ℕ) (block j got : ℕ) (o : Option ℕ) → AreLinks m block hs → j < length hs
+pub entry_found : (m : Memory) (hs : List ℕ) (block j got : ℕ) (o : Option ℕ) → AreLinksTo m block hs → j < length hs
     → o ≡ link_at m (block + 8 * j) → got ≡ unwrap_or o 0 → slice_get hs j ≡ Some got
 entry_found m hs block j got o a l e g = slice_get-get_or hs j 0 l
     ∙ ap (λ k. Some k) (sym (g ∙ ap (λ (r : Option ℕ). unwrap_or r 0) (e ∙ entry_here m block hs j a l)))

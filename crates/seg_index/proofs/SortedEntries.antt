@@ -4,11 +4,13 @@ use common.{◌≡◌, refl, sym, ap, ap₂, subst, ◌∙◌, ℕ, zero, suc, �
 use common.{arith}
 use common.{IsTrue, Option, Some, None, inl, inr, insert, remove, slice_get, AllByRecursion, none-some, same_Some, Less}
 use common.{Greater, Ordering, ordering_reverse, slice_cmp, nat_cmp, nat_list_cmp_total, cases_Bool, leb-true, holds}
-use common.{and_parts, slice_get-get_or, current, Cut, Memory, bytes_of, Same-word, Role, IndexRole, link_at}
-use common.{Extent, LiveSet, handle, others, IsAllocated, IsReleased, LaysOut, Keeps, SameBlock}
-use common.{extent_at, live_of, Table, same_role, serves, found-room, found-less, IsBlockFor, KeepsRest, beside_table}
-use common.{unlinked, without_link, IsIndexOf, AreLinks, Entry, name_at, name_len_at, released-live, nat_lt, order}
-use common.{IsChanged, Absent, changed-keeps, has_room, read, ◌*◌, ◌%◌, Equal, Found, Lookup, cases_lt}
+use common.{and_parts, slice_get-get_or, current, WindowState, Memory, bytes_of, SameBytes-word, Role, IndexRole}
+use common.{link_at}
+use common.{Extent, LiveSet, handle, others, AllocatesOk, Deallocates, EncodesLiveSet, KeepsBlocks, SameBlock}
+use common.{extent_at, live_of, BackingArray, same_role, serves, found-room, found-less, IsBlockFor, KeepsOutsideIndex}
+use common.{beside_table}
+use common.{unlinked, without_link, IsIndexOf, AreLinksTo, Entry, name_at, name_len_at, released-live, nat_lt, order}
+use common.{ChangesBytes, Absent, changed-keeps, has_room, read, ◌*◌, ◌%◌, Equal, Found, Lookup, cases_lt}
 use Rattle.std.specs.Cmp.{IsTotalOrder}
 use Rattle.seg_index.proofs.Entries.{all_at, all_found, first, insert_all, no_entries, placed}
 use Rattle.seg_index.proofs.Entries.{less_at, remove_all, table_cases}
@@ -44,16 +46,16 @@ order-same Unique m m' g h s t = ap₂ (λ x y. nat_cmp x y) s t
 key-same : (i : Index) (m m' : Memory) (h : ℕ) (x : Extent) → handle x ≡ h → SameBlock m m' x
     → sort_key_end i m h + 16 ≤ x.len → SameSortKey i m m' h
 key-same Named m m' h x at s long =
-    let word = Same-word m m' (handle x) (end_of x) (h + 8) s.payload (omega arith) (omega arith) in
+    let word = SameBytes-word m m' (handle x) (end_of x) (h + 8) s.payload (omega arith) (omega arith) in
     let len : name_len_at m' h ≡ name_len_at m h = ap (λ w. w % 4294967296) word in
     let name = SameBytes-read m m' (handle x) (end_of x) (h + 16) (name_len_at m h) s.payload (omega arith)
     (omega arith) in
     (len, ap (λ n. read m' (h + 16) n) len ∙ name)
 key-same Unique m m' h x at s long = ap (λ w. w % 4294967296)
-    (Same-word m m' (handle x) (end_of x) h s.payload (omega arith) (omega arith))
+    (SameBytes-word m m' (handle x) (end_of x) h s.payload (omega arith) (omega arith))
 
 -- an object that is found in its block still is, and its bytes are as they were
-pub record ObjectStays (a b : Cut) (h : ℕ) : Type 0 where
+pub record ObjectStays (a b : WindowState) (h : ℕ) : Type 0 where
   pub each : (x : Extent) → extent_at (live_of a.bytes) h ≡ Some x → IsTrue (same_role x.role ObjectRole)
       → (extent_at (live_of b.bytes) h ≡ Some x) × SameBlock (bytes_of a.bytes) (bytes_of b.bytes) x
 
@@ -69,13 +71,13 @@ record KeyFits (i : Index) (m : Memory) (h : ℕ) (x : Extent) : Type 0 where
   role : IsTrue (same_role x.role ObjectRole)
   long : sort_key_end i m h + 16 ≤ x.len
 
-key-fits : {c : Cut} (i : Index) {h : ℕ} → (k : HasSortKey c i h) → KeyFits i (bytes_of c.bytes) h k.extent
+key-fits : {c : WindowState} (i : Index) {h : ℕ} → (k : HasSortKey c i h) → KeyFits i (bytes_of c.bytes) h k.extent
 key-fits {c} i {h} k =
     let n = sort_key_end i (bytes_of c.bytes) h in
     let two = and_parts (same_role k.extent.role ObjectRole) (holds k.extent n) k.fits in
     record { role = two.0; long = leb-true (n + 16) k.extent.len two.1 }
 
-module _ (a b : Cut) (i : Index) where
+module _ (a b : WindowState) (i : Index) where
   abbrev A : Memory
   A = bytes_of a.bytes
 
@@ -121,19 +123,19 @@ module _ (a b : Cut) (i : Index) where
       → AreSortedHandles b i hs
   sorted-stays hs ss s = sorted-each hs ss s.keys s.rises
 
-all-stay : {a b : Cut} → ((h : ℕ) → ObjectStays a b h) → (hs : List ℕ) → AllByRecursion (ObjectStays a b) hs
+all-stay : {a b : WindowState} → ((h : ℕ) → ObjectStays a b h) → (hs : List ℕ) → AllByRecursion (ObjectStays a b) hs
 all-stay f [] = tt
 all-stay f (h ∷ hs) = (f h, all-stay f hs)
 
-pub keeps-sorted : {a b : Cut} → ((h : ℕ) → ObjectStays a b h) → KeepsSorted a b
+pub keeps-sorted : {a b : WindowState} → ((h : ℕ) → ObjectStays a b h) → KeepsSorted a b
 keeps-sorted {a} {b} f i hs s = sorted-stays a b i hs (all-stay f hs) s
 
-pub none-sorted : {c : Cut} {i : Index} → AreSortedHandles c i []
+pub none-sorted : {c : WindowState} {i : Index} → AreSortedHandles c i []
 unfolding IsStrictlySortedBy
 none-sorted = record { keys = tt; rises = tt }
 
-pub unchanged-sorted : {a b : Cut} → b ≡ a → KeepsSorted a b
-unchanged-sorted e i hs s = subst (λ (c : Cut). AreSortedHandles c i hs) (sym e) s
+pub unchanged-sorted : {a b : WindowState} → b ≡ a → KeepsSorted a b
+unchanged-sorted e i hs s = subst (λ (c : WindowState). AreSortedHandles c i hs) (sym e) s
 
 -- ---- which objects stay
 
@@ -147,13 +149,13 @@ roles-apart l h g x y e f object index same =
     let both : role_bits x.role ≡ role_bits y.role = ap (λ (z : Extent). role_bits z.role) one in
     omega (arith, mine, its, both)
 
-index-role : {c : Cut} {at cap : ℕ} {y : Extent} {hs : List ℕ}
+index-role : {c : WindowState} {at cap : ℕ} {y : Extent} {hs : List ℕ}
     → IsIndexOf c at (record { capacity = cap; extent = Some y }) hs → IsTrue (same_role y.role IndexRole)
 index-role {cap = cap} {y} i =
     let two = and_parts (nat_lt 0 cap) (serves y IndexRole (8 * cap)) i.places in
     (and_parts (same_role y.role IndexRole) (holds y (8 * cap)) two.1).0
 
-module _ {a : Cut} {at : ℕ} {t : Table} {hs : List ℕ} (i : IsIndexOf a at t hs) (h : ℕ) (x : Extent)
+module _ {a : WindowState} {at : ℕ} {t : BackingArray} {hs : List ℕ} (i : IsIndexOf a at t hs) (h : ℕ) (x : Extent)
     (e : extent_at (live_of a.bytes) h ≡ Some x) (role : IsTrue (same_role x.role ObjectRole)) where
   abbrev xs : List Extent
   xs = (live_of a.bytes).extents
@@ -181,12 +183,14 @@ module _ {a : Cut} {at : ℕ} {t : Table} {hs : List ℕ} (i : IsIndexOf a at t 
       by_case (Some k) leads = found-less h k x ys.extents (link-apart k leads) f
 
 -- what is found in other blocks that stay is there with its bytes
-pub in-kept : {a b : Cut} {at : ℕ} (zs : List Extent) (h : ℕ) (x : Extent) → KeepsRest a b at zs → first h zs ≡ Some x
+pub in-kept : {a b : WindowState} {at : ℕ} (zs : List Extent) (h : ℕ) (x : Extent) → KeepsOutsideIndex a b at zs
+    → first h zs ≡ Some x
     → SameBlock (bytes_of a.bytes) (bytes_of b.bytes) x
 in-kept {a} {b} zs h x k f = all_found (SameBlock (bytes_of a.bytes) (bytes_of b.bytes)) h zs x k.blocks f
 
 -- where a block is taken
-pub taken-stays : {a b : Cut} {n k : ℕ} {role : Role} → IsAllocated current a b n role k → (h : ℕ) → ObjectStays a b h
+pub taken-stays : {a b : WindowState} {n k : ℕ} {role : Role} → AllocatesOk current a b n role k → (h : ℕ)
+    → ObjectStays a b h
 taken-stays {a} {b} al h = record {
   each = λ x e role. (
     found_still h x al e,
@@ -195,7 +199,7 @@ taken-stays {a} {b} al h = record {
 }
 
 -- where another is released
-pub released-stays : {a b : Cut} {k : ℕ} → IsReleased current a b k → (h : ℕ) → (h ≡ k → ⊥) → ObjectStays a b h
+pub released-stays : {a b : WindowState} {k : ℕ} → Deallocates current a b k → (h : ℕ) → (h ≡ k → ⊥) → ObjectStays a b h
 released-stays {a} {b} {k} r h apart = record {
   each = λ x e role.
       let f = found-less h k x (live_of a.bytes).extents apart e in (
@@ -206,7 +210,7 @@ released-stays {a} {b} {k} r h apart = record {
 }
 
 -- where another is written
-pub written-stays : {a b : Cut} {n : ℕ} (k at : ℕ) → IsChanged current a b (k + at) n
+pub written-stays : {a b : WindowState} {n : ℕ} (k at : ℕ) → ChangesBytes current a b (k + at) n
     → IsTrue (has_room (live_of a.bytes) k (at + n)) → (h : ℕ) → (h ≡ k → ⊥) → ObjectStays a b h
 written-stays {a} {b} {n} k at change room h apart = record {
   each = λ x e role. (
@@ -217,7 +221,7 @@ written-stays {a} {b} {n} k at change room h apart = record {
 }
 
 -- the entries are none of the block
-pub sorted-beside : {a b : Cut} {i : Index} (k : ℕ) (hs : List ℕ) → AreSortedHandles a i hs
+pub sorted-beside : {a b : WindowState} {i : Index} (k : ℕ) (hs : List ℕ) → AreSortedHandles a i hs
     → AllByRecursion (λ g. g ≡ k → ⊥) hs → ((h : ℕ) → (h ≡ k → ⊥) → ObjectStays a b h) → AreSortedHandles b i hs
 sorted-beside {a} {b} {i} k hs s other f = sorted-stays a b i hs (each hs other) s
   where
@@ -226,7 +230,7 @@ sorted-beside {a} {b} {i} k hs s other f = sorted-stays a b i hs (each hs other)
     each (g ∷ gs) o = (f g o.0, each gs o.1)
 
 -- one after the other
-pub stays-trans : {a b c : Cut} → ((h : ℕ) → ObjectStays a b h) → ((h : ℕ) → ObjectStays b c h) → (h : ℕ)
+pub stays-trans : {a b c : WindowState} → ((h : ℕ) → ObjectStays a b h) → ((h : ℕ) → ObjectStays b c h) → (h : ℕ)
     → ObjectStays a c h
 stays-trans {a} {b} {c} f g h = record {
   each = λ x e role.
@@ -234,14 +238,15 @@ stays-trans {a} {b} {c} f g h = record {
       (q.0, SameBlock-trans (bytes_of a.bytes) (bytes_of b.bytes) (bytes_of c.bytes) x p.1 q.1);
 }
 
-pub stays-itself : {a : Cut} (h : ℕ) → ObjectStays a a h
+pub stays-itself : {a : WindowState} (h : ℕ) → ObjectStays a a h
 stays-itself {a} h = record {
   each = λ x e role.
       (e, record { payload = record { at = λ k f g. refl }; colour = refl });
 }
 
 -- where blocks stay and the live set too
-pub kept-stays : {a b : Cut} → LaysOut current b.bytes (live_of a.bytes) → Keeps a b (live_of a.bytes).extents → (h : ℕ)
+pub kept-stays : {a b : WindowState} → EncodesLiveSet current b.bytes (live_of a.bytes)
+    → KeepsBlocks a b (live_of a.bytes).extents → (h : ℕ)
     → ObjectStays a b h
 kept-stays {a} {b} laid k h = record {
   each = λ x e role. (
@@ -251,8 +256,8 @@ kept-stays {a} {b} laid k h = record {
 }
 
 -- where all but the block of an index and its words stays
-pub beside-stays : {a b : Cut} {at : ℕ} {t : Table} {hs : List ℕ} → IsIndexOf a at t hs
-    → KeepsRest a b at (beside_table t (live_of a.bytes).extents) → ((h : ℕ) (x : Extent) → first h
+pub beside-stays : {a b : WindowState} {at : ℕ} {t : BackingArray} {hs : List ℕ} → IsIndexOf a at t hs
+    → KeepsOutsideIndex a b at (beside_table t (live_of a.bytes).extents) → ((h : ℕ) (x : Extent) → first h
     (live_of a.bytes).extents ≡ Some x → (link_at (bytes_of a.bytes) at ≡ Some h → ⊥) → extent_at (live_of b.bytes) h
     ≡ Some x) → (h : ℕ) → ObjectStays a b h
 beside-stays {a} {t = t} i k found h = record {
@@ -263,8 +268,9 @@ beside-stays {a} {t = t} i k found h = record {
 }
 
 -- where an index moves into a block that was in use
-pub moved-stays : {a b : Cut} {at : ℕ} {t : Table} {hs : List ℕ} {g places : ℕ} → IsIndexOf a at t hs
-    → IsBlockFor a g places → live_of b.bytes ≡ unlinked a at → KeepsRest a b at (others g (unlinked a at).extents)
+pub moved-stays : {a b : WindowState} {at : ℕ} {t : BackingArray} {hs : List ℕ} {g places : ℕ} → IsIndexOf a at t hs
+    → IsBlockFor a g places → live_of b.bytes ≡ unlinked a at
+    → KeepsOutsideIndex a b at (others g (unlinked a at).extents)
     → (h : ℕ) → ObjectStays a b h
 moved-stays {a} {at = at} {g = g} {places} i block live k h = record {
   each = λ x e role.
@@ -308,7 +314,8 @@ sorted-remove c (x ∷ xs) zero l s = s.1
 sorted-remove c (x ∷ xs) (suc i) l s =
     (remove_all (λ g. c x g ≡ Less) xs i (omega arith) s.0, sorted-remove c xs i (omega arith) s.1)
 
-pub one-more : {c : Cut} {i : Index} {hs : List ℕ} {place h : ℕ} → AreSortedHandles c i hs → BelongsAt c i hs place h
+pub one-more : {c : WindowState} {i : Index} {hs : List ℕ} {place h : ℕ} → AreSortedHandles c i hs
+    → BelongsAt c i hs place h
     → AreSortedHandles c i (insert hs place h)
 one-more {c} {i} {hs} {place} {h} s b = record {
   keys = insert_all (HasSortKey c i) hs place h b.within s.keys b.key;
@@ -316,7 +323,7 @@ one-more {c} {i} {hs} {place} {h} s b = record {
       (λ j g e. let p = b.each j g e in (p.0, λ l. flipped i (bytes_of c.bytes) g h (p.1 l)));
 }
 
-pub one-less : {c : Cut} {i : Index} {hs : List ℕ} {place : ℕ} → AreSortedHandles c i hs → place < length hs
+pub one-less : {c : WindowState} {i : Index} {hs : List ℕ} {place : ℕ} → AreSortedHandles c i hs → place < length hs
     → AreSortedHandles c i (remove hs place)
 one-less {c} {i} {hs} {place} s l = record {
   keys = remove_all (HasSortKey c i) hs place l s.keys;
@@ -329,7 +336,7 @@ order-by-key : (key : Entry) (m m' : Memory) (g h : ℕ) → SameSortKey (index_
 order-by-key (Name s) m m' g h same is = ap₂ (λ xs ys. slice_cmp nat_cmp xs ys) same.1 is
 order-by-key (Code n) m m' g h same is = ap₂ (λ x y. nat_cmp x y) same is
 
-pub belongs-at : {a b : Cut} {i : Index} {hs : List ℕ} (key : Entry) (place h : ℕ) → index_of key ≡ i
+pub belongs-at : {a b : WindowState} {i : Index} {hs : List ℕ} (key : Entry) (place h : ℕ) → index_of key ≡ i
     → AreSortedHandles a i hs
     → ((g : ℕ) → ObjectStays a b g) → HasSortKey b i h → IsKeyOf key (bytes_of b.bytes) h
     → FindsPosition (bytes_of a.bytes) key hs (Absent place) → BelongsAt b i hs place h
@@ -400,7 +407,7 @@ one-place m key hs (Absent i) (Absent j) o p q = elim (cases_lt i j) [
 
 -- ---- an index has one list of entries
 
-links-same : (m : Memory) (at : ℕ) (hs gs : List ℕ) → AreLinks m at hs → AreLinks m at gs → length hs ≡ length gs
+links-same : (m : Memory) (at : ℕ) (hs gs : List ℕ) → AreLinksTo m at hs → AreLinksTo m at gs → length hs ≡ length gs
     → hs ≡ gs
 links-same m at [] [] p q e = refl
 links-same m at [] (g ∷ gs) p q e = absurd (omega arith)
@@ -408,7 +415,8 @@ links-same m at (h ∷ hs) [] p q e = absurd (omega arith)
 links-same m at (h ∷ hs) (g ∷ gs) p q e =
     ap₂ (λ x xs. x ∷ xs) (same_Some h g (sym p.0 ∙ q.0)) (links-same m (at + 8) hs gs p.1 q.1 (omega arith))
 
-pub one-list : {c : Cut} {at : ℕ} {t u : Table} {hs gs : List ℕ} → IsIndexOf c at t hs → IsIndexOf c at u gs → hs ≡ gs
+pub one-list : {c : WindowState} {at : ℕ} {t u : BackingArray} {hs gs : List ℕ} → IsIndexOf c at t hs
+    → IsIndexOf c at u gs → hs ≡ gs
 one-list {c} {at} {hs = hs} {gs} i j = by_case (link_at (bytes_of c.bytes) at) refl
   where
     by_case : (o : Option ℕ) → link_at (bytes_of c.bytes) at ≡ o → hs ≡ gs
@@ -419,14 +427,14 @@ one-list {c} {at} {hs = hs} {gs} i j = by_case (link_at (bytes_of c.bytes) at) r
 -- ---- the handle of a new entry
 
 -- it is one of a block in use
-pub aligned : {c : Cut} {i : Index} {place h : ℕ} → CanAdd c i place h → h % 16 ≡ 0
+pub aligned : {c : WindowState} {i : Index} {place h : ℕ} → CanAdd c i place h → h % 16 ≡ 0
 aligned {c} {i} {place} {h} k =
     let key = k.belongs.key in let f = key-fits i key in let n = sort_key_end i (bytes_of c.bytes) h in
     block_aligned c h (room_block c h n k.index.index.heap (found-room (live_of c.bytes) h n key.extent key.found
     f.long)).block
 
 -- with it the entries are sorted, whatever the table
-pub added-sorted : {c : Cut} {i : Index} {place h : ℕ} {t : Table} {hs : List ℕ} → CanAdd c i place h
+pub added-sorted : {c : WindowState} {i : Index} {place h : ℕ} {t : BackingArray} {hs : List ℕ} → CanAdd c i place h
     → IsIndexOf c (place_of i) t hs → AreSortedHandles c i (insert hs place h)
 added-sorted {c} {i} {place} {h} k index =
     subst (λ gs. AreSortedHandles c i (insert gs place h)) (one-list k.index.index index)

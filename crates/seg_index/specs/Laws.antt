@@ -25,11 +25,11 @@ pub record IndexesStay : Type 0 where
       → IsIndexOf b (place_of i) t handles
   pub released : (i : Index) (a b : WindowState) (h : ℕ) (t : BackingArray) (handles : List ℕ)
       → IsIndexOf a (place_of i) t handles
-      → IsReleased current a b h → (IsItsBlock a i h → ⊥)
+      → Deallocates current a b h → (IsItsBlock a i h → ⊥)
       → IsIndexOf b (place_of i) t handles
   pub written : (i : Index) (a b : WindowState) (h at n : ℕ) (t : BackingArray) (handles : List ℕ)
       → IsIndexOf a (place_of i) t handles
-      → IsChanged current a b (h + at) n
+      → ChangesBytes current a b (h + at) n
       → IsTrue (has_room (live_of a.bytes) h (at + n)) → (IsItsBlock a i h → ⊥) → IsIndexOf b (place_of i) t handles
 
 -- the law: entries stay sorted where a block is taken, where one that is none of their objects' is released or written,
@@ -40,7 +40,7 @@ pub record EntriesStaySorted : Type 0 where
       → Deallocates current a b h
       → AllByRecursion (λ g. g ≡ h → ⊥) handles → AreSortedHandles b i handles
   pub written : (i : Index) (a b : WindowState) (h at n : ℕ) (handles : List ℕ) → AreSortedHandles a i handles
-      → IsChanged current a b (h + at) n → IsTrue (has_room (live_of a.bytes) h (at + n))
+      → ChangesBytes current a b (h + at) n → IsTrue (has_room (live_of a.bytes) h (at + n))
       → AllByRecursion (λ g. g ≡ h → ⊥) handles → AreSortedHandles b i handles
   pub restored : (a b : WindowState) → EncodesLiveSet current b.bytes (live_of a.bytes)
       → KeepsBlocks a b (live_of a.bytes).extents
@@ -65,12 +65,12 @@ pub record GrowthsStay : Type 0 where
   pub prepared : (i : Index) (a b : WindowState) (g : Option ℕ) (t : BackingArray) (handles : List ℕ)
       → IsIndexOf a (place_of i) t handles → IsGrowth a b (place_of i) g → CanGrow b (place_of i) g
   pub taken : (i : Index) (a b : WindowState) (g : Option ℕ) (n : ℕ) (role : Role) (h : ℕ) → CanGrow a (place_of i) g
-      → IsAllocated current a b n role h → CanGrow b (place_of i) g
+      → AllocatesOk current a b n role h → CanGrow b (place_of i) g
   pub released : (i : Index) (a b : WindowState) (g : Option ℕ) (h : ℕ) → CanGrow a (place_of i) g
       → Deallocates current a b h
       → (g ≡ Some h → ⊥) → CanGrow b (place_of i) g
   pub written : (i : Index) (a b : WindowState) (g : Option ℕ) (h at n : ℕ) → CanGrow a (place_of i) g
-      → IsChanged current a b (h + at) n
+      → ChangesBytes current a b (h + at) n
       → IsTrue (has_room (live_of a.bytes) h (at + n)) → CanGrow b (place_of i) g
 
 -- objects whose kinds have the places of the objects as their codes, and an index of seven

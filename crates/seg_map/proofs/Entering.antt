@@ -2,12 +2,14 @@
 use Rattle.seg_map.proofs.Common as common
 use common.{◌≡◌, refl, sym, ap, ◌∙◌, ℕ, ◌+◌, ◌≤◌, ◌≢◌, inl, inr, Bool, true, ◌&&◌, not, List, ◌∷◌, length, map, arith}
 use common.{◌==◌, Option, Some, None, find, option_map, AllByRecursion, list_all, reverse, and_parts, cases_Bool}
-use common.{eq-eqb, le-leb, leb-true, Memory, Has, bytes_of, read, Cut, Node, link_at, Tree, IsTree, nodes_of, rises}
-use common.{first_not, is_in, last_before, leads, all_from, root_in, tree_same, Extent, LiveSet, handle, cells_of}
-use common.{others, Keeps, SameBlock, extent_at, live_of, value_in, IsKeyTree, keys_in, Pair, IsPairAt, is_rising}
+use common.{eq-eqb, le-leb, leb-true, Memory, HasBytesAt, bytes_of, read, WindowState, Node, link_at, Tree, IsTree}
+use common.{nodes_of, is_sorted}
+use common.{first_not_before, is_in, last_before, leads, all_from, root_in, tree_same, Extent, LiveSet, handle}
+use common.{cells_of}
+use common.{others, KeepsBlocks, SameBlock, extent_at, live_of, value_in, IsKeyTree, keys_in, Pair, IsPairAt, is_rising}
 use common.{HoldsMap, IsPairIn, first_pair, is_passed, last_pair, nodes_of_pairs, pair_node, before_key, comes_before}
 use common.{stands, is_pair_node, key_at, key_of, links_among, own_nodes, pair_cells, stands_before, Chains, IsStrict}
-use common.{Good, In, PairNode-is_pair_node, cells_at, node_block, Plain, [], length-map}
+use common.{IsGoodNodeSet, In, PairNode-is_pair_node, cells_at, node_block, Plain, [], length-map}
 use Rattle.seg_map.proofs.PairLists.{HaveKeys, all_reversed, each, each_both, find_mapped, map_reversed}
 use Rattle.seg_map.proofs.{PairLists.nodes_in as pairs_in, PairSteps.all_in, PairSteps.any_at, PairSteps.in_others}
 use Rattle.std.proofs.Common.{◌^◌}
@@ -31,7 +33,7 @@ value_of p = value_in p.reading p.is_value p.spelling
 
 -- a value that is spelled is read
 pub read_spelled : {T : Type 0} (p : Plain T) → Laws p → (m : Memory) (at : ℕ) (x : T) → p.is_value x ≡ true
-    → Has m at (p.spelling x) → value_of p (read m at p.SIZE) ≡ Some x
+    → HasBytesAt m at (p.spelling x) → value_of p (read m at p.SIZE) ≡ Some x
 read_spelled p l m at x one h = value-spelled p.reading p.is_value p.spelling l.reads x (read m at p.SIZE) one
     (sym h ∙ ap (read m at) (l.spells x one))
 
@@ -65,14 +67,14 @@ found_in (y ∷ ys) h x e =
     ]
 
 -- a block stays where all but another do
-pub other_block : {c d : Cut} (live : LiveSet) (h g : ℕ) {x : Extent} → Keeps c d (others h live.extents)
+pub other_block : {c d : WindowState} (live : LiveSet) (h g : ℕ) {x : Extent} → KeepsBlocks c d (others h live.extents)
     → extent_at live g ≡ Some x → handle x ≢ h → SameBlock (bytes_of c.bytes) (bytes_of d.bytes) x
 other_block {c} {d} live h g {x} k f o = all_in (SameBlock (bytes_of c.bytes) (bytes_of d.bytes))
     (others h live.extents) x k.blocks (in_others h x live.extents (found_in live.extents g x f) o)
 
 module _ {K V : Type 0} (less : K → K → Bool) where
   pub rising_nodes : Chains less → (keys : ℕ → Option K) (ps : List (Pair K V)) → HaveKeys keys ps
-      → is_rising less ps ≡ true → rises (comes_before less keys) (nodes_of_pairs ps) ≡ true
+      → is_rising less ps ≡ true → is_sorted (comes_before less keys) (nodes_of_pairs ps) ≡ true
   rising_nodes on keys [] k r = refl
   rising_nodes on keys (p ∷ []) k r = refl
   rising_nodes on keys (p ∷ q ∷ qs) k r =
@@ -89,7 +91,7 @@ module _ {K V : Type 0} (less : K → K → Bool) where
 
   -- the first node is that of the first pair
   pub first_node : (keys : ℕ → Option K) (past : Bool) (key : K) (ps : List (Pair K V)) → HaveKeys keys ps
-      → first_not (stands_before less keys past key) (nodes_of_pairs ps) ≡ option_map pair_node
+      → first_not_before (stands_before less keys past key) (nodes_of_pairs ps) ≡ option_map pair_node
       (first_pair less past key ps)
   first_node keys past key ps k = find_mapped pair_node (λ n. not (stands_before less keys past key n))
       (λ p. not (is_passed less past key p)) ps (each ps k (λ p e. ap (λ o. not (stands less past key o)) e))
@@ -111,7 +113,8 @@ pairs_all P Q (p ∷ ps) f a = rw (f p a.0, pairs_all P Q ps f a.1) refl
 
 -- ---- the tree of a map
 
-module _ {K V : Type 0} {kp : Plain K} {vp : Plain V} (laws : Laws kp) (c : Cut) {h at : ℕ} {ps : List (Pair K V)}
+module _ {K V : Type 0} {kp : Plain K} {vp : Plain V} (laws : Laws kp) (c : WindowState) {h at : ℕ}
+    {ps : List (Pair K V)}
     (s : HoldsMap kp vp c.bytes h at ps) where
   pub pair_block : (p : Pair K V) → IsPairIn kp vp (live_of c.bytes) h p
       → is_block_in (16 + kp.SIZE) (live_of c.bytes) (pair_node p) ≡ true
@@ -121,7 +124,7 @@ module _ {K V : Type 0} {kp : Plain K} {vp : Plain V} (laws : Laws kp) (c : Cut)
       (live_of c.bytes).extents p.node (found_in (live_of c.bytes).extents (handle p.node) p.node i.listed)
       (rw (eq-eqb (handle p.node) (pair_node p) refl, q.role, le-leb (16 + kp.SIZE + 16) p.node.len (omega arith)) refl)
 
-  pub good : Good (16 + kp.SIZE) (nodes_of s.map.tree.tree) c
+  pub good : IsGoodNodeSet (16 + kp.SIZE) (nodes_of s.map.tree.tree) c
   good =
       let ns = nodes_of s.map.tree.tree in
       record {
@@ -140,7 +143,8 @@ pub with_bytes : {K V : Type 0} {kp : Plain K} {vp : Plain V} {b : List ℕ} {h 
 with_bytes {ps = ps} s = each_both ps s.pairs s.map.pairs (λ p i b. (i, b))
 
 -- the key of a pair's node is the pair's
-pub key_is : {K V : Type 0} {kp : Plain K} {vp : Plain V} → Laws kp → (own : List ℕ) (c : Cut) {h : ℕ} {p : Pair K V}
+pub key_is : {K V : Type 0} {kp : Plain K} {vp : Plain V} → Laws kp
+    → (own : List ℕ) (c : WindowState) {h : ℕ} {p : Pair K V}
     → is_pair_node (16 + kp.SIZE) own c (pair_node p) ≡ true → IsPairIn kp vp (live_of c.bytes) h p
     → IsPairAt kp.SIZE kp.spelling vp.spelling (bytes_of c.bytes) p → keys_in kp own c (pair_node p) ≡ Some p.key
 unfolding key_of key_at
@@ -148,8 +152,9 @@ key_is {kp = kp} l own c {p = p} e i b =
     rw e (read_spelled kp l (bytes_of c.bytes) (handle p.node + 16) p.key (pair_parts i).key b.0)
 
 -- the nodes may be more than those of the tree
-module _ {K V : Type 0} {kp : Plain K} {vp : Plain V} (laws : Laws kp) {c : Cut} {h at : ℕ} {ps : List (Pair K V)}
-    (s : HoldsMap kp vp c.bytes h at ps) {own : List ℕ} (g : Good (16 + kp.SIZE) own c)
+module _ {K V : Type 0} {kp : Plain K} {vp : Plain V} (laws : Laws kp) {c : WindowState} {h at : ℕ}
+    {ps : List (Pair K V)}
+    (s : HoldsMap kp vp c.bytes h at ps) {own : List ℕ} (g : IsGoodNodeSet (16 + kp.SIZE) own c)
     (among : (m : ℕ) → is_in m (nodes_of s.map.tree.tree) ≡ true → is_in m own ≡ true) where
   node_in : (n : ℕ) → is_in n (nodes_of s.map.tree.tree) ≡ true → is_pair_node (16 + kp.SIZE) own c n ≡ true
   node_in n i = PairNode-is_pair_node (16 + kp.SIZE) own c n (record { good = g; listed = among n i })
@@ -170,14 +175,15 @@ module _ {K V : Type 0} {kp : Plain K} {vp : Plain V} (laws : Laws kp) {c : Cut}
         tree = record {
           tree = tree_same (cells_of (bytes_of c.bytes)) (pair_cells (16 + kp.SIZE) own c) root s.map.tree.tree
               (λ m i. cells_at (16 + kp.SIZE) own c m (node_in m i)) s.map.tree.linked;
-          ordered = ap (rises (comes_before kp.order (keys_in kp own c))) s.map.tree.lists
+          ordered = ap (is_sorted (comes_before kp.order (keys_in kp own c))) s.map.tree.lists
               ∙ rising_nodes kp.order laws.transitive (keys_in kp own c) ps keys_among s.rising;
           red_black = s.map.tree.red_black;
         };
         leads = leads_among root s.map.tree.linked;
       }
 
-module _ {K V : Type 0} {kp : Plain K} {vp : Plain V} (laws : Laws kp) (c : Cut) {h at : ℕ} {ps : List (Pair K V)}
+module _ {K V : Type 0} {kp : Plain K} {vp : Plain V} (laws : Laws kp) (c : WindowState) {h at : ℕ}
+    {ps : List (Pair K V)}
     (s : HoldsMap kp vp c.bytes h at ps) where
   abbrev t : Tree
   t = s.map.tree.tree
@@ -212,6 +218,7 @@ module _ {K V : Type 0} {kp : Plain K} {vp : Plain V} (laws : Laws kp) (c : Cut)
       s.map.tree.linked (all_from (λ n. true) ns (λ m i. refl)) (omega arith))
 
 -- a map has few pairs
-pub few_in_map : {K V : Type 0} {kp : Plain K} {vp : Plain V} (kl : Laws kp) (c : Cut) {h at : ℕ} {ps : List (Pair K V)}
+pub few_in_map : {K V : Type 0} {kp : Plain K} {vp : Plain V} (kl : Laws kp) (c : WindowState) {h at : ℕ}
+    {ps : List (Pair K V)}
     (s : HoldsMap kp vp c.bytes h at ps) → length ps ≤ 1073741824
 few_in_map kl c {ps = ps} s = omega (arith, few_pairs kl c s, ap length s.map.tree.lists ∙ length-map ps pair_node)

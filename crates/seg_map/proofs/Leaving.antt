@@ -1,11 +1,15 @@
 -- A pair leaves the map, and all of them.
 use Rattle.seg_map.proofs.Common as common
 use common.{◌≡◌, both_ways, is_live_in, found-less, found-room, laid-heap, pair_node, own_nodes, cases_Bool, live-rises}
-use common.{refl, bytes_of, nodes_of, released, HoldsMap, IsPairIn, Relinked, IsErased, is_proper, extent_at, is_rising}
-use common.{sym, current, link_at, without, LiveSet, LaysOut, live_of, IsHeaded, cases_eq, cells_of, IsStrict, or_right}
-use common.{ap, lay_out_one, remove_pair, nodes_of_pairs, AllByRecursion, SameBlockBut, IsBesideMap, false_from_ne_true}
+use common.{refl, bytes_of, nodes_of, released, HoldsMap, IsPairIn, Relinked, ErasesPair, is_proper, extent_at}
+use common.{is_rising}
+use common.{sym, current, link_at, without, LiveSet, EncodesLiveSet, live_of, WritesMapHeader, cases_eq, cells_of}
+use common.{IsStrict, or_right}
+use common.{ap, lay_out_one, remove_pair, nodes_of_pairs, AllByRecursion, SameBlockExcept, KeepsOutsideMap}
+use common.{false_from_ne_true}
 use common.{subst, length, IsTrue, Option, IfSome, eq-eqb, Extent, pair_at, keys_in, exit_in, word_at, root_of, root_in}
-use common.{◌∙◌, ℕ, ◌+◌, ◌≢◌, None, Cut, Pair, ◌⊎◌, ◌<◌, inl, inr, Bool, true, ◌∷◌, map, Tree, fork, leaf, In, [], not}
+use common.{◌∙◌, ℕ, ◌+◌, ◌≢◌, None, WindowState, Pair, ◌⊎◌, ◌<◌, inl, inr, Bool, true, ◌∷◌, map, Tree, fork, leaf, In}
+use common.{[], not}
 use common.{false≢true, comes_before, IsKeyTree}
 use common.{false, List, arith, ◌==◌, Some, is_in, handle, roomy, ne_eqb, IsTree, others, Chains, is_key, Rising, Plain}
 use Rattle.seg_map.proofs.PairLists.{without_nodes, in_from, nodes_in, Below, rising_below, rising_rest, each_both}
@@ -20,14 +24,15 @@ use Rattle.best_fit.proofs.Laws.{released-live, others-comm, rising-weak}
 use Rattle.best_fit.specs.{Exchange.exchanged, Exchange.without_all, Heap.Deallocates}
 
 -- a node of the tree that can be taken out, from the root on or from where its removal begins
-pub record CanUnlink {K : Type 0} (k : Plain K) (ns : List ℕ) (c : Cut) (root start : Option ℕ) (node : ℕ) : Type 0
+pub record CanUnlink {K : Type 0} (k : Plain K) (ns : List ℕ) (c : WindowState) (root start : Option ℕ) (node : ℕ) :
+    Type 0
   where
     pub shape : Tree
     pub tree : IsKeyTree k ns c root shape
     pub listed : is_in node (nodes_of shape) ≡ true
     pub begins : IfSome start (λ n. remove_point_of (comes_before k.order (keys_in k ns c)) node shape ≡ Some n)
 
-module _ {K V : Type 0} {kp : Plain K} {vp : Plain V} (kl : Laws kp) (c : Cut) {h at : ℕ} {root : Option ℕ}
+module _ {K V : Type 0} {kp : Plain K} {vp : Plain V} (kl : Laws kp) (c : WindowState) {h at : ℕ} {root : Option ℕ}
     {ps : List (Pair K V)} (s : HoldsMap kp vp c.bytes h at ps) (is : root ≡ link_at (bytes_of c.bytes) (h + at))
     (key : K) {p : Pair K V} (has : pair_at kp.order ps key ≡ Some p) {node : ℕ} (here : pair_node p ≡ node) where
   abbrev lent : List ℕ
@@ -45,8 +50,9 @@ module _ {K V : Type 0} {kp : Plain K} {vp : Plain V} (kl : Laws kp) (c : Cut) {
   }
 
   -- the map without the pair
-  pub taken : {d e : Cut} {top : Option ℕ} {n steps : ℕ} → Relinked kp lent c d root top (without node) steps → Laws vp
-      → n + 1 ≡ length ps → IsHeaded d e (h + at) top n → UnlinksPair kp vp c e h at ps key
+  pub taken : {d e : WindowState} {top : Option ℕ} {n steps : ℕ}
+      → Relinked kp lent c d root top (without node) steps → Laws vp
+      → n + 1 ≡ length ps → WritesMapHeader d e (h + at) top n → UnlinksPair kp vp c e h at ps key
   taken u vl count head = relaid s (lent_tree kl c s is refl) u kl vl ps s.pairs s.map.pairs (ns_is ∙ s.map.tree.lists)
       (rw ns_is (good kl c s)) head ((λ i. without (sym here i) (s.map.tree.lists i)) ∙ without_nodes kp.order
       kl.irreflexive kl.transitive (keys_in kp (nodes_of s.map.tree.tree) c) p key ps (keys kl c s) s.rising has)
@@ -54,7 +60,7 @@ module _ {K V : Type 0} {kp : Plain K} {vp : Plain V} (kl : Laws kp) (c : Cut) {
       (let gone = removed_length kp.order ps key p has in omega (arith, gone, count))
 
 -- the block of a pair that is gone is given back
-module _ {K V : Type 0} {kp : Plain K} {vp : Plain V} (kl : Laws kp) (vl : Laws vp) {c e f : Cut} {h at : ℕ}
+module _ {K V : Type 0} {kp : Plain K} {vp : Plain V} (kl : Laws kp) (vl : Laws vp) {c e f : WindowState} {h at : ℕ}
     {ps : List (Pair K V)} (s : HoldsMap kp vp c.bytes h at ps) (key : K) {p : Pair K V}
     (has : pair_at kp.order ps key ≡ Some p) {node : ℕ} (here : pair_node p
     ≡ node) (t : UnlinksPair kp vp c e h at ps key)
@@ -65,13 +71,13 @@ module _ {K V : Type 0} {kp : Plain K} {vp : Plain V} (kl : Laws kp) (vl : Laws 
   other : (g : ℕ) → is_in g (nodes_of_pairs ps) ≡ false → g ≢ node
   other g o e' = both_ways _ o (ap (λ n. is_in n (nodes_of_pairs ps)) (e' ∙ sym here) ∙ in_nodes kp.order ps key p has)
 
-  pub erased : IsErased kp vp c f h at ps p key
+  pub erased : ErasesPair kp vp c f h at ps p key
   erased =
       let room = roomy e h (at + 24) t.map.heap t.map.room in let begins = room.at in
       let apart = other h (apart_all kp vp (live_of c.bytes) h ps s.pairs) in
       let same = other_block (live_of e.bytes) node h r.keeps room.found (λ g. apart (sym begins ∙ g)) in
       record {
-        live = subst (λ l. LaysOut current f.bytes l) (λ i. released (live_is i) (sym here i)) r.live;
+        live = subst (λ l. EncodesLiveSet current f.bytes l) (λ i. released (live_is i) (sym here i)) r.live;
         beside = beside_then t.beside (keeps_beside r.keeps (λ x found o. other_block (live_of e.bytes) node (handle x)
             r.keeps found (other (handle x) o))) (λ x found o. (rw live_is found, o));
         map = map_stays kl vl e f t.map (laid-heap _ _ r.live) (rw (released-live _ _ _ _ r)
@@ -177,12 +183,12 @@ all_each P (x ∷ xs) f = (f x (inl refl), all_each P xs (λ y i. f y (inr i)))
 -- ---- the map on its way
 
 -- the pairs that are left, and what is beside them
-pub record IsGoing {K V : Type 0} (k : Plain K) (v : Plain V) (old now : Cut) (h at : ℕ)
+pub record IsGoing {K V : Type 0} (k : Plain K) (v : Plain V) (old now : WindowState) (h at : ℕ)
     (ps : List (Pair K V)) : Type 0 where
   pub pairs : List (Pair K V)
   pub holds : HoldsMap k v now.bytes h at pairs
   pub among : (m : ℕ) → is_in m (nodes_of_pairs pairs) ≡ true → is_in m (nodes_of_pairs ps) ≡ true
-  pub beside : IsBesideMap old now (h + at) (nodes_of_pairs ps)
+  pub beside : KeepsOutsideMap old now (h + at) (nodes_of_pairs ps)
   pub there : (x : Extent) → extent_at (live_of old.bytes) (handle x) ≡ Some x
       → is_in (handle x) (nodes_of_pairs ps) ≡ false → extent_at (live_of now.bytes) (handle x) ≡ Some x
   pub size : (live_of now.bytes).size ≡ (live_of old.bytes).size
@@ -195,7 +201,8 @@ exit_of_root : (less : ℕ → ℕ → Bool) (n : ℕ) (t : Tree) → Some n ≡
 exit_of_root less n leaf e = absurd (cc)
 exit_of_root less n (fork red left m right) e = let same : m ≡ n = cc in rw (eq-eqb m n same) refl
 
-module _ {K V : Type 0} {k : Plain K} {v : Plain V} (kl : Laws k) {old now : Cut} {h at : ℕ} {ps : List (Pair K V)}
+module _ {K V : Type 0} {k : Plain K} {v : Plain V} (kl : Laws k) {old now : WindowState} {h at : ℕ}
+    {ps : List (Pair K V)}
     (g : IsGoing k v old now h at ps) where
   -- the node at the root is that of a pair
   pub root_pair : {node : ℕ} → link_at (bytes_of now.bytes) (h + at) ≡ Some node
@@ -214,8 +221,8 @@ module _ {K V : Type 0} {k : Plain K} {v : Plain V} (kl : Laws k) {old now : Cut
       let t = g.holds.map.tree.tree in
       exit_of_root (comes_before k.order (keys_in k (nodes_of t) now)) node t (sym e ∙ g.holds.map.tree.linked.root)
 
-  module _ {new : Cut} {key : K} {p : Pair K V} (has : pair_at k.order g.pairs key ≡ Some p)
-      (e : IsErased k v now new h at g.pairs p key) where
+  module _ {new : WindowState} {key : K} {p : Pair K V} (has : pair_at k.order g.pairs key ≡ Some p)
+      (e : ErasesPair k v now new h at g.pairs p key) where
     live_new : live_of new.bytes ≡ released (live_of now.bytes) (handle p.node)
     live_new = lay_out_one _ _ _ e.live
 
@@ -270,11 +277,11 @@ module _ {K V : Type 0} {k : Plain K} {v : Plain V} (kl : Laws k) {old now : Cut
       let rises = live-rises (live_of old.bytes) proper in
       record {
         change = record {
-          live = subst (LaysOut current now.bytes) live g.holds.heap;
+          live = subst (EncodesLiveSet current now.bytes) live g.holds.heap;
           place = g.beside.place;
           front = g.beside.front;
           behind = g.beside.behind;
-          blocks = all_each (SameBlockBut (bytes_of old.bytes) (bytes_of now.bytes) (h + at) 24)
+          blocks = all_each (SameBlockExcept (bytes_of old.bytes) (bytes_of now.bytes) (h + at) 24)
               (without_all (blocks_of ps) (live_of old.bytes).extents) (λ x i.
               let b = beside_all 128 ps (live_of old.bytes).extents x rises i in
               g.beside.blocks x (own_handle 128 (live_of old.bytes).extents x rises b.0) b.1);

@@ -3,12 +3,16 @@ use Rattle.seg_map.proofs.Common as common
 use common.{Memory, List, length, IsTrue, eq-eqb, Extent, word_at, current, link_at, LiveSet, is_kept, kept_of, keys_in}
 use common.{refl, false≢true, cases_Bool, is_live_in, beside_cell, lay_out_one, is_pair_node, links_among, comes_before}
 use common.{suc, handle, ne_eqb, Rising, nat_lt, nat_le, Option, IfSome, le-leb, lt-ltb, end_of, others, key_at, key_of}
-use common.{◌≡◌, ap, ◌+◌, ◌==◌, Some, find, read, lies, subst, Bool, true, false, None, Same, is_in, leads, Good, Plain}
-use common.{ℕ, ◌-◌, ◌≤◌, inl, inr, ◌∷◌, In, [], sym, ◌∙◌, ◌%◌, ◌<◌, ◌⊎◌, Cut}
-use common.{◌&&◌, is_proper, room-less, both_ways, SamePlace, Same-link, cell_stays, pair_cells, node_block, node_place}
-use common.{arith, eqb-true, leb-true, has_room, list_any, cases_eq, or_cases, or_right, ltb-true, IsChanged, SameBlock}
+use common.{◌≡◌, ap, ◌+◌, ◌==◌, Some, find, read, lies, subst, Bool, true, false, None, SameBytes, is_in, leads}
+use common.{IsGoodNodeSet, Plain}
+use common.{ℕ, ◌-◌, ◌≤◌, inl, inr, ◌∷◌, In, [], sym, ◌∙◌, ◌%◌, ◌<◌, ◌⊎◌, WindowState}
+use common.{◌&&◌, is_proper, room-less, both_ways, SameSurroundings, SameBytes-link, cell_stays, pair_cells, node_block}
+use common.{node_place}
+use common.{arith, eqb-true, leb-true, has_room, list_any, cases_eq, or_cases, or_right, ltb-true, ChangesBytes}
+use common.{SameBlock}
 use common.{and_parts, is_proper-IsProper, allocated-room, AllByRecursion, PairNode-is_pair_node, is_pair_node-PairNode}
-use common.{live_of, changed-room, if◌then◌else◌, SameBut-Same, SameBut-word, SameBut-link, is_link_byte, stands_before}
+use common.{live_of, changed-room, if◌then◌else◌, SameBytesExcept-SameBytes, SameBytesExcept-word, SameBytesExcept-link}
+use common.{is_link_byte, stands_before}
 use common.{passing, or_left, bytes_of, all_from, cells_of, is_other, PairNode, cells_at, disjoint, value_in, not-true}
 use Rattle.best_fit.proofs.Laws.{legal_size, others-here, others-past}
 use Rattle.best_fit.specs.{Heap.Recolours, Heap.is_node_in, Heap.is_node_role, FreeTree.is_red, Extents.holds}
@@ -55,17 +59,17 @@ pub ruleset rooms = (room-less, small, changed-room, allocated-room, length-read
 -- ---- one field of one node changes
 
 -- what a setter does to the window
-pub record Changed (len : ℕ) (ns : List ℕ) (c d : Cut) (n : ℕ) : Type 0 where
-  pub place : SamePlace c d
+pub record Changed (len : ℕ) (ns : List ℕ) (c d : WindowState) (n : ℕ) : Type 0 where
+  pub place : SameSurroundings c d
   pub live : live_of d.bytes ≡ live_of c.bytes
   pub bytes : (k : ℕ) → is_kept ns (live_of c.bytes) k ≡ true → bytes_of d.bytes k ≡ bytes_of c.bytes k
   pub colours : (x : Extent) → In x (live_of c.bytes).extents → (handle x ≡ n → ⊥)
       → word_at (bytes_of d.bytes) (x.offset + 8) % 16 ≡ word_at (bytes_of c.bytes) (x.offset + 8) % 16
   pub links : links_among (bytes_of d.bytes) ns n ≡ true
   pub others : (m : ℕ) → is_in m ns ≡ true → (m ≡ n → ⊥) → cells_of (bytes_of d.bytes) m ≡ cells_of (bytes_of c.bytes) m
-  pub keys : (m : ℕ) → is_in m ns ≡ true → Same (bytes_of c.bytes) (bytes_of d.bytes) (m + 16) (m + len)
+  pub keys : (m : ℕ) → is_in m ns ≡ true → SameBytes (bytes_of c.bytes) (bytes_of d.bytes) (m + 16) (m + len)
 
-module _ {len : ℕ} {ns : List ℕ} {c d : Cut} {n : ℕ} (g : PairNode len ns c n) (h : Changed len ns c d n) where
+module _ {len : ℕ} {ns : List ℕ} {c d : WindowState} {n : ℕ} (g : PairNode len ns c n) (h : Changed len ns c d n) where
   links_d : (m : ℕ) → is_in m ns ≡ true → links_among (bytes_of d.bytes) ns m ≡ true
   links_d m i = by_place (cases_eq m n)
     where
@@ -74,7 +78,7 @@ module _ {len : ℕ} {ns : List ℕ} {c d : Cut} {n : ℕ} (g : PairNode len ns 
       by_place (inr o) = subst (λ (x : Cell). (leads (λ k. is_in k ns) x.left && leads (λ k. is_in k ns) x.right)
           ≡ true) (sym (h.others m i o)) (links_at len ns c m (record { good = g.good; listed = i }))
 
-  pub good_stays : Good len ns d
+  pub good_stays : IsGoodNodeSet len ns d
   good_stays = record {
     proper = rw h.live g.good.proper;
     blocks = rw h.live g.good.blocks;
@@ -146,7 +150,7 @@ module _ {len : ℕ} {ns : List ℕ} {c d : Cut} {n : ℕ} (g : PairNode len ns 
 
 -- ---- the keys stay
 
-module _ {K : Type 0} (value : List ℕ → Option K) (size : ℕ) {ns : List ℕ} {c d : Cut} {n : ℕ}
+module _ {K : Type 0} (value : List ℕ → Option K) (size : ℕ) {ns : List ℕ} {c d : WindowState} {n : ℕ}
     (g : PairNode (16 + size) ns c n) (h : Changed (16 + size) ns c d n) where
   key_stays : (m : ℕ) → (is_pair_node (16 + size) ns c m ≡ true) ⊎ (is_pair_node (16 + size) ns c m ≡ false)
       → key_of value size ns d m ≡ key_of value size ns c m
@@ -168,12 +172,12 @@ any_at q [] x i h = absurd i
 any_at q (y ∷ ys) x (inl e) h = or_left _ _ (ap q e ∙ h)
 any_at q (y ∷ ys) x (inr i) h = or_right _ _ (any_at q ys x i h)
 
-pub target_whole : (len : ℕ) (ns : List ℕ) (c : Cut) (to : Option ℕ) → leads (is_pair_node len ns c) to ≡ true
+pub target_whole : (len : ℕ) (ns : List ℕ) (c : WindowState) (to : Option ℕ) → leads (is_pair_node len ns c) to ≡ true
     → IfSome to (λ t. t % 16 ≡ 0)
 target_whole len ns c None h = tt
 target_whole len ns c (Some n) h = (node_place len ns c n (is_pair_node-PairNode len ns c n h)).whole
 
-leads_in : (len : ℕ) (ns : List ℕ) (c : Cut) (to : Option ℕ) → leads (is_pair_node len ns c) to ≡ true
+leads_in : (len : ℕ) (ns : List ℕ) (c : WindowState) (to : Option ℕ) → leads (is_pair_node len ns c) to ≡ true
     → leads (λ k. is_in k ns) to ≡ true
 leads_in len ns c None h = refl
 leads_in len ns c (Some n) h = (is_pair_node-PairNode len ns c n h).listed
@@ -203,7 +207,7 @@ kept_away ns live n k i t =
         ]
 
 -- another block lies away from a node's payload
-pub block_apart : {len : ℕ} {ns : List ℕ} {c : Cut} {n : ℕ} (x : Extent) → PairNode len ns c n
+pub block_apart : {len : ℕ} {ns : List ℕ} {c : WindowState} {n : ℕ} (x : Extent) → PairNode len ns c n
     → In x (live_of c.bytes).extents → (handle x ≡ n → ⊥) → (x.offset + x.len ≤ n - 16) ⊎ (n + len ≤ x.offset)
 block_apart {len} {ns} {c} {n} x g i o =
     let p = node_place len ns c n g in let b = p.block in let at = b.at in
@@ -213,7 +217,8 @@ block_apart {len} {ns} {c} {n} x g i o =
       | inr d ↦ grind (arith, d)
     ]
 
-pub nodes_apart : {len : ℕ} {ns : List ℕ} {c : Cut} {n m : ℕ} → PairNode len ns c n → PairNode len ns c m → (m ≡ n → ⊥)
+pub nodes_apart : {len : ℕ} {ns : List ℕ} {c : WindowState} {n m : ℕ} → PairNode len ns c n → PairNode len ns c m
+    → (m ≡ n → ⊥)
     → (m + len ≤ n - 16) ⊎ (n + len ≤ m - 16)
 nodes_apart {len} {ns} {c} {n} {m} g h o =
     let p = node_place len ns c m h in let b = p.block in let at = b.at in
@@ -222,12 +227,12 @@ nodes_apart {len} {ns} {c} {n} {m} g h o =
 -- ---- a link is set
 
 -- the links of a node are these now, and nothing else changes
-record LinksSet (len : ℕ) (ns : List ℕ) (c d : Cut) (n : ℕ) (left right : Option ℕ) : Type 0 where
+record LinksSet (len : ℕ) (ns : List ℕ) (c d : WindowState) (n : ℕ) (left right : Option ℕ) : Type 0 where
   own : cells_of (bytes_of d.bytes) n ≡ record { left = left; right = right; red = is_red (bytes_of c.bytes) n }
   changed : Changed len ns c d n
 
-module _ {len : ℕ} {ns : List ℕ} {c d : Cut} {n from : ℕ} (g : PairNode len ns c n)
-    (change : IsChanged current c d from 8) (long : 16 ≤ len) (low : n ≤ from) (high : from + 8 ≤ n + 16) where
+module _ {len : ℕ} {ns : List ℕ} {c d : WindowState} {n from : ℕ} (g : PairNode len ns c n)
+    (change : ChangesBytes current c d from 8) (long : 16 ≤ len) (low : n ≤ from) (high : from + 8 ≤ n + 16) where
   p : NodeBounds len c n
   p = node_place len ns c n g
 
@@ -242,10 +247,10 @@ module _ {len : ℕ} {ns : List ℕ} {c d : Cut} {n from : ℕ} (g : PairNode le
     live = lay_out_one _ _ _ change.live;
     bytes = λ k t. change.rest.at k (elim (kept_away ns (live_of c.bytes) n k g.listed t)
         [ inl l ↦ inl (lt_of_lt_of_le l low) | inr l ↦ inr (le_trans high l) ]);
-    colours = λ x i o. ap (λ w. w % 16) (SameBut-word _ _ _ _ (x.offset + 8) change.rest (tag_apart x i o));
+    colours = λ x i o. ap (λ w. w % 16) (SameBytesExcept-word _ _ _ _ (x.offset + 8) change.rest (tag_apart x i o));
     links = links;
     others = other_cell;
-    keys = λ m i. SameBut-Same _ _ _ _ (m + 16) (m + len) change.rest (key_apart m i (cases_eq m n));
+    keys = λ m i. SameBytesExcept-SameBytes _ _ _ _ (m + 16) (m + len) change.rest (key_apart m i (cases_eq m n));
   }
     where
       tag_apart : (x : Extent) → In x (live_of c.bytes).extents → (handle x ≡ n → ⊥)
@@ -265,7 +270,7 @@ module _ {len : ℕ} {ns : List ℕ} {c d : Cut} {n from : ℕ} (g : PairNode le
       → leads (λ k. is_in k ns) left ≡ true → leads (λ k. is_in k ns) right ≡ true → LinksSet len ns c d n left right
   links_set {left} {right} l r l_in r_in =
       let least = p.low in
-      let red = ap (λ w. w / 2 % 2 == 1) (SameBut-word _ _ _ _ (n - 8) change.rest (inl (omega arith))) in
+      let red = ap (λ w. w / 2 % 2 == 1) (SameBytesExcept-word _ _ _ _ (n - 8) change.rest (inl (omega arith))) in
       let own : cells_of (bytes_of d.bytes) n
       ≡ record { left = left; right = right; red = is_red (bytes_of c.bytes) n } = λ i.
       record { left = l i; right = r i; red = red i } in
@@ -296,23 +301,23 @@ all_in P (y ∷ ys) x a (inr i) = all_in P ys x a.1 i
 pub same_red : (v w : ℕ) → w % 16 ≡ v % 16 → (w / 2 % 2 == 1) ≡ (v / 2 % 2 == 1)
 same_red v w e = let f : w / 2 % 2 ≡ v / 2 % 2 = omega arith in ap (λ k. k == 1) f
 
-module _ {len : ℕ} {ns : List ℕ} {c d : Cut} {n : ℕ} {red : Bool} (g : PairNode len ns c n)
+module _ {len : ℕ} {ns : List ℕ} {c d : WindowState} {n : ℕ} {red : Bool} (g : PairNode len ns c n)
     (change : Recolours current c d n red) (long : 16 ≤ len) where
   same_payload : (x : Extent) → In x (live_of c.bytes).extents
-      → Same (bytes_of c.bytes) (bytes_of d.bytes) (handle x) (end_of x)
-  same_payload x i = all_in (λ (y : Extent). Same (bytes_of c.bytes) (bytes_of d.bytes) (handle y) (end_of y))
+      → SameBytes (bytes_of c.bytes) (bytes_of d.bytes) (handle x) (end_of x)
+  same_payload x i = all_in (λ (y : Extent). SameBytes (bytes_of c.bytes) (bytes_of d.bytes) (handle y) (end_of y))
       (live_of c.bytes).extents x change.payloads i
 
-  node_same : (m : ℕ) → PairNode len ns c m → Same (bytes_of c.bytes) (bytes_of d.bytes) m (m + len)
+  node_same : (m : ℕ) → PairNode len ns c m → SameBytes (bytes_of c.bytes) (bytes_of d.bytes) m (m + len)
   node_same m q =
       let b = node_block len ns c m q in let at = b.at in
       let s = same_payload b.extent b.listed in record { at = λ k l h. s.at k (omega arith) (omega arith) }
 
   left_link : (m : ℕ) → PairNode len ns c m → link_at (bytes_of d.bytes) m ≡ link_at (bytes_of c.bytes) m
-  left_link m q = Same-link _ _ _ _ m (node_same m q) (le_refl m) (omega arith)
+  left_link m q = SameBytes-link _ _ _ _ m (node_same m q) (le_refl m) (omega arith)
 
   right_link : (m : ℕ) → PairNode len ns c m → link_at (bytes_of d.bytes) (m + 8) ≡ link_at (bytes_of c.bytes) (m + 8)
-  right_link m q = Same-link _ _ _ _ (m + 8) (node_same m q) (omega arith) (omega arith)
+  right_link m q = SameBytes-link _ _ _ _ (m + 8) (node_same m q) (omega arith) (omega arith)
 
   red_own : cells_of (bytes_of d.bytes) n ≡ record (cells_of (bytes_of c.bytes) n) { red = red }
   red_own = let a = left_link n g in let b = right_link n g in let r = change.colour in λ i.
@@ -363,17 +368,18 @@ module _ {len : ℕ} {ns : List ℕ} {c d : Cut} {n : ℕ} {red : Bool} (g : Pai
 -- ---- what a setter leaves
 
 -- the nodes that stand before what is looked for
-abbrev ahead_of : {K : Type 0} → Plain K → List ℕ → Cut → KeyProbe K → ℕ → Bool
+abbrev ahead_of : {K : Type 0} → Plain K → List ℕ → WindowState → KeyProbe K → ℕ → Bool
 ahead_of k ns c s = stands_before k.order (keys_in k ns c) s.past s.key
 
-pub record IsSet {K : Type 0} (k : Plain K) (ns : List ℕ) (c d : Cut) (now : ℕ → Cell) : Type 0 where
+pub record IsSet {K : Type 0} (k : Plain K) (ns : List ℕ) (c d : WindowState) (now : ℕ → Cell) : Type 0 where
   pub cells : pair_cells (16 + k.SIZE) ns d ≡ now
   pub nodes : is_pair_node (16 + k.SIZE) ns d ≡ is_pair_node (16 + k.SIZE) ns c
   pub order : comes_before k.order (keys_in k ns d) ≡ comes_before k.order (keys_in k ns c)
   pub probe : ahead_of k ns d ≡ ahead_of k ns c
   pub kept : kept_of ns d ≡ kept_of ns c
 
-module _ {K : Type 0} (k : Plain K) {ns : List ℕ} {c : Cut} {n : ℕ} (g : PairNode (16 + k.SIZE) ns c n) {d : Cut} where
+module _ {K : Type 0} (k : Plain K) {ns : List ℕ} {c : WindowState} {n : ℕ} (g : PairNode (16 + k.SIZE) ns c n)
+    {d : WindowState} where
   set : (cells : ℕ → Cell) → Changed (16 + k.SIZE) ns c d n → pair_cells (16 + k.SIZE) ns d ≡ cells
       → IsSet k ns c d cells
   set cells change is =
@@ -387,21 +393,21 @@ module _ {K : Type 0} (k : Plain K) {ns : List ℕ} {c : Cut} {n : ℕ} (g : Pai
       }
 
   module _ (to : Option ℕ) (target : leads (is_pair_node (16 + k.SIZE) ns c) to ≡ true) where
-    pub left_set : link_at (bytes_of d.bytes) (n + 0) ≡ to → IsChanged current c d (n + 0) 8
+    pub left_set : link_at (bytes_of d.bytes) (n + 0) ≡ to → ChangesBytes current c d (n + 0) 8
         → IsSet k ns c d (with_left (pair_cells (16 + k.SIZE) ns c) n to)
     unfolding with_left
     left_set left change =
         let e : n + 0 ≡ n = omega arith in let one = rw e at left in
-        let right = SameBut-link _ _ _ _ (n + 8) change.rest (inr (omega arith)) in
+        let right = SameBytesExcept-link _ _ _ _ (n + 8) change.rest (inr (omega arith)) in
         let o = links_set g change (omega arith) (omega arith) (omega arith) one right
         (leads_in (16 + k.SIZE) ns c to target) (link_parts g).1 in
         set _ o.changed (one_cell g o.changed (λ (x : Cell). record x { left = to }) o.own)
 
-    pub right_set : link_at (bytes_of d.bytes) (n + 8) ≡ to → IsChanged current c d (n + 8) 8
+    pub right_set : link_at (bytes_of d.bytes) (n + 8) ≡ to → ChangesBytes current c d (n + 8) 8
         → IsSet k ns c d (with_right (pair_cells (16 + k.SIZE) ns c) n to)
     unfolding with_right
     right_set right change =
-        let left = SameBut-link _ _ _ _ n change.rest (inl (omega arith)) in
+        let left = SameBytesExcept-link _ _ _ _ n change.rest (inl (omega arith)) in
         let o = links_set g change (omega arith) (omega arith) (omega arith) left right (link_parts g).0
         (leads_in (16 + k.SIZE) ns c to target) in
         set _ o.changed (one_cell g o.changed (λ (x : Cell). record x { right = to }) o.own)
@@ -416,7 +422,7 @@ module _ {K : Type 0} (k : Plain K) {ns : List ℕ} {c : Cut} {n : ℕ} (g : Pai
 -- ---- what is asked and answered of a node
 
 -- the heap may be reached by another name
-module _ (len : ℕ) (ns : List ℕ) (c w : Cut) (n : ℕ) (h : is_pair_node len ns c n ≡ true) (same : w ≡ c) where
+module _ (len : ℕ) (ns : List ℕ) (c w : WindowState) (n : ℕ) (h : is_pair_node len ns c n ≡ true) (same : w ≡ c) where
   b : NodeBlock len (live_of c.bytes).extents n
   b = node_block len ns c n (is_pair_node-PairNode len ns c n h)
 
@@ -446,7 +452,7 @@ module _ (len : ℕ) (ns : List ℕ) (c w : Cut) (n : ℕ) (h : is_pair_node len
   pub node_colour : is_red (bytes_of w.bytes) n ≡ (pair_cells len ns c n).red
   node_colour = ap (λ (x : Cell). x.red) cell_is
 
-pub node_key : {K : Type 0} (value : List ℕ → Option K) (size : ℕ) (ns : List ℕ) (c w : Cut) (n : ℕ)
+pub node_key : {K : Type 0} (value : List ℕ → Option K) (size : ℕ) (ns : List ℕ) (c w : WindowState) (n : ℕ)
     → is_pair_node (16 + size) ns c n ≡ true → w ≡ c
     → value (read (bytes_of w.bytes) (n + 16) size) ≡ key_of value size ns c n
 unfolding key_of key_at

@@ -1,15 +1,21 @@
 -- What is written of a map, and pairs that are put.
 use Rattle.seg_map.proofs.Common as common
-use common.{◌≡◌, true, Node, Bool, ◌||◌, List, Some, roomy, Pair, ◌&&◌, leads, Good, Same, Keeps, refl, IsAllocated}
+use common.{◌≡◌, true, Node, Bool, ◌||◌, List, Some, roomy, Pair, ◌&&◌, leads, IsGoodNodeSet, SameBytes, KeepsBlocks}
+use common.{refl, AllocatesOk}
 use common.{comes_before, is_pair_node, links_among, beside_cell, changed-room, subst, entry_in, eqb-true, or_cases}
-use common.{or_right, all_from, cells_of, Relinked, cases_eq, ◌∙◌, ◌+◌, ◌%◌, inl, Cut, ◌≤◌, Has, sym, ap, ◌≢◌, inr, not}
+use common.{or_right, all_from, cells_of, Relinked, cases_eq, ◌∙◌, ◌+◌, ◌%◌, inl, WindowState, ◌≤◌, HasBytesAt, sym, ap}
+use common.{◌≢◌, inr, not}
 use common.{◌∷◌, Tree, put, ◌⊎◌, ℕ, arith, Plain, false, ne_eqb, is_in, Extent, handle, stands, length, eq-eqb, others}
-use common.{IsTrue, Option, LaysOut, live_of, IsMade, IfSome, pair_at, keys_in, IsLoose, or_left, None, IsChanged}
+use common.{IsTrue, Option, EncodesLiveSet, live_of, AllocatesNodeOk, IfSome, pair_at, keys_in, IsUnlinkedPair, or_left}
+use common.{None, ChangesBytes}
 use common.{laid-heap, entry_same, SameBlock, live-rises, found-room, node_place, current, word_at, link_at, IsPairAt}
-use common.{put_pair, IsPairIn, PairNode, or_parts, not-true, bytes_of, extent_at, IsPlanted, and_parts, has_place}
-use common.{pair_node, own_nodes, IsKeyTree, SameBut-word, SameBut-link, changed-live, SameBut-Same, AllByRecursion}
-use common.{changed-keeps, SamePlace-trans, allocated-room, nodes_of_pairs, stands_before, PairNode-is_pair_node, leaf}
-use common.{has_room, IsHeaded, Has-same, node_len, nodes_of, entry_of, HoldsMap, both_ways}
+use common.{put_pair, IsPairIn, PairNode, or_parts, not-true, bytes_of, extent_at, IsPlanted, and_parts}
+use common.{is_ordered_with}
+use common.{pair_node, own_nodes, IsKeyTree, SameBytesExcept-word, SameBytesExcept-link, changed-live}
+use common.{SameBytesExcept-SameBytes, AllByRecursion}
+use common.{changed-keeps, SameSurroundings-trans, allocated-room, nodes_of_pairs, stands_before, PairNode-is_pair_node}
+use common.{leaf}
+use common.{has_room, WritesMapHeader, HasBytesAt-same, node_len, nodes_of, insert_point_of, HoldsMap, both_ways}
 use Rattle.seg_map.proofs.Entering.{other_block, Laws, found_in, keys, good, keys_among, key_is, pair_block, pair_parts}
 use Rattle.seg_map.proofs.Entering.{tree_among, with_bytes}
 use Rattle.seg_map.proofs.Staying.{at_node, block_cells, map_over, pair_stays, beside_then, keeps_beside, map_stays}
@@ -26,31 +32,31 @@ use Rattle.link_tree.proofs.Laws.{all_at}
 use Rattle.link_tree.specs.Tree.{root_of}
 use Rattle.std.proofs.lemmas.Option.{same_Some}
 
-module _ {a b c d : Cut} {at : ℕ} {root : Option ℕ} {count : ℕ} (first : IsChanged current a b at 8)
+module _ {a b c d : WindowState} {at : ℕ} {root : Option ℕ} {count : ℕ} (first : ChangesBytes current a b at 8)
     (link : link_at (bytes_of b.bytes) at ≡ root)
-    (second : IsChanged current b c (at + 8) 8) (counted : word_at (bytes_of c.bytes) (at + 8) ≡ count)
-    (third : IsChanged current c d (at + 16) 8) (zero : word_at (bytes_of d.bytes) (at + 16) ≡ 0) where
-  pub headed : IsHeaded a d at root count
+    (second : ChangesBytes current b c (at + 8) 8) (counted : word_at (bytes_of c.bytes) (at + 8) ≡ count)
+    (third : ChangesBytes current c d (at + 16) 8) (zero : word_at (bytes_of d.bytes) (at + 16) ≡ 0) where
+  pub headed : WritesMapHeader a d at root count
   headed =
       let p = SameBytesExcept-wider _ _ _ _ at 24 first.rest (omega arith) (omega arith) in
       let q = SameBytesExcept-wider _ _ _ _ at 24 second.rest (omega arith) (omega arith) in
       let r = SameBytesExcept-wider _ _ _ _ at 24 third.rest (omega arith) (omega arith) in
       record {
         change = record {
-          place = SamePlace-trans _ _ _ first.place (SamePlace-trans _ _ _ second.place third.place);
-          live = subst (LaysOut current d.bytes) (changed-live _ _ _ _ _ second ∙ changed-live _ _ _ _ _ first)
+          place = SameSurroundings-trans _ _ _ first.place (SameSurroundings-trans _ _ _ second.place third.place);
+          live = subst (EncodesLiveSet current d.bytes) (changed-live _ _ _ _ _ second ∙ changed-live _ _ _ _ _ first)
               third.live;
           rest = SameBytesExcept-trans _ _ _ _ _ p (SameBytesExcept-trans _ _ _ _ _ q r);
         };
-        link = SameBut-link _ _ _ _ at third.rest (inl (omega arith))
-            ∙ SameBut-link _ _ _ _ at second.rest (inl (omega arith)) ∙ link;
-        counted = SameBut-word _ _ _ _ (at + 8) third.rest (inl (omega arith)) ∙ counted;
+        link = SameBytesExcept-link _ _ _ _ at third.rest (inl (omega arith))
+            ∙ SameBytesExcept-link _ _ _ _ at second.rest (inl (omega arith)) ∙ link;
+        counted = SameBytesExcept-word _ _ _ _ (at + 8) third.rest (inl (omega arith)) ∙ counted;
         third = zero;
       }
 
 -- a map without pairs
-pub is_new : {K V : Type 0} (k : Plain K) (v : Plain V) {a d : Cut} (h at : ℕ) → at % 8 ≡ 0
-    → IsTrue (has_room (live_of a.bytes) h (at + 24)) → IsHeaded a d (h + at) None 0 → InitsMap k v a d h at
+pub is_new : {K V : Type 0} (k : Plain K) (v : Plain V) {a d : WindowState} (h at : ℕ) → at % 8 ≡ 0
+    → IsTrue (has_room (live_of a.bytes) h (at + 24)) → WritesMapHeader a d (h + at) None 0 → InitsMap k v a d h at
 is_new {K} {V} k v {a} {d} h at whole room w = record {
   change = w.change;
   map = record {
@@ -76,54 +82,58 @@ is_new {K} {V} k v {a} {d} h at whole room w = record {
 -- ---- a node is made: its four parts are written in a new block
 
 -- a new block, once a part of it is written
-still : {a b c : Cut} {n node from k : ℕ} (room : ℕ) → IsAllocated current a b n Node node → IsChanged current b c from
-    k → room ≤ n → node ≤ from → from + k ≤ node + room → IsAllocated current a c n Node node
+still : {a b c : WindowState} {n node from k : ℕ} (room : ℕ) → AllocatesOk current a b n Node node
+    → ChangesBytes current b c from
+    k → room ≤ n → node ≤ from → from + k ≤ node + room → AllocatesOk current a c n Node node
 still {a} {b} {c} {n} {node} {from} {k} room new change long low high = still_allocated-block current a b c n Node node
     from k room new change (allocated-room _ _ _ _ _ _ room new long) low high
 
-module _ {K V : Type 0} {kp : Plain K} (kl : Laws kp) (vp : Plain V) {a b : Cut} {node : ℕ}
-    (new : IsAllocated current a b (node_len kp.SIZE vp.SIZE) Node node) where
-  module _ {c : Cut} (first : IsChanged current b c (node + 0) 8)
+module _ {K V : Type 0} {kp : Plain K} (kl : Laws kp) (vp : Plain V) {a b : WindowState} {node : ℕ}
+    (new : AllocatesOk current a b (node_len kp.SIZE vp.SIZE) Node node) where
+  module _ {c : WindowState} (first : ChangesBytes current b c (node + 0) 8)
       (left : link_at (bytes_of c.bytes) (node + 0) ≡ None) where
-    one : IsAllocated current a c (node_len kp.SIZE vp.SIZE) Node node
+    one : AllocatesOk current a c (node_len kp.SIZE vp.SIZE) Node node
     one = still 16 new first (omega arith) (omega arith) (omega arith)
 
-    module _ {d : Cut} (second : IsChanged current c d (node + 8) 8)
+    module _ {d : WindowState} (second : ChangesBytes current c d (node + 8) 8)
         (right : link_at (bytes_of d.bytes) (node + 8) ≡ None) where
-      two : IsAllocated current a d (node_len kp.SIZE vp.SIZE) Node node
+      two : AllocatesOk current a d (node_len kp.SIZE vp.SIZE) Node node
       two = still 16 one second (omega arith) (omega arith) (omega arith)
 
-      module _ {e : Cut} {key : K} (is_key : kp.is_value key ≡ true)
-          (third : IsChanged current d e (node + 16) kp.SIZE)
-          (spelled : Has (bytes_of e.bytes) (node + 16) (kp.spelling key)) where
-        three : IsAllocated current a e (node_len kp.SIZE vp.SIZE) Node node
+      module _ {e : WindowState} {key : K} (is_key : kp.is_value key ≡ true)
+          (third : ChangesBytes current d e (node + 16) kp.SIZE)
+          (spelled : HasBytesAt (bytes_of e.bytes) (node + 16) (kp.spelling key)) where
+        three : AllocatesOk current a e (node_len kp.SIZE vp.SIZE) Node node
         three = still (16 + kp.SIZE) two third (omega arith) (omega arith) (omega arith)
 
-        pub made : {f : Cut} (value : V) → vp.is_value value ≡ true
-            → IsChanged current e f (node + (16 + kp.SIZE)) vp.SIZE
-            → Has (bytes_of f.bytes) (node + (16 + kp.SIZE)) (vp.spelling value) → IsMade kp vp a f key value node
+        pub made : {f : WindowState} (value : V) → vp.is_value value ≡ true
+            → ChangesBytes current e f (node + (16 + kp.SIZE)) vp.SIZE
+            → HasBytesAt (bytes_of f.bytes) (node + (16 + kp.SIZE)) (vp.spelling value)
+            → AllocatesNodeOk kp vp a f key value node
         made {f} value is_value fourth there =
             let begin : node + 0 ≡ node = omega arith in
             let behind : node + (16 + kp.SIZE) ≡ node + 16 + kp.SIZE = omega arith in
             record {
               block = still (16 + kp.SIZE + vp.SIZE) three fourth (omega arith) (omega arith) (omega arith);
-              left = SameBut-link _ _ _ _ node fourth.rest (inl (omega arith)) ∙ SameBut-link _ _ _ _ node third.rest
-                  (inl (omega arith)) ∙ SameBut-link _ _ _ _ node second.rest (inl (omega arith))
+              left = SameBytesExcept-link _ _ _ _ node fourth.rest (inl (omega arith))
+                  ∙ SameBytesExcept-link _ _ _ _ node third.rest
+                  (inl (omega arith)) ∙ SameBytesExcept-link _ _ _ _ node second.rest (inl (omega arith))
                   ∙ subst (λ k. link_at (bytes_of c.bytes) k ≡ None) begin left;
-              right = SameBut-link _ _ _ _ (node + 8) fourth.rest (inl (omega arith))
-                  ∙ SameBut-link _ _ _ _ (node + 8) third.rest (inl (omega arith)) ∙ right;
+              right = SameBytesExcept-link _ _ _ _ (node + 8) fourth.rest (inl (omega arith))
+                  ∙ SameBytesExcept-link _ _ _ _ (node + 8) third.rest (inl (omega arith)) ∙ right;
               is_a_key = is_key;
               is_a_value = is_value;
-              key_there = Has-same _ _ _ _ (node + 16) (kp.spelling key) (SameBut-Same _ _ _ _ (node + 16)
+              key_there = HasBytesAt-same _ _ _ _ (node + 16) (kp.spelling key)
+                  (SameBytesExcept-SameBytes _ _ _ _ (node + 16)
                   (node + 16 + kp.SIZE) fourth.rest (inl (omega arith))) (omega arith) (omega arith) spelled;
-              value_there = subst (λ k. Has (bytes_of f.bytes) k (vp.spelling value)) behind there;
+              value_there = subst (λ k. HasBytesAt (bytes_of f.bytes) k (vp.spelling value)) behind there;
             }
 
 -- ---- a new pair: its node is made, and enters the map
 
-module _ {K V : Type 0} {kp : Plain K} {vp : Plain V} (kl : Laws kp) (vl : Laws vp) {c d : Cut} {h at : ℕ}
+module _ {K V : Type 0} {kp : Plain K} {vp : Plain V} (kl : Laws kp) (vl : Laws vp) {c d : WindowState} {h at : ℕ}
     {ps : List (Pair K V)} (s : HoldsMap kp vp c.bytes h at ps) {key : K} {value : V} {node : ℕ}
-    (absent : pair_at kp.order ps key ≡ None) (m : IsMade kp vp c d key value node) where
+    (absent : pair_at kp.order ps key ≡ None) (m : AllocatesNodeOk kp vp c d key value node) where
   abbrev x : Extent
   x = m.block.extent
 
@@ -163,7 +173,7 @@ module _ {K V : Type 0} {kp : Plain K} {vp : Plain V} (kl : Laws kp) (vl : Laws 
   abbrev new_pair : Pair K V
   new_pair = record { key = key; value = value; node = m.block.extent }
 
-  loose : IsLoose kp vp d.bytes h ps new_pair
+  loose : IsUnlinkedPair kp vp d.bytes h ps new_pair
   loose =
       let r = roomy c h (at + 24) s.heap s.room in let begins = r.at in
       record {
@@ -181,8 +191,8 @@ module _ {K V : Type 0} {kp : Plain K} {vp : Plain V} (kl : Laws kp) (vl : Laws 
         left = subst (λ k. link_at (bytes_of d.bytes) k ≡ None) m.block.at m.left;
         right = subst (λ k. link_at (bytes_of d.bytes) (k + 8) ≡ None) m.block.at m.right;
         bytes = (
-          subst (λ k. Has (bytes_of d.bytes) (k + 16) (kp.spelling key)) m.block.at m.key_there,
-          subst (λ k. Has (bytes_of d.bytes) (k + 16 + kp.SIZE) (vp.spelling value)) m.block.at m.value_there,
+          subst (λ k. HasBytesAt (bytes_of d.bytes) (k + 16) (kp.spelling key)) m.block.at m.key_there,
+          subst (λ k. HasBytesAt (bytes_of d.bytes) (k + 16 + kp.SIZE) (vp.spelling value)) m.block.at m.value_there,
         );
       }
 
@@ -198,16 +208,16 @@ module _ {K V : Type 0} {kp : Plain K} {vp : Plain V} (kl : Laws kp) (vl : Laws 
         begins = e ∙ entry_same (stands_before kp.order old
             false key) (stands_before kp.order new false key) s.map.tree.tree (λ n i. ap (stands kp.order false key)
             (keys_agree old new ps before after n (ap (is_in n) (sym s.map.tree.lists) ∙ i)))
-            ∙ ap (entry_of (stands_before kp.order new false key)) (sym there_tree);
+            ∙ ap (insert_point_of (stands_before kp.order new false key)) (sym there_tree);
       }
 
-  pub is_put : {e : Cut} → LinksPair kp vp d e h at node → PutsNewPair kp vp c e h at ps key value
+  pub is_put : {e : WindowState} → LinksPair kp vp d e h at node → PutsNewPair kp vp c e h at ps key value
   is_put {e} puts =
       let q = puts ps new_pair map_there loose (sym m.block.at) in
       record {
         extent = x;
         placed = m.block.placed;
-        live = subst (LaysOut current e.bytes) live_d q.live;
+        live = subst (EncodesLiveSet current e.bytes) live_d q.live;
         beside = beside_then (keeps_beside m.block.keeps (λ y f o. kept _ f)) q.beside (λ y f o. (
           still_there y f,
           ap (λ (t : Bool). t || is_in (handle y) (nodes_of_pairs ps)) (ne_eqb _ _ (differs_at _ f)) ∙ o,
@@ -218,12 +228,14 @@ module _ {K V : Type 0} {kp : Plain K} {vp : Plain V} (kl : Laws kp) (vl : Laws 
 -- ---- a pair whose node is made enters the map
 
 -- a node that has a place in the tree, and is put there from the root on or from where its insertion begins
-pub record CanLink {K : Type 0} (k : Plain K) (ns : List ℕ) (c : Cut) (root start : Option ℕ) (node : ℕ) : Type 0 where
+pub record CanLink {K : Type 0} (k : Plain K) (ns : List ℕ) (c : WindowState) (root start : Option ℕ) (node : ℕ) :
+    Type 0 where
   pub shape : Tree
   pub tree : IsKeyTree k ns c root shape
   pub own : is_pair_node (16 + k.SIZE) ns c node ≡ true
-  pub place : has_place (comes_before k.order (keys_in k ns c)) node (nodes_of shape) ≡ true
-  pub begins : IfSome start (λ n. entry_of (λ m. not (comes_before k.order (keys_in k ns c) node m)) shape ≡ Some n)
+  pub place : is_ordered_with (comes_before k.order (keys_in k ns c)) node (nodes_of shape) ≡ true
+  pub begins : IfSome start (λ n. insert_point_of (λ m. not (comes_before k.order (keys_in k ns c) node m)) shape
+      ≡ Some n)
 
 -- a link among nodes is one among more of them
 leads_more : (n : ℕ) (ns : List ℕ) (o : Option ℕ) → leads (λ j. is_in j ns) o ≡ true
@@ -231,9 +243,9 @@ leads_more : (n : ℕ) (ns : List ℕ) (o : Option ℕ) → leads (λ j. is_in j
 leads_more n ns None h = refl
 leads_more n ns (Some m) h = or_right _ _ h
 
-module _ {K V : Type 0} {kp : Plain K} {vp : Plain V} (kl : Laws kp) (c : Cut) {h at : ℕ} {root : Option ℕ}
+module _ {K V : Type 0} {kp : Plain K} {vp : Plain V} (kl : Laws kp) (c : WindowState) {h at : ℕ} {root : Option ℕ}
     {ps : List (Pair K V)} (s : HoldsMap kp vp c.bytes h at ps) (is : root ≡ link_at (bytes_of c.bytes) (h + at))
-    {p : Pair K V} (l : IsLoose kp vp c.bytes h ps p) {node : ℕ} (here : pair_node p ≡ node) where
+    {p : Pair K V} (l : IsUnlinkedPair kp vp c.bytes h ps p) {node : ℕ} (here : pair_node p ≡ node) where
   abbrev lent : List ℕ
   lent = own_nodes c.bytes root (Some node)
 
@@ -265,7 +277,7 @@ module _ {K V : Type 0} {kp : Plain K} {vp : Plain V} (kl : Laws kp) (c : Cut) {
             ) refl
       ]
 
-  good_all : Good (16 + kp.SIZE) all c
+  good_all : IsGoodNodeSet (16 + kp.SIZE) all c
   good_all = record {
     proper = s.heap.proper;
     blocks = rw (pair_block kl c s p l.block, (good kl c s).blocks) refl;
@@ -295,7 +307,7 @@ module _ {K V : Type 0} {kp : Plain K} {vp : Plain V} (kl : Laws kp) (c : Cut) {
     shape = s.map.tree.tree;
     tree = rw is (tree_among kl s good_all in_all);
     own = node_all (pair_node p) own_in;
-    place = ap (has_place (comes_before kp.order (keys_in kp all c)) (pair_node p)) s.map.tree.lists
+    place = ap (is_ordered_with (comes_before kp.order (keys_in kp all c)) (pair_node p)) s.map.tree.lists
         ∙ place_of kp.order (keys_in kp all c) p own_key ps keys_all l.absent;
     -- an insertion begins where the search for the key says
     begins = subst (λ (o : Option ℕ). IfSome start (λ n. o ≡ Some n)) (entry_same (stands_before kp.order
@@ -307,9 +319,9 @@ module _ {K V : Type 0} {kp : Plain K} {vp : Plain V} (kl : Laws kp) (c : Cut) {
   })
 
   -- the map with the pair
-  pub planted : {d e : Cut} {top : Option ℕ} {n steps : ℕ}
+  pub planted : {d e : WindowState} {top : Option ℕ} {n steps : ℕ}
       → Relinked kp lent c d root top (put (comes_before kp.order (keys_in kp lent c)) node) steps → Laws vp
-      → n ≡ length ps + 1 → IsHeaded d e (h + at) top n → IsPlanted kp vp c e h at ps p
+      → n ≡ length ps + 1 → WritesMapHeader d e (h + at) top n → IsPlanted kp vp c e h at ps p
   planted u vl count head = relaid s planted_tree u kl vl (p ∷ ps) (l.block, s.pairs) (l.bytes, s.map.pairs)
       (ns_is ∙ ap (λ (ms : List ℕ). pair_node p ∷ ms) s.map.tree.lists) (rw ns_is good_all) head
       ((λ i. put (comes_before kp.order (keys_in kp (ns_is i) c)) (sym here i) (s.map.tree.lists i))
@@ -319,7 +331,7 @@ module _ {K V : Type 0} {kp : Plain K} {vp : Plain V} (kl : Laws kp) (c : Cut) {
 
 -- ---- another value is written over that of a key
 
-module _ {K V : Type 0} {kp : Plain K} {vp : Plain V} (c : Cut) {h at : ℕ} {ps : List (Pair K V)}
+module _ {K V : Type 0} {kp : Plain K} {vp : Plain V} (c : WindowState) {h at : ℕ} {ps : List (Pair K V)}
     (s : HoldsMap kp vp c.bytes h at ps) (key : K) {p : Pair K V} (has : pair_at kp.order ps key ≡ Some p) where
   own : IsPairIn kp vp (live_of c.bytes) h p
   own = (pair_of kp.order (IsPairIn kp vp (live_of c.bytes) h) ps key p has s.pairs).0
@@ -331,9 +343,10 @@ module _ {K V : Type 0} {kp : Plain K} {vp : Plain V} (c : Cut) {h at : ℕ} {ps
 
   module _ (kl : Laws kp) (vl : Laws vp)
       (total : (x y : K) → kp.is_value x ≡ true → kp.is_value y ≡ true → kp.order x y ≡ false → kp.order y x ≡ false
-      → x ≡ y) {d : Cut} (value : V) (is_key_value : kp.is_value key ≡ true) (is_value : vp.is_value value ≡ true)
-      (change : IsChanged current c d (handle p.node + (16 + kp.SIZE)) vp.SIZE)
-      (there : Has (bytes_of d.bytes) (handle p.node + (16 + kp.SIZE)) (vp.spelling value)) where
+      → x ≡ y) {d : WindowState} (value : V) (is_key_value : kp.is_value key ≡ true) (is_value : vp.is_value value
+      ≡ true)
+      (change : ChangesBytes current c d (handle p.node + (16 + kp.SIZE)) vp.SIZE)
+      (there : HasBytesAt (bytes_of d.bytes) (handle p.node + (16 + kp.SIZE)) (vp.spelling value)) where
     abbrev new : Pair K V
     new = record { key = key; value = value; node = p.node }
 
@@ -343,7 +356,7 @@ module _ {K V : Type 0} {kp : Plain K} {vp : Plain V} (c : Cut) {h at : ℕ} {ps
         (pair_of kp.order (IsPairIn kp vp (live_of c.bytes) h) ps key p has s.pairs).1) in
         total key p.key is_key_value (pair_parts own).key two.0 two.1
 
-    keeps : Keeps c d (others (handle p.node) (live_of c.bytes).extents)
+    keeps : KeepsBlocks c d (others (handle p.node) (live_of c.bytes).extents)
     keeps = changed-keeps current c d (handle p.node) (16 + kp.SIZE) vp.SIZE change value_room
 
     block_stays : (y : Extent) (g : ℕ) → extent_at (live_of c.bytes) g ≡ Some y → handle y ≢ handle p.node
@@ -404,11 +417,12 @@ module _ {K V : Type 0} {kp : Plain K} {vp : Plain V} (c : Cut) {h at : ℕ} {ps
     own_bytes : IsPairAt kp.SIZE kp.spelling vp.spelling (bytes_of d.bytes) new
     own_bytes =
         let found = pair_of kp.order Was ps key p has were in let size = kl.spells p.key (pair_parts own).key in
-        let old = Has-same _ _ _ _ (handle p.node + 16) (kp.spelling p.key)
-        (SameBut-Same _ _ _ _ (handle p.node + 16) (handle p.node + 16 + kp.SIZE) change.rest (inl (omega arith)))
+        let old = HasBytesAt-same _ _ _ _ (handle p.node + 16) (kp.spelling p.key)
+        (SameBytesExcept-SameBytes _ _ _ _ (handle p.node + 16) (handle p.node + 16 + kp.SIZE) change.rest
+        (inl (omega arith)))
         (omega arith) (omega (arith, size)) found.0.bytes.0 in
         let behind : handle p.node + (16 + kp.SIZE) ≡ handle p.node + 16 + kp.SIZE = omega arith in
-        (rw same_key_is old, subst (λ k. Has (bytes_of d.bytes) k (vp.spelling value)) behind there)
+        (rw same_key_is old, subst (λ k. HasBytesAt (bytes_of d.bytes) k (vp.spelling value)) behind there)
 
     own_block : IsPairIn kp vp (live_of c.bytes) h new
     own_block = record {
@@ -421,7 +435,7 @@ module _ {K V : Type 0} {kp : Plain K} {vp : Plain V} (c : Cut) {h at : ℕ} {ps
     map_after =
         let r = roomy c h (at + 24) s.heap s.room in let begins = r.at in
         let block = block_stays r.extent h r.found (λ e. own.apart (sym e ∙ begins)) in
-        let words : Same (bytes_of c.bytes) (bytes_of d.bytes) (h + at) (h + at + 24) =
+        let words : SameBytes (bytes_of c.bytes) (bytes_of d.bytes) (h + at) (h + at + 24) =
         record { at = λ n a b. block.payload.at n (omega arith) (omega arith) } in
         map_over c d s (laid-heap _ _ change.live) (changed-room _ _ _ _ _ h (at + 24) change s.room) words cells
         (put_pair kp.order new ps) (sym (replaced_nodes kp.order kl.transitive p new same_key_is refl ps s.rising has))
@@ -435,7 +449,7 @@ module _ {K V : Type 0} {kp : Plain K} {vp : Plain V} (c : Cut) {h at : ℕ} {ps
     is_put_again =
         let behind : handle p.node + (16 + kp.SIZE) ≡ handle p.node + 16 + kp.SIZE = omega arith in
         record {
-          change = subst (λ n. IsChanged current c d n vp.SIZE) behind change;
+          change = subst (λ n. ChangesBytes current c d n vp.SIZE) behind change;
           beside = keeps_beside keeps (λ y f o. block_stays y (handle y) f (λ e. both_ways _ o
               (ap (λ n. is_in n (nodes_of_pairs ps)) e ∙ in_nodes kp.order ps key p has)));
           map = map_after;

@@ -1,14 +1,19 @@
 -- What stays of a map and beside it, and the map whose tree is changed and whose three words are written.
 use Rattle.seg_map.proofs.Common as common
-use common.{Some, extent_at, is_proper, both_ways, false≢true, holds_same, cell_stays, length-map, SamePlace-trans}
-use common.{IsTrue, AllByRecursion, PairNode-is_pair_node, is_pair_node-PairNode, Same-trans, IsBesideMap, has_room}
-use common.{node_place, pair_cells, SameBlockBut, changed-live, ◌≡◌, arith, is_in, Keeps, subst, Option, leads, Plain}
+use common.{Some, extent_at, is_proper, both_ways, false≢true, holds_same, cell_stays, length-map}
+use common.{SameSurroundings-trans}
+use common.{IsTrue, AllByRecursion, PairNode-is_pair_node, is_pair_node-PairNode, SameBytes-trans, KeepsOutsideMap}
+use common.{has_room}
+use common.{node_place, pair_cells, SameBlockExcept, changed-live, ◌≡◌, arith, is_in, KeepsBlocks, subst, Option, leads}
+use common.{Plain}
 use common.{Memory, IsHeap, others, IfSome, refl, bytes_of, is_other, PairNode, nodes_of, Relinked, or_cases, eqb-true}
-use common.{laid-heap, ap, ◌∙◌, ◌+◌, ◌||◌, List, ◌==◌, Good, Tree, bits, Same, Pair, None, leaf, fork, roomy, ℕ, ◌-◌}
-use common.{◌%◌, ◌<◌, ◌≤◌, ◌⊎◌, inl, inr, not, ◌∷◌, Cut, In, sym, ◌*◌, ◌≢◌, [], true, or_left, word_at, live_of}
-use common.{is_kept, kept_of, keys_in, current, LiveSet, root_of, false, Has-same, cells_of, IsPairAt, HoldsMap}
-use common.{IsPairIn, cases_eq, cells_at, IsHeaded, ◌&&◌, nat_lt, nat_le, eq-eqb, le-leb, lt-ltb, Extent, handle}
-use common.{end_of, length, LaysOut, or_right, SameBlock, IsKeyTree, Same-word, Same-link, is_rising, pair_node}
+use common.{laid-heap, ap, ◌∙◌, ◌+◌, ◌||◌, List, ◌==◌, IsGoodNodeSet, Tree, bits, SameBytes, Pair, None, leaf, fork}
+use common.{roomy, ℕ, ◌-◌}
+use common.{◌%◌, ◌<◌, ◌≤◌, ◌⊎◌, inl, inr, not, ◌∷◌, WindowState, In, sym, ◌*◌, ◌≢◌, [], true, or_left, word_at, live_of}
+use common.{is_kept, kept_of, keys_in, current, LiveSet, root_of, false, HasBytesAt-same, cells_of, IsPairAt, HoldsMap}
+use common.{IsPairIn, cases_eq, cells_at, WritesMapHeader, ◌&&◌, nat_lt, nat_le, eq-eqb, le-leb, lt-ltb, Extent, handle}
+use common.{end_of, length, EncodesLiveSet, or_right, SameBlock, IsKeyTree, SameBytes-word, SameBytes-link, is_rising}
+use common.{pair_node}
 use common.{tree_same, is_link_byte, IsSearchTree, comes_before, is_pair_node, nodes_of_pairs, changed-keeps}
 use Rattle.seg_map.proofs.PairSteps.{any_at, block_apart, same_red, all_in, target_whole}
 use Rattle.seg_map.proofs.Entering.{Laws, pair_parts, found_in, other_block}
@@ -19,20 +24,20 @@ use Rattle.best_fit.proofs.Laws.{but-trans, written-but}
 use Rattle.seg_types.specs.contracts.plain.Plain.TheBound.{Met}
 
 -- the live set is kept
-pub live_stays : (c d : Cut) (ns ms : List ℕ) → kept_of ms d ≡ kept_of ns c → live_of d.bytes ≡ live_of c.bytes
+pub live_stays : (c d : WindowState) (ns ms : List ℕ) → kept_of ms d ≡ kept_of ns c → live_of d.bytes ≡ live_of c.bytes
 unfolding kept_of
 live_stays c d ns ms e = ap (λ (k : PairTreeFrame). k.live) e
 
-pub kept_proper : (c d : Cut) (ns : List ℕ) → kept_of ns d ≡ kept_of ns c → IsTrue (is_proper (live_of c.bytes))
+pub kept_proper : (c d : WindowState) (ns : List ℕ) → kept_of ns d ≡ kept_of ns c → IsTrue (is_proper (live_of c.bytes))
     → IsTrue (is_proper (live_of d.bytes))
 kept_proper c d ns e proper = rw (live_stays c d ns ns e) proper
 
-pub kept_room : (c d : Cut) (ns : List ℕ) (h n : ℕ) → kept_of ns d ≡ kept_of ns c
+pub kept_room : (c d : WindowState) (ns : List ℕ) (h n : ℕ) → kept_of ns d ≡ kept_of ns c
     → IsTrue (has_room (live_of c.bytes) h n) → IsTrue (has_room (live_of d.bytes) h n)
 kept_room c d ns h n e room = rw (live_stays c d ns ns e) room
 
 -- the list of nodes is kept
-pub own_stays : (c d : Cut) (ns ms : List ℕ) → kept_of ms d ≡ kept_of ns c → ms ≡ ns
+pub own_stays : (c d : WindowState) (ns ms : List ℕ) → kept_of ms d ≡ kept_of ns c → ms ≡ ns
 unfolding kept_of
 own_stays c d ns ms e = ap (λ (k : PairTreeFrame). k.own) e
 
@@ -46,7 +51,8 @@ no_link (n ∷ ns) k off =
     here (inl l) = rw (lt-leb n k l) refl
     here (inr l) = rw (le-leb n k (omega arith), le-ltb k (n + 16) l) refl
 
-module _ {len : ℕ} {ns : List ℕ} {c : Cut} (d : Cut) (good : Good len ns c) (same : kept_of ns d ≡ kept_of ns c)
+module _ {len : ℕ} {ns : List ℕ} {c : WindowState} (d : WindowState) (good : IsGoodNodeSet len ns c)
+    (same : kept_of ns d ≡ kept_of ns c)
     (long : 16 ≤ len) where
   kept_byte : (k : ℕ) → is_kept ns (live_of c.bytes) k ≡ true → bytes_of d.bytes k ≡ bytes_of c.bytes k
   unfolding kept_of
@@ -104,7 +110,7 @@ module _ {len : ℕ} {ns : List ℕ} {c : Cut} (d : Cut) (good : Good len ns c) 
           grind (arith, block_apart x q i (λ e. both_ways _ o (ap (λ m. is_in m ns) e ∙ j)))
 
   -- the header but word 24 stays, and what lies round the window
-  pub kept_keeps : Keeps c d []
+  pub kept_keeps : KeepsBlocks c d []
   unfolding kept_of
   kept_keeps = record {
     place = record {
@@ -119,9 +125,9 @@ module _ {len : ℕ} {ns : List ℕ} {c : Cut} (d : Cut) (good : Good len ns c) 
 -- ---- what stays beside a map
 
 -- beside blocks that all stay
-pub keeps_beside : {a b : Cut} {at : ℕ} {ns : List ℕ} {xs : List Extent} → Keeps a b xs
+pub keeps_beside : {a b : WindowState} {at : ℕ} {ns : List ℕ} {xs : List Extent} → KeepsBlocks a b xs
     → ((x : Extent) → extent_at (live_of a.bytes) (handle x) ≡ Some x → is_in (handle x) ns ≡ false
-    → SameBlock (bytes_of a.bytes) (bytes_of b.bytes) x) → IsBesideMap a b at ns
+    → SameBlock (bytes_of a.bytes) (bytes_of b.bytes) x) → KeepsOutsideMap a b at ns
 keeps_beside k same = record {
   place = k.place;
   front = k.front;
@@ -131,13 +137,14 @@ keeps_beside k same = record {
 }
 
 -- and then beside others, where those that stayed are among them
-pub beside_then : {a b c : Cut} {at : ℕ} {ns ms : List ℕ} → IsBesideMap a b at ns → IsBesideMap b c at ms
+pub beside_then : {a b c : WindowState} {at : ℕ} {ns ms : List ℕ} → KeepsOutsideMap a b at ns
+    → KeepsOutsideMap b c at ms
     → ((x : Extent) → extent_at (live_of a.bytes) (handle x) ≡ Some x → is_in (handle x) ns ≡ false
-    → (extent_at (live_of b.bytes) (handle x) ≡ Some x) × (is_in (handle x) ms ≡ false)) → IsBesideMap a c at ns
+    → (extent_at (live_of b.bytes) (handle x) ≡ Some x) × (is_in (handle x) ms ≡ false)) → KeepsOutsideMap a c at ns
 beside_then p q still = record {
-  place = SamePlace-trans _ _ _ p.place q.place;
-  front = Same-trans _ _ _ _ _ p.front q.front;
-  behind = Same-trans _ _ _ _ _ p.behind q.behind;
+  place = SameSurroundings-trans _ _ _ p.place q.place;
+  front = SameBytes-trans _ _ _ _ _ p.front q.front;
+  behind = SameBytes-trans _ _ _ _ _ p.behind q.behind;
   blocks = λ x f o.
       let s = still x f o in let m = p.blocks x f o in let n = q.blocks x s.0 s.1 in
       record {
@@ -153,7 +160,7 @@ pub fewer : (n digits : ℕ) → n ≤ 28 * digits + 32 → n ≤ 30 * digits + 
 fewer n digits few = omega arith
 
 -- by the nodes as they were, and by the steps that were added
-pub relinked : {K : Type 0} (k : Plain K) (ns ms : List ℕ) {c d e : Cut} (root top : Option ℕ)
+pub relinked : {K : Type 0} (k : Plain K) (ns ms : List ℕ) {c d e : WindowState} (root top : Option ℕ)
     {becomes : List ℕ → List ℕ} (before : ℕ) {after : ℕ} (steps : ℕ) → e ≡ d → kept_of ms d ≡ kept_of ns c
     → leads (is_pair_node (16 + k.SIZE) ms d) top ≡ true → after ≡ before + steps
     → ((t : Tree) → IsSearchTree (comes_before k.order (keys_in k ns c)) (pair_cells (16 + k.SIZE) ns c) root t
@@ -181,7 +188,8 @@ pub block_cells : (m m' : Memory) (x : Extent) → SameBlock m m' x → 32 ≤ x
     → cells_of m' (handle x) ≡ cells_of m (handle x)
 block_cells m m' x s long =
     let e : x.offset + 8 ≡ handle x - 8 = omega arith in
-    cell_stays m m' (handle x) (Same-link _ _ _ _ (handle x) s.payload (omega arith) (omega arith)) (Same-link _ _ _ _
+    cell_stays m m' (handle x) (SameBytes-link _ _ _ _ (handle x) s.payload (omega arith) (omega arith))
+    (SameBytes-link _ _ _ _
     (handle x + 8) s.payload (omega arith) (omega arith)) (same_red (word_at m (handle x - 8))
     (word_at m' (handle x - 8)) (subst (λ a. word_at m' a % 16 ≡ word_at m a % 16) e s.colour))
 
@@ -202,37 +210,39 @@ at_node P (p ∷ ps) m i a =
 
 -- the bytes of a pair stay
 pub pair_stays : {K V : Type 0} {kp : Plain K} {vp : Plain V} → Laws kp → Laws vp → (m m' : Memory) {live : LiveSet}
-    {h : ℕ} {p : Pair K V} → IsPairIn kp vp live h p → Same m m' (handle p.node + 16) (handle p.node + (16 + kp.SIZE
+    {h : ℕ} {p : Pair K V} → IsPairIn kp vp live h p
+    → SameBytes m m' (handle p.node + 16) (handle p.node + (16 + kp.SIZE
     + vp.SIZE)) → IsPairAt kp.SIZE kp.spelling vp.spelling m p → IsPairAt kp.SIZE kp.spelling vp.spelling m' p
 pair_stays {kp = kp} {vp = vp} kl vl m m' {p = p} i s h =
     let first = handle p.node + 16 in let last = handle p.node + (16 + kp.SIZE + vp.SIZE) in let q = pair_parts i in
     let el = kl.spells p.key q.key in let fl = vl.spells p.value q.value in (
-      Has-same _ _ _ _ first (kp.spelling p.key) s (omega arith) (omega arith) h.0,
-      Has-same _ _ _ _ (first + kp.SIZE) (vp.spelling p.value) s (omega arith) (omega arith) h.1,
+      HasBytesAt-same _ _ _ _ first (kp.spelling p.key) s (omega arith) (omega arith) h.0,
+      HasBytesAt-same _ _ _ _ (first + kp.SIZE) (vp.spelling p.value) s (omega arith) (omega arith) h.1,
     )
 
 -- a block that is still there, with its bytes
-pub record Still (c e : Cut) (x : Extent) : Type 0 where
+pub record Still (c e : WindowState) (x : Extent) : Type 0 where
   pub found : extent_at (live_of e.bytes) (handle x) ≡ Some x
   pub same : SameBlock (bytes_of c.bytes) (bytes_of e.bytes) x
 
 -- pairs in the same blocks are a map where the tree and the words stay
-unfoldable pub map_over : {K V : Type 0} {kp : Plain K} {vp : Plain V} (c e : Cut) {h at : ℕ} {ps : List (Pair K V)}
+unfoldable pub map_over : {K V : Type 0} {kp : Plain K} {vp : Plain V} (c e : WindowState) {h at : ℕ}
+    {ps : List (Pair K V)}
     (s : HoldsMap kp vp c.bytes h at ps) → IsHeap current e.bytes → IsTrue (has_room (live_of e.bytes) h (at + 24))
-    → Same (bytes_of c.bytes) (bytes_of e.bytes) (h + at) (h + at + 24)
+    → SameBytes (bytes_of c.bytes) (bytes_of e.bytes) (h + at) (h + at + 24)
     → ((m : ℕ) → is_in m (nodes_of s.map.tree.tree) ≡ true → cells_of (bytes_of e.bytes) m ≡ cells_of (bytes_of c.bytes)
     m) → (qs : List (Pair K V)) → nodes_of_pairs ps ≡ nodes_of_pairs qs → is_rising kp.order qs ≡ true
     → AreIn kp vp (live_of e.bytes) h qs → AreAt kp vp (bytes_of e.bytes) qs → HoldsMap kp vp e.bytes h at qs
 map_over c e {h} {at} {ps} s heap room words cells qs nodes rising blocks bytes = record {
   heap = heap;
   map = record {
-    count = Same-word _ _ _ _ (h + at + 8) words (omega arith) (omega arith) ∙ s.map.count
+    count = SameBytes-word _ _ _ _ (h + at + 8) words (omega arith) (omega arith) ∙ s.map.count
         ∙ sym (length-map ps pair_node) ∙ ap (λ (ms : List ℕ). length ms) nodes ∙ length-map qs pair_node;
-    third = Same-word _ _ _ _ (h + at + 16) words (omega arith) (omega arith) ∙ s.map.third;
+    third = SameBytes-word _ _ _ _ (h + at + 16) words (omega arith) (omega arith) ∙ s.map.third;
     tree = record {
       tree = s.map.tree.tree;
       linked = record {
-        root = Same-link _ _ _ _ (h + at) words (omega arith) (omega arith) ∙ s.map.tree.linked.root;
+        root = SameBytes-link _ _ _ _ (h + at) words (omega arith) (omega arith) ∙ s.map.tree.linked.root;
         holds = holds_same (cells_of (bytes_of c.bytes))
             (cells_of (bytes_of e.bytes)) s.map.tree.tree cells s.map.tree.linked.holds;
       };
@@ -247,9 +257,9 @@ map_over c e {h} {at} {ps} s heap room words cells qs nodes rising blocks bytes 
   pairs = blocks;
 }
 
-module _ {K V : Type 0} {kp : Plain K} {vp : Plain V} (kl : Laws kp) (vl : Laws vp) (c e : Cut) {h at : ℕ}
+module _ {K V : Type 0} {kp : Plain K} {vp : Plain V} (kl : Laws kp) (vl : Laws vp) (c e : WindowState) {h at : ℕ}
     {ps : List (Pair K V)} (s : HoldsMap kp vp c.bytes h at ps) (heap : IsHeap current e.bytes) (room : IsTrue
-    (has_room (live_of e.bytes) h (at + 24))) (words : Same (bytes_of c.bytes) (bytes_of e.bytes) (h + at)
+    (has_room (live_of e.bytes) h (at + 24))) (words : SameBytes (bytes_of c.bytes) (bytes_of e.bytes) (h + at)
     (h + at + 24)) (blocks : AllByRecursion (λ (p : Pair K V). Still c e p.node) ps) where
   pub both : AllByRecursion (λ (p : Pair K V). IsPairIn kp vp (live_of c.bytes) h p × Still c e p.node) ps
   both = each_both ps s.pairs blocks (λ p i b. (i, b))
@@ -274,19 +284,19 @@ module _ {K V : Type 0} {kp : Plain K} {vp : Plain V} (kl : Laws kp) (vl : Laws 
 -- ---- the tree of a map is changed, and its three words are written
 
 -- a call of the tree changes no block, nor does what is written of the three words then
-module _ {K : Type 0} {kp : Plain K} {c d : Cut} {ns : List ℕ} {root top : Option ℕ} {becomes : List ℕ → List ℕ}
+module _ {K : Type 0} {kp : Plain K} {c d : WindowState} {ns : List ℕ} {root top : Option ℕ} {becomes : List ℕ → List ℕ}
     {steps : ℕ} (u : Relinked kp ns c d root top becomes steps) where
   pub live_left : live_of d.bytes ≡ live_of c.bytes
   live_left = live_stays c d ns ns u.kept
 
-  pub live_laid : {e : Cut} {at n : ℕ} → IsHeaded d e at top n → live_of e.bytes ≡ live_of c.bytes
+  pub live_laid : {e : WindowState} {at n : ℕ} → WritesMapHeader d e at top n → live_of e.bytes ≡ live_of c.bytes
   live_laid head = changed-live _ _ _ _ _ head.change ∙ live_left
 
 -- what shows that a map with a pair less has one less, and that its block and theirs stay where the tree is changed
 pub ruleset trees = (kept_proper, kept_room, removed_length)
 
 -- a call of the tree of a map
-module _ {K V : Type 0} {kp : Plain K} {vp : Plain V} {c d : Cut} {h at : ℕ} {ps : List (Pair K V)}
+module _ {K V : Type 0} {kp : Plain K} {vp : Plain V} {c d : WindowState} {h at : ℕ} {ps : List (Pair K V)}
     (s : HoldsMap kp vp c.bytes h at ps) {ns : List ℕ} {root top : Option ℕ} (tree : IsKeyTree kp ns c root
     s.map.tree.tree) {becomes : List ℕ → List ℕ} {steps : ℕ} (u : Relinked kp ns c d root top becomes steps) where
   pub top_whole : IfSome top (λ t. t % 16 ≡ 0)
@@ -298,12 +308,13 @@ module _ {K V : Type 0} {kp : Plain K} {vp : Plain V} {c d : Cut} {h at : ℕ} {
 
   -- the words are written; the nodes are those of these pairs
   module _ (kl : Laws kp) (vl : Laws vp) (ws : List (Pair K V)) (pairs : AreIn kp vp (live_of c.bytes) h ws)
-      (bytes : AreAt kp vp (bytes_of c.bytes) ws) (are : ns ≡ nodes_of_pairs ws) (good : Good (16 + kp.SIZE) ns c)
-      {e : Cut} {n : ℕ} (head : IsHeaded d e (h + at) top n) where
+      (bytes : AreAt kp vp (bytes_of c.bytes) ws) (are : ns
+      ≡ nodes_of_pairs ws) (good : IsGoodNodeSet (16 + kp.SIZE) ns c)
+      {e : WindowState} {n : ℕ} (head : WritesMapHeader d e (h + at) top n) where
     live_e : live_of e.bytes ≡ live_of c.bytes
     live_e = live_laid u head
 
-    others_stay : Keeps d e (others h (live_of d.bytes).extents)
+    others_stay : KeepsBlocks d e (others h (live_of d.bytes).extents)
     others_stay = changed-keeps current d e h at 24 head.change (rw (live_left u) s.room)
 
     -- the words are written in another block
@@ -311,22 +322,22 @@ module _ {K V : Type 0} {kp : Plain K} {vp : Plain V} {c d : Cut} {h at : ℕ} {
         → SameBlock (bytes_of d.bytes) (bytes_of e.bytes) x
     block_stays x f o = other_block (live_of d.bytes) h (handle x) others_stay (rw (live_left u) f) o
 
-    rest_kept : Keeps c d []
+    rest_kept : KeepsBlocks c d []
     rest_kept = kept_keeps d good u.kept (omega arith)
 
-    beside : IsBesideMap c e (h + at) ns
+    beside : KeepsOutsideMap c e (h + at) ns
     beside =
         let r = roomy c h (at + 24) s.heap s.room in
         let written = written-but d e (live_of c.bytes) h (h + at) 24 r.extent s.heap.proper r.found head.change
         (omega arith) (omega arith) in
         record {
-          place = SamePlace-trans _ _ _ rest_kept.place head.change.place;
-          front = Same-trans _ _ _ _ _ rest_kept.front others_stay.front;
-          behind = Same-trans _ _ _ _ _ rest_kept.behind others_stay.behind;
+          place = SameSurroundings-trans _ _ _ rest_kept.place head.change.place;
+          front = SameBytes-trans _ _ _ _ _ rest_kept.front others_stay.front;
+          behind = SameBytes-trans _ _ _ _ _ rest_kept.behind others_stay.behind;
           blocks = λ x f o.
               let i = found_in (live_of c.bytes).extents (handle x) x f in
               let p = kept_block d good u.kept (omega arith) x i o in
-              let q = all_in (SameBlockBut (bytes_of d.bytes) (bytes_of e.bytes) (h + at) 24)
+              let q = all_in (SameBlockExcept (bytes_of d.bytes) (bytes_of e.bytes) (h + at) 24)
               (live_of c.bytes).extents x written i in
               (but-trans (bytes_of c.bytes) (bytes_of d.bytes) (bytes_of e.bytes) (h + at) 24 (x ∷ []) (p, tt)
               (q, tt)).0;
@@ -349,7 +360,8 @@ module _ {K V : Type 0} {kp : Plain K} {vp : Plain V} {c d : Cut} {h at : ℕ} {
 
     -- the key and the value of a pair stay
     pair_kept : (p : Pair K V) → IsPairIn kp vp (live_of c.bytes) h p
-        → Same (bytes_of c.bytes) (bytes_of e.bytes) (handle p.node + 16) (handle p.node + (16 + kp.SIZE + vp.SIZE))
+        → SameBytes (bytes_of c.bytes) (bytes_of e.bytes) (handle p.node + 16)
+        (handle p.node + (16 + kp.SIZE + vp.SIZE))
     pair_kept p i =
         let x = p.node in let listed = found_in (live_of c.bytes).extents (handle x) x i.listed in
         let long = (pair_parts i).long in let same = block_stays x i.listed i.apart in
@@ -386,8 +398,8 @@ module _ {K V : Type 0} {kp : Plain K} {vp : Plain V} {c d : Cut} {h at : ℕ} {
         (nodes_in ns ws (λ m i. ap (is_in m) are ∙ i))) in
         let these = all (IsPairIn kp vp (live_of c.bytes) h) pairs in
         record {
-          live = subst (LaysOut current e.bytes) (live_left u) head.change.live;
-          beside = subst (IsBesideMap c e (h + at)) are beside;
+          live = subst (EncodesLiveSet current e.bytes) (live_left u) head.change.live;
+          beside = subst (KeepsOutsideMap c e (h + at)) are beside;
           map = record {
             heap = laid-heap _ _ head.change.live;
             map = record {

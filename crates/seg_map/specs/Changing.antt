@@ -29,7 +29,7 @@ pub record KeepsOutsideMap (old new : WindowState) (at : ℕ) (ns : List ℕ) : 
   pub front : SameBytes (bytes_of old.bytes) (bytes_of new.bytes) 0 24
   pub behind : SameBytes (bytes_of old.bytes) (bytes_of new.bytes) 32 128
   pub blocks : (x : Extent) → extent_at (live_of old.bytes) (handle x) ≡ Some x → is_in (handle x) ns ≡ false
-      → SameBlockBut (bytes_of old.bytes) (bytes_of new.bytes) at 24 x
+      → SameBlockExcept (bytes_of old.bytes) (bytes_of new.bytes) at 24 x
 
 -- how many pairs there are
 abbrev pub CountsPairs : {K V : Type 0} → Plain K → Plain V → List ℕ → ℕ → ℕ → ℕ → Type 0

@@ -1,7 +1,7 @@
 -- Bytes that are written into a block by way of its whole payload.
 use W.{◌≡◌, sym, ap, subst, ◌∙◌, refl, inl, inr, ℕ, ◌+◌, ◌-◌, ◌<◌, ◌≤◌, ◌⊎◌, List, Some, None, length, arith, IsTrue}
-use W.{Cut}
-use W.{Has, IsChanged, IsHeap, block_payload, bytes_of, current, has_room, live_of, part, patched, payload_at}
+use W.{WindowState}
+use W.{HasBytesAt, ChangesBytes, IsHeap, block_payload, bytes_of, current, has_room, live_of, part, patched, payload_at}
 use W.{read-part}
 use W.{room_block}
 use Rattle.std.specs.Prelude.{slice_index}
@@ -12,8 +12,8 @@ use Rattle.seg_vector.proofs.Storage.{live-if}
 use Rattle.seg_vector.proofs.Words as W
 
 -- a part of some bytes of a window is written over, and no other byte of it
-module _ (c d : Cut) (h at n : ℕ) (bs : List ℕ) (inside : h + n ≤ length c.bytes)
-    (long : length d.bytes ≡ length c.bytes) (within : at + length bs ≤ n) (w : IsChanged current c d h n)
+module _ (c d : WindowState) (h at n : ℕ) (bs : List ℕ) (inside : h + n ≤ length c.bytes)
+    (long : length d.bytes ≡ length c.bytes) (within : at + length bs ≤ n) (w : ChangesBytes current c d h n)
     (s : part d.bytes h n ≡ patched (part c.bytes h n) at bs) where
   fits : at + length bs ≤ length (part c.bytes h n)
   fits = omega (arith, length-part c.bytes h n inside, within)
@@ -34,14 +34,14 @@ module _ (c d : Cut) (h at n : ℕ) (bs : List ℕ) (inside : h + n ≤ length c
       let e : k ≡ h + (k - h) = omega arith in
       ap (bytes_of d.bytes) e ∙ inner (k - h) (omega arith) (away k a o) ∙ sym (ap (bytes_of c.bytes) e)
 
-  pub narrowed : IsChanged current c d (h + at) (length bs)
+  pub narrowed : ChangesBytes current c d (h + at) (length bs)
   narrowed = record {
     place = w.place;
     live = w.live;
     rest = record { at = λ k o. by k (cases_lt k h) (cases_lt k (h + n)) o };
   }
 
-  pub written-there : Has (bytes_of d.bytes) (h + at) bs
+  pub written-there : HasBytesAt (bytes_of d.bytes) (h + at) bs
   written-there =
       let all = patched (part c.bytes h n) at bs in
       read-part d.bytes (h + at) (length bs) (omega (arith, inside, long, within))
@@ -50,7 +50,7 @@ module _ (c d : Cut) (h at n : ℕ) (bs : List ℕ) (inside : h + n ≤ length c
       ∙ patched-HasBytesAt (part c.bytes h n) at bs fits
 
 -- the payload of a block is as long as the room that it has
-pub payload-room : (c : Cut) (h n : ℕ) → IsHeap current c.bytes → IsTrue (has_room (live_of c.bytes) h n)
+pub payload-room : (c : WindowState) (h n : ℕ) → IsHeap current c.bytes → IsTrue (has_room (live_of c.bytes) h n)
     → n ≤ length (payload_at c.bytes (live_of c.bytes) h)
 payload-room c h n heap room =
     let r = room_block c h n heap room in let b = r.block in
@@ -59,14 +59,14 @@ payload-room c h n heap room =
     omega (arith, ap length (block_payload c h b), length-part c.bytes h (b.tile.len - 16) whole)
 
 -- what a loan of the payload leaves, where bytes were written into it from an offset on
-module _ (law : LoansWriteOneBlock) (c : Cut) (h at : ℕ) (bs : List ℕ) (heap : IsHeap current c.bytes)
+module _ (law : LoansWriteOneBlock) (c : WindowState) (h at : ℕ) (bs : List ℕ) (heap : IsHeap current c.bytes)
     (room : IsTrue (has_room (live_of c.bytes) h (at + length bs))) where
   abbrev payload : List ℕ
   payload = payload_at c.bytes (live_of c.bytes) h
 
   pub payload-spelled : (ws : List ℕ) → ws ≡ patched payload at bs
-      → IsChanged current c (with_payload c h ws) (h + at) (length bs)
-      × Has (bytes_of (with_payload c h ws).bytes) (h + at) bs
+      → ChangesBytes current c (with_payload c h ws) (h + at) (length bs)
+      × HasBytesAt (bytes_of (with_payload c h ws).bytes) (h + at) bs
   payload-spelled ws e =
       let r = room_block c h (at + length bs) heap room in let b = r.block in
       let o = b.at in let long = b.long in let ends = b.inside in let enough = r.enough in
@@ -78,8 +78,8 @@ module _ (law : LoansWriteOneBlock) (c : Cut) (h at : ℕ) (bs : List ℕ) (heap
       let len : payload_len (live_of c.bytes) h ≡ n =
       ap (λ o. elim o as (λ _. ℕ) [ None ↦ 0 | Some x ↦ x.len - 16 ]) b.extent in
       let now = law c h ws heap (live-if h (at + length bs) (live_of c.bytes).extents room) (count ∙ sym len) in
-      let d : Cut = with_payload c h ws in
-      let w : IsChanged current c d h n = subst (λ k. IsChanged current c d h k) count now.0 in
+      let d : WindowState = with_payload c h ws in
+      let w : ChangesBytes current c d h n = subst (λ k. ChangesBytes current c d h k) count now.0 in
       let size : length d.bytes ≡ length c.bytes = w.live.size ∙ sym heap.size in
       let s : part d.bytes h n ≡ patched (part c.bytes h n) at bs =
       sym (read-part d.bytes h n (omega (arith, inside, size))) ∙ subst (λ k. W.read (bytes_of d.bytes) h k ≡ ws) count

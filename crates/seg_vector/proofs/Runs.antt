@@ -1,16 +1,20 @@
 -- The head of a container, its three words and the block that they stand in, through the steps of a call.
 use Rattle.seg_vector.proofs.Words as W
 use W.{◌≡◌, ◌≢◌, refl, sym, ap, subst, ◌∙◌, inl, inr, ℕ, ◌+◌, ◌*◌, ◌<◌, ◌≤◌, Option, Some, None, List, ◌∷◌, length}
-use W.{arith, ◌⊎◌, ◌++◌, append-nil, IsTrue, nat_lt, option_to_list, AllByRecursion, and_parts, leb-true, Memory, Cut}
-use W.{SameBut, bytes_of, word_at, Same, SameBut-wider, SameBut-word, link_at, target_of, Storage, current, exchanged}
-use W.{without_all, IsExchanged, inserted, Extent, LiveSet, handle, holds, IsChanged, IsHeap, LaysOut, SameBlock}
-use W.{extent_at, has_room, live_of, Table, is_table, serves, same_role, table_link, found-room, in_use-alone}
+use W.{arith, ◌⊎◌, ◌++◌, append-nil, IsTrue, nat_lt, option_to_list, AllByRecursion, and_parts, leb-true, Memory}
+use W.{WindowState}
+use W.{SameBytesExcept, bytes_of, word_at, SameBytes, SameBytesExcept-wider, SameBytesExcept-word, link_at, target_of}
+use W.{Storage, current, exchanged}
+use W.{without_all, ExchangesBlocks, inserted, Extent, LiveSet, handle, holds, ChangesBytes, IsHeap, EncodesLiveSet}
+use W.{SameBlock}
+use W.{extent_at, has_room, live_of, BackingArray, has_backing, serves, same_role, table_link, found-room, in_use-alone}
 use W.{live-rises, written-keeps, word-same, laid-heap, roomy, changed-live, written-but, IsFound, IsNone, SameSpread}
 use W.{all-found-in, all-in-use, found-none, exchanged-live, found-without, IsRoomy, kept, kept-found, exchange-next}
-use W.{exchange-same, spread-refl, exchange-wide, exchange-written, kept-beside, Place, IsOwnBlock, Stands, place_at}
-use W.{IsStorage, SameBut-link, IsSwapped, AreOthers, [], rising-others, KeepsGaps, gaps-payload}
+use W.{exchange-same, spread-refl, exchange-wide, exchange-written, kept-beside, Place, IsStorageBlock, IsContainer}
+use W.{place_at}
+use W.{IsStorage, SameBytesExcept-link, IsSwapped, AreDistinct, [], rising-others, KeepsGaps, gaps-payload}
 
-abbrev pub table : ℕ → Option Extent → Table
+abbrev pub table : ℕ → Option Extent → BackingArray
 table c o = record { capacity = c; extent = o }
 
 pub none-some : {A B : Type 0} {o : Option A} {x : A} → o ≡ None → o ≡ Some x → B
@@ -22,25 +26,27 @@ same-some e = cc
 pub serves-full : (x : Extent) (n : ℕ) → IsTrue (serves x Storage n) → n + 16 ≤ x.len
 serves-full x n t = leb-true (n + 16) x.len (and_parts (same_role x.role Storage) (holds x n) t).1
 
-pub table-full : (each c : ℕ) (x : Extent) → IsTrue (is_table Storage each (table c (Some x))) → each * c + 16 ≤ x.len
+pub table-full : (each c : ℕ) (x : Extent) → IsTrue (has_backing Storage each (table c (Some x)))
+    → each * c + 16 ≤ x.len
 table-full each c x t = serves-full x (each * c) (and_parts (nat_lt 0 c) (serves x Storage (each * c)) t).1
 
 pub outside : (at len f n k : ℕ) → at ≤ f → f + n ≤ at + len → (k < at) ⊎ (at + len ≤ k) → (k < f) ⊎ (f + n ≤ k)
 outside at len f n k a b (inl h) = inl (omega arith)
 outside at len f n k a b (inr h) = inr (omega arith)
 
-pub changed-both : {a b c : Cut} {f n g k : ℕ} (at len : ℕ) → IsChanged current a b f n → IsChanged current b c g k
-    → at ≤ f → f + n ≤ at + len → at ≤ g → g + k ≤ at + len → IsChanged current a c at len
+pub changed-both : {a b c : WindowState} {f n g k : ℕ} (at len : ℕ) → ChangesBytes current a b f n
+    → ChangesBytes current b c g k
+    → at ≤ f → f + n ≤ at + len → at ≤ g → g + k ≤ at + len → ChangesBytes current a c at len
 changed-both {a} {b} {c} {f} {n} {g} {k} at len p q h1 h2 h3 h4 = record {
   place = record { before = q.place.before ∙ p.place.before; after = q.place.after ∙ p.place.after };
-  live = subst (LaysOut current c.bytes) (changed-live _ a b f n p) q.live;
+  live = subst (EncodesLiveSet current c.bytes) (changed-live _ a b f n p) q.live;
   rest = record { at = λ j w. q.rest.at j (outside at len g k j h3 h4 w) ∙ p.rest.at j (outside at len f n j h1 h2 w) };
 }
 
 -- no block is gone, and none came
-pub head-exchanged : {old new : Cut} (p : Place) → IsHeap current old.bytes
-    → IsTrue (has_room (live_of old.bytes) p.handle (p.at + 24)) → IsChanged current old new (place_at p) 24
-    → IsExchanged current old new (place_at p) 24 [] []
+pub head-exchanged : {old new : WindowState} (p : Place) → IsHeap current old.bytes
+    → IsTrue (has_room (live_of old.bytes) p.handle (p.at + 24)) → ChangesBytes current old new (place_at p) 24
+    → ExchangesBlocks current old new (place_at p) 24 [] []
 head-exchanged {old} {new} p heap room c =
     let l = live_of old.bytes in let at = place_at p in let q = roomy old p.handle (p.at + 24) heap room in
     let k = written-keeps old new q.extent _ at 24 (in_use-alone l p.handle q.extent heap.proper q.found) c.place
@@ -55,27 +61,27 @@ head-exchanged {old} {new} p heap room c =
     }
 
 -- no byte of a gap changes where the words of the head are written
-pub head-gaps : {a b : Cut} (p : Place) → IsTrue (has_room (live_of a.bytes) p.handle (p.at + 24))
-    → IsChanged current a b (place_at p) 24 → KeepsGaps a b
+pub head-gaps : {a b : WindowState} (p : Place) → IsTrue (has_room (live_of a.bytes) p.handle (p.at + 24))
+    → ChangesBytes current a b (place_at p) 24 → KeepsGaps a b
 head-gaps {a} {b} p room c = gaps-payload a b p.handle (p.at + 24) (place_at p) 24 c room (omega arith) (omega arith)
 
-pub record IsHead (c : Cut) (p : Place) : Type 0 where
+pub record IsHead (c : WindowState) (p : Place) : Type 0 where
   pub block : Extent
   pub found : extent_at (live_of c.bytes) p.handle ≡ Some block
   pub here : handle block ≡ p.handle
   pub big : p.at + 24 + 16 ≤ block.len
 
-pub room-head : (c : Cut) (p : Place) → IsHeap current c.bytes
+pub room-head : (c : WindowState) (p : Place) → IsHeap current c.bytes
     → IsTrue (has_room (live_of c.bytes) p.handle (p.at + 24)) → IsHead c p
 room-head c p heap t = let q : IsRoomy (live_of c.bytes) p.handle (p.at + 24) = roomy c p.handle (p.at + 24) heap t in
     record { block = q.extent; found = q.found; here = q.at; big = q.room }
 
-pub head-room : {c : Cut} {p : Place} → IsHead c p → IsTrue (has_room (live_of c.bytes) p.handle (p.at + 24))
+pub head-room : {c : WindowState} {p : Place} → IsHead c p → IsTrue (has_room (live_of c.bytes) p.handle (p.at + 24))
 head-room {c} {p} w = found-room (live_of c.bytes) p.handle (p.at + 24) _ w.found w.big
 
 -- it stays where other blocks are exchanged
-pub head-kept : {a b : Cut} {p : Place} {from n : ℕ} {gone come : List Extent} → IsHead a p
-    → IsExchanged current a b from n gone come → IsNone p.handle gone → IsHead b p
+pub head-kept : {a b : WindowState} {p : Place} {from n : ℕ} {gone come : List Extent} → IsHead a p
+    → ExchangesBlocks current a b from n gone come → IsNone p.handle gone → IsHead b p
 head-kept {a} {b} {p} {from} {n} {gone} {come} w x d = record {
   block = w.block;
   found = kept-found a b from n p.handle _ gone come _ x w.found d;
@@ -83,7 +89,8 @@ head-kept {a} {b} {p} {from} {n} {gone} {come} w x d = record {
   big = w.big;
 }
 
-pub head-changed : {a b : Cut} {p : Place} {from n : ℕ} → IsHead a p → IsChanged current a b from n → IsHead b p
+pub head-changed : {a b : WindowState} {p : Place} {from n : ℕ} → IsHead a p → ChangesBytes current a b from n
+    → IsHead b p
 head-changed {a} {b} {p} {from} {n} w c = record {
   block = w.block;
   found = ap (λ (l : LiveSet). extent_at l p.handle) (changed-live _ a b from n c) ∙ w.found;
@@ -92,12 +99,13 @@ head-changed {a} {b} {p} {from} {n} w c = record {
 }
 
 -- its three words
-pub record AreHeadWords (m : Memory) (at n : ℕ) (t : Table) : Type 0 where
+pub record AreHeadWords (m : Memory) (at n : ℕ) (t : BackingArray) : Type 0 where
   pub link : link_at m at ≡ table_link t
   pub len_word : word_at m (at + 8) ≡ n
   pub capacity : word_at m (at + 16) ≡ t.capacity
 
-pub words-same : {m m' : Memory} {from to at n : ℕ} {t : Table} → Same m m' from to → from ≤ at → at + 24 ≤ to
+pub words-same : {m m' : Memory} {from to at n : ℕ} {t : BackingArray} → SameBytes m m' from to → from ≤ at
+    → at + 24 ≤ to
     → AreHeadWords m at n t → AreHeadWords m' at n t
 words-same {m} {m'} {from} {to} {at} s f g w = record {
   link = ap (target_of at) (word-same m m' from to at s f (omega arith)) ∙ w.link;
@@ -105,7 +113,8 @@ words-same {m} {m'} {from} {to} {at} s f g w = record {
   capacity = word-same m m' from to (at + 16) s (omega arith) (omega arith) ∙ w.capacity;
 }
 
-pub words-kept : {a b : Cut} {p : Place} {n : ℕ} {t : Table} {gone come : List Extent} → IsHeap current a.bytes
+pub words-kept : {a b : WindowState} {p : Place} {n : ℕ} {t : BackingArray} {gone come : List Extent}
+    → IsHeap current a.bytes
     → IsHead a p → IsSwapped a b gone come → IsNone p.handle gone
     → AreHeadWords (bytes_of a.bytes) (place_at p) n t → AreHeadWords (bytes_of b.bytes) (place_at p) n t
 words-kept {a} {b} {p} {gone} {come} heap w x d h =
@@ -113,40 +122,43 @@ words-kept {a} {b} {p} {gone} {come} heap w x d h =
     words-same s.payload (omega (arith, w.here)) (omega (arith, w.here, w.big)) h
 
 -- another length is written
-pub len-written : {m m' : Memory} {at n q : ℕ} (k : ℕ) {t : Table} → q ≡ at + 8 → SameBut m m' q 8 → word_at m' q ≡ k
+pub len-written : {m m' : Memory} {at n q : ℕ} (k : ℕ) {t : BackingArray} → q ≡ at + 8 → SameBytesExcept m m' q 8
+    → word_at m' q ≡ k
     → AreHeadWords m at n t → AreHeadWords m' at k t
 len-written {m} {m'} {at} {q} k e s word w = record {
-  link = SameBut-link m m' q 8 at s (inl (omega (arith, e))) ∙ w.link;
+  link = SameBytesExcept-link m m' q 8 at s (inl (omega (arith, e))) ∙ w.link;
   len_word = ap (word_at m') (sym e) ∙ word;
-  capacity = SameBut-word m m' q 8 (at + 16) s (inr (omega (arith, e))) ∙ w.capacity;
+  capacity = SameBytesExcept-word m m' q 8 (at + 16) s (inr (omega (arith, e))) ∙ w.capacity;
 }
 
 -- n bytes of the three words
-pub head-wider : {a b : Cut} (p : Place) {from n : ℕ} → IsChanged current a b from n → place_at p ≤ from
-    → from + n ≤ place_at p + 24 → IsChanged current a b (place_at p) 24
+pub head-wider : {a b : WindowState} (p : Place) {from n : ℕ} → ChangesBytes current a b from n → place_at p ≤ from
+    → from + n ≤ place_at p + 24 → ChangesBytes current a b (place_at p) 24
 head-wider {a} {b} p {from} {n} c f g = record {
   place = c.place;
   live = c.live;
-  rest = SameBut-wider (bytes_of a.bytes) (bytes_of b.bytes) from n (place_at p) 24 c.rest f g;
+  rest = SameBytesExcept-wider (bytes_of a.bytes) (bytes_of b.bytes) from n (place_at p) 24 c.rest f g;
 }
 
 -- a block stays where the head's words are written
-pub beside-head : {a b : Cut} {p : Place} (h : ℕ) {x : Extent} → IsHeap current a.bytes → IsHead a p
-    → IsChanged current a b (place_at p) 24 → extent_at (live_of a.bytes) h ≡ Some x → p.handle ≢ h
+pub beside-head : {a b : WindowState} {p : Place} (h : ℕ) {x : Extent} → IsHeap current a.bytes → IsHead a p
+    → ChangesBytes current a b (place_at p) 24 → extent_at (live_of a.bytes) h ≡ Some x → p.handle ≢ h
     → SameBlock (bytes_of a.bytes) (bytes_of b.bytes) x
 beside-head {a} {b} {p} h {x} heap w c found other = kept-beside a b _ 24 p.handle h _ x [] [] _ heap (head-exchanged p
     heap (head-room w) c) w.found (omega (arith, w.here)) (omega (arith, w.here, w.big)) other found tt
 
 -- Some blocks are gone so far and others came, and the head has these words.
-pub record IsRun (old now : Cut) (p : Place) (gone come : List Extent) (n : ℕ) (t : Table) : Type 0 where
-  pub change : IsExchanged current old now (place_at p) 24 gone come
+pub record IsRun (old now : WindowState) (p : Place) (gone come : List Extent) (n : ℕ) (t : BackingArray) : Type 0 where
+  pub change : ExchangesBlocks current old now (place_at p) 24 gone come
   pub heap : IsHeap current now.bytes
   pub head : IsHead now p
   pub words : AreHeadWords (bytes_of now.bytes) (place_at p) n t
 
 -- blocks are exchanged, not the head's
-pub run-swapped : {old a b : Cut} {p : Place} {gone come again : List Extent} (left : List Extent) {more : List Extent}
-    {n : ℕ} {t : Table} → SameSpread come (again ++ left) → IsRun old a p gone come n t → IsSwapped a b again more
+pub run-swapped : {old a b : WindowState} {p : Place} {gone come again : List Extent} (left : List Extent)
+    {more : List Extent}
+    {n : ℕ} {t : BackingArray} → SameSpread come (again ++ left) → IsRun old a p gone come n t
+    → IsSwapped a b again more
     → IsNone p.handle again → IsRun old b p gone (more ++ left) n t
 run-swapped {old} {a} {b} {p} {gone} {come} left {more} spread r x none = record {
   change = exchange-next _ old a b _ 24 gone come _ left more spread r.change
@@ -157,8 +169,8 @@ run-swapped {old} {a} {b} {p} {gone} {come} left {more} spread r x none = record
 }
 
 -- the words of the head are written
-pub run-headed : {old a b : Cut} {p : Place} {gone come : List Extent} {n k : ℕ} {t u : Table}
-    → IsRun old a p gone come n t → IsChanged current a b (place_at p) 24
+pub run-headed : {old a b : WindowState} {p : Place} {gone come : List Extent} {n k : ℕ} {t u : BackingArray}
+    → IsRun old a p gone come n t → ChangesBytes current a b (place_at p) 24
     → AreHeadWords (bytes_of b.bytes) (place_at p) k u → IsRun old b p gone come k u
 run-headed {old} {a} {b} {p} {gone} {come} r c w = record {
   change = exchange-next _ old a b _ 24 gone come [] come [] (record { same = λ zs r. refl }) r.change
@@ -175,7 +187,8 @@ all-as P Q f [] a = tt
 all-as P Q f (x ∷ xs) a = (f x a.0, all-as P Q f xs a.1)
 
 -- the blocks that came are in use
-pub came-found : {a b : Cut} {from n : ℕ} {gone come : List Extent} → IsExchanged current a b from n gone come
+pub came-found : {a b : WindowState} {from n : ℕ} {gone come : List Extent}
+    → ExchangesBlocks current a b from n gone come
     → AllByRecursion (IsFound (live_of b.bytes).extents) come
 came-found {a} {b} {from} {n} {gone} {come} x =
     let l = live_of a.bytes in let rest = without_all gone l.extents in
@@ -185,20 +198,22 @@ came-found {a} {b} {from} {n} {gone} {come} x =
     (all-found-in come rest (live-rises (exchanged l gone come) x.live.proper))
 
 -- no two of them are one
-pub came-others : {a b : Cut} {from n : ℕ} {gone come : List Extent} → IsExchanged current a b from n gone come
-    → AreOthers come
+pub came-others : {a b : WindowState} {from n : ℕ} {gone come : List Extent}
+    → ExchangesBlocks current a b from n gone come
+    → AreDistinct come
 came-others {a} {gone = gone} {come} x = rising-others come (without_all gone (live_of a.bytes).extents)
     (live-rises (exchanged (live_of a.bytes) gone come) x.live.proper)
 
 -- those that are not gone stay, and are in use still
-pub all-kept : {a b : Cut} {gone come : List Extent} (xs : List Extent) → IsHeap current a.bytes → IsSwapped a b gone
+pub all-kept : {a b : WindowState} {gone come : List Extent} (xs : List Extent) → IsHeap current a.bytes
+    → IsSwapped a b gone
     come → AllByRecursion (IsFound (live_of a.bytes).extents) xs → AllByRecursion (λ (y : Extent). IsNone (handle y)
     gone) xs → AllByRecursion (SameBlock (bytes_of a.bytes) (bytes_of b.bytes)) xs
 all-kept [] heap x f n = tt
 all-kept {a} {b} {gone} {come} (y ∷ ys) heap x f n =
     (kept a b (handle y) y gone come _ heap x f.0 n.0, all-kept ys heap x f.1 n.1)
 
-pub all-found-kept : {a b : Cut} {gone come : List Extent} (xs : List Extent) → IsSwapped a b gone come
+pub all-found-kept : {a b : WindowState} {gone come : List Extent} (xs : List Extent) → IsSwapped a b gone come
     → AllByRecursion (IsFound (live_of a.bytes).extents) xs → AllByRecursion (λ (y : Extent). IsNone (handle y) gone)
     xs → AllByRecursion (IsFound (live_of b.bytes).extents) xs
 all-found-kept [] x f n = tt
@@ -209,12 +224,13 @@ pub none-of-none : (xs : List Extent) → AllByRecursion (λ (w : Extent). IsNon
 none-of-none [] = tt
 none-of-none (x ∷ xs) = (tt, none-of-none xs)
 
-pub run-found : {old now : Cut} {p : Place} {gone come : List Extent} {n : ℕ} {t : Table}
+pub run-found : {old now : WindowState} {p : Place} {gone come : List Extent} {n : ℕ} {t : BackingArray}
     → IsRun old now p gone come n t → AllByRecursion (IsFound (live_of now.bytes).extents) come
 run-found r = came-found r.change
 
 -- none of the blocks that came is the head's
-pub run-none : {first now : Cut} {p : Place} {gone come : List Extent} {n : ℕ} {t : Table} → IsHead first p
+pub run-none : {first now : WindowState} {p : Place} {gone come : List Extent} {n : ℕ} {t : BackingArray}
+    → IsHead first p
     → IsNone p.handle gone → IsRun first now p gone come n t → IsNone p.handle come
 run-none {first} {p} {gone} {come} w d r =
     let l = live_of first.bytes in
@@ -222,8 +238,8 @@ run-none {first} {p} {gone} {come} w d r =
     (found-without p.handle _ gone l.extents d w.found)
 
 -- bytes written in a block
-pub block-written : {a b : Cut} {x : Extent} {from n : ℕ} (k : ℕ) → IsHeap current a.bytes
-    → extent_at (live_of a.bytes) (handle x) ≡ Some x → IsChanged current a b from n → handle x ≤ from
+pub block-written : {a b : WindowState} {x : Extent} {from n : ℕ} (k : ℕ) → IsHeap current a.bytes
+    → extent_at (live_of a.bytes) (handle x) ≡ Some x → ChangesBytes current a b from n → handle x ≤ from
     → from + n ≤ handle x + k → k + 16 ≤ x.len → IsSwapped a b (x ∷ []) (x ∷ [])
 block-written {a} {b} {x} {from} {n} k heap found c low high fits =
     let l = live_of a.bytes in let i = all-in-use (x ∷ []) l.extents (live-rises l heap.proper) (tt, tt) (found, tt) in
@@ -232,17 +248,19 @@ block-written {a} {b} {x} {from} {n} k heap found c low high fits =
 
 -- ---- the run of a call on a container
 
-pub own-facts : (l : LiveSet) (h : ℕ) (o : Option Extent) → IsOwnBlock l h o
-    → AreOthers (option_to_list o) × AllByRecursion (IsFound l.extents) (option_to_list o) × IsNone h (option_to_list o)
+pub own-facts : (l : LiveSet) (h : ℕ) (o : Option Extent) → IsStorageBlock l h o
+    → AreDistinct (option_to_list o) × AllByRecursion (IsFound l.extents) (option_to_list o)
+    × IsNone h (option_to_list o)
 own-facts l h None own = (tt, tt, tt)
 own-facts l h (Some x) own = ((tt, tt), (own.0, tt), ((λ e. own.1 (sym e)), tt))
 
 pub facts-own : (l : LiveSet) (h : ℕ) (o : Option Extent) → AllByRecursion (IsFound l.extents) (option_to_list o)
-    → IsNone h (option_to_list o) → IsOwnBlock l h o
+    → IsNone h (option_to_list o) → IsStorageBlock l h o
 facts-own l h None f n = tt
 facts-own l h (Some x) f n = (f.0, λ e. n.0 (sym e))
 
-pub stands-run : (c : Cut) {p : Place} {each len : ℕ} {t : Table} {bytes : List ℕ} → Stands c.bytes p each len t bytes
+pub stands-run : (c : WindowState) {p : Place} {each len : ℕ} {t : BackingArray} {bytes : List ℕ}
+    → IsContainer c.bytes p each len t bytes
     → IsRun c c p (option_to_list t.extent) (option_to_list t.extent) len t
 stands-run c {p} {t} s =
     let l = live_of c.bytes in let own = option_to_list t.extent in let facts = own-facts l p.handle t.extent s.own in
@@ -255,16 +273,19 @@ stands-run c {p} {t} s =
     }
 
 -- none of the blocks that came since is the one in which the container stands
-pub stands-none-of : {old now : Cut} {p : Place} {each len k : ℕ} {t u : Table} {bytes : List ℕ} {come : List Extent}
-    → Stands old.bytes p each len t bytes → IsRun old now p (option_to_list t.extent) come k u → IsNone p.handle come
+pub stands-none-of : {old now : WindowState} {p : Place} {each len k : ℕ} {t u : BackingArray} {bytes : List ℕ}
+    {come : List Extent}
+    → IsContainer old.bytes p each len t bytes → IsRun old now p (option_to_list t.extent) come k u
+    → IsNone p.handle come
 stands-none-of {old} {p} {t} s r = run-none (room-head old p s.heap s.room)
     (own-facts (live_of old.bytes) p.handle t.extent s.own).2 r
 
 -- what it comes to
-pub run-stands : {old now : Cut} {p : Place} {each k len : ℕ} {t u : Table} {was : List ℕ} (bytes : List ℕ)
-    → Stands old.bytes p each k t was → IsRun old now p (option_to_list t.extent) (option_to_list u.extent) len u
-    → IsTrue (is_table Storage each u) → len ≤ u.capacity → length bytes ≡ each * len
-    → IsStorage (bytes_of now.bytes) u bytes → Stands now.bytes p each len u bytes
+pub run-stands : {old now : WindowState} {p : Place} {each k len : ℕ} {t u : BackingArray} {was : List ℕ}
+    (bytes : List ℕ)
+    → IsContainer old.bytes p each k t was → IsRun old now p (option_to_list t.extent) (option_to_list u.extent) len u
+    → IsTrue (has_backing Storage each u) → len ≤ u.capacity → length bytes ≡ each * len
+    → IsStorage (bytes_of now.bytes) u bytes → IsContainer now.bytes p each len u bytes
 run-stands {now} {p} {u} bytes s r table fits long storage = record {
   heap = r.heap;
   words = record { link = r.words.link; len_word = r.words.len_word; capacity = r.words.capacity; storage = storage };

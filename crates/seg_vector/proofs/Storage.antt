@@ -1,18 +1,27 @@
 -- The storage of a container that stands at a place: regrown, written in, and read.
-use W.{◌≡◌, list_any, read-same, laid-heap, room-less, IfSome_is, IsStorage, IsSwapped, gaps-refl, gaps-then, IsPointed}
-use W.{refl, payload_at, table_link, found-room, live-sound, room_block, in_use-all, legal_size, IsOwnBlock, hole-order}
-use W.{sym, ◌∙◌, Bool, true, Some, None, List, arith, ◌==◌, ◌++◌, take, drop, ◌&&◌, read, holds, place, Table, Place}
-use W.{ap, eqb-true, and_from, leb-true, ltb-true, or_cases, or_right, bytes_of, block_of, is_block, has_room, is_table}
-use W.{subst, if◌then◌else◌, length-append, all_of-insert, regrow-serves, block_payload, IsWithoutSpace, exchanged-live}
-use W.{inl, inr, ◌+◌, ◌*◌, ◌%◌, ◌<◌, ◌≤◌, ◌∷◌, ◌⊎◌, max, ◌-◌, Cut, Has, []}
+use W.{◌≡◌, list_any, read-same, laid-heap, room-less, IfSome_is, IsStorage, IsSwapped, gaps-refl, gaps-then}
+use W.{SetsStorage}
+use W.{refl, payload_at, table_link, found-room, live-sound, room_block, in_use-all, legal_size, IsStorageBlock}
+use W.{hole-order}
+use W.{sym, ◌∙◌, Bool, true, Some, None, List, arith, ◌==◌, ◌++◌, take, drop, ◌&&◌, read, holds, place, BackingArray}
+use W.{Place}
+use W.{ap, eqb-true, and_from, leb-true, ltb-true, or_cases, or_right, bytes_of, block_of, is_block, has_room}
+use W.{has_backing}
+use W.{subst, if◌then◌else◌, length-append, all_of-insert, regrow-serves, block_payload, LacksSpace, exchanged-live}
+use W.{inl, inr, ◌+◌, ◌*◌, ◌%◌, ◌<◌, ◌≤◌, ◌∷◌, ◌⊎◌, max, ◌-◌, WindowState, HasBytesAt, []}
 use W.{ℕ, length-take, length-drop, CarriesOver, changed-live, exchange-next, is_legal_size, changed-room, gaps-payload}
-use W.{false, le-leb, lt-leb, lt-ltb, eq-eqb, Memory, Extent, handle, end_of, others, longer, IsHeap, serves, Stands}
-use W.{Option, length, IsTrue, IfSome, nat_lt, nat_le, resized, LaysOut, live_of, IsSound, IsGrown, Refusal, NoSpace}
-use W.{append-nil, option_map, IsGivenRoom, without_all, IsExchanged, proper_from, is_live_in, spread-refl, IsRewritten}
-use W.{option_to_list, AllByRecursion, IsNotGivenRoom, all-same-but, all_keep_proper, capacity_for_one, nil_from_length}
-use W.{KeepsGaps, gaps-trans, and_parts, take-take, read-part, exchanged, IsRegrown, IsChanged, extent_at, same_role}
+use W.{false, le-leb, lt-leb, lt-ltb, eq-eqb, Memory, Extent, handle, end_of, others, longer, IsHeap, serves}
+use W.{IsContainer}
+use W.{Option, length, IsTrue, IfSome, nat_lt, nat_le, resized, EncodesLiveSet, live_of, IsSound, ReservesStorageOk}
+use W.{Refusal, NoSpace}
+use W.{append-nil, option_map, RegrowsOk, without_all, ExchangesBlocks, proper_from, is_live_in, spread-refl}
+use W.{RewritesElements}
+use W.{option_to_list, AllByRecursion, RegrowsNoSpace, all-same-but, all_keep_proper, capacity_for_one, nil_from_length}
+use W.{KeepsGaps, gaps-trans, and_parts, take-take, read-part, exchanged, ReplacesBlocks, ChangesBytes, extent_at}
+use W.{same_role}
 use W.{all-in-use, live-rises}
-use W.{◌≢◌, IsFound, Rising, found-none, found-without, or_left, SameBut, word_at, patched, link_at, Storage, current}
+use W.{◌≢◌, IsFound, Rising, found-none, found-without, or_left, SameBytesExcept, word_at, patched, link_at, Storage}
+use W.{current}
 use W.{LiveSet, is_hole, too_long, place_at, take-nil}
 use Rattle.seg_vector.proofs.Runs.{IsRun, beside-head, block-written, head-room, head-wider, len-written, head-gaps}
 use Rattle.seg_vector.proofs.Runs.{came-found, none-some, own-facts, room-head, run-found, run-headed, run-stands}
@@ -27,8 +36,8 @@ use Rattle.seg_vector.proofs.Words as W
 -- ---- what stands
 
 -- the storage of a table holds its elements
-storage-room : (l : LiveSet) (h each len c : ℕ) (o : Option Extent) → IsTrue (is_table Storage each (table c o))
-    → len ≤ c → IsOwnBlock l h o → IfSome (option_map handle o) (λ g. IsTrue (has_room l g (each * len)))
+storage-room : (l : LiveSet) (h each len c : ℕ) (o : Option Extent) → IsTrue (has_backing Storage each (table c o))
+    → len ≤ c → IsStorageBlock l h o → IfSome (option_map handle o) (λ g. IsTrue (has_room l g (each * len)))
 storage-room l h each len c None t f own = tt
 storage-room l h each len c (Some x) t f own =
     let both = and_parts (nat_lt 0 c) (serves x Storage (each * c)) t in
@@ -36,35 +45,38 @@ storage-room l h each len c (Some x) t f own =
     let big = leb-true (each * c + 16) x.len two.1 in let less = more-times each len c f in
     found-room l (handle x) (each * len) x own.0 (omega (arith, big, less))
 
-pub stands-room : {b : List ℕ} {p : Place} {each len : ℕ} {t : Table} {bytes : List ℕ} → Stands b p each len t bytes
+pub stands-room : {b : List ℕ} {p : Place} {each len : ℕ} {t : BackingArray} {bytes : List ℕ}
+    → IsContainer b p each len t bytes
     → IfSome (table_link t) (λ g. IsTrue (has_room (live_of b) g (each * len)))
 stands-room {b} {p} {each} {len} {t} s = storage-room (live_of b) p.handle each len t.capacity t.extent s.table s.fits
     s.own
 
 -- its link leads to its block
-own-block : (l : LiveSet) (h : ℕ) (o : Option Extent) → IsOwnBlock l h o → block_of l (option_map handle o) ≡ o
+own-block : (l : LiveSet) (h : ℕ) (o : Option Extent) → IsStorageBlock l h o → block_of l (option_map handle o) ≡ o
 own-block l h None own = refl
 own-block l h (Some x) own = own.0
 
-pub stands-block : {b : List ℕ} {p : Place} {each len : ℕ} {t : Table} {bytes : List ℕ} → Stands b p each len t bytes
+pub stands-block : {b : List ℕ} {p : Place} {each len : ℕ} {t : BackingArray} {bytes : List ℕ}
+    → IsContainer b p each len t bytes
     → block_of (live_of b) (table_link t) ≡ t.extent
 stands-block {b} {p} {t} s = own-block (live_of b) p.handle t.extent s.own
 
 -- ---- the table
 
-pub grown-same : (l : LiveSet) (each n : ℕ) (t : Table) → n ≤ t.capacity → grown_backing l each n t ≡ Some t
+pub grown-same : (l : LiveSet) (each n : ℕ) (t : BackingArray) → n ≤ t.capacity → grown_backing l each n t ≡ Some t
 unfolding grown_backing
 grown-same l each n t f = ap (λ b. if b then Some t else option_map (λ x. table n (Some x)) (regrow l t.extent
     (each * n))) (le-leb n t.capacity f)
 
-pub grown-more : (l : LiveSet) (each n : ℕ) (t : Table) → t.capacity < n
+pub grown-more : (l : LiveSet) (each n : ℕ) (t : BackingArray) → t.capacity < n
     → grown_backing l each n t ≡ option_map (λ x. table n (Some x)) (regrow l t.extent (each * n))
 unfolding grown_backing
 grown-more l each n t f = ap (λ b. if b then Some t else option_map (λ x. table n (Some x)) (regrow l t.extent
     (each * n))) (lt-leb n t.capacity f)
 
-pub grows-not : (c : Cut) {p : Place} {each : ℕ} (n : ℕ) {len : ℕ} {t : Table} {bytes : List ℕ} → n ≤ t.capacity
-    → Stands c.bytes p each len t bytes → IsGrown c c p each n len t bytes
+pub grows-not : (c : WindowState) {p : Place} {each : ℕ} (n : ℕ) {len : ℕ} {t : BackingArray} {bytes : List ℕ}
+    → n ≤ t.capacity
+    → IsContainer c.bytes p each len t bytes → ReservesStorageOk c c p each n len t bytes
 grows-not c {each} n {t} f s = record {
   table = t;
   grown = grown-same (live_of c.bytes) each n t f;
@@ -75,8 +87,8 @@ grows-not c {each} n {t} f s = record {
 }
 
 -- there is no space
-pub grows-nothing : {old new : Cut} (each n : ℕ) (t : Table) → t.capacity < n
-    → IsNotGivenRoom old new t.extent (each * n) → IsWithoutSpace old new each n t NoSpace
+pub grows-nothing : {old new : WindowState} (each n : ℕ) (t : BackingArray) → t.capacity < n
+    → RegrowsNoSpace old new t.extent (each * n) → LacksSpace old new each n t NoSpace
 grows-nothing {old} each n t f p = record {
   refusal = refl;
   none = grown-more (live_of old.bytes) each n t f ∙ ap (option_map (λ x. table n (Some x))) p.none;
@@ -84,14 +96,14 @@ grows-nothing {old} each n t f p = record {
 }
 
 -- where there are so many places there is no such refusal
-pub not-refused : {old new : Cut} {each n : ℕ} {t : Table} {e : Refusal} → n ≤ t.capacity
-    → IsWithoutSpace old new each n t e → ⊥
+pub not-refused : {old new : WindowState} {each n : ℕ} {t : BackingArray} {e : Refusal} → n ≤ t.capacity
+    → LacksSpace old new each n t e → ⊥
 not-refused {old} {each} {n} {t} f r = let none = sym (grown-same (live_of old.bytes) each n t f) ∙ r.none in cc
 
 -- ---- the block of the container, once the storage is regrown
 
 -- a block that came begins at a multiple of 16
-pub come-aligned : {old mid : Cut} {o : Option Extent} {n used g : ℕ} → IsGivenRoom current old mid o n used g
+pub come-aligned : {old mid : WindowState} {o : Option Extent} {n used g : ℕ} → RegrowsOk current old mid o n used g
     → g % 16 ≡ 0
 come-aligned {old} {o} {g} r =
     let rest = without_all (option_to_list o) (live_of old.bytes).extents in
@@ -102,23 +114,23 @@ come-aligned {old} {o} {g} r =
 -- ---- the bytes of the elements
 
 carried-storage : (m m' : Memory) (each len c : ℕ) (o : Option Extent) (y : Extent) (bytes : List ℕ)
-    → IsTrue (is_table Storage each (table c o)) → len ≤ c → length bytes ≡ each * len
-    → IsStorage m (table c o) bytes → CarriesOver m m' o y (each * len) → Has m' (handle y) bytes
+    → IsTrue (has_backing Storage each (table c o)) → len ≤ c → length bytes ≡ each * len
+    → IsStorage m (table c o) bytes → CarriesOver m m' o y (each * len) → HasBytesAt m' (handle y) bytes
 carried-storage m m' each len c None y bytes t f e h k =
     let none = eqb-true c 0 t in let short : len ≡ 0 = omega (arith, f, none) in
     let a : each * len ≡ each * 0 = ap (λ n. each * n) short in let b : each * 0 ≡ 0 = omega arith in
     let empty = nil_from_length bytes (e ∙ a ∙ b) in
-    subst (λ (bs : List ℕ). Has m' (handle y) bs) (sym empty) refl
+    subst (λ (bs : List ℕ). HasBytesAt m' (handle y) bs) (sym empty) refl
 carried-storage m m' each len c (Some x) y bytes t f e h k = ap (read m' (handle y)) e ∙ k ∙ ap (read m (handle x))
     (sym e) ∙ h
 
-pub storage-role : (each c : ℕ) (o : Option Extent) → IsTrue (is_table Storage each (table c o))
+pub storage-role : (each c : ℕ) (o : Option Extent) → IsTrue (has_backing Storage each (table c o))
     → IfSome o (λ x. IsTrue (same_role x.role Storage))
 storage-role each c None t = tt
 storage-role each c (Some x) t = (and_parts (same_role x.role Storage) (holds x (each * c))
     (and_parts (nat_lt 0 c) (serves x Storage (each * c)) t).1).0
 
-regrown-swapped : {old mid : Cut} {gone : List Extent} {y : Extent} → IsRegrown current old mid gone y
+regrown-swapped : {old mid : WindowState} {gone : List Extent} {y : Extent} → ReplacesBlocks current old mid gone y
     → IsSwapped old mid gone (y ∷ [])
 regrown-swapped {old} {mid} {gone} r = record {
   live = r.live;
@@ -129,16 +141,17 @@ regrown-swapped {old} {mid} {gone} r = record {
       r.keeps.blocks;
 }
 
-pub grown-run : {old mid : Cut} {p : Place} {each len n k g : ℕ} {t : Table} {bytes : List ℕ}
-    → Stands old.bytes p each len t bytes → (r : IsGivenRoom current old mid t.extent n k g)
+pub grown-run : {old mid : WindowState} {p : Place} {each len n k g : ℕ} {t : BackingArray} {bytes : List ℕ}
+    → IsContainer old.bytes p each len t bytes → (r : RegrowsOk current old mid t.extent n k g)
     → IsRun old mid p (option_to_list t.extent) (r.extent ∷ []) len t
 grown-run {old} {t} s r =
     let begun = stands-run old s in
     run-swapped [] (spread-nil (option_to_list t.extent)) begun (regrown-swapped r.change) (stands-none-of s begun)
 
-pub grows-more : {old mid new : Cut} {p : Place} {each : ℕ} (n : ℕ) {len g : ℕ} {t : Table} {bytes : List ℕ}
-    → t.capacity < n → Stands old.bytes p each len t bytes → IsGivenRoom current old mid t.extent (each * n)
-    (each * len) g → IsPointed mid new p g n → IsGrown old new p each n len t bytes
+pub grows-more : {old mid new : WindowState} {p : Place} {each : ℕ} (n : ℕ) {len g : ℕ} {t : BackingArray}
+    {bytes : List ℕ}
+    → t.capacity < n → IsContainer old.bytes p each len t bytes → RegrowsOk current old mid t.extent (each * n)
+    (each * len) g → SetsStorage mid new p g n → ReservesStorageOk old new p each n len t bytes
 grows-more {old} {mid} {new} {p} {each} n {len} {t = t} {bytes} more s r w =
     let l = live_of old.bytes in let y = r.extent in let run = grown-run s r in
     let done = run-headed {k = len} {u = table n (Some y)} run w.change (record {
@@ -158,7 +171,7 @@ grows-more {old} {mid} {new} {p} {each} n {len} {t = t} {bytes} more s r w =
       grown = grown-more l each n t more ∙ ap (option_map (λ x. table n (Some x))) r.regrown;
       change = done.change;
       gaps = λ same. head-gaps p s.room
-          (subst (λ (c : Cut). IsChanged current c new (place_at p) 24) (r.same same) w.change);
+          (subst (λ (c : WindowState). ChangesBytes current c new (place_at p) 24) (r.same same) w.change);
       stands = run-stands bytes s done full (omega (arith, s.fits, more)) s.long (read-same _ _ _ _ (handle y)
           (length bytes) stays.payload (omega arith) (omega (arith, long, less, total)) ∙ stored);
       enough = λ less. absurd (omega (arith, less, more));
@@ -167,7 +180,8 @@ grows-more {old} {mid} {new} {p} {each} n {len} {t = t} {bytes} more s r w =
 -- ---- what the calls of the heap say of the container
 
 -- a block has fewer bytes than a segment
-pub room-small : (c : Cut) (h n : ℕ) → IsHeap current c.bytes → IsTrue (has_room (live_of c.bytes) h n) → n < 1073741824
+pub room-small : (c : WindowState) (h n : ℕ) → IsHeap current c.bytes → IsTrue (has_room (live_of c.bytes) h n)
+    → n < 1073741824
 room-small c h n heap t =
     let r = room_block c h n heap t in
     let b = r.block in let enough = r.enough in let ends = b.inside in let size = b.size in omega arith
@@ -176,7 +190,8 @@ pub place-small : {b : List ℕ} (p : Place) → IsHeap current b → IsTrue (ha
     → p.at + 24 < 1073741824
 place-small {b} p heap room = room-small (record { before = []; bytes = b; after = [] }) p.handle (p.at + 24) heap room
 
-pub stands-small : {b : List ℕ} {p : Place} {each len : ℕ} {t : Table} {bytes : List ℕ} → Stands b p each len t bytes
+pub stands-small : {b : List ℕ} {p : Place} {each len : ℕ} {t : BackingArray} {bytes : List ℕ}
+    → IsContainer b p each len t bytes
     → p.at + 24 < 1073741824
 stands-small {p = p} s = place-small p s.heap s.room
 
@@ -186,7 +201,7 @@ pub len-room : (b : List ℕ) (p : Place) → IsTrue (has_room (live_of b) p.han
 len-room b p room = room-less (live_of b) p.handle (p.at + 24) (p.at + 8 + 8) (omega arith) room
 
 -- where bytes are written, there is a heap still
-pub kept-heap : {old new : Cut} {from n : ℕ} → IsChanged current old new from n → IsHeap current new.bytes
+pub kept-heap : {old new : WindowState} {from n : ℕ} → ChangesBytes current old new from n → IsHeap current new.bytes
 kept-heap c = laid-heap _ _ c.live
 
 -- what shows that a word has room, and that a sum within a block fits
@@ -194,36 +209,39 @@ pub ruleset rooms = (room-less, changed-room)
 
 pub ruleset sizes = (room-small, place-small, stands-small, kept-heap, rooms)
 
-pub storage-read : {b : List ℕ} {p : Place} {each len : ℕ} (k : ℕ) {t : Table} {bytes : List ℕ} (storage : Option ℕ)
-    → Stands b p each len t bytes → storage ≡ link_at (bytes_of b) (p.handle + p.at)
+pub storage-read : {b : List ℕ} {p : Place} {each len : ℕ} (k : ℕ) {t : BackingArray} {bytes : List ℕ}
+    (storage : Option ℕ)
+    → IsContainer b p each len t bytes → storage ≡ link_at (bytes_of b) (p.handle + p.at)
     → k ≡ word_at (bytes_of b) (place_at p + 8) → IfSome storage (λ g. IsTrue (has_room (live_of b) g (each * k)))
 storage-read {b} {each} k {t} storage s e f = subst (λ o. IfSome o (λ g. IsTrue (has_room (live_of b) g (each * k))))
     (sym (e ∙ s.words.link)) (subst (λ k. IfSome (table_link t) (λ g. IsTrue (has_room (live_of b) g (each * k))))
     (sym (f ∙ s.words.len_word)) (stands-room s))
 
-pub given-of : {old mid : Cut} {p : Place} {each : ℕ} (n : ℕ) {len : ℕ} (k : ℕ) {g : ℕ} {t : Table} {bytes : List ℕ}
-    (storage : Option ℕ) → Stands old.bytes p each len t bytes
+pub given-of : {old mid : WindowState} {p : Place} {each : ℕ} (n : ℕ) {len : ℕ} (k : ℕ) {g : ℕ} {t : BackingArray}
+    {bytes : List ℕ}
+    (storage : Option ℕ) → IsContainer old.bytes p each len t bytes
     → storage ≡ link_at (bytes_of old.bytes) (p.handle + p.at) → k ≡ word_at (bytes_of old.bytes) (place_at p + 8)
-    → IsGivenRoom current old mid (block_of (live_of old.bytes) storage) (each * n) (each * k) g
-    → IsGivenRoom current old mid t.extent (each * n) (each * len) g
-given-of {old} {mid} {each} n {len} k {g} storage s e f r = subst (λ o. IsGivenRoom current old mid o (each * n)
+    → RegrowsOk current old mid (block_of (live_of old.bytes) storage) (each * n) (each * k) g
+    → RegrowsOk current old mid t.extent (each * n) (each * len) g
+given-of {old} {mid} {each} n {len} k {g} storage s e f r = subst (λ o. RegrowsOk current old mid o (each * n)
     (each * len) g) (ap (block_of (live_of old.bytes)) (e ∙ s.words.link) ∙ stands-block s)
-    (subst (λ k. IsGivenRoom current old mid (block_of (live_of old.bytes) storage) (each * n) (each * k) g) (f
+    (subst (λ k. RegrowsOk current old mid (block_of (live_of old.bytes) storage) (each * n) (each * k) g) (f
     ∙ s.words.len_word) r)
 
-pub not_given-of : {old mid : Cut} {p : Place} {each : ℕ} (n : ℕ) {len : ℕ} {t : Table} {bytes : List ℕ}
-    (storage : Option ℕ) → Stands old.bytes p each len t bytes → storage ≡ link_at (bytes_of old.bytes)
-    (p.handle + p.at) → IsNotGivenRoom old mid (block_of (live_of old.bytes) storage) (each * n)
-    → IsNotGivenRoom old mid t.extent (each * n)
-not_given-of {old} {mid} {each} n storage s e r = subst (λ o. IsNotGivenRoom old mid o (each * n))
+pub not_given-of : {old mid : WindowState} {p : Place} {each : ℕ} (n : ℕ) {len : ℕ} {t : BackingArray} {bytes : List ℕ}
+    (storage : Option ℕ) → IsContainer old.bytes p each len t bytes → storage ≡ link_at (bytes_of old.bytes)
+    (p.handle + p.at) → RegrowsNoSpace old mid (block_of (live_of old.bytes) storage) (each * n)
+    → RegrowsNoSpace old mid t.extent (each * n)
+not_given-of {old} {mid} {each} n storage s e r = subst (λ o. RegrowsNoSpace old mid o (each * n))
     (ap (block_of (live_of old.bytes)) (e ∙ s.words.link) ∙ stands-block s) r
 
 -- ---- bytes of the storage and the length are written
 
 -- bytes of the storage are written
-written-run : {old new : Cut} {p : Place} {each len c g : ℕ} (from : ℕ) {n : ℕ} {o : Option Extent} {bytes : List ℕ}
-    → Stands old.bytes p each len (table c o) bytes → link_at (bytes_of old.bytes) (place_at p) ≡ Some g
-    → IsChanged current old new (g + from) n → from + n ≤ each * c
+written-run : {old new : WindowState} {p : Place} {each len c g : ℕ} (from : ℕ) {n : ℕ} {o : Option Extent}
+    {bytes : List ℕ}
+    → IsContainer old.bytes p each len (table c o) bytes → link_at (bytes_of old.bytes) (place_at p) ≡ Some g
+    → ChangesBytes current old new (g + from) n → from + n ≤ each * c
     → IsRun old new p (option_to_list o) (option_to_list o) len (table c o)
 written-run from {o = None} s link c1 within = none-some s.words.link link
 written-run {old} {p} {each} {c} from {o = Some x} s link c1 within =
@@ -232,11 +250,15 @@ written-run {old} {p} {each} {c} from {o = Some x} s link c1 within =
     (table-full each c x s.table) in
     run-swapped [] (spread-refl (x ∷ [])) (stands-run old s) swap ((λ e. s.own.1 (sym e)), tt)
 
-pub rewritten : {old s1 new : Cut} {p : Place} {each len c g : ℕ} (from : ℕ) {n : ℕ} (len2 : ℕ) {o : Option Extent}
-    {bytes : List ℕ} (bytes2 : List ℕ) → Stands old.bytes p each len (table c o) bytes → link_at (bytes_of old.bytes)
-    (place_at p) ≡ Some g → IsChanged current old s1 (g + from) n → from + n ≤ each * c → len2 ≤ c
-    → length bytes2 ≡ each * len2 → Has (bytes_of s1.bytes) g bytes2 → IsChanged current s1 new (p.handle + (p.at + 8))
-    8 → word_at (bytes_of new.bytes) (p.handle + (p.at + 8)) ≡ len2 → IsRewritten old new p each len2 (table c o) bytes2
+pub rewritten : {old s1 new : WindowState} {p : Place} {each len c g : ℕ} (from : ℕ) {n : ℕ} (len2 : ℕ)
+    {o : Option Extent}
+    {bytes : List ℕ} (bytes2 : List ℕ) → IsContainer old.bytes p each len (table c o) bytes
+    → link_at (bytes_of old.bytes)
+    (place_at p) ≡ Some g → ChangesBytes current old s1 (g + from) n → from + n ≤ each * c → len2 ≤ c
+    → length bytes2 ≡ each * len2 → HasBytesAt (bytes_of s1.bytes) g bytes2
+    → ChangesBytes current s1 new (p.handle + (p.at + 8))
+    8 → word_at (bytes_of new.bytes) (p.handle + (p.at + 8)) ≡ len2
+    → RewritesElements old new p each len2 (table c o) bytes2
 rewritten from len2 {o = None} bytes2 s link c1 within fits long content c2 word = none-some s.words.link link
 rewritten {old} {s1} {new} {p} {each} {c} {g} from {n} len2 {o = Some x} bytes2 s link c1 within fits long content c2
     word =
@@ -245,7 +267,8 @@ rewritten {old} {s1} {new} {p} {each} {c} {g} from {n} len2 {o = Some x} bytes2 
     let wide = head-wider p c2 (omega arith) (omega arith) in
     let two = run-headed one wide (len-written len2 (omega arith) c2.rest word one.words) in
     let stays = beside-head (handle x) one.heap one.head wide (run-found one).0 (λ e. s.own.1 (sym e)) in
-    let whole : Has (bytes_of s1.bytes) (handle x) bytes2 = subst (λ k. Has (bytes_of s1.bytes) k bytes2) (sym g_is)
+    let whole : HasBytesAt (bytes_of s1.bytes) (handle x) bytes2 =
+    subst (λ k. HasBytesAt (bytes_of s1.bytes) k bytes2) (sym g_is)
     content in
     let own = found-room (live_of old.bytes) (handle x) (each * c) x s.own.0 full in
     record {
@@ -262,8 +285,8 @@ at-least each n f = grind arith
 -- ---- places
 
 -- one change after another in the storage that there is
-pub same-storage : {old mid : Cut} {p : Place} {each len from n : ℕ} {t : Table} {bytes : List ℕ}
-    → Stands old.bytes p each len t bytes → IsExchanged current old mid from n (option_to_list t.extent)
+pub same-storage : {old mid : WindowState} {p : Place} {each len from n : ℕ} {t : BackingArray} {bytes : List ℕ}
+    → IsContainer old.bytes p each len t bytes → ExchangesBlocks current old mid from n (option_to_list t.extent)
     (option_to_list t.extent) → live_of mid.bytes ≡ live_of old.bytes
 same-storage {old} {mid} {p} {from = from} {n} {t} s x =
     let l = live_of old.bytes in let own = option_to_list t.extent in
@@ -272,8 +295,9 @@ same-storage {old} {mid} {p} {from = from} {n} {t} s x =
     (sym (all-in-use own l.extents (live-rises l s.heap.proper) facts.0 facts.1).is)
 
 -- the storage is the block that it was, where the same blocks are in use
-pub same-extents : {old mid : Cut} {from n : ℕ} (h : ℕ) (o q : Option Extent) → IsHeap current old.bytes
-    → IsOwnBlock (live_of old.bytes) h o → IsExchanged current old mid from n (option_to_list o) (option_to_list q)
+pub same-extents : {old mid : WindowState} {from n : ℕ} (h : ℕ) (o q : Option Extent) → IsHeap current old.bytes
+    → IsStorageBlock (live_of old.bytes) h o
+    → ExchangesBlocks current old mid from n (option_to_list o) (option_to_list q)
     → live_of mid.bytes ≡ live_of old.bytes → o ≡ q
 same-extents h None None heap own x e = refl
 same-extents {old} h None (Some y) heap own x e =
@@ -303,14 +327,15 @@ same-extents {old} h (Some a) (Some y) heap own x e = by_test (handle y == handl
         (live-rises (exchanged l (a ∷ []) (y ∷ [])) x.live.proper) there).0 refl)
 
 -- blocks exchanged, and then those that came written in
-pub exchange-then : {old mid new : Cut} {from n : ℕ} {gone come : List Extent} → IsExchanged current old mid from n gone
-    come → IsExchanged current mid new from n come come → IsExchanged current old new from n gone come
-exchange-then {old} {mid} {new} {from} {n} {gone} {come} p q = subst (IsExchanged current old new from n gone)
+pub exchange-then : {old mid new : WindowState} {from n : ℕ} {gone come : List Extent}
+    → ExchangesBlocks current old mid from n gone
+    come → ExchangesBlocks current mid new from n come come → ExchangesBlocks current old new from n gone come
+exchange-then {old} {mid} {new} {from} {n} {gone} {come} p q = subst (ExchangesBlocks current old new from n gone)
     (append-nil come) (exchange-next current old mid new from n gone come come [] come (spread-nil come) p q)
 
 -- a container has fewer bytes than a segment
-pub capacity-bytes : (c : Cut) {p : Place} {each len n : ℕ} {o : Option Extent} {bytes : List ℕ}
-    → IsHeap current c.bytes → Stands c.bytes p each len (table n o) bytes → each * n < 1073741824
+pub capacity-bytes : (c : WindowState) {p : Place} {each len n : ℕ} {o : Option Extent} {bytes : List ℕ}
+    → IsHeap current c.bytes → IsContainer c.bytes p each len (table n o) bytes → each * n < 1073741824
 capacity-bytes c {each} {n} {o = None} heap s =
     let none = eqb-true n 0 s.table in let e : each * n ≡ each * 0 = ap (λ k. each * k) none in
     omega (arith, e)
@@ -332,30 +357,34 @@ pub wanted-is : {w len capacity n k : ℕ} → w ≡ capacity_for_one len capaci
     → w ≡ capacity_for_one n k
 wanted-is e f g = e ∙ (λ i. capacity_for_one (f i) (g i))
 
-table-if : (l : LiveSet) (n : ℕ) (t : Table) {u : Table} (b : Bool) (r : Option Extent) → nat_le n t.capacity ≡ b
+table-if : (l : LiveSet) (n : ℕ) (t : BackingArray) {u : BackingArray} (b : Bool) (r : Option Extent)
+    → nat_le n t.capacity ≡ b
     → (if b then Some t else option_map (λ x. table n (Some x)) r) ≡ Some u → n ≤ u.capacity
-table-if l n t {u} true r e f = let same : t ≡ u = cc in subst (λ (v : Table). n ≤ v.capacity) same
+table-if l n t {u} true r e f = let same : t ≡ u = cc in subst (λ (v : BackingArray). n ≤ v.capacity) same
     (leb-true n t.capacity e)
 table-if l n t false None e f = absurd (cc)
-table-if l n t {u} false (Some x) e f = let same : table n (Some x) ≡ u = cc in subst (λ (v : Table). n ≤ v.capacity)
+table-if l n t {u} false (Some x) e f = let same : table n (Some x) ≡ u = cc
+    in subst (λ (v : BackingArray). n ≤ v.capacity)
     same (omega arith)
 
-pub table-places : (l : LiveSet) (each n : ℕ) (t : Table) {u : Table} → grown_backing l each n t ≡ Some u
+pub table-places : (l : LiveSet) (each n : ℕ) (t : BackingArray) {u : BackingArray} → grown_backing l each n t ≡ Some u
     → n ≤ u.capacity
 unfolding grown_backing
 table-places l each n t e = table-if l n t (nat_le n t.capacity) (regrow l t.extent (each * n)) refl e
 
 -- gaps that stay after its growth, in the block that there was
-pub grown-gaps : {old mid new : Cut} {p : Place} {each n len : ℕ} {t : Table} {bytes : List ℕ}
-    → Stands old.bytes p each len t bytes → (g : IsGrown old mid p each n len t bytes) → t.extent ≡ g.table.extent
+pub grown-gaps : {old mid new : WindowState} {p : Place} {each n len : ℕ} {t : BackingArray} {bytes : List ℕ}
+    → IsContainer old.bytes p each len t bytes → (g : ReservesStorageOk old mid p each n len t bytes)
+    → t.extent ≡ g.table.extent
     → KeepsGaps mid new → KeepsGaps old new
 grown-gaps {old} {mid} {new} {p} {t} s g same k =
-    let change = subst (λ o. IsExchanged current old mid (place_at p) 24 (option_to_list t.extent) (option_to_list o))
+    let change = subst (λ o. ExchangesBlocks current old mid (place_at p) 24 (option_to_list t.extent)
+    (option_to_list o))
     (sym same) g.change in gaps-trans old mid new (same-storage s change) (g.gaps same) k
 
 -- the place for it
-pub has-place : {old mid : Cut} {p : Place} {each len n : ℕ} {t : Table} {bytes : List ℕ} → len < n
-    → IsGrown old mid p each n len t bytes
+pub has-place : {old mid : WindowState} {p : Place} {each len n : ℕ} {t : BackingArray} {bytes : List ℕ} → len < n
+    → ReservesStorageOk old mid p each n len t bytes
     → word_at (bytes_of mid.bytes) (p.handle + p.at + 8) < word_at (bytes_of mid.bytes) (p.handle + p.at + 16)
 has-place {old} {each} {n} {t} f g =
     let places = table-places (live_of old.bytes) each n t g.grown in
@@ -365,24 +394,26 @@ has-place {old} {each} {n} {t} f g =
 
 -- what the storage has, of a container with a block
 pub storage-has : {b : List ℕ} {p : Place} {each len c g : ℕ} {o : Option Extent} {bytes : List ℕ}
-    → Stands b p each len (table c o) bytes → link_at (bytes_of b) (place_at p) ≡ Some g → Has (bytes_of b) g bytes
+    → IsContainer b p each len (table c o) bytes → link_at (bytes_of b) (place_at p) ≡ Some g
+    → HasBytesAt (bytes_of b) g bytes
 storage-has {o = None} s link = none-some s.words.link link
 storage-has {b} {o = Some x} {bytes} s link =
-    let g_is = same-some (sym s.words.link ∙ link) in subst (λ k. Has (bytes_of b) k bytes) g_is s.words.storage
+    let g_is = same-some (sym s.words.link ∙ link) in subst (λ k. HasBytesAt (bytes_of b) k bytes) g_is s.words.storage
 
-pub unchanged-rewritten : (c : Cut) {p : Place} {each len : ℕ} {t : Table} {bytes : List ℕ}
-    → Stands c.bytes p each len t bytes → IsRewritten c c p each len t bytes
+pub unchanged-rewritten : (c : WindowState) {p : Place} {each len : ℕ} {t : BackingArray} {bytes : List ℕ}
+    → IsContainer c.bytes p each len t bytes → RewritesElements c c p each len t bytes
 unchanged-rewritten c s = record { change = (stands-run c s).change; gaps = gaps-refl c; stands = s }
 
-pub unchanged : (c : Cut) (from n : ℕ) → IsHeap current c.bytes → IsChanged current c c from n
+pub unchanged : (c : WindowState) (from n : ℕ) → IsHeap current c.bytes → ChangesBytes current c c from n
 unchanged c from n heap =
     record { place = record { before = refl; after = refl }; live = heap; rest = record { at = λ k f. refl } }
 
 -- n elements are written over
-pub overwritten-all : {old new : Cut} {p : Place} {each len g : ℕ} (i n : ℕ) {t : Table} {bytes : List ℕ}
-    (more : List ℕ) → Stands old.bytes p each len t bytes → i + n ≤ len → length more ≡ each * n
-    → link_at (bytes_of old.bytes) (place_at p) ≡ Some g → IsChanged current old new (g + each * i) (length more)
-    → Has (bytes_of new.bytes) (g + each * i) more → IsRewritten old new p each len t (patched bytes (each * i) more)
+pub overwritten-all : {old new : WindowState} {p : Place} {each len g : ℕ} (i n : ℕ) {t : BackingArray} {bytes : List ℕ}
+    (more : List ℕ) → IsContainer old.bytes p each len t bytes → i + n ≤ len → length more ≡ each * n
+    → link_at (bytes_of old.bytes) (place_at p) ≡ Some g → ChangesBytes current old new (g + each * i) (length more)
+    → HasBytesAt (bytes_of new.bytes) (g + each * i) more
+    → RewritesElements old new p each len t (patched bytes (each * i) more)
 overwritten-all {new} {p} {each} {len} {g} i n {t} {bytes} more s f e link c1 content =
     let within = more-times each (i + n) len f in
     let step : each * (i + n) ≡ each * i + each * n = omega arith in
@@ -395,16 +426,19 @@ overwritten-all {new} {p} {each} {len} {g} i n {t} {bytes} more s f e link c1 co
     ∙ (written-run (each * i) s link c1 (omega (arith, inside, total, less))).words.len_word)
 
 -- one is
-pub overwritten : {old new : Cut} {p : Place} {each len g : ℕ} (i : ℕ) {t : Table} {bytes : List ℕ} (more : List ℕ)
-    → Stands old.bytes p each len t bytes → i < len → length more ≡ each
-    → link_at (bytes_of old.bytes) (place_at p) ≡ Some g → IsChanged current old new (g + each * i) (length more)
-    → Has (bytes_of new.bytes) (g + each * i) more → IsRewritten old new p each len t (patched bytes (each * i) more)
+pub overwritten : {old new : WindowState} {p : Place} {each len g : ℕ} (i : ℕ) {t : BackingArray} {bytes : List ℕ}
+    (more : List ℕ)
+    → IsContainer old.bytes p each len t bytes → i < len → length more ≡ each
+    → link_at (bytes_of old.bytes) (place_at p) ≡ Some g → ChangesBytes current old new (g + each * i) (length more)
+    → HasBytesAt (bytes_of new.bytes) (g + each * i) more
+    → RewritesElements old new p each len t (patched bytes (each * i) more)
 overwritten {each = each} i more s f e = overwritten-all i 1 more s (omega (arith, f)) (omega (arith, e))
 
 -- ---- elements are left out at the end
 
-cut-storage : {old new : Cut} {p : Place} {each len c : ℕ} (k : ℕ) {o : Option Extent} {bytes : List ℕ}
-    → Stands old.bytes p each len (table c o) bytes → k ≤ length bytes → IsChanged current old new (place_at p) 24
+cut-storage : {old new : WindowState} {p : Place} {each len c : ℕ} (k : ℕ) {o : Option Extent} {bytes : List ℕ}
+    → IsContainer old.bytes p each len (table c o) bytes → k ≤ length bytes
+    → ChangesBytes current old new (place_at p) 24
     → IsStorage (bytes_of new.bytes) (table c o) (take k bytes)
 cut-storage k {o = None} {bytes} s f c2 = ap (take k) s.words.storage ∙ take-nil k
 cut-storage {old} {new} {p} {each} {len} {c} k {o = Some x} {bytes} s f c2 =
@@ -413,9 +447,10 @@ cut-storage {old} {new} {p} {each} {len} {c} k {o = Some x} {bytes} s f c2 =
     HasBytesAt-take (bytes_of new.bytes) (handle x) k bytes f (read-same _ _ _ _ (handle x) (length bytes) stays.payload
     (omega arith) (omega (arith, full, less, total)) ∙ s.words.storage)
 
-pub truncated : {old new : Cut} {p : Place} {each len : ℕ} (n : ℕ) {t : Table} {bytes : List ℕ}
-    → Stands old.bytes p each len t bytes → n ≤ len → IsChanged current old new (p.handle + (p.at + 8)) 8
-    → word_at (bytes_of new.bytes) (p.handle + (p.at + 8)) ≡ n → IsRewritten old new p each n t (take (each * n) bytes)
+pub truncated : {old new : WindowState} {p : Place} {each len : ℕ} (n : ℕ) {t : BackingArray} {bytes : List ℕ}
+    → IsContainer old.bytes p each len t bytes → n ≤ len → ChangesBytes current old new (p.handle + (p.at + 8)) 8
+    → word_at (bytes_of new.bytes) (p.handle + (p.at + 8)) ≡ n
+    → RewritesElements old new p each n t (take (each * n) bytes)
 truncated {old} {p} {each} {len} n {bytes} s f c2 word =
     let less = more-times each n len f in let total = s.long in let fits = s.fits in
     let one = stands-run old s in let wide = head-wider p c2 (omega arith) (omega arith) in
@@ -430,7 +465,8 @@ truncated {old} {p} {each} {len} n {bytes} s f c2 word =
 
 -- ---- what the calls of the heap ask for
 
-storage-room_in : {b : List ℕ} {p : Place} {each len c g : ℕ} {o : Option Extent} {bytes : List ℕ} → Stands b p each len
+storage-room_in : {b : List ℕ} {p : Place} {each len c g : ℕ} {o : Option Extent} {bytes : List ℕ}
+    → IsContainer b p each len
     (table c o) bytes → link_at (bytes_of b) (place_at p) ≡ Some g → IsTrue (has_room (live_of b) g (each * c))
 storage-room_in {o = None} s link = none-some s.words.link link
 storage-room_in {b} {each} {c} {o = Some x} s link =
@@ -439,7 +475,8 @@ storage-room_in {b} {each} {c} {o = Some x} s link =
     (found-room (live_of b) (handle x) (each * c) x s.own.0 full)
 
 -- the storage has room for as many bytes as the elements have, and for as many as there are places
-pub some-room : {b : List ℕ} {p : Place} {each len g : ℕ} (n : ℕ) {t : Table} {bytes : List ℕ} → Stands b p each len t
+pub some-room : {b : List ℕ} {p : Place} {each len g : ℕ} (n : ℕ) {t : BackingArray} {bytes : List ℕ}
+    → IsContainer b p each len t
     bytes → link_at (bytes_of b) (place_at p) ≡ Some g → n ≤ each * t.capacity → IsTrue (has_room (live_of b) g n)
 some-room {b} {each} {g} n {t} s link f = room-less (live_of b) g (each * t.capacity) n f (storage-room_in s link)
 
@@ -454,25 +491,27 @@ live-if h n (x ∷ xs) t =
       | inr e ↦ or_right (handle x == h) (list_any (λ (y : Extent). handle y == h) xs) (live-if h n xs e)
     ]
 
-pub storage-live : {b : List ℕ} {p : Place} {each len g : ℕ} {t : Table} {bytes : List ℕ} → Stands b p each len t bytes
+pub storage-live : {b : List ℕ} {p : Place} {each len g : ℕ} {t : BackingArray} {bytes : List ℕ}
+    → IsContainer b p each len t bytes
     → link_at (bytes_of b) (place_at p) ≡ Some g → IsTrue (is_live_in (live_of b) g)
 storage-live {b} {each} {g} {t} s link = live-if g (each * t.capacity) (live_of b).extents (storage-room_in s link)
 
-pub elements-fit : {b : List ℕ} {p : Place} {each len : ℕ} (n : ℕ) {t : Table} {bytes : List ℕ}
-    → Stands b p each len t bytes → n ≤ len → each * n ≤ each * t.capacity
+pub elements-fit : {b : List ℕ} {p : Place} {each len : ℕ} (n : ℕ) {t : BackingArray} {bytes : List ℕ}
+    → IsContainer b p each len t bytes → n ≤ len → each * n ≤ each * t.capacity
 elements-fit {each} {len} n {t} s f = let few : len ≤ t.capacity = s.fits in more-times each n t.capacity
     (omega (arith, f, few))
 
-pub element-fits : {b : List ℕ} {p : Place} {each len : ℕ} (i : ℕ) {t : Table} {bytes : List ℕ}
-    → Stands b p each len t bytes → i < len → each * i + each ≤ each * t.capacity
+pub element-fits : {b : List ℕ} {p : Place} {each len : ℕ} (i : ℕ) {t : BackingArray} {bytes : List ℕ}
+    → IsContainer b p each len t bytes → i < len → each * i + each ≤ each * t.capacity
 element-fits {each} i {t} s f =
     let within = elements-fit (i + 1) s (omega (arith, f)) in
     let step : each * (i + 1) ≡ each * i + each = omega arith in omega (arith, within, step)
 
 -- ---- the bytes of all elements
 
-pub read-all : (c : Cut) {p : Place} {each len : ℕ} (k : ℕ) {g : ℕ} {t : Table} {bytes : List ℕ} (out : List ℕ)
-    → Stands c.bytes p each len t bytes → k ≡ len → link_at (bytes_of c.bytes) (place_at p) ≡ Some g
+pub read-all : (c : WindowState) {p : Place} {each len : ℕ} (k : ℕ) {g : ℕ} {t : BackingArray} {bytes : List ℕ}
+    (out : List ℕ)
+    → IsContainer c.bytes p each len t bytes → k ≡ len → link_at (bytes_of c.bytes) (place_at p) ≡ Some g
     → out ≡ payload_at c.bytes (live_of c.bytes) g → take (each * k) out ≡ bytes
 read-all c {each} {len} k {g} out s is link e =
     let n : ℕ = each * len in let r = room_block c g n s.heap (some-room n s link (elements-fit len s (omega arith))) in
@@ -523,8 +562,8 @@ none-by l {x} n (Some y) p found role f e is none =
     let serving = regrow-serves l (Some x) y n role (regrow-moved l x n (Some y) e is) in
     let long = serves-full y n serving in absurd (omega (arith, less, long, f))
 
-no-regrow : (c : Cut) (p : Place) (each k n : ℕ) (o : Option Extent) → IsHeap current c.bytes
-    → IsTrue (is_table Storage each (table k o)) → IsOwnBlock (live_of c.bytes) p.handle o → 1073741824 < n
+no-regrow : (c : WindowState) (p : Place) (each k n : ℕ) (o : Option Extent) → IsHeap current c.bytes
+    → IsTrue (has_backing Storage each (table k o)) → IsStorageBlock (live_of c.bytes) p.handle o → 1073741824 < n
     → regrow (live_of c.bytes) o n ≡ None
 no-regrow c p each k n None heap t own f = regrow-new (live_of c.bytes) n ∙ too_long c n Storage heap f
 no-regrow c p each k n (Some x) heap t own f =
@@ -534,12 +573,12 @@ no-regrow c p each k n (Some x) heap t own f =
     none-by l n (longer l x n) heap.proper own.0 (storage-role each k (Some x) t) f
     (lt-leb (n + 16) x.len (omega (arith, less, f))) refl (too_long c n Storage heap f)
 
-pub too-many : (c : Cut) {p : Place} {each : ℕ} (n : ℕ) {len : ℕ} {t : Table} {bytes : List ℕ}
-    → Stands c.bytes p each len t bytes → 1 ≤ each → 1073741824 < n → IsWithoutSpace c c each n t NoSpace
+pub too-many : (c : WindowState) {p : Place} {each : ℕ} (n : ℕ) {len : ℕ} {t : BackingArray} {bytes : List ℕ}
+    → IsContainer c.bytes p each len t bytes → 1 ≤ each → 1073741824 < n → LacksSpace c c each n t NoSpace
 too-many c {p} {each} n {t} s some f =
     let few = capacity-bytes c s.heap s in let least = at-least each t.capacity some in
     let more = at-least each n some in
-    let r : IsNotGivenRoom c c t.extent (each * n) = record {
+    let r : RegrowsNoSpace c c t.extent (each * n) = record {
       none = no-regrow c p each t.capacity (each * n) t.extent s.heap s.table s.own (omega (arith, more, f));
       same = refl;
     } in
@@ -547,32 +586,37 @@ too-many c {p} {each} n {t} s some f =
 
 -- ---- elements more
 
-pub extended : {old s1 new : Cut} {p : Place} {each len g : ℕ} (n : ℕ) {t : Table} {bytes : List ℕ} (more : List ℕ)
-    → Stands old.bytes p each len t bytes → len + n ≤ t.capacity → length more ≡ each * n → link_at (bytes_of old.bytes)
-    (place_at p) ≡ Some g → IsChanged current old s1 (g + each * len) (length more) → Has (bytes_of s1.bytes)
-    (g + each * len) more → IsChanged current s1 new (p.handle + (p.at + 8)) 8 → word_at (bytes_of new.bytes)
-    (p.handle + (p.at + 8)) ≡ len + n → IsRewritten old new p each (len + n) t (bytes ++ more)
+pub extended : {old s1 new : WindowState} {p : Place} {each len g : ℕ} (n : ℕ) {t : BackingArray} {bytes : List ℕ}
+    (more : List ℕ)
+    → IsContainer old.bytes p each len t bytes → len + n ≤ t.capacity → length more ≡ each * n
+    → link_at (bytes_of old.bytes)
+    (place_at p) ≡ Some g → ChangesBytes current old s1 (g + each * len) (length more) → HasBytesAt (bytes_of s1.bytes)
+    (g + each * len) more → ChangesBytes current s1 new (p.handle + (p.at + 8)) 8 → word_at (bytes_of new.bytes)
+    (p.handle + (p.at + 8)) ≡ len + n → RewritesElements old new p each (len + n) t (bytes ++ more)
 extended {old} {s1} {each} {len} {g} n {t} {bytes} more s f long link c1 content c2 word =
     let m = bytes_of old.bytes in let ms = bytes_of s1.bytes in let total = s.long in
     let sum = length-append bytes more in let less = more-times each (len + n) t.capacity f in
     let step : each * (len + n) ≡ each * len + each * n = omega arith in
-    let front : Has ms g bytes = read-same m ms g (g + each * len) g (length bytes)
+    let front : HasBytesAt ms g bytes = read-same m ms g (g + each * len) g (length bytes)
     (record { at = λ k a b. c1.rest.at k (inl (omega arith)) }) (omega arith) (omega (arith, total))
     ∙ storage-has s link in
-    let behind : Has ms (g + length bytes) more = subst (λ k. Has ms k more) (omega (arith, total)) content in
+    let behind : HasBytesAt ms (g + length bytes) more =
+    subst (λ k. HasBytesAt ms k more) (omega (arith, total)) content in
     rewritten (each * len) (len + n) (bytes ++ more) s link c1 (omega (arith, long, less, step)) f
     (omega (arith, sum, total, long, step)) (HasBytesAt-append ms g bytes more front behind) c2 word
 
-pub extended-not : (c : Cut) {p : Place} {each len k : ℕ} (n : ℕ) {o : Option Extent} {bytes : List ℕ} (more : List ℕ)
-    → Stands c.bytes p each len (table k o) bytes → len + n ≤ k → length more ≡ each * n
-    → link_at (bytes_of c.bytes) (place_at p) ≡ None → IsRewritten c c p each (len + n) (table k o) (bytes ++ more)
+pub extended-not : (c : WindowState) {p : Place} {each len k : ℕ} (n : ℕ) {o : Option Extent} {bytes : List ℕ}
+    (more : List ℕ)
+    → IsContainer c.bytes p each len (table k o) bytes → len + n ≤ k → length more ≡ each * n
+    → link_at (bytes_of c.bytes) (place_at p) ≡ None → RewritesElements c c p each (len + n) (table k o) (bytes ++ more)
 extended-not c {p} {each} {len} {k} n {o = None} {bytes} more s f long link =
     let none = eqb-true k 0 s.table in let no : n ≡ 0 = omega (arith, f, none) in
     let nothing : each * 0 ≡ 0 = omega arith in
     let empty = nil_from_length more (long ∙ ap (λ j. each * j) no ∙ nothing) in
-    subst (λ (ws : List ℕ). IsRewritten c c p each (len + n) (table k None) (bytes ++ ws)) (sym empty)
-    (subst (λ j. IsRewritten c c p each j (table k None) (bytes ++ [])) (let e : len ≡ len + n = omega (arith, no) in e)
-    (subst (λ (ws : List ℕ). IsRewritten c c p each len (table k None) ws) (sym (append-nil bytes))
+    subst (λ (ws : List ℕ). RewritesElements c c p each (len + n) (table k None) (bytes ++ ws)) (sym empty)
+    (subst (λ j. RewritesElements c c p each j (table k None) (bytes ++ [])) (let e : len ≡ len + n =
+    omega (arith, no) in e)
+    (subst (λ (ws : List ℕ). RewritesElements c c p each len (table k None) ws) (sym (append-nil bytes))
     (unchanged-rewritten c s)))
 extended-not c n {o = Some x} more s f long link = none-some link s.words.link
 
@@ -596,12 +640,13 @@ pieces each len i bytes f e =
 
 -- ---- an element is left out
 
-pub erased : {old s1 new : Cut} {p : Place} {each len g : ℕ} (i : ℕ) {t : Table} {bytes : List ℕ}
-    → Stands old.bytes p each len t bytes → i < len → link_at (bytes_of old.bytes) (place_at p) ≡ Some g
-    → IsChanged current old s1 (g + each * i) (each * (len - i - 1)) → read (bytes_of s1.bytes) (g + each * i)
+pub erased : {old s1 new : WindowState} {p : Place} {each len g : ℕ} (i : ℕ) {t : BackingArray} {bytes : List ℕ}
+    → IsContainer old.bytes p each len t bytes → i < len → link_at (bytes_of old.bytes) (place_at p) ≡ Some g
+    → ChangesBytes current old s1 (g + each * i) (each * (len - i - 1)) → read (bytes_of s1.bytes) (g + each * i)
     (each * (len - i - 1)) ≡ read (bytes_of old.bytes) (g + (each * i + each)) (each * (len - i - 1))
-    → IsChanged current s1 new (p.handle + (p.at + 8)) 8 → word_at (bytes_of new.bytes) (p.handle + (p.at + 8)) ≡ len -
-    1 → IsRewritten old new p each (len - 1) t (take (each * i) bytes ++ drop (each * i + each) bytes)
+    → ChangesBytes current s1 new (p.handle + (p.at + 8)) 8
+    → word_at (bytes_of new.bytes) (p.handle + (p.at + 8)) ≡ len -
+    1 → RewritesElements old new p each (len - 1) t (take (each * i) bytes ++ drop (each * i + each) bytes)
 erased {old} {s1} {each} {len} {g} i {t} {bytes} s f link c1 moved c2 word =
     let m = bytes_of old.bytes in let ms = bytes_of s1.bytes in let k : ℕ = each * i + each in
     let n : ℕ = each * (len - i - 1) in
@@ -617,16 +662,17 @@ erased {old} {s1} {each} {len} {g} i {t} {bytes} s f link c1 moved c2 word =
     let one = HasBytesAt-beside g front c1.rest (inl (omega (arith, before)))
     (HasBytesAt-take m g (each * i) bytes (omega (arith, total, sum)) has) in
     let rest = HasBytesAt-drop m g k bytes (omega (arith, total, sum)) has in
-    let two : Has ms (g + each * i) back = ap (read ms (g + each * i)) behind ∙ moved ∙ ap (read m (g + k))
+    let two : HasBytesAt ms (g + each * i) back = ap (read ms (g + each * i)) behind ∙ moved ∙ ap (read m (g + k))
     (sym behind) ∙ rest in
     rewritten (each * i) (len - 1) (front ++ back) s link c1 (omega (arith, sum, less)) (omega (arith, s.fits))
     (omega (arith, length-append front back, before, behind, shorter))
-    (HasBytesAt-append ms g front back one (subst (λ j. Has ms (g + j) back) (sym before) two)) c2 word
+    (HasBytesAt-append ms g front back one (subst (λ j. HasBytesAt ms (g + j) back) (sym before) two)) c2 word
 
 -- ---- an element is put in
 
-both-within : {a b c : Memory} {from one n at : ℕ} → at ≡ from + one → SameBut a b at n → SameBut b c from one
-    → SameBut a c from (one + n)
+both-within : {a b c : Memory} {from one n at : ℕ} → at ≡ from + one → SameBytesExcept a b at n
+    → SameBytesExcept b c from one
+    → SameBytesExcept a c from (one + n)
 both-within {from} {one} {n} {at} e p q = record { at = λ k f. q.at k (outer k f) ∙ p.at k (inner k f) }
   where
     outer : (k : ℕ) → (k < from) ⊎ (from + (one + n) ≤ k) → (k < from) ⊎ (from + one ≤ k)
@@ -637,14 +683,16 @@ both-within {from} {one} {n} {at} e p q = record { at = λ k f. q.at k (outer k 
     inner k (inl f) = inl (omega (arith, f, e))
     inner k (inr f) = inr (omega (arith, f, e))
 
-pub put_in : {old s1 s2 new : Cut} {p : Place} {each len g : ℕ} (i : ℕ) {t : Table} {bytes : List ℕ} (more : List ℕ)
-    → Stands old.bytes p each len t bytes → i ≤ len → len < t.capacity → length more ≡ each
+pub put_in : {old s1 s2 new : WindowState} {p : Place} {each len g : ℕ} (i : ℕ) {t : BackingArray} {bytes : List ℕ}
+    (more : List ℕ)
+    → IsContainer old.bytes p each len t bytes → i ≤ len → len < t.capacity → length more ≡ each
     → link_at (bytes_of old.bytes) (place_at p) ≡ Some g
-    → IsChanged current old s1 (g + (each * i + each)) (each * (len - i))
+    → ChangesBytes current old s1 (g + (each * i + each)) (each * (len - i))
     → read (bytes_of s1.bytes) (g + (each * i + each)) (each * (len - i)) ≡ read (bytes_of old.bytes) (g + each * i)
-    (each * (len - i)) → IsChanged current s1 s2 (g + each * i) each → Has (bytes_of s2.bytes) (g + each * i) more
-    → IsChanged current s2 new (p.handle + (p.at + 8)) 8 → word_at (bytes_of new.bytes) (p.handle + (p.at + 8)) ≡ len
-    + 1 → IsRewritten old new p each (len + 1) t (take (each * i) bytes ++ (more ++ drop (each * i) bytes))
+    (each * (len - i)) → ChangesBytes current s1 s2 (g + each * i) each
+    → HasBytesAt (bytes_of s2.bytes) (g + each * i) more
+    → ChangesBytes current s2 new (p.handle + (p.at + 8)) 8 → word_at (bytes_of new.bytes) (p.handle + (p.at + 8)) ≡ len
+    + 1 → RewritesElements old new p each (len + 1) t (take (each * i) bytes ++ (more ++ drop (each * i) bytes))
 put_in {old} {s1} {s2} {each} {len} {g} i {t} {bytes} more s f room e link c1 moved c2 content c3 word =
     let m = bytes_of old.bytes in let m1 = bytes_of s1.bytes in let ms = bytes_of s2.bytes in
     let n : ℕ = each * (len - i) in
@@ -652,24 +700,24 @@ put_in {old} {s1} {s2} {each} {len} {g} i {t} {bytes} more s f room e link c1 mo
     let total = s.long in let a = pieces each len i bytes f s.long in let before = a.front in
     let behind = a.back in let sum = a.sum in let step : each * (len + 1) ≡ each * len + each = omega arith in
     let less = more-times each (len + 1) t.capacity (omega (arith, room)) in
-    let c : IsChanged current old s2 (g + each * i) (each + n) = record {
+    let c : ChangesBytes current old s2 (g + each * i) (each + n) = record {
       place = record { before = c2.place.before ∙ c1.place.before; after = c2.place.after ∙ c1.place.after };
-      live = subst (LaysOut current s2.bytes) (changed-live _ old s1 _ n c1) c2.live;
+      live = subst (EncodesLiveSet current s2.bytes) (changed-live _ old s1 _ n c1) c2.live;
       rest = both-within (omega arith) c1.rest c2.rest;
     } in
     let one = HasBytesAt-beside g front c.rest (inl (omega (arith, before)))
     (HasBytesAt-take m g (each * i) bytes (omega (arith, total, sum)) has) in
     let rest = HasBytesAt-drop m g (each * i) bytes (omega (arith, total, sum)) has in
-    let up : Has m1 (g + (each * i + each)) back = ap (read m1 (g + (each * i + each))) behind ∙ moved
+    let up : HasBytesAt m1 (g + (each * i + each)) back = ap (read m1 (g + (each * i + each))) behind ∙ moved
     ∙ ap (read m (g + each * i)) (sym behind) ∙ rest in
     let two = HasBytesAt-beside (g + (each * i + each)) back c2.rest (inr (omega arith)) up in
     let three = HasBytesAt-append ms (g + each * i) more back content
-    (subst (λ j. Has ms j back) (omega (arith, e)) two) in
+    (subst (λ j. HasBytesAt ms j back) (omega (arith, e)) two) in
     rewritten (each * i) (len + 1) (front ++ (more ++ back)) s link c (omega (arith, sum, less, step))
     (omega (arith, room))
     (omega (arith, length-append front (more ++ back), length-append more back, before, behind, e, sum, step))
     (HasBytesAt-append ms g front (more ++ back) one
-    (subst (λ j. Has ms (g + j) (more ++ back)) (sym before) three)) c3 word
+    (subst (λ j. HasBytesAt ms (g + j) (more ++ back)) (sym before) three)) c3 word
 
 -- ---- what the calls of the heap ask for
 
@@ -678,8 +726,8 @@ pub record Fitting (l : LiveSet) (each i n g : ℕ) : Type 0 where
   pub small : each * i + each + n < 1073741824
   pub room : IsTrue (has_room l g (each * i + each + n))
 
-fitting : (c : Cut) {p : Place} {each len g : ℕ} (i n j : ℕ) {t : Table} {bytes : List ℕ}
-    → Stands c.bytes p each len t bytes → link_at (bytes_of c.bytes) (place_at p) ≡ Some g → j ≤ t.capacity
+fitting : (c : WindowState) {p : Place} {each len g : ℕ} (i n j : ℕ) {t : BackingArray} {bytes : List ℕ}
+    → IsContainer c.bytes p each len t bytes → link_at (bytes_of c.bytes) (place_at p) ≡ Some g → j ≤ t.capacity
     → each * i + each + n ≡ each * j → Fitting (live_of c.bytes) each i n g
 fitting c {each} {g} i n j {t} s link f e =
     let less = more-times each j t.capacity f in
@@ -690,8 +738,9 @@ pub part-room : {l : LiveSet} {each i n g : ℕ} (k : ℕ) → k ≤ each * i + 
     → IsTrue (has_room l g k)
 part-room {l} {each} {i} {n} {g} k f q = room-less l g (each * i + each + n) k f q.room
 
-pub erase-fits : (c : Cut) {p : Place} {each len : ℕ} (k : ℕ) {g : ℕ} (i : ℕ) {t : Table} {bytes : List ℕ}
-    → Stands c.bytes p each len t bytes → k ≡ word_at (bytes_of c.bytes) (place_at p + 8)
+pub erase-fits : (c : WindowState) {p : Place} {each len : ℕ} (k : ℕ) {g : ℕ} (i : ℕ) {t : BackingArray}
+    {bytes : List ℕ}
+    → IsContainer c.bytes p each len t bytes → k ≡ word_at (bytes_of c.bytes) (place_at p + 8)
     → i < word_at (bytes_of c.bytes) (p.handle + p.at + 8) → link_at (bytes_of c.bytes) (place_at p) ≡ Some g
     → Fitting (live_of c.bytes) each i (each * (k - i - 1)) g
 erase-fits c {each} {len} k i s e inside link =
@@ -700,8 +749,9 @@ erase-fits c {each} {len} k i s e inside link =
     let split : each * ((i + 1) + (k - i - 1)) ≡ each * i + each + each * (k - i - 1) = omega arith in
     fitting c i (each * (k - i - 1)) len s link s.fits (sym split ∙ ap (λ j. each * j) whole)
 
-pub insert-fits : (c : Cut) {p : Place} {each len : ℕ} (k : ℕ) {g : ℕ} (i : ℕ) {t : Table} {bytes : List ℕ}
-    → Stands c.bytes p each len t bytes → k ≡ word_at (bytes_of c.bytes) (place_at p + 8)
+pub insert-fits : (c : WindowState) {p : Place} {each len : ℕ} (k : ℕ) {g : ℕ} (i : ℕ) {t : BackingArray}
+    {bytes : List ℕ}
+    → IsContainer c.bytes p each len t bytes → k ≡ word_at (bytes_of c.bytes) (place_at p + 8)
     → i ≤ word_at (bytes_of c.bytes) (p.handle + p.at + 8) → word_at (bytes_of c.bytes) (p.handle + p.at + 8) < word_at
     (bytes_of c.bytes) (p.handle + p.at + 16)
     → link_at (bytes_of c.bytes) (place_at p) ≡ Some g → Fitting (live_of c.bytes) each i (each * (k - i)) g

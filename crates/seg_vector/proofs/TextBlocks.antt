@@ -4,17 +4,21 @@ use Rattle.seg_vector.proofs.Words as W
 use W.{in_use-all, take-append-drop, length-take, length-drop, ◌≡◌, ◌≢◌, sym, ap, subst, ◌∙◌, ℕ, ◌+◌, ◌%◌, ◌≤◌, Option}
 use W.{Some, None, List, ◌∷◌, ◌++◌, ◌==◌, append_assoc, length, arith, inl, inr, refl, zero, suc, ◌-◌, ◌*◌, ◌<◌, take}
 use W.{drop, Bool, true, false, cond, ◌⊎◌, IsTrue, find, option_to_list, option_map, slice_get, IfSome, AllByRecursion}
-use W.{list_any, flat_map-append, take-take, slice_get_within, or_left, or_right, Memory, Cut, bytes_of, word_at}
-use W.{SameBut, Has, current, Storage, link_at, target_of, inserted, without_all, IsExchanged, SameBlockBut, Extent}
-use W.{LiveSet, handle, end_of, IsHeap, extent_at, live_of, SameBlock, IsChanged, has_room, is_live_in, payload_at}
-use W.{IsReleased, Table, is_table, no_table, IsFound, IsNone, Rising, SameSpread, all-found-in, all-in-use}
+use W.{list_any, flat_map-append, take-take, slice_get_within, or_left, or_right, Memory, WindowState, bytes_of}
+use W.{word_at}
+use W.{SameBytesExcept, HasBytesAt, current, Storage, link_at, target_of, inserted, without_all, ExchangesBlocks}
+use W.{SameBlockExcept, Extent}
+use W.{LiveSet, handle, end_of, IsHeap, extent_at, live_of, SameBlock, ChangesBytes, has_room, is_live_in, payload_at}
+use W.{Deallocates, BackingArray, has_backing, no_backing, IsFound, IsNone, Rising, SameSpread, all-found-in}
+use W.{all-in-use}
 use W.{found-inserted, found-none, found-room, live-rises, middle-first, rising-others, roomy, spread-behind}
 use W.{all_of-inserted, but-apart, exchanged-live, found-without, inserted-append, laid-heap, without-inserted, kept}
 use W.{kept-found, word-same, block_payload, room_block, exchange-next, exchange-released, exchange-same, spread-refl}
-use W.{IsSound, live-sound, Has-same, SameBut-word, read-part, SameBut-link, Place, place_at, Stands, IsServed}
-use W.{AreReleased, KeepsGaps, IsSwapped, AreHeldElements, IsHeldElement, AreSameElements, IsSameElement, AreEvenLinks}
+use W.{IsSound, live-sound, HasBytesAt-same, SameBytesExcept-word, read-part, SameBytesExcept-link, Place, place_at}
+use W.{IsContainer, IsServed}
+use W.{FreesBlocks, KeepsGaps, IsSwapped, AreHeldElements, IsHeldElement, SameElements, IsSameElement, AreEvenLinks}
 use W.{IsHeldText, IsTexts}
-use W.{text_blocks, IsTextsNow, IsTextElement, AreInArray, IsOwnedText, OwnedText, AreTextLinks, []}
+use W.{text_blocks, ReplacesTexts, IsTextElement, AreInArray, IsOwnedText, OwnedText, AreTextLinks, []}
 use Rattle.seg_vector.proofs.Runs.{AreHeadWords, IsHead, IsRun, changed-both, none-some, same-some, came-found}
 use Rattle.seg_vector.proofs.Runs.{room-head, own-facts, facts-own}
 use Rattle.seg_vector.proofs.{Runs.serves-full, Runs.table, Runs.table-full, Storage.live-if, Typed.has-element}
@@ -22,7 +26,7 @@ use Rattle.best_fit.specs.Extents.{is_proper}
 
 -- ---- the blocks of a vector of texts, its array and those of its texts, among the other blocks of a heap
 
-abbrev pub own_blocks : List OwnedText → Table → List Extent
+abbrev pub own_blocks : List OwnedText → BackingArray → List Extent
 own_blocks ps t = option_to_list t.extent ++ text_blocks ps
 
 -- a block for each that there is
@@ -76,12 +80,12 @@ none-of h [] n = tt
 none-of h (x ∷ xs) n = ((λ e. n.0 (sym e)), none-of h xs n.1)
 
 -- The block in which the vector stands, which is none of these; and these are put in among the others.
-pub record AreOwn (c : Cut) (p : Place) (own : List Extent) : Type 0 where
+pub record AreOwn (c : WindowState) (p : Place) (own : List Extent) : Type 0 where
   pub head : IsHead c p
   pub none : IsNone p.handle own
   pub is : (live_of c.bytes).extents ≡ inserted own (without_all own (live_of c.bytes).extents)
 
-pub texts-own : (c : Cut) {p : Place} {ps : List OwnedText} {t : Table} → IsTexts c.bytes p ps t
+pub texts-own : (c : WindowState) {p : Place} {ps : List OwnedText} {t : BackingArray} → IsTexts c.bytes p ps t
     → AreOwn c p (own_blocks ps t)
 texts-own c {p} {ps} {t} s =
     let l = live_of c.bytes in let arr = option_to_list t.extent in let tb = text_blocks ps in
@@ -111,9 +115,9 @@ pub of-none : (h : ℕ) (xs : List Extent) → IsNone h xs → AllByRecursion (�
 of-none h [] n = tt
 of-none h (x ∷ xs) n = ((λ e. n.0 (sym e)), of-none h xs n.1)
 
-pub texts-made : (b : List ℕ) (p : Place) (ps : List OwnedText) {t : Table} {head : Extent} (rest : List Extent)
+pub texts-made : (b : List ℕ) (p : Place) (ps : List OwnedText) {t : BackingArray} {head : Extent} (rest : List Extent)
     → IsHeap current b → (live_of b).extents ≡ inserted (own_blocks ps t) rest → find (λ (w : Extent). handle w ==
-    p.handle) rest ≡ Some head → p.at + 24 + 16 ≤ head.len → p.at % 8 ≡ 0 → IsTrue (is_table Storage 16 t)
+    p.handle) rest ≡ Some head → p.at + 24 + 16 ≤ head.len → p.at % 8 ≡ 0 → IsTrue (has_backing Storage 16 t)
     → length ps ≤ t.capacity → AreHeadWords (bytes_of b) (place_at p) (length ps) t → AreInArray (bytes_of b) t ps
     → AllByRecursion (IsOwnedText (bytes_of b)) ps → AllByRecursion IsServed ps → IsTexts b p ps t
 texts-made b p ps {t} {head} rest heap is found big even table fits words array texts served =
@@ -150,7 +154,7 @@ pub blocks-three : (xs ys ws : List OwnedText) → text_blocks (xs ++ (ys ++ ws)
 blocks-three xs ys ws = blocks-append xs (ys ++ ws) ∙ ap (λ zs. text_blocks xs ++ zs) (blocks-append ys ws)
 
 -- those of an array and of texts between others: these first
-pub own-between : (a m b : List OwnedText) (t : Table) → SameSpread (own_blocks (a ++ (m ++ b)) t)
+pub own-between : (a m b : List OwnedText) (t : BackingArray) → SameSpread (own_blocks (a ++ (m ++ b)) t)
     ((option_to_list t.extent ++ text_blocks m) ++ (text_blocks a ++ text_blocks b))
 own-between a m b t =
     let arr = option_to_list t.extent in let ta = text_blocks a in let tm = text_blocks m in
@@ -159,7 +163,7 @@ own-between a m b t =
     (subst (λ (xs : List Extent). SameSpread (arr ++ xs) (arr ++ (tm ++ (ta ++ tb)))) (sym (blocks-three a m b)) p)
 
 -- the other way round
-pub between-own : (a m b : List OwnedText) (t : Table) → SameSpread ((option_to_list t.extent ++ text_blocks m)
+pub between-own : (a m b : List OwnedText) (t : BackingArray) → SameSpread ((option_to_list t.extent ++ text_blocks m)
     ++ (text_blocks a ++ text_blocks b)) (own_blocks (a ++ (m ++ b)) t)
 between-own a m b t =
     let arr = option_to_list t.extent in let ta = text_blocks a in let tm = text_blocks m in
@@ -185,7 +189,7 @@ pub same-loose : (m m' : Memory) (bytes : List ℕ) (o : Option Extent)
 same-loose m m' bytes None k s w = w
 same-loose m m' bytes (Some x) k s w =
     let full = serves-full x (length bytes) s.1 in
-    Has-same m m' _ _ (handle x) bytes k.0.payload (omega arith) (omega (arith, full)) w
+    HasBytesAt-same m m' _ _ (handle x) bytes k.0.payload (omega arith) (omega (arith, full)) w
 
 pub owned-same : (m m' : Memory) (qs : List OwnedText) → AllByRecursion (SameBlock m m') (text_blocks qs)
     → AllByRecursion IsServed qs → AllByRecursion (IsOwnedText m) qs → AllByRecursion (IsOwnedText m') qs
@@ -195,9 +199,10 @@ owned-same m m' (q ∷ qs) k s w =
     (same-loose m m' q.bytes q.extent both.0 s.0 w.0, owned-same m m' qs both.1 s.1 w.1)
 
 -- blocks stay where the words of the vector are written
-all-apart : {old : Cut} (new : Cut) {p : Place} (xs : List Extent) → IsHeap current old.bytes → IsHead old p
+all-apart : {old : WindowState} (new : WindowState) {p : Place} (xs : List Extent) → IsHeap current old.bytes
+    → IsHead old p
     → AllByRecursion (IsFound (live_of old.bytes).extents) xs → AllByRecursion (λ (x : Extent). handle x ≢ p.handle) xs
-    → AllByRecursion (SameBlockBut (bytes_of old.bytes) (bytes_of new.bytes) (place_at p) 24) xs
+    → AllByRecursion (SameBlockExcept (bytes_of old.bytes) (bytes_of new.bytes) (place_at p) 24) xs
     → AllByRecursion (SameBlock (bytes_of old.bytes) (bytes_of new.bytes)) xs
 all-apart new [] heap o f n s = tt
 all-apart {old} new {p} (x ∷ xs) heap o f n s = (
@@ -207,7 +212,8 @@ all-apart {old} new {p} (x ∷ xs) heap o f n s = (
 )
 
 -- the array and some texts among the others
-pub own-parts : (c : Cut) {p : Place} (a m b : List OwnedText) {t : Table} → IsTexts c.bytes p (a ++ (m ++ b)) t
+pub own-parts : (c : WindowState) {p : Place} (a m b : List OwnedText) {t : BackingArray}
+    → IsTexts c.bytes p (a ++ (m ++ b)) t
     → (live_of c.bytes).extents ≡ inserted (option_to_list t.extent ++ text_blocks m)
     (inserted (text_blocks a ++ text_blocks b) (without_all (own_blocks (a ++ (m ++ b)) t) (live_of c.bytes).extents))
 own-parts c {p} a m b {t} s =
@@ -218,21 +224,23 @@ own-parts c {p} a m b {t} s =
 
 -- ---- the vector afterwards: the change that all steps come to
 
-pub texts-between : {old new : Cut} {p : Place} {ps : List OwnedText} (qs a m m' b : List OwnedText) {t u : Table}
+pub texts-between : {old new : WindowState} {p : Place} {ps : List OwnedText} (qs a m m' b : List OwnedText)
+    {t u : BackingArray}
     {gone come : List Extent} → ps ≡ a ++ (m ++ b) → qs ≡ a ++ (m' ++ b)
     → gone ≡ option_to_list t.extent ++ text_blocks m → come ≡ option_to_list u.extent ++ text_blocks m'
-    → IsTexts old.bytes p ps t → IsExchanged current old new (place_at p) 24 gone come
-    → IsTrue (is_table Storage 16 u) → length qs ≤ u.capacity → AreHeadWords (bytes_of new.bytes) (place_at p)
+    → IsTexts old.bytes p ps t → ExchangesBlocks current old new (place_at p) 24 gone come
+    → IsTrue (has_backing Storage 16 u) → length qs ≤ u.capacity → AreHeadWords (bytes_of new.bytes) (place_at p)
     (length qs) u → AreInArray (bytes_of new.bytes) u qs → AllByRecursion (IsOwnedText (bytes_of new.bytes)) m'
-    → AllByRecursion IsServed m' → (gone ≡ come → KeepsGaps old new) → IsTextsNow old new p gone come qs u
+    → AllByRecursion IsServed m' → (gone ≡ come → KeepsGaps old new) → ReplacesTexts old new p gone come qs u
 texts-between {old} {new} {p} qs a m m' b {t} {u} {gone} e f g h before change table fits words array texts served k =
     let l = live_of old.bytes in let M = bytes_of old.bytes in let M' = bytes_of new.bytes in
     let out : List Extent = option_to_list t.extent ++ text_blocks m in
     let into : List Extent = option_to_list u.extent ++ text_blocks m' in
     let same : List Extent = text_blocks a ++ text_blocks b in
     let s = subst (λ (xs : List OwnedText). IsTexts old.bytes p xs t) e before in
-    let x : IsExchanged current old new (place_at p) 24 out into = subst (λ (xs : List Extent). IsExchanged current old
-    new (place_at p) 24 xs into) g (subst (IsExchanged current old new (place_at p) 24 gone) h change) in
+    let x : ExchangesBlocks current old new (place_at p) 24 out into =
+    subst (λ (xs : List Extent). ExchangesBlocks current old
+    new (place_at p) 24 xs into) g (subst (ExchangesBlocks current old new (place_at p) 24 gone) h change) in
     let own = own_blocks (a ++ (m ++ b)) t in let w = texts-own old s in let rest = without_all own l.extents in
     let parts = own-parts old a m b s in
     let stay : without_all out l.extents ≡ inserted same rest = ap (without_all out) parts ∙ without-inserted 128
@@ -242,9 +250,9 @@ texts-between {old} {new} {p} qs a m m' b {t} {u} {gone} e f g h before change t
     (exchanged-live old new _ 24 out into _ x) ∙ ap (inserted into) stay ∙ sym (inserted-append into same rest) in
     let is : (live_of new.bytes).extents ≡ inserted (own_blocks (a ++ (m' ++ b)) u) rest =
     now ∙ (between-own a m' b u).same rest (subst (Rising 128) now (live-rises (live_of new.bytes) heap.proper)) in
-    let blocks = all-split (SameBlockBut M M' (place_at p) 24) (text_blocks a) (text_blocks b)
-    (all_of-inserted (SameBlockBut M M' (place_at p) 24) same rest
-    (subst (AllByRecursion (SameBlockBut M M' (place_at p) 24)) stay x.blocks)).0 in
+    let blocks = all-split (SameBlockExcept M M' (place_at p) 24) (text_blocks a) (text_blocks b)
+    (all_of-inserted (SameBlockExcept M M' (place_at p) 24) same rest
+    (subst (AllByRecursion (SameBlockExcept M M' (place_at p) 24)) stay x.blocks)).0 in
     let held = all-split (IsHeldText l) a (m ++ b) s.held in let held_b = (all-split (IsHeldText l) m b held.1).1 in
     let owned = all-split (IsOwnedText M) a (m ++ b) s.words.texts in
     let owned_b = (all-split (IsOwnedText M) m b owned.1).1 in
@@ -268,7 +276,7 @@ texts-between {old} {new} {p} qs a m m' b {t} {u} {gone} e f g h before change t
 
 -- ---- without a place
 
-pub none-stands : {b : List ℕ} {p : Place} → Stands b p 16 0 no_table [] → IsTexts b p [] no_table
+pub none-stands : {b : List ℕ} {p : Place} → IsContainer b p 16 0 no_backing [] → IsTexts b p [] no_backing
 none-stands s = record {
   heap = s.heap;
   words = record
@@ -316,7 +324,8 @@ links-at m at ps i {q} a e =
 
 -- ---- the element of a text
 
-pub element-of : (c : Cut) {p : Place} {ps : List OwnedText} {k g : ℕ} (i : ℕ) {o : Option Extent} {q : OwnedText}
+pub element-of : (c : WindowState) {p : Place} {ps : List OwnedText} {k g : ℕ} (i : ℕ) {o : Option Extent}
+    {q : OwnedText}
     → IsTexts c.bytes p ps (record { capacity = k; extent = o }) → link_at (bytes_of c.bytes) (place_at p) ≡ Some g
     → slice_get ps i ≡ Some q → IsTextElement c.bytes g (16 * i) q
 element-of c i {o = None} s link e = none-some s.words.link link
@@ -335,7 +344,7 @@ element-of c {ps} {k} i {o = Some x} {q} s link e =
     }
 
 -- texts have an array
-pub no-array : (c : Cut) {p : Place} {ps : List OwnedText} {k : ℕ} {o : Option Extent} → IsTexts c.bytes p ps
+pub no-array : (c : WindowState) {p : Place} {ps : List OwnedText} {k : ℕ} {o : Option Extent} → IsTexts c.bytes p ps
     (record { capacity = k; extent = o }) → link_at (bytes_of c.bytes) (place_at p) ≡ None → length ps ≡ 0
 no-array c {o = None} s link = ap length s.words.array
 no-array c {o = Some x} s link = none-some link s.words.link
@@ -350,7 +359,7 @@ empty-text {o = Some x} s link = none-some link s.link
 -- the block of a text has room for it, and begins with it
 pub record IsTextBlock (b : List ℕ) (g : ℕ) (bytes : List ℕ) : Type 0 where
   pub room : IsTrue (has_room (live_of b) g (length bytes))
-  pub content : Has (bytes_of b) g bytes
+  pub content : HasBytesAt (bytes_of b) g bytes
 
 pub text-block : {b : List ℕ} {array at g : ℕ} {bytes : List ℕ} {o : Option Extent} → IsTextElement b array at
     (record { bytes = bytes; extent = o }) → link_at (bytes_of b) (array + at) ≡ Some g → IsTextBlock b g bytes
@@ -363,7 +372,7 @@ text-block {b} {bytes} {o = Some x} s link =
 pub block-live : {b : List ℕ} {g : ℕ} {bytes : List ℕ} → IsTextBlock b g bytes → IsTrue (is_live_in (live_of b) g)
 block-live {b} {g} {bytes} t = live-if g (length bytes) (live_of b).extents t.room
 
-pub block-front : (c : Cut) {g : ℕ} {bytes : List ℕ} (out : List ℕ) → IsHeap current c.bytes
+pub block-front : (c : WindowState) {g : ℕ} {bytes : List ℕ} (out : List ℕ) → IsHeap current c.bytes
     → IsTextBlock c.bytes g bytes → out ≡ payload_at c.bytes (live_of c.bytes) g → take (length bytes) out ≡ bytes
 block-front c {g} {bytes} out heap t e =
     let n = length bytes in let r = room_block c g n heap t.room in
@@ -394,24 +403,25 @@ element-live {b} {o = Some x} s link =
     let g_is = same-some (sym s.link ∙ link) in
     subst (λ k. IsTrue (is_live_in (live_of b) k)) g_is (found-live (handle x) (live_of b).extents s.live.0)
 
-pub released-some : {old new : Cut} {array at g : ℕ} {bytes : List ℕ} {o : Option Extent} → IsHeldElement old.bytes
+pub released-some : {old new : WindowState} {array at g : ℕ} {bytes : List ℕ} {o : Option Extent}
+    → IsHeldElement old.bytes
     array at (record { bytes = bytes; extent = o }) → link_at (bytes_of old.bytes) (array + at) ≡ Some g
-    → IsReleased current old new g → AreReleased old new (option_to_list o)
+    → Deallocates current old new g → FreesBlocks old new (option_to_list o)
 released-some {o = None} s link r = none-some s.link link
 released-some {old} {new} {o = Some x} s link r =
     let g_is = same-some (sym link ∙ s.link) in
     record {
-      change = exchange-released current old new x 0 0 (subst (IsReleased current old new) g_is r);
+      change = exchange-released current old new x 0 0 (subst (Deallocates current old new) g_is r);
       same = λ e. absurd (cc);
     }
 
 -- nothing is exchanged
-pub swapped-none : (c : Cut) → IsHeap current c.bytes → IsSwapped c c [] []
+pub swapped-none : (c : WindowState) → IsHeap current c.bytes → IsSwapped c c [] []
 swapped-none c heap = exchange-same _ c 0 0 [] (live_of c.bytes).extents heap refl
 
-pub released-none : (old : Cut) {array at : ℕ} {bytes : List ℕ} {o : Option Extent}
+pub released-none : (old : WindowState) {array at : ℕ} {bytes : List ℕ} {o : Option Extent}
     → IsHeldElement old.bytes array at (record { bytes = bytes; extent = o })
-    → link_at (bytes_of old.bytes) (array + at) ≡ None → AreReleased old old (option_to_list o)
+    → link_at (bytes_of old.bytes) (array + at) ≡ None → FreesBlocks old old (option_to_list o)
 released-none old {o = None} s link = record { change = swapped-none old s.heap; same = λ e. refl }
 released-none old {o = Some x} s link = none-some link s.link
 
@@ -427,14 +437,14 @@ one-of P (y ∷ ys) (suc i) a e = one-of P ys i (all-split P (option_to_list y.e
 
 -- ---- one after another
 
-pub releases-begin : (c : Cut) {array n : ℕ} {ps : List OwnedText} → AreHeldElements c.bytes array n ps
+pub releases-begin : (c : WindowState) {array n : ℕ} {ps : List OwnedText} → AreHeldElements c.bytes array n ps
     → IsSwapped c c (text_blocks ps) (text_blocks ps)
 releases-begin c {ps} s =
     let i = all-in-use (text_blocks ps) (live_of c.bytes).extents (live-rises (live_of c.bytes) s.heap.proper) s.others
     s.live in
     exchange-same _ c 0 0 (text_blocks ps) (without_all (text_blocks ps) (live_of c.bytes).extents) s.heap i.is
 
-pub element-left : {old now : Cut} {array n : ℕ} (i : ℕ) {ps : List OwnedText} {q : OwnedText}
+pub element-left : {old now : WindowState} {array n : ℕ} (i : ℕ) {ps : List OwnedText} {q : OwnedText}
     → AreHeldElements old.bytes array n ps → slice_get ps i ≡ Some q
     → IsSwapped old now (text_blocks ps) (text_blocks (drop i ps)) → IsHeldElement now.bytes array (16 * i) q
 element-left {old} {now} {array} {n} i {ps} {q} s e x =
@@ -455,7 +465,7 @@ element-left {old} {now} {array} {n} i {ps} {q} s e x =
           first).0;
     }
 
-pub releases-next : {old now new : Cut} (i : ℕ) (ps : List OwnedText) {q : OwnedText} → slice_get ps i ≡ Some q
+pub releases-next : {old now new : WindowState} (i : ℕ) (ps : List OwnedText) {q : OwnedText} → slice_get ps i ≡ Some q
     → IsSwapped old now (text_blocks ps) (text_blocks (drop i ps)) → IsSwapped now new (option_to_list q.extent) []
     → IsSwapped old new (text_blocks ps) (text_blocks (drop (i + 1) ps))
 releases-next {old} {now} {new} i ps {q} e x y =
@@ -466,7 +476,8 @@ releases-next {old} {now} {new} i ps {q} e x y =
     (exchange-next _ old now new 0 0 _ _ _ left [] spread x y)
 
 -- so far none of them has a block, and nothing has changed
-pub released-nothing-next : {old now new : Cut} (ps : List OwnedText) (i : ℕ) {q : OwnedText} → slice_get ps i ≡ Some q
+pub released-nothing-next : {old now new : WindowState} (ps : List OwnedText) (i : ℕ) {q : OwnedText}
+    → slice_get ps i ≡ Some q
     → text_blocks ps ≡ [] → now ≡ old → (option_to_list q.extent ≡ [] → new ≡ now) → new ≡ old
 released-nothing-next ps i {q} e none so_far next =
     let all = subst (AllByRecursion (λ (x : Extent). ⊥)) (sym none) tt in
@@ -488,12 +499,12 @@ element-in {m} {m'} at s f g = record {
 same-at : {m m' : Memory} {a b at to : ℕ} → a ≡ at → b ≡ to → IsSameElement m m' a b → IsSameElement m m' at to
 same-at {m} {m'} {a} {b} {at} {to} e f s = subst (λ k. IsSameElement m m' k to) e (subst (IsSameElement m m' a) f s)
 
-later : (m m' : Memory) (a b n : ℕ) → AreSameElements m m' a b (suc n) → AreSameElements m m' (a + 16) (b + 16) n
+later : (m m' : Memory) (a b n : ℕ) → SameElements m m' a b (suc n) → SameElements m m' (a + 16) (b + 16) n
 later m m' a b n s j f = same-at (omega arith) (omega arith) (s (suc j) (omega arith))
 
 -- elements that are put elsewhere
 pub links-moved : (m m' : Memory) (a b : ℕ) (ps : List OwnedText) → AreTextLinks m a ps
-    → AreSameElements m m' a b (length ps) → AreTextLinks m' b ps
+    → SameElements m m' a b (length ps) → AreTextLinks m' b ps
 links-moved m m' a b [] l s = tt
 links-moved m m' a b (q ∷ qs) l s =
     let e : IsSameElement m m' a b = same-at (omega arith) (omega arith) (s 0 (omega arith)) in
@@ -509,7 +520,7 @@ links-join m at (x ∷ xs) ys l r =
 -- other elements in the place of those between the first i and those from j on
 pub links-edited : {m m' : Memory} (g : ℕ) {at to n : ℕ} (ps : List OwnedText) (i j : ℕ) (zs : List OwnedText)
     → i ≤ length ps → j ≤ length ps → at ≡ g + 16 * j → to ≡ g + 16 * i + 16 * length zs → n ≡ length ps - j
-    → AreTextLinks m g ps → AreSameElements m m' g g i → AreTextLinks m' (g + 16 * i) zs → AreSameElements m m' at to n
+    → AreTextLinks m g ps → SameElements m m' g g i → AreTextLinks m' (g + 16 * i) zs → SameElements m m' at to n
     → AreTextLinks m' g (take i ps ++ (zs ++ drop j ps))
 links-edited {m} {m'} g {at} {to} {n} ps i j zs f h a b c l front mid back =
     let fl : length (take i ps) ≡ i = omega (arith, length-take i ps, f) in
@@ -517,15 +528,16 @@ links-edited {m} {m'} g {at} {to} {n} ps i j zs f h a b c l front mid back =
     let here : g + 16 * length (take j ps) ≡ at = omega (arith, length-take j ps, h, a) in
     let parts = λ (k : ℕ). links-split m g (take k ps) (drop k ps)
     (subst (AreTextLinks m g) (sym (take-append-drop k ps)) l) in
-    let first = links-moved m m' g g (take i ps) (parts i).0 (subst (AreSameElements m m' g g) (sym fl) front) in
+    let first = links-moved m m' g g (take i ps) (parts i).0 (subst (SameElements m m' g g) (sym fl) front) in
     let behind : AreTextLinks m at (drop j ps) = subst (λ k. AreTextLinks m k (drop j ps)) here (parts j).1 in
-    let last = links-moved m m' at to (drop j ps) behind (subst (AreSameElements m m' at to) bl back) in
+    let last = links-moved m m' at to (drop j ps) behind (subst (SameElements m m' at to) bl back) in
     links-join m' g (take i ps) (zs ++ drop j ps) first (subst (λ k. AreTextLinks m' (g + 16 * k) (zs ++ drop j ps))
     (sym fl) (links-join m' (g + 16 * i) zs (drop j ps) mid (subst (λ k. AreTextLinks m' k (drop j ps)) b last)))
 
 -- ---- it begins
 
-pub run-begin : (c : Cut) {p : Place} {ps : List OwnedText} (a m b : List OwnedText) {t : Table} → ps ≡ a ++ (m ++ b)
+pub run-begin : (c : WindowState) {p : Place} {ps : List OwnedText} (a m b : List OwnedText) {t : BackingArray}
+    → ps ≡ a ++ (m ++ b)
     → IsTexts c.bytes p ps t
     → IsRun c c p (option_to_list t.extent ++ text_blocks m) (option_to_list t.extent ++ text_blocks m) (length ps) t
 run-begin c {p} a m b {t} e s =
@@ -541,7 +553,7 @@ run-begin c {p} a m b {t} e s =
 
 -- ---- the block of an array, and what its links lead to
 
-pub held-element : (c : Cut) {array n : ℕ} (i : ℕ) {ps : List OwnedText} {q : OwnedText}
+pub held-element : (c : WindowState) {array n : ℕ} (i : ℕ) {ps : List OwnedText} {q : OwnedText}
     → AreHeldElements c.bytes array n ps → slice_get ps i ≡ Some q → IsHeldElement c.bytes array (16 * i) q
 held-element c {array} {n} i {ps} {q} s e =
     let r = roomy c array (16 * n) s.heap s.room in let big = r.room in let below = slice_get_within ps i q e in
@@ -561,7 +573,7 @@ even-block l None p f = tt
 even-block l (Some x) p f =
     let s = (in_use-all IsSound l (handle x) x p f.0 (live-sound l p)).0 in omega (arith, s.aligned)
 
-pub even-held : (c : Cut) {array n : ℕ} {ps : List OwnedText} → AreHeldElements c.bytes array n ps
+pub even-held : (c : WindowState) {array n : ℕ} {ps : List OwnedText} → AreHeldElements c.bytes array n ps
     → AreEvenLinks (bytes_of c.bytes) array n
 even-held c {array} {ps} s j f =
     let q = has-element ps j (omega (arith, f, s.long)) in
@@ -575,12 +587,12 @@ even-from m a b i k n e is f j g =
 
 -- ---- the array, once other blocks are exchanged
 
-pub record IsArrayLeft (c : Cut) (array n : ℕ) : Type 0 where
+pub record IsArrayLeft (c : WindowState) (array n : ℕ) : Type 0 where
   pub heap : IsHeap current c.bytes
   pub room : IsTrue (has_room (live_of c.bytes) array (16 * n))
   pub even : AreEvenLinks (bytes_of c.bytes) array n
 
-pub array-left : {old new : Cut} {array n : ℕ} {ps : List OwnedText} {gone come : List Extent}
+pub array-left : {old new : WindowState} {array n : ℕ} {ps : List OwnedText} {gone come : List Extent}
     → AreHeldElements old.bytes array n ps → IsSwapped old new gone come → IsNone array gone → IsArrayLeft new array n
 array-left {old} {new} {array} {n} {gone} {come} s x none =
     let r = roomy old array (16 * n) s.heap s.room in
@@ -596,15 +608,16 @@ array-left {old} {new} {array} {n} {gone} {come} s x none =
 -- ---- elements of the array of a vector of texts, put elsewhere one after another
 
 -- an element beside what is written
-pub element-beside : {m m' : Memory} {from n : ℕ} (at : ℕ) → SameBut m m' from n → (at + 16 ≤ from) ⊎ (from + n ≤ at)
+pub element-beside : {m m' : Memory} {from n : ℕ} (at : ℕ) → SameBytesExcept m m' from n
+    → (at + 16 ≤ from) ⊎ (from + n ≤ at)
     → IsSameElement m m' at at
 element-beside {m} {m'} {from} {n} at s (inl f) = record {
-  link = SameBut-link m m' from n at s (inl (omega arith));
-  len_word = SameBut-word m m' from n (at + 8) s (inl (omega arith));
+  link = SameBytesExcept-link m m' from n at s (inl (omega arith));
+  len_word = SameBytesExcept-word m m' from n (at + 8) s (inl (omega arith));
 }
 element-beside {m} {m'} {from} {n} at s (inr f) = record {
-  link = SameBut-link m m' from n at s (inr (omega arith));
-  len_word = SameBut-word m m' from n (at + 8) s (inr (omega arith));
+  link = SameBytesExcept-link m m' from n at s (inr (omega arith));
+  len_word = SameBytesExcept-word m m' from n (at + 8) s (inr (omega arith));
 }
 
 pub element-trans : {m m' m'' : Memory} {a b c : ℕ} → IsSameElement m m' a b → IsSameElement m' m'' b c
@@ -613,19 +626,19 @@ element-trans p q = record { link = q.link ∙ p.link; len_word = q.len_word ∙
 
 -- ---- the first one first
 
-pub source-stays : {old now : Cut} (a : ℕ) {b : ℕ} (i n : ℕ) → IsChanged current old now b (16 * i) → (b ≤ a)
+pub source-stays : {old now : WindowState} (a : ℕ) {b : ℕ} (i n : ℕ) → ChangesBytes current old now b (16 * i) → (b ≤ a)
     ⊎ (a + 16 * n ≤ b) → i < n → IsSameElement (bytes_of old.bytes) (bytes_of now.bytes) (a + 16 * i) (a + 16 * i)
 source-stays a i n c (inl f) below = element-beside (a + 16 * i) c.rest (inr (omega arith))
 source-stays a i n c (inr f) below = element-beside (a + 16 * i) c.rest (inl (omega arith))
 
-pub carried-changed : {old now new : Cut} {b to : ℕ} (i : ℕ) → IsChanged current old now b (16 * i)
-    → to ≡ b + 16 * i → IsChanged current now new to 16 → IsChanged current old new b (16 * (i + 1))
+pub carried-changed : {old now new : WindowState} {b to : ℕ} (i : ℕ) → ChangesBytes current old now b (16 * i)
+    → to ≡ b + 16 * i → ChangesBytes current now new to 16 → ChangesBytes current old new b (16 * (i + 1))
 carried-changed {b} i c e d =
     changed-both b (16 * (i + 1)) c d (omega arith) (omega arith) (omega (arith, e)) (omega (arith, e))
 
 -- one more is put in its place
 one-more : {m m' m'' : Memory} {at to : ℕ} (a b k j : ℕ)
-    → (j ≢ k → IsSameElement m m' (a + 16 * j) (b + 16 * j)) → SameBut m' m'' to 16 → IsSameElement m m'' at to
+    → (j ≢ k → IsSameElement m m' (a + 16 * j) (b + 16 * j)) → SameBytesExcept m' m'' to 16 → IsSameElement m m'' at to
     → at ≡ a + 16 * k → to ≡ b + 16 * k → (j < k) ⊎ ((k < j) ⊎ (j ≡ k)) → IsSameElement m m'' (a + 16 * j) (b + 16 * j)
 one-more a b k j s d e from is (inl f) = element-trans (s (λ g. omega (arith, f, g)))
     (element-beside (b + 16 * j) d (inl (omega (arith, f, is))))
@@ -636,10 +649,10 @@ one-more a b k j s d e from is (inr (inr f)) = same-at (omega (arith, f, from)) 
 sides : (j k : ℕ) → (j < k) ⊎ ((k < j) ⊎ (j ≡ k))
 sides j k = grind arith
 
-pub carried-next : {old now new : Cut} {at to : ℕ} (a : ℕ) {b : ℕ} (i n : ℕ) → AreSameElements (bytes_of old.bytes)
-    (bytes_of now.bytes) a b i → IsChanged current old now b (16 * i) → (b ≤ a) ⊎ (a + 16 * n ≤ b) → i < n
-    → at ≡ a + 16 * i → to ≡ b + 16 * i → IsChanged current now new to 16 → IsSameElement (bytes_of now.bytes)
-    (bytes_of new.bytes) at to → AreSameElements (bytes_of old.bytes) (bytes_of new.bytes) a b (i + 1)
+pub carried-next : {old now new : WindowState} {at to : ℕ} (a : ℕ) {b : ℕ} (i n : ℕ) → SameElements (bytes_of old.bytes)
+    (bytes_of now.bytes) a b i → ChangesBytes current old now b (16 * i) → (b ≤ a) ⊎ (a + 16 * n ≤ b) → i < n
+    → at ≡ a + 16 * i → to ≡ b + 16 * i → ChangesBytes current now new to 16 → IsSameElement (bytes_of now.bytes)
+    (bytes_of new.bytes) at to → SameElements (bytes_of old.bytes) (bytes_of new.bytes) a b (i + 1)
 carried-next a {b} i n s c apart below from is d e j under = one-more a b i j (λ g. s j (omega (arith, g, under)))
     d.rest (element-trans (same-at (sym from) (sym from) (source-stays a i n c apart below)) e) from is (sides j i)
 
@@ -653,19 +666,21 @@ even-now a n i e f s = subst (λ o. IfSome o (λ target. target % 16 ≡ 0)) (sy
 abbrev pub AreUp : Memory → Memory → ℕ → ℕ → ℕ → Type 0
 AreUp m m' a k n = (j : ℕ) → k ≤ j → j < n → IsSameElement m m' (a + 16 * j) (a + 16 + 16 * j)
 
-pub up-source : {old now : Cut} (a k i n : ℕ) → k + (i + 1) ≡ n → IsChanged current old now (a + 16 + 16 * (n - i))
+pub up-source : {old now : WindowState} (a k i n : ℕ) → k + (i + 1) ≡ n
+    → ChangesBytes current old now (a + 16 + 16 * (n - i))
     (16 * i) → IsSameElement (bytes_of old.bytes) (bytes_of now.bytes) (a + 16 * k) (a + 16 * k)
 up-source a k i n e c = element-beside (a + 16 * k) c.rest (inl (omega arith))
 
-pub up-changed : {old now new : Cut} {to : ℕ} (a k i n : ℕ) → k + (i + 1) ≡ n
-    → IsChanged current old now (a + 16 + 16 * (n - i)) (16 * i) → to ≡ a + 16 + 16 * k
-    → IsChanged current now new to 16 → IsChanged current old new (a + 16 + 16 * (n - (i + 1))) (16 * (i + 1))
+pub up-changed : {old now new : WindowState} {to : ℕ} (a k i n : ℕ) → k + (i + 1) ≡ n
+    → ChangesBytes current old now (a + 16 + 16 * (n - i)) (16 * i) → to ≡ a + 16 + 16 * k
+    → ChangesBytes current now new to 16 → ChangesBytes current old new (a + 16 + 16 * (n - (i + 1))) (16 * (i + 1))
 up-changed a k i n e c is d = changed-both (a + 16 + 16 * (n - (i + 1))) (16 * (i + 1)) c d (omega arith) (omega arith)
     (omega (arith, e, is)) (omega (arith, e, is))
 
-pub up-next : {old now new : Cut} {at to : ℕ} (a k i n : ℕ) → k + (i + 1) ≡ n → AreUp (bytes_of old.bytes)
-    (bytes_of now.bytes) a (n - i) n → IsChanged current old now (a + 16 + 16 * (n - i)) (16 * i) → at ≡ a + 16 * k
-    → to ≡ a + 16 + 16 * k → IsChanged current now new to 16 → IsSameElement (bytes_of now.bytes) (bytes_of new.bytes)
+pub up-next : {old now new : WindowState} {at to : ℕ} (a k i n : ℕ) → k + (i + 1) ≡ n → AreUp (bytes_of old.bytes)
+    (bytes_of now.bytes) a (n - i) n → ChangesBytes current old now (a + 16 + 16 * (n - i)) (16 * i) → at ≡ a + 16 * k
+    → to ≡ a + 16 + 16 * k → ChangesBytes current now new to 16
+    → IsSameElement (bytes_of now.bytes) (bytes_of new.bytes)
     at to → AreUp (bytes_of old.bytes) (bytes_of new.bytes) a (n - (i + 1)) n
 up-next a k i n is s c from to d e j low below = one-more a (a + 16) k j (λ g. s j (omega (arith, g, is, low)) below)
     d.rest (element-trans (same-at (sym from) (sym from) (up-source a k i n is c)) e) from to (sides j k)

@@ -1,15 +1,19 @@
 -- A vector of texts without texts, with one less or another one, or cut; and a text in a block of its own.
-use W.{◌≡◌, bytes_of, target_of, IsChanged, SameBlock, laid-heap, word-same, IsSwapped, AreOthers, IsStorage, OwnedText}
-use W.{◌≢◌, refl, sym, Some, None, List, ◌++◌, arith, take, drop, zero, Same, read, Table, kept, place, Place, Stands}
-use W.{ap, ◌∙◌, ℕ, ◌+◌, ◌*◌, ◌∷◌, inl, inr, ◌⊎◌, suc, ◌-◌, ◌<◌, ◌≤◌, ◌%◌, ⊤, Cut, Has, [], subst, option_map, slice_set}
-use W.{SameSpread, found-room, last-first, kept-found, IsOwnBlock, IsTextsNow, AreInArray, Option, take-append-drop}
+use W.{◌≡◌, bytes_of, target_of, ChangesBytes, SameBlock, laid-heap, word-same, IsSwapped, AreDistinct, IsStorage}
+use W.{OwnedText}
+use W.{◌≢◌, refl, sym, Some, None, List, ◌++◌, arith, take, drop, zero, SameBytes, read, BackingArray, kept, place}
+use W.{Place, IsContainer}
+use W.{ap, ◌∙◌, ℕ, ◌+◌, ◌*◌, ◌∷◌, inl, inr, ◌⊎◌, suc, ◌-◌, ◌<◌, ◌≤◌, ◌%◌, ⊤, WindowState, HasBytesAt, [], subst}
+use W.{option_map, slice_set}
+use W.{SameSpread, found-room, last-first, kept-found, IsStorageBlock, ReplacesTexts, AreInArray, Option}
+use W.{take-append-drop}
 use W.{slice_get_within, shorter-IsShorter, still_allocated, SameBlock-trans, AreHeldElements, append-nil, slice_get}
-use W.{length-take, IsAllocated, spread-refl, IsGivenBack, text_blocks, placed_text, IsOwnedText, length, IsTrue}
+use W.{length-take, AllocatesOk, spread-refl, FreesStorageOk, text_blocks, placed_text, IsOwnedText, length, IsTrue}
 use W.{remove, IfSome, eq-eqb, ne_eqb, Memory, Extent, handle, end_of, IsHeap, IsNone, shorter, IsTexts, length-append}
-use W.{option_to_list, AllByRecursion, allocated-room, exchange-taken, AreSameElements, nil_from_length, if◌then◌else◌}
-use W.{append_assoc, length-drop, exchange-next, place-serves, IsHeldElement, IsTextPlaced, AreTextLinks, word_at}
-use W.{AreReleased, KeepsGaps, IsExchanged, exchanged-live, gaps-payload, gaps-then, gaps-trans, current, link_at}
-use W.{LiveSet, live_of, no_table, is_table, IsFound, Storage, IsFitted, place_at, IsServed}
+use W.{option_to_list, AllByRecursion, allocated-room, exchange-taken, SameElements, nil_from_length, if◌then◌else◌}
+use W.{append_assoc, length-drop, exchange-next, place-serves, IsHeldElement, PlacesTextOk, AreTextLinks, word_at}
+use W.{FreesBlocks, KeepsGaps, ExchangesBlocks, exchanged-live, gaps-payload, gaps-then, gaps-trans, current, link_at}
+use W.{LiveSet, live_of, no_backing, has_backing, IsFound, Storage, ShrinksStorageOk, place_at, IsServed}
 use Rattle.seg_vector.proofs.Runs.{AreHeadWords, IsHead, IsRun, beside-head, block-written, head-kept, head-room}
 use Rattle.seg_vector.proofs.Runs.{head-wider, len-written, none-some, room-head, run-found, run-headed, run-swapped}
 use Rattle.seg_vector.proofs.Runs.{head-gaps, same-some, table, table-full, words-kept, all-as, came-found, came-others}
@@ -41,11 +45,11 @@ held-elements {b} {ps} {c} n {o = Some x} s link e =
       others = s.others.1;
     })
 
-pub released-nothing : (c : Cut) {p : Place} {ps : List OwnedText} {t : Table} → IsTexts c.bytes p ps t
-    → link_at (bytes_of c.bytes) (place_at p) ≡ None → AreReleased c c (text_blocks ps)
+pub released-nothing : (c : WindowState) {p : Place} {ps : List OwnedText} {t : BackingArray} → IsTexts c.bytes p ps t
+    → link_at (bytes_of c.bytes) (place_at p) ≡ None → FreesBlocks c c (text_blocks ps)
 released-nothing c {ps} s link =
     let none = nil_from_length ps (no-array c s link) in
-    subst (λ (qs : List OwnedText). AreReleased c c (text_blocks qs)) (sym none)
+    subst (λ (qs : List OwnedText). FreesBlocks c c (text_blocks qs)) (sym none)
     (record { change = swapped-none c s.heap; same = λ e. refl })
 
 -- ---- no text
@@ -54,10 +58,11 @@ pub no-links : (m : Memory) (c : ℕ) (o : Option Extent) → AreInArray m (tabl
 no-links m c None = refl
 no-links m c (Some x) = tt
 
-pub cleared : {old mid new : Cut} {p : Place} {ps : List OwnedText} {t : Table} → IsTexts old.bytes p ps t
-    → AreReleased old mid (text_blocks ps) → IsChanged current mid new (p.handle + (p.at + 8)) 8
+pub cleared : {old mid new : WindowState} {p : Place} {ps : List OwnedText} {t : BackingArray}
+    → IsTexts old.bytes p ps t
+    → FreesBlocks old mid (text_blocks ps) → ChangesBytes current mid new (p.handle + (p.at + 8)) 8
     → word_at (bytes_of new.bytes) (p.handle + (p.at + 8)) ≡ 0
-    → IsTextsNow old new p (option_to_list t.extent ++ text_blocks ps) (option_to_list t.extent) [] t
+    → ReplacesTexts old new p (option_to_list t.extent ++ text_blocks ps) (option_to_list t.extent) [] t
 cleared {old} {mid} {new} {p} {ps} {t} s r c word =
     let x = r.change in let wide = head-wider p c (omega arith) (omega arith) in let arr = option_to_list t.extent
     in let tb = text_blocks ps in
@@ -66,22 +71,22 @@ cleared {old} {mid} {new} {p} {ps} {t} s r c word =
     let r2 = run-headed r1 wide
     (len-written 0 (omega arith) c.rest word r1.words) in
     texts-between [] [] ps [] [] (sym (append-nil ps)) refl refl (sym (append-nil arr)) s r2.change s.table
-    (omega arith) r2.words (no-links (bytes_of new.bytes) t.capacity t.extent) tt tt (λ e. subst (λ (c : Cut).
+    (omega arith) r2.words (no-links (bytes_of new.bytes) t.capacity t.extent) tt tt (λ e. subst (λ (c : WindowState).
     KeepsGaps c new) (r.same (behind-array t.extent (e ∙ sym (append-nil arr)))) (head-gaps p (head-room r1.head) wide))
 
 -- ---- no array
 
-given-up-gaps : {old mid new : Cut} {p : Place} (o : Option Extent) (blocks : List Extent) {c : ℕ}
-    → IsTextsNow old mid p (option_to_list o ++ blocks) (option_to_list o) [] (table c o)
-    → IsGivenBack mid new p 16 (table c o) → option_to_list o ++ blocks ≡ [] → KeepsGaps old new
+given-up-gaps : {old mid new : WindowState} {p : Place} (o : Option Extent) (blocks : List Extent) {c : ℕ}
+    → ReplacesTexts old mid p (option_to_list o ++ blocks) (option_to_list o) [] (table c o)
+    → FreesStorageOk mid new p 16 (table c o) → option_to_list o ++ blocks ≡ [] → KeepsGaps old new
 given-up-gaps {old} {mid} {new} {p} None blocks x g e =
-    let change = subst (λ (xs : List Extent). IsExchanged current old mid (place_at p) 24 xs []) e x.change in
+    let change = subst (λ (xs : List Extent). ExchangesBlocks current old mid (place_at p) 24 xs []) e x.change in
     gaps-trans old mid new (exchanged-live old mid (place_at p) 24 [] [] current change) (x.gaps e) (g.gaps refl)
 given-up-gaps (Some y) blocks x g e = absurd (cc)
 
-pub given-up-all : {old mid new : Cut} {p : Place} {o : Option Extent} (blocks : List Extent) {c : ℕ}
-    → IsTextsNow old mid p (option_to_list o ++ blocks) (option_to_list o) [] (table c o)
-    → IsGivenBack mid new p 16 (table c o) → IsTextsNow old new p (option_to_list o ++ blocks) [] [] no_table
+pub given-up-all : {old mid new : WindowState} {p : Place} {o : Option Extent} (blocks : List Extent) {c : ℕ}
+    → ReplacesTexts old mid p (option_to_list o ++ blocks) (option_to_list o) [] (table c o)
+    → FreesStorageOk mid new p 16 (table c o) → ReplacesTexts old new p (option_to_list o ++ blocks) [] [] no_backing
 given-up-all {old} {mid} {new} {o = o} blocks x g =
     let arr = option_to_list o in let gone = arr ++ blocks in
     record {
@@ -92,7 +97,7 @@ given-up-all {old} {mid} {new} {o = o} blocks x g =
 
 -- ---- the word
 
-pub head-after : {old mid : Cut} {p : Place} {ps : List OwnedText} {t : Table} → IsTexts old.bytes p ps t
+pub head-after : {old mid : WindowState} {p : Place} {ps : List OwnedText} {t : BackingArray} → IsTexts old.bytes p ps t
     → IsSwapped old mid (text_blocks ps) [] → IsHead mid p
 head-after {old} {p} {ps} {t} s x =
     head-kept (room-head old p s.heap s.room) x (none-of p.handle (text_blocks ps) s.apart)
@@ -119,15 +124,15 @@ text-apart {p} {ps} i {x} s e = record {
 
 -- three steps: of the first and the last the array is kept, and in the second elements move from `a` to `b`
 pub elements-through : {m0 m1 m2 m3 : Memory} {x : Extent} (a b n : ℕ) → SameBlock m0 m1 x
-    → AreSameElements m1 m2 a b n → SameBlock m2 m3 x → handle x ≤ a → a + 16 * n ≤ end_of x → handle x ≤ b
-    → b + 16 * n ≤ end_of x → AreSameElements m0 m3 a b n
+    → SameElements m1 m2 a b n → SameBlock m2 m3 x → handle x ≤ a → a + 16 * n ≤ end_of x → handle x ≤ b
+    → b + 16 * n ≤ end_of x → SameElements m0 m3 a b n
 elements-through a b n k1 s k2 f1 f2 g1 g2 j h = element-trans
     (element-trans (element-in (a + 16 * j) k1 (omega (arith, f1)) (omega (arith, f2, h))) (s j h))
     (element-in (b + 16 * j) k2 (omega (arith, g1)) (omega (arith, g2, h)))
 
 -- elements beside those that are written
-pub elements-beside : {old new : Cut} {from k : ℕ} (a n : ℕ) → IsChanged current old new from k
-    → (a + 16 * n ≤ from) ⊎ (from + k ≤ a) → AreSameElements (bytes_of old.bytes) (bytes_of new.bytes) a a n
+pub elements-beside : {old new : WindowState} {from k : ℕ} (a n : ℕ) → ChangesBytes current old new from k
+    → (a + 16 * n ≤ from) ⊎ (from + k ≤ a) → SameElements (bytes_of old.bytes) (bytes_of new.bytes) a a n
 elements-beside a n c (inl f) j h = element-beside (a + 16 * j) c.rest (inl (omega (arith, f, h)))
 elements-beside a n c (inr f) j h = element-beside (a + 16 * j) c.rest (inr (omega (arith, f)))
 
@@ -138,13 +143,13 @@ pub removed-length : (ps : List OwnedText) (i : ℕ) {q : OwnedText} → slice_g
 removed-length ps i {q} e = let below : i < length ps = slice_get_within ps i q e in omega
     (arith, length-append (take i ps) (drop (suc i) ps), length-take i ps, length-drop (suc i) ps, below)
 
-pub erased-by : {s0 s1 s2 s3 : Cut} {p : Place} {ps : List OwnedText} {c g : ℕ} (i n : ℕ) {o : Option Extent}
+pub erased-by : {s0 s1 s2 s3 : WindowState} {p : Place} {ps : List OwnedText} {c g : ℕ} (i n : ℕ) {o : Option Extent}
     {q : OwnedText} → IsTexts s0.bytes p ps (table c o) → slice_get ps i ≡ Some q
     → link_at (bytes_of s0.bytes) (place_at p) ≡ Some g → n ≡ length ps
-    → AreReleased s0 s1 (option_to_list q.extent) → IsChanged current s1 s2 (g + 16 * i) (16 * (n - i - 1))
-    → AreSameElements (bytes_of s1.bytes) (bytes_of s2.bytes) (g + (16 * i + 16)) (g + 16 * i) (n - i - 1)
-    → IsChanged current s2 s3 (p.handle + (p.at + 8)) 8 → word_at (bytes_of s3.bytes) (p.handle + (p.at + 8)) ≡ n - 1
-    → IsTextsNow s0 s3 p (option_to_list o ++ option_to_list q.extent) (option_to_list o) (remove ps i) (table c o)
+    → FreesBlocks s0 s1 (option_to_list q.extent) → ChangesBytes current s1 s2 (g + 16 * i) (16 * (n - i - 1))
+    → SameElements (bytes_of s1.bytes) (bytes_of s2.bytes) (g + (16 * i + 16)) (g + 16 * i) (n - i - 1)
+    → ChangesBytes current s2 s3 (p.handle + (p.at + 8)) 8 → word_at (bytes_of s3.bytes) (p.handle + (p.at + 8)) ≡ n - 1
+    → ReplacesTexts s0 s3 p (option_to_list o ++ option_to_list q.extent) (option_to_list o) (remove ps i) (table c o)
 erased-by i n {o = None} s e link n_is y c2 m2 c3 word = none-some s.words.link link
 erased-by {s0} {s1} {s2} {s3} {p} {ps} {c} {g} i n {o = Some x} {q} s e link n_is y c2 m2 c3 word =
     let x1 = y.change in let t = table c (Some x) in let eq = option_to_list q.extent in
@@ -174,7 +179,7 @@ erased-by {s0} {s1} {s2} {s3} {p} {ps} {c} {g} i n {o = Some x} {q} s e link n_i
     texts-between (remove ps i) (take i ps) (q ∷ []) [] (drop (suc i) ps) {u = t} (around ps i e) refl
     (ap (λ (xs : List Extent). x ∷ xs) (sym one)) refl s r3.change s.table (omega (arith, len, n_is, fits))
     (subst (λ k. AreHeadWords (bytes_of s3.bytes) (place_at p) k t) len r3.words)
-    (subst (λ h. AreTextLinks (bytes_of s3.bytes) h (remove ps i)) g_is links) tt tt (λ f. subst (λ (c : Cut).
+    (subst (λ h. AreTextLinks (bytes_of s3.bytes) h (remove ps i)) g_is links) tt tt (λ f. subst (λ (c : WindowState).
     KeepsGaps c s3) (y.same (behind-array (Some x) (f ∙ sym (append-nil (x ∷ []))))) (gaps-then s1 s2 s3 (g + 16 * i)
     (16 * (n - i - 1)) c2 (gaps-payload s1 s2 (handle x) (16 * c) (g + 16 * i) (16 * (n - i - 1)) c2
     (found-room (live_of s1.bytes) (handle x) (16 * c) x (run-found r1).0 full) (omega (arith, g_is))
@@ -182,12 +187,12 @@ erased-by {s0} {s1} {s2} {s3} {p} {ps} {c} {g} i n {o = Some x} {q} s e link n_i
 
 -- ---- once the block of the text is released
 
-pub record IsLeft (s0 s1 : Cut) (p : Place) (ps : List OwnedText) (g i : ℕ) (q : OwnedText) : Type 0 where
+pub record IsLeft (s0 s1 : WindowState) (p : Place) (ps : List OwnedText) (g i : ℕ) (q : OwnedText) : Type 0 where
   pub found : slice_get ps i ≡ Some q
   pub element : IsHeldElement s0.bytes g (16 * i) q
   pub after : IsSwapped s0 s1 (option_to_list q.extent) [] → IsArrayLeft s1 g (length ps) × IsHead s1 p
 
-pub left : (s0 s1 : Cut) {p : Place} {ps : List OwnedText} {c g : ℕ} (i : ℕ) {o : Option Extent} {q : OwnedText}
+pub left : (s0 s1 : WindowState) {p : Place} {ps : List OwnedText} {c g : ℕ} (i : ℕ) {o : Option Extent} {q : OwnedText}
     → IsTexts s0.bytes p ps (table c o) → slice_get ps i ≡ Some q → link_at (bytes_of s0.bytes) (place_at p) ≡ Some g
     → IsLeft s0 s1 p ps g i q
 left s0 s1 i {o = None} s e link = none-some s.words.link link
@@ -218,8 +223,8 @@ raw-long : (m : Memory) (c : ℕ) (o : Option Extent) (ps : List OwnedText) → 
 raw-long m c None ps a = let none : length ps ≡ 0 = ap length a in omega (arith, none)
 raw-long m c (Some x) ps a = length-read m (handle x) (16 * length ps)
 
-pub texts-stand : {b : List ℕ} {p : Place} {ps : List OwnedText} {t : Table} → IsTexts b p ps t
-    → Stands b p 16 (length ps) t (raw (bytes_of b) (length ps) t.extent)
+pub texts-stand : {b : List ℕ} {p : Place} {ps : List OwnedText} {t : BackingArray} → IsTexts b p ps t
+    → IsContainer b p 16 (length ps) t (raw (bytes_of b) (length ps) t.extent)
 texts-stand {b} {ps} {t} s = record {
   heap = s.heap;
   words = record {
@@ -240,8 +245,8 @@ raw-none : (m : Memory) (o : Option Extent) → raw m 0 o ≡ []
 raw-none m None = refl
 raw-none m (Some x) = refl
 
-pub stands-none : {b : List ℕ} {p : Place} {t : Table} → IsTexts b p [] t → Stands b p 16 0 t []
-stands-none {b} {p} {t} s = subst (λ (xs : List ℕ). Stands b p 16 0 t xs) (raw-none (bytes_of b) t.extent)
+pub stands-none : {b : List ℕ} {p : Place} {t : BackingArray} → IsTexts b p [] t → IsContainer b p 16 0 t []
+stands-none {b} {p} {t} s = subst (λ (xs : List ℕ). IsContainer b p 16 0 t xs) (raw-none (bytes_of b) t.extent)
     (texts-stand s)
 
 -- ---- the same bytes are the same elements
@@ -255,13 +260,13 @@ read-at m m' at (suc n) (suc j) e f =
     let there : at + 1 + j ≡ at + suc j = omega arith in let rest : read m' (at + 1) n ≡ read m (at + 1) n = cc in
     subst (λ k. m' k ≡ m k) there (read-at m m' (at + 1) n j rest (omega arith))
 
-read-spread : (m m' : Memory) (at n : ℕ) → read m' at n ≡ read m at n → Same m m' at (at + n)
+read-spread : (m m' : Memory) (at n : ℕ) → read m' at n ≡ read m at n → SameBytes m m' at (at + n)
 read-spread m m' at n e = record {
   at = λ k f g. let is : at + (k - at) ≡ k = omega arith in subst (λ w. m' w ≡ m w) is
       (read-at m m' at n (k - at) e (omega arith));
 }
 
-pub same-elements : {m m' : Memory} {at : ℕ} (n : ℕ) → Same m m' at (at + 16 * n) → AreSameElements m m' at at n
+pub same-elements : {m m' : Memory} {at : ℕ} (n : ℕ) → SameBytes m m' at (at + 16 * n) → SameElements m m' at at n
 same-elements {m} {m'} {at} n s j f = record {
   link = ap (target_of (at + 16 * j)) (word-same m m' at _ (at + 16 * j) s (omega arith) (omega arith));
   len_word = word-same m m' at _ (at + 16 * j + 8) s (omega arith) (omega arith);
@@ -272,22 +277,24 @@ same-elements {m} {m'} {at} n s j f = record {
 cut-links : (l : LiveSet) (m m' : Memory) (ps : List OwnedText) (c : ℕ) (o : Option Extent)
     → AreInArray m (table c o) ps → IsStorage m' (shrunk_backing l 16 (length ps) (table c o)) (raw m (length ps) o)
     → AreInArray m' (shrunk_backing l 16 (length ps) (table c o)) ps
-cut-links l m m' [] c o a h = let u : Table = shrunk_backing l 16 0 (table c o) in no-links m' u.capacity u.extent
+cut-links l m m' [] c o a h = let u : BackingArray = shrunk_backing l 16 0 (table c o)
+    in no-links m' u.capacity u.extent
 cut-links l m m' (q ∷ qs) c None a h = absurd (cc)
 cut-links l m m' (q ∷ qs) c (Some x) a h =
     let n = length (q ∷ qs) in let y = shorter l x (16 * n) in let cut = cut-some l 16 n c x (omega arith) in
     let begins : handle y ≡ handle x = ap (λ (z : Extent). handle z) (shorter-IsShorter l x (16 * n)).same in
-    let has = subst (λ (u : Table). IsStorage m' u (read m (handle x) (16 * n))) cut h in
+    let has = subst (λ (u : BackingArray). IsStorage m' u (read m (handle x) (16 * n))) cut h in
     let is : read m' (handle x) (16 * n) ≡ read m (handle x) (16 * n) = ap (read m' (handle x))
-    (sym (length-read m (handle x) (16 * n))) ∙ subst (λ k. Has m' k (read m (handle x) (16 * n))) begins has in
+    (sym (length-read m (handle x) (16 * n))) ∙ subst (λ k. HasBytesAt m' k (read m (handle x) (16 * n))) begins has in
     let links = links-moved m m' (handle x) (handle x) (q ∷ qs) a
     (same-elements n (read-spread m m' (handle x) (16 * n) is)) in
-    subst (λ (u : Table). AreInArray m' u (q ∷ qs)) (sym cut)
+    subst (λ (u : BackingArray). AreInArray m' u (q ∷ qs)) (sym cut)
     (subst (λ k. AreInArray m' (table n (Some (record y { offset = k }))) (q ∷ qs))
     (sym (ap (λ (z : Extent). z.offset) (shorter-IsShorter l x (16 * n)).same)) links)
 
-pub shrunk : {old new : Cut} {p : Place} {ps : List OwnedText} {t : Table} → IsTexts old.bytes p ps t
-    → IsFitted old new p 16 (length ps) t (raw (bytes_of old.bytes) (length ps) t.extent) → IsTextsNow old new p
+pub shrunk : {old new : WindowState} {p : Place} {ps : List OwnedText} {t : BackingArray} → IsTexts old.bytes p ps t
+    → ShrinksStorageOk old new p 16 (length ps) t (raw (bytes_of old.bytes) (length ps) t.extent)
+    → ReplacesTexts old new p
     (option_to_list t.extent) (option_to_list (shrunk_backing (live_of old.bytes) 16 (length ps) t).extent) ps
     (shrunk_backing (live_of old.bytes) 16 (length ps) t)
 shrunk {old} {new} {ps} {t} s f =
@@ -312,7 +319,8 @@ some-placed l bytes f = ap (λ b. if b then Some (let q : OwnedText = record { b
     option_map (λ (x : Extent). let q : OwnedText = record { bytes = bytes; extent = Some x } in q)
     (place l (length bytes) Storage)) (ne_eqb (length bytes) 0 (λ e. omega (arith, e, f)))
 
-pub placed-empty : (c : Cut) (bytes : List ℕ) → IsHeap current c.bytes → length bytes ≡ 0 → IsTextPlaced c c bytes None
+pub placed-empty : (c : WindowState) (bytes : List ℕ) → IsHeap current c.bytes → length bytes ≡ 0
+    → PlacesTextOk c c bytes None
 placed-empty c bytes heap e = record {
   text = record { bytes = bytes; extent = None };
   placed = empty-placed (live_of c.bytes) bytes e;
@@ -324,9 +332,9 @@ placed-empty c bytes heap e = record {
   served = nil_from_length bytes e;
 }
 
-pub placed-some : {old mid new : Cut} (bytes : List ℕ) {h : ℕ} → 0 < length bytes
-    → (a : IsAllocated current old mid (length bytes) Storage h) → IsChanged current mid new (h + 0) (length bytes)
-    → Has (bytes_of new.bytes) (h + 0) bytes → IsTextPlaced old new bytes (Some h)
+pub placed-some : {old mid new : WindowState} (bytes : List ℕ) {h : ℕ} → 0 < length bytes
+    → (a : AllocatesOk current old mid (length bytes) Storage h) → ChangesBytes current mid new (h + 0) (length bytes)
+    → HasBytesAt (bytes_of new.bytes) (h + 0) bytes → PlacesTextOk old new bytes (Some h)
 placed-some {old} {mid} {new} bytes {h} f a c has =
     let zero_at : h + 0 ≡ h = omega arith in
     let b = still_allocated _ old mid new _ _ h 0 _ a c
@@ -340,7 +348,7 @@ placed-some {old} {mid} {new} bytes {h} f a c has =
       at = ap (λ k. Some k) at;
       change = exchange-taken _ old new _ _ h 0 0 b;
       nothing = λ none. absurd (cc);
-      owned = subst (λ k. Has (bytes_of new.bytes) k bytes) (zero_at ∙ at) has;
+      owned = subst (λ k. HasBytesAt (bytes_of new.bytes) k bytes) (zero_at ∙ at) has;
       served = (f, place-serves (live_of old.bytes) (length bytes) Storage b.extent b.placed);
     }
 
@@ -351,24 +359,24 @@ abbrev IfFull : ℕ → Option Extent → Type 0
 IfFull c None = ⊤
 IfFull c (Some x) = 16 * c + 16 ≤ x.len
 
-full-table : (c : ℕ) (o : Option Extent) → IsTrue (is_table Storage 16 (table c o)) → IfFull c o
+full-table : (c : ℕ) (o : Option Extent) → IsTrue (has_backing Storage 16 (table c o)) → IfFull c o
 full-table c None t = tt
 full-table c (Some x) t = table-full 16 c x t
 
-still-array : {a b : Cut} (h c : ℕ) (o : Option Extent) (ps : List OwnedText) {come : List Extent}
-    → IsHeap current a.bytes → IsSwapped a b [] come → IsOwnBlock (live_of a.bytes) h o → IfFull c o → length ps ≤ c
-    → AreInArray (bytes_of a.bytes) (table c o) ps → AreInArray (bytes_of b.bytes) (table c o) ps × IsOwnBlock
+still-array : {a b : WindowState} (h c : ℕ) (o : Option Extent) (ps : List OwnedText) {come : List Extent}
+    → IsHeap current a.bytes → IsSwapped a b [] come → IsStorageBlock (live_of a.bytes) h o → IfFull c o → length ps ≤ c
+    → AreInArray (bytes_of a.bytes) (table c o) ps → AreInArray (bytes_of b.bytes) (table c o) ps × IsStorageBlock
     (live_of b.bytes) h o
 still-array h c None ps heap x own full fits l = (l, tt)
 still-array {a} {b} h c (Some y) ps {come} heap x own full fits l =
     let s = kept a b (handle y) y [] come _ heap x own.0 tt in
-    let same : AreSameElements (bytes_of a.bytes) (bytes_of b.bytes) (handle y) (handle y) (length ps) =
+    let same : SameElements (bytes_of a.bytes) (bytes_of b.bytes) (handle y) (handle y) (length ps) =
     λ j f. element-in (handle y + 16 * j) s (omega arith) (omega (arith, f, fits, full)) in (
       links-moved (bytes_of a.bytes) (bytes_of b.bytes) (handle y) (handle y) ps l same,
       (kept-found a b 0 0 (handle y) y [] come _ x own.0 tt, own.1),
     )
 
-pub texts-still : {a b : Cut} {p : Place} {ps : List OwnedText} {t : Table} {come : List Extent}
+pub texts-still : {a b : WindowState} {p : Place} {ps : List OwnedText} {t : BackingArray} {come : List Extent}
     → IsTexts a.bytes p ps t → IsSwapped a b [] come → IsTexts b.bytes p ps t
 texts-still {a} {b} {p} {ps} {t} s x =
     let w = room-head a p s.heap s.room in
@@ -399,20 +407,21 @@ texts-still {a} {b} {p} {ps} {t} s x =
     }
 
 -- the block of a text begins at a multiple of 16
-pub come-even : {a b : Cut} (o : Option Extent) → IsSwapped a b [] (option_to_list o)
+pub come-even : {a b : WindowState} (o : Option Extent) → IsSwapped a b [] (option_to_list o)
     → IfSome (option_map handle o) (λ target. target % 16 ≡ 0)
 come-even {a} {b} o x = let heap = laid-heap _ _ x.live in even-block (live_of b.bytes) o heap.proper (came-found x)
 
 -- ---- a text in the place of another one: its block was taken into use before the other is given back
 
 -- no two of the blocks that came are one
-pub run-others : {old now : Cut} {p : Place} {gone come : List Extent} {n : ℕ} {t : Table}
-    → IsRun old now p gone come n t → AreOthers come
+pub run-others : {old now : WindowState} {p : Place} {gone come : List Extent} {n : ℕ} {t : BackingArray}
+    → IsRun old now p gone come n t → AreDistinct come
 run-others r = came-others r.change
 
 -- ---- the text that was placed
 
-pub loose-kept : {a b : Cut} (bytes : List ℕ) (o : Option Extent) {gone come : List Extent} → IsHeap current a.bytes
+pub loose-kept : {a b : WindowState} (bytes : List ℕ) (o : Option Extent) {gone come : List Extent}
+    → IsHeap current a.bytes
     → IsSwapped a b gone come → AllByRecursion (IsFound (live_of a.bytes).extents) (option_to_list o)
     → AllByRecursion (λ (y : Extent). AllByRecursion (λ (z : Extent). handle y ≢ handle z) gone) (option_to_list o)
     → IsServed (record { bytes = bytes; extent = o }) → IsOwnedText (bytes_of a.bytes)
@@ -424,19 +433,20 @@ loose-kept {a} {b} bytes o heap x f n s w = (
 )
 
 -- its block is none of those behind it
-pub others-front : (o : Option Extent) (xs : List Extent) → AreOthers (option_to_list o ++ xs)
+pub others-front : (o : Option Extent) (xs : List Extent) → AreDistinct (option_to_list o ++ xs)
     → AllByRecursion (λ (y : Extent). AllByRecursion (λ (z : Extent). handle y ≢ handle z) xs) (option_to_list o)
 others-front None xs d = tt
 others-front (Some y) xs d = (d.0, tt)
 
 -- ---- the vector afterwards
 
-pub text-set : {s0 s1 mid s3 : Cut} {p : Place} {ps : List OwnedText} {c len g : ℕ} {o : Option Extent} {q : OwnedText}
+pub text-set : {s0 s1 mid s3 : WindowState} {p : Place} {ps : List OwnedText} {c len g : ℕ} {o : Option Extent}
+    {q : OwnedText}
     {bytes : List ℕ} {block : Option ℕ} (i : ℕ) → IsTexts s0.bytes p ps (table c o) → slice_get ps i ≡ Some q
-    → (pl : IsTextPlaced s0 s1 bytes block) → link_at (bytes_of s1.bytes) (place_at p) ≡ Some g
-    → AreReleased s1 mid (option_to_list q.extent) → IsChanged current mid s3 (g + 16 * i) 16
+    → (pl : PlacesTextOk s0 s1 bytes block) → link_at (bytes_of s1.bytes) (place_at p) ≡ Some g
+    → FreesBlocks s1 mid (option_to_list q.extent) → ChangesBytes current mid s3 (g + 16 * i) 16
     → link_at (bytes_of s3.bytes) (g + 16 * i) ≡ block → word_at (bytes_of s3.bytes) (g + 16 * i + 8) ≡ len
-    → len ≡ length bytes → IsTextsNow s0 s3 p (option_to_list o ++ option_to_list q.extent)
+    → len ≡ length bytes → ReplacesTexts s0 s3 p (option_to_list o ++ option_to_list q.extent)
     (option_to_list o ++ option_to_list pl.text.extent) (slice_set ps i pl.text) (table c o)
 text-set {o = None} i s e pl at r written link_is word_is len_is = none-some (texts-still s pl.change).words.link at
 text-set {s0} {s1} {mid} {s3} {p} {ps} {c} {len} {o = Some x} {q} {block = block} i s e pl at r written link_is word_is
@@ -456,16 +466,16 @@ text-set {s0} {s1} {mid} {s3} {p} {ps} {c} {len} {o = Some x} {q} {block = block
     let r2 = run-swapped (ez ++ (x ∷ [])) spread r1 y apart.head in
     let found1 = (all-split (IsFound (live_of s1.bytes).extents) ez gone (run-found r1)) in
     let found2 = (all-split (IsFound (live_of mid.bytes).extents) ez (x ∷ []) (run-found r2)) in
-    let c3 = subst (λ k. IsChanged current mid s3 (k + 16 * i) 16) g_is written in
+    let c3 = subst (λ k. ChangesBytes current mid s3 (k + 16 * i) 16) g_is written in
     let w3 = block-written (16 * c) r2.heap found2.1.0 c3 (omega arith) (omega (arith, below, fits)) full in
     let r3 = run-swapped ez (last-first ez (x ∷ [])) r2 w3 (other, tt) in
     let k1 = kept s0 s1 (handle x) x [] ez _ s.heap pl.change s.own.0 tt in
     let k2 = kept s1 mid (handle x) x eb [] _ r1.heap y found1.1.0 apart.array in
     let k = SameBlock-trans _ _ _ x k1 k2 in
-    let front : AreSameElements (bytes_of s0.bytes) (bytes_of s3.bytes) (handle x) (handle x) i = λ j f.
+    let front : SameElements (bytes_of s0.bytes) (bytes_of s3.bytes) (handle x) (handle x) i = λ j f.
     element-trans (element-in (handle x + 16 * j) k (omega arith) (omega (arith, f, below, fits, full)))
     (element-beside (handle x + 16 * j) c3.rest (inl (omega (arith, f)))) in
-    let back : AreSameElements (bytes_of s0.bytes) (bytes_of s3.bytes) (handle x + 16 * i + 16)
+    let back : SameElements (bytes_of s0.bytes) (bytes_of s3.bytes) (handle x + 16 * i + 16)
     (handle x + 16 * i + 16) (n - i - 1) = λ j f.
     element-trans (element-in (handle x + 16 * i + 16 + 16 * j) k (omega arith) (omega (arith, f, below, fits, full)))
     (element-beside (handle x + 16 * i + 16 + 16 * j) c3.rest (inr (omega arith))) in
@@ -496,7 +506,7 @@ text-set {s0} {s1} {mid} {s3} {p} {ps} {c} {len} {o = Some x} {q} {block = block
     let same : eb ≡ ez = behind-array (Some x) f in
     let fresh = subst (λ (xs : List Extent). AllByRecursion (λ (y : Extent). IsNone (handle y) xs) ez) same from_text in
     let none = fresh-none ez fresh in let is = r.same (same ∙ none) ∙ pl.nothing (no-extent none) in
-    subst (λ (c : Cut). KeepsGaps c s3) is (gaps-payload mid s3 (handle x) (16 * c) (handle x + 16 * i) 16 c3
+    subst (λ (c : WindowState). KeepsGaps c s3) is (gaps-payload mid s3 (handle x) (16 * c) (handle x + 16 * i) 16 c3
     (found-room (live_of mid.bytes) (handle x) (16 * c) x found2.1.0 full) (omega arith)
     (omega (arith, below, fits))))
 

@@ -1,13 +1,16 @@
 -- The array of a vector of texts with more places, one text more in it, and what was asked for given up.
 use W.{◌≡◌, ◌≢◌, refl, sym, ap, subst, ◌∙◌, ℕ, ◌+◌, ◌*◌, ◌<◌, ◌≤◌, Option, Some, None, List, ◌∷◌, ◌++◌, arith, length}
 use W.{inl, inr, ◌⊎◌, ◌%◌, append-nil, IsTrue, Result, Ok, Err, MatchResult, option_map, option_to_list, IfSome, nat_lt}
-use W.{AllByRecursion, and_from, lt-ltb, Cut, bytes_of, current, Storage, link_at, IsNotWidened, IsWidened, exchanged}
-use W.{Extent, LiveSet, handle, end_of, place, Refusal, IsAllocated, IsChanged, IsHeap, IsReleased, IsResized}
-use W.{SameBlock, extent_at, live_of, has_room, Table, serves, is_table, IsFound, IsNone, SameBlock-trans}
+use W.{AllByRecursion, and_from, lt-ltb, WindowState, bytes_of, current, Storage, link_at, CannotWiden, WidensBlock}
+use W.{exchanged}
+use W.{Extent, LiveSet, handle, end_of, place, Refusal, AllocatesOk, ChangesBytes, IsHeap, Deallocates, ResizesBlock}
+use W.{SameBlock, extent_at, live_of, has_room, BackingArray, serves, has_backing, IsFound, IsNone, SameBlock-trans}
 use W.{exchange-order, exchange-released, exchange-resized, exchange-taken, found-none, kept, kept-found, last-first}
 use W.{live-rises, middle-first, place-serves, regrow-serves, spread-refl, found-room, two-apart, laid-heap, Place}
-use W.{place_at, AreSameElements, IsAdopted, IsAsked, IsWithoutFit, IsSwapped, taken, widened, AreEvenLinks, IsReady}
-use W.{gaps-refl, TakesStorage, AreOthers, IsTexts, IsTextsNow, AreTextLinks, OwnedText, [], IsPointed, blocks-trans}
+use W.{place_at, SameElements, IsAdopted, ReservesArray, LacksFit, IsSwapped, taken, widened, AreEvenLinks}
+use W.{IsArrayReserved}
+use W.{gaps-refl, TakesStorage, AreDistinct, IsTexts, ReplacesTexts, AreTextLinks, OwnedText, [], SetsStorage}
+use W.{blocks-trans}
 use Rattle.seg_vector.proofs.Runs.{AreHeadWords, IsHead, IsRun, beside-head, block-written, none-some, run-found}
 use Rattle.seg_vector.proofs.Runs.{run-headed, run-swapped, same-some, serves-full, table, all-kept, stands-none-of}
 use Rattle.seg_vector.proofs.Runs.{head-gaps, stands-run, table-full}
@@ -21,16 +24,16 @@ use Rattle.seg_vector.proofs.Words as W
 
 -- ---- it is asked for
 
-asked-new : (old new : Cut) (o : Option Extent) (n : ℕ) (r : Result ℕ Refusal)
+asked-new : (old new : WindowState) (o : Option Extent) (n : ℕ) (r : Result ℕ Refusal)
     → regrow (live_of old.bytes) o n ≡ place (live_of old.bytes) n Storage → TakesStorage old new n r
-    → MatchResult r (IsAsked old new o n) (IsWithoutFit old new (regrow (live_of old.bytes) o n))
+    → MatchResult r (ReservesArray old new o n) (LacksFit old new (regrow (live_of old.bytes) o n))
 asked-new old new o n (Ok g) e a = taken a (e ∙ a.placed)
 asked-new old new o n (Err f) e a = record { refusal = a.refusal; none = e ∙ a.none; same = a.same }
 
-pub asked-none : (old new : Cut) {p : Place} {ps : List OwnedText} {c : ℕ} (n : ℕ) {o : Option Extent}
+pub asked-none : (old new : WindowState) {p : Place} {ps : List OwnedText} {c : ℕ} (n : ℕ) {o : Option Extent}
     (r : Result ℕ Refusal) → IsTexts old.bytes p ps (table c o) → link_at (bytes_of old.bytes) (place_at p) ≡ None
     → TakesStorage old new n r
-    → MatchResult r (IsAsked old new o n) (IsWithoutFit old new (regrow (live_of old.bytes) o n))
+    → MatchResult r (ReservesArray old new o n) (LacksFit old new (regrow (live_of old.bytes) o n))
 asked-none old new n {o = None} r s link a = asked-new old new None n r (regrow-new (live_of old.bytes) n) a
 asked-none old new n {o = Some x} r s link a = none-some link s.words.link
 
@@ -42,36 +45,42 @@ array-of {o = None} s link e = none-some s.words.link link
 array-of {b} {o = Some x} s link e =
     let g_is = same-some (sym s.words.link ∙ link) in sym s.own.0 ∙ ap (λ k. extent_at (live_of b) k) g_is ∙ e
 
-pub asked-wide : {old new : Cut} {p : Place} {ps : List OwnedText} {t : Table} {g n : ℕ} → IsTexts old.bytes p ps t
-    → link_at (bytes_of old.bytes) (place_at p) ≡ Some g → IsWidened current old new g n → IsAsked old new t.extent n g
+pub asked-wide : {old new : WindowState} {p : Place} {ps : List OwnedText} {t : BackingArray} {g n : ℕ}
+    → IsTexts old.bytes p ps t
+    → link_at (bytes_of old.bytes) (place_at p) ≡ Some g → WidensBlock current old new g n
+    → ReservesArray old new t.extent n g
 asked-wide s link w = widened w (array-of s link w.found)
 
-pub asked-beside : {old mid : Cut} (new : Cut) {p : Place} {ps : List OwnedText} {t : Table} {g n : ℕ}
+pub asked-beside : {old mid : WindowState} (new : WindowState) {p : Place} {ps : List OwnedText} {t : BackingArray}
+    {g n : ℕ}
     (r : Result ℕ Refusal) → IsTexts old.bytes p ps t → link_at (bytes_of old.bytes) (place_at p) ≡ Some g
-    → IsNotWidened old mid g n → TakesStorage mid new n r
-    → MatchResult r (IsAsked old new t.extent n) (IsWithoutFit old new (regrow (live_of old.bytes) t.extent n))
+    → CannotWiden old mid g n → TakesStorage mid new n r
+    → MatchResult r (ReservesArray old new t.extent n) (LacksFit old new (regrow (live_of old.bytes) t.extent n))
 asked-beside {old} new {t} {n} r s link w a = asked-new old new t.extent n r (ap (λ o. regrow (live_of old.bytes) o n)
-    (array-of s link w.found) ∙ w.regrown) (subst (λ (k : Cut). TakesStorage k new n r) w.same a)
+    (array-of s link w.found) ∙ w.regrown) (subst (λ (k : WindowState). TakesStorage k new n r) w.same a)
 
 -- ---- the table
 
-pub grown-to : (l : LiveSet) (n : ℕ) (t : Table) {y : Extent} → t.capacity < n → regrow l t.extent (16 * n) ≡ Some y
+pub grown-to : (l : LiveSet) (n : ℕ) (t : BackingArray) {y : Extent} → t.capacity < n
+    → regrow l t.extent (16 * n) ≡ Some y
     → grown_backing l 16 n t ≡ Some (record { capacity = n; extent = Some y })
 grown-to l n t f e = grown-more l 16 n t f ∙ ap (option_map (λ x. table n (Some x))) e
 
-pub not-grown : (l : LiveSet) (n : ℕ) (t : Table) → t.capacity < n → regrow l t.extent (16 * n) ≡ None
+pub not-grown : (l : LiveSet) (n : ℕ) (t : BackingArray) → t.capacity < n → regrow l t.extent (16 * n) ≡ None
     → grown_backing l 16 n t ≡ None
 not-grown l n t f e = grown-more l 16 n t f ∙ ap (option_map (λ x. table n (Some x))) e
 
 -- ---- what stays
 
-pub all-beside-head : {a b : Cut} {p : Place} (xs : List Extent) → IsHeap current a.bytes → IsHead a p
-    → IsChanged current a b (place_at p) 24 → AllByRecursion (IsFound (live_of a.bytes).extents) xs → IsNone p.handle xs
+pub all-beside-head : {a b : WindowState} {p : Place} (xs : List Extent) → IsHeap current a.bytes → IsHead a p
+    → ChangesBytes current a b (place_at p) 24 → AllByRecursion (IsFound (live_of a.bytes).extents) xs
+    → IsNone p.handle xs
     → AllByRecursion (SameBlock (bytes_of a.bytes) (bytes_of b.bytes)) xs
 all-beside-head [] heap w c f n = tt
 all-beside-head (x ∷ xs) heap w c f n = (beside-head (handle x) heap w c f.0 n.0, all-beside-head xs heap w c f.1 n.1)
 
-pub new-other : {first mid : Cut} {n g : ℕ} (h : ℕ) {x : Extent} → (a : IsAllocated current first mid n Storage g)
+pub new-other : {first mid : WindowState} {n g : ℕ} (h : ℕ) {x : Extent}
+    → (a : AllocatesOk current first mid n Storage g)
     → extent_at (live_of first.bytes) h ≡ Some x → h ≢ handle a.extent
 new-other {first} h {x} a e =
     let l = live_of first.bytes in
@@ -80,7 +89,7 @@ new-other {first} h {x} a e =
 -- ---- the words are written, and the elements stand where they are
 
 -- the array that was asked for is the only one
-pub record IsInPlace (first now : Cut) (p : Place) (ps : List OwnedText) (t : Table) (g n : ℕ)
+pub record IsInPlace (first now : WindowState) (p : Place) (ps : List OwnedText) (t : BackingArray) (g n : ℕ)
     (loose : List Extent) : Type 0 where
   pub array : Extent
   pub run : IsRun first now p (option_to_list t.extent) (loose ++ (array ∷ [])) (length ps) t
@@ -91,22 +100,23 @@ pub record IsInPlace (first now : Cut) (p : Place) (ps : List OwnedText) (t : Ta
   pub same : option_to_list t.extent ≡ array ∷ loose → now ≡ first
 
 -- lengthened where it stood
-wide-place : {first mid now : Cut} {p : Place} {ps : List OwnedText} {c g : ℕ} (n : ℕ) {x : Extent}
-    {loose : List Extent} → IsTexts first.bytes p ps (table c (Some x)) → (w : IsWidened current first mid g (16 * n))
+wide-place : {first mid now : WindowState} {p : Place} {ps : List OwnedText} {c g : ℕ} (n : ℕ) {x : Extent}
+    {loose : List Extent} → IsTexts first.bytes p ps (table c (Some x)) → (w : WidensBlock current first mid g (16 * n))
     → Some x ≡ Some w.before → IsSwapped mid now [] loose → (loose ≡ [] → now ≡ mid)
     → IsInPlace first now p ps (table c (Some x)) g n loose
 wide-place {first} {mid} {now} {p} {ps} {c} n {x} {loose} s w is since still =
     let y = w.after in let same : w.before ≡ x = same-some (sym is) in
     let begins : handle y ≡ handle x = w.begins ∙ ap (λ (z : Extent). handle z) same in
     let longer : x.len ≤ y.len = subst (λ (z : Extent). z.len ≤ y.len) same w.longer in
-    let r : IsResized current first mid x y = subst (λ (z : Extent). IsResized current first mid z y) same w.change in
+    let r : ResizesBlock current first mid x y =
+    subst (λ (z : Extent). ResizesBlock current first mid z y) same w.change in
     let grow : regrow (live_of first.bytes) (Some x) (16 * n) ≡ Some y =
     ap (λ o. regrow (live_of first.bytes) o (16 * n)) is ∙ w.regrown in
     let fits = s.fits in let full = table-full 16 c x s.table in
     let one = run-swapped [] (spread-refl (x ∷ [])) (run-begin first [] [] ps refl s)
     (exchange-resized _ _ mid x y 0 0 begins r) ((λ f. s.own.1 (sym f)), tt) in
     let k2 = kept mid now (handle y) y [] _ _ one.heap since (run-found one).0 tt in
-    let elements : AreSameElements (bytes_of first.bytes) (bytes_of now.bytes) (handle x) (handle x) (length ps) =
+    let elements : SameElements (bytes_of first.bytes) (bytes_of now.bytes) (handle x) (handle x) (length ps) =
     λ j f. element-trans (element-in (handle x + 16 * j) r.still (omega arith) (omega (arith, f, fits, full, longer)))
     (element-in (handle x + 16 * j) k2 (omega (arith, begins)) (omega (arith, begins, f, fits, full, longer))) in
     record {
@@ -122,8 +132,8 @@ wide-place {first} {mid} {now} {p} {ps} {c} n {x} {loose} s w is since still =
     }
 
 -- a first one
-first-place : {first mid now : Cut} {p : Place} {ps : List OwnedText} {c g : ℕ} (n : ℕ) {loose : List Extent}
-    → IsTexts first.bytes p ps (table c None) → (a : IsAllocated current first mid (16 * n) Storage g)
+first-place : {first mid now : WindowState} {p : Place} {ps : List OwnedText} {c g : ℕ} (n : ℕ) {loose : List Extent}
+    → IsTexts first.bytes p ps (table c None) → (a : AllocatesOk current first mid (16 * n) Storage g)
     → IsSwapped mid now [] loose → IsInPlace first now p ps (table c None) g n loose
 first-place {first} {mid} {now} {ps} {g} n s a since =
     let y = a.extent in
@@ -139,9 +149,10 @@ first-place {first} {mid} {now} {ps} {g} n s a since =
       same = λ e. absurd (cc);
     }
 
-adopt-place : {first old new : Cut} {p : Place} {ps : List OwnedText} {t : Table} {g n : ℕ} {loose : List Extent}
+adopt-place : {first old new : WindowState} {p : Place} {ps : List OwnedText} {t : BackingArray} {g n : ℕ}
+    {loose : List Extent}
     → IsTexts first.bytes p ps t → t.capacity < n → IsInPlace first old p ps t g n loose
-    → IsPointed old new p g n → IsAdopted first old new p ps t g n loose
+    → SetsStorage old new p g n → IsAdopted first old new p ps t g n loose
 adopt-place {first} {old} {new} {p} {ps} {t} {g} {n} {loose} s more q d =
     let y = q.array in let r = q.run in let fits = s.fits in let c = d.change in
     let words : AreHeadWords (bytes_of new.bytes) (place_at p) (length ps) (table n (Some y)) =
@@ -159,7 +170,7 @@ adopt-place {first} {old} {new} {p} {ps} {t} {g} {n} {loose} s more q d =
       change = exchange-order _ _ new _ 24 (option_to_list t.extent) (loose ++ (y ∷ [])) _ (last-first loose (y ∷ []))
           (run-headed r c words).change;
       gaps = λ e. head-gaps p s.room
-          (subst (λ (k : Cut). IsChanged current k new (place_at p) 24) (q.same e) c);
+          (subst (λ (k : WindowState). ChangesBytes current k new (place_at p) 24) (q.same e) c);
       link = d.link;
       len_word = words.len_word;
       capacity = d.capacity;
@@ -168,19 +179,21 @@ adopt-place {first} {old} {new} {p} {ps} {t} {g} {n} {loose} s more q d =
     }
 
 -- without another array
-pub adopt-none : {first mid old new : Cut} {p : Place} {ps : List OwnedText} {c g : ℕ} (n : ℕ) {o : Option Extent}
-    {loose : List Extent} → IsTexts first.bytes p ps (table c o) → c < n → IsAsked first mid o (16 * n) g
-    → IsSwapped mid old [] loose → link_at (bytes_of first.bytes) (place_at p) ≡ None → IsPointed old new p g n
+pub adopt-none : {first mid old new : WindowState} {p : Place} {ps : List OwnedText} {c g : ℕ} (n : ℕ)
+    {o : Option Extent}
+    {loose : List Extent} → IsTexts first.bytes p ps (table c o) → c < n → ReservesArray first mid o (16 * n) g
+    → IsSwapped mid old [] loose → link_at (bytes_of first.bytes) (place_at p) ≡ None → SetsStorage old new p g n
     → IsAdopted first old new p ps (table c o) g n loose
 adopt-none n {o = Some x} s more a since was d = none-some was s.words.link
 adopt-none n {o = None} s more (widened w is) since was d = absurd (cc)
 adopt-none n {o = None} s more (taken a e) since was d = adopt-place s more (first-place n s a since) d
 
 -- the same one
-pub adopt-same : {first mid old new : Cut} {p : Place} {ps : List OwnedText} {c g : ℕ} (n : ℕ) {o : Option Extent}
-    {loose : List Extent} → IsTexts first.bytes p ps (table c o) → c < n → IsAsked first mid o (16 * n) g
+pub adopt-same : {first mid old new : WindowState} {p : Place} {ps : List OwnedText} {c g : ℕ} (n : ℕ)
+    {o : Option Extent}
+    {loose : List Extent} → IsTexts first.bytes p ps (table c o) → c < n → ReservesArray first mid o (16 * n) g
     → IsSwapped mid old [] loose → (loose ≡ [] → old ≡ mid) → link_at (bytes_of first.bytes) (place_at p) ≡ Some g
-    → IsPointed old new p g n → IsAdopted first old new p ps (table c o) g n loose
+    → SetsStorage old new p g n → IsAdopted first old new p ps (table c o) g n loose
 adopt-same n {o = None} s more a since still was d = none-some s.words.link was
 adopt-same n {o = Some x} s more (widened w is) since still was d =
     adopt-place s more (wide-place n s w is since still) d
@@ -189,7 +202,7 @@ adopt-same n {o = Some x} s more (taken a e) since still was d =
 
 -- ---- a new one in the place of the old one
 
-others-of-loose : (loose : List Extent) (y x : Extent) → AreOthers (loose ++ (y ∷ x ∷ []))
+others-of-loose : (loose : List Extent) (y x : Extent) → AreDistinct (loose ++ (y ∷ x ∷ []))
     → AllByRecursion (λ (z : Extent). IsNone (handle z) (y ∷ [])) loose × AllByRecursion
     (λ (z : Extent). IsNone (handle z) (x ∷ [])) loose
 others-of-loose [] y x d = (tt, tt)
@@ -198,7 +211,7 @@ others-of-loose (z ∷ zs) y x d =
     let rest = others-of-loose zs y x d.1 in (((here.0, tt), rest.0), ((here.1.0, tt), rest.1))
 
 -- so far: the new array stands beside the old one
-pub record IsBeside (first old : Cut) (p : Place) (ps : List OwnedText) (t : Table) (x y : Extent)
+pub record IsBeside (first old : WindowState) (p : Place) (ps : List OwnedText) (t : BackingArray) (x y : Extent)
     (loose : List Extent) : Type 0 where
   pub run : IsRun first old p (x ∷ []) (loose ++ (y ∷ x ∷ [])) (length ps) t
   pub other : p.handle ≢ handle x
@@ -207,8 +220,9 @@ pub record IsBeside (first old : Cut) (p : Place) (ps : List OwnedText) (t : Tab
   pub new_found : extent_at (live_of old.bytes) (handle y) ≡ Some y
   pub same : SameBlock (bytes_of first.bytes) (bytes_of old.bytes) x
 
-pub beside : {first mid old : Cut} {p : Place} {ps : List OwnedText} {c g n : ℕ} {x : Extent} {loose : List Extent}
-    → IsTexts first.bytes p ps (table c (Some x)) → (a : IsAllocated current first mid n Storage g)
+pub beside : {first mid old : WindowState} {p : Place} {ps : List OwnedText} {c g n : ℕ} {x : Extent}
+    {loose : List Extent}
+    → IsTexts first.bytes p ps (table c (Some x)) → (a : AllocatesOk current first mid n Storage g)
     → IsSwapped mid old [] loose → IsBeside first old p ps (table c (Some x)) x a.extent loose
 beside {first} {mid} {old} {p} {ps} {c} {g} {n} {x} s a since =
     let x1 = exchange-taken _ _ mid n _ g 0 0 a in let r0 = run-begin first [] [] ps refl s in
@@ -224,11 +238,11 @@ beside {first} {mid} {old} {p} {ps} {c} {g} {n} {x} s a since =
     }
 
 -- the elements are carried over, the words are written, and the old array is given back
-adopt-beside : {first mid old a1 a2 new : Cut} {p : Place} {ps : List OwnedText} {c g : ℕ} (n : ℕ) {x : Extent}
-    {loose : List Extent} → IsTexts first.bytes p ps (table c (Some x)) → c < n → (a : IsAllocated current first mid
+adopt-beside : {first mid old a1 a2 new : WindowState} {p : Place} {ps : List OwnedText} {c g : ℕ} (n : ℕ) {x : Extent}
+    {loose : List Extent} → IsTexts first.bytes p ps (table c (Some x)) → c < n → (a : AllocatesOk current first mid
     (16 * n) Storage g) → regrow (live_of first.bytes) (Some x) (16 * n) ≡ Some a.extent → IsSwapped mid old [] loose
-    → IsChanged current old a1 (g + 0) (16 * length ps) → AreSameElements (bytes_of old.bytes) (bytes_of a1.bytes)
-    (handle x + 0) (g + 0) (length ps) → IsPointed a1 a2 p g n → IsReleased current a2 new (handle x)
+    → ChangesBytes current old a1 (g + 0) (16 * length ps) → SameElements (bytes_of old.bytes) (bytes_of a1.bytes)
+    (handle x + 0) (g + 0) (length ps) → SetsStorage a1 a2 p g n → Deallocates current a2 new (handle x)
     → IsAdopted first old new p ps (table c (Some x)) g n loose
 adopt-beside {first} {old} {a1} {a2} {new} {p} {ps} {c} {g} n {x} {loose} s more a grow since c1 carried d rel =
     let c2 = d.change in
@@ -257,9 +271,9 @@ adopt-beside {first} {old} {a1} {a2} {new} {p} {ps} {c} {g} n {x} {loose} s more
     let y23 = kept a2 new (handle y) y _ [] _ r2.heap x3 found2.0 ((λ f. b.apart (sym f)), tt) in
     let y13 = SameBlock-trans _ _ _ y y12 y23 in let from : handle x + 0 ≡ handle x = omega arith in
     let to : g + 0 ≡ handle y = omega (arith, g_is) in
-    let moved = subst (λ w. AreSameElements (bytes_of old.bytes) (bytes_of a1.bytes) w (handle y) k) from
-    (subst (λ w. AreSameElements (bytes_of old.bytes) (bytes_of a1.bytes) (handle x + 0) w k) to carried) in
-    let elements : AreSameElements (bytes_of first.bytes) (bytes_of new.bytes) (handle x) (handle y) k = λ j f.
+    let moved = subst (λ w. SameElements (bytes_of old.bytes) (bytes_of a1.bytes) w (handle y) k) from
+    (subst (λ w. SameElements (bytes_of old.bytes) (bytes_of a1.bytes) (handle x + 0) w k) to carried) in
+    let elements : SameElements (bytes_of first.bytes) (bytes_of new.bytes) (handle x) (handle y) k = λ j f.
     element-trans (element-trans
     (element-in (handle x + 16 * j) b.same (omega arith) (omega (arith, f, fits, full))) (moved j f))
     (element-in (handle y + 16 * j) y13 (omega arith) (omega (arith, f, fits, big, more))) in
@@ -281,25 +295,27 @@ adopt-beside {first} {old} {a1} {a2} {new} {p} {ps} {c} {g} n {x} {loose} s more
           (all-beside-head loose r1.heap r1.head c2 loose1 none.0) (all-kept loose r2.heap x3 loose2 apart.1));
     }
 
-pub adopt-other : {first mid old a1 a2 new : Cut} {p : Place} {ps : List OwnedText} {c g h : ℕ} (n : ℕ)
+pub adopt-other : {first mid old a1 a2 new : WindowState} {p : Place} {ps : List OwnedText} {c g h : ℕ} (n : ℕ)
     {o : Option Extent} {loose : List Extent} → IsTexts first.bytes p ps (table c o) → c < n
-    → IsAsked first mid o (16 * n) g → IsSwapped mid old [] loose
-    → link_at (bytes_of first.bytes) (place_at p) ≡ Some h → h ≢ g → IsChanged current old a1 (g + 0) (16 * length ps)
-    → AreSameElements (bytes_of old.bytes) (bytes_of a1.bytes) (h + 0) (g + 0) (length ps)
-    → IsPointed a1 a2 p g n → IsReleased current a2 new h → IsAdopted first old new p ps (table c o) g n loose
+    → ReservesArray first mid o (16 * n) g → IsSwapped mid old [] loose
+    → link_at (bytes_of first.bytes) (place_at p) ≡ Some h → h ≢ g
+    → ChangesBytes current old a1 (g + 0) (16 * length ps)
+    → SameElements (bytes_of old.bytes) (bytes_of a1.bytes) (h + 0) (g + 0) (length ps)
+    → SetsStorage a1 a2 p g n → Deallocates current a2 new h → IsAdopted first old new p ps (table c o) g n loose
 adopt-other n {o = None} s more a since was differ c1 carried d rel = none-some s.words.link was
 adopt-other n {o = Some x} s more (widened w is) since was differ c1 carried d rel =
     let h_is = same-some (sym s.words.link ∙ was) in
     absurd (differ (sym h_is ∙ ap (λ (z : Extent). handle z) (same-some is) ∙ w.at))
 adopt-other {old} {a1} {a2} {new} {ps} {g} n {o = Some x} s more (taken a e) since was differ c1 carried d rel =
     let h_is = same-some (sym was ∙ s.words.link) in
-    adopt-beside {new = new} n s more a e since c1 (subst (λ k. AreSameElements (bytes_of old.bytes) (bytes_of a1.bytes)
-    (k + 0) (g + 0) (length ps)) h_is carried) d (subst (IsReleased current a2 new) h_is rel)
+    adopt-beside {new = new} n s more a e since c1 (subst (λ k. SameElements (bytes_of old.bytes) (bytes_of a1.bytes)
+    (k + 0) (g + 0) (length ps)) h_is carried) d (subst (Deallocates current a2 new) h_is rel)
 
 -- ---- what is known of the heap once an array was asked for
 
 -- the array that was asked for, and what has changed since
-pub record IsReadyRun (first now : Cut) (p : Place) (ps : List OwnedText) (t : Table) (g n : ℕ) : Type 0 where
+pub record IsReadyRun (first now : WindowState) (p : Place) (ps : List OwnedText) (t : BackingArray) (g n : ℕ) :
+    Type 0 where
   pub come : List Extent
   pub array : Extent
   pub run : IsRun first now p (option_to_list t.extent) come (length ps) t
@@ -307,7 +323,8 @@ pub record IsReadyRun (first now : Cut) (p : Place) (ps : List OwnedText) (t : T
   pub found : extent_at (live_of now.bytes) (handle array) ≡ Some array
   pub big : 16 * n + 16 ≤ array.len
 
-ready-place : {first now : Cut} {p : Place} {ps : List OwnedText} {t : Table} {g n : ℕ} {loose : List Extent}
+ready-place : {first now : WindowState} {p : Place} {ps : List OwnedText} {t : BackingArray} {g n : ℕ}
+    {loose : List Extent}
     → IsInPlace first now p ps t g n loose → IsReadyRun first now p ps t g n
 ready-place {now} {n} {loose} q = record {
   come = loose ++ (q.array ∷ []);
@@ -318,8 +335,8 @@ ready-place {now} {n} {loose} q = record {
   big = serves-full q.array (16 * n) q.serving;
 }
 
-pub ready-in : {first mid now : Cut} {p : Place} {ps : List OwnedText} {c g : ℕ} (n : ℕ) {o : Option Extent}
-    {loose : List Extent} → IsTexts first.bytes p ps (table c o) → IsAsked first mid o (16 * n) g
+pub ready-in : {first mid now : WindowState} {p : Place} {ps : List OwnedText} {c g : ℕ} (n : ℕ) {o : Option Extent}
+    {loose : List Extent} → IsTexts first.bytes p ps (table c o) → ReservesArray first mid o (16 * n) g
     → IsSwapped mid now [] loose → (loose ≡ [] → now ≡ mid) → IsReadyRun first now p ps (table c o) g n
 ready-in n {o = None} s (widened w is) since still = absurd (cc)
 ready-in n {o = None} s (taken a e) since still = ready-place (first-place n s a since)
@@ -335,9 +352,9 @@ ready-in {first} n {o = Some x} {loose} s (taken a e) since still =
       big = serves-full a.extent (16 * n) (place-serves (live_of first.bytes) (16 * n) Storage _ a.placed);
     }
 
-abbrev pub ready-of : {first mid now : Cut} {p : Place} {ps : List OwnedText} {t : Table} {g : ℕ} (n : ℕ)
-    {loose : List Extent} → IsTexts first.bytes p ps t → t.capacity < n → IsAsked first mid t.extent (16 * n) g
-    → IsSwapped mid now [] loose → (loose ≡ [] → now ≡ mid) → IsReady now p g n
+abbrev pub ready-of : {first mid now : WindowState} {p : Place} {ps : List OwnedText} {t : BackingArray} {g : ℕ} (n : ℕ)
+    {loose : List Extent} → IsTexts first.bytes p ps t → t.capacity < n → ReservesArray first mid t.extent (16 * n) g
+    → IsSwapped mid now [] loose → (loose ≡ [] → now ≡ mid) → IsArrayReserved now p g n
 ready-of {first} {mid} {ps = ps} {t} n {loose} s more a since still = record {
   first = first;
   mid = mid;
@@ -351,22 +368,23 @@ ready-of {first} {mid} {ps = ps} {t} n {loose} s more a since still = record {
   still = still;
 }
 
-pub ready : {now : Cut} {p : Place} {g n : ℕ} → (r : IsReady now p g n) → IsReadyRun r.first now p r.ps r.t g n
+pub ready : {now : WindowState} {p : Place} {g n : ℕ} → (r : IsArrayReserved now p g n)
+    → IsReadyRun r.first now p r.ps r.t g n
 ready {n} r = ready-in n r.texts r.asked r.since r.still
 
 -- the words are those that they were
-pub ready-link : {now : Cut} {p : Place} {g n : ℕ} → (r : IsReady now p g n)
+pub ready-link : {now : WindowState} {p : Place} {g n : ℕ} → (r : IsArrayReserved now p g n)
     → link_at (bytes_of now.bytes) (place_at p) ≡ link_at (bytes_of r.first.bytes) (place_at p)
 ready-link r = (ready r).run.words.link ∙ sym r.texts.words.link
 
-pub ready-even : {now : Cut} {p : Place} {g n : ℕ} → IsReady now p g n → g % 16 ≡ 0
+pub ready-even : {now : WindowState} {p : Place} {g n : ℕ} → IsArrayReserved now p g n → g % 16 ≡ 0
 ready-even {now} r =
     let q = ready r in
     subst (λ k. k % 16 ≡ 0) (sym q.at) (even-block (live_of now.bytes) (Some q.array) q.run.heap.proper (q.found, tt))
 
 -- ---- where it is a new one, beside the old one
 
-pub record IsReadyNew (now : Cut) (g h n k : ℕ) : Type 0 where
+pub record IsReadyNew (now : WindowState) (g h n k : ℕ) : Type 0 where
   pub source : IsTrue (has_room (live_of now.bytes) h (0 + 16 * k))
   pub target : IsTrue (has_room (live_of now.bytes) g (0 + 16 * k))
   pub even : AreEvenLinks (bytes_of now.bytes) (h + 0) k
@@ -377,8 +395,8 @@ apart-of : (x y : Extent) (g h k : ℕ) → g ≡ handle y → h ≡ handle x �
 apart-of x y g h k e f big long (inl d) = inr (omega (arith, e, f))
 apart-of x y g h k e f big long (inr d) = inl (omega (arith, e, f))
 
-ready-new_in : {first mid now : Cut} {p : Place} {ps : List OwnedText} {c g h : ℕ} (n : ℕ) {o : Option Extent}
-    {loose : List Extent} → IsTexts first.bytes p ps (table c o) → c < n → IsAsked first mid o (16 * n) g
+ready-new_in : {first mid now : WindowState} {p : Place} {ps : List OwnedText} {c g h : ℕ} (n : ℕ) {o : Option Extent}
+    {loose : List Extent} → IsTexts first.bytes p ps (table c o) → c < n → ReservesArray first mid o (16 * n) g
     → IsSwapped mid now [] loose
     → link_at (bytes_of first.bytes) (place_at p) ≡ Some h → h ≢ g → IsReadyNew now g h n (length ps)
 ready-new_in n {o = None} s more a since was differ = none-some s.words.link was
@@ -404,27 +422,30 @@ ready-new_in {first} {now} {p} {ps} {c} {g} {h} n {o = Some x} {loose} s more (t
           (two-apart (live_of now.bytes) x y b.run.heap.proper b.old_found b.new_found b.apart);
     }
 
-pub ready-new : {now : Cut} {p : Place} {g h n : ℕ} → (r : IsReady now p g n)
+pub ready-new : {now : WindowState} {p : Place} {g h n : ℕ} → (r : IsArrayReserved now p g n)
     → link_at (bytes_of now.bytes) (place_at p) ≡ Some h → h ≢ g → IsReadyNew now g h n (length r.ps)
 ready-new {n} r was differ = ready-new_in n r.texts r.more r.asked r.since (sym (ready-link r) ∙ was) differ
 
 -- ---- more places, and the same texts
 
-pub asked-heap : {first mid : Cut} {o : Option Extent} {n g : ℕ} → IsAsked first mid o n g → IsHeap current mid.bytes
+pub asked-heap : {first mid : WindowState} {o : Option Extent} {n g : ℕ} → ReservesArray first mid o n g
+    → IsHeap current mid.bytes
 asked-heap (widened w is) = laid-heap _ _ w.change.live
 asked-heap (taken a e) = laid-heap _ _ a.live
 
-pub asked-alone : {first mid : Cut} {o : Option Extent} {n g : ℕ} → IsAsked first mid o n g → IsSwapped mid mid [] []
+pub asked-alone : {first mid : WindowState} {o : Option Extent} {n g : ℕ} → ReservesArray first mid o n g
+    → IsSwapped mid mid [] []
 asked-alone {mid} a = swapped-none mid (asked-heap a)
 
 pub new-table : (n : ℕ) (y : Extent) → 0 < n → IsTrue (serves y Storage (16 * n))
-    → IsTrue (is_table Storage 16 (table n (Some y)))
+    → IsTrue (has_backing Storage 16 (table n (Some y)))
 new-table n y f s = and_from (nat_lt 0 n) (serves y Storage (16 * n)) (lt-ltb 0 n f) s
 
-pub reserved : {first mid new : Cut} {p : Place} {ps : List OwnedText} {t : Table} {g n : ℕ} → IsTexts first.bytes p ps
+pub reserved : {first mid new : WindowState} {p : Place} {ps : List OwnedText} {t : BackingArray} {g n : ℕ}
+    → IsTexts first.bytes p ps
     t → t.capacity < n → IsAdopted first mid new p ps t g n []
-    → (w : Table) × (grown_backing (live_of first.bytes) 16 n t
-    ≡ Some w) × IsTextsNow first new p (option_to_list t.extent) (option_to_list w.extent) ps w
+    → (w : BackingArray) × (grown_backing (live_of first.bytes) 16 n t
+    ≡ Some w) × ReplacesTexts first new p (option_to_list t.extent) (option_to_list w.extent) ps w
 reserved {new} {p} {ps} {t} {n} s more a =
     let u = table n (Some a.array) in let arr = option_to_list t.extent in
     let words : AreHeadWords (bytes_of new.bytes) (place_at p) (length ps) u =
@@ -436,14 +457,16 @@ reserved {new} {p} {ps} {t} {n} s more a =
           (subst (λ k. AreTextLinks (bytes_of new.bytes) k ps) a.at a.links) tt tt a.gaps,
     )
 
-pub reserved-same : (c : Cut) {p : Place} {ps : List OwnedText} {t : Table} (n : ℕ) → IsTexts c.bytes p ps t
-    → n ≤ t.capacity → (w : Table) × (grown_backing (live_of c.bytes) 16 n t ≡ Some w)
-    × IsTextsNow c c p (option_to_list t.extent) (option_to_list w.extent) ps w
+pub reserved-same : (c : WindowState) {p : Place} {ps : List OwnedText} {t : BackingArray} (n : ℕ)
+    → IsTexts c.bytes p ps t
+    → n ≤ t.capacity → (w : BackingArray) × (grown_backing (live_of c.bytes) 16 n t ≡ Some w)
+    × ReplacesTexts c c p (option_to_list t.extent) (option_to_list w.extent) ps w
 reserved-same c {p} {ps} {t} n s f =
-    let same : IsTextsNow c c p (option_to_list t.extent) (option_to_list t.extent) ps t =
+    let same : ReplacesTexts c c p (option_to_list t.extent) (option_to_list t.extent) ps t =
     record { change = (stands-run c (texts-stand s)).change; gaps = λ e. gaps-refl c; texts = s } in
     (t, grown-same (live_of c.bytes) 16 n t f, same)
 
-pub too-many-texts : (c : Cut) {p : Place} {ps : List OwnedText} {t : Table} (n : ℕ) → IsTexts c.bytes p ps t
+pub too-many-texts : (c : WindowState) {p : Place} {ps : List OwnedText} {t : BackingArray} (n : ℕ)
+    → IsTexts c.bytes p ps t
     → 1073741824 < n → grown_backing (live_of c.bytes) 16 n t ≡ None
 too-many-texts c n s f = (too-many c n (texts-stand s) (omega arith) f).none

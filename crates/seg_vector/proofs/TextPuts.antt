@@ -1,15 +1,21 @@
 -- A text put into a vector of texts, with a place for it or in an array with more places; and an array given up.
-use W.{◌≡◌, length-take, IsShortened, spread-refl, IsWithoutFit, AreEvenLinks, IsRefusedPut, IsTextPlaced, AreTextLinks}
-use W.{◌≢◌, sym, None, List, arith, take, drop, Bool, true, false, handle, others, IsHeap, Table, IsNone, Place, taken}
-use W.{refl, last-first, live-rises, found-room, taken-back, keeps-refl, IsPutAsked, IsPutReady, IsTextsNow, with_array}
-use W.{ap, word_at, current, link_at, LiveSet, resized, Refusal, live_of, IsFound, Differs, IsAsked, PutsInto, one_more}
-use W.{subst, if◌then◌else◌, length-append, exchange-taken, widened-back, rising-insert, IsStillAtFirst, exchanged-live}
-use W.{◌∙◌, ℕ, ◌+◌, ◌*◌, ◌<◌, ◌≤◌, ◌∷◌, inl, inr, ◌%◌, ◌-◌, max, Ok, Err, Cut, []}
-use W.{Option, eqb-true, bytes_of, exchanged, IsChanged, has_room, laid-heap, place_at, IsAdopted, IsSwapped, OwnedText}
-use W.{IsExchanged, KeepsGaps, gaps-payload, gaps-refl, gaps-then, gaps-trans, Some, length, IsTrue, Result, IfSome}
+use W.{◌≡◌, length-take, ShrinksInPlace, spread-refl, LacksFit, AreEvenLinks, RefusesPut, PlacesTextOk, AreTextLinks}
+use W.{◌≢◌, sym, None, List, arith, take, drop, Bool, true, false, handle, others, IsHeap, BackingArray, IsNone, Place}
+use W.{taken}
+use W.{refl, last-first, live-rises, found-room, taken-back, keeps-refl, IsPutAsked, IsPutReady, ReplacesTexts}
+use W.{with_array}
+use W.{ap, word_at, current, link_at, LiveSet, resized, Refusal, live_of, IsFound, Differs, ReservesArray, PutsInto}
+use W.{one_more}
+use W.{subst, if◌then◌else◌, length-append, exchange-taken, widened-back, rising-insert, RefusesFirstBlock}
+use W.{exchanged-live}
+use W.{◌∙◌, ℕ, ◌+◌, ◌*◌, ◌<◌, ◌≤◌, ◌∷◌, inl, inr, ◌%◌, ◌-◌, max, Ok, Err, WindowState, []}
+use W.{Option, eqb-true, bytes_of, exchanged, ChangesBytes, has_room, laid-heap, place_at, IsAdopted, IsSwapped}
+use W.{OwnedText}
+use W.{ExchangesBlocks, KeepsGaps, gaps-payload, gaps-refl, gaps-then, gaps-trans, Some, length, IsTrue, Result, IfSome}
 use W.{nat_lt, insert, lt-ltb, le-ltb, Extent, widened, room_of, IsTexts, NoSpace}
-use W.{append-nil, option_map, IsRestored, IsReleased, is_live_in, lay_out_one, others-past, IsTextPutIn, placed_text}
-use W.{option_to_list, AllByRecursion, length-drop, take-append-drop, exchange-order, AreSameElements, capacity_for_one}
+use W.{append-nil, option_map, KeepsLiveSet, Deallocates, is_live_in, lay_out_one, others-past, InsertsTextOk}
+use W.{placed_text}
+use W.{option_to_list, AllByRecursion, length-drop, take-append-drop, exchange-order, SameElements, capacity_for_one}
 use Rattle.seg_vector.proofs.Runs.{AreHeadWords, IsHead, IsRun, beside-head, block-written, head-kept, head-wider}
 use Rattle.seg_vector.proofs.Runs.{len-written, none-some, own-facts, run-found, run-headed, run-swapped, room-head}
 use Rattle.seg_vector.proofs.Runs.{head-gaps, head-room, stands-none-of, same-some, table, table-full}
@@ -27,11 +33,12 @@ use Rattle.best_fit.specs.Fit as fit
 
 -- ---- before it is put
 
-pub none-array : (b : Cut) {p : Place} {ps : List OwnedText} {t : Table} → IsTexts b.bytes p ps t
+pub none-array : (b : WindowState) {p : Place} {ps : List OwnedText} {t : BackingArray} → IsTexts b.bytes p ps t
     → IsNone p.handle (option_to_list t.extent)
 none-array b {p} {t} s = (own-facts (live_of b.bytes) p.handle t.extent s.own).2
 
-pub put-run : {first now : Cut} {p : Place} {ps : List OwnedText} {t : Table} {y : Extent} {m : ℕ} {z : OwnedText}
+pub put-run : {first now : WindowState} {p : Place} {ps : List OwnedText} {t : BackingArray} {y : Extent} {m : ℕ}
+    {z : OwnedText}
     → IsPutReady first now p ps t y m z
     → IsRun first now p (option_to_list t.extent) (y ∷ option_to_list z.extent) (length ps) (table m (Some y))
 put-run {first} {t} {y} {z} r = record {
@@ -41,7 +48,8 @@ put-run {first} {t} {y} {z} r = record {
   words = record { link = r.link; len_word = r.len_word; capacity = r.capacity };
 }
 
-pub put-big : {first now : Cut} {p : Place} {ps : List OwnedText} {t : Table} {y : Extent} {m : ℕ} {z : OwnedText}
+pub put-big : {first now : WindowState} {p : Place} {ps : List OwnedText} {t : BackingArray} {y : Extent} {m : ℕ}
+    {z : OwnedText}
     → IsPutReady first now p ps t y m z → 16 * m + 16 ≤ y.len
 put-big {y} {m} r = table-full 16 m y r.table
 
@@ -55,21 +63,25 @@ flip-each y (x ∷ xs) d = (((λ f. d.0 (sym f)), tt), flip-each y xs d.1)
 -- ---- the vector afterwards
 
 -- with its own blocks in use
-same-blocks : {old mid : Cut} {p : Place} {ps : List OwnedText} {t : Table} {from n : ℕ} {come : List Extent}
+same-blocks : {old mid : WindowState} {p : Place} {ps : List OwnedText} {t : BackingArray} {from n : ℕ}
+    {come : List Extent}
     → IsTexts old.bytes p ps t → option_to_list t.extent ≡ come
-    → IsExchanged current old mid from n (option_to_list t.extent) come → live_of mid.bytes ≡ live_of old.bytes
+    → ExchangesBlocks current old mid from n (option_to_list t.extent) come → live_of mid.bytes ≡ live_of old.bytes
 same-blocks {old} {mid} {t} {from} {n} s e x = same-storage (texts-stand s)
-    (subst (IsExchanged current old mid from n (option_to_list t.extent)) (sym e) x)
+    (subst (ExchangesBlocks current old mid from n (option_to_list t.extent)) (sym e) x)
 
-pub put-by : {first now b1 b2 new : Cut} {p : Place} {ps : List OwnedText} {t : Table} {y : Extent} {m : ℕ}
+pub put-by : {first now b1 b2 new : WindowState} {p : Place} {ps : List OwnedText} {t : BackingArray} {y : Extent}
+    {m : ℕ}
     {z : OwnedText} (i : ℕ) {g : ℕ} (n len : ℕ) (block : Option ℕ) → IsPutReady first now p ps t y m z → i ≤ length ps
     → block ≡ option_map handle z.extent → len ≡ length z.bytes → link_at (bytes_of now.bytes) (place_at p) ≡ Some g
-    → n ≡ word_at (bytes_of now.bytes) (place_at p + 8) → IsChanged current now b1 (g + 16 * i + 16) (16 * (n - i))
-    → AreSameElements (bytes_of now.bytes) (bytes_of b1.bytes) (g + 16 * i) (g + 16 * i + 16) (n - i)
-    → IsChanged current b1 b2 (g + 16 * i) 16 → link_at (bytes_of b2.bytes) (g + 16 * i) ≡ block
+    → n ≡ word_at (bytes_of now.bytes) (place_at p + 8) → ChangesBytes current now b1 (g + 16 * i + 16) (16 * (n - i))
+    → SameElements (bytes_of now.bytes) (bytes_of b1.bytes) (g + 16 * i) (g + 16 * i + 16) (n - i)
+    → ChangesBytes current b1 b2 (g + 16 * i) 16 → link_at (bytes_of b2.bytes) (g + 16 * i) ≡ block
     → word_at (bytes_of b2.bytes) (g + 16 * i + 8) ≡ len
-    → IsChanged current b2 new (p.handle + (p.at + 8)) 8 → word_at (bytes_of new.bytes) (p.handle + (p.at + 8)) ≡ n + 1
-    → IsTextsNow first new p (option_to_list t.extent) (y ∷ option_to_list z.extent) (insert ps i z) (table m (Some y))
+    → ChangesBytes current b2 new (p.handle + (p.at + 8)) 8
+    → word_at (bytes_of new.bytes) (p.handle + (p.at + 8)) ≡ n + 1
+    → ReplacesTexts first new p (option_to_list t.extent) (y ∷ option_to_list z.extent) (insert ps i z)
+    (table m (Some y))
 put-by {first} {now} {b1} {b2} {new} {p} {ps} {t} {y} {m} {z} i {g} n len block r inside at_is len_is leads n_is c1 m1
     c2 link word c3 last =
     let u = table m (Some y) in let gone = option_to_list t.extent in let ez = option_to_list z.extent in
@@ -86,11 +98,11 @@ put-by {first} {now} {b1} {b2} {new} {p} {ps} {t} {y} {m} {z} i {g} n len block 
     let c3' = head-wider p c3 (omega arith) (omega arith) in
     let r3 = run-headed r2 c3' (len-written (n + 1) (omega arith) c3.rest last r2.words) in
     let y3 = beside-head (handle y) r2.heap r2.head c3' found2.0 none.0 in
-    let front : AreSameElements (bytes_of now.bytes) (bytes_of new.bytes) g g i = λ j f.
+    let front : SameElements (bytes_of now.bytes) (bytes_of new.bytes) g g i = λ j f.
     element-trans (element-trans (element-beside (g + 16 * j) c1.rest (inl (omega (arith, f))))
     (element-beside (g + 16 * j) c2.rest (inl (omega (arith, f)))))
     (element-in (g + 16 * j) y3 (omega (arith, g_is)) (omega (arith, g_is, f, inside, space, big))) in
-    let back : AreSameElements (bytes_of now.bytes) (bytes_of new.bytes) (g + 16 * i) (g + 16 * i + 16) (n - i) = λ j f.
+    let back : SameElements (bytes_of now.bytes) (bytes_of new.bytes) (g + 16 * i) (g + 16 * i + 16) (n - i) = λ j f.
     element-trans (element-trans (m1 j f) (element-beside (g + 16 * i + 16 + 16 * j) c2.rest (inr (omega arith))))
     (element-in (g + 16 * i + 16 + 16 * j) y3 (omega (arith, g_is))
     (omega (arith, g_is, k_is, f, inside, space, big))) in
@@ -118,7 +130,7 @@ put-by {first} {now} {b1} {b2} {new} {p} {ps} {t} {y} {m} {z} i {g} n len block 
 
 -- ---- what the calls of a put need
 
-pub record IsPutPlace (now : Cut) (p : Place) (g i k : ℕ) : Type 0 where
+pub record IsPutPlace (now : WindowState) (p : Place) (g i k : ℕ) : Type 0 where
   pub heap : IsHeap current now.bytes
   pub head : IsHead now p
   pub inside : i ≤ k
@@ -127,7 +139,8 @@ pub record IsPutPlace (now : Cut) (p : Place) (g i k : ℕ) : Type 0 where
   pub even : AreEvenLinks (bytes_of now.bytes) g k
   pub count : word_at (bytes_of now.bytes) (place_at p + 8) ≡ k
 
-pub put-place : {now : Cut} {p : Place} {g i : ℕ} {block : Option ℕ} {len : ℕ} → (r : IsPutAsked now p i block len)
+pub put-place : {now : WindowState} {p : Place} {g i : ℕ} {block : Option ℕ} {len : ℕ}
+    → (r : IsPutAsked now p i block len)
     → link_at (bytes_of now.bytes) (place_at p) ≡ Some g → IsPutPlace now p g i (length r.ps)
 put-place {now} {p} {g} r leads =
     let w = r.ready in let y = r.y in let k = length r.ps in let g_is = same-some (sym w.link ∙ leads) in
@@ -150,7 +163,7 @@ put-place {now} {p} {g} r leads =
       count = w.len_word;
     }
 
-pub put-even : {now : Cut} {p : Place} {i : ℕ} {block : Option ℕ} {len : ℕ} → IsPutAsked now p i block len
+pub put-even : {now : WindowState} {p : Place} {i : ℕ} {block : Option ℕ} {len : ℕ} → IsPutAsked now p i block len
     → IfSome block (λ target. target % 16 ≡ 0)
 put-even {now} {p} r =
     let q = put-run r.ready in
@@ -159,8 +172,8 @@ put-even {now} {p} r =
 
 -- ---- an array that was asked for is given up
 
-module _ {first mid : Cut} {p : Place} {ps : List OwnedText} {t : Table} {g : ℕ} (n : ℕ)
-    (s : IsTexts first.bytes p ps t) (a : IsAsked first mid t.extent (16 * n) g) where
+module _ {first mid : WindowState} {p : Place} {ps : List OwnedText} {t : BackingArray} {g : ℕ} (n : ℕ)
+    (s : IsTexts first.bytes p ps t) (a : ReservesArray first mid t.extent (16 * n) g) where
   pub asked-run : IsReadyRun first mid p ps t g n
   asked-run = ready-in n s a (asked-alone a) (λ e. refl)
 
@@ -171,25 +184,26 @@ module _ {first mid : Cut} {p : Place} {ps : List OwnedText} {t : Table} {g : �
   asked-live = subst (λ k. IsTrue (is_live_in (live_of mid.bytes) k)) (sym asked-run.at)
       (found-live (handle asked-run.array) (live_of mid.bytes).extents asked-run.found)
 
-pub undone-none : {first mid new : Cut} {p : Place} {ps : List OwnedText} {c g n : ℕ} {o : Option Extent}
-    → IsTexts first.bytes p ps (table c o) → IsAsked first mid o n g
-    → link_at (bytes_of first.bytes) (place_at p) ≡ None → IsReleased current mid new g → IsRestored current first new
+pub undone-none : {first mid new : WindowState} {p : Place} {ps : List OwnedText} {c g n : ℕ} {o : Option Extent}
+    → IsTexts first.bytes p ps (table c o) → ReservesArray first mid o n g
+    → link_at (bytes_of first.bytes) (place_at p) ≡ None → Deallocates current mid new g
+    → KeepsLiveSet current first new
 undone-none {o = Some x} s a was r = none-some was s.words.link
 undone-none {o = None} s (widened w is) was r = absurd (cc)
 undone-none {mid} {new} {g} {n} {o = None} s (taken a e) was r = taken-back _ mid new n g _ a r
 
-pub undone-other : {first mid new : Cut} {p : Place} {ps : List OwnedText} {c g h n : ℕ} {o : Option Extent}
-    → IsTexts first.bytes p ps (table c o) → IsAsked first mid o n g → link_at (bytes_of first.bytes) (place_at p)
-    ≡ Some h → h ≢ g → IsReleased current mid new g → IsRestored current first new
+pub undone-other : {first mid new : WindowState} {p : Place} {ps : List OwnedText} {c g h n : ℕ} {o : Option Extent}
+    → IsTexts first.bytes p ps (table c o) → ReservesArray first mid o n g → link_at (bytes_of first.bytes) (place_at p)
+    ≡ Some h → h ≢ g → Deallocates current mid new g → KeepsLiveSet current first new
 undone-other {o = None} s a was differ r = none-some s.words.link was
 undone-other {o = Some x} s (widened w is) was differ r =
     let h_is = same-some (sym s.words.link ∙ was) in
     absurd (differ (sym h_is ∙ ap (λ (z : Extent). handle z) (same-some is) ∙ w.at))
 undone-other {mid} {new} {g} {n} {o = Some x} s (taken a e) was differ r = taken-back _ mid new n g _ a r
 
-pub undone-same : {first mid new : Cut} {p : Place} {ps : List OwnedText} {c g n room : ℕ} {o : Option Extent}
-    → IsTexts first.bytes p ps (table c o) → IsAsked first mid o n g → link_at (bytes_of first.bytes) (place_at p)
-    ≡ Some g → room ≡ room_of o → IsShortened current mid new g room → IsRestored current first new
+pub undone-same : {first mid new : WindowState} {p : Place} {ps : List OwnedText} {c g n room : ℕ} {o : Option Extent}
+    → IsTexts first.bytes p ps (table c o) → ReservesArray first mid o n g → link_at (bytes_of first.bytes) (place_at p)
+    ≡ Some g → room ≡ room_of o → ShrinksInPlace current mid new g room → KeepsLiveSet current first new
 undone-same {o = None} s a was e r = none-some s.words.link was
 undone-same {mid} {new} {g} {n} {room} {o = Some x} s (widened w is) was e r =
     widened-back _ mid new g n room s.heap w (e ∙ ap (λ (z : Extent). z.len - 16) (same-some is)) r
@@ -198,13 +212,14 @@ undone-same {o = Some x} s (taken a e') was e r =
 
 -- ---- with a place for it
 
-pub record IsWithin (first now : Cut) (p : Place) (ps : List OwnedText) (t : Table) (z : OwnedText) : Type 0 where
+pub record IsWithin (first now : WindowState) (p : Place) (ps : List OwnedText) (t : BackingArray) (z : OwnedText) :
+    Type 0 where
   pub array : Extent
   pub extent : t.extent ≡ Some array
   pub ready : IsPutReady first now p ps t array t.capacity z
 
-pub within : {s0 s1 : Cut} {p : Place} {ps : List OwnedText} {c : ℕ} {o : Option Extent} {bytes : List ℕ}
-    {block : Option ℕ} → IsTexts s0.bytes p ps (table c o) → length ps < c → (pl : IsTextPlaced s0 s1 bytes block)
+pub within : {s0 s1 : WindowState} {p : Place} {ps : List OwnedText} {c : ℕ} {o : Option Extent} {bytes : List ℕ}
+    {block : Option ℕ} → IsTexts s0.bytes p ps (table c o) → length ps < c → (pl : PlacesTextOk s0 s1 bytes block)
     → IsWithin s0 s1 p ps (table c o) pl.text
 within {c} {o = None} s space pl = let none : c ≡ 0 = eqb-true c 0 s.table in absurd (omega arith)
 within {s0} {s1} {p} {ps} {c} {o = Some x} s space pl =
@@ -218,7 +233,7 @@ within {s0} {s1} {p} {ps} {c} {o = Some x} s space pl =
         table = s.table;
         space = space;
         change = exchange-order _ s0 s1 _ 24 _ _ _ (last-first ez (x ∷ [])) r1.change;
-        gaps = λ e. subst (λ (c : Cut). KeepsGaps s0 c) (sym (pl.nothing (no-extent (sym (behind-array (Some x)
+        gaps = λ e. subst (λ (c : WindowState). KeepsGaps s0 c) (sym (pl.nothing (no-extent (sym (behind-array (Some x)
             {xs = []} e))))) (gaps-refl s0);
         link = still.words.link;
         len_word = still.words.len_word;
@@ -232,19 +247,19 @@ within {s0} {s1} {p} {ps} {c} {o = Some x} s space pl =
 wanted-same : (k c : ℕ) → k < c → capacity_for_one k c ≡ c
 wanted-same k c f = ap (λ b. if b then c else max 4 (2 * c)) (lt-ltb k c f)
 
-same-grown-one : (l : LiveSet) (ps : List OwnedText) (t : Table) → length ps < t.capacity
+same-grown-one : (l : LiveSet) (ps : List OwnedText) (t : BackingArray) → length ps < t.capacity
     → grown_backing l 16 (capacity_for_one (length ps) t.capacity) t ≡ Some t
 same-grown-one l ps t f = ap (λ n. grown_backing l 16 n t) (wanted-same (length ps) t.capacity f) ∙ grown-same l 16
     t.capacity t (omega arith)
 
-array-is : (l : LiveSet) (t : Table) → with_array l t t ≡ l
+array-is : (l : LiveSet) (t : BackingArray) → with_array l t t ≡ l
 array-is l t = ap (λ b. if b then (elim t.extent as (λ _. LiveSet) [ None ↦ l | Some x ↦ resized l x ]) else l)
     (le-ltb t.capacity t.capacity (omega arith))
 
-pub within-ok : {s0 s1 new : Cut} {p : Place} (ps : List OwnedText) {c : ℕ} (i : ℕ) (o : Option Extent)
-    {bytes : List ℕ} {block : Option ℕ} → length ps < c → (pl : IsTextPlaced s0 s1 bytes block) → {y : Extent}
-    → o ≡ Some y → IsTextsNow s0 new p (option_to_list o) (y ∷ option_to_list pl.text.extent) (insert ps i pl.text)
-    (table c (Some y)) → IsTextPutIn s0 new p ps (table c o) i bytes
+pub within-ok : {s0 s1 new : WindowState} {p : Place} (ps : List OwnedText) {c : ℕ} (i : ℕ) (o : Option Extent)
+    {bytes : List ℕ} {block : Option ℕ} → length ps < c → (pl : PlacesTextOk s0 s1 bytes block) → {y : Extent}
+    → o ≡ Some y → ReplacesTexts s0 new p (option_to_list o) (y ∷ option_to_list pl.text.extent) (insert ps i pl.text)
+    (table c (Some y)) → InsertsTextOk s0 new p ps (table c o) i bytes
 within-ok ps i None space pl e now = absurd (cc)
 within-ok {s0} {new} {p} ps {c} i (Some x) {bytes} space pl {y} e now =
     let t = table c (Some x) in let same : x ≡ y = cc in
@@ -253,27 +268,29 @@ within-ok {s0} {new} {p} ps {c} i (Some x) {bytes} space pl {y} e now =
       grown = same-grown-one (live_of s0.bytes) ps t space;
       text = pl.text;
       placed = ap (λ l. placed_text l bytes) (array-is (live_of s0.bytes) t) ∙ pl.placed;
-      now = subst (λ (w : Extent). IsTextsNow s0 new p (x ∷ []) (w ∷ option_to_list pl.text.extent)
+      now = subst (λ (w : Extent). ReplacesTexts s0 new p (x ∷ []) (w ∷ option_to_list pl.text.extent)
           (insert ps i pl.text) (table c (Some w))) (sym same) now;
     }
 
-abbrev after : LiveSet → Table → List ℕ → Option Table → Option OwnedText
+abbrev after : LiveSet → BackingArray → List ℕ → Option BackingArray → Option OwnedText
 after l t bytes o = elim o [ None ↦ None | Some u ↦ placed_text (with_array l t u) bytes ]
 
 -- where nothing changes, nothing does at first
-refused-same : {s0 s1 : Cut} {ps : List OwnedText} {t : Table} {bytes : List ℕ} {e : Refusal} → IsHeap current s0.bytes
-    → e ≡ NoSpace → one_more (live_of s0.bytes) ps t bytes ≡ None → s1 ≡ s0 → IsRefusedPut s0 s1 ps t bytes e
+refused-same : {s0 s1 : WindowState} {ps : List OwnedText} {t : BackingArray} {bytes : List ℕ} {e : Refusal}
+    → IsHeap current s0.bytes
+    → e ≡ NoSpace → one_more (live_of s0.bytes) ps t bytes ≡ None → s1 ≡ s0 → RefusesPut s0 s1 ps t bytes e
 refused-same {s0} heap refusal none same = record {
   refusal = refusal;
   none = none;
-  restored = subst (IsRestored current s0) (sym same)
+  restored = subst (KeepsLiveSet current s0) (sym same)
       (record { laid = heap; keeps = keeps-refl s0 (live_of s0.bytes).extents });
   first = record { text = λ f g. same; array = λ g. same };
 }
 
-pub within-err : {s0 s1 : Cut} {p : Place} {ps : List OwnedText} {t : Table} {bytes : List ℕ} {e : Refusal}
+pub within-err : {s0 s1 : WindowState} {p : Place} {ps : List OwnedText} {t : BackingArray} {bytes : List ℕ}
+    {e : Refusal}
     → IsTexts s0.bytes p ps t → length ps < t.capacity
-    → IsWithoutFit s0 s1 (placed_text (live_of s0.bytes) bytes) e → IsRefusedPut s0 s1 ps t bytes e
+    → LacksFit s0 s1 (placed_text (live_of s0.bytes) bytes) e → RefusesPut s0 s1 ps t bytes e
 within-err {s0} {ps = ps} {t} {bytes} s space r = refused-same s.heap r.refusal
     (ap (after (live_of s0.bytes) t bytes) (same-grown-one (live_of s0.bytes) ps t space)
     ∙ ap (λ l. placed_text l bytes) (array-is (live_of s0.bytes) t) ∙ r.none) r.same
@@ -281,29 +298,31 @@ within-err {s0} {ps = ps} {t} {bytes} s space r = refused-same s.heap r.refusal
 -- ---- the first block that is asked for
 
 -- a text that is put in had both
-first-put : {old new : Cut} {p : Place} {ps : List OwnedText} {t : Table} {i : ℕ} {bytes : List ℕ}
-    → IsTextPutIn old new p ps t i bytes → IsStillAtFirst old new ps t bytes
+first-put : {old new : WindowState} {p : Place} {ps : List OwnedText} {t : BackingArray} {i : ℕ} {bytes : List ℕ}
+    → InsertsTextOk old new p ps t i bytes → RefusesFirstBlock old new ps t bytes
 first-put {old} {ps} {t} {bytes} w =
     let l = live_of old.bytes in
     record {
       text = λ f none.
           let tables : Some t ≡ Some w.table = sym (same-grown-one l ps t f) ∙ w.grown in let same : t ≡ w.table = cc in
           let placed : placed_text l bytes ≡ Some w.text = ap (λ s. placed_text s bytes) (sym (array-is l t))
-          ∙ ap (λ (u : Table). placed_text (with_array l t u) bytes) same ∙ w.placed in
+          ∙ ap (λ (u : BackingArray). placed_text (with_array l t u) bytes) same ∙ w.placed in
           let both = sym placed ∙ none in
           absurd (cc);
       array = λ none. let both = sym w.grown ∙ none in absurd (cc);
     }
 
-pub first-answered : (old new : Cut) (p : Place) (ps : List OwnedText) (t : Table) (i : ℕ) (bytes : List ℕ)
-    (r : Result (Unit {0}) Refusal) → PutsInto old new p ps t i bytes r → IsStillAtFirst old new ps t bytes
+pub first-answered : (old new : WindowState) (p : Place) (ps : List OwnedText) (t : BackingArray) (i : ℕ)
+    (bytes : List ℕ)
+    (r : Result (Unit {0}) Refusal) → PutsInto old new p ps t i bytes r → RefusesFirstBlock old new ps t bytes
 first-answered old new p ps t i bytes (Ok u) h = first-put h
 first-answered old new p ps t i bytes (Err e) h = h.first
 
 -- ---- in an array with more places
 
-pub growing-ready : {s0 s1 s2 s3 : Cut} {p : Place} {ps : List OwnedText} {t : Table} {g n : ℕ} {bytes : List ℕ}
-    {block : Option ℕ} → IsTexts s0.bytes p ps t → length ps < n → (pl : IsTextPlaced s1 s2 bytes block)
+pub growing-ready : {s0 s1 s2 s3 : WindowState} {p : Place} {ps : List OwnedText} {t : BackingArray} {g n : ℕ}
+    {bytes : List ℕ}
+    {block : Option ℕ} → IsTexts s0.bytes p ps t → length ps < n → (pl : PlacesTextOk s1 s2 bytes block)
     → (ad : IsAdopted s0 s2 s3 p ps t g n (option_to_list pl.text.extent)) → IsPutReady s0 s3 p ps t ad.array n pl.text
 growing-ready {s2} {s3} {ps} {n} s space pl ad = record {
   texts = s;
@@ -325,19 +344,20 @@ others-none y (z ∷ zs) d = others-past (handle y) z zs (λ e. d.0 (omega (arit
     ∙ ap (λ (ws : List Extent). z ∷ ws) (others-none y zs d.1)
 
 -- a block that is new is put in among the others
-pub came-alone : {a b : Cut} {x : Extent} → IsSwapped a b [] (x ∷ []) → live_of b.bytes ≡ resized (live_of a.bytes) x
+pub came-alone : {a b : WindowState} {x : Extent} → IsSwapped a b [] (x ∷ [])
+    → live_of b.bytes ≡ resized (live_of a.bytes) x
 came-alone {a} {b} {x} s =
     let l = live_of a.bytes in
     let f = rising-insert 128 x l.extents (live-rises (exchanged l [] (x ∷ [])) s.live.proper) in
     exchanged-live a b 0 0 [] _ _ s ∙ ap (λ (zs : List Extent). let k : LiveSet = record l { extents = fit.insert x zs }
     in k) (sym (others-none x l.extents f.differs))
 
-pub record IsAskedExtent (first mid : Cut) (o : Option Extent) (n : ℕ) : Type 0 where
+pub record IsAskedExtent (first mid : WindowState) (o : Option Extent) (n : ℕ) : Type 0 where
   pub extent : Extent
   pub regrown : regrow (live_of first.bytes) o n ≡ Some extent
   pub live : live_of mid.bytes ≡ resized (live_of first.bytes) extent
 
-pub asked-extent : {first mid : Cut} {o : Option Extent} {n g : ℕ} → IsAsked first mid o n g
+pub asked-extent : {first mid : WindowState} {o : Option Extent} {n g : ℕ} → ReservesArray first mid o n g
     → IsAskedExtent first mid o n
 asked-extent {first} {mid} {n} (widened w is) = record {
   extent = w.after;
@@ -347,18 +367,19 @@ asked-extent {first} {mid} {n} (widened w is) = record {
 asked-extent {first} {mid} (taken a e) =
     record { extent = a.extent; regrown = e; live = came-alone (exchange-taken _ first mid _ _ _ 0 0 a) }
 
-more-array : (l : LiveSet) (t : Table) (n : ℕ) (y : Extent) → t.capacity < n
+more-array : (l : LiveSet) (t : BackingArray) (n : ℕ) (y : Extent) → t.capacity < n
     → with_array l t (table n (Some y)) ≡ resized l y
 more-array l t n y f = ap (λ b. if b then resized l y else l) (lt-ltb t.capacity n f)
 
 same-block : {n : ℕ} {a b : Extent} → Some (table n (Some a)) ≡ Some (table n (Some b)) → a ≡ b
-same-block e = same-some (ap (λ (t : Table). t.extent) (same-some e))
+same-block e = same-some (ap (λ (t : BackingArray). t.extent) (same-some e))
 
-pub growing-ok : {s0 s1 s2 s3 new : Cut} {p : Place} {ps : List OwnedText} {t : Table} {g n : ℕ} (i : ℕ) {bytes : List
-    ℕ} {block : Option ℕ} → t.capacity < n → n ≡ capacity_for_one (length ps) t.capacity → IsAsked s0 s1 t.extent
-    (16 * n) g → (pl : IsTextPlaced s1 s2 bytes block) → (ad : IsAdopted s0 s2 s3 p ps t g n (option_to_list
-    pl.text.extent)) → IsTextsNow s0 new p (option_to_list t.extent) (ad.array ∷ option_to_list pl.text.extent)
-    (insert ps i pl.text) (table n (Some ad.array)) → IsTextPutIn s0 new p ps t i bytes
+pub growing-ok : {s0 s1 s2 s3 new : WindowState} {p : Place} {ps : List OwnedText} {t : BackingArray} {g n : ℕ}
+    (i : ℕ) {bytes : List
+    ℕ} {block : Option ℕ} → t.capacity < n → n ≡ capacity_for_one (length ps) t.capacity → ReservesArray s0 s1 t.extent
+    (16 * n) g → (pl : PlacesTextOk s1 s2 bytes block) → (ad : IsAdopted s0 s2 s3 p ps t g n (option_to_list
+    pl.text.extent)) → ReplacesTexts s0 new p (option_to_list t.extent) (ad.array ∷ option_to_list pl.text.extent)
+    (insert ps i pl.text) (table n (Some ad.array)) → InsertsTextOk s0 new p ps t i bytes
 growing-ok {s0} {s1} {t} {n} i {bytes} more wanted a pl ad now =
     let l = live_of s0.bytes in let x = asked-extent a in
     let same = same-block (sym (grown-to l n t more x.regrown) ∙ ad.grown) in
@@ -372,17 +393,19 @@ growing-ok {s0} {s1} {t} {n} i {bytes} more wanted a pl ad now =
       now = now;
     }
 
-pub growing-none : {s0 s1 : Cut} {p : Place} {ps : List OwnedText} {t : Table} (n : ℕ) (bytes : List ℕ) {e : Refusal}
+pub growing-none : {s0 s1 : WindowState} {p : Place} {ps : List OwnedText} {t : BackingArray} (n : ℕ)
+    (bytes : List ℕ) {e : Refusal}
     → IsTexts s0.bytes p ps t → t.capacity < n → n ≡ capacity_for_one (length ps) t.capacity
-    → IsWithoutFit s0 s1 (regrow (live_of s0.bytes) t.extent (16 * n)) e → IsRefusedPut s0 s1 ps t bytes e
+    → LacksFit s0 s1 (regrow (live_of s0.bytes) t.extent (16 * n)) e → RefusesPut s0 s1 ps t bytes e
 growing-none {s0} {t = t} n bytes s more wanted r = refused-same s.heap r.refusal
     (ap (after (live_of s0.bytes) t bytes) (ap (λ k. grown_backing (live_of s0.bytes) 16 k t) (sym wanted)
     ∙ not-grown (live_of s0.bytes) n t more r.none)) r.same
 
-pub growing-err : {s0 s1 s2 new : Cut} (ps : List OwnedText) (t : Table) {g : ℕ} (n : ℕ) {bytes : List ℕ} {e : Refusal}
+pub growing-err : {s0 s1 s2 new : WindowState} (ps : List OwnedText) (t : BackingArray) {g : ℕ} (n : ℕ)
+    {bytes : List ℕ} {e : Refusal}
     → t.capacity < n → n ≡ capacity_for_one (length ps) t.capacity → t.capacity ≤ length ps
-    → IsAsked s0 s1 t.extent (16 * n) g → IsWithoutFit s1 s2 (placed_text (live_of s1.bytes) bytes) e
-    → IsRestored current s0 new → IsRefusedPut s0 new ps t bytes e
+    → ReservesArray s0 s1 t.extent (16 * n) g → LacksFit s1 s2 (placed_text (live_of s1.bytes) bytes) e
+    → KeepsLiveSet current s0 new → RefusesPut s0 new ps t bytes e
 growing-err {s0} {s1} ps t n {bytes} more wanted full a r back =
     let l = live_of s0.bytes in let x = asked-extent a in
     record {
@@ -407,16 +430,18 @@ wanted-more n k c f e = e ∙ full-if k c (nat_lt k c) refl f
 
 -- ---- what the calls need
 
-pub few_places : (c : Cut) {p : Place} {ps : List OwnedText} {t : Table} → IsTexts c.bytes p ps t
+pub few_places : (c : WindowState) {p : Place} {ps : List OwnedText} {t : BackingArray} → IsTexts c.bytes p ps t
     → 16 * t.capacity < 1073741824
 few_places c s = capacity-bytes c s.heap (texts-stand s)
 
-pub more-places : (c : Cut) {p : Place} {ps : List OwnedText} {t : Table} (n : ℕ) → IsTexts c.bytes p ps t
+pub more-places : (c : WindowState) {p : Place} {ps : List OwnedText} {t : BackingArray} (n : ℕ)
+    → IsTexts c.bytes p ps t
     → t.capacity ≤ length ps → n ≡ capacity_for_one (length ps) t.capacity → (t.capacity < n) × (length ps < n)
 more-places c {ps} {t} n s f e =
     let is = wanted-more n (length ps) t.capacity f e in (omega (arith, f, is), omega (arith, f, is, s.fits))
 
-pub small-wanted : (c : Cut) {p : Place} {ps : List OwnedText} {t : Table} (n : ℕ) → IsTexts c.bytes p ps t
+pub small-wanted : (c : WindowState) {p : Place} {ps : List OwnedText} {t : BackingArray} (n : ℕ)
+    → IsTexts c.bytes p ps t
     → t.capacity ≤ length ps → n ≡ capacity_for_one (length ps) t.capacity → 16 * n < 18446744073709551616
 small-wanted c {ps} {t} n s f e = let few : 16 * t.capacity < 1073741824 = few_places c s in let is : n ≡ max 4
     (2 * t.capacity) = wanted-more n (length ps) t.capacity f e in omega (arith, few, is)

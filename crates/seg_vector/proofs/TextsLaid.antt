@@ -2,15 +2,17 @@
 use W.{◌≡◌, ◌≢◌, refl, sym, ap, subst, ◌∙◌, inl, ℕ, zero, suc, ◌+◌, ◌*◌, ◌<◌, ◌≤◌, Option, Some, None, List, ◌∷◌, ◌++◌}
 use W.{append-nil, append_assoc, arith, length, length-append, drop, map, slice_index_or, Bor, ◌%◌, inr, if◌then◌else◌}
 use W.{false, ◌==◌, Ok, IfSome, IsTrue, option_map, option_to_list, AllByRecursion, flat_map-append, ne_eqb, drop_all}
-use W.{Cut, bytes_of, word_at, current, link_at, without_all, IsRestored, SameBlockBut, IsExchanged, Extent, LiveSet}
-use W.{handle, resized, place, IsChanged, IsHeap, SameBlock, extent_at, has_room, live_of, IsAllocated, NoSpace}
-use W.{Refusal, IsReleased, is_live_in, IsFound, IsNone, all-in-use, changed-live, exchange-next, exchange-order}
+use W.{WindowState, bytes_of, word_at, current, link_at, without_all, KeepsLiveSet, SameBlockExcept, ExchangesBlocks}
+use W.{Extent, LiveSet}
+use W.{handle, resized, place, ChangesBytes, IsHeap, SameBlock, extent_at, has_room, live_of, AllocatesOk, NoSpace}
+use W.{Refusal, Deallocates, is_live_in, IsFound, IsNone, all-in-use, changed-live, exchange-next, exchange-order}
 use W.{exchange-same, exchanged-live, found-room, kept, laid-heap, last-first, live-rises, roomy, spread-refl}
-use W.{exchange-released, exchange-taken, keeps-refl, place-serves, too_long, kept-beside, Storage, Table, no_table}
-use W.{AreLaid, AreLaidUpTo, AreLaidOut, AreNotLaidOut, AreSameElements, IsServed, IsSwapped, IsWithoutFit}
-use W.{IsTextPlaced, AreHeldElements, AreOthers, placed_text, placed_texts, text_blocks, with_text, all_texts}
-use W.{new_array, AreTextsAssigned, AssignsTexts, IsTexts, IsTextsNow, ReleasesTexts, AreTextLinks, IsOwnedText}
-use W.{OwnedText, Place, place_at, [], IsPointed, all-same-but, drop-map, drop-cons}
+use W.{exchange-released, exchange-taken, keeps-refl, place-serves, too_long, kept-beside, Storage, BackingArray}
+use W.{no_backing}
+use W.{AreLaid, StoresArrayUpTo, StoresArrayOk, StoresArrayErr, SameElements, IsServed, IsSwapped, LacksFit}
+use W.{PlacesTextOk, AreHeldElements, AreDistinct, placed_text, placed_texts, text_blocks, with_text, all_texts}
+use W.{new_array, AssignsTextsOk, AssignsTexts, IsTexts, ReplacesTexts, ReleasesTexts, AreTextLinks, IsOwnedText}
+use W.{OwnedText, Place, place_at, [], SetsStorage, all-same-but, drop-map, drop-cons}
 use Rattle.seg_vector.proofs.Runs.{AreHeadWords, IsHead, block-written, changed-both, head-exchanged, len-written}
 use Rattle.seg_vector.proofs.Runs.{run-none, run-swapped, same-some, serves-full, table, all-as, came-found}
 use Rattle.seg_vector.proofs.TextBlocks.{all-join, all-split, element-beside, element-in, element-trans, even-block}
@@ -23,12 +25,12 @@ use Rattle.seg_vector.proofs.Words as W
 
 -- ---- blocks that came
 
-pub record AreCome (b : Cut) (come : List Extent) : Type 0 where
+pub record AreCome (b : WindowState) (come : List Extent) : Type 0 where
   pub heap : IsHeap current b.bytes
   pub found : AllByRecursion (IsFound (live_of b.bytes).extents) come
-  pub others : AreOthers come
+  pub others : AreDistinct come
 
-pub are-come : {a b : Cut} {gone come : List Extent} → IsSwapped a b gone come → AreCome b come
+pub are-come : {a b : WindowState} {gone come : List Extent} → IsSwapped a b gone come → AreCome b come
 are-come x = record { heap = laid-heap _ _ x.live; found = came-found x; others = came-others x }
 
 pub blocks-more : (qs : List OwnedText) (q : OwnedText)
@@ -38,7 +40,7 @@ blocks-more qs q = flat_map-append (λ (w : OwnedText). option_to_list w.extent)
 
 -- ---- the live set
 
-with-text_in : {a b : Cut} (bytes : List ℕ) (o : Option Extent) → IsSwapped a b [] (option_to_list o)
+with-text_in : {a b : WindowState} (bytes : List ℕ) (o : Option Extent) → IsSwapped a b [] (option_to_list o)
     → live_of b.bytes ≡ with_text (live_of a.bytes) (record { bytes = bytes; extent = o })
 with-text_in {a} {b} bytes None s = exchanged-live a b 0 0 [] [] _ s
 with-text_in bytes (Some x) s = came-alone s
@@ -71,7 +73,7 @@ placed-stops l bytes more e = ap (placed_after l more) e
 
 -- ---- one after another
 
-pub laid-begin : (c : Cut) {y : Extent} (more : List (List ℕ)) → IsHeap current c.bytes
+pub laid-begin : (c : WindowState) {y : Extent} (more : List (List ℕ)) → IsHeap current c.bytes
     → extent_at (live_of c.bytes) (handle y) ≡ Some y → AreLaid c c y 0 more
 laid-begin c {y} more heap found =
     let l = live_of c.bytes in
@@ -87,18 +89,20 @@ laid-begin c {y} more heap found =
     }
 
 -- a text was placed: all blocks that came since the first
-beside-text : {old now mid : Cut} {y : Extent} {tb oq : List Extent} → IsSwapped old now (y ∷ []) (y ∷ tb)
+beside-text : {old now mid : WindowState} {y : Extent} {tb oq : List Extent} → IsSwapped old now (y ∷ []) (y ∷ tb)
     → IsSwapped now mid [] oq → IsSwapped old mid (y ∷ []) (y ∷ (tb ++ oq))
 beside-text {old} {now} {mid} {y} {tb} {oq} p q = exchange-order _ old mid 0 0 _ _ _ (last-first oq (y ∷ tb))
     (exchange-next _ old now mid 0 0 _ _ [] (y ∷ tb) oq (spread-refl (y ∷ tb)) p q)
 
-laid-links : (now : Cut) {mid new : Cut} {y : Extent} {g : ℕ} (i n : ℕ) (ps : List OwnedText) (q : OwnedText)
+laid-links : (now : WindowState) {mid new : WindowState} {y : Extent} {g : ℕ} (i n : ℕ) (ps : List OwnedText)
+    (q : OwnedText)
     → handle y ≡ g → length ps ≡ i → i < n → 16 * n + 16 ≤ y.len → SameBlock (bytes_of now.bytes) (bytes_of mid.bytes) y
-    → IsChanged current mid new (g + 16 * i) 16 → link_at (bytes_of new.bytes) (g + 16 * i) ≡ option_map handle q.extent
+    → ChangesBytes current mid new (g + 16 * i) 16
+    → link_at (bytes_of new.bytes) (g + 16 * i) ≡ option_map handle q.extent
     → word_at (bytes_of new.bytes) (g + 16 * i + 8) ≡ length q.bytes
     → AreTextLinks (bytes_of now.bytes) (handle y) ps → AreTextLinks (bytes_of new.bytes) (handle y) (ps ++ (q ∷ []))
 laid-links now {new} {y} {g} i n ps q at long below big stays c link len l =
-    let same : AreSameElements (bytes_of now.bytes) (bytes_of new.bytes) (handle y) (handle y) (length ps) = λ j f.
+    let same : SameElements (bytes_of now.bytes) (bytes_of new.bytes) (handle y) (handle y) (length ps) = λ j f.
     element-trans (element-in (handle y + 16 * j) stays (omega arith) (omega (arith, f, long, below, big)))
     (element-beside (handle y + 16 * j) c.rest (inl (omega (arith, at, f, long)))) in
     let behind : g + 16 * i ≡ handle y + 16 * length ps = omega (arith, at, long) in
@@ -106,9 +110,10 @@ laid-links now {new} {y} {g} i n ps q at long below big stays c link len l =
     (links-moved (bytes_of now.bytes) (bytes_of new.bytes) (handle y) (handle y) ps l same)
     (subst (λ k. AreTextLinks (bytes_of new.bytes) k (q ∷ [])) behind (link, len, tt))
 
-pub laid-put : {old now mid new : Cut} {y : Extent} {i : ℕ} (n array : ℕ) {bytes : List ℕ} {more : List (List ℕ)}
+pub laid-put : {old now mid new : WindowState} {y : Extent} {i : ℕ} (n array : ℕ) {bytes : List ℕ}
+    {more : List (List ℕ)}
     {block : Option ℕ} → handle y ≡ array → AreLaid old now y i more → drop i more ≡ bytes ∷ drop (i + 1) more → i < n
-    → 16 * n + 16 ≤ y.len → IsTextPlaced now mid bytes block → IsChanged current mid new (array + 16 * i) 16
+    → 16 * n + 16 ≤ y.len → PlacesTextOk now mid bytes block → ChangesBytes current mid new (array + 16 * i) 16
     → link_at (bytes_of new.bytes) (array + 16 * i) ≡ block → word_at (bytes_of new.bytes) (array + 16 * i + 8)
     ≡ length bytes → AreLaid old new y (i + 1) more
 laid-put {old} {now} {mid} {new} {y} {i} n array {bytes} {more} at a split below big pl c link len =
@@ -141,19 +146,20 @@ laid-put {old} {now} {mid} {new} {y} {i} n array {bytes} {more} at a split below
 
 -- ---- it ends
 
-pub laid-stops : {old now new : Cut} {y : Extent} {i : ℕ} {bytes : List ℕ} {more : List (List ℕ)} {e : Refusal}
+pub laid-stops : {old now new : WindowState} {y : Extent} {i : ℕ} {bytes : List ℕ} {more : List (List ℕ)} {e : Refusal}
     → AreLaid old now y i more → drop i more ≡ bytes ∷ drop (i + 1) more → i ≤ length more
-    → IsWithoutFit now new (placed_text (live_of now.bytes) bytes) e → AreLaidUpTo old new y i more
+    → LacksFit now new (placed_text (live_of now.bytes) bytes) e → StoresArrayUpTo old new y i more
 laid-stops {old} {now} {y} {i} {bytes} {more} a split within r =
-    subst (λ (c : Cut). AreLaidUpTo old c y i more) (sym r.same) (record {
+    subst (λ (c : WindowState). StoresArrayUpTo old c y i more) (sym r.same) (record {
       laid = a;
       within = within;
       stopped = λ f. ap (placed_texts (live_of now.bytes)) split ∙ placed-stops (live_of now.bytes) bytes
           (drop (i + 1) more) r.none;
     })
 
-pub laid-all : {old now : Cut} {y : Extent} {i : ℕ} (n : ℕ) {more : List (List ℕ)} → AreLaid old now y i more → i ≡ n
-    → n ≡ length more → AreLaidUpTo old now y n more
+pub laid-all : {old now : WindowState} {y : Extent} {i : ℕ} (n : ℕ) {more : List (List ℕ)}
+    → AreLaid old now y i more → i ≡ n
+    → n ≡ length more → StoresArrayUpTo old now y n more
 laid-all {old} {now} {y} n {more} a e f = record {
   laid = subst (λ k. AreLaid old now y k more) e a;
   within = omega (arith, f);
@@ -169,19 +175,19 @@ drop-next xs i d f =
 
 -- ---- what the calls of a step need
 
-pub text-even : {a b : Cut} {bytes : List ℕ} {block : Option ℕ} → IsTextPlaced a b bytes block
+pub text-even : {a b : WindowState} {bytes : List ℕ} {block : Option ℕ} → PlacesTextOk a b bytes block
     → IfSome block (λ target. target % 16 ≡ 0)
 text-even pl = subst (λ o. IfSome o (λ target. target % 16 ≡ 0)) (sym pl.at) (come-even pl.text.extent pl.change)
 
-pub laid-room : {old now mid : Cut} {y : Extent} {i : ℕ} (n array : ℕ) {bytes : List ℕ} {more : List (List ℕ)}
-    {block : Option ℕ} → handle y ≡ array → AreLaid old now y i more → IsTextPlaced now mid bytes block → i < n
+pub laid-room : {old now mid : WindowState} {y : Extent} {i : ℕ} (n array : ℕ) {bytes : List ℕ} {more : List (List ℕ)}
+    {block : Option ℕ} → handle y ≡ array → AreLaid old now y i more → PlacesTextOk now mid bytes block → i < n
     → 16 * n + 16 ≤ y.len → IsTrue (has_room (live_of mid.bytes) array (16 * i + 16))
 laid-room {mid} {y} {i} n array at a pl below big =
     let there = are-come (beside-text a.change pl.change) in
     subst (λ k. IsTrue (has_room (live_of mid.bytes) k (16 * i + 16))) at
     (found-room (live_of mid.bytes) (handle y) (16 * i + 16) y there.found.0 (omega (arith, below, big)))
 
-pub found-big : (c : Cut) (array n : ℕ) {y : Extent} → IsHeap current c.bytes
+pub found-big : (c : WindowState) (array n : ℕ) {y : Extent} → IsHeap current c.bytes
     → IsTrue (has_room (live_of c.bytes) array n) → extent_at (live_of c.bytes) array ≡ Some y → n + 16 ≤ y.len
 found-big c array n {y} heap room found =
     let r = roomy c array n heap room in
@@ -194,10 +200,10 @@ found-big c array n {y} heap room found =
 
 pub new-array : (l : LiveSet) (n : ℕ) → 0 < n → new_array l n ≡ option_map (λ (x : Extent). table n (Some x))
     (place l (16 * n) Storage)
-new-array l n f = ap (λ b. if b then Some no_table else option_map (λ (x : Extent). table n (Some x))
+new-array l n f = ap (λ b. if b then Some no_backing else option_map (λ (x : Extent). table n (Some x))
     (place l (16 * n) Storage)) (ne_eqb n 0 (λ e. omega (arith, e, f)))
 
-abbrev texts_after : LiveSet → List (List ℕ) → Option Table → Option (List OwnedText)
+abbrev texts_after : LiveSet → List (List ℕ) → Option BackingArray → Option (List OwnedText)
 texts_after l more o = elim o [
   | None ↦ None
   | Some u ↦ placed_texts (elim u.extent [ None ↦ l | Some x ↦ resized l x ]) more
@@ -218,8 +224,8 @@ laid-fitted l more {y} f e none =
 
 -- ---- nothing is laid out
 
-unchanged : (c : Cut) (more : List (List ℕ)) → IsHeap current c.bytes → all_texts (live_of c.bytes) more ≡ None
-    → AreNotLaidOut c c more NoSpace
+unchanged : (c : WindowState) (more : List (List ℕ)) → IsHeap current c.bytes → all_texts (live_of c.bytes) more ≡ None
+    → StoresArrayErr c c more NoSpace
 unchanged c more heap e = record {
   refusal = refl;
   none = e;
@@ -227,22 +233,23 @@ unchanged c more heap e = record {
   first = λ none. refl;
 }
 
-pub out-of-reach : (c : Cut) (n : ℕ) (more : List (List ℕ)) → IsHeap current c.bytes → n ≡ length more → 1073741824 < n
-    → AreNotLaidOut c c more NoSpace
+pub out-of-reach : (c : WindowState) (n : ℕ) (more : List (List ℕ)) → IsHeap current c.bytes → n ≡ length more
+    → 1073741824 < n
+    → StoresArrayErr c c more NoSpace
 out-of-reach c n more heap e f = unchanged c more heap (in-array (live_of c.bytes) more None (omega (arith, e, f))
     (too_long c (16 * length more) Storage heap (omega (arith, e, f))))
 
-pub no-space : {old new : Cut} (n : ℕ) (more : List (List ℕ)) {f : Refusal} → IsHeap current old.bytes → 0 < n
-    → n ≡ length more → IsWithoutFit old new (place (live_of old.bytes) (16 * n) Storage) f
-    → AreNotLaidOut old new more f
-no-space {old} {new} n more heap some e r = subst (AreNotLaidOut old new more) (sym r.refusal)
-    (subst (λ (c : Cut). AreNotLaidOut old c more NoSpace) (sym r.same)
+pub no-space : {old new : WindowState} (n : ℕ) (more : List (List ℕ)) {f : Refusal} → IsHeap current old.bytes → 0 < n
+    → n ≡ length more → LacksFit old new (place (live_of old.bytes) (16 * n) Storage) f
+    → StoresArrayErr old new more f
+no-space {old} {new} n more heap some e r = subst (StoresArrayErr old new more) (sym r.refusal)
+    (subst (λ (c : WindowState). StoresArrayErr old c more NoSpace) (sym r.same)
     (unchanged old more heap (in-array (live_of old.bytes) more None (omega (arith, e, some))
     (subst (λ k. place (live_of old.bytes) (16 * k) Storage ≡ None) e r.none))))
 
 -- ---- the array
 
-pub record IsArrayTaken (old mid : Cut) (n g : ℕ) : Type 0 where
+pub record IsArrayTaken (old mid : WindowState) (n g : ℕ) : Type 0 where
   pub block : Extent
   pub placed : place (live_of old.bytes) (16 * n) Storage ≡ Some block
   pub at : handle block ≡ g
@@ -252,7 +259,7 @@ pub record IsArrayTaken (old mid : Cut) (n g : ℕ) : Type 0 where
   pub big : 16 * n + 16 ≤ block.len
   pub room : IsTrue (has_room (live_of mid.bytes) g (16 * n))
 
-pub array-taken : {old mid : Cut} (n : ℕ) {g : ℕ} → IsAllocated current old mid (16 * n) Storage g
+pub array-taken : {old mid : WindowState} (n : ℕ) {g : ℕ} → AllocatesOk current old mid (16 * n) Storage g
     → IsArrayTaken old mid n g
 array-taken {old} {mid} n {g} a =
     let y = a.extent in let x = exchange-taken _ old mid _ _ g 0 0 a in let come = are-come x in
@@ -276,8 +283,8 @@ all-placed : (ps : List OwnedText) (l : LiveSet) (rest : List (List ℕ)) → re
 all-placed ps l rest e = ap (λ xs. option_map (λ (qs : List OwnedText). ps ++ qs) (placed_texts l xs)) e
     ∙ ap (λ (xs : List OwnedText). Some xs) (append-nil ps)
 
-pub laid-out : {old mid new : Cut} {n k g : ℕ} {more : List (List ℕ)} → (t : IsArrayTaken old mid n g)
-    → n ≡ length more → AreLaidUpTo mid new t.block k more → k ≡ n → AreLaidOut old new more g
+pub laid-out : {old mid new : WindowState} {n k g : ℕ} {more : List (List ℕ)} → (t : IsArrayTaken old mid n g)
+    → n ≡ length more → StoresArrayUpTo mid new t.block k more → k ≡ n → StoresArrayOk old new more g
 laid-out {old} {mid} {new} {k} {more} t e w all =
     let a = w.laid in let count : k ≡ length more = all ∙ e in
     record {
@@ -297,8 +304,8 @@ laid-out {old} {mid} {new} {k} {more} t e w all =
 
 -- ---- not all of them
 
-pub laid-held : {old mid new : Cut} {n k g : ℕ} {more : List (List ℕ)} → (t : IsArrayTaken old mid n g)
-    → n ≡ length more → (w : AreLaidUpTo mid new t.block k more) → AreHeldElements new.bytes g k w.laid.texts
+pub laid-held : {old mid new : WindowState} {n k g : ℕ} {more : List (List ℕ)} → (t : IsArrayTaken old mid n g)
+    → n ≡ length more → (w : StoresArrayUpTo mid new t.block k more) → AreHeldElements new.bytes g k w.laid.texts
 laid-held {new} {k} t e w =
     let tb = text_blocks w.laid.texts in let come = are-come w.laid.change in
     subst (λ h. AreHeldElements new.bytes h k w.laid.texts) t.at (record {
@@ -313,8 +320,8 @@ laid-held {new} {k} t e w =
     })
 
 -- the array alone is in use still
-array-alone : {old mid new left : Cut} {n k g : ℕ} {more : List (List ℕ)} → (t : IsArrayTaken old mid n g)
-    → (w : AreLaidUpTo mid new t.block k more) → IsSwapped new left (text_blocks w.laid.texts) []
+array-alone : {old mid new left : WindowState} {n k g : ℕ} {more : List (List ℕ)} → (t : IsArrayTaken old mid n g)
+    → (w : StoresArrayUpTo mid new t.block k more) → IsSwapped new left (text_blocks w.laid.texts) []
     → IsSwapped old left [] (t.block ∷ [])
 array-alone {old} {mid} {new} {left} t w x =
     let tb = text_blocks w.laid.texts in
@@ -322,8 +329,8 @@ array-alone {old} {mid} {new} {left} t w x =
     x in
     exchange-next _ old mid left 0 0 [] _ _ [] _ (spread-refl (t.block ∷ [])) t.change back
 
-pub array-live : {old mid new left : Cut} {n k g : ℕ} {more : List (List ℕ)} → (t : IsArrayTaken old mid n g)
-    → (w : AreLaidUpTo mid new t.block k more) → IsSwapped new left (text_blocks w.laid.texts) []
+pub array-live : {old mid new left : WindowState} {n k g : ℕ} {more : List (List ℕ)} → (t : IsArrayTaken old mid n g)
+    → (w : StoresArrayUpTo mid new t.block k more) → IsSwapped new left (text_blocks w.laid.texts) []
     → IsTrue (is_live_in (live_of left.bytes) g)
 array-live {left} t w x =
     let come = are-come (array-alone t w x) in
@@ -331,26 +338,27 @@ array-live {left} t w x =
     (found-live (handle t.block) (live_of left.bytes).extents come.found.0)
 
 -- nothing is exchanged
-swapped-back : {old new : Cut} → IsSwapped old new [] [] → IsRestored current old new
+swapped-back : {old new : WindowState} → IsSwapped old new [] [] → KeepsLiveSet current old new
 swapped-back {old} {new} x = record {
   laid = x.live;
   keeps = record {
     place = x.place;
     front = x.front;
     behind = x.behind;
-    blocks = all-as (SameBlockBut (bytes_of old.bytes) (bytes_of new.bytes) 0 0)
+    blocks = all-as (SameBlockExcept (bytes_of old.bytes) (bytes_of new.bytes) 0 0)
         (SameBlock (bytes_of old.bytes) (bytes_of new.bytes))
         (λ z s. record { payload = record { at = λ k f g. s.payload k f g (inr (omega arith)) }; colour = s.colour })
         (live_of old.bytes).extents x.blocks;
   };
 }
 
-pub taken-off : {old mid new left last : Cut} {n k g : ℕ} {more : List (List ℕ)} → (t : IsArrayTaken old mid n g)
-    → n ≡ length more → 0 < n → (w : AreLaidUpTo mid new t.block k more) → k ≢ n → IsSwapped new left
-    (text_blocks w.laid.texts) [] → IsReleased current left last g → AreNotLaidOut old last more NoSpace
+pub taken-off : {old mid new left last : WindowState} {n k g : ℕ} {more : List (List ℕ)}
+    → (t : IsArrayTaken old mid n g)
+    → n ≡ length more → 0 < n → (w : StoresArrayUpTo mid new t.block k more) → k ≢ n → IsSwapped new left
+    (text_blocks w.laid.texts) [] → Deallocates current left last g → StoresArrayErr old last more NoSpace
 taken-off {old} {mid} {new} {left} {last} {n} {k} {more} t e some w short x r =
     let y = t.block in let a = w.laid in let alone = array-alone t w x in
-    let gone = exchange-released current left last y 0 0 (subst (IsReleased current left last) (sym t.at) r) in
+    let gone = exchange-released current left last y 0 0 (subst (Deallocates current left last) (sym t.at) r) in
     let fit = subst (λ i. place (live_of old.bytes) (16 * i) Storage ≡ Some y) e t.placed in
     record {
       refusal = refl;
@@ -366,12 +374,13 @@ taken-off {old} {mid} {new} {left} {last} {n} {k} {more} t e some w short x r =
 
 -- ---- blocks that stay where the vector's own ones are released and its words are written
 
-across : (xs ys : List Extent) → AreOthers (xs ++ ys) → AllByRecursion (λ (x : Extent). IsNone (handle x) ys) xs
+across : (xs ys : List Extent) → AreDistinct (xs ++ ys) → AllByRecursion (λ (x : Extent). IsNone (handle x) ys) xs
 across [] ys d = tt
 across (x ∷ xs) ys d = ((all-split (λ (z : Extent). handle x ≢ handle z) xs ys d.0).1, across xs ys d.1)
 
-all-beside : {a b : Cut} {p : Place} {gone come : List Extent} (xs : List Extent) → IsHeap current a.bytes → IsHead a p
-    → IsExchanged current a b (place_at p) 24 gone come → AllByRecursion (IsFound (live_of a.bytes).extents) xs
+all-beside : {a b : WindowState} {p : Place} {gone come : List Extent} (xs : List Extent) → IsHeap current a.bytes
+    → IsHead a p
+    → ExchangesBlocks current a b (place_at p) 24 gone come → AllByRecursion (IsFound (live_of a.bytes).extents) xs
     → IsNone p.handle xs → AllByRecursion (λ (x : Extent). IsNone (handle x) gone) xs
     → AllByRecursion (SameBlock (bytes_of a.bytes) (bytes_of b.bytes)) xs
 all-beside [] heap w e f n d = tt
@@ -384,16 +393,17 @@ all-beside {a} {b} {p} {gone} {come} (x ∷ xs) heap w e f n d =
 
 -- ---- the blocks that came stand beside those of the vector
 
-record IsBesideOwn (old now : Cut) (p : Place) (ps : List OwnedText) (t : Table) (come : List Extent) : Type 0 where
+record IsBesideOwn (old now : WindowState) (p : Place) (ps : List OwnedText) (t : BackingArray)
+    (come : List Extent) : Type 0 where
   heap : IsHeap current now.bytes
   head : IsHead now p
-  change : IsExchanged current old now (place_at p) 24 (own_blocks ps t) (come ++ own_blocks ps t)
+  change : ExchangesBlocks current old now (place_at p) 24 (own_blocks ps t) (come ++ own_blocks ps t)
   found : AllByRecursion (IsFound (live_of now.bytes).extents) come
   none : IsNone p.handle come
   others : AllByRecursion (λ (x : Extent). IsNone (handle x) (own_blocks ps t)) come
 
-beside-own : {old now : Cut} {p : Place} {ps : List OwnedText} {t : Table} {come : List Extent}
-    → IsTexts old.bytes p ps t → IsExchanged current old now 0 0 [] come → IsBesideOwn old now p ps t come
+beside-own : {old now : WindowState} {p : Place} {ps : List OwnedText} {t : BackingArray} {come : List Extent}
+    → IsTexts old.bytes p ps t → ExchangesBlocks current old now 0 0 [] come → IsBesideOwn old now p ps t come
 beside-own {old} {now} {p} {ps} {t} {come} s x =
     let own = own_blocks ps t in let w = texts-own old s in let r0 = run-begin old [] ps [] (sym (append-nil ps)) s in
     let r1 = run-swapped own (spread-refl own) r0 x tt in
@@ -408,10 +418,10 @@ beside-own {old} {now} {p} {ps} {t} {come} s x =
 
 -- ---- the vector afterwards
 
-pub assigned : {old now rel led new : Cut} {p : Place} {ps : List OwnedText} {t : Table} {g : ℕ} (n : ℕ)
-    {more : List (List ℕ)} → IsTexts old.bytes p ps t → (w : AreLaidOut old now more g) → n ≡ length more → 0 < n
-    → ReleasesTexts now rel p → IsPointed rel led p g n → IsChanged current led new (p.handle + (p.at + 8)) 8
-    → word_at (bytes_of new.bytes) (p.handle + (p.at + 8)) ≡ n → AreTextsAssigned old new p ps t more
+pub assigned : {old now rel led new : WindowState} {p : Place} {ps : List OwnedText} {t : BackingArray} {g : ℕ} (n : ℕ)
+    {more : List (List ℕ)} → IsTexts old.bytes p ps t → (w : StoresArrayOk old now more g) → n ≡ length more → 0 < n
+    → ReleasesTexts now rel p → SetsStorage rel led p g n → ChangesBytes current led new (p.handle + (p.at + 8)) 8
+    → word_at (bytes_of new.bytes) (p.handle + (p.at + 8)) ≡ n → AssignsTextsOk old new p ps t more
 assigned {old} {now} {rel} {led} {new} {p} {ps} {t} n {more} s w e some released q d word =
     let at = place_at p in let own = own_blocks ps t in let y = w.block in let qs = w.texts in
     let come : List Extent = y ∷ text_blocks qs in
@@ -435,7 +445,7 @@ assigned {old} {now} {rel} {led} {new} {p} {ps} {t} n {more} s w e some released
           ∙ ap (option_map (λ (x : Extent). table (length more) (Some x))) w.fit;
       texts = qs;
       placed = w.placed;
-      now = subst (λ k. IsTextsNow old new p own come qs (table k (Some y))) e
+      now = subst (λ k. ReplacesTexts old new p own come qs (table k (Some y))) e
           (texts-between qs [] ps qs [] {u = u} (sym (append-nil ps)) (sym (append-nil qs)) refl refl s all
           (new-table n y some serves_all) (omega (arith, long))
           (subst (λ k. AreHeadWords (bytes_of new.bytes) at k u) long words) links owned w.served (λ same.
@@ -443,7 +453,7 @@ assigned {old} {now} {rel} {led} {new} {p} {ps} {t} n {more} s w e some released
           b.others in let none = fresh-none come fresh in absurd (cc)));
     }
 
-pub laid-even : {old now : Cut} {g : ℕ} {more : List (List ℕ)} → AreLaidOut old now more g → g % 16 ≡ 0
+pub laid-even : {old now : WindowState} {g : ℕ} {more : List (List ℕ)} → StoresArrayOk old now more g → g % 16 ≡ 0
 laid-even {now} w =
     let come = are-come w.change in
     subst (λ k. k % 16 ≡ 0) (sym w.at) (even-block (live_of now.bytes) (Some w.block) come.heap.proper
@@ -451,8 +461,8 @@ laid-even {now} w =
 
 -- ---- what the call answers
 
-pub assigns-some : (old new : Cut) (p : Place) (more : List (List ℕ)) → 0 < length more
-    → ((ps : List OwnedText) (t : Table) → IsTexts old.bytes p ps t → AreTextsAssigned old new p ps t more)
+pub assigns-some : (old new : WindowState) (p : Place) (more : List (List ℕ)) → 0 < length more
+    → ((ps : List OwnedText) (t : BackingArray) → IsTexts old.bytes p ps t → AssignsTextsOk old new p ps t more)
     → AssignsTexts old new p more (Ok tt)
 assigns-some old new p [] f a = absurd (omega (arith, f))
 assigns-some old new p (x ∷ xs) f a = a
@@ -463,7 +473,7 @@ some-texts (suc n) e = omega arith
 
 -- ---- a vector of texts stands where the same blocks are in use as before, with the same bytes
 
-nothing-swapped : {a b : Cut} → IsRestored current a b → IsSwapped a b [] []
+nothing-swapped : {a b : WindowState} → KeepsLiveSet current a b → IsSwapped a b [] []
 nothing-swapped {a} {b} r = record {
   live = r.laid;
   place = r.keeps.place;
@@ -472,6 +482,6 @@ nothing-swapped {a} {b} r = record {
   blocks = all-same-but (bytes_of a.bytes) (bytes_of b.bytes) 0 0 (live_of a.bytes).extents r.keeps.blocks;
 }
 
-pub texts-restored : {a b : Cut} {p : Place} {ps : List OwnedText} {t : Table} → IsTexts a.bytes p ps t
-    → IsRestored current a b → IsTexts b.bytes p ps t
+pub texts-restored : {a b : WindowState} {p : Place} {ps : List OwnedText} {t : BackingArray} → IsTexts a.bytes p ps t
+    → KeepsLiveSet current a b → IsTexts b.bytes p ps t
 texts-restored s r = texts-still s (nothing-swapped r)

@@ -1,13 +1,17 @@
 -- Vectors of values and texts, from what is known of their bytes.
-use W.{◌≡◌, sym, ◌∙◌, ℕ, suc, ◌+◌, ◌*◌, ◌<◌, ◌∷◌, ◌-◌, ◌≤◌, max, part, Cut, Ok, Err, Fits, []}
-use W.{refl, zero, Bool, true, List, ◌++◌, take, drop, arith, false, Some, Table, Place, Result, Grows, Stands, IsText}
-use W.{ap, if◌then◌else◌, length-append, take-append-add, drop-append-add, length-insert, length-remove, IsWithoutSpace}
+use W.{◌≡◌, sym, ◌∙◌, ℕ, suc, ◌+◌, ◌*◌, ◌<◌, ◌∷◌, ◌-◌, ◌≤◌, max, part, WindowState, Ok, Err, ShrinksStorage, []}
+use W.{refl, zero, Bool, true, List, ◌++◌, take, drop, arith, false, Some, BackingArray, Place, Result, ReservesStorage}
+use W.{IsContainer, IsText}
+use W.{ap, if◌then◌else◌, length-append, take-append-add, drop-append-add, length-insert, length-remove, LacksSpace}
 use W.{subst, list_all-append, take-append-drop, flat_map-append, take-append_seam, capacity_for_one, capacity_for_text}
-use W.{length, append_assoc, append-nil, length-take, length-drop, MatchResult, IsRewritten, IsTextGrown, IsVectorGrown}
-use W.{IsVectorNow}
-use W.{IsTrue, insert, remove, nat_le, patched, word_at, live_of, Refusal, Erases, Extends, Inserts, IsGrown, drop-nil}
-use W.{flat_map, list_all, and_from, leb-true, bytes_of, no_table, ReadsOne, IsVector, take-nil, KeepsGaps, gaps-refl}
-use W.{slice_get, slice_set, and_parts, length-set, GivesBack, Overwrites, Truncates, IsStanding, IsTextNow, gaps-trans}
+use W.{length, append_assoc, append-nil, length-take, length-drop, MatchResult, RewritesElements, GrowsTextOk}
+use W.{GrowsVectorOk}
+use W.{ReplacesVector}
+use W.{IsTrue, insert, remove, nat_le, patched, word_at, live_of, Refusal, ErasesElement, Extends, Inserts}
+use W.{ReservesStorageOk, drop-nil}
+use W.{flat_map, list_all, and_from, leb-true, bytes_of, no_backing, ReadsOne, IsVector, take-nil, KeepsGaps, gaps-refl}
+use W.{slice_get, slice_set, and_parts, length-set, FreesStorage, Overwrites, Truncates, IsStanding, ReplacesText}
+use W.{gaps-trans}
 use Rattle.seg_vector.proofs.Storage.{at-least, capacity-bytes, exchange-then, grown-gaps, has-place, not-refused}
 use Rattle.seg_vector.proofs.Storage.{same-storage}
 use Rattle.seg_vector.proofs.{Storage.unchanged-rewritten, Storage.wanted-places, Runs.same-some}
@@ -177,24 +181,25 @@ module _ {T : Type 0} (size : ℕ) (test : T → Bool) (sp : T → List ℕ)
 -- ---- vectors of values, from what is known of their bytes
 
 -- what stands has so many elements, and they are these values
-pub vector-now : {T : Type 0} → {size : ℕ} (test : T → Bool) (sp : T → List ℕ) {old new : Cut} {p : Place} {n : ℕ}
-    {t : Table} {bytes : List ℕ} (ys : List T) → IsRewritten old new p size n t bytes
-    → n ≡ length ys → bytes ≡ flat_map sp ys → IsTrue (list_all test ys) → IsVectorNow size test sp old new p t ys t
+pub vector-now : {T : Type 0} → {size : ℕ} (test : T → Bool) (sp : T
+    → List ℕ) {old new : WindowState} {p : Place} {n : ℕ}
+    {t : BackingArray} {bytes : List ℕ} (ys : List T) → RewritesElements old new p size n t bytes
+    → n ≡ length ys → bytes ≡ flat_map sp ys → IsTrue (list_all test ys) → ReplacesVector size test sp old new p t ys t
 vector-now {size = size} test sp {new = new} {p} {n} {t} ys r e f v = record {
   change = r.change;
   gaps = λ same. r.gaps;
   vector = record {
-    stands = subst (λ k. Stands new.bytes p size k t (flat_map sp ys)) e
-        (subst (λ bs. Stands new.bytes p size n t bs) f r.stands);
+    stands = subst (λ k. IsContainer new.bytes p size k t (flat_map sp ys)) e
+        (subst (λ bs. IsContainer new.bytes p size n t bs) f r.stands);
     values = v;
   };
 }
 
 module _ {T : Type 0} {size : ℕ} {test : T → Bool} {sp : T → List ℕ} where
   -- one change after another, in the storage that there is
-  pub now-then : {old mid new : Cut} {p : Place} {t : Table} {xs ys zs : List T}
-      → IsVector size test sp old.bytes p xs t → IsVectorNow size test sp old mid p t ys t
-      → IsVectorNow size test sp mid new p t zs t → IsVectorNow size test sp old new p t zs t
+  pub now-then : {old mid new : WindowState} {p : Place} {t : BackingArray} {xs ys zs : List T}
+      → IsVector size test sp old.bytes p xs t → ReplacesVector size test sp old mid p t ys t
+      → ReplacesVector size test sp mid new p t zs t → ReplacesVector size test sp old new p t zs t
   now-then {old} {mid} {new} v c w = record {
     change = exchange-then c.change w.change;
     gaps = λ same. gaps-trans old mid new (same-storage v.stands c.change) (c.gaps same) (w.gaps same);
@@ -202,8 +207,10 @@ module _ {T : Type 0} {size : ℕ} {test : T → Bool} {sp : T → List ℕ} whe
   }
 
   -- the storage is grown, and the values stay
-  pub vector-grown : {old new : Cut} {p : Place} {n : ℕ} {t : Table} {xs : List T} → IsVector size test sp old.bytes p
-      xs t → IsGrown old new p size n (length xs) t (flat_map sp xs) → IsVectorGrown size test sp old new p t n xs
+  pub vector-grown : {old new : WindowState} {p : Place} {n : ℕ} {t : BackingArray} {xs : List T}
+      → IsVector size test sp old.bytes p
+      xs t → ReservesStorageOk old new p size n (length xs) t (flat_map sp xs)
+      → GrowsVectorOk size test sp old new p t n xs
   vector-grown v g = record {
     table = g.table;
     grown = g.grown;
@@ -215,9 +222,9 @@ module _ {T : Type 0} {size : ℕ} {test : T → Bool} {sp : T → List ℕ} whe
   }
 
   -- the storage is grown, and then there are other values in it
-  pub grown-then : {old mid new : Cut} {p : Place} {n : ℕ} {t : Table} {xs ys : List T}
-      → IsVector size test sp old.bytes p xs t → (g : IsGrown old mid p size n (length xs) t (flat_map sp xs))
-      → IsVectorNow size test sp mid new p g.table ys g.table → IsVectorGrown size test sp old new p t n ys
+  pub grown-then : {old mid new : WindowState} {p : Place} {n : ℕ} {t : BackingArray} {xs ys : List T}
+      → IsVector size test sp old.bytes p xs t → (g : ReservesStorageOk old mid p size n (length xs) t (flat_map sp xs))
+      → ReplacesVector size test sp mid new p g.table ys g.table → GrowsVectorOk size test sp old new p t n ys
   grown-then v g w = record {
     table = g.table;
     grown = g.grown;
@@ -229,39 +236,40 @@ module _ {T : Type 0} {size : ℕ} {test : T → Bool} {sp : T → List ℕ} whe
   }
 
   -- nothing is done
-  pub unchanged-now : (c : Cut) {p : Place} {xs : List T} (ys : List T) {t : Table}
-      → IsVector size test sp c.bytes p xs t → xs ≡ ys → IsVectorNow size test sp c c p t ys t
-  unchanged-now c {p} ys {t} v e = subst (λ (zs : List T). IsVectorNow size test sp c c p t zs t) e
+  pub unchanged-now : (c : WindowState) {p : Place} {xs : List T} (ys : List T) {t : BackingArray}
+      → IsVector size test sp c.bytes p xs t → xs ≡ ys → ReplacesVector size test sp c c p t ys t
+  unchanged-now c {p} ys {t} v e = subst (λ (zs : List T). ReplacesVector size test sp c c p t zs t) e
       (record { change = (unchanged-rewritten c v.stands).change; gaps = λ same. gaps-refl c; vector = v })
 
   -- a place that is free
-  pub has-space : {b : List ℕ} {p : Place} {xs : List T} {t : Table} → IsVector size test sp b p xs t
+  pub has-space : {b : List ℕ} {p : Place} {xs : List T} {t : BackingArray} → IsVector size test sp b p xs t
       → length xs < t.capacity
       → word_at (bytes_of b) (p.handle + p.at + 8) < word_at (bytes_of b) (p.handle + p.at + 16)
   has-space v f = omega (arith, f, v.stands.words.len_word, v.stands.words.capacity)
 
 -- ---- the same of texts
 
-pub text-now : {old new : Cut} {p : Place} {n : ℕ} {t : Table} {bytes : List ℕ} (ys : List ℕ)
-    → IsRewritten old new p 1 n t bytes → n ≡ length ys → bytes ≡ ys → IsTextNow old new p t ys t
+pub text-now : {old new : WindowState} {p : Place} {n : ℕ} {t : BackingArray} {bytes : List ℕ} (ys : List ℕ)
+    → RewritesElements old new p 1 n t bytes → n ≡ length ys → bytes ≡ ys → ReplacesText old new p t ys t
 text-now {new} {p} {n} {t} ys r e f = record {
   change = r.change;
   gaps = λ same. r.gaps;
-  text = subst (λ k. Stands new.bytes p 1 k t ys) e (subst (λ bs. Stands new.bytes p 1 n t bs) f r.stands);
+  text = subst (λ k. IsContainer new.bytes p 1 k t ys) e (subst (λ bs. IsContainer new.bytes p 1 n t bs) f r.stands);
 }
 
-pub text-then : {old mid new : Cut} {p : Place} {t : Table} {bytes ys zs : List ℕ} → IsText old.bytes p bytes t
-    → IsTextNow old mid p t ys t → IsTextNow mid new p t zs t → IsTextNow old new p t zs t
+pub text-then : {old mid new : WindowState} {p : Place} {t : BackingArray} {bytes ys zs : List ℕ}
+    → IsText old.bytes p bytes t
+    → ReplacesText old mid p t ys t → ReplacesText mid new p t zs t → ReplacesText old new p t zs t
 text-then {old} {mid} {new} s c w = record {
   change = exchange-then c.change w.change;
   gaps = λ same. gaps-trans old mid new (same-storage s c.change) (c.gaps same) (w.gaps same);
   text = w.text;
 }
 
-pub text-grown-then : {old mid new : Cut} {p : Place} {n : ℕ} {t : Table} {bytes ys : List ℕ}
-    → IsText old.bytes p bytes t → (g : IsGrown old mid p 1 n (length bytes) t bytes)
-    → IsTextNow mid new p g.table ys g.table
-    → IsTextGrown old new p t n ys
+pub text-grown-then : {old mid new : WindowState} {p : Place} {n : ℕ} {t : BackingArray} {bytes ys : List ℕ}
+    → IsText old.bytes p bytes t → (g : ReservesStorageOk old mid p 1 n (length bytes) t bytes)
+    → ReplacesText mid new p g.table ys g.table
+    → GrowsTextOk old new p t n ys
 text-grown-then s g w = record {
   table = g.table;
   grown = g.grown;
@@ -275,23 +283,24 @@ text-grown-then s g w = record {
 -- ---- what the calls on bytes do, for vectors. Their element size is the type's.
 
 -- what is done where the storage is grown, to so many places as the length and the capacity say
-abbrev pub HasGrown : Cut → Cut → Place → ℕ → (ℕ → ℕ → ℕ) → Type 0
-HasGrown old mid p k n = (len : ℕ) (t : Table) (bytes : List ℕ) → Stands old.bytes p k len t bytes
-    → IsGrown old mid p k (n len t.capacity) len t bytes
+abbrev pub HasGrown : WindowState → WindowState → Place → ℕ → (ℕ → ℕ → ℕ) → Type 0
+HasGrown old mid p k n = (len : ℕ) (t : BackingArray) (bytes : List ℕ) → IsContainer old.bytes p k len t bytes
+    → ReservesStorageOk old mid p k (n len t.capacity) len t bytes
 
-module _ {T : Type 0} {size : ℕ} {test : T → Bool} {sp : T → List ℕ} (old mid : Cut) {p : Place} {k : ℕ} {xs : List T}
-    {t : Table} (e : k ≡ size) (v : IsVector size test sp old.bytes p xs t) where
-  stands-at : Stands old.bytes p k (length xs) t (flat_map sp xs)
-  stands-at = subst (λ j. Stands old.bytes p j (length xs) t (flat_map sp xs)) (sym e) v.stands
+module _ {T : Type 0} {size : ℕ} {test : T → Bool} {sp : T
+    → List ℕ} (old mid : WindowState) {p : Place} {k : ℕ} {xs : List T}
+    {t : BackingArray} (e : k ≡ size) (v : IsVector size test sp old.bytes p xs t) where
+  stands-at : IsContainer old.bytes p k (length xs) t (flat_map sp xs)
+  stands-at = subst (λ j. IsContainer old.bytes p j (length xs) t (flat_map sp xs)) (sym e) v.stands
 
   pub grown-of : (n : ℕ → ℕ → ℕ) → HasGrown old mid p k n
-      → IsGrown old mid p size (n (length xs) t.capacity) (length xs) t (flat_map sp xs)
+      → ReservesStorageOk old mid p size (n (length xs) t.capacity) (length xs) t (flat_map sp xs)
   grown-of n h = subst (λ j. HasGrown old mid p j n) e h (length xs) t (flat_map sp xs) v.stands
 
-  pub without-space : (n : ℕ → ℕ → ℕ) {f : Refusal} → ((len : ℕ) (u : Table) (bytes : List ℕ)
-      → Stands old.bytes p k len u bytes → IsWithoutSpace old mid k (n len u.capacity) u f)
-      → IsWithoutSpace old mid size (n (length xs) t.capacity) t f
-  without-space n {f = f} h = subst (λ j. IsWithoutSpace old mid j (n (length xs) t.capacity) t f) e
+  pub without-space : (n : ℕ → ℕ → ℕ) {f : Refusal} → ((len : ℕ) (u : BackingArray) (bytes : List ℕ)
+      → IsContainer old.bytes p k len u bytes → LacksSpace old mid k (n len u.capacity) u f)
+      → LacksSpace old mid size (n (length xs) t.capacity) t f
+  without-space n {f = f} h = subst (λ j. LacksSpace old mid j (n (length xs) t.capacity) t f) e
       (h (length xs) t (flat_map sp xs) stands-at)
 
   -- the bytes of an element are those of its value
@@ -301,12 +310,12 @@ module _ {T : Type 0} {size : ℕ} {test : T → Bool} {sp : T → List ℕ} (ol
       ∙ ap (λ j. part (flat_map sp xs) (j * i) j) e ∙ flat-element size test sp spells xs i v.values f
 
   -- so many places as are asked for
-  pub reserved-of : (n : ℕ) (r : Result (Unit {0}) Refusal) → Grows old mid p k n r
-      → MatchResult r (λ u. IsVectorGrown size test sp old mid p t n xs) (IsWithoutSpace old mid size n t)
+  pub reserved-of : (n : ℕ) (r : Result (Unit {0}) Refusal) → ReservesStorage old mid p k n r
+      → MatchResult r (λ u. GrowsVectorOk size test sp old mid p t n xs) (LacksSpace old mid size n t)
   reserved-of n (Ok u) h = vector-grown v (grown-of (λ len capacity. n) h)
   reserved-of n (Err f) h = without-space (λ len capacity. n) h
 
-  pub reserved-enough : (n : ℕ) (r : Result (Unit {0}) Refusal) → Grows old mid p k n r → n ≤ t.capacity
+  pub reserved-enough : (n : ℕ) (r : Result (Unit {0}) Refusal) → ReservesStorage old mid p k n r → n ≤ t.capacity
       → (r ≡ Ok tt) × (mid ≡ old)
   reserved-enough n (Ok tt) h less = (refl, (grown-of (λ len capacity. n) h).enough less)
   reserved-enough n (Err f) h less = absurd (not-refused less (without-space (λ len capacity. n) h))
@@ -321,14 +330,14 @@ module _ {T : Type 0} {size : ℕ} {test : T → Bool} {sp : T → List ℕ} (ol
   space-for-one h = has-place (wanted-places (length xs) t.capacity v.stands.fits).0 (grown-of capacity_for_one h)
 
   pub cut-now : (n : ℕ) → ((x : T) → test x ≡ true → length (sp x) ≡ size) → n ≤ length xs → Truncates old mid p k n
-      → IsVectorNow size test sp old mid p t (take n xs) t
+      → ReplacesVector size test sp old mid p t (take n xs) t
   cut-now n spells f h =
       let r = subst (λ j. Truncates old mid p j n) e h (length xs) t (flat_map sp xs) v.stands in
       vector-now test sp (take n xs) r (omega (arith, length-take n xs, f))
       (flat-take size test sp spells n xs v.values) (all-parts test n xs v.values).0
 
   pub set-now : (i : ℕ) (y : T) → ((x : T) → test x ≡ true → length (sp x) ≡ size) → i < length xs → test y ≡ true
-      → Overwrites old mid p k i (sp y) → IsVectorNow size test sp old mid p t (slice_set xs i y) t
+      → Overwrites old mid p k i (sp y) → ReplacesVector size test sp old mid p t (slice_set xs i y) t
   set-now i y spells f good h =
       let r = subst (λ j. Overwrites old mid p j i (sp y)) e h (length xs) t (flat_map sp xs) v.stands in
       vector-now test sp (slice_set xs i y) r (sym (length-set xs i y)) (flat-set size test sp spells xs i y v.values f
@@ -337,7 +346,7 @@ module _ {T : Type 0} {size : ℕ} {test : T → Bool} {sp : T → List ℕ} (ol
 
   pub replaced-now : (i : ℕ) (ys : List T) → ((x : T) → test x ≡ true → length (sp x) ≡ size)
       → i + length ys ≤ length xs → IsTrue (list_all test ys) → Overwrites old mid p k i (flat_map sp ys)
-      → IsVectorNow size test sp old mid p t (replaced xs i ys) t
+      → ReplacesVector size test sp old mid p t (replaced xs i ys) t
   replaced-now i ys spells f w h =
       let r = subst (λ j. Overwrites old mid p j i (flat_map sp ys)) e h (length xs) t (flat_map sp xs) v.stands in
       let long : length xs ≡ length (replaced xs i ys) = omega (
@@ -352,7 +361,7 @@ module _ {T : Type 0} {size : ℕ} {test : T → Bool} {sp : T → List ℕ} (ol
       (all-edit test xs i (i + length ys) ys v.values w)
 
   pub appended-now : (y : T) → test y ≡ true → Extends old mid p k 1 (sp y)
-      → IsVectorNow size test sp old mid p t (xs ++ y ∷ []) t
+      → ReplacesVector size test sp old mid p t (xs ++ y ∷ []) t
   appended-now y good h =
       let r = subst (λ j. Extends old mid p j 1 (sp y)) e h (length xs) t (flat_map sp xs) v.stands in
       vector-now test sp (xs ++ y ∷ []) r (sym (length-append xs (y ∷ [])))
@@ -360,29 +369,30 @@ module _ {T : Type 0} {size : ℕ} {test : T → Bool} {sp : T → List ℕ} (ol
       (all-both test xs (y ∷ []) v.values (all-one test y good))
 
   pub inserted-now : (i : ℕ) (y : T) → ((x : T) → test x ≡ true → length (sp x) ≡ size) → i ≤ length xs → test y ≡ true
-      → Inserts old mid p k i (sp y) → IsVectorNow size test sp old mid p t (insert xs i y) t
+      → Inserts old mid p k i (sp y) → ReplacesVector size test sp old mid p t (insert xs i y) t
   inserted-now i y spells f good h =
       let r = subst (λ j. Inserts old mid p j i (sp y)) e h (length xs) t (flat_map sp xs) v.stands in
       vector-now test sp (insert xs i y) r (sym (length-insert xs i y f))
       (flat-insert size test sp spells xs i y v.values) (all-edit test xs i i (y ∷ []) v.values (all-one test y good))
 
-  pub erased-now : (i : ℕ) → ((x : T) → test x ≡ true → length (sp x) ≡ size) → i < length xs → Erases old mid p k i
-      → IsVectorNow size test sp old mid p t (remove xs i) t
+  pub erased-now : (i : ℕ) → ((x : T) → test x ≡ true → length (sp x) ≡ size) → i < length xs
+      → ErasesElement old mid p k i
+      → ReplacesVector size test sp old mid p t (remove xs i) t
   erased-now i spells f h =
-      let r = subst (λ j. Erases old mid p j i) e h (length xs) t (flat_map sp xs) v.stands in
+      let r = subst (λ j. ErasesElement old mid p j i) e h (length xs) t (flat_map sp xs) v.stands in
       vector-now test sp (remove xs i) r (omega (arith, length-remove xs i f))
       (flat-remove size test sp spells xs i v.values) (all-edit test xs i (suc i) [] v.values refl)
 
-  pub fitted-now : Fits old mid p k
-      → IsVectorNow size test sp old mid p t xs (shrunk_backing (live_of old.bytes) size (length xs) t)
+  pub fitted-now : ShrinksStorage old mid p k
+      → ReplacesVector size test sp old mid p t xs (shrunk_backing (live_of old.bytes) size (length xs) t)
   fitted-now h =
-      let r = subst (Fits old mid p) e h (length xs) t (flat_map sp xs) v.stands in
+      let r = subst (ShrinksStorage old mid p) e h (length xs) t (flat_map sp xs) v.stands in
       record { change = r.change; gaps = r.gaps; vector = record { stands = r.stands; values = v.values } }
 
-  pub released-now : GivesBack old mid p k → let none : List T = [] in IsVectorNow size test sp old mid p t none
-      no_table
+  pub released-now : FreesStorage old mid p k → let none : List T = [] in ReplacesVector size test sp old mid p t none
+      no_backing
   released-now h =
-      let r = subst (GivesBack old mid p) e h (length xs) t (flat_map sp xs) v.stands in
+      let r = subst (FreesStorage old mid p) e h (length xs) t (flat_map sp xs) v.stands in
       record { change = r.change; gaps = r.gaps; vector = record { stands = r.stands; values = refl } }
 
 -- ---- capacities for more
@@ -400,8 +410,8 @@ pub wanted-for-more : {w len capacity n k : ℕ} (more : ℕ) → w ≡ capacity
 wanted-for-more more e f g = e ∙ (λ i. capacity_for_more (f i) more (g i))
 
 -- a vector has few elements and places
-pub few-places : {T : Type 0} {size : ℕ} {test : T → Bool} {sp : T → List ℕ} (c : Cut) {p : Place} {xs : List T}
-    {t : Table} → 1 ≤ size → IsVector size test sp c.bytes p xs t
+pub few-places : {T : Type 0} {size : ℕ} {test : T → Bool} {sp : T → List ℕ} (c : WindowState) {p : Place} {xs : List T}
+    {t : BackingArray} → 1 ≤ size → IsVector size test sp c.bytes p xs t
     → (length xs ≤ t.capacity) × (t.capacity < 1073741824)
 few-places {size = size} c {t = t} some v = (
   v.stands.fits,
@@ -424,12 +434,12 @@ text-wanted {n = n} bytes more e f g =
     let needed : n + length more ≡ length (bytes ++ more) = omega (arith, f, length-append bytes more) in
     e ∙ (λ i. capacity_for_text (needed i) (g i))
 
-module _ (old mid : Cut) {p : Place} {bytes : List ℕ} {t : Table} (v : IsText old.bytes p bytes t) where
+module _ (old mid : WindowState) {p : Place} {bytes : List ℕ} {t : BackingArray} (v : IsText old.bytes p bytes t) where
   pub few-bytes : t.capacity < 1073741824
   few-bytes = let few : 1 * t.capacity < 1073741824 = capacity-bytes old v.heap v in omega (arith, few)
 
-  pub text-reserved : (n : ℕ) (r : Result (Unit {0}) Refusal) → Grows old mid p 1 n r
-      → MatchResult r (λ u. IsTextGrown old mid p t n bytes) (IsWithoutSpace old mid 1 n t)
+  pub text-reserved : (n : ℕ) (r : Result (Unit {0}) Refusal) → ReservesStorage old mid p 1 n r
+      → MatchResult r (λ u. GrowsTextOk old mid p t n bytes) (LacksSpace old mid 1 n t)
   text-reserved n (Ok u) h = let g = h (length bytes) t bytes v in
       record {
         table = g.table;
@@ -442,22 +452,23 @@ module _ (old mid : Cut) {p : Place} {bytes : List ℕ} {t : Table} (v : IsText 
       }
   text-reserved n (Err f) h = h (length bytes) t bytes v
 
-  pub text-enough : (n : ℕ) (r : Result (Unit {0}) Refusal) → Grows old mid p 1 n r → n ≤ t.capacity
+  pub text-enough : (n : ℕ) (r : Result (Unit {0}) Refusal) → ReservesStorage old mid p 1 n r → n ≤ t.capacity
       → (r ≡ Ok tt) × (mid ≡ old)
   text-enough n (Ok tt) h less = (refl, (h (length bytes) t bytes v).enough less)
   text-enough n (Err f) h less = absurd (not-refused less (h (length bytes) t bytes v))
 
   pub byte-set : (i x : ℕ) → i < length bytes → Overwrites old mid p 1 i (x ∷ [])
-      → IsTextNow old mid p t (slice_set bytes i x) t
+      → ReplacesText old mid p t (slice_set bytes i x) t
   byte-set i x f h =
       let at : 1 * i ≡ i = omega arith in let next : i + 1 ≡ suc i = omega arith in
-      let r = subst (λ j. IsRewritten old mid p 1 (length bytes) t (patched bytes j (x ∷ []))) at
+      let r = subst (λ j. RewritesElements old mid p 1 (length bytes) t (patched bytes j (x ∷ []))) at
       (h (length bytes) t bytes v) in
       let is : patched bytes i (x ∷ []) ≡ slice_set bytes i x = append_assoc (take i bytes) (x ∷ [])
       (drop (i + 1) bytes) ∙ ap (λ k. take i bytes ++ (x ∷ drop k bytes)) next ∙ sym (set-pieces bytes i x f) in
       text-now (slice_set bytes i x) r (sym (length-set bytes i x)) is
 
-  pub text-extended : (more : List ℕ) → Extends old mid p 1 (length more) more → IsTextNow old mid p t (bytes ++ more) t
+  pub text-extended : (more : List ℕ) → Extends old mid p 1 (length more) more
+      → ReplacesText old mid p t (bytes ++ more) t
   text-extended more h = text-now (bytes ++ more) (h (length bytes) t bytes v) (sym (length-append bytes more)) refl
 
   -- places for bytes behind the last one

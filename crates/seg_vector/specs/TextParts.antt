@@ -134,7 +134,7 @@ PlacesText old new bytes result = MatchResult result (PlacesTextOk old new bytes
 pub data ReservesArray (old new : WindowState) (o : Option Extent) (n g : ℕ) : Type 0 where
   widened : (w : WidensBlock current old new g n) → o ≡ Some w.before → ReservesArray old new o n g
   taken : (a : AllocatesOk current old new n Storage g) → regrow (live_of old.bytes) o n ≡ Some a.extent
-      → IsAsked old new o n g
+      → ReservesArray old new o n g
 
 abbrev pub AsksArray : WindowState → WindowState → Place → ℕ → Result ℕ Refusal → Type 0
 AsksArray old new p n result =

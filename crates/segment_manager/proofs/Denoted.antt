@@ -1,10 +1,12 @@
 -- What the bytes denote after one object is added, removed or changed, also where its index is written too.
 use Rattle.segment_manager.proofs.Common as common
 use common.{◌≡◌, refl, sym, ap, subst, ◌∙◌, ℕ, suc, ◌+◌, ◌≢◌, Bool, ◌&&◌, List, [], ◌∷◌, length, arith, IsTrue, nat_le}
-use common.{AllByRecursion, Memory, Cut, Same, bytes_of, Extent, LiveSet, handle, is_proper, LaysOut, SameBlock, Keeps}
-use common.{Table, is_table, Anonymous, IsIndexAt, Object, Directory, IsDirectory, live, extents_of, value_extents}
+use common.{AllByRecursion, Memory, WindowState, SameBytes, bytes_of, Extent, LiveSet, handle, is_proper}
+use common.{EncodesLiveSet, SameBlock, KeepsBlocks}
+use common.{BackingArray, has_backing, Anonymous, IsIndexAt, Object, Directory, IsDirectory, live, extents_of}
+use common.{value_extents}
 use common.{table_extents, is_object, is_index, rises, remove_object, with_object, with_changed, without_object}
-use common.{named_objects, unique_objects, by_name, by_kind, Denotes, IsObjectAt, IsHeader, handles, Same-part}
+use common.{named_objects, unique_objects, by_name, by_kind, Denotes, IsObjectAt, IsHeader, handles, SameBytes-part}
 use common.{flat_map, list_all, rises_from}
 use Rattle.segment_manager.proofs.Faces.{IsLike, replace-rises, anonymous-named, anonymous-unique, ordered-with}
 use Rattle.segment_manager.proofs.Faces.{ordered-without, ordered-changed, by_name-face, by_kind-face}
@@ -25,13 +27,13 @@ handles-length [] = refl
 handles-length (o ∷ os) = ap suc (handles-length os)
 
 -- an index stays with its words and its block
-pub index-stays : {m m' : Memory} {at : ℕ} {t : Table} (os : List Object) (lt : Object → Object → Bool)
-    → IsTrue (is_index t os lt) → Same m m' at (at + 24) → AllByRecursion (SameBlock m m') (table_extents t)
+pub index-stays : {m m' : Memory} {at : ℕ} {t : BackingArray} (os : List Object) (lt : Object → Object → Bool)
+    → IsTrue (is_index t os lt) → SameBytes m m' at (at + 24) → AllByRecursion (SameBlock m m') (table_extents t)
     → IsIndexAt m at t (handles os) → IsIndexAt m' at t (handles os)
 index-stays {t} os lt is_there s blocks h =
-    let both = first (is_table Index 8 t && nat_le (length os) t.capacity) (rises lt os) is_there in
-    let fits = no_more (length os) t.capacity (second (is_table Index 8 t) (nat_le (length os) t.capacity) both) in
-    any_index-same (first (is_table Index 8 t) (nat_le (length os) t.capacity) both)
+    let both = first (has_backing Index 8 t && nat_le (length os) t.capacity) (rises lt os) is_there in
+    let fits = no_more (length os) t.capacity (second (has_backing Index 8 t) (nat_le (length os) t.capacity) both) in
+    any_index-same (first (has_backing Index 8 t) (nat_le (length os) t.capacity) both)
     (omega (arith, handles-length os)) s blocks h
 
 -- the header and both indexes
@@ -41,18 +43,19 @@ pub record IsFrame (format : ℕ) (m : Memory) (d : Directory) : Type 0 where
   pub unique : IsIndexAt m 56 d.unique (handles (unique_objects d))
 
 -- the header and both indexes stay with their words and their blocks
-pub frame-stays : {format : ℕ} (old new : Cut) {d : Directory} (xs : List Extent) → Denotes format old.bytes d
-    → Keeps old new xs → AllByRecursion (SameBlock (bytes_of old.bytes) (bytes_of new.bytes)) (table_extents d.named)
+pub frame-stays : {format : ℕ} (old new : WindowState) {d : Directory} (xs : List Extent) → Denotes format old.bytes d
+    → KeepsBlocks old new xs → AllByRecursion (SameBlock (bytes_of old.bytes) (bytes_of new.bytes))
+    (table_extents d.named)
     → AllByRecursion (SameBlock (bytes_of old.bytes) (bytes_of new.bytes)) (table_extents d.unique)
     → IsFrame format (bytes_of new.bytes) d
 frame-stays old new {d} xs h k n u =
     let m = bytes_of old.bytes in let m' = bytes_of new.bytes in
     record {
-      header = header-same k.front (Same-part m m' 32 128 80 128 k.behind (omega arith) (omega arith)) h.header;
+      header = header-same k.front (SameBytes-part m m' 32 128 80 128 k.behind (omega arith) (omega arith)) h.header;
       named = index-stays (named_objects d) by_name h.directory.named
-          (Same-part m m' 32 128 32 56 k.behind (omega arith) (omega arith)) n h.named;
+          (SameBytes-part m m' 32 128 32 56 k.behind (omega arith) (omega arith)) n h.named;
       unique = index-stays (unique_objects d) by_kind h.directory.unique
-          (Same-part m m' 32 128 56 80 k.behind (omega arith) (omega arith)) u h.unique;
+          (SameBytes-part m m' 32 128 56 80 k.behind (omega arith) (omega arith)) u h.unique;
     }
 
 -- ---- one object more
@@ -79,16 +82,18 @@ directory-with {format} {d} o h is_there c p = record {
 }
 
 -- an anonymous object, with all its extents
-pub denotes-with : {format : ℕ} (old new : Cut) {d : Directory} {o : Object} → Denotes format old.bytes d
-    → IsTrue (is_object format o) → o.class ≡ Anonymous → LaysOut format new.bytes (adding (live d) (extents_of o))
-    → Keeps old new (live d).extents → IsObjectAt (bytes_of new.bytes) o → Denotes format new.bytes (with_object d o)
+pub denotes-with : {format : ℕ} (old new : WindowState) {d : Directory} {o : Object} → Denotes format old.bytes d
+    → IsTrue (is_object format o) → o.class ≡ Anonymous
+    → EncodesLiveSet format new.bytes (adding (live d) (extents_of o))
+    → KeepsBlocks old new (live d).extents → IsObjectAt (bytes_of new.bytes) o
+    → Denotes format new.bytes (with_object d o)
 denotes-with {format} old new {d} {o} h is_there c l k at =
     let blocks = of_each (SameBlock (bytes_of old.bytes) (bytes_of new.bytes)) k.blocks in
     let frame = frame-stays old new (live d).extents h k blocks.named blocks.unique in
     record {
       directory = directory-with o h.directory is_there c l.proper;
       header = frame.header;
-      heap = subst (LaysOut format new.bytes) (sym (live-put d o l.proper)) l;
+      heap = subst (EncodesLiveSet format new.bytes) (sym (live-put d o l.proper)) l;
       named = subst (λ os. IsIndexAt (bytes_of new.bytes) 32 d.named (handles os))
           (sym (ordered-with Named by_name d o (anonymous-named o c))) frame.named;
       unique = subst (λ os. IsIndexAt (bytes_of new.bytes) 56 d.unique (handles os))
@@ -113,12 +118,14 @@ directory-without {format} {d} o h f c p = record {
 }
 
 -- an anonymous object, with all its extents: those of the others stay
-pub denotes-without : {format : ℕ} (old new : Cut) {d : Directory} (o : Object) → Denotes format old.bytes d → IsIn d o
-    → o.class ≡ Anonymous → LaysOut format new.bytes (removing (live d) (extents_of o))
-    → Keeps old new (removing (live d) (extents_of o)).extents → Denotes format new.bytes (without_object d o)
+pub denotes-without : {format : ℕ} (old new : WindowState) {d : Directory} (o : Object) → Denotes format old.bytes d
+    → IsIn d o
+    → o.class ≡ Anonymous → EncodesLiveSet format new.bytes (removing (live d) (extents_of o))
+    → KeepsBlocks old new (removing (live d) (extents_of o)).extents → Denotes format new.bytes (without_object d o)
 denotes-without {format} old new {d} o h f c l k =
     let same = live-without d o f h.directory.proper in
-    let l' : LaysOut format new.bytes (live (without_object d o)) = subst (LaysOut format new.bytes) (sym same) l in
+    let l' : EncodesLiveSet format new.bytes (live (without_object d o)) =
+    subst (EncodesLiveSet format new.bytes) (sym same) l in
     let blocks = of_each (SameBlock (bytes_of old.bytes) (bytes_of new.bytes)) (subst (λ (s : LiveSet). AllByRecursion
     (SameBlock (bytes_of old.bytes) (bytes_of new.bytes)) s.extents) (sym same) k.blocks) in
     let frame = frame-stays old new (removing (live d) (extents_of o)).extents h k blocks.named blocks.unique in
@@ -138,9 +145,10 @@ denotes-without {format} old new {d} o h f c l k =
 -- ---- one object changed
 
 -- an object like another in its place, of any class: the blocks of the others stay
-pub denotes-replaced : (format : ℕ) (old new : Cut) (d : Directory) (o o' : Object) → Denotes format old.bytes d
+pub denotes-replaced : (format : ℕ) (old new : WindowState) (d : Directory) (o o' : Object) → Denotes format old.bytes d
     → IsFound (handle o'.extent) d.objects o → IsLike o o' → IsTrue (is_object format o')
-    → LaysOut format new.bytes (live (with_changed d o')) → Keeps old new (live (without_object d o')).extents
+    → EncodesLiveSet format new.bytes (live (with_changed d o'))
+    → KeepsBlocks old new (live (without_object d o')).extents
     → IsObjectAt (bytes_of new.bytes) o' → Denotes format new.bytes (with_changed d o')
 denotes-replaced format old new d o o' h f like is_there l k at =
     let blocks = of_each (SameBlock (bytes_of old.bytes) (bytes_of new.bytes)) k.blocks in
@@ -167,8 +175,8 @@ denotes-replaced format old new d o o' h f like is_there l k at =
 
 -- the header words round the two indexes stay
 pub record KeepsFront (m m' : Memory) : Type 0 where
-  pub front : Same m m' 0 24
-  pub zeros : Same m m' 80 128
+  pub front : SameBytes m m' 0 24
+  pub zeros : SameBytes m m' 80 128
 
 -- what the two indexes of a directory are, and the bytes that say so
 pub record HasIndexes (m : Memory) (d : Directory) : Type 0 where
@@ -180,7 +188,7 @@ pub record HasIndexes (m : Memory) (d : Directory) : Type 0 where
 -- One object more, of any class. The directory e is d, but for the tables of its indexes, which may have grown.
 pub denotes-put : {format : ℕ} {b : List ℕ} {b' : List ℕ} {d : Directory} (e : Directory) {o : Object}
     → Denotes format b d → e.size ≡ d.size → e.objects ≡ d.objects → IsTrue (is_object format o)
-    → LaysOut format b' (adding (live e) (extents_of o)) → KeepsFront (bytes_of b) (bytes_of b')
+    → EncodesLiveSet format b' (adding (live e) (extents_of o)) → KeepsFront (bytes_of b) (bytes_of b')
     → AllByRecursion (SameBlock (bytes_of b) (bytes_of b')) (flat_map extents_of d.objects)
     → HasIndexes (bytes_of b') (with_object e o) → IsObjectAt (bytes_of b') o → Denotes format b' (with_object e o)
 denotes-put {format} {b} {b'} {d} e {o} h s os is_there l k blocks i at =
@@ -196,7 +204,7 @@ denotes-put {format} {b} {b'} {d} e {o} h s os is_there l k blocks i at =
         unique = i.unique;
       };
       header = subst (IsHeader format (bytes_of b')) (sym s) (header-same k.front k.zeros h.header);
-      heap = subst (LaysOut format b') (sym (live-put e o l.proper)) l;
+      heap = subst (EncodesLiveSet format b') (sym (live-put e o l.proper)) l;
       named = i.named_at;
       unique = i.unique_at;
       objects = all-put (IsObjectAt (bytes_of b')) o e.objects at (subst (AllByRecursion (IsObjectAt (bytes_of b')))
@@ -205,14 +213,14 @@ denotes-put {format} {b} {b'} {d} e {o} h s os is_there l k blocks i at =
 
 -- One object less, of any class: the indexes are written as those of the others.
 pub denotes-taken : {format : ℕ} {b : List ℕ} {b' : List ℕ} {d : Directory} (o : Object) → Denotes format b d → IsIn d o
-    → LaysOut format b' (removing (live d) (extents_of o)) → KeepsFront (bytes_of b) (bytes_of b')
+    → EncodesLiveSet format b' (removing (live d) (extents_of o)) → KeepsFront (bytes_of b) (bytes_of b')
     → AllByRecursion (SameBlock (bytes_of b) (bytes_of b'))
     (flat_map extents_of (remove_object (handle o.extent) d.objects)) → IsIndexAt (bytes_of b') 32 d.named
     (handles (named_objects (without_object d o))) → IsIndexAt (bytes_of b') 56 d.unique
     (handles (unique_objects (without_object d o))) → Denotes format b' (without_object d o)
 denotes-taken {format} {b} {b'} {d} o h f l k blocks n u =
-    let l' : LaysOut format b' (live (without_object d o)) =
-    subst (LaysOut format b') (sym (live-without d o f h.directory.proper)) l in
+    let l' : EncodesLiveSet format b' (live (without_object d o)) =
+    subst (EncodesLiveSet format b') (sym (live-without d o f h.directory.proper)) l in
     record {
       directory = directory-less o h.directory f l'.proper;
       header = header-same k.front k.zeros h.header;

@@ -3,7 +3,8 @@
 use Rattle.segment_manager.proofs.Common as common
 use common.{◌≡◌, refl, ap, ◌∙◌, ℕ, zero, suc, Bool, true, false, not, ◌&&◌, ◌==◌, List, [], ◌∷◌, length, arith, IsTrue}
 use common.{nat_le, nat_lt, if◌then◌else◌, AllByRecursion, list_all, chars, is_utf8, and_from, and_parts, le-leb}
-use common.{leb-true, lt-leb, le-ltb, current, Memory, Same, bytes_of, word_at, Same-part, Same-word, LaysOut}
+use common.{leb-true, lt-leb, le-ltb, current, Memory, SameBytes, bytes_of, word_at, SameBytes-part, SameBytes-word}
+use common.{EncodesLiveSet}
 use common.{SameBlock, is_kind_of, is_control, is_name, is_printable_name, is_text_name, Denotes, IsHeader, Directory}
 use common.{IsDirectory, Object, by_kind, by_name, has_good_name, is_class, is_good_value, is_object, kind_of, live}
 use common.{named_objects, object_len, unique_objects, serves, ObjectRole}
@@ -92,23 +93,23 @@ directory-later format d h = record {
 
 -- header words but the version, and the blocks, stay; the version is the current one
 pub record StaysButVersion (m m' : Memory) (d : Directory) : Type 0 where
-  pub magic : Same m m' 0 8
+  pub magic : SameBytes m m' 0 8
   pub version : word_at m' 8 ≡ current
-  pub size : Same m m' 16 24
-  pub behind : Same m m' 32 128
+  pub size : SameBytes m m' 16 24
+  pub behind : SameBytes m m' 32 128
   pub blocks : AllByRecursion (SameBlock m m') (live d).extents
 
 header-later : {format : ℕ} {m m' : Memory} {d : Directory} → StaysButVersion m m' d → IsHeader format m d.size
     → IsHeader current m' d.size
 header-later {m} {m'} s h = record {
-  magic = Same-word m m' 0 8 0 s.magic (omega arith) (omega arith) ∙ h.magic;
+  magic = SameBytes-word m m' 0 8 0 s.magic (omega arith) (omega arith) ∙ h.magic;
   version = s.version;
-  size_word = Same-word m m' 16 24 16 s.size (omega arith) (omega arith) ∙ h.size_word;
+  size_word = SameBytes-word m m' 16 24 16 s.size (omega arith) (omega arith) ∙ h.size_word;
   zeros = record { at = λ k a b. s.behind.at k (omega arith) (omega arith) ∙ h.zeros.at k a b };
 }
 
 pub denotes-later : (format : ℕ) (old new : List ℕ) (d : Directory) → Denotes format old d
-    → StaysButVersion (bytes_of old) (bytes_of new) d → LaysOut current new (live d) → Denotes current new d
+    → StaysButVersion (bytes_of old) (bytes_of new) d → EncodesLiveSet current new (live d) → Denotes current new d
 denotes-later format old new d h s l =
     let m = bytes_of old in let m' = bytes_of new in
     let blocks = of_each (SameBlock m m') s.blocks in
@@ -117,8 +118,8 @@ denotes-later format old new d h s l =
       header = header-later s h.header;
       heap = l;
       named = index-stays (named_objects d) by_name h.directory.named
-          (Same-part m m' 32 128 32 56 s.behind (omega arith) (omega arith)) blocks.named h.named;
+          (SameBytes-part m m' 32 128 32 56 s.behind (omega arith) (omega arith)) blocks.named h.named;
       unique = index-stays (unique_objects d) by_kind h.directory.unique
-          (Same-part m m' 32 128 56 80 s.behind (omega arith) (omega arith)) blocks.unique h.unique;
+          (SameBytes-part m m' 32 128 56 80 s.behind (omega arith) (omega arith)) blocks.unique h.unique;
       objects = any_objects-same format m m' d.objects h.directory.objects blocks.objects h.objects;
     }

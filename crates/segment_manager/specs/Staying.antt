@@ -28,7 +28,7 @@ KeepsObjects old new = (o : Located) → IsObject o old → IsObject o new
 -- the law: a command on the elements of an object, and one that only reads, keeps each object
 pub record ObjectsStay : Type 0 where
   pub any : (old new : SegmentState) (c : Command) (answer : Answer) → IsSegment old.cut.bytes → is_elementwise c ≡ true
-      → IsStep old new c answer → KeepsObjects old new
+      → TakesStep old new c answer → KeepsObjects old new
   pub of_kind : (old new : SegmentState) (key : Key) (kind : Kind) (c : Command) (answer : Answer)
       → IsSegment old.cut.bytes
-      → is_elementwise c ≡ true → IsStepOfKind old new key kind c answer → KeepsObjects old new
+      → is_elementwise c ≡ true → TakesStepOfKind old new key kind c answer → KeepsObjects old new

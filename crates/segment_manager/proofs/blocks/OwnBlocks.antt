@@ -1,13 +1,14 @@
 -- Which handles are those of objects, and that the blocks of objects among those of a live set are those of the
 -- directory's objects, in its order.
 use Rattle.segment_manager.proofs.Common as common
-use common.{◌≡◌, sym, ◌∙◌, ℕ, suc, ◌*◌, ◌∷◌, map, refl, arith, holds, Table, Value, Bytes, Pairs, Texts, Object, sorted}
+use common.{◌≡◌, sym, ◌∙◌, ℕ, suc, ◌*◌, ◌∷◌, map, refl, arith, holds, BackingArray, Value, Bytes, Pairs, Texts, Object}
+use common.{sorted}
 use common.{rises, ap, value_extents, table_extents, is_good_value, has_own_block, is_owned_text, Bool, true, ◌&&◌}
 use common.{◌||◌, ◌==◌, Some, None, List, ◌++◌, cond, find, Node, live, false, IsTrue, nat_lt, nat_le, int_lt, eq-eqb}
 use common.{ne_eqb, Extent, handle, serves, Option, length, Storage, size_of, Numbers, has_key, kind_of, by_name}
 use common.{by_kind, [], list_all, list_any, OwnedText, is_rising, Directory, object_at, is_object, if◌then◌else◌}
 use common.{option_to_list, AllByRecursion, is_number_pair, unique_objects, flat_map, eqb-false, and_right, same_role}
-use common.{NumberPair, extents_of, object_len, is_some, eqb-true, is_table, ByHandle, is_value, node_len, Elements}
+use common.{NumberPair, extents_of, object_len, is_some, eqb-true, has_backing, ByHandle, is_value, node_len, Elements}
 use common.{is_index, ObjectRole, ScalarKind, is_kind_of, IsDirectory, has_good_name, named_objects}
 use Rattle.segment_manager.proofs.{Live.tables_of, Live.live-extents, blocks.Blocks.own-block}
 use Rattle.raw_region.proofs.Facts.{first, second, AllByRecursion-append}
@@ -105,7 +106,8 @@ other-role n k e = ne_eqb n 0 (λ f. omega (arith, eqb-true n (suc k) e, f))
 not-object : (h : ℕ) (x : Extent) (k : ℕ) → (role_bits x.role == suc k) ≡ true → is_object_block h x ≡ false
 not-object h x k e = and_right (handle x == h) (same_role x.role ObjectRole) (other-role (role_bits x.role) k e)
 
-storage-none : (h each c : ℕ) (o : Option Extent) → IsTrue (is_table Storage each (record { capacity = c; extent = o }))
+storage-none : (h each c : ℕ) (o : Option Extent)
+    → IsTrue (has_backing Storage each (record { capacity = c; extent = o }))
     → NonePasses (is_object_block h) (option_to_list o)
 storage-none h each c None e = tt
 storage-none h each c (Some x) e = (
@@ -114,7 +116,8 @@ storage-none h each c (Some x) e = (
   tt,
 )
 
-pub index-none : (h each c : ℕ) (o : Option Extent) → IsTrue (is_table Index each (record { capacity = c; extent = o }))
+pub index-none : (h each c : ℕ) (o : Option Extent)
+    → IsTrue (has_backing Index each (record { capacity = c; extent = o }))
     → NonePasses (is_object_block h) (option_to_list o)
 index-none h each c None e = tt
 index-none h each c (Some x) e = (
@@ -153,16 +156,18 @@ nodes-none h k v (p ∷ ps) e =
 value-none : (h : ℕ) (v : Value) → IsTrue (is_good_value v) → NonePasses (is_object_block h) (value_extents v)
 value-none h (Numbers k zs) e = tt
 value-none h (Elements k zs t) e = storage-none h (size_of k) t.capacity t.extent
-    (second (nat_le (length zs) t.capacity) (is_table Storage (size_of k) t)
-    (first (nat_le (length zs) t.capacity && is_table Storage (size_of k) t) (list_all (is_value k) zs) e))
+    (second (nat_le (length zs) t.capacity) (has_backing Storage (size_of k) t)
+    (first (nat_le (length zs) t.capacity && has_backing Storage (size_of k) t) (list_all (is_value k) zs) e))
 value-none h (Bytes bs t) e =
-    storage-none h 1 t.capacity t.extent (second (nat_le (length bs) t.capacity) (is_table Storage 1 t)
-    (first (nat_le (length bs) t.capacity && is_table Storage 1 t) (list_all (λ b. nat_lt b 256) bs) e))
+    storage-none h 1 t.capacity t.extent (second (nat_le (length bs) t.capacity) (has_backing Storage 1 t)
+    (first (nat_le (length bs) t.capacity && has_backing Storage 1 t) (list_all (λ b. nat_lt b 256) bs) e))
 value-none h (Pairs k v ps) e = nodes-none h k v ps (second (is_rising int_lt ps) (list_all (is_number_pair k v) ps) e)
 value-none h (Texts ps t) e = none-append (is_object_block h) (table_extents t) (flat_map (λ (p : OwnedText).
     option_to_list p.extent) ps) (storage-none h 16 t.capacity t.extent (second (nat_le (length ps) t.capacity)
-    (is_table Storage 16 t) (first (nat_le (length ps) t.capacity && is_table Storage 16 t) (list_all is_owned_text ps)
-    e))) (all_owned-none h ps (second (nat_le (length ps) t.capacity && is_table Storage 16 t) (list_all is_owned_text
+    (has_backing Storage 16 t) (first (nat_le (length ps) t.capacity
+    && has_backing Storage 16 t) (list_all is_owned_text ps)
+    e))) (all_owned-none h ps (second (nat_le (length ps) t.capacity
+    && has_backing Storage 16 t) (list_all is_owned_text
     ps) e))
 
 pub object-told : (format h : ℕ) (o : Object) → IsTrue (is_object format o) → IsTold (is_object_block h) h o
@@ -185,10 +190,10 @@ objects-told format h (o ∷ os) e = (
   objects-told format h os (second (is_object format o) (list_all (is_object format) os) e),
 )
 
-pub table-of : (t : Table) (os : List Object) (lt : Object → Object → Bool) → IsTrue (is_index t os lt)
-    → IsTrue (is_table Index 8 t)
-table-of t os lt e = first (is_table Index 8 t) (nat_le (length os) t.capacity)
-    (first (is_table Index 8 t && nat_le (length os) t.capacity) (rises lt os) e)
+pub table-of : (t : BackingArray) (os : List Object) (lt : Object → Object → Bool) → IsTrue (is_index t os lt)
+    → IsTrue (has_backing Index 8 t)
+table-of t os lt e = first (has_backing Index 8 t) (nat_le (length os) t.capacity)
+    (first (has_backing Index 8 t && nat_le (length os) t.capacity) (rises lt os) e)
 
 -- the handle is an object's exactly where a block of it is in use for an object
 pub handle-is-object : {format : ℕ} {d : Directory} (h : ℕ) → IsDirectory format d

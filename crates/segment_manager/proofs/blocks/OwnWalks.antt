@@ -5,7 +5,7 @@ use common.{[], ◌∷◌, length, map, arith, cond, ◌/◌, ◌<◌, take, IsT
 use common.{AllByRecursion, none-some, same_Some, slice_get_within, length-map, current, Memory, bytes_of}
 use common.{is_legal_size, Tile, tiles_of, Extent, LiveSet, end_of, handle, is_proper, proper_from, spans, legal_size}
 use common.{ByHandle, Instance, Object, Directory, live, object_at, rises_from, is_object_at, IsInstance, SaysAt}
-use common.{SaysOf, is_own, is_own_span, own_spans, Answers, IsSegment, State, StandsFor}
+use common.{SaysOf, is_own, is_own_span, own_spans, AnswersWith, IsSegment, SegmentState, DenotesCurrent}
 use Rattle.segment_manager.proofs.objects.ObjectLists.{rises-front, rises-rest}
 use Rattle.segment_manager.proofs.blocks.OwnSpans.{all-own_spans, as_used, blocks, own-blocks}
 use Rattle.segment_manager.proofs.{indexes.Bridge.each-by_handle, Calling.denotes-live, indexes.EntryPlaces.all-at}
@@ -107,11 +107,11 @@ tile-few b at g l = omega (arith, segment-short b g, tiles-bounded (length b / 3
 -- the walk went on, and passed no block of an object
 pub record IsStill (old new : TileWalk) : Type 0 where
   pub segment : new.segment ≡ old.segment
-  pub count : (d : Directory) → StandsFor old.segment.cut.bytes d → own_before d new.at ≡ own_before d old.at
+  pub count : (d : Directory) → DenotesCurrent old.segment.cut.bytes d → own_before d new.at ≡ own_before d old.at
 
 module _ {old cur : TileWalk} (new : TileWalk) (s : IsStill old cur) where
-  same-bytes : {d : Directory} → StandsFor old.segment.cut.bytes d → StandsFor cur.segment.cut.bytes d
-  same-bytes {d} k = subst (λ (t : State). StandsFor t.cut.bytes d) (sym s.segment) k
+  same-bytes : {d : Directory} → DenotesCurrent old.segment.cut.bytes d → DenotesCurrent cur.segment.cut.bytes d
+  same-bytes {d} k = subst (λ (t : SegmentState). DenotesCurrent t.cut.bytes d) (sym s.segment) k
 
   -- past another block or a gap
   pub own-past : {span : TileInfo} → GoesOnTiles cur (Some span) new → is_own_span (as_span span) ≡ false
@@ -150,7 +150,8 @@ none-mapped f (x ∷ xs) zero e = absurd (none-some (f x) (sym e))
 none-mapped f (x ∷ xs) (suc i) e = none-mapped f xs i e
 
 -- all objects came
-pub objects-end : (s : State) (at : ℕ) {d : Directory} → StandsFor s.cut.bytes d → None ≡ slice_get (own_spans d) at
+pub objects-end : (s : SegmentState) (at : ℕ) {d : Directory} → DenotesCurrent s.cut.bytes d
+    → None ≡ slice_get (own_spans d) at
     → length d.objects ≤ at
 objects-end s at {d} k e = none_more d.objects at (none-mapped (λ (o : Object). o.extent) d.objects at
     (none-mapped as_used (blocks d.objects) at
@@ -169,9 +170,9 @@ owner-in (o ∷ os) zero {span} e = (o, refl, ap (λ (s : LiveSpan). s.offset) (
 owner-in (o ∷ os) (suc at) e = owner-in os at e
 
 -- an object's block that stands at a place among the blocks and gaps is that of the object of its handle
-pub tile-here : {s : State} (i : ℕ) (span : LiveSpan) → ((d : Directory) → StandsFor s.cut.bytes d
+pub tile-here : {s : SegmentState} (i : ℕ) (span : LiveSpan) → ((d : Directory) → DenotesCurrent s.cut.bytes d
     → Some span ≡ slice_get (spans (live d)) i) → is_own_span span ≡ true
-    → Answers s (λ d. is_object_at d (span.offset + 16)) true
+    → AnswersWith s (λ d. is_object_at d (span.offset + 16)) true
 tile-here {s} i span next own = record {
   answers = λ d k.
       let at = own_before d i in
@@ -203,7 +204,7 @@ live-within d h = all-within 128 (live d).extents ((live d).size - 16)
     (second (is_legal_size (live d).size) (proper_from 128 (live d).extents ((live d).size - 16)) h)
 
 -- the blocks of objects lie within the segment
-own-within : {b : List ℕ} {d : Directory} → StandsFor b d
+own-within : {b : List ℕ} {d : Directory} → DenotesCurrent b d
     → AllByRecursion (λ (o : Object). end_of o.extent ≤ (live d).size - 16) d.objects
 own-within {d} k = all-blocks (λ (x : Extent). end_of x ≤ (live d).size - 16) d.objects
     (subst (AllByRecursion (λ (x : Extent). end_of x ≤ (live d).size - 16)) (own-blocks k.denotes.directory)
@@ -227,21 +228,21 @@ objects-few b g = omega (
 )
 
 -- how many objects there are, as the tags say
-pub counts-own : {b : List ℕ} {d : Directory} → StandsFor b d → own_count b ≡ length d.objects
+pub counts-own : {b : List ℕ} {d : Directory} → DenotesCurrent b d → own_count b ≡ length d.objects
 counts-own {b} {d} k = ap (λ (l : LiveSet). length (filter is_own l.extents)) (denotes-live current b d k.denotes)
     ∙ ap length (own-blocks k.denotes.directory) ∙ length-map d.objects (λ o. o.extent)
 
 -- ---- a call of the iterator
 
-module _ {s : State} {at : ℕ} {span : TileInfo} (own : IsObjectTile s at span) where
-  owner : {d : Directory} → StandsFor s.cut.bytes d → IsOwner d at span
+module _ {s : SegmentState} {at : ℕ} {span : TileInfo} (own : IsObjectTile s at span) where
+  owner : {d : Directory} → DenotesCurrent s.cut.bytes d → IsOwner d at span
   owner {d} k =
       let o = owner-in d.objects at
       (ap (λ ss. slice_get ss at) (sym (all-own_spans k.denotes.directory)) ∙ sym (own.stands d k)) in
       record { object = o.0; is = o.1; offset = o.2 }
 
   -- it is found by its handle
-  owner-found : {d : Directory} (k : StandsFor s.cut.bytes d) {h : ℕ} → h ≡ span.offset + 16
+  owner-found : {d : Directory} (k : DenotesCurrent s.cut.bytes d) {h : ℕ} → h ≡ span.offset + 16
       → object_at d (ByHandle h) ≡ Some (owner k).object
   owner-found {d} k e =
       let o = owner k in
@@ -250,7 +251,7 @@ module _ {s : State} {at : ℕ} {span : TileInfo} (own : IsObjectTile s at span)
       (each-by_handle 0 d.objects k.denotes.directory.by_offset) o.is
 
   -- an object has the handle
-  pub owner-here : (h : ℕ) → h ≡ span.offset + 16 → Answers s (λ d. is_object_at d h) true
+  pub owner-here : (h : ℕ) → h ≡ span.offset + 16 → AnswersWith s (λ d. is_object_at d h) true
   owner-here h e = record { answers = λ d k. sym (ap is_some (owner-found k e)) }
 
   -- what is said of it is said of the object at the place
@@ -278,15 +279,15 @@ module _ {s : State} {at : ℕ} {span : TileInfo} (own : IsObjectTile s at span)
       let within = all-at (λ (p : Object). end_of p.extent ≤ (live d).size - 16) d.objects at (own-within g.1) o.is in
       omega (arith, within, o.offset, segment-short s.cut.bytes g, g.1.denotes.heap.size)
 
-module _ {s : State} {old new : TileWalk} {at : ℕ} {r : Option TileInfo} (h : HasPassed s old at)
+module _ {s : SegmentState} {old new : TileWalk} {at : ℕ} {r : Option TileInfo} (h : HasPassed s old at)
     (g : GoesOnOwn old r new) where
-  at-own : {d : Directory} → StandsFor s.cut.bytes d → option_map as_span r ≡ slice_get (own_spans d) at
-  at-own {d} k = g.says d (subst (λ (t : State). StandsFor t.cut.bytes d) (sym h.segment) k)
+  at-own : {d : Directory} → DenotesCurrent s.cut.bytes d → option_map as_span r ≡ slice_get (own_spans d) at
+  at-own {d} k = g.says d (subst (λ (t : SegmentState). DenotesCurrent t.cut.bytes d) (sym h.segment) k)
       ∙ ap (slice_get (own_spans d)) (sym (h.count.answers d k))
 
   -- a block came
   pub block-at : {span : TileInfo} → r ≡ Some span → IsObjectTile s at span
   block-at e = record { stands = λ d k. ap (option_map as_span) (sym e) ∙ at-own k }
 
-  pub none-left : r ≡ None → (d : Directory) → StandsFor s.cut.bytes d → length d.objects ≤ at
+  pub none-left : r ≡ None → (d : Directory) → DenotesCurrent s.cut.bytes d → length d.objects ≤ at
   none-left e d k = objects-end s at k (ap (option_map as_span) (sym e) ∙ at-own k)

@@ -1,13 +1,17 @@
 -- A vector or text as the value of an object: it stands at its place as the calls of seg_vector see it, and what they
 -- do to it is what becomes of the object.
 use Rattle.segment_manager.proofs.Common as common
-use common.{◌≡◌, refl, Bool, ◌&&◌, Some, None, List, Stands, Value, Bytes, Object, padded, sym, ap, ◌∙◌, ◌+◌, ◌*◌, ◌≤◌}
-use common.{ℤ, [], ◌∷◌, Cut, Key, live, subst, ObjectRole, ScalarKind, is_kind_of, IsOwnBlock, IsRefilled, has_values}
+use common.{◌≡◌, refl, Bool, ◌&&◌, Some, None, List, IsContainer, Value, Bytes, Object, padded, sym, ap, ◌∙◌, ◌+◌, ◌*◌}
+use common.{◌≤◌}
+use common.{ℤ, [], ◌∷◌, WindowState, Key, live, subst, ObjectRole, ScalarKind, is_kind_of, IsStorageBlock}
+use common.{RefillsContainer, has_values}
 use common.{ℕ, and_from, extent_at, Directory, is_object, object_at, value_len, IsValueAt, Option, length, IsTrue}
-use common.{nat_le, le-leb, Memory, Extent, handle, Table, serves, append-nil, same_Some, IsExchanged, contents_of}
+use common.{nat_le, le-leb, Memory, Extent, handle, BackingArray, serves, append-nil, same_Some, ExchangesBlocks}
+use common.{contents_of}
 use common.{is_good_value, value_extents, arith, Storage, LiveSet, live_of, size_of, spelled, kind_of, Denotes, changed}
-use common.{option_to_list, IsContainerAt, container_place, has_good_name, AllByRecursion, current, bytes_of, is_table}
-use common.{place_at, Contents, Elements, count_of, StandsAt}
+use common.{option_to_list, IsContainerAt, container_place, has_good_name, AllByRecursion, current, bytes_of}
+use common.{has_backing}
+use common.{place_at, Contents, Elements, count_of, IsObjectInBlock}
 use Rattle.segment_manager.proofs.objects.Exchanged.{Exchange, between, denotes-container}
 use Rattle.segment_manager.proofs.containers.MapBlocks.{BlocksInUse, blocks-in_use}
 use Rattle.segment_manager.proofs.objects.Rewritten.{value_start, with_value}
@@ -20,7 +24,7 @@ use Rattle.raw_region.proofs.Facts.{second, first, no_more}
 
 -- what is known of a good one
 pub record Fits (v : Value) (c : Contents) : Type 0 where
-  pub table : IsTrue (is_table Storage c.each c.table)
+  pub table : IsTrue (has_backing Storage c.each c.table)
   pub fits : c.len ≤ c.table.capacity
   pub long : length c.bytes ≡ c.each * c.len
   pub values : IsTrue (has_values v)
@@ -31,15 +35,17 @@ pub record Shape (v : Value) (c : Contents) : Type 0 where
   pub len : value_len v ≡ 24
   pub count : count_of v ≡ 1
 
-abbrev elements_in : ScalarKind → List ℤ → Table → Contents
+abbrev elements_in : ScalarKind → List ℤ → BackingArray → Contents
 elements_in k zs t = record { each = size_of k; len = length zs; table = t; bytes = spelled k zs }
 
-abbrev bytes_in : List ℕ → Table → Contents
+abbrev bytes_in : List ℕ → BackingArray → Contents
 bytes_in bs t = record { each = 1; len = length bs; table = t; bytes = bs }
 
 -- what is so of vectors of numbers and of texts is so of every value with contents
-pub of-contents : (P : Value → Contents → Type 0) → ((k : ScalarKind) (zs : List ℤ) (t : Table) → P (Elements k zs t)
-    (elements_in k zs t)) → ((bs : List ℕ) (t : Table) → P (Bytes bs t) (bytes_in bs t)) → (v : Value) (c : Contents)
+pub of-contents : (P : Value → Contents → Type 0)
+    → ((k : ScalarKind) (zs : List ℤ) (t : BackingArray) → P (Elements k zs t)
+    (elements_in k zs t)) → ((bs : List ℕ) (t : BackingArray) → P (Bytes bs t) (bytes_in bs t))
+    → (v : Value) (c : Contents)
     → contents_of v ≡ Some c → P v c
 of-contents P f g (Elements k zs t) c e = subst (P (Elements k zs t)) (same_Some (elements_in k zs t) c e) (f k zs t)
 of-contents P f g (Bytes bs t) c e = subst (P (Bytes bs t)) (same_Some (bytes_in bs t) c e) (g bs t)
@@ -47,8 +53,9 @@ of-contents P f g v c e = absurd (cc)
 
 -- a good value is one with no more elements than places, whose storage serves, and whose elements are values
 good-contents : (v : Value) (c : Contents) → contents_of v ≡ Some c
-    → is_good_value v ≡ (nat_le c.len c.table.capacity && is_table Storage c.each c.table && has_values v)
-good-contents = of-contents (λ v c. is_good_value v ≡ (nat_le c.len c.table.capacity && is_table Storage c.each c.table
+    → is_good_value v ≡ (nat_le c.len c.table.capacity && has_backing Storage c.each c.table && has_values v)
+good-contents = of-contents (λ v c.
+    is_good_value v ≡ (nat_le c.len c.table.capacity && has_backing Storage c.each c.table
     && has_values v)) (λ k zs t. refl) (λ bs t. refl)
 
 contents-long : (v : Value) (c : Contents) → contents_of v ≡ Some c → length c.bytes ≡ c.each * c.len
@@ -57,7 +64,7 @@ contents-long =
 
 pub contents-fit : (v : Value) (c : Contents) → contents_of v ≡ Some c → IsTrue (is_good_value v) → Fits v c
 contents-fit v c e h =
-    let many : Bool = nat_le c.len c.table.capacity in let serves : Bool = is_table Storage c.each c.table in
+    let many : Bool = nat_le c.len c.table.capacity in let serves : Bool = has_backing Storage c.each c.table in
     let all : IsTrue (many && serves && has_values v) = subst (λ (t : Bool). IsTrue t) (good-contents v c e) h in
     let front : IsTrue (many && serves) = first (many && serves) (has_values v) all in
     record {
@@ -73,10 +80,11 @@ contents-shape = of-contents Shape (λ k zs t. record { extents = refl; len = re
 
 -- the other way round: elements that have their places make a good value
 pub contents-good : (v : Value) (c : Contents) → contents_of v ≡ Some c → c.len ≤ c.table.capacity
-    → IsTrue (is_table Storage c.each c.table) → IsTrue (has_values v) → IsTrue (is_good_value v)
+    → IsTrue (has_backing Storage c.each c.table) → IsTrue (has_values v) → IsTrue (is_good_value v)
 contents-good v c e f t h = subst (λ (b : Bool). IsTrue b) (sym (good-contents v c e))
-    (and_from (nat_le c.len c.table.capacity && is_table Storage c.each c.table) (has_values v)
-    (and_from (nat_le c.len c.table.capacity) (is_table Storage c.each c.table) (le-leb c.len c.table.capacity f) t) h)
+    (and_from (nat_le c.len c.table.capacity && has_backing Storage c.each c.table) (has_values v)
+    (and_from (nat_le c.len c.table.capacity) (has_backing Storage c.each c.table) (le-leb c.len c.table.capacity f)
+    t) h)
 
 -- what the bytes say of the value they say of its contents, and the other way round
 contents-said : (m : Memory) (at : ℕ) (v : Value) (c : Contents) → contents_of v ≡ Some c → IsValueAt m at v
@@ -108,7 +116,7 @@ good-with format o w h kind len good =
 
 -- a block of its value is in use, and is not its own
 own-some : (format : ℕ) (b : List ℕ) (d : Directory) (o : Object) (x : Extent) → Denotes format b d → IsIn d o
-    → value_extents o.value ≡ x ∷ [] → IsOwnBlock (live_of b) (handle o.extent) (Some x)
+    → value_extents o.value ≡ x ∷ [] → IsStorageBlock (live_of b) (handle o.extent) (Some x)
 own-some format b d o x k f e =
     let u : BlocksInUse d o = blocks-in_use d o k.directory.proper f in (
       ap (λ (l : LiveSet). extent_at l (handle x)) (denotes-live format b d k)
@@ -117,7 +125,7 @@ own-some format b d o x k f e =
     )
 
 own-block : (format : ℕ) (b : List ℕ) (d : Directory) (o : Object) (t : Option Extent) → Denotes format b d → IsIn d o
-    → value_extents o.value ≡ option_to_list t → IsOwnBlock (live_of b) (handle o.extent) t
+    → value_extents o.value ≡ option_to_list t → IsStorageBlock (live_of b) (handle o.extent) t
 own-block format b d o None k f e = tt
 own-block format b d o (Some x) k f e = own-some format b d o x k f e
 
@@ -127,9 +135,9 @@ start-place o = omega arith
 -- its vector or text stands at its place
 pub contents-stand : (b : List ℕ) (d : Directory) (key : Key) (o : Object) (c : Contents) → Denotes current b d
     → object_at d key ≡ Some o → contents_of o.value ≡ Some c
-    → Stands b (container_place o) c.each c.len c.table c.bytes
+    → IsContainer b (container_place o) c.each c.len c.table c.bytes
 contents-stand b d key o c k e h =
-    let s : StandsAt b (handle o.extent) o = standing b d key o k e in
+    let s : IsObjectInBlock b (handle o.extent) o = standing b d key o k e in
     let f : IsIn d o = key-found current d key o k.directory e in
     let good : Fits o.value c = contents-fit o.value c h (object-roomy current o s.good).value in
     let shape : Shape o.value c = contents-shape o.value c h in let len = shape.len in
@@ -146,12 +154,12 @@ contents-stand b d key o c k e h =
     }
 
 -- And what is done to it there comes to the directory with the other value.
-pub contents-changed : (old new : Cut) (d : Directory) (key : Key) (o : Object) (w : Value) (c c' : Contents)
+pub contents-changed : (old new : WindowState) (d : Directory) (key : Key) (o : Object) (w : Value) (c c' : Contents)
     → Denotes current old.bytes d → object_at d key ≡ Some o
     → contents_of o.value ≡ Some c → contents_of w ≡ Some c' → kind_of w ≡ kind_of o.value → IsTrue (has_values w)
-    → IsRefilled old new (container_place o) c c' → Denotes current new.bytes (changed d o w)
+    → RefillsContainer old new (container_place o) c c' → Denotes current new.bytes (changed d o w)
 contents-changed old new d key o w c c' k e h h' kind values r =
-    let s : StandsAt old.bytes (handle o.extent) o = standing old.bytes d key o k e in
+    let s : IsObjectInBlock old.bytes (handle o.extent) o = standing old.bytes d key o k e in
     let f : IsIn d o = key-found current d key o k.directory e in
     let was : Shape o.value c = contents-shape o.value c h in let is : Shape w c' = contents-shape w c' h' in
     let good : IsTrue (is_object current (with_value o w)) = good-with current o w s.good kind (is.len ∙ sym was.len)
@@ -160,8 +168,9 @@ contents-changed old new d key o w c c' k e h h' kind values r =
     between o (with_value o w) [] (option_to_list c.table.extent) (option_to_list c'.table.extent) []
     (was.extents ∙ sym (append-nil (option_to_list c.table.extent))) (is.extents
     ∙ sym (append-nil (option_to_list c'.table.extent))) in
-    let change : IsExchanged current old new (value_start o) 24 (option_to_list c.table.extent)
-    (option_to_list c'.table.extent) = subst (λ at. IsExchanged current old new at 24 (option_to_list c.table.extent)
+    let change : ExchangesBlocks current old new (value_start o) 24 (option_to_list c.table.extent)
+    (option_to_list c'.table.extent) =
+    subst (λ at. ExchangesBlocks current old new at 24 (option_to_list c.table.extent)
     (option_to_list c'.table.extent)) (sym (start-place o)) r.change in
     denotes-container current old new d o w (option_to_list c.table.extent) (option_to_list c'.table.extent) k f x kind
     (is.count ∙ sym was.count) was.len s.good good change (subst (λ at. IsValueAt (bytes_of new.bytes) at w)

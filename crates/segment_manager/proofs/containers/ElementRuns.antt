@@ -1,12 +1,13 @@
 -- Where the elements of an object stand: what is read of its head and of the words of its container is its run.
 use Rattle.segment_manager.proofs.Common as common
 use common.{◌≡◌, refl, sym, ap, subst, ◌∙◌, ℕ, ℤ, zero, suc, Bool, true, ◌∷◌, ◌+◌, ◌*◌, ◌%◌, ◌≤◌, Option, Some, None}
-use common.{Result, Ok, Err, List, [], length, arith, IsTrue, Cut, Memory, Has, bytes_of, read, current, word_at}
-use common.{link_at, has_room, live_of, IsHeap, handle, Extent, Table, room_block, Key, Kind, ScalarKind, U8}
+use common.{Result, Ok, Err, List, [], length, arith, IsTrue, WindowState, Memory, HasBytesAt, bytes_of, read, current}
+use common.{word_at}
+use common.{link_at, has_room, live_of, IsHeap, handle, Extent, BackingArray, room_block, Key, Kind, ScalarKind, U8}
 use common.{size_of, spelled, Scalar, String, Vector, Refusal, NotFound, Object, Directory, Value, Numbers, Elements}
-use common.{Bytes, Pairs, Texts, object_at, kind_of, padded, head_len, IsValueAt, StandsAt}
-use common.{Answers, handle_at, State, StandsFor, IsSegment, Contents, slice_get, list_all, is_value}
-use common.{is_good_value, spelling, contents_of, Denotes, count_of, eqb-true, is_table, Storage, IfSome, value_len}
+use common.{Bytes, Pairs, Texts, object_at, kind_of, padded, head_len, IsValueAt, IsObjectInBlock}
+use common.{AnswersWith, handle_at, SegmentState, DenotesCurrent, IsSegment, Contents, slice_get, list_all, is_value}
+use common.{is_good_value, spelling, contents_of, Denotes, count_of, eqb-true, has_backing, Storage, IfSome, value_len}
 use common.{WrongKind, option_map}
 use Rattle.segment_manager.proofs.objects.Here.{here, seen-handle, standing}
 use Rattle.segment_manager.specs.objects.Located.{located, located_at}
@@ -33,7 +34,7 @@ link-offset : (t : Option Extent)
 link-offset None = refl
 link-offset (Some x) = refl
 
-link-said : (m : Memory) (at : ℕ) (t : Table) {r : ℕ} → r ≡ unwrap_or (link_at m at) 0
+link-said : (m : Memory) (at : ℕ) (t : BackingArray) {r : ℕ} → r ≡ unwrap_or (link_at m at) 0
     → link_at m at ≡ table_link t → r ≡ storage_offset t
 link-said m at t e f = e ∙ ap (λ (l : Option ℕ). unwrap_or l 0) f ∙ link-offset t.extent
 
@@ -46,7 +47,7 @@ pub record IsRunRead (m : Memory) (h at : ℕ) (k : ScalarKind) (r : ElementRun)
 same-run : {r q : ElementRun} → r.offset ≡ q.offset → r.count ≡ q.count → r.kind ≡ q.kind → r ≡ q
 same-run {r} {q} e f g = λ i. record { offset = e i; count = f i; kind = g i }
 
-module _ {b : List ℕ} {h : ℕ} (o : Object) (s : StandsAt b h o) where
+module _ {b : List ℕ} {h : ℕ} (o : Object) (s : IsObjectInBlock b h o) where
   abbrev start : ℕ
   start = handle o.extent + head_len + padded (length o.name)
 
@@ -93,7 +94,7 @@ pub record AreWords (b : List ℕ) (h at : ℕ) : Type 0 where
   pub near : at ≤ 4096
   pub room : IsTrue (has_room (live_of b) h (at + 24))
 
-pub are-words : {b : List ℕ} {h : ℕ} (o : Object) → StandsAt b h o → (at : ℕ)
+pub are-words : {b : List ℕ} {h : ℕ} (o : Object) → IsObjectInBlock b h o → (at : ℕ)
     → at ≡ head_len + padded (length o.name) → value_len o.value ≡ 24 → AreWords b h at
 are-words {b} {h} o s at e len =
     let short = standing-short b h o s in
@@ -114,12 +115,12 @@ string-len v e = absurd (cc)
 -- ---- where it lies, and what stands there
 
 -- a run of so many bytes lies in the heap, at a multiple of 8
-record Lies (c : Cut) (at n : ℕ) : Type 0 where
+record Lies (c : WindowState) (at n : ℕ) : Type 0 where
   inside : at + n ≤ length c.bytes
   aligned : at % 8 ≡ 0
 
 -- as the bytes of a block do, from a multiple of 8 in it on
-room-lies : (c : Cut) (h at n : ℕ) → IsHeap current c.bytes → IsTrue (has_room (live_of c.bytes) h (at + n))
+room-lies : (c : WindowState) (h at n : ℕ) → IsHeap current c.bytes → IsTrue (has_room (live_of c.bytes) h (at + n))
     → at % 8 ≡ 0 → Lies c (h + at) n
 room-lies c h at n heap has even =
     let r = room_block c h (at + n) heap has in let b = r.block in let whole = block_aligned c h b in
@@ -127,26 +128,26 @@ room-lies c h at n heap has even =
     record { inside = omega arith; aligned = omega arith }
 
 storage-has : (m : Memory) (t : Option Extent) (bytes : List ℕ)
-    → elim t as (λ _. Type 0) [ None ↦ bytes ≡ [] | Some x ↦ Has m (handle x) bytes ]
-    → Has m (elim t as (λ _. ℕ) [ None ↦ 0 | Some x ↦ handle x ]) bytes
-storage-has m None bytes e = subst (λ (bs : List ℕ). Has m 0 bs) (sym e) refl
+    → elim t as (λ _. Type 0) [ None ↦ bytes ≡ [] | Some x ↦ HasBytesAt m (handle x) bytes ]
+    → HasBytesAt m (elim t as (λ _. ℕ) [ None ↦ 0 | Some x ↦ handle x ]) bytes
+storage-has m None bytes e = subst (λ (bs : List ℕ). HasBytesAt m 0 bs) (sym e) refl
 storage-has m (Some x) bytes h = h
 
 has-run : (m : Memory) (at : ℕ) (v : Value) {run : ElementRun} → IsValueAt m at v → run_in at v ≡ Ok run
-    → Has m run.offset (spelled_in v)
+    → HasBytesAt m run.offset (spelled_in v)
 has-run m at (Numbers k zs) {run} h e =
-    let same : at ≡ run.offset = cc in subst (λ n. Has m n (spelled k zs)) same h
+    let same : at ≡ run.offset = cc in subst (λ n. HasBytesAt m n (spelled k zs)) same h
 has-run m at (Elements k zs t) {run} h e =
     let same : storage_offset t ≡ run.offset = cc in
-    subst (λ n. Has m n (spelled k zs)) same (storage-has m t.extent (spelled k zs) h.storage)
+    subst (λ n. HasBytesAt m n (spelled k zs)) same (storage-has m t.extent (spelled k zs) h.storage)
 has-run m at (Bytes bs t) {run} h e =
     let same : storage_offset t ≡ run.offset = cc in
-    subst (λ n. Has m n bs) same (storage-has m t.extent bs h.storage)
+    subst (λ n. HasBytesAt m n bs) same (storage-has m t.extent bs h.storage)
 has-run m at (Pairs k v ps) h e = absurd (cc)
 has-run m at (Texts ps t) h e = absurd (cc)
 
-storage-lies : (c : Cut) (t : Option Extent) (each len capacity : ℕ) → IsHeap current c.bytes
-    → IsTrue (is_table Storage each (record { capacity = capacity; extent = t })) → len ≤ capacity
+storage-lies : (c : WindowState) (t : Option Extent) (each len capacity : ℕ) → IsHeap current c.bytes
+    → IsTrue (has_backing Storage each (record { capacity = capacity; extent = t })) → len ≤ capacity
     → IfSome (option_map handle t) (λ g. IsTrue (has_room (live_of c.bytes) g (each * len)))
     → Lies c (elim t as (λ _. ℕ) [ None ↦ 0 | Some x ↦ handle x ]) (each * len)
 storage-lies c None each len capacity heap table fits room =
@@ -159,7 +160,7 @@ storage-lies c (Some x) each len capacity heap table fits room =
     let in_heap = l.inside in let even = l.aligned in
     record { inside = omega (arith, in_heap); aligned = omega (arith, even) }
 
-module _ (c : Cut) (d : Directory) (key : Key) (k : Denotes current c.bytes d) (o : Object)
+module _ (c : WindowState) (d : Directory) (key : Key) (k : Denotes current c.bytes d) (o : Object)
     (is : object_at d key ≡ Some o) where
   contained : (n : Contents) → contents_of o.value ≡ Some n → Lies c (storage_offset n.table) (n.each * n.len)
   contained n e =
@@ -211,38 +212,39 @@ has-if : {d : Directory} {key : Key} {run : ElementRun} (r : Option Object) → 
 has-if None e f = absurd (cc)
 has-if (Some o) e f = record { object = o; is = e; run_is = sym f }
 
-pub run-answers : {s t : State} (view : s ≡ t) (key : Key) {h : ℕ} {r : Result ElementRun Refusal}
-    → Answers t (λ d. handle_at d key) (Some h) → ((o : Object) → StandsAt s.cut.bytes h o → r ≡ run_of o)
-    → Answers t (λ d. run_at d key) r
-run-answers {s} {t} view key {h} {r} a each = subst (λ (u : State). Answers u (λ d. run_at d key) r) view (record {
-  answers = λ d k.
-      let o = here s.cut.bytes d key h k.denotes ((seen-handle s t view key (Some h) a).answers d k) in
-      each o.object o.stands ∙ sym (ap run_if o.is);
-})
+pub run-answers : {s t : SegmentState} (view : s ≡ t) (key : Key) {h : ℕ} {r : Result ElementRun Refusal}
+    → AnswersWith t (λ d. handle_at d key) (Some h) → ((o : Object) → IsObjectInBlock s.cut.bytes h o → r ≡ run_of o)
+    → AnswersWith t (λ d. run_at d key) r
+run-answers {s} {t} view key {h} {r} a each =
+    subst (λ (u : SegmentState). AnswersWith u (λ d. run_at d key) r) view (record {
+      answers = λ d k.
+          let o = here s.cut.bytes d key h k.denotes ((seen-handle s t view key (Some h) a).answers d k) in
+          each o.object o.stands ∙ sym (ap run_if o.is);
+    })
 
 nothing-if : (r : Option Object) → None ≡ option_map located r → r ≡ None
 nothing-if None e = refl
 nothing-if (Some o) e = absurd (cc)
 
-pub no-run : {s : State} (key : Key) → Answers s (λ d. located_at d key) None
-    → Answers s (λ d. run_at d key) (Err NotFound)
+pub no-run : {s : SegmentState} (key : Key) → AnswersWith s (λ d. located_at d key) None
+    → AnswersWith s (λ d. run_at d key) (Err NotFound)
 no-run key a = record { answers = λ d k. sym (ap run_if (nothing-if (object_at d key) (a.answers d k))) }
 
 -- and its elements are spelled there
-pub run-bytes : {s t : State} (view : s ≡ t) (key : Key) (r : Result ElementRun Refusal) → IsSegment s.cut.bytes
-    → Answers t (λ d. run_at d key) r → IfOk r (λ run. IsRunOf t key run)
+pub run-bytes : {s t : SegmentState} (view : s ≡ t) (key : Key) (r : Result ElementRun Refusal) → IsSegment s.cut.bytes
+    → AnswersWith t (λ d. run_at d key) r → IfOk r (λ run. IsRunOf t key run)
 run-bytes view key (Err why) g a = tt
 run-bytes {s} {t} view key (Ok run) g a =
-    let b = subst (λ (u : State). Answers u (λ d. run_at d key) (Ok run)) (sym view) a in
+    let b = subst (λ (u : SegmentState). AnswersWith u (λ d. run_at d key) (Ok run)) (sym view) a in
     let o = has-if {d = g.0} {key = key} (object_at g.0 key) refl (b.answers g.0 g.1) in
     let lies = lies-if s.cut g.0 key g.1.denotes o.object o.is o.object.value refl o.run_is in
-    subst (λ (u : State). IsRunOf u key run) view (record {
+    subst (λ (u : SegmentState). IsRunOf u key run) view (record {
       inside = lies.inside;
       aligned = lies.aligned;
       spells = λ d l.
           let o = has-if {d = d} {key = key} (object_at d key) refl (b.answers d l) in
           let said = (standing s.cut.bytes d key o.object l.denotes o.is).said.value in
-          subst (λ (bs : List ℕ). Has (bytes_of s.cut.bytes) run.offset bs)
+          subst (λ (bs : List ℕ). HasBytesAt (bytes_of s.cut.bytes) run.offset bs)
           (sym (ap (λ (q : Option Object). elim q as (λ _. List ℕ) [ None ↦ [] | Some p ↦ spelled_in p.value ]) o.is))
           (has-run (bytes_of s.cut.bytes) _ o.object.value said o.run_is);
     })
@@ -260,7 +262,7 @@ pub record IsElementAt (m : Memory) (at : ℕ) (k : ScalarKind) (z : ℤ) : Type
   pub spelled_there : read m at (size_of k) ≡ spelling k z
 
 element-in : (m : Memory) (at : ℕ) (k : ScalarKind) (zs : List ℤ) (i : ℕ) {z : ℤ} → IsTrue (list_all (is_value k) zs)
-    → Has m at (spelled k zs) → slice_get zs i ≡ Some z → IsElementAt m (at + size_of k * i) k z
+    → HasBytesAt m at (spelled k zs) → slice_get zs i ≡ Some z → IsElementAt m (at + size_of k * i) k z
 element-in m at k zs i {z} good h e = record {
   value = all-at (is_value k) zs i good e;
   spelled_there = ap (read m (at + size_of k * i)) (sym (spelling-length k z))
@@ -273,7 +275,7 @@ pub data IsRowOfKind (k : ScalarKind) (v : Value) : Type 0 where
   AVector : kind_of v ≡ Vector k → IsRowOfKind k v
 
 row-if : (m : Memory) (at : ℕ) (k : ScalarKind) (v : Value) (i : ℕ) {z : ℤ} → IsRowOfKind k v
-    → IsTrue (is_good_value v) → Has m at (spelled_in v) → slice_get (numbers_in v) i ≡ Some z
+    → IsTrue (is_good_value v) → HasBytesAt m at (spelled_in v) → slice_get (numbers_in v) i ≡ Some z
     → IsElementAt m (at + size_of k * i) k z
 row-if m at k (Numbers j zs) i {z} (AnArray e) good h f =
     let same : j ≡ k = cc in
@@ -285,17 +287,19 @@ row-if m at k v i (AnArray e) good h f = absurd (cc)
 row-if m at k v i (AVector e) good h f = absurd (cc)
 
 -- the elements of the object of a key stand in its run
-pub row-element : (s : State) (key : Key) (run : ElementRun) (k : ScalarKind) → IsRunOf s key run → (d : Directory)
-    → StandsFor s.cut.bytes d → (o : Object) → object_at d key ≡ Some o → IsRowOfKind k o.value → (i : ℕ) {z : ℤ}
+pub row-element : (s : SegmentState) (key : Key) (run : ElementRun) (k : ScalarKind) → IsRunOf s key run
+    → (d : Directory)
+    → DenotesCurrent s.cut.bytes d → (o : Object) → object_at d key ≡ Some o → IsRowOfKind k o.value → (i : ℕ) {z : ℤ}
     → slice_get (numbers_in o.value) i ≡ Some z → IsElementAt (bytes_of s.cut.bytes) (run.offset + size_of k * i) k z
 row-element s key run k r d l o is row i e = row-if (bytes_of s.cut.bytes) run.offset k o.value i row
     (object-roomy current o (standing s.cut.bytes d key o l.denotes is).good).value
-    (subst (λ (bs : List ℕ). Has (bytes_of s.cut.bytes) run.offset bs) (ap (λ (q : Option Object).
+    (subst (λ (bs : List ℕ). HasBytesAt (bytes_of s.cut.bytes) run.offset bs) (ap (λ (q : Option Object).
     elim q as (λ _. List ℕ) [ None ↦ [] | Some p ↦ spelled_in p.value ]) is) (r.spells d l)) e
 
 -- and the run says their kind
-pub run-kind : (s : State) (key : Key) (run : ElementRun) (k : ScalarKind) → Answers s (λ d. run_at d key) (Ok run)
-    → (d : Directory) → StandsFor s.cut.bytes d → (o : Object) → object_at d key ≡ Some o → IsRowOfKind k o.value
+pub run-kind : (s : SegmentState) (key : Key) (run : ElementRun) (k : ScalarKind)
+    → AnswersWith s (λ d. run_at d key) (Ok run)
+    → (d : Directory) → DenotesCurrent s.cut.bytes d → (o : Object) → object_at d key ≡ Some o → IsRowOfKind k o.value
     → (run.kind ≡ k) × (run.count ≡ length (numbers_in o.value))
 run-kind s key run k a d l o is row = kind-if o.value row (a.answers d l ∙ ap run_if is)
   where

@@ -1,15 +1,21 @@
 -- The calls on maps of numbers, each as one step: what the calls of seg_map ensure of the map at its place comes to the
 -- directory.
 use Rattle.segment_manager.proofs.Common as common
-use common.{◌≡◌, is_value, IsErased, node_len, put_pair, Directory, object_at, HasPairs, IsSegment, StandsFor, and_then}
-use common.{refl, Option, Result, int_lt, eq-eqb, Erases, told_of, Request, perform, Answers, changed, live_of, LiveSet}
-use common.{sym, ◌∙◌, ℕ, ℤ, Bool, true, Some, None, Ok, Err, List, [], Cut, Node, Kind, Map, Key, Puts, New, Plan, with}
-use common.{ap, subst, false, IsFull, IsPut, Truth, Pairs, Object, container_place, Reply, State, effect, map_of}
+use common.{◌≡◌, is_value, ErasesPair, node_len, put_pair, Directory, object_at, HasPairs, IsSegment, DenotesCurrent}
+use common.{cons_values}
+use common.{refl, Option, Result, int_lt, eq-eqb, ErasesKey, told_of, Request, perform, AnswersWith, changed, live_of}
+use common.{LiveSet}
+use common.{sym, ◌∙◌, ℕ, ℤ, Bool, true, Some, None, Ok, Err, List, [], WindowState, Node, Kind, Map, Key, PutsPair, New}
+use common.{Plan, with}
+use common.{ap, subst, false, PutsNoSpace, PutsNewPair, Truth, Pairs, Object, container_place, Reply, SegmentState}
+use common.{effect, map_of}
 use common.{Answer, Extent}
 use common.{option_map, value_of_literal, nodes_of_pairs, value_of_pair, AnswersSafely, value_or_absent}
 use common.{current, Refusal, NoSpace, code_of, size_of, Command, Literal, pair_at, Element, Refused, Denotes, kind_of}
-use common.{SamePlace, remove_pair, container_at, IsReplyOfKind, IsStepOfKind, is_read_only, step_of_kind, truth_answer}
-use common.{ScalarKind, same_kind, literal_of, transitive, IsPutAgain, NumberPair, FindsValue, numbers_of, told_of_map}
+use common.{SameSurroundings, remove_pair, container_at, AnswersQueryOfKind, TakesStepOfKind, is_read_only}
+use common.{step_of_kind, truth_answer}
+use common.{ScalarKind, same_kind, literal_of, transitive, OverwritesPair, NumberPair, FindsValue, numbers_of}
+use common.{told_of_map}
 use Rattle.segment_manager.proofs.containers.MapSteps.{IsMapObject, again-denotes, erased-denotes, map-only}
 use Rattle.segment_manager.proofs.containers.MapSteps.{object-map, put-denotes}
 use Rattle.segment_manager.proofs.Steps.{IsMove, IsOpenFor, by_no_change_of_kind, by_step_of_kind, open-reading}
@@ -58,8 +64,8 @@ holds-pairs b d key k v p den e =
     }
 
 -- why there is no such map is why every call for its kind is refused
-pub finds-no_map : (s : State) (key : Key) (k v : ScalarKind) (c : Command) (r : Refusal) → IsOpenFor s.mode c
-    → Answers s (λ d. container_at d key (Map k v)) (Err r) → IsStepOfKind s s key (Map k v) c (Refused r)
+pub finds-no_map : (s : SegmentState) (key : Key) (k v : ScalarKind) (c : Command) (r : Refusal) → IsOpenFor s.mode c
+    → AnswersWith s (λ d. container_at d key (Map k v)) (Err r) → TakesStepOfKind s s key (Map k v) c (Refused r)
 finds-no_map s key k v c r w a = finds-no_container s key (Map k v) c r w a
 
 -- ---- what the plans come to
@@ -111,12 +117,12 @@ module _ {b : List ℕ} {d : Directory} {key : Key} {k v : ScalarKind} {p : Plac
   put-plan : (l m : Literal) (x y : ℤ) → value_of_literal k l ≡ Ok x → value_of_literal v m ≡ Ok y
       → effect d (asked.Put key l m) ≡ put_with x y (pair_at int_lt h.pairs x)
   put-plan l m x y g f = plan.put-plan d key h.object h.is _ read l m
-      ∙ (λ i. with (and_then (g i) (and_then (f i) (Ok []))) (λ new. step.put d h.object k v h.pairs new))
+      ∙ (λ i. with (cons_values (g i) (cons_values (f i) (Ok []))) (λ new. step.put d h.object k v h.pairs new))
 
 -- ---- steps that answer a truth
 
 -- the step of a call, and that it changes nothing where it is refused
-abbrev pub TellsSafely : State → Cut → Key → Kind → Command → Result Bool Refusal → Type 0
+abbrev pub TellsSafely : SegmentState → WindowState → Key → Kind → Command → Result Bool Refusal → Type 0
 TellsSafely = AnswersSafely truth_answer
 
 -- what a put answers
@@ -126,12 +132,12 @@ put_result (Err why) = Err NoSpace
 
 -- ---- the calls
 
-module _ (s : State) (key : Key) (k v : ScalarKind) (p : Place) (b : IsSegment s.cut.bytes)
-    (found : Answers s (λ d. container_at d key (Map k v)) (Ok p)) where
+module _ (s : SegmentState) (key : Key) (k v : ScalarKind) (p : Place) (b : IsSegment s.cut.bytes)
+    (found : AnswersWith s (λ d. container_at d key (Map k v)) (Ok p)) where
   abbrev Holds : Directory → Type 0
   Holds d = HoldsPairs s.cut.bytes d key k v p
 
-  map_in : (d : Directory) → StandsFor s.cut.bytes d → Holds d
+  map_in : (d : Directory) → DenotesCurrent s.cut.bytes d → Holds d
   map_in d l = holds-pairs s.cut.bytes d key k v p l.denotes (found.answers d l)
 
   -- some map stands there
@@ -147,7 +153,7 @@ module _ (s : State) (key : Key) (k v : ScalarKind) (p : Place) (b : IsSegment s
   outcome c d = step_of_kind s.mode d key (Map k v) c
 
   -- the command's plan, performed
-  map-plan : (c : Command) → IsOpenFor s.mode c → {d : Directory} (l : StandsFor s.cut.bytes d) (h : Holds d)
+  map-plan : (c : Command) → IsOpenFor s.mode c → {d : Directory} (l : DenotesCurrent s.cut.bytes d) (h : Holds d)
       → outcome c d ≡ perform d (live_of s.cut.bytes) (effect d c)
   map-plan c w {d} l h = step_of_kind-found s.mode d key (Map k v) c h.object w h.is (is-map h)
       ∙ ap (λ (m : LiveSet). perform d m (effect d c)) (sym (denotes-live current s.cut.bytes d l.denotes))
@@ -155,7 +161,7 @@ module _ (s : State) (key : Key) (k v : ScalarKind) (p : Place) (b : IsSegment s
   -- ---- what is read
 
   pub map-got : (x : ℤ) (r : Option ℤ) → is_value k x ≡ true → FindsValue (numbers_of k) (numbers_of v) s.cut.bytes
-      p.handle p.at x r → IsReplyOfKind s key (Map k v) (asked.Lookup key (literal_of k x)) (value_or_absent v r)
+      p.handle p.at x r → AnswersQueryOfKind s key (Map k v) (asked.Lookup key (literal_of k x)) (value_or_absent v r)
   map-got x r good each = step_of_kind-reply s key (Map k v) _ _
       (by_no_change_of_kind s key (Map k v) _ (value_or_absent v r) (λ d l.
       let h : Holds d = map_in d l in
@@ -166,7 +172,7 @@ module _ (s : State) (key : Key) (k v : ScalarKind) (p : Place) (b : IsSegment s
 
   -- what is said of the pairs is said of those of the object
   pub map-told : {A : Type 0} (say : List NumberPair → A) (r : A) → ((ps : List NumberPair) → IsPairs k v s.cut.bytes p
-      ps → r ≡ say ps) → Answers s (λ d. told_of_map d key k v say) (Ok r)
+      ps → r ≡ say ps) → AnswersWith s (λ d. told_of_map d key k v say) (Ok r)
   map-told {A} say r each = record {
     answers = λ d l.
         let h : Holds d = map_in d l in
@@ -176,13 +182,13 @@ module _ (s : State) (key : Key) (k v : ScalarKind) (p : Place) (b : IsSegment s
 
   -- ---- what is changed
 
-  module _ (new : Cut) (writing : is_read_only s.mode ≡ false) where
+  module _ (new : WindowState) (writing : is_read_only s.mode ≡ false) where
     -- what the step comes to, and that the window stays in its place
     abbrev Moved : Command → Bool → Directory → Type 0
-    Moved c t d = SamePlace s.cut new × IsMove (record s { cut = new }) (Truth t) (outcome c d)
+    Moved c t d = SameSurroundings s.cut new × IsMove (record s { cut = new }) (Truth t) (outcome c d)
 
     -- a call that is done
-    does : {c : Command} {t : Bool} → ((d : Directory) (l : StandsFor s.cut.bytes d) → Moved c t d)
+    does : {c : Command} {t : Bool} → ((d : Directory) (l : DenotesCurrent s.cut.bytes d) → Moved c t d)
         → TellsSafely s new key (Map k v) c (Ok t)
     does {c} {t} at = record {
       step = by_step_of_kind s (record s { cut = new }) key (Map k v) c (Truth t)
@@ -196,7 +202,7 @@ module _ (s : State) (key : Key) (k v : ScalarKind) (p : Place) (b : IsSegment s
     Put x y = asked.Put key (literal_of k x) (literal_of v y)
 
     module _ (x y : ℤ) (good : is_value k x ≡ true) (fair : is_value v y ≡ true) {d : Directory}
-        (l : StandsFor s.cut.bytes d) (h : Holds d) where
+        (l : DenotesCurrent s.cut.bytes d) (h : Holds d) where
       abbrev PutsHere : {E : Type 0} → Result Bool E → Option NumberPair → Type 0
       PutsHere result o = PutsBy (numbers_of k) (numbers_of v) s.cut new p.handle p.at h.pairs x y result o
 
@@ -207,10 +213,12 @@ module _ (s : State) (key : Key) (k v : ScalarKind) (p : Place) (b : IsSegment s
           good) (literal-read v y fair)) ∙ ap (λ r. perform d (live_of s.cut.bytes) (put_with h x y r)) e
 
       -- the key is new
-      put-new : pair_at int_lt h.pairs x ≡ None → IsPut (numbers_of k) (numbers_of v) s.cut new p.handle p.at h.pairs x
+      put-new : pair_at int_lt h.pairs x ≡ None
+          → PutsNewPair (numbers_of k) (numbers_of v) s.cut new p.handle p.at h.pairs x
           y → IsMove (record s { cut = new }) (Truth true) (outcome (Put x y) d)
       put-new e r =
-          let Becomes : Place → Type 0 = λ c. (r : IsPut (numbers_of k) (numbers_of v) s.cut new c.handle c.at h.pairs x
+          let Becomes : Place → Type 0 =
+          λ c. (r : PutsNewPair (numbers_of k) (numbers_of v) s.cut new c.handle c.at h.pairs x
           y) → Denotes current new.bytes (with_pairs h (with_pair h x y r.extent)) in
           record {
             after = with_pairs h (with_pair h x y r.extent);
@@ -220,7 +228,8 @@ module _ (s : State) (key : Key) (k v : ScalarKind) (p : Place) (b : IsSegment s
           }
 
       -- a pair has the key
-      put-again : (q : NumberPair) → pair_at int_lt h.pairs x ≡ Some q → IsPutAgain (numbers_of k) (numbers_of v) s.cut
+      put-again : (q : NumberPair) → pair_at int_lt h.pairs x ≡ Some q
+          → OverwritesPair (numbers_of k) (numbers_of v) s.cut
           new p.handle p.at h.pairs q x y → IsMove (record s { cut = new }) (Truth false) (outcome (Put x y) d)
       put-again q e r =
           let is : q.key ≡ x = found-key x q h.pairs e in
@@ -230,13 +239,14 @@ module _ (s : State) (key : Key) (k v : ScalarKind) (p : Place) (b : IsSegment s
             after = with_pairs h (with_pair h x y q.node);
             is = put-outcome (Some q) e ∙ (λ i. (Truth false, with_pairs h (with_pair h (is i) y q.node)));
             stands = record {
-              denotes = again-denotes s.cut new l.denotes h.known x y q (subst (λ (c : Place). IsPutAgain (numbers_of k)
+              denotes = again-denotes s.cut new l.denotes h.known x y q
+                  (subst (λ (c : Place). OverwritesPair (numbers_of k)
                   (numbers_of v) s.cut new c.handle c.at h.pairs q x y) (sym h.at) r) same;
             };
           }
 
       -- no gap is long enough for the block of a new one
-      put-full : pair_at int_lt h.pairs x ≡ None → IsFull (numbers_of k) (numbers_of v) s.cut new
+      put-full : pair_at int_lt h.pairs x ≡ None → PutsNoSpace (numbers_of k) (numbers_of v) s.cut new
           → outcome (Put x y) d ≡ (Refused NoSpace, d)
       put-full e r = put-outcome None e
           ∙ perform-no_space d (live_of s.cut.bytes) Node (node_len (size_of k) (size_of v)) (new_with h x y) r.none
@@ -263,17 +273,18 @@ module _ (s : State) (key : Key) (k v : ScalarKind) (p : Place) (b : IsSegment s
       put-refused why (Some q) e r = let told = r.0 in absurd (cc)
 
     pub map-put : {E : Type 0} (x y : ℤ) (r : Result Bool E) → is_value k x ≡ true → is_value v y ≡ true
-        → Puts (numbers_of k) (numbers_of v) s.cut new p.handle p.at x y r
+        → PutsPair (numbers_of k) (numbers_of v) s.cut new p.handle p.at x y r
         → TellsSafely s new key (Map k v) (asked.Put key (literal_of k x) (literal_of v y)) (put_result r)
     map-put {E} x y (Ok t) good fair each = does (λ d l. let h : Holds d = map_in d l in put-moves x y good fair l h E t
         (pair_at int_lt h.pairs x) refl (each h.pairs h.map))
     map-put {E} x y (Err why) good fair each =
-        let at : (d : Directory) (l : StandsFor s.cut.bytes d)
+        let at : (d : Directory) (l : DenotesCurrent s.cut.bytes d)
         → (new ≡ s.cut) × (outcome (Put x y) d ≡ (Refused NoSpace, d)) =
         λ d l. let h : Holds d = map_in d l in put-refused x y good fair l h why (pair_at int_lt h.pairs x) refl
         (each h.pairs h.map) in
         record {
-          step = subst (λ (e : Cut). IsStepOfKind s (record s { cut = e }) key (Map k v) (Put x y) (Refused NoSpace))
+          step = subst (λ (e : WindowState).
+              TakesStepOfKind s (record s { cut = e }) key (Map k v) (Put x y) (Refused NoSpace))
               (sym (at b.0 b.1).0)
               (by_no_change_of_kind s key (Map k v) (Put x y) (Refused NoSpace) (λ d l. (at d l).1));
           refused = (at b.0 b.1).0;
@@ -284,7 +295,7 @@ module _ (s : State) (key : Key) (k v : ScalarKind) (p : Place) (b : IsSegment s
     abbrev Remove : ℤ → Command
     Remove x = asked.Remove key (literal_of k x)
 
-    module _ (x : ℤ) (good : is_value k x ≡ true) {d : Directory} (l : StandsFor s.cut.bytes d) (h : Holds d) where
+    module _ (x : ℤ) (good : is_value k x ≡ true) {d : Directory} (l : DenotesCurrent s.cut.bytes d) (h : Holds d) where
       remove-outcome : (o : Option NumberPair) → pair_at int_lt h.pairs x ≡ o
           → outcome (Remove x) d ≡ perform d (live_of s.cut.bytes) (removed_with h x o)
       remove-outcome o e = map-plan (Remove x) (open-writing s.mode (Remove x) writing) l h
@@ -294,11 +305,11 @@ module _ (s : State) (key : Key) (k v : ScalarKind) (p : Place) (b : IsSegment s
       erase-moves : (t : Bool) (o : Option NumberPair) → pair_at int_lt h.pairs x ≡ o
           → ErasesBy (numbers_of k) (numbers_of v) s.cut new p.handle p.at h.pairs x t o → Moved (Remove x) t d
       erase-moves t None e r = (
-        subst (SamePlace s.cut) (sym r.1) (record { before = refl; after = refl }),
+        subst (SameSurroundings s.cut) (sym r.1) (record { before = refl; after = refl }),
         record {
           after = d;
           is = remove-outcome None e ∙ (λ i. (Truth (sym r.0 i), d));
-          stands = subst (λ (c : Cut). StandsFor c.bytes d) (sym r.1) l;
+          stands = subst (λ (c : WindowState). DenotesCurrent c.bytes d) (sym r.1) l;
         },
       )
       erase-moves t (Some q) e r = (
@@ -307,13 +318,14 @@ module _ (s : State) (key : Key) (k v : ScalarKind) (p : Place) (b : IsSegment s
           after = with_pairs h (remove_pair int_lt h.pairs x);
           is = remove-outcome (Some q) e ∙ (λ i. (Truth (sym r.0 i), with_pairs h (remove_pair int_lt h.pairs x)));
           stands = record {
-            denotes = erased-denotes s.cut new l.denotes h.known x q e (subst (λ (c : Place). IsErased (numbers_of k)
+            denotes = erased-denotes s.cut new l.denotes h.known x q e (subst (λ (c : Place). ErasesPair (numbers_of k)
                 (numbers_of v) s.cut new c.handle c.at h.pairs q x) (sym h.at) r.1);
           };
         },
       )
 
-    pub map-erased : (x : ℤ) (t : Bool) → is_value k x ≡ true → Erases (numbers_of k) (numbers_of v) s.cut new p.handle
+    pub map-erased : (x : ℤ) (t : Bool) → is_value k x ≡ true
+        → ErasesKey (numbers_of k) (numbers_of v) s.cut new p.handle
         p.at x t → TellsSafely s new key (Map k v) (asked.Remove key (literal_of k x)) (Ok t)
     map-erased x t good each = does (λ d l. let h : Holds d = map_in d l in erase-moves x good l h t (pair_at int_lt
         h.pairs x) refl (each h.pairs h.map))

@@ -1,13 +1,15 @@
 -- A map as the value of an object: it stands at its place as the calls of seg_map see it, and what they do to it is
 -- what becomes of the object.
 use Rattle.segment_manager.proofs.Common as common
-use common.{◌≡◌, refl, sym, ◌∙◌, true, ◌&&◌, Some, None, List, Same, Value, Pairs, live, ap, and_from, bytes_of}
+use common.{◌≡◌, refl, sym, ◌∙◌, true, ◌&&◌, Some, None, List, SameBytes, Value, Pairs, live, ap, and_from, bytes_of}
 use common.{Directory, is_object, value_len, IsValueAt, exchanged, subst, ℕ, arith, int_lt, Memory, Extent, handle}
-use common.{Keeps, IsPut, Object, padded, ◌+◌, ◌≤◌, ◌≢◌, inl, ℤ, [], ◌∷◌, map, Cut, Map, length, IsTrue, LiveSet}
-use common.{LaysOut, live_of, pair_at, kind_of, Denotes, changed, AllByRecursion, is_number_pair, nodes_of_pairs}
+use common.{KeepsBlocks, PutsNewPair, Object, padded, ◌+◌, ◌≤◌, ◌≢◌, inl, ℤ, [], ◌∷◌, map, WindowState, Map, length}
+use common.{IsTrue, LiveSet}
+use common.{EncodesLiveSet, live_of, pair_at, kind_of, Denotes, changed, AllByRecursion, is_number_pair, nodes_of_pairs}
 use common.{is_good_value, value_extents, list_all, extent_at, same_kind, is_rising, NumberPair, numbers_of, SameSpread}
-use common.{current, IsErased, put_pair, HoldsMap, IsPairIn, count_of, head_len, StandsAt, SameBlockBut, lay_out_one}
-use common.{ScalarKind, IsBesideMap, IsPutAgain, remove_pair}
+use common.{current, ErasesPair, put_pair, HoldsMap, IsPairIn, count_of, head_len, IsObjectInBlock, SameBlockExcept}
+use common.{lay_out_one}
+use common.{ScalarKind, KeepsOutsideMap, OverwritesPair, remove_pair}
 use Rattle.segment_manager.proofs.containers.MapBlocks.{BlocksInUse, PartedNodes, no-node, nodes, one-by_handle}
 use Rattle.segment_manager.proofs.containers.MapBlocks.{put-parted, removed-parted}
 use Rattle.segment_manager.proofs.containers.Contained.{start-place, good-with}
@@ -65,7 +67,7 @@ same-handles (p ∷ ps) = ap (λ (ns : List ℕ). handle p.node ∷ ns) (same-ha
 -- it stands in its block, is found, and has these pairs
 pub record IsMapObject (b : List ℕ) (d : Directory) (o : Object) (k v : ScalarKind)
     (ps : List NumberPair) : Type 0 where
-  pub stands : StandsAt b (handle o.extent) o
+  pub stands : IsObjectInBlock b (handle o.extent) o
   pub found : IsIn d o
   pub value : o.value ≡ Pairs k v ps
   pub in_use : BlocksInUse d o
@@ -94,7 +96,8 @@ module _ {b : List ℕ} {d : Directory} {o : Object} {k v : ScalarKind} {ps : Li
 
 -- ---- what becomes of it
 
-module _ (old new : Cut) {d : Directory} {o : Object} {k v : ScalarKind} {ps : List NumberPair} (qs : List NumberPair)
+module _ (old new : WindowState) {d : Directory} {o : Object} {k v : ScalarKind} {ps : List NumberPair}
+    (qs : List NumberPair)
     (den : Denotes current old.bytes d) (x : IsMapObject old.bytes d o k v ps) where
   abbrev next : Value
   next = Pairs k v qs
@@ -109,38 +112,40 @@ module _ (old new : Cut) {d : Directory} {o : Object} {k v : ScalarKind} {ps : L
       (all-good k v (live_of new.bytes) (handle o.extent) qs s.pairs))
 
   -- a block that is none of the pairs'
-  module _ (b : IsBesideMap old new (handle o.extent + (head_len + padded (length o.name))) (nodes_of_pairs ps)) where
+  module _ (b : KeepsOutsideMap old new (handle o.extent + (head_len + padded (length o.name)))
+      (nodes_of_pairs ps)) where
     stays-beside : (y : Extent) → IsFoundIn (live d).extents y → Differs y (value_extents o.value)
-        → SameBlockBut (bytes_of old.bytes) (bytes_of new.bytes) (value_start o) 24 y
-    stays-beside y f n = subst (λ at. SameBlockBut (bytes_of old.bytes) (bytes_of new.bytes) at 24 y)
+        → SameBlockExcept (bytes_of old.bytes) (bytes_of new.bytes) (value_start o) 24 y
+    stays-beside y f n = subst (λ at. SameBlockExcept (bytes_of old.bytes) (bytes_of new.bytes) at 24 y)
         (sym (start-place o)) (b.blocks y (ap (λ (l : LiveSet). extent_at l (handle y)) (denotes-live current old.bytes
         d den) ∙ f) (no-node y ps (subst (λ w. Differs y (value_extents w)) x.value n)))
 
     all-beside : (ys : List Extent) → AllByRecursion (IsFoundIn (live d).extents) ys → Apart ys (value_extents o.value)
-        → AllByRecursion (SameBlockBut (bytes_of old.bytes) (bytes_of new.bytes) (value_start o) 24) ys
+        → AllByRecursion (SameBlockExcept (bytes_of old.bytes) (bytes_of new.bytes) (value_start o) 24) ys
     all-beside [] f n = tt
     all-beside (y ∷ ys) f n = (stays-beside y f.0 n.0, all-beside ys f.1 n.1)
 
     -- the map has other pairs: blocks of theirs are gone, and others came
     pub pairs-changed : HoldsMap (numbers_of k) (numbers_of v) new.bytes (handle o.extent)
         (head_len + padded (length o.name)) qs → (gone come : List Extent) → Exchange o (with_value o next) gone come
-        → LaysOut current new.bytes (exchanged (live_of old.bytes) gone come)
+        → EncodesLiveSet current new.bytes (exchanged (live_of old.bytes) gone come)
         → Denotes current new.bytes (changed d o next)
     pairs-changed s gone come e laid =
         let m : Memory = bytes_of old.bytes in let m' : Memory = bytes_of new.bytes in
         let from : ℕ = value_start o in
-        let l : LaysOut current new.bytes (exchanged (live d) gone come) = subst (λ (l : LiveSet). LaysOut current
+        let l : EncodesLiveSet current new.bytes (exchanged (live d) gone come) =
+        subst (λ (l : LiveSet). EncodesLiveSet current
         new.bytes (exchanged l gone come)) (denotes-live current old.bytes d den) laid in
         let like : IsLike o (with_value o next) =
         record { extent = refl; name = refl; class = refl; kind = sym (ap kind_of x.value) } in
         let roomy : IsRoomy o = object-roomy current o x.stands.good in
         let len : value_len o.value ≡ 24 = ap value_len x.value in
         let fits : 16 + padded (length o.name) + value_len o.value + 16 ≤ o.extent.len = roomy.room in
-        let own : SameBlockBut m m' (value_start o) 24 o.extent =
+        let own : SameBlockExcept m m' (value_start o) 24 o.extent =
         stays-beside o.extent x.in_use.own x.in_use.own_apart in
-        let front : Same m m' (handle o.extent) (value_start o) =
+        let front : SameBytes m m' (handle o.extent) (value_start o) =
         record { at = λ i a c. own.payload i a (omega (arith, len)) (inl c) } in
-        let keeps : Keeps old new (rest d (with_value o next)) = record {
+        let keeps : KeepsBlocks old new (rest d (with_value o next)) = record {
           place = b.place;
           front = b.front;
           behind = b.behind;
@@ -148,7 +153,7 @@ module _ (old new : Cut) {d : Directory} {o : Object} {k v : ScalarKind} {ps : L
               (with_value o next) in_place) (all-beside (rest d o) x.in_use.beside x.in_use.beside_apart);
         } in
         denotes-replaced current old new d o (with_value o next) den x.found like (next-good s)
-        (subst (LaysOut current new.bytes) (sym (live-exchanged d o (with_value o next) gone come in_place e
+        (subst (EncodesLiveSet current new.bytes) (sym (live-exchanged d o (with_value o next) gone come in_place e
         l.proper)) l) keeps (object-held m m' o next (object-at current old.bytes d (handle o.extent) o den x.found)
         (sym (ap kind_of x.value)) (sym (ap count_of x.value)) front (subst (λ at. IsValueAt m' at next)
         (sym (start-place o)) s.map))
@@ -170,17 +175,18 @@ module _ (old new : Cut) {d : Directory} {o : Object} {k v : ScalarKind} {ps : L
 
 -- ---- the calls of seg_map
 
-module _ (old new : Cut) {d : Directory} {o : Object} {k v : ScalarKind} {ps : List NumberPair}
+module _ (old new : WindowState) {d : Directory} {o : Object} {k v : ScalarKind} {ps : List NumberPair}
     (den : Denotes current old.bytes d) (x : IsMapObject old.bytes d o k v ps) where
   -- a pair more
-  pub put-denotes : (key value : ℤ) → pair_at int_lt ps key ≡ None → (r : IsPut (numbers_of k) (numbers_of v) old new
+  pub put-denotes : (key value : ℤ) → pair_at int_lt ps key ≡ None
+      → (r : PutsNewPair (numbers_of k) (numbers_of v) old new
       (handle o.extent) (head_len + padded (length o.name)) ps key value) → Denotes current new.bytes
       (changed d o (Pairs k v (put_pair int_lt (record { key = key; value = value; node = r.extent }) ps)))
   put-denotes key value none r = pairs-changed old new _ den x r.beside r.map [] (r.extent ∷ [])
       (came old new _ den x r.extent (put-parted _ ps none)) r.live
 
   -- another value in the block of a pair
-  pub again-denotes : (key value : ℤ) (p : NumberPair) → IsPutAgain (numbers_of k) (numbers_of v) old new
+  pub again-denotes : (key value : ℤ) (p : NumberPair) → OverwritesPair (numbers_of k) (numbers_of v) old new
       (handle o.extent) (head_len + padded (length o.name)) ps p key value → nodes_of_pairs (put_pair int_lt
       (record { key = key; value = value; node = p.node }) ps) ≡ nodes_of_pairs ps → Denotes current new.bytes
       (changed d o (Pairs k v (put_pair int_lt (record { key = key; value = value; node = p.node }) ps)))
@@ -197,7 +203,7 @@ module _ (old new : Cut) {d : Directory} {o : Object} {k v : ScalarKind} {ps : L
 
   -- a pair less
   pub erased-denotes : (key : ℤ) (p : NumberPair) → pair_at int_lt ps key ≡ Some p
-      → IsErased (numbers_of k) (numbers_of v) old new (handle o.extent) (head_len + padded (length o.name)) ps p key
+      → ErasesPair (numbers_of k) (numbers_of v) old new (handle o.extent) (head_len + padded (length o.name)) ps p key
       → Denotes current new.bytes (changed d o (Pairs k v (remove_pair int_lt ps key)))
   erased-denotes key p e r = pairs-changed old new _ den x r.beside r.map (p.node ∷ []) []
       (went old new _ den x p.node (removed-parted key p ps e)) r.live

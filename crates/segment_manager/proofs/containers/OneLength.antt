@@ -1,13 +1,19 @@
 -- The words of containers, and what the calls of seg_vector leave of storage whose elements have one length: as the
 -- steps of the calls on the object, a vector of numbers or a text.
 use Rattle.segment_manager.proofs.Common as common
-use common.{◌≡◌, cut_table, IsValueAt, Directory, value_len, IsSegment, StandsFor, HasEnough, has_sizes, KeepsWhere, ap}
-use common.{ℕ, ◌+◌, ◌*◌, ◌∙◌, ◌≤◌, Err, Ok, [], sym, take, true, Cut, Kind, Key, Done, live, Plan, arith, Some, false}
-use common.{refl, subst, Table, Place, Clear, Value, Bytes, Pairs, Texts, Reply, State, Option, IsTrue, ScalarKind}
-use common.{IsRefilled, has_values, storage_of, with_items, with_table, command_of, grown_table, List, LiveSet, MapKind}
+use common.{◌≡◌, shrunk_backing, IsValueAt, Directory, value_len, IsSegment, DenotesCurrent, HasEnough, has_sizes}
+use common.{UnchangedWhere, ap}
+use common.{ℕ, ◌+◌, ◌*◌, ◌∙◌, ◌≤◌, Err, Ok, [], sym, take, true, WindowState, Kind, Key, Done, live, Plan, arith, Some}
+use common.{false}
+use common.{refl, subst, BackingArray, Place, Clear, Value, Bytes, Pairs, Texts, Reply, SegmentState, Option, IsTrue}
+use common.{ScalarKind}
+use common.{RefillsContainer, has_values, storage_of, with_items, with_table, command_of, grown_backing, List, LiveSet}
+use common.{MapKind}
 use common.{Refusal, NoSpace, Command, Reserve, Refused, Denotes, Numbers, kind_of, emptied, None, length, Memory}
-use common.{handle, Stands, Change, Shrink, Object, padded, perform, Answers, changed, effect, Result, current, word_at}
-use common.{has_room, live_of, no_table, place_at, Contents, sizes_of, Elements, StandsAt, bytes_of, StringsKind}
+use common.{handle, IsContainer, Change, Shrink, Object, padded, perform, AnswersWith, changed, effect, Result, current}
+use common.{word_at}
+use common.{has_room, live_of, no_backing, place_at, Contents, sizes_of, Elements, IsObjectInBlock, bytes_of}
+use common.{StringsKind}
 use common.{container_at, contents_of, sizes_at_kind, is_read_only, StepsSafely, has_storage}
 use Rattle.segment_manager.proofs.containers.Contained.{contents-fit, contents-stand, of-contents, start-place}
 use Rattle.segment_manager.proofs.containers.Refilled.{HoldsAt, holds-at, refill-steps_of_kind, room-asked, then_room}
@@ -48,16 +54,16 @@ three-words (Numbers k zs) h = absurd (cc)
 three-words v h = refl
 
 -- as the view before the call names the segment
-module _ {s t : State} (view : s ≡ t) (key : Key) (kind : Kind) (p : Place)
-    (found : Answers t (λ d. container_at d key kind) (Ok p)) (sized : has_sizes kind ≡ true) where
-  module _ (d : Directory) (l : StandsFor s.cut.bytes d) where
+module _ {s t : SegmentState} (view : s ≡ t) (key : Key) (kind : Kind) (p : Place)
+    (found : AnswersWith t (λ d. container_at d key kind) (Ok p)) (sized : has_sizes kind ≡ true) where
+  module _ (d : Directory) (l : DenotesCurrent s.cut.bytes d) where
     at-place : HoldsAt d key kind p
     at-place = holds-at d key kind p ((seen-found s t view key kind p found).answers d l)
 
     of-kind : kind ≡ kind_of at-place.object.value
     of-kind = one-kind kind (kind_of at-place.object.value) at-place.same
 
-    stands : StandsAt s.cut.bytes (handle at-place.object.extent) at-place.object
+    stands : IsObjectInBlock s.cut.bytes (handle at-place.object.extent) at-place.object
     stands = standing s.cut.bytes d key at-place.object l.denotes at-place.is
 
   -- they are near the front of the object's block, and within it
@@ -81,10 +87,10 @@ module _ {s t : State} (view : s ≡ t) (key : Key) (kind : Kind) (p : Place)
   -- what they say
   pub measured : (m n : ℕ) → m ≡ word_at (bytes_of s.cut.bytes) (p.handle + (p.at + 8))
       → n ≡ places_in (bytes_of s.cut.bytes) (p.handle + p.at) kind
-      → Answers t (λ d. sizes_at_kind d key kind) (Ok (m, n))
+      → AnswersWith t (λ d. sizes_at_kind d key kind) (Ok (m, n))
   measured m n e f =
       let memory : Memory = bytes_of s.cut.bytes in
-      subst (λ (u : State). Answers u (λ d. sizes_at_kind d key kind) (Ok (m, n))) view (record {
+      subst (λ (u : SegmentState). AnswersWith u (λ d. sizes_at_kind d key kind) (Ok (m, n))) view (record {
         answers = λ d l.
             let o : Object = (at-place d l).object in
             let start : p.handle + p.at ≡ value_start o = sym (ap place_at (at-place d l).at) ∙ sym (start-place o) in
@@ -102,7 +108,7 @@ pub record IsMoved (v w : Value) (next : Contents) : Type 0 where
   pub held : contents_of w ≡ Some next
   pub values : IsTrue (has_values v) → IsTrue (has_values w)
 
-table-moved : (u : Table) (v : Value) (c : Contents) → contents_of v ≡ Some c
+table-moved : (u : BackingArray) (v : Value) (c : Contents) → contents_of v ≡ Some c
     → IsMoved v (with_table v u) (record c { table = u })
 table-moved u = of-contents (λ v c. IsMoved v (with_table v u) (record c { table = u })) (λ k zs t. record
     { kind = refl; held = refl; values = λ h. h }) (λ bs t. record { kind = refl; held = refl; values = λ h. h })
@@ -113,8 +119,9 @@ none-left = of-contents (λ v c. IsMoved v (with_items v []) (record c { len = 0
     { kind = refl; held = refl; values = λ h. refl }) (λ bs t. record { kind = refl; held = refl; values = λ h. refl })
 
 pub nothing-left : (v : Value) (c : Contents) → contents_of v ≡ Some c
-    → contents_of (emptied v) ≡ Some (record c { len = 0; table = no_table; bytes = [] })
-nothing-left = of-contents (λ v c. contents_of (emptied v) ≡ Some (record c { len = 0; table = no_table; bytes = [] }))
+    → contents_of (emptied v) ≡ Some (record c { len = 0; table = no_backing; bytes = [] })
+nothing-left = of-contents (λ v c.
+    contents_of (emptied v) ≡ Some (record c { len = 0; table = no_backing; bytes = [] }))
     (λ k zs t. refl) (λ bs t. refl)
 
 storage-said : (v : Value) (c : Contents) → contents_of v ≡ Some c
@@ -123,11 +130,12 @@ storage-said = of-contents (λ v c. (storage_of v ≡ Ok (c.each, c.len, c.table
     × (sizes_of v ≡ Ok (c.len, c.table.capacity))) (λ k zs t. (refl, refl)) (λ bs t. (refl, refl))
 
 -- the contents of a value of a kind
-abbrev contents_at : Kind → ℕ → Table → List ℕ → Contents
+abbrev contents_at : Kind → ℕ → BackingArray → List ℕ → Contents
 contents_at kind len t bytes = record { each = each_of kind; len = len; table = t; bytes = bytes }
 
 elements-in : (v : Value) → has_storage (kind_of v) ≡ true → (kind_of v ≡ StringsKind → ⊥)
-    → (len : ℕ) × ((t : Table) × ((bytes : List ℕ) × (contents_of v ≡ Some (contents_at (kind_of v) len t bytes))))
+    → (len : ℕ) × ((t : BackingArray)
+    × ((bytes : List ℕ) × (contents_of v ≡ Some (contents_at (kind_of v) len t bytes))))
 elements-in (Elements k zs t) h n = (_, (_, (_, refl)))
 elements-in (Bytes bs t) h n = (_, (_, (_, refl)))
 elements-in (Texts ps t) h n = absurd (n refl)
@@ -140,10 +148,10 @@ each-few kind = grind arith
 pub record HoldsElements (b : List ℕ) (d : Directory) (key : Key) (kind : Kind) (p : Place) : Type 0 where
   pub found : HoldsAt d key kind p
   pub len : ℕ
-  pub table : Table
+  pub table : BackingArray
   pub bytes : List ℕ
   pub held : contents_of found.object.value ≡ Some (contents_at kind len table bytes)
-  pub stands : Stands b p (each_of kind) len table bytes
+  pub stands : IsContainer b p (each_of kind) len table bytes
   pub values : IsTrue (has_values found.object.value)
 
 pub holds-elements : (b : List ℕ) (d : Directory) (key : Key) (kind : Kind) (p : Place) → Denotes current b d
@@ -160,20 +168,20 @@ holds-elements b d key kind p den e stored no_texts =
       table = x.1.0;
       bytes = x.1.1.0;
       held = held;
-      stands = subst (λ q. Stands b q (each_of kind) x.0 x.1.0 x.1.1.0) h.at
+      stands = subst (λ q. IsContainer b q (each_of kind) x.0 x.1.0 x.1.1.0) h.at
           (contents-stand b d key o (contents_at kind x.0 x.1.0 x.1.1.0) den h.is held);
       values = (contents-fit o.value _ held (object-roomy current o (standing b d key o den h.is).good).value).values;
     }
 
 -- ---- the calls on their storage
 
-module _ {s t : State} (view : s ≡ t) (key : Key) (kind : Kind) (p : Place) (b : IsSegment s.cut.bytes)
-    (found : Answers t (λ d. container_at d key kind) (Ok p))
+module _ {s t : SegmentState} (view : s ≡ t) (key : Key) (kind : Kind) (p : Place) (b : IsSegment s.cut.bytes)
+    (found : AnswersWith t (λ d. container_at d key kind) (Ok p))
     (stored : has_storage kind ≡ true) (no_texts : kind ≡ StringsKind → ⊥) where
   abbrev Held : Directory → Type 0
   Held d = HoldsElements s.cut.bytes d key kind p
 
-  held : (d : Directory) → StandsFor s.cut.bytes d → Held d
+  held : (d : Directory) → DenotesCurrent s.cut.bytes d → Held d
   held d l = holds-elements s.cut.bytes d key kind p l.denotes
       ((seen-found s t view key kind p found).answers d l) stored no_texts
 
@@ -183,8 +191,9 @@ module _ {s t : State} (view : s ≡ t) (key : Key) (kind : Kind) (p : Place) (b
       let h : Held b.0 = held b.0 b.1 in
       record { stands = (h.len, (h.table, (h.bytes, h.stands))); some = (each-few kind).0; short = (each-few kind).1 }
 
-  pub elements-kept : (new : Cut) (change : Change) (r : Result (Unit {0}) Refusal) → ChangesElements change s.cut new p
-      (each_of kind) r → KeepsWhere t (record s { cut = new }) (HasEnough change key)
+  pub elements-kept : (new : WindowState) (change : Change) (r : Result (Unit {0}) Refusal)
+      → ChangesElements change s.cut new p
+      (each_of kind) r → UnchangedWhere t (record s { cut = new }) (HasEnough change key)
   elements-kept new change r a =
       keeps-cut s t view new (HasEnough change key) (λ d l has. same change r a d (held d l) has)
     where
@@ -195,19 +204,19 @@ module _ {s t : State} (view : s ≡ t) (key : Key) (kind : Kind) (p : Place) (b
       same (Reserve n) (Err e) a d h has = (a h.len h.table h.bytes h.stands).same
       same change r a d h has = absurd has
 
-  module _ (new : Cut) (may : is_read_only t.mode ≡ false) where
+  module _ (new : WindowState) (may : is_read_only t.mode ≡ false) where
     writing : is_read_only s.mode ≡ false
-    writing = subst (λ (u : State). is_read_only u.mode ≡ false) (sym view) may
+    writing = subst (λ (u : SegmentState). is_read_only u.mode ≡ false) (sym view) may
 
     -- what becomes of them in a directory
     record Becomes (d : Directory) (h : Held d) (c : Command) : Type 0 where
       value : Value
       next : Contents
       moved : IsMoved h.found.object.value value next
-      change : IsRefilled s.cut new p (contents_at kind h.len h.table h.bytes) next
+      change : RefillsContainer s.cut new p (contents_at kind h.len h.table h.bytes) next
       outcome : perform d (live d) (effect d c) ≡ (Done, changed d h.found.object value)
 
-    becomes-so : (c : Command) → ((d : Directory) (l : StandsFor s.cut.bytes d) (h : Held d) → Becomes d h c)
+    becomes-so : (c : Command) → ((d : Directory) (l : DenotesCurrent s.cut.bytes d) (h : Held d) → Becomes d h c)
         → StepsSafely s new key kind c (Ok tt)
     becomes-so c each =
         done-so (refill-steps_of_kind s new key kind p (seen-found s t view key kind p found) c Done writing b (λ d l.
@@ -222,7 +231,7 @@ module _ {s t : State} (view : s ≡ t) (key : Key) (kind : Kind) (p : Place) (b
           next = r.next;
           holds = r.moved.held;
           values = r.moved.values h.values;
-          change = subst (λ q. IsRefilled s.cut new q (contents_at kind h.len h.table h.bytes) r.next)
+          change = subst (λ q. RefillsContainer s.cut new q (contents_at kind h.len h.table h.bytes) r.next)
               (sym h.found.at) r.change;
           outcome = r.outcome;
         }))
@@ -231,11 +240,11 @@ module _ {s t : State} (view : s ≡ t) (key : Key) (kind : Kind) (p : Place) (b
     said h = (storage-said h.found.object.value _ h.held).0
 
     -- they get places
-    abbrev with_places : (d : Directory) → Held d → Table → Plan
+    abbrev with_places : (d : Directory) → Held d → BackingArray → Plan
     with_places d h u = Reply Done (changed d h.found.object (with_table h.found.object.value u))
 
-    places-asked : (n : ℕ) (d : Directory) (l : StandsFor s.cut.bytes d) (h : Held d) (r : Option Table)
-        → grown_table (live_of s.cut.bytes) (each_of kind) n h.table ≡ r
+    places-asked : (n : ℕ) (d : Directory) (l : DenotesCurrent s.cut.bytes d) (h : Held d) (r : Option BackingArray)
+        → grown_backing (live_of s.cut.bytes) (each_of kind) n h.table ≡ r
         → perform d (live d) (effect d (asked.Reserve key n)) ≡ then_room d (live d) h.table (with_places d h) r
     places-asked n d l h r g = room-asked current s.cut.bytes d (asked.Reserve key n) (each_of kind) n h.table r
         (with_places d h) l.denotes (reserve-plan d key h.found.object h.found.is _ (said h) n) g
@@ -261,7 +270,7 @@ module _ {s t : State} (view : s ≡ t) (key : Key) (kind : Kind) (p : Place) (b
         ∙ places-asked n d l h None (a h.len h.table h.bytes h.stands).none))
     elements-changed Shrink r a =
         subst (StepsSafely s new key kind (asked.Shrink key)) (sym a.0) (becomes-so (asked.Shrink key) (λ d l h.
-        let cut : LiveSet → Table = λ (m : LiveSet). cut_table m (each_of kind) h.len h.table in
+        let cut : LiveSet → BackingArray = λ (m : LiveSet). shrunk_backing m (each_of kind) h.len h.table in
         let f : ShrinksStorageOk s.cut new p (each_of kind) h.len h.table h.bytes =
         a.1 h.len h.table h.bytes h.stands in record {
           value = with_table h.found.object.value (cut (live_of s.cut.bytes));
@@ -281,7 +290,7 @@ module _ {s t : State} (view : s ≡ t) (key : Key) (kind : Kind) (p : Place) (b
           moved = none-left h.found.object.value _ h.held;
           change = record {
             change = r.change;
-            stands = subst (λ n. Stands new.bytes p (each_of kind) 0 h.table (take n h.bytes))
+            stands = subst (λ n. IsContainer new.bytes p (each_of kind) 0 h.table (take n h.bytes))
                 (let none : each_of kind * 0 ≡ 0 = omega arith in none) r.stands;
           };
           outcome = ap (perform d (live d)) (clear-plan d key h.found.object h.found.is _ (said h));

@@ -1,11 +1,15 @@
 -- Commands on the pairs of a map by literals: which call is the step of the command, by the kind of the object.
 use Rattle.segment_manager.proofs.Common as common
-use common.{◌≡◌, refl, sym, ◌∙◌, true, Some, None, Ok, Err, List, ◌∷◌, [], Map, Key, live, Plan, with, State}
-use common.{ap, ScalarKind, WrongKind, literal_of, remove_pair, NumberPair, IsToChange, IsValueOf, Directory, object_at}
-use common.{subst, false, int_lt, eq-eqb, Answer, Truth, Value, Pairs, Object, Refuse, Reply, IsStep, effect, map_of}
-use common.{ℤ, Option, Result, Located, Element, Refused, kind_at, kind_of, perform, Answers, IsReply, changed, pair_of}
-use common.{Refusal, code_of, is_value, ByHandle, Literal, pair_at, IsMissing, IsLocated, StandsFor, and_then, found_at}
-use common.{ScalarValue, value_of_literal, kind_of_scalar, value_of_scalar, IsUnchangeable, IsReplyOfKind, IsStepOfKind}
+use common.{◌≡◌, refl, sym, ◌∙◌, true, Some, None, Ok, Err, List, ◌∷◌, [], Map, Key, live, Plan, with, SegmentState}
+use common.{ap, ScalarKind, WrongKind, literal_of, remove_pair, NumberPair, IsChangeableObject, IsValueOf, Directory}
+use common.{object_at}
+use common.{subst, false, int_lt, eq-eqb, Answer, Truth, Value, Pairs, Object, Refuse, Reply, TakesStep, effect, map_of}
+use common.{ℤ, Option, Result, Located, Element, Refused, kind_at, kind_of, perform, AnswersWith, AnswersQuery, changed}
+use common.{pair_values}
+use common.{Refusal, code_of, is_value, ByHandle, Literal, pair_at, IsMissing, IsLocated, DenotesCurrent, cons_values}
+use common.{found_at}
+use common.{ScalarValue, value_of_literal, kind_of_scalar, value_of_scalar, IsUnchangeable, AnswersQueryOfKind}
+use common.{TakesStepOfKind}
 use Rattle.segment_manager.proofs.containers.AnyStorage.{IsOfKindAt, kind-told, of_kind-same, of_kind-steps}
 use Rattle.segment_manager.proofs.containers.Changeable.{answered-reads, refuses, refuses-read, says-kind}
 use Rattle.segment_manager.proofs.objects.Locating.{kind-by_key, reply_of_kind-by_key, step_of_kind-by_key}
@@ -19,7 +23,7 @@ use Rattle.segment_manager.specs.Step as step
 -- ---- the plans
 
 abbrev pub puts : Directory → Object → Literal → Literal → ScalarKind × ScalarKind × List NumberPair → Plan
-puts d o l m (k, v, ps) = with (pair_of k v l m) (λ new. step.put d o k v ps new)
+puts d o l m (k, v, ps) = with (pair_values k v l m) (λ new. step.put d o k v ps new)
 
 abbrev pub found_with : Directory → ScalarKind → Option NumberPair → Plan
 found_with d v r = elim r as (λ _. Plan) [ None ↦ Reply Absent d | Some p ↦ Reply (Element v p.value) d ]
@@ -59,25 +63,25 @@ no_map-if w n = refl
 
 -- ---- it is no map
 
-module _ {s : State} {key : Key} {o : Located} (l : IsLocated s key o)
+module _ {s : SegmentState} {key : Key} {o : Located} (l : IsLocated s key o)
     (other : (k v : ScalarKind) → o.kind ≡ Map k v → ⊥) where
-  told : (d : Directory) → StandsFor s.cut.bytes d → IsOfKindAt d key o.kind
+  told : (d : Directory) → DenotesCurrent s.cut.bytes d → IsOfKindAt d key o.kind
   told d st = kind-told d key o.kind ((kind-by_key s key o l).answers d st)
 
-  none : (d : Directory) (st : StandsFor s.cut.bytes d) → map_of (told d st).object.value ≡ Err WrongKind
+  none : (d : Directory) (st : DenotesCurrent s.cut.bytes d) → map_of (told d st).object.value ≡ Err WrongKind
   none d st = no_map-if (told d st).object.value (λ k v e. other k v (sym (told d st).kind_is ∙ e))
 
-  pub lookup-no_map : (at : Literal) → IsReply s (asked.Lookup key at) (Refused WrongKind)
+  pub lookup-no_map : (at : Literal) → AnswersQuery s (asked.Lookup key at) (Refused WrongKind)
   lookup-no_map at = refuses-read s (asked.Lookup key at) WrongKind refl
       (λ d st. lookup-plan d key (told d st).object (told d st).is (Err WrongKind) (none d st) at)
 
-module _ {s : State} {key : Key} {o : Located} (h : IsToChange s key o)
+module _ {s : SegmentState} {key : Key} {o : Located} (h : IsChangeableObject s key o)
     (other : (k v : ScalarKind) → o.kind ≡ Map k v → ⊥) where
-  pub put-no_map : (at value : Literal) → IsStep s s (asked.Put key at value) (Refused WrongKind)
+  pub put-no_map : (at value : Literal) → TakesStep s s (asked.Put key at value) (Refused WrongKind)
   put-no_map at value = refuses s (asked.Put key at value) WrongKind h.writing (λ d st. let f = told h.located other d
       st in put-plan d key f.object f.is (Err WrongKind) (none h.located other d st) at value)
 
-  pub remove-no_map : (at : Literal) → IsStep s s (asked.Remove key at) (Refused WrongKind)
+  pub remove-no_map : (at : Literal) → TakesStep s s (asked.Remove key at) (Refused WrongKind)
   remove-no_map at = refuses s (asked.Remove key at) WrongKind h.writing (λ d st. let f = told h.located other d st
       in remove-plan d key f.object f.is (Err WrongKind) (none h.located other d st) at)
 
@@ -109,8 +113,8 @@ module _ {d : Directory} {key : Key} {k v : ScalarKind} (m : IsMapAt d key k v) 
   abbrev removes_read : Result ℤ Refusal → Plan
   removes_read q = with q (removes_at d m.object k v m.pairs)
 
-module _ (s : State) (key : Key) (k v : ScalarKind) (a : Answers s (λ d. kind_at d key) (Ok (Map k v))) where
-  map-at : (d : Directory) → StandsFor s.cut.bytes d → IsMapAt d key k v
+module _ (s : SegmentState) (key : Key) (k v : ScalarKind) (a : AnswersWith s (λ d. kind_at d key) (Ok (Map k v))) where
+  map-at : (d : Directory) → DenotesCurrent s.cut.bytes d → IsMapAt d key k v
   map-at d st =
       let f : IsOfKindAt d key (Map k v) = kind-told d key (Map k v) (a.answers d st) in
       let m = map-only k v f.object.value
@@ -118,32 +122,33 @@ module _ (s : State) (key : Key) (k v : ScalarKind) (a : Answers s (λ d. kind_a
       record { object = f.object; is = f.is; pairs = m.0; value = m.1 }
 
   -- literals that are read as values are as good as the values' own
-  put-read : (new : State) (l m : Literal) (x y : ℤ) (answer : Answer) → pair_of k v l m ≡ Ok (x ∷ y ∷ [])
-      → is_value k x ≡ true → is_value v y ≡ true → IsStepOfKind s new key (Map k v) (asked.Put key (literal_of k x)
-      (literal_of v y)) answer → IsStep s new (asked.Put key l m) answer
+  put-read : (new : SegmentState) (l m : Literal) (x y : ℤ) (answer : Answer) → pair_values k v l m ≡ Ok (x ∷ y ∷ [])
+      → is_value k x ≡ true → is_value v y ≡ true → TakesStepOfKind s new key (Map k v) (asked.Put key (literal_of k x)
+      (literal_of v y)) answer → TakesStep s new (asked.Put key l m) answer
   put-read new l m x y answer e good fair r =
-      let own : pair_of k v (literal_of k x) (literal_of v y) ≡ Ok (x ∷ y ∷ []) =
-      λ i. and_then (literal-read k x good i) (and_then (literal-read v y fair i) (Ok [])) in
+      let own : pair_values k v (literal_of k x) (literal_of v y) ≡ Ok (x ∷ y ∷ []) =
+      λ i. cons_values (literal-read k x good i) (cons_values (literal-read v y fair i) (Ok [])) in
       same_plan-steps s new (asked.Put key l m) (asked.Put key (literal_of k x) (literal_of v y)) answer refl
       (λ d st. put-of (map-at d st) l m ∙ ap (puts_read (map-at d st)) (e ∙ sym own)
       ∙ sym (put-of (map-at d st) (literal_of k x) (literal_of v y)))
       (of_kind-steps s new key (Map k v) (asked.Put key (literal_of k x) (literal_of v y)) answer a r)
 
-  remove-read : (new : State) (l : Literal) (x : ℤ) (answer : Answer) → value_of_literal k l ≡ Ok x
-      → is_value k x ≡ true → IsStepOfKind s new key (Map k v) (asked.Remove key (literal_of k x)) answer
-      → IsStep s new (asked.Remove key l) answer
+  remove-read : (new : SegmentState) (l : Literal) (x : ℤ) (answer : Answer) → value_of_literal k l ≡ Ok x
+      → is_value k x ≡ true → TakesStepOfKind s new key (Map k v) (asked.Remove key (literal_of k x)) answer
+      → TakesStep s new (asked.Remove key l) answer
   remove-read new l x answer e good r = same_plan-steps s new (asked.Remove key l) (asked.Remove key (literal_of k x))
       answer refl (λ d st. remove-of (map-at d st) l ∙ ap (removes_read (map-at d st)) (e ∙ sym (literal-read k x good))
       ∙ sym (remove-of (map-at d st) (literal_of k x)))
       (of_kind-steps s new key (Map k v) (asked.Remove key (literal_of k x)) answer a r)
 
-  lookup-same : (d : Directory) (st : StandsFor s.cut.bytes d) (l : Literal) (x : ℤ) → value_of_literal k l ≡ Ok x
+  lookup-same : (d : Directory) (st : DenotesCurrent s.cut.bytes d) (l : Literal) (x : ℤ) → value_of_literal k l ≡ Ok x
       → is_value k x ≡ true → effect d (asked.Lookup key (literal_of k x)) ≡ effect d (asked.Lookup key l)
   lookup-same d st l x e good = lookup-of (map-at d st) (literal_of k x)
       ∙ ap (looks_up_read (map-at d st)) (literal-read k x good ∙ sym e) ∙ sym (lookup-of (map-at d st) l)
 
   lookup-read : (l : Literal) (x : ℤ) (answer : Answer) → value_of_literal k l ≡ Ok x → is_value k x ≡ true
-      → IsReplyOfKind s key (Map k v) (asked.Lookup key (literal_of k x)) answer → IsReply s (asked.Lookup key l) answer
+      → AnswersQueryOfKind s key (Map k v) (asked.Lookup key (literal_of k x)) answer
+      → AnswersQuery s (asked.Lookup key l) answer
   lookup-read l x answer e good r = record {
     answers = λ d st. r.answers d st ∙ ap (λ (q : Answer × Directory). q.0) (of_kind-same s.mode d key (Map k v)
         (asked.Lookup key (literal_of k x)) (kind-told d key (Map k v) (a.answers d st))) ∙ answered-reads s.mode d
@@ -153,69 +158,73 @@ module _ (s : State) (key : Key) (k v : ScalarKind) (a : Answers s (λ d. kind_a
 
 -- ---- as the calls say it
 
-module _ {s : State} {key : Key} {o : Located} (h : IsToChange s key o) {k v : ScalarKind} (is : o.kind ≡ Map k v) where
-  there : (d : Directory) → StandsFor s.cut.bytes d → IsMapAt d key k v
+module _ {s : SegmentState} {key : Key} {o : Located} (h : IsChangeableObject s key o) {k v : ScalarKind}
+    (is : o.kind ≡ Map k v) where
+  there : (d : Directory) → DenotesCurrent s.cut.bytes d → IsMapAt d key k v
   there d st = map-at s key k v (says-kind h.located is) d st
 
   -- a pair of the map's kinds
-  pub puts-pair : {new : State} (at value : Literal) (p : ScalarValue × ScalarValue) {answer : Answer}
-      → ConvertsPair k v (pair_of k v at value) (Ok p)
-      → IsStepOfKind s new (ByHandle o.handle) (Map (kind_of_scalar p.0)
+  pub puts-pair : {new : SegmentState} (at value : Literal) (p : ScalarValue × ScalarValue) {answer : Answer}
+      → ConvertsPair k v (pair_values k v at value) (Ok p)
+      → TakesStepOfKind s new (ByHandle o.handle) (Map (kind_of_scalar p.0)
       (kind_of_scalar p.1)) (asked.Put (ByHandle o.handle) (literal_of (kind_of_scalar p.0) (value_of_scalar p.0))
-      (literal_of (kind_of_scalar p.1) (value_of_scalar p.1))) answer → IsStep s new (asked.Put key at value) answer
+      (literal_of (kind_of_scalar p.1) (value_of_scalar p.1))) answer → TakesStep s new (asked.Put key at value) answer
   puts-pair {new} at value (x, y) {answer} ((same, good), (other, fair), read) r =
-      let Puts : ScalarKind → ScalarKind → Type 0 = λ i j. IsStepOfKind s new (ByHandle o.handle) (Map i j)
+      let Puts : ScalarKind → ScalarKind → Type 0 = λ i j. TakesStepOfKind s new (ByHandle o.handle) (Map i j)
       (asked.Put (ByHandle o.handle) (literal_of i (value_of_scalar x)) (literal_of j (value_of_scalar y))) answer in
       put-read s key k v (says-kind h.located is) new at value (value_of_scalar x)
       (value_of_scalar y) answer read good fair (step_of_kind-by_key s key o h.located new (Map k v)
       (asked.Put key (literal_of k (value_of_scalar x)) (literal_of v (value_of_scalar y))) answer
       (subst (Puts k) other (subst (λ j. Puts j (kind_of_scalar y)) same r)))
 
-  pub put-no_pair : (at value : Literal) {why : Refusal} → pair_of k v at value ≡ Err why
-      → IsStep s s (asked.Put key at value) (Refused why)
+  pub put-no_pair : (at value : Literal) {why : Refusal} → pair_values k v at value ≡ Err why
+      → TakesStep s s (asked.Put key at value) (Refused why)
   put-no_pair at value {why} e = refuses s (asked.Put key at value) why h.writing
       (λ d st. put-of (there d st) at value ∙ ap (puts_read (there d st)) e)
 
   -- a key of its kind
-  pub removes-key : {new : State} (at : Literal) (x : ScalarValue) {answer : Answer} → IsValueOf k (value_of_literal k
-      at) (Ok x) → IsStepOfKind s new (ByHandle o.handle) (Map (kind_of_scalar x) v) (asked.Remove (ByHandle o.handle)
-      (literal_of (kind_of_scalar x) (value_of_scalar x))) answer → IsStep s new (asked.Remove key at) answer
+  pub removes-key : {new : SegmentState} (at : Literal) (x : ScalarValue) {answer : Answer}
+      → IsValueOf k (value_of_literal k
+      at) (Ok x) → TakesStepOfKind s new (ByHandle o.handle) (Map (kind_of_scalar x) v)
+      (asked.Remove (ByHandle o.handle)
+      (literal_of (kind_of_scalar x) (value_of_scalar x))) answer → TakesStep s new (asked.Remove key at) answer
   removes-key {new} at x {answer} (same, read, good) r = remove-read s key k v (says-kind h.located is) new at
       (value_of_scalar x) answer read good (step_of_kind-by_key s key o h.located new (Map k v) (asked.Remove key
-      (literal_of k (value_of_scalar x))) answer (subst (λ j. IsStepOfKind s new (ByHandle o.handle) (Map j v)
+      (literal_of k (value_of_scalar x))) answer (subst (λ j. TakesStepOfKind s new (ByHandle o.handle) (Map j v)
       (asked.Remove (ByHandle o.handle) (literal_of j (value_of_scalar x))) answer) same r))
 
   pub remove-no_value : (at : Literal) {why : Refusal} → value_of_literal k at ≡ Err why
-      → IsStep s s (asked.Remove key at) (Refused why)
+      → TakesStep s s (asked.Remove key at) (Refused why)
   remove-no_value at {why} e = refuses s (asked.Remove key at) why h.writing
       (λ d st. remove-of (there d st) at ∙ ap (removes_read (there d st)) e)
 
-module _ {s : State} {key : Key} {o : Located} (l : IsLocated s key o) {k v : ScalarKind} (is : o.kind ≡ Map k v) where
+module _ {s : SegmentState} {key : Key} {o : Located} (l : IsLocated s key o) {k v : ScalarKind} (is : o.kind
+    ≡ Map k v) where
   pub looks-up-key : (at : Literal) (x : ScalarValue) {answer : Answer} → IsValueOf k (value_of_literal k at) (Ok x)
-      → IsReplyOfKind s (ByHandle o.handle) (Map (kind_of_scalar x) v) (asked.Lookup (ByHandle o.handle)
-      (literal_of (kind_of_scalar x) (value_of_scalar x))) answer → IsReply s (asked.Lookup key at) answer
+      → AnswersQueryOfKind s (ByHandle o.handle) (Map (kind_of_scalar x) v) (asked.Lookup (ByHandle o.handle)
+      (literal_of (kind_of_scalar x) (value_of_scalar x))) answer → AnswersQuery s (asked.Lookup key at) answer
   looks-up-key at x {answer} (same, read, good) r = lookup-read s key k v (says-kind l is) at (value_of_scalar x) answer
       read good (reply_of_kind-by_key s key o l (Map k v) (asked.Lookup key (literal_of k (value_of_scalar x))) answer
-      (subst (λ j. IsReplyOfKind s (ByHandle o.handle) (Map j v)
+      (subst (λ j. AnswersQueryOfKind s (ByHandle o.handle) (Map j v)
       (asked.Lookup (ByHandle o.handle) (literal_of j (value_of_scalar x))) answer) same r))
 
   pub lookup-no_value : (at : Literal) {why : Refusal} → value_of_literal k at ≡ Err why
-      → IsReply s (asked.Lookup key at) (Refused why)
+      → AnswersQuery s (asked.Lookup key at) (Refused why)
   lookup-no_value at {why} e = refuses-read s (asked.Lookup key at) why refl
       (λ d st. let m = map-at s key k v (says-kind l is) d st in lookup-of m at ∙ ap (looks_up_read m) e)
 
 -- no object that may be changed has the key
-module _ {s : State} {key : Key} {why : Refusal} (h : IsUnchangeable s key why) where
-  pub put-unchangeable : (at value : Literal) → IsStep s s (asked.Put key at value) (Refused why)
+module _ {s : SegmentState} {key : Key} {why : Refusal} (h : IsUnchangeable s key why) where
+  pub put-unchangeable : (at value : Literal) → TakesStep s s (asked.Put key at value) (Refused why)
   put-unchangeable at value = h.refuses (asked.Put key at value) refl
       (λ d n. with-not_found d key (λ o. with (map_of o.value) (puts d o at value)) n)
 
-  pub remove-unchangeable : (at : Literal) → IsStep s s (asked.Remove key at) (Refused why)
+  pub remove-unchangeable : (at : Literal) → TakesStep s s (asked.Remove key at) (Refused why)
   remove-unchangeable at =
       h.refuses (asked.Remove key at) refl (λ d n. with-not_found d key (λ o. with (map_of o.value) (removes d o at)) n)
 
 -- none has it
-pub lookup-nowhere : {s : State} {key : Key} (at : Literal) {why : Refusal} → IsMissing s key why
-    → IsReply s (asked.Lookup key at) (Refused why)
+pub lookup-nowhere : {s : SegmentState} {key : Key} (at : Literal) {why : Refusal} → IsMissing s key why
+    → AnswersQuery s (asked.Lookup key at) (Refused why)
 lookup-nowhere {s} {key} at {why} m = refuses-read s (asked.Lookup key at) why refl
     (λ d st. with-not_found d key (λ o. with (map_of o.value) (looks_up d at)) (m.missing d st) ∙ ap Refuse (sym m.is))

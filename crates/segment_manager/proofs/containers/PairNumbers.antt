@@ -1,11 +1,16 @@
 -- Maps of values of two types as maps of their numbers: lists of pairs, maps at a place, and what the calls of seg_map
 -- ensure of them.
 use Rattle.segment_manager.proofs.Common as common
-use common.{◌≡◌, sym, ap, ◌∙◌, ◌+◌, not, Some, None, Ok, Err, List, [], ◌∷◌, map, find, Cut, Has, Node, Puts}
-use common.{refl, Bool, true, false, ◌&&◌, ◌||◌, Memory, handle, place, serves, Plain, Erases, IsFull, IsPut, is_key}
-use common.{subst, bytes_of, IsTreeOf, is_value, spelling, IsErased, Releases, node_len, put_pair, FindsItem, IsSomeMap}
-use common.{ℕ, MatchResult, option_map, length-map, IsExchanged, IsBesideMap, remove_pair, FindsLastItem, value_of_pair}
-use common.{ℤ, ScalarKind, IsChanged, IsPutAgain, is_rising, NumberPair, FindsValue, first_pair, numbers_in, numbers_of}
+use common.{◌≡◌, sym, ap, ◌∙◌, ◌+◌, not, Some, None, Ok, Err, List, [], ◌∷◌, map, find, WindowState, HasBytesAt, Node}
+use common.{PutsPair}
+use common.{refl, Bool, true, false, ◌&&◌, ◌||◌, Memory, handle, place, serves, Plain, ErasesKey, PutsNoSpace}
+use common.{PutsNewPair, is_key}
+use common.{subst, bytes_of, IsTreeOf, is_value, spelling, ErasesPair, ReleasesMap, node_len, put_pair, FindsItem}
+use common.{IsSomeMap}
+use common.{ℕ, MatchResult, option_map, length-map, ExchangesBlocks, KeepsOutsideMap, remove_pair, FindsLastItem}
+use common.{value_of_pair}
+use common.{ℤ, ScalarKind, ChangesBytes, OverwritesPair, is_rising, NumberPair, FindsValue, first_pair, numbers_in}
+use common.{numbers_of}
 use common.{Option, Result, IsTrue, int_lt, current, LiveSet, live_of, size_of, pair_at, HoldsMap, IsPairIn, item_of}
 use common.{if◌then◌else◌, MatchOption, AllByRecursion, IsNumberPairAt, is_number_pair, FindsItemBefore, nodes_of_pairs}
 use Rattle.raw_region.proofs.Facts.{first, second}
@@ -23,14 +28,14 @@ pub record IsScalarOf {T : Type 0} (k : ScalarKind) (p : Plain T) (w : T → ℤ
   pub reached : (z : ℤ) → is_value k z ≡ true → (x : T) × (w x ≡ z)
 
 -- what a put does, by the pair of the key that there was or was not, and an erasing
-module _ {K V : Type 0} (kp : Plain K) (vp : Plain V) (old new : Cut) (h at : ℕ) (ps : List (Pair K V)) where
+module _ {K V : Type 0} (kp : Plain K) (vp : Plain V) (old new : WindowState) (h at : ℕ) (ps : List (Pair K V)) where
   abbrev pub PutsBy : {E : Type 0} → K → V → Result Bool E → Option (Pair K V) → Type 0
-  PutsBy x y result o = MatchOption o (MatchResult result (λ b. (b ≡ true) × IsPut kp vp old new h at ps x y)
-      (λ e. IsFull kp vp old new)) (λ p. (result ≡ Ok false) × IsPutAgain kp vp old new h at ps p x y)
+  PutsBy x y result o = MatchOption o (MatchResult result (λ b. (b ≡ true) × PutsNewPair kp vp old new h at ps x y)
+      (λ e. PutsNoSpace kp vp old new)) (λ p. (result ≡ Ok false) × OverwritesPair kp vp old new h at ps p x y)
 
   abbrev pub ErasesBy : K → Bool → Option (Pair K V) → Type 0
   ErasesBy x result o =
-      MatchOption o ((result ≡ false) × (new ≡ old)) (λ p. (result ≡ true) × IsErased kp vp old new h at ps p x)
+      MatchOption o ((result ≡ false) × (new ≡ old)) (λ p. (result ≡ true) × ErasesPair kp vp old new h at ps p x)
 
 -- ---- lists
 
@@ -119,7 +124,8 @@ module _ {K V : Type 0} {k v : ScalarKind} {kp : Plain K} {vp : Plain V} {kw : K
 
   pair-same : (m : Memory) (p : Pair K V)
       → IsPairAt kp.SIZE kp.spelling vp.spelling m p ≡ IsNumberPairAt k v m (number_pair p)
-  pair-same m p = λ i. Has m (handle p.node + 16) (kl.spelled p.key i) × Has m (handle p.node + 16 + kl.long i)
+  pair-same m p = λ i. HasBytesAt m (handle p.node + 16) (kl.spelled p.key i)
+      × HasBytesAt m (handle p.node + 16 + kl.long i)
       (vl.spelled p.value i)
 
   pairs-same : (m : Memory) (ps : List (Pair K V)) → AllByRecursion (IsPairAt kp.SIZE kp.spelling vp.spelling m) ps
@@ -251,10 +257,10 @@ module _ {K V : Type 0} {k v : ScalarKind} {kp : Plain K} {vp : Plain V} {kw : K
 
   -- ---- what becomes of them
 
-  module _ (old new : Cut) (h at : ℕ) where
-    beside-numbers : (ps : List (Pair K V)) → IsBesideMap old new (h + at) (nodes_of_pairs ps)
-        → IsBesideMap old new (h + at) (nodes_of_pairs (number_pairs ps))
-    beside-numbers ps s = subst (IsBesideMap old new (h + at)) (sym (numbers-nodes ps)) s
+  module _ (old new : WindowState) (h at : ℕ) where
+    beside-numbers : (ps : List (Pair K V)) → KeepsOutsideMap old new (h + at) (nodes_of_pairs ps)
+        → KeepsOutsideMap old new (h + at) (nodes_of_pairs (number_pairs ps))
+    beside-numbers ps s = subst (KeepsOutsideMap old new (h + at)) (sym (numbers-nodes ps)) s
 
     put-numbers : (ps : List (Pair K V)) (p : Pair K V) → HoldsMap kp vp new.bytes h at (put_pair kp.order p ps)
         → HoldsNumbers new.bytes h at (put_pair int_lt (number_pair p) (number_pairs ps))
@@ -283,15 +289,15 @@ module _ {K V : Type 0} {k v : ScalarKind} {kp : Plain K} {vp : Plain V} {kw : K
     puts-if ps x y result (Some p) r = (
       r.0,
       record {
-        change = subst (λ n. IsChanged current old new (handle p.node + 16 + n) (size_of v)) kl.long
-            (subst (λ n. IsChanged current old new (handle p.node + 16 + kp.SIZE) n) vl.long r.1.change);
+        change = subst (λ n. ChangesBytes current old new (handle p.node + 16 + n) (size_of v)) kl.long
+            (subst (λ n. ChangesBytes current old new (handle p.node + 16 + kp.SIZE) n) vl.long r.1.change);
         beside = beside-numbers ps r.1.beside;
         map = put-numbers ps (record { key = x; value = y; node = p.node }) r.1.map;
       },
     )
 
-    pub puts-numbers : {E : Type 0} (x : K) (y : V) (result : Result Bool E) → Puts kp vp old new h at x y result
-        → Puts (numbers_of k) (numbers_of v) old new h at (kw x) (vw y) result
+    pub puts-numbers : {E : Type 0} (x : K) (y : V) (result : Result Bool E) → PutsPair kp vp old new h at x y result
+        → PutsPair (numbers_of k) (numbers_of v) old new h at (kw x) (vw y) result
     puts-numbers x y result each = of-values old.bytes h at
         (λ qs. PutsBy (numbers_of k) (numbers_of v) old new h at qs (kw x) (vw y) result (pair_at int_lt qs (kw x)))
         (λ ps s. subst (PutsBy (numbers_of k) (numbers_of v) old new h at (number_pairs ps) (kw x) (vw y) result)
@@ -311,8 +317,8 @@ module _ {K V : Type 0} {k v : ScalarKind} {kp : Plain K} {vp : Plain V} {kw : K
       },
     )
 
-    pub erases-numbers : (x : K) (result : Bool) → Erases kp vp old new h at x result
-        → Erases (numbers_of k) (numbers_of v) old new h at (kw x) result
+    pub erases-numbers : (x : K) (result : Bool) → ErasesKey kp vp old new h at x result
+        → ErasesKey (numbers_of k) (numbers_of v) old new h at (kw x) result
     erases-numbers x result each = of-values old.bytes h at
         (λ qs. ErasesBy (numbers_of k) (numbers_of v) old new h at qs (kw x) result (pair_at int_lt qs (kw x))) (λ ps s.
         subst (ErasesBy (numbers_of k) (numbers_of v) old new h at (number_pairs ps) (kw x) result)
@@ -322,11 +328,11 @@ module _ {K V : Type 0} {k v : ScalarKind} {kp : Plain K} {vp : Plain V} {kw : K
     no-pairs [] e = refl
     no-pairs (p ∷ ps) e = absurd (cc)
 
-    pub releases-numbers : Releases kp vp old new h at → Releases (numbers_of k) (numbers_of v) old new h at
+    pub releases-numbers : ReleasesMap kp vp old new h at → ReleasesMap (numbers_of k) (numbers_of v) old new h at
     releases-numbers each = of-values old.bytes h at (FreesAllPairs (numbers_of k) (numbers_of v) old new h at) (λ ps s.
         let r : FreesAllPairs kp vp old new h at ps = each ps s in
         let none : List (Pair K V) = [] in record {
-          change = subst (λ xs. IsExchanged current old new (h + at) 24 xs []) (sym (numbers-extents ps)) r.change;
+          change = subst (λ xs. ExchangesBlocks current old new (h + at) 24 xs []) (sym (numbers-extents ps)) r.change;
           empty = map-numbers new.bytes h at none r.empty;
           same = λ e. r.same (no-pairs ps e);
         })

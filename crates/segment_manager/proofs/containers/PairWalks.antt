@@ -6,7 +6,8 @@ use common.{List, [], ◌∷◌, ◌++◌, slice_get, arith, IsTrue, int_lt, opt
 use common.{ObjectRole, serves, Map, ScalarKind, Refusal, ScalarValue, code_of, is_kind_of, is_value, lowest, same_kind}
 use common.{size_of, Key, kind_of_scalar, value_of_scalar, is_rising, node_len, NumberPair, is_number_pair, item_of}
 use common.{Denotes, Value, Pairs, Object, Directory, has_good_name, is_good_value, is_object, kind_of, object_at}
-use common.{object_len, pair_above, pair_from, told_of, told_of_map, Answers, State, StandsFor, IsMap, first_of}
+use common.{object_len, pair_above, pair_from, told_of, told_of_map, AnswersWith, SegmentState, DenotesCurrent, IsMap}
+use common.{first_of}
 use common.{item_of_kinds, item_seen, pairs_at, pairs_of}
 use Rattle.segment_manager.proofs.containers.AnyStorage.{IsOfKindAt, kind-told}
 use Rattle.segment_manager.proofs.containers.MapWalks.{walk-goes_on, walk-starts}
@@ -83,13 +84,14 @@ seen-if k v (Some (x, y)) q h e =
     let is : Some (value_of_scalar x, value_of_scalar y) ≡ q = cc in
     (λ i. Some ((h.0 i, value_of_scalar x), (h.1 i, value_of_scalar y))) ∙ ap (option_map (item_of_kinds k v)) is
 
-module _ (s : State) (key : Key) (k v : ScalarKind) (is : IsMap s key k v) where
-  map-known : (d : Directory) → StandsFor s.cut.bytes d → IsOfKindAt d key (Map k v)
+module _ (s : SegmentState) (key : Key) (k v : ScalarKind) (is : IsMap s key k v) where
+  map-known : (d : Directory) → DenotesCurrent s.cut.bytes d → IsOfKindAt d key (Map k v)
   map-known d l = kind-told d key (Map k v) (is.answers d l)
 
-  pub first-seen : (o : Option (ScalarValue × ScalarValue)) → AreOfKinds k v (Ok o) → Answers s (λ d. told_of_map d key
+  pub first-seen : (o : Option (ScalarValue × ScalarValue)) → AreOfKinds k v (Ok o)
+      → AnswersWith s (λ d. told_of_map d key
       k v (pair_from (lowest k))) (numbers_read value_of_scalar value_of_scalar (Ok o))
-      → Answers s (λ d. option_map (item_of_kinds k v) (option_map item_of (first_of (pairs_at d key))))
+      → AnswersWith s (λ d. option_map (item_of_kinds k v) (option_map item_of (first_of (pairs_at d key))))
       (option_map item_seen o)
   first-seen o h a = record {
     answers = λ d l. seen-if k v o (pair_from (lowest k) (pairs_at d key)) h
@@ -103,11 +105,12 @@ module _ (x : ScalarValue) (k : ScalarKind) (e : kind_of_scalar x ≡ k) where
       → AreOfKinds k v (Ok o)
   least-kinds v o h = subst (λ j. AreOfKinds j v (Ok o)) e h
 
-  pub least-told : value_of_scalar x ≡ lowest k → (s : State) (key : Key) (v : ScalarKind) (r : Result (Option (ℤ × ℤ))
-      Refusal) → Answers s (λ d. told_of_map d key (kind_of_scalar x) v (pair_from (value_of_scalar x))) r
-      → Answers s (λ d. told_of_map d key k v (pair_from (lowest k))) r
-  least-told f s key v r a = subst (λ z. Answers s (λ d. told_of_map d key k v (pair_from z)) r) f
-      (subst (λ j. Answers s (λ d. told_of_map d key j v (pair_from (value_of_scalar x))) r) e a)
+  pub least-told : value_of_scalar x ≡ lowest k
+      → (s : SegmentState) (key : Key) (v : ScalarKind) (r : Result (Option (ℤ × ℤ))
+      Refusal) → AnswersWith s (λ d. told_of_map d key (kind_of_scalar x) v (pair_from (value_of_scalar x))) r
+      → AnswersWith s (λ d. told_of_map d key k v (pair_from (lowest k))) r
+  least-told f s key v r a = subst (λ z. AnswersWith s (λ d. told_of_map d key k v (pair_from z)) r) f
+      (subst (λ j. AnswersWith s (λ d. told_of_map d key j v (pair_from (value_of_scalar x))) r) e a)
 
 -- ---- the places of the pairs
 

@@ -4,13 +4,16 @@ use common.{◌≡◌, refl, sym, ap, subst, ◌∙◌, ℕ, ◌+◌, ◌*◌, �
 use common.{Result}
 use common.{Ok, Err, List, ◌++◌, length, map, take, drop, if◌then◌else◌, arith, IsTrue, list_all, nat_le, le-leb}
 use common.{lt-leb}
-use common.{length-append, length-map, map-append, take-map, eq-eqb, ne_eqb, append_assoc, Cut, SameBut, Has, bytes_of}
+use common.{length-append, length-map, map-append, take-map, eq-eqb, ne_eqb, append_assoc, WindowState, SameBytesExcept}
+use common.{HasBytesAt, bytes_of}
 use common.{current, handle, Kind, ScalarKind, Scalar, Vector, code_of, same_kind, is_value, size_of, spelled, spelling}
 use common.{Refusal, NotFound, OutOfRange, ReadOnly, WrongKind, Key, ByHandle, Mode, Answer, Done, Refused, Directory}
 use common.{Object, Value, Numbers, Elements, Bytes, Pairs, Texts, kind_of, count_of, value_extents, padded, object_at}
-use common.{changed, is_read_only, with_items, Answers, State, StandsFor, Denotes, IsValueAt, IsChanged, Located}
-use common.{IsLocated, head_len, is_object, Place, IsSegment, StandsAt, same_Some, value_len, mul-le-mul_left}
-use common.{done_answer, IsMissing, OnErr, SamePlace, Table, kind_of_code, leb-true, [], flat_map, has_room, live_of}
+use common.{changed, is_read_only, with_items, AnswersWith, SegmentState, DenotesCurrent, Denotes, IsValueAt}
+use common.{ChangesBytes, Located}
+use common.{IsLocated, head_len, is_object, Place, IsSegment, IsObjectInBlock, same_Some, value_len, mul-le-mul_left}
+use common.{done_answer, IsMissing, OnErr, SameSurroundings, BackingArray, kind_of_code, leb-true, [], flat_map}
+use common.{has_room, live_of}
 use Rattle.std.proofs.lemmas.List.{nil_from_length}
 use Rattle.segment_manager.proofs.{Calling.denotes-heap, objects.Standings.standing-room, containers.ItemSteps.one-kind}
 use Rattle.segment_manager.proofs.Whole.{IsOfKind, whole-spelled, whole-values}
@@ -119,7 +122,8 @@ pub range-numbers : (d : Directory) (key : Key) (o : Object) (k : ScalarKind) (n
 range-numbers d key o k ns first zs is value = ap (range_with d first zs) is
     ∙ ap (λ v. changed d o (with_items v (replaced (numbers_in v) first zs))) value
 
-pub range-elements : (d : Directory) (key : Key) (o : Object) (k : ScalarKind) (ns : List ℤ) (t : Table) (first : ℕ)
+pub range-elements : (d : Directory) (key : Key) (o : Object) (k : ScalarKind) (ns : List ℤ) (t : BackingArray)
+    (first : ℕ)
     (zs : List ℤ) → object_at d key ≡ Some o → o.value ≡ Elements k ns t
     → with_range d key first zs ≡ changed d o (Elements k (replaced ns first zs) t)
 range-elements d key o k ns t first zs is value = ap (range_with d first zs) is
@@ -128,60 +132,61 @@ range-elements d key o k ns t first zs is value = ap (range_with d first zs) is
 -- ---- the segment
 
 -- what the call did
-pub record RangeWritten (s t : State) (new : Cut) (key : Key) (k : ScalarKind) (first : ℕ) (zs : List ℤ)
+pub record RangeWritten (s t : SegmentState) (new : WindowState) (key : Key) (k : ScalarKind) (first : ℕ) (zs : List ℤ)
     (r : Result (Unit {0}) Refusal) : Type 0 where
   pub step : WritesRange t (record s { cut = new }) key k first zs (done_answer r)
   pub refused : OnErr r ((record s { cut = new }) ≡ t)
   pub segment : IsSegment new.bytes
 
-module _ (s : State) (key : Key) (k : ScalarKind) (first : ℕ) (zs : List ℤ) where
+module _ (s : SegmentState) (key : Key) (k : ScalarKind) (first : ℕ) (zs : List ℤ) where
   -- nothing changes
-  pub range-stays : (why : Refusal) → ((d : Directory) → StandsFor s.cut.bytes d
+  pub range-stays : (why : Refusal) → ((d : Directory) → DenotesCurrent s.cut.bytes d
       → written s.mode d key k first zs ≡ (Refused why, d)) → WritesRange s s key k first zs (Refused why)
   range-stays why each = record {
     stays = record { mode = refl; place = record { before = refl; after = refl } };
     answers = λ d st. sym (ap (λ (n : Answer × Directory). n.0) (each d st));
-    denotes = λ d st. subst (λ (n : Answer × Directory). StandsFor s.cut.bytes n.1) (sym (each d st)) st;
+    denotes = λ d st. subst (λ (n : Answer × Directory). DenotesCurrent s.cut.bytes n.1) (sym (each d st)) st;
   }
 
   -- the elements are others
-  range-moves : (new : Cut) → SamePlace s.cut new → ((d : Directory) → StandsFor s.cut.bytes d
+  range-moves : (new : WindowState) → SameSurroundings s.cut new → ((d : Directory) → DenotesCurrent s.cut.bytes d
       → written s.mode d key k first zs ≡ (Done, with_range d key first zs)) → ((d : Directory)
-      → StandsFor s.cut.bytes d → Denotes current new.bytes (with_range d key first zs))
+      → DenotesCurrent s.cut.bytes d → Denotes current new.bytes (with_range d key first zs))
       → WritesRange s (record s { cut = new }) key k first zs Done
   range-moves new place each leads = record {
     stays = record { mode = refl; place = place };
     answers = λ d st. sym (ap (λ (n : Answer × Directory). n.0) (each d st));
-    denotes = λ d st. subst (λ (n : Answer × Directory). StandsFor new.bytes n.1) (sym (each d st))
+    denotes = λ d st. subst (λ (n : Answer × Directory). DenotesCurrent new.bytes n.1) (sym (each d st))
         (record { denotes = leads d st });
   }
 
   -- the same, as the view before the call names the segment
-  module _ (t : State) (view : s ≡ t) (b : IsSegment s.cut.bytes) (new : Cut) where
-    pub range-written : {u : Unit {0}} → SamePlace s.cut new → ((d : Directory) → StandsFor s.cut.bytes d
+  module _ (t : SegmentState) (view : s ≡ t) (b : IsSegment s.cut.bytes) (new : WindowState) where
+    pub range-written : {u : Unit {0}} → SameSurroundings s.cut new → ((d : Directory) → DenotesCurrent s.cut.bytes d
         → written s.mode d key k first zs ≡ (Done, with_range d key first zs)) → ((d : Directory)
-        → StandsFor s.cut.bytes d → Denotes current new.bytes (with_range d key first zs))
+        → DenotesCurrent s.cut.bytes d → Denotes current new.bytes (with_range d key first zs))
         → RangeWritten s t new key k first zs (Ok u)
     range-written place each leads = record {
-      step = subst (λ (u : State). WritesRange u (record s { cut = new }) key k first zs Done) view
+      step = subst (λ (u : SegmentState). WritesRange u (record s { cut = new }) key k first zs Done) view
           (range-moves new place each leads);
       refused = tt;
       segment = (with_range b.0 key first zs, record { denotes = leads b.0 b.1 });
     }
 
-    pub range-refused : (why e : Refusal) → e ≡ why → new ≡ s.cut → ((d : Directory) → StandsFor s.cut.bytes d
+    pub range-refused : (why e : Refusal) → e ≡ why → new ≡ s.cut → ((d : Directory) → DenotesCurrent s.cut.bytes d
         → written s.mode d key k first zs ≡ (Refused why, d)) → RangeWritten s t new key k first zs (Err e)
     range-refused why e is same each = record {
-      step = subst (λ (u : State). WritesRange u (record s { cut = new }) key k first zs (Refused e)) view
+      step = subst (λ (u : SegmentState). WritesRange u (record s { cut = new }) key k first zs (Refused e)) view
           (subst (λ (r : Refusal). WritesRange s (record s { cut = new }) key k first zs (Refused r)) (sym is)
-          (subst (λ (c : Cut). WritesRange s (record s { cut = c }) key k first zs (Refused why)) (sym same)
+          (subst (λ (c : WindowState). WritesRange s (record s { cut = c }) key k first zs (Refused why)) (sym same)
           (range-stays why each)));
       refused = seen-refused {R = Unit {0}} s t view new (Err e) same;
-      segment = subst (λ (c : Cut). IsSegment c.bytes) (sym same) b;
+      segment = subst (λ (c : WindowState). IsSegment c.bytes) (sym same) b;
     }
 
 -- no object has the key
-pub why-missing : (s : State) (key : Key) (k : ScalarKind) (first : ℕ) (zs : List ℤ) → is_read_only s.mode ≡ false
+pub why-missing : (s : SegmentState) (key : Key) (k : ScalarKind) (first : ℕ) (zs : List ℤ)
+    → is_read_only s.mode ≡ false
     → {why : Refusal} → IsMissing s key why → WritesRange s s key k first zs (Refused why)
 why-missing s key k first zs writing m =
     subst (λ (r : Refusal). WritesRange s s key k first zs (Refused r)) (sym m.is)
@@ -189,11 +194,11 @@ why-missing s key k first zs writing m =
     (λ d st. range-nowhere s.mode d key k first zs writing (m.missing d st)))
 
 -- under a key as under the handle of its object
-pub range-by_key : (s t : State) (key : Key) (o : Located) → IsLocated s key o → (k : ScalarKind) (first : ℕ)
+pub range-by_key : (s t : SegmentState) (key : Key) (o : Located) → IsLocated s key o → (k : ScalarKind) (first : ℕ)
     (zs : List ℤ) (answer : Answer) → WritesRange s t (ByHandle o.handle) k first zs answer
     → WritesRange s t key k first zs answer
 range-by_key s t key o l k first zs answer m =
-    let same : (d : Directory) → StandsFor s.cut.bytes d
+    let same : (d : Directory) → DenotesCurrent s.cut.bytes d
     → written s.mode d (ByHandle o.handle) k first zs ≡ written s.mode d key k first zs = λ d st.
     ap (λ (r : Option Object). if is_read_only s.mode then (Refused ReadOnly, d)
     else written_if (range_in (row_in k r) first (length zs)) d (range_with d first zs r))
@@ -201,7 +206,7 @@ range-by_key s t key o l k first zs answer m =
     record {
       stays = m.stays;
       answers = λ d st. m.answers d st ∙ ap (λ (n : Answer × Directory). n.0) (same d st);
-      denotes = λ d st. subst (λ (n : Answer × Directory). StandsFor t.cut.bytes n.1) (same d st) (m.denotes d st);
+      denotes = λ d st. subst (λ (n : Answer × Directory). DenotesCurrent t.cut.bytes n.1) (same d st) (m.denotes d st);
     }
 
 -- ---- kinds
@@ -216,7 +221,7 @@ pub row-none : (k : ScalarKind) (v : Value) → same_kind (Vector k) (kind_of v)
     → same_kind (Scalar k) (kind_of v) ≡ false → numbers_if k v ≡ Err WrongKind
 row-none k v e f = λ i. if e i || f i then Ok (numbers_in v) else Err WrongKind
 
-pub row-elements : (k : ScalarKind) (ns : List ℤ) (t : Table) → numbers_if k (Elements k ns t) ≡ Ok ns
+pub row-elements : (k : ScalarKind) (ns : List ℤ) (t : BackingArray) → numbers_if k (Elements k ns t) ≡ Ok ns
 row-elements k ns t = ap (λ b. if b || same_kind (Scalar k) (Vector k) then Ok ns else Err WrongKind)
     (eq-eqb (code_of (Vector k)) (code_of (Vector k)) refl)
 
@@ -232,7 +237,7 @@ row-numbers k ns =
 
 -- ---- an array
 
-module _ (old new : Cut) (d : Directory) (key : Key) (o : Object) (k : ScalarKind) (ns : List ℤ) (first : ℕ)
+module _ (old new : WindowState) (d : Directory) (key : Key) (o : Object) (k : ScalarKind) (ns : List ℤ) (first : ℕ)
     (zs : List ℤ) (den : Denotes current old.bytes d) (is : object_at d key ≡ Some o) (value : o.value ≡ Numbers k ns)
     (fits : first + length zs ≤ length ns) (good : IsTrue (list_all (is_value k) zs)) where
   -- where the elements begin that are written
@@ -240,11 +245,11 @@ module _ (old new : Cut) (d : Directory) (key : Key) (o : Object) (k : ScalarKin
   spot = value_start o + size_of k * first
 
   -- the bytes denote the directory with the new elements
-  pub array-denotes : IsChanged current old new spot (size_of k * length zs)
-      → Has (bytes_of new.bytes) spot (spelled k zs)
+  pub array-denotes : ChangesBytes current old new spot (size_of k * length zs)
+      → HasBytesAt (bytes_of new.bytes) spot (spelled k zs)
       → Denotes current new.bytes (changed d o (Numbers k (replaced ns first zs)))
   array-denotes c w =
-      let s : StandsAt old.bytes (handle o.extent) o = standing old.bytes d key o den is in
+      let s : IsObjectInBlock old.bytes (handle o.extent) o = standing old.bytes d key o den is in
       let f = key-found current d key o den.directory is in
       let roomy = object-roomy current o s.good in
       let room = roomy.room in let long : value_len o.value ≡ size_of k * length ns = ap value_len value in
@@ -254,11 +259,11 @@ module _ (old new : Cut) (d : Directory) (key : Key) (o : Object) (k : ScalarKin
       let inside = mul-le-mul_left (size_of k) fits in
       let new_good = numbers-object o k ns (replaced ns first zs) s.good value (replaced-length ns first zs fits)
       (all-replaced (is_value k) ns first zs (numbers-good o k ns s.good value) good) in
-      let was : Has (bytes_of old.bytes) (value_start o) (spelled k ns) =
+      let was : HasBytesAt (bytes_of old.bytes) (value_start o) (spelled k ns) =
       subst (λ v. IsValueAt (bytes_of old.bytes) (value_start o) v) value s.said.value in
-      let rest = subst (λ n. SameBut (bytes_of old.bytes) (bytes_of new.bytes) spot n) (sym many) c.rest in
+      let rest = subst (λ n. SameBytesExcept (bytes_of old.bytes) (bytes_of new.bytes) spot n) (sym many) c.rest in
       let at : IsValueAt (bytes_of new.bytes) (value_start o) (Numbers k (replaced ns first zs)) =
-      subst (Has (bytes_of new.bytes) (value_start o)) (flat-replaced (size_of k) (is_value k) (spelling k)
+      subst (HasBytesAt (bytes_of new.bytes) (value_start o)) (flat-replaced (size_of k) (is_value k) (spelling k)
       (λ z v. spelling-length k z) ns first zs (numbers-good o k ns s.good value) good)
       (HasBytesAt-patched (value_start o) (size_of k * first) (spelled k ns) (spelled k zs)
       (omega (arith, many, all, step, inside)) rest was w) in
@@ -275,7 +280,7 @@ record HasNumbers (d : Directory) (o : Located) (k : ScalarKind) : Type 0 where
   numbers : List ℤ
   value : object.value ≡ Numbers k numbers
 
-module _ (s : State) (o : Located) (l : IsLocated s (ByHandle o.handle) o) (k : ScalarKind) (first : ℕ)
+module _ (s : SegmentState) (o : Located) (l : IsLocated s (ByHandle o.handle) o) (k : ScalarKind) (first : ℕ)
     (zs : List ℤ) where
   -- of another kind, and no vector
   pub array-other : is_read_only s.mode ≡ false → ((j : ScalarKind) → o.kind ≡ Vector j → ⊥)
@@ -288,7 +293,7 @@ module _ (s : State) (o : Located) (l : IsLocated s (ByHandle o.handle) o) (k : 
       ∙ other)))
 
   module _ (is : o.kind ≡ Scalar k) where
-    numbers-of : (d : Directory) → StandsFor s.cut.bytes d → HasNumbers d o k
+    numbers-of : (d : Directory) → DenotesCurrent s.cut.bytes d → HasNumbers d o k
     numbers-of d st =
         let p = said-at s (ByHandle o.handle) o l d st in
         let kind : o.kind ≡ kind_of p.object.value = ap (λ (q : Located). q.kind) p.said in
@@ -314,10 +319,11 @@ module _ (s : State) (o : Located) (l : IsLocated s (ByHandle o.handle) o) (k : 
     abbrev pub row_spot : ℕ
     row_spot = o.handle + (value_in o + size_of k * first)
 
-    module _ (t : State) (view : s ≡ t) (b : IsSegment s.cut.bytes) (new : Cut) (writing : is_read_only t.mode ≡ false)
+    module _ (t : SegmentState) (view : s ≡ t) (b : IsSegment s.cut.bytes) (new : WindowState)
+        (writing : is_read_only t.mode ≡ false)
         (fits : nat_le (first + length zs) o.count ≡ true) (good : IsTrue (list_all (is_value k) zs))
-        (c : IsChanged current s.cut new row_spot (size_of k * length zs))
-        (w : Has (bytes_of new.bytes) row_spot (spelled k zs)) where
+        (c : ChangesBytes current s.cut new row_spot (size_of k * length zs))
+        (w : HasBytesAt (bytes_of new.bytes) row_spot (spelled k zs)) where
       inside : {d : Directory} (h : HasNumbers d o k) → first + length zs ≤ length h.numbers
       inside h = let l = leb-true (first + length zs) o.count fits in omega (arith, l, many h)
 
@@ -331,34 +337,37 @@ module _ (s : State) (o : Located) (l : IsLocated s (ByHandle o.handle) o) (k : 
       array-written = range-written s (ByHandle o.handle) k first zs t view b new c.place (λ d st.
           let h = numbers-of d st in
           range-done s.mode d (ByHandle o.handle) k first zs
-          (subst (λ (u : State). is_read_only u.mode ≡ false) (sym view) writing) h.object h.is h.numbers (row-of h)
+          (subst (λ (u : SegmentState). is_read_only u.mode ≡ false) (sym view) writing) h.object h.is h.numbers
+          (row-of h)
           (inside h)) (λ d st.
           let h = numbers-of d st in
           subst (Denotes current new.bytes)
           (sym (range-numbers d (ByHandle o.handle) h.object k h.numbers first zs h.is h.value))
           (array-denotes s.cut new d (ByHandle o.handle) h.object k h.numbers first zs st.denotes h.is h.value
           (inside h)
-          good (subst (λ at. IsChanged current s.cut new at (size_of k * length zs)) (same-spot h) c)
-          (subst (λ at. Has (bytes_of new.bytes) at (spelled k zs)) (same-spot h) w)))
+          good (subst (λ at. ChangesBytes current s.cut new at (size_of k * length zs)) (same-spot h) c)
+          (subst (λ at. HasBytesAt (bytes_of new.bytes) at (spelled k zs)) (same-spot h) w)))
 
 -- ---- no other byte of an array
 
-abbrev But : State → State → ℕ → Result Place Refusal → Type 0
-But old new n r = IfOk r (λ (p : Place). SameBut (bytes_of old.cut.bytes) (bytes_of new.cut.bytes) (p.handle + p.at) n)
+abbrev But : SegmentState → SegmentState → ℕ → Result Place Refusal → Type 0
+But old new n r = IfOk r (λ (p : Place).
+    SameBytesExcept (bytes_of old.cut.bytes) (bytes_of new.cut.bytes) (p.handle + p.at) n)
 
-module _ (s t : State) (o : Located) (l : IsLocated s (ByHandle o.handle) o) (k : ScalarKind) (first n : ℕ) where
-  but-if : (d : Directory) → StandsFor s.cut.bytes d → ((p : Place) → ElementAt s.cut.bytes d (ByHandle o.handle) k
-      first p → SameBut (bytes_of s.cut.bytes) (bytes_of t.cut.bytes) (p.handle + p.at) (size_of k * n))
+module _ (s t : SegmentState) (o : Located) (l : IsLocated s (ByHandle o.handle) o) (k : ScalarKind) (first n : ℕ) where
+  but-if : (d : Directory) → DenotesCurrent s.cut.bytes d → ((p : Place) → ElementAt s.cut.bytes d (ByHandle o.handle) k
+      first p → SameBytesExcept (bytes_of s.cut.bytes) (bytes_of t.cut.bytes) (p.handle + p.at) (size_of k * n))
       → (r : Result Place Refusal) → place_at d (ByHandle o.handle) k first ≡ r → But s t (size_of k * n) r
   but-if d st each (Ok p) e = each p (element-found st.denotes (sym e))
   but-if d st each (Err why) e = tt
 
-  pub array-but : SameBut (bytes_of s.cut.bytes) (bytes_of t.cut.bytes) (o.handle + (value_in o + size_of k * first))
+  pub array-but : SameBytesExcept (bytes_of s.cut.bytes) (bytes_of t.cut.bytes)
+      (o.handle + (value_in o + size_of k * first))
       (size_of k * n) → ChangesRange s t (ByHandle o.handle) k first n
   array-but but d st = but-if d st (λ p x.
       let q = said-at s (ByHandle o.handle) o l d st in
       let same : o ≡ located x.object = q.said ∙ ap located (same_Some q.object x.object (sym q.is ∙ x.is)) in
-      subst (λ at. SameBut (bytes_of s.cut.bytes) (bytes_of t.cut.bytes) at (size_of k * n))
+      subst (λ at. SameBytesExcept (bytes_of s.cut.bytes) (bytes_of t.cut.bytes) at (size_of k * n))
       (ap (λ (q : Located). q.handle + (value_in q + size_of k * first)) same
       ∙ (λ j. sym x.stands.at j + sym x.at j)) but) (place_at d (ByHandle o.handle) k first) refl
 
@@ -378,7 +387,7 @@ place_of r k i = elim r as (λ _. Result Place Refusal) [
       [ Ok at ↦ Ok (record { handle = handle o.extent; at = at }) | Err r ↦ Err r ]
 ]
 
-pub but-by_key : (s t : State) (key : Key) (o : Located) → IsLocated s key o → (k : ScalarKind) (first n : ℕ)
+pub but-by_key : (s t : SegmentState) (key : Key) (o : Located) → IsLocated s key o → (k : ScalarKind) (first n : ℕ)
     → ChangesRange s t (ByHandle o.handle) k first n → ChangesRange s t key k first n
 but-by_key s t key o l k first n m = λ d st.
     subst (λ (r : Option Object). But s t (size_of k * n) (place_of r k first)) (sym (same-object s key o l d st))
@@ -410,7 +419,7 @@ pub row-test : {T : Type 0} (w : T → ℤ) (xs : List T) (first : ℕ) {count n
 row-test w xs first e f g = (λ i. nat_le (first + length-map xs w i) (sym e i)) ∙ sym f ∙ g
 
 -- nothing was to be written
-pub array-empty : (s : State) (o : Located) → IsLocated s (ByHandle o.handle) o → (k : ScalarKind) (first : ℕ)
+pub array-empty : (s : SegmentState) (o : Located) → IsLocated s (ByHandle o.handle) o → (k : ScalarKind) (first : ℕ)
     (zs : List ℤ) → o.kind ≡ Scalar k → is_read_only s.mode ≡ false → nat_le (first + length zs) o.count ≡ true
     → length zs ≡ 0 → WritesRange s s (ByHandle o.handle) k first zs Done
 array-empty s o l k first zs is writing fits none =
@@ -429,11 +438,12 @@ array-empty s o l k first zs is writing fits none =
       place = record { before = refl; after = refl };
       live = denotes-heap current s.cut.bytes d st.denotes;
       rest = record { at = λ j out. refl };
-    }) (subst (λ ys. Has (bytes_of s.cut.bytes) (value_start h.object + size_of k * first) (spelled k ys)) (sym nothing)
+    }) (subst (λ ys. HasBytesAt (bytes_of s.cut.bytes) (value_start h.object + size_of k * first) (spelled k ys))
+    (sym nothing)
     refl)))
 
 -- its block has the room
-pub array-room : (s : State) (b : IsSegment s.cut.bytes) (o : Located) → IsLocated s (ByHandle o.handle) o
+pub array-room : (s : SegmentState) (b : IsSegment s.cut.bytes) (o : Located) → IsLocated s (ByHandle o.handle) o
     → (k : ScalarKind) (first : ℕ) (zs : List ℤ) → o.kind ≡ Scalar k → nat_le (first + length zs) o.count ≡ true
     → {at size n : ℕ} → at ≡ value_in o → size ≡ size_of k → n ≡ size_of k * length zs
     → IsTrue (has_room (live_of s.cut.bytes) o.handle (at + size * first + n))
@@ -453,11 +463,12 @@ array-room s b o loc k first zs is fits {at} {size} {n} e f g =
 
 -- values of a type are spelled where the elements stand
 module _ {T : Type 0} {k : ScalarKind} {w : T → ℤ} {size : ℕ} {test : T → Bool} {sp : T → List ℕ}
-    (law : IsOfKind k w size test sp) (s t : State) (view : s ≡ t) (b : IsSegment s.cut.bytes) (o : Located)
+    (law : IsOfKind k w size test sp) (s t : SegmentState) (view : s ≡ t) (b : IsSegment s.cut.bytes) (o : Located)
     (l : IsLocated t (ByHandle o.handle) o) (first : ℕ) (values : List T) (is : o.kind ≡ Scalar k)
     (writing : is_read_only t.mode ≡ false) (fits : nat_le (first + length (map w values)) o.count ≡ true)
     {at each : ℕ} (at_is : at ≡ value_in o) (each_is : each ≡ size) (good : IsTrue (list_all test values))
-    (new : Cut) (c : IsChanged current s.cut new (o.handle + (at + each * first)) (size * length values)) where
+    (new : WindowState) (c : ChangesBytes current s.cut new (o.handle + (at + each * first))
+    (size * length values)) where
   abbrev wholes : List ℤ
   wholes = map w values
 
@@ -467,29 +478,31 @@ module _ {T : Type 0} {k : ScalarKind} {w : T → ℤ} {size : ℕ} {test : T �
   long-is : size * length values ≡ size_of k * length wholes
   long-is = λ i. law.long i * sym (length-map values w) i
 
-  change : IsChanged current s.cut new (o.handle + (value_in o + size_of k * first)) (size_of k * length wholes)
-  change = subst (λ m. IsChanged current s.cut new m (size_of k * length wholes)) spot-is
-      (subst (λ n. IsChanged current s.cut new (o.handle + (at + each * first)) n) long-is c)
+  change : ChangesBytes current s.cut new (o.handle + (value_in o + size_of k * first)) (size_of k * length wholes)
+  change = subst (λ m. ChangesBytes current s.cut new m (size_of k * length wholes)) spot-is
+      (subst (λ n. ChangesBytes current s.cut new (o.handle + (at + each * first)) n) long-is c)
 
-  pub array-spelled : Has (bytes_of new.bytes) (o.handle + (at + each * first)) (flat_map sp values)
+  pub array-spelled : HasBytesAt (bytes_of new.bytes) (o.handle + (at + each * first)) (flat_map sp values)
       → RangeWritten s t new (ByHandle o.handle) k first wholes (Ok tt)
   array-spelled h =
-      array-written s o (subst (λ (u : State). IsLocated u (ByHandle o.handle) o) (sym view) l) k first wholes is t
+      array-written s o (subst (λ (u : SegmentState). IsLocated u (ByHandle o.handle) o) (sym view) l) k first
+      wholes is t
       view b new
       writing fits (sym (whole-values k w size test sp law values) ∙ good) change
-      (subst (λ m. Has (bytes_of new.bytes) m (spelled k wholes)) spot-is
-      (subst (Has (bytes_of new.bytes) (o.handle + (at + each * first))) (whole-spelled k w size test sp law values) h))
+      (subst (λ m. HasBytesAt (bytes_of new.bytes) m (spelled k wholes)) spot-is
+      (subst (HasBytesAt (bytes_of new.bytes) (o.handle + (at + each * first)))
+      (whole-spelled k w size test sp law values) h))
 
   -- no other byte changes
   pub array-framed : ChangesRange t (record s { cut = new }) (ByHandle o.handle) k first (length values)
   array-framed = array-but t (record s { cut = new }) o l k first (length values)
-      (subst (λ (u : State). SameBut (bytes_of u.cut.bytes) (bytes_of new.bytes)
+      (subst (λ (u : SegmentState). SameBytesExcept (bytes_of u.cut.bytes) (bytes_of new.bytes)
       (o.handle + (value_in o + size_of k * first)) (size_of k * length values)) view
-      (subst (λ n. SameBut (bytes_of s.cut.bytes) (bytes_of new.bytes)
+      (subst (λ n. SameBytesExcept (bytes_of s.cut.bytes) (bytes_of new.bytes)
       (o.handle + (value_in o + size_of k * first)) (size_of k * n)) (length-map values w) change.rest))
 
 -- a vector of another kind
-pub vector-other : (s : State) (o : Located) → IsLocated s (ByHandle o.handle) o → (k : ScalarKind) (first : ℕ)
+pub vector-other : (s : SegmentState) (o : Located) → IsLocated s (ByHandle o.handle) o → (k : ScalarKind) (first : ℕ)
     (zs : List ℤ) {m : ScalarKind} → m ≡ k → (j : ScalarKind) → o.kind ≡ Vector j → is_read_only s.mode ≡ false
     → {why : Refusal} → Err why ≡ container_in o (Vector m)
     → WritesRange s s (ByHandle o.handle) k first zs (Refused why)

@@ -1,11 +1,13 @@
 -- A call that changes a vector or text of an object is one step of the directory machine.
 use Rattle.segment_manager.proofs.Common as common
 use common.{◌≡◌, refl, sym, ap, ◌∙◌, ℕ, true, false, Bool, Option, Some, None, Result, Ok, Err, List, if◌then◌else◌}
-use common.{◌*◌, ◌&&◌, IsTrue, nat_le, option_map, Cut, live_of, Table, Extent, LiveSet, regrow, Kind, Refusal, NoSpace}
-use common.{NotFound, WrongKind, ReadOnly, same_kind, Key, Command, is_changing, Place, grown_table, Mode, same_Some}
-use common.{Answer, Refused, Contents, IsRefilled, container_at, container_place, contents_of, has_values, Value}
+use common.{◌*◌, ◌&&◌, IsTrue, nat_le, option_map, WindowState, live_of, BackingArray, Extent, LiveSet, regrow, Kind}
+use common.{Refusal, NoSpace}
+use common.{NotFound, WrongKind, ReadOnly, same_kind, Key, Command, is_changing, Place, grown_backing, Mode, same_Some}
+use common.{Answer, Refused, Contents, RefillsContainer, container_at, container_place, contents_of, has_values, Value}
 use common.{Object, Directory, kind_of, live, object_at, Denotes, perform, with_capacity, Request, RegrownNeed, Refuse}
-use common.{Answers, IsSegment, IsStep, IsStepOfKind, State, StandsFor, changed, effect, Plan, is_read_only}
+use common.{AnswersWith, IsSegment, TakesStep, TakesStepOfKind, SegmentState, DenotesCurrent, changed, effect, Plan}
+use common.{is_read_only}
 use common.{step_of_kind, step, arith, le-ltb, lt-ltb, resized, with_array}
 use Rattle.segment_manager.proofs.Steps.{IsMove, IsOpenFor, by_no_change, by_no_change_of_kind, by_step_of_kind}
 use Rattle.segment_manager.proofs.Steps.{open-writing, step-effect, step_of_kind-found, step_of_kind-not_found}
@@ -27,17 +29,18 @@ pub asked-met : {A : Type 0} (beside : A → LiveSet) (made : Extent → A) (d :
 asked-met beside made d l next e None = refl
 asked-met beside made d l next e (Some x) = ap (λ (m : LiveSet). perform d m (next (made x))) (e x)
 
-abbrev pub of_places : ℕ → Extent → Table
+abbrev pub of_places : ℕ → Extent → BackingArray
 of_places n x = record { capacity = n; extent = Some x }
 
 -- a table with so many places or more
-abbrev pub then_room : Directory → LiveSet → Table → (Table → Plan) → Option Table → Answer × Directory
+abbrev pub then_room : Directory → LiveSet → BackingArray → (BackingArray → Plan) → Option BackingArray
+    → Answer × Directory
 then_room d l t = then_by (with_array l t) d
 
-abbrev grown_set : LiveSet → Table → Bool → LiveSet
+abbrev grown_set : LiveSet → BackingArray → Bool → LiveSet
 grown_set l u b = if b then elim u.extent as (λ _. LiveSet) [ None ↦ l | Some x ↦ resized l x ] else l
 
-room-if : (d : Directory) (l : LiveSet) (each : ℕ) (t : Table) (n : ℕ) (next : Table → Plan) (b : Bool)
+room-if : (d : Directory) (l : LiveSet) (each : ℕ) (t : BackingArray) (n : ℕ) (next : BackingArray → Plan) (b : Bool)
     → nat_le n t.capacity ≡ b
     → perform d l (if b then next t else Request (RegrownNeed t.extent (each * n)) (λ x. next (of_places n x)))
     ≡ then_room d l t next (if b then Some t else option_map (of_places n) (regrow l t.extent (each * n)))
@@ -46,16 +49,16 @@ room-if d l each t n next true h =
 room-if d l each t n next false h = asked-met (with_array l t) (of_places n) d l next (λ x i. grown_set l
     (of_places n x) (sym (lt-ltb t.capacity n (leb-false n t.capacity h)) i)) (regrow l t.extent (each * n))
 
-pub room-grown : (d : Directory) (l : LiveSet) (each : ℕ) (t : Table) (n : ℕ) (next : Table → Plan)
-    → perform d l (with_capacity each n t next) ≡ then_room d l t next (grown_table l each n t)
-unfolding grown_table
+pub room-grown : (d : Directory) (l : LiveSet) (each : ℕ) (t : BackingArray) (n : ℕ) (next : BackingArray → Plan)
+    → perform d l (with_capacity each n t next) ≡ then_room d l t next (grown_backing l each n t)
+unfolding grown_backing
 room-grown d l each t n next = room-if d l each t n next (nat_le n t.capacity) refl
 
 -- ---- a directory
 
 -- For a directory that the old bytes denote: the object of the key, its next value, what was done to it, and what the
 -- command's plan comes to.
-pub record Refill (old new : Cut) (d : Directory) (key : Key) (c : Command) (answer : Answer) : Type 0 where
+pub record Refill (old new : WindowState) (d : Directory) (key : Key) (c : Command) (answer : Answer) : Type 0 where
   pub object : Object
   pub is : object_at d key ≡ Some object
   pub value : Value
@@ -65,19 +68,20 @@ pub record Refill (old new : Cut) (d : Directory) (key : Key) (c : Command) (ans
   pub next : Contents
   pub holds : contents_of value ≡ Some next
   pub values : IsTrue (has_values value)
-  pub change : IsRefilled old new (container_place object) was next
+  pub change : RefillsContainer old new (container_place object) was next
   pub outcome : perform d (live d) (effect d c) ≡ (answer, changed d object value)
 
 -- the plan asks for room, where there is some or none
-pub room-asked : (format : ℕ) (b : List ℕ) (d : Directory) (c : Command) (each n : ℕ) (t : Table) (r : Option Table)
-    (next : Table → Plan) → Denotes format b d → effect d c ≡ with_capacity each n t next
-    → grown_table (live_of b) each n t ≡ r → perform d (live d) (effect d c) ≡ then_room d (live d) t next r
+pub room-asked : (format : ℕ) (b : List ℕ) (d : Directory) (c : Command) (each n : ℕ) (t : BackingArray)
+    (r : Option BackingArray)
+    (next : BackingArray → Plan) → Denotes format b d → effect d c ≡ with_capacity each n t next
+    → grown_backing (live_of b) each n t ≡ r → perform d (live d) (effect d c) ≡ then_room d (live d) t next r
 room-asked format b d c each n t r next k e g = ap (perform d (live d)) e ∙ room-grown d (live d) each t n next
-    ∙ ap (then_room d (live d) t next) (ap (λ l. grown_table l each n t) (sym (denotes-live format b d k)) ∙ g)
+    ∙ ap (then_room d (live d) t next) (ap (λ l. grown_backing l each n t) (sym (denotes-live format b d k)) ∙ g)
 
 -- the new bytes stand for the directory with the next value
-pub refill-moves : (s : State) (new : Cut) (d : Directory) (key : Key) (c : Command) (answer : Answer)
-    (next : Answer × Directory) → StandsFor s.cut.bytes d → (r : Refill s.cut new d key c answer)
+pub refill-moves : (s : SegmentState) (new : WindowState) (d : Directory) (key : Key) (c : Command) (answer : Answer)
+    (next : Answer × Directory) → DenotesCurrent s.cut.bytes d → (r : Refill s.cut new d key c answer)
     → next ≡ perform d (live d) (effect d c) → IsMove (record s { cut = new }) answer next
 refill-moves s new d key c answer next k r e = record {
   after = changed d r.object r.value;
@@ -89,8 +93,8 @@ refill-moves s new d key c answer next k r e = record {
 }
 
 -- a plan that comes to a refusal
-pub refused-steps : (s : State) (c : Command) (r : Refusal) → is_read_only s.mode ≡ false → ((d : Directory)
-    → StandsFor s.cut.bytes d → perform d (live d) (effect d c) ≡ (Refused r, d)) → IsStep s s c (Refused r)
+pub refused-steps : (s : SegmentState) (c : Command) (r : Refusal) → is_read_only s.mode ≡ false → ((d : Directory)
+    → DenotesCurrent s.cut.bytes d → perform d (live d) (effect d c) ≡ (Refused r, d)) → TakesStep s s c (Refused r)
 refused-steps s c r writing each =
     by_no_change s c (Refused r) (λ d k. step-effect s.mode d c (open-writing s.mode c writing) ∙ each d k)
 
@@ -155,8 +159,8 @@ holds-at d key kind p e = by-kind d key kind (λ f. not-Err p NotFound (e ∙ to
     ∙ told-some d key kind placed o true f g in record { object = o; is = f; same = g; at = cc })
 
 -- and why every call for the kind is refused
-pub finds-no_container : (s : State) (key : Key) (kind : Kind) (c : Command) (r : Refusal) → IsOpenFor s.mode c
-    → Answers s (λ d. container_at d key kind) (Err r) → IsStepOfKind s s key kind c (Refused r)
+pub finds-no_container : (s : SegmentState) (key : Key) (kind : Kind) (c : Command) (r : Refusal) → IsOpenFor s.mode c
+    → AnswersWith s (λ d. container_at d key kind) (Err r) → TakesStepOfKind s s key kind c (Refused r)
 finds-no_container s key kind c r w a = by_no_change_of_kind s key kind c (Refused r) (λ d l. by-kind d key kind
     (λ f. step_of_kind-not_found s.mode d key kind c w f
     ∙ (λ i. (Refused (sym (same_Err r NotFound (a.answers d l ∙ told-none d key kind placed f)) i), d)))
@@ -167,10 +171,11 @@ finds-no_container s key kind c r w a = by_no_change_of_kind s key kind c (Refus
 -- ---- the call
 
 -- a call for objects of one kind is the step, where the object of the key is changed so
-pub refill-steps_of_kind : (s : State) (new : Cut) (key : Key) (kind : Kind) (p : Place)
-    → Answers s (λ d. container_at d key kind) (Ok p) → (c : Command) (answer : Answer) → is_read_only s.mode ≡ false
-    → IsSegment s.cut.bytes → ((d : Directory) → StandsFor s.cut.bytes d → Refill s.cut new d key c answer)
-    → IsStepOfKind s (record s { cut = new }) key kind c answer
+pub refill-steps_of_kind : (s : SegmentState) (new : WindowState) (key : Key) (kind : Kind) (p : Place)
+    → AnswersWith s (λ d. container_at d key kind) (Ok p) → (c : Command) (answer : Answer)
+    → is_read_only s.mode ≡ false
+    → IsSegment s.cut.bytes → ((d : Directory) → DenotesCurrent s.cut.bytes d → Refill s.cut new d key c answer)
+    → TakesStepOfKind s (record s { cut = new }) key kind c answer
 refill-steps_of_kind s new key kind p found c answer writing b each = by_step_of_kind s (record s { cut = new }) key
     kind c answer (record { mode = refl; place = (each b.0 b.1).change.change.place }) (λ d l.
     let r : Refill s.cut new d key c answer = each d l in
@@ -188,8 +193,8 @@ unfolding step
 same-step mode d c c' e f = λ i. perform d (live d) (if is_read_only mode && e i then Refuse ReadOnly else f i)
 
 -- what is a step of one is a step of the other
-pub same_plan-steps : (old new : State) (c c' : Command) (answer : Answer) → is_changing c ≡ is_changing c'
-    → ((d : Directory) → StandsFor old.cut.bytes d → effect d c ≡ effect d c')
-    → IsStep old new c' answer → IsStep old new c answer
+pub same_plan-steps : (old new : SegmentState) (c c' : Command) (answer : Answer) → is_changing c ≡ is_changing c'
+    → ((d : Directory) → DenotesCurrent old.cut.bytes d → effect d c ≡ effect d c')
+    → TakesStep old new c' answer → TakesStep old new c answer
 same_plan-steps old new c c' answer e each = moves-same old new answer (λ d. step old.mode d c')
     (λ d. step old.mode d c) (λ d l. sym (same-step old.mode d c c' e (each d l)))

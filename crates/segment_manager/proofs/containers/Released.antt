@@ -1,11 +1,14 @@
 -- What becomes of an object whose contents are released, for each kind of value.
 use Rattle.segment_manager.proofs.Common as common
-use common.{◌≡◌, IsExchanged, StringsKind, IsSomeTexts, container_at, container_place, value_extents, ReleasesPairs}
-use common.{refl, sym, ◌∙◌, ◌+◌, Some, Ok, List, [], Cut, Kind, Map, Key, Head, Texts, true, ap, subst, length, IsTrue}
+use common.{◌≡◌, ExchangesBlocks, StringsKind, IsTextsContainer, container_at, container_place, value_extents}
+use common.{ReleasesPairs}
+use common.{refl, sym, ◌∙◌, ◌+◌, Some, Ok, List, [], WindowState, Kind, Map, Key, Head, Texts, true, ap, subst, length}
+use common.{IsTrue}
 use common.{eq-eqb, Extent, handle, Scalar, Place, Value, Pairs, Object, padded, changed, append-nil, same_Some}
-use common.{ScalarKind, IsTextsNow, IsValueAt, HoldsObject, Directory, is_object, numbers_of, ℕ, current, code_of}
-use common.{Denotes, Becomes, Empties, emptied, has_key, kind_of, HasPairs, IsHeadOf, StandsAt, bytes_of, no_table}
-use common.{ByHandle, place_at, object_at, value_len, head_len, HasObject, StandsFor}
+use common.{ScalarKind, ReplacesTexts, IsValueAt, HoldsObject, Directory, is_object, numbers_of, ℕ, current, code_of}
+use common.{Denotes, Becomes, Empties, emptied, has_key, kind_of, HasPairs, IsHeadOf, IsObjectInBlock, bytes_of}
+use common.{no_backing}
+use common.{ByHandle, place_at, object_at, value_len, head_len, HasObject, DenotesCurrent}
 use Rattle.segment_manager.proofs.containers.Contained.{good-with, start-place, Shape, contents-shape, value-said}
 use Rattle.segment_manager.proofs.containers.Emptied.{IsEmptied, changed-itself, emptied-is, emptied-numbers}
 use Rattle.segment_manager.proofs.objects.Exchanged.{Exchange, between, denotes-container}
@@ -23,9 +26,10 @@ use Rattle.segment_manager.specs.{containers.Contents.has_storage, containers.St
 
 -- ---- the object of a handle
 
-pub held-stands : (b : List ℕ) (h : ℕ) (d : Directory) (o : Object) → StandsFor b d → object_at d (ByHandle h) ≡ Some o
-    → StandsAt b h o
-held-stands b h d o k e = subst (λ g. StandsAt b g o) (sym (found-handle h d.objects o (record { is = e })))
+pub held-stands : (b : List ℕ) (h : ℕ) (d : Directory) (o : Object) → DenotesCurrent b d
+    → object_at d (ByHandle h) ≡ Some o
+    → IsObjectInBlock b h o
+held-stands b h d o k e = subst (λ g. IsObjectInBlock b g o) (sym (found-handle h d.objects o (record { is = e })))
     (standing b d (ByHandle h) o k.denotes e)
 
 pub held-object : (b : List ℕ) (h : ℕ) → HoldsObject b h → HasObject b h
@@ -35,7 +39,7 @@ held-object b h x = (x.object, held-stands b h x.directory x.object x.stands x.i
 abbrev pub place_behind : ℕ → ℕ → Place
 place_behind h at = record { handle = h; at = at }
 
-pub behind-head : (b : List ℕ) (h at : ℕ) (o : Object) (head : Head) → StandsAt b h o → IsHeadOf o head
+pub behind-head : (b : List ℕ) (h at : ℕ) (o : Object) (head : Head) → IsObjectInBlock b h o → IsHeadOf o head
     → at ≡ head_len + padded head.name_len → container_place o ≡ place_behind h at
 behind-head b h at o head s said e =
     let there : at ≡ head_len + padded (length o.name) = e ∙ ap (λ (n : ℕ). head_len + padded n) said.name_len in
@@ -50,11 +54,11 @@ found-container d key kind o p e f g = ap Ok (sym g) ∙ sym
 
 -- it says that elements of one length stand behind it, a vector of texts, or a map
 module _ {b : List ℕ} {h at : ℕ} {head : Head} (said : IsReadAt b h head)
-    (behind : at ≡ head_len + padded head.name_len) {d : Directory} {o : Object} (s : StandsFor b d)
+    (behind : at ≡ head_len + padded head.name_len) {d : Directory} {o : Object} (s : DenotesCurrent b d)
     (e : object_at d (ByHandle h) ≡ Some o) where
   read-place : (kind : Kind) → head.kind ≡ kind → Ok (place_behind h at) ≡ container_at d (ByHandle h) kind
   read-place kind is =
-      let there : StandsAt b h o = held-stands b h d o s e in
+      let there : IsObjectInBlock b h o = held-stands b h d o s e in
       found-container d (ByHandle h) kind o (place_behind h at) e (sym (said o there).kind ∙ is)
       (behind-head b h at o head there (said o there) behind)
 
@@ -76,7 +80,7 @@ module _ (b : List ℕ) (h at : ℕ) (head : Head) (x : HoldsObject b h) (said :
   some-elements stored no_texts =
       let e = read-elements said behind x.stands x.is stored no_texts in (e.len, (e.table, (e.bytes, e.stands)))
 
-  pub some-texts : head.kind ≡ StringsKind → IsSomeTexts b (place_behind h at)
+  pub some-texts : head.kind ≡ StringsKind → IsTextsContainer b (place_behind h at)
   some-texts is = let t = read-texts said behind x.stands x.is is in (t.texts, (t.table, t.stand))
 
   pub some-pairs : (k l : ScalarKind) → head.kind ≡ Map k l → HasPairs k l b (place_behind h at)
@@ -85,7 +89,7 @@ module _ (b : List ℕ) (h at : ℕ) (head : Head) (x : HoldsObject b h) (said :
 -- ---- what becomes of the object
 
 -- numbers have no block to give back
-pub number-contents : (old : Cut) (h : ℕ) (head : Head) → IsReadAt old.bytes h head → (k : ScalarKind)
+pub number-contents : (old : WindowState) (h : ℕ) (head : Head) → IsReadAt old.bytes h head → (k : ScalarKind)
     → head.kind ≡ Scalar k → Empties old old h
 number-contents old h head said k is d o s e =
     let kind : kind_of o.value ≡ Scalar k = sym (said o (held-stands old.bytes h d o s e)).kind ∙ is in
@@ -98,9 +102,9 @@ number-contents old h head said k is d o s e =
 
 -- All blocks of the value of a container are gone and none came, and its 24 bytes say that nothing is in it, as a call
 -- says it of the container at a place: all that is to be known of a call that releases a kind of value.
-container-released : (old new : Cut) (d : Directory) (key : Key) (o : Object) (p : Place) (v : Value)
+container-released : (old new : WindowState) (d : Directory) (key : Key) (o : Object) (p : Place) (v : Value)
     → Denotes current old.bytes d → object_at d key ≡ Some o → o.value ≡ v → container_place o ≡ p
-    → value_len v ≡ 24 → IsExchanged current old new (place_at p) 24 (value_extents v) []
+    → value_len v ≡ 24 → ExchangesBlocks current old new (place_at p) 24 (value_extents v) []
     → IsValueAt (bytes_of new.bytes) (place_at p) (emptied v) → Becomes old new (changed d o (emptied o.value))
 container-released old new d key o p v k e is at len change said =
     let start : place_at p ≡ value_start o = sym (ap place_at at) ∙ sym (start-place o) in
@@ -116,14 +120,14 @@ container-released old new d key o p v k e is at len change said =
     record {
       place = change.place;
       denotes = denotes-container current old new d o (emptied o.value) gone [] k f x empty.kind empty.count
-          (ap value_len is ∙ len) was good (subst (λ from. IsExchanged current old new from 24 gone []) start
-          (subst (λ w. IsExchanged current old new (place_at p) 24 (value_extents w) []) (sym is) change))
+          (ap value_len is ∙ len) was good (subst (λ from. ExchangesBlocks current old new from 24 gone []) start
+          (subst (λ w. ExchangesBlocks current old new (place_at p) 24 (value_extents w) []) (sym is) change))
           (subst (λ from. IsValueAt (bytes_of new.bytes) from (emptied o.value)) start
           (subst (λ w. IsValueAt (bytes_of new.bytes) (place_at p) (emptied w)) (sym is) said));
     }
 
 -- so it is of elements of one length, of a vector of texts, and of a map
-module _ (old new : Cut) (h at : ℕ) (head : Head) (said : IsReadAt old.bytes h head)
+module _ (old new : WindowState) (h at : ℕ) (head : Head) (said : IsReadAt old.bytes h head)
     (behind : at ≡ head_len + padded head.name_len) where
   pub elements-contents : has_storage head.kind ≡ true → (head.kind ≡ StringsKind → ⊥)
       → FreesStorage old new (place_behind h at) (each_of head.kind) → Empties old new h
@@ -135,14 +139,14 @@ module _ (old new : Cut) (h at : ℕ) (head : Head) (said : IsReadAt old.bytes h
       let shape : Shape p.value _ = contents-shape p.value _ x.held in
       subst (λ p. Becomes old new (changed d p (emptied p.value))) same (container-released old new d (ByHandle h) p
       (place_behind h at) p.value s.denotes x.found.is refl x.found.at shape.len (subst (λ (gone : List Extent).
-      IsExchanged current old new (place_at (place_behind h at)) 24 gone []) (sym shape.extents) now.change)
+      ExchangesBlocks current old new (place_at (place_behind h at)) 24 gone []) (sym shape.extents) now.change)
       (value-said (bytes_of new.bytes) (place_at (place_behind h at)) (emptied p.value) _ (nothing-left p.value _
       x.held) now.stands.words))
 
   pub texts-contents : head.kind ≡ StringsKind → ReleasesTexts old new (place_behind h at) → Empties old new h
   texts-contents is released d o s e =
       let x = read-texts said behind s e is in let same : x.object ≡ o = same_Some x.object o (sym x.is ∙ e) in
-      let now : IsTextsNow old new (place_behind h at) (value_extents (Texts x.texts x.table)) [] [] no_table =
+      let now : ReplacesTexts old new (place_behind h at) (value_extents (Texts x.texts x.table)) [] [] no_backing =
       released x.texts x.table x.stand in
       subst (λ p. Becomes old new (changed d p (emptied p.value))) same
       (container-released old new d (ByHandle h) x.object (place_behind h at)

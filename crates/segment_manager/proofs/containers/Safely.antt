@@ -1,27 +1,30 @@
 -- A call on the container of an object that answers nothing: its step, and that it changes nothing where it is refused.
 use Rattle.segment_manager.proofs.Common as common
-use common.{NoSpace, OutOfRange, ◌⊎◌, inl, inr, IsStep, is_read_only, ◌≡◌, refl, sym, ap, subst, ◌∙◌, Bool, true}
-use common.{false, Option, Some, None, Result, Ok, Err, OnErr, Cut, Kind, Refusal, NotFound, Key, Command, Place}
+use common.{NoSpace, OutOfRange, ◌⊎◌, inl, inr, TakesStep, is_read_only, ◌≡◌, refl, sym, ap, subst, ◌∙◌, Bool, true}
+use common.{false, Option, Some, None, Result, Ok, Err, OnErr, WindowState, Kind, Refusal, NotFound, Key, Command}
+use common.{Place}
 use common.{Answer}
-use common.{Done, Refused, container_at, place_of_kind, Object, object_at, option_map, Answers, IsSegment, IsStepOfKind}
-use common.{State, AnswersSafely, StepsSafely, MatchResult, live_of, Located}
+use common.{Done, Refused, container_at, place_of_kind, Object, object_at, option_map, AnswersWith, IsSegment}
+use common.{TakesStepOfKind}
+use common.{SegmentState, AnswersSafely, StepsSafely, MatchResult, live_of, Located}
 use Rattle.best_fit.proofs.Laws.{gaps-refl}
 use Rattle.best_fit.specs.Heap.{KeepsGaps}
 use Rattle.segment_manager.proofs.Steps.{step-segment, step_of_kind-segment}
 use Rattle.segment_manager.specs.objects.Located.{container_in, located, located_at}
 
 -- it is refused, and nothing has changed
-pub stays : (s : State) (new : Cut) (key : Key) (kind : Kind) (c : Command) (e why : Refusal) → e ≡ why → new ≡ s.cut
-    → IsStepOfKind s s key kind c (Refused why) → StepsSafely s new key kind c (Err e)
+pub stays : (s : SegmentState) (new : WindowState) (key : Key) (kind : Kind) (c : Command) (e why : Refusal)
+    → e ≡ why → new ≡ s.cut
+    → TakesStepOfKind s s key kind c (Refused why) → StepsSafely s new key kind c (Err e)
 stays s new key kind c e why is same step = record {
-  step = subst (λ (r : Refusal). IsStepOfKind s (record s { cut = new }) key kind c (Refused r)) (sym is)
-      (subst (λ (x : Cut). IsStepOfKind s (record s { cut = x }) key kind c (Refused why)) (sym same) step);
+  step = subst (λ (r : Refusal). TakesStepOfKind s (record s { cut = new }) key kind c (Refused r)) (sym is)
+      (subst (λ (x : WindowState). TakesStepOfKind s (record s { cut = x }) key kind c (Refused why)) (sym same) step);
   refused = same;
 }
 
 -- it is done
-pub done-so : {s : State} {new : Cut} {key : Key} {kind : Kind} {c : Command} {u : Unit {0}}
-    → IsStepOfKind s (record s { cut = new }) key kind c Done → StepsSafely s new key kind c (Ok u)
+pub done-so : {s : SegmentState} {new : WindowState} {key : Key} {kind : Kind} {c : Command} {u : Unit {0}}
+    → TakesStepOfKind s (record s { cut = new }) key kind c Done → StepsSafely s new key kind c (Ok u)
 done-so step = record { step = step; refused = tt }
 
 -- which of two refusals it is
@@ -39,65 +42,71 @@ pick-space e f h (inr y) = y
 -- ---- the segment afterwards, as its view before the call is named
 
 -- nothing has changed where it was refused
-pub seen-refused : {R : Type 0} (s t : State) (view : s ≡ t) (new : Cut) (r : Result R Refusal) → OnErr r (new ≡ s.cut)
+pub seen-refused : {R : Type 0} (s t : SegmentState) (view : s ≡ t) (new : WindowState) (r : Result R Refusal)
+    → OnErr r (new ≡ s.cut)
     → OnErr r ((record s { cut = new }) ≡ t)
 seen-refused s t view new (Ok u) e = tt
 seen-refused s t view new (Err w) e = (λ i. record s { cut = e i }) ∙ view
 
 -- a call came to its step, changed nothing where it was refused, and left a segment
-pub record Answered {R : Type 0} (says : Result R Refusal → Answer) (s t : State) (new : Cut) (key : Key) (kind : Kind)
+pub record Answered {R : Type 0} (says : Result R Refusal
+    → Answer) (s t : SegmentState) (new : WindowState) (key : Key) (kind : Kind)
     (c : Command) (r : Result R Refusal) : Type 0 where
-  pub step : IsStepOfKind t (record s { cut = new }) key kind c (says r)
+  pub step : TakesStepOfKind t (record s { cut = new }) key kind c (says r)
   pub refused : OnErr r ((record s { cut = new }) ≡ t)
   pub segment : IsSegment new.bytes
 
-pub answered : {R : Type 0} {says : Result R Refusal → Answer} (s t : State) (view : s ≡ t) (b : IsSegment s.cut.bytes)
-    (new : Cut) (key : Key) (kind : Kind) (c : Command) (r : Result R Refusal)
+pub answered : {R : Type 0} {says : Result R Refusal
+    → Answer} (s t : SegmentState) (view : s ≡ t) (b : IsSegment s.cut.bytes)
+    (new : WindowState) (key : Key) (kind : Kind) (c : Command) (r : Result R Refusal)
     → AnswersSafely says s new key kind c r → Answered says s t new key kind c r
 answered {says = says} s t view b new key kind c r done = record {
-  step = subst (λ (u : State). IsStepOfKind u (record s { cut = new }) key kind c (says r)) view done.step;
+  step = subst (λ (u : SegmentState). TakesStepOfKind u (record s { cut = new }) key kind c (says r)) view done.step;
   refused = seen-refused s t view new r done.refused;
   segment = step_of_kind-segment s (record s { cut = new }) key kind c (says r) done.step b;
 }
 
 -- what the call ensures
-pub told : {R : Type 0} {says : Result R Refusal → Answer} {s t : State} {new : Cut} {key : Key} {kind : Kind}
+pub told : {R : Type 0} {says : Result R Refusal
+    → Answer} {s t : SegmentState} {new : WindowState} {key : Key} {kind : Kind}
     {c : Command} {r : Result R Refusal} → Answered says s t new key kind c r → record {
-      step : IsStepOfKind t (record s { cut = new }) key kind c (says r);
+      step : TakesStepOfKind t (record s { cut = new }) key kind c (says r);
       refused : OnErr r ((record s { cut = new }) ≡ t);
     }
 told a = record { step = a.step; refused = a.refused }
 
 -- the same of a call on whatever object
-pub record Stepped (s t : State) (new : Cut) (c : Command) (answer : Answer) : Type 0 where
-  pub step : IsStep t (record s { cut = new }) c answer
+pub record Stepped (s t : SegmentState) (new : WindowState) (c : Command) (answer : Answer) : Type 0 where
+  pub step : TakesStep t (record s { cut = new }) c answer
   pub segment : IsSegment new.bytes
 
-pub stepped : (s t : State) (view : s ≡ t) (b : IsSegment s.cut.bytes) (new : Cut) (c : Command) (answer : Answer)
+pub stepped : (s t : SegmentState) (view : s ≡ t) (b : IsSegment s.cut.bytes) (new : WindowState) (c : Command)
+    (answer : Answer)
     → is_read_only t.mode ≡ false
-    → (is_read_only s.mode ≡ false → IsStep s (record s { cut = new }) c answer) → Stepped s t new c answer
+    → (is_read_only s.mode ≡ false → TakesStep s (record s { cut = new }) c answer) → Stepped s t new c answer
 stepped s t view b new c answer may each =
-    let done : IsStep s (record s { cut = new }) c answer =
-    each (subst (λ (u : State). is_read_only u.mode ≡ false) (sym view) may) in
+    let done : TakesStep s (record s { cut = new }) c answer =
+    each (subst (λ (u : SegmentState). is_read_only u.mode ≡ false) (sym view) may) in
     record {
-      step = subst (λ (u : State). IsStep u (record s { cut = new }) c answer) view done;
+      step = subst (λ (u : SegmentState). TakesStep u (record s { cut = new }) c answer) view done;
       segment = step-segment s (record s { cut = new }) c answer done b;
     }
 
 -- ---- the gaps
 
 -- what a call does to them where it is done, and where it is refused nothing changes
-pub kept-gaps : {R : Type 0} {P : R → Type 0} {F : Refusal → Type 0} {s t : State} (view : s ≡ t) {new : Cut}
+pub kept-gaps : {R : Type 0} {P : R → Type 0} {F : Refusal
+    → Type 0} {s t : SegmentState} (view : s ≡ t) {new : WindowState}
     (r : Result R Refusal) → MatchResult r P F → ((x : R) → P x → KeepsGaps s.cut new)
     → ((e : Refusal) → F e → new ≡ s.cut) → KeepsGaps t.cut new
-kept-gaps view {new} (Ok x) m f g = subst (λ (u : State). KeepsGaps u.cut new) view (f x m)
-kept-gaps {s = s} view {new} (Err e) m f g = subst (λ (u : State). KeepsGaps u.cut new) view
+kept-gaps view {new} (Ok x) m f g = subst (λ (u : SegmentState). KeepsGaps u.cut new) view (f x m)
+kept-gaps {s = s} view {new} (Err e) m f g = subst (λ (u : SegmentState). KeepsGaps u.cut new) view
     (subst (KeepsGaps s.cut) (sym (g e m)) (gaps-refl s.cut))
 
 -- the same blocks are in use, as the view names the segment
-pub same-live : {s t : State} (view : s ≡ t) (new : Cut) → live_of new.bytes ≡ live_of t.cut.bytes
+pub same-live : {s t : SegmentState} (view : s ≡ t) (new : WindowState) → live_of new.bytes ≡ live_of t.cut.bytes
     → live_of new.bytes ≡ live_of s.cut.bytes
-same-live view new e = e ∙ sym (ap (λ (u : State). live_of u.cut.bytes) view)
+same-live view new e = e ∙ sym (ap (λ (u : SegmentState). live_of u.cut.bytes) view)
 
 -- ---- the search
 
@@ -110,8 +119,8 @@ same-place kind None = refl
 same-place kind (Some o) = refl
 
 -- where the container is of the object that is found is where that of the key's is
-pub contains : {s : State} (key : Key) (kind : Kind) {r : Option Located} {q : Result Place Refusal}
-    → Answers s (λ d. located_at d key) r → q ≡ container_of kind r → Answers s (λ d. container_at d key kind) q
+pub contains : {s : SegmentState} (key : Key) (kind : Kind) {r : Option Located} {q : Result Place Refusal}
+    → AnswersWith s (λ d. located_at d key) r → q ≡ container_of kind r → AnswersWith s (λ d. container_at d key kind) q
 contains key kind a e = record {
   answers = λ d k. e ∙ ap (container_of kind) (a.answers d k) ∙ same-place kind (object_at d key);
 }

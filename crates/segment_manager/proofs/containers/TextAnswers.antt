@@ -3,10 +3,13 @@
 use Rattle.segment_manager.proofs.Common as common
 use common.{◌++◌, ◌<◌, Err, IsTrue, List, None, Ok, Option, Result, Some, [], ap, arith, false, get_or, length, map}
 use common.{nat_abs, nat_le, nat_lt, pos, refl, slice_get, subst, suc, sym, true, zero, ℕ, ◌∙◌, ◌∷◌, ◌≡◌, and_from}
-use common.{le-leb, slice_get-get_or, slice_get-map, slice_get_past, option_map, slice_set, Cut, Table, Append}
+use common.{le-leb, slice_get-get_or, slice_get-map, slice_get_past, option_map, slice_set, WindowState, BackingArray}
+use common.{Append}
 use common.{Assign, Get, Quoted, Set, literal_of, is_value, Key, String, U8, Refusal, NotFound, OutOfRange, AssignsText}
-use common.{IsSomeText, IsTextGrown, IsTextNow, capacity_for_text, Place, Done, Element, Refused, are_bytes, bytes_at}
-use common.{container_at, Bytes, Object, Value, kind_of, live, Reply, perform, Answers, IsSegment, IsStepOfKind, State}
+use common.{IsSomeText, GrowsTextOk, ReplacesText, capacity_for_text, Place, Done, Element, Refused, are_bytes}
+use common.{bytes_at}
+use common.{container_at, Bytes, Object, Value, kind_of, live, Reply, perform, AnswersWith, IsSegment, TakesStepOfKind}
+use common.{SegmentState}
 use common.{changed, is_read_only, Command, StepsSafely, done_answer}
 use Rattle.segment_manager.proofs.containers.ContentPlans.{append-plan, byte-plan, set_byte-plan, text-plan}
 use Rattle.segment_manager.proofs.containers.ItemSteps.{HoldsItems, ListedNow, items-stay, one-kind, so-too, some-items}
@@ -58,7 +61,7 @@ byte-got bs i r e = slice_get-map pos bs i ∙ ap (option_map pos) e
 
 -- ---- texts
 
-pub text-if : (v : Value) → String ≡ kind_of v → (bs : List ℕ) × ((t : Table) × (v ≡ Bytes bs t))
+pub text-if : (v : Value) → String ≡ kind_of v → (bs : List ℕ) × ((t : BackingArray) × (v ≡ Bytes bs t))
 text-if (Bytes bs t) e = (bs, (t, refl))
 text-if v e = absurd (cc)
 
@@ -76,19 +79,21 @@ texts = record {
 }
 
 -- what became of a text, with its bytes below 256
-bytes-now : {old new : Cut} {p : Place} {t u : Table} {bs : List ℕ} → IsTrue (are_bytes bs) → IsTextNow old new p t bs u
+bytes-now : {old new : WindowState} {p : Place} {t u : BackingArray} {bs : List ℕ} → IsTrue (are_bytes bs)
+    → ReplacesText old new p t bs u
     → ListedNow texts old new p t bs u
 bytes-now small r = record { change = r.change; stands = r.text; values = small }
 
-bytes-grown : {old new : Cut} {p : Place} {t : Table} {n : ℕ} {bs : List ℕ} → IsTrue (are_bytes bs)
-    → IsTextGrown old new p t n bs → ListedGrown texts old new p t n bs
+bytes-grown : {old new : WindowState} {p : Place} {t : BackingArray} {n : ℕ} {bs : List ℕ} → IsTrue (are_bytes bs)
+    → GrowsTextOk old new p t n bs → ListedGrown texts old new p t n bs
 bytes-grown small r = record { table = r.table; grown = r.grown; now = bytes-now small r.now }
 
 -- ---- the calls
 
 -- what is read there are the bytes of the key's text
-pub reads-bytes : (s : State) (key : Key) (p : Place) (out : List ℕ) → Answers s (λ d. container_at d key String) (Ok p)
-    → ReadsText s.cut.bytes p out → Answers s (λ d. bytes_at d key) (Ok out)
+pub reads-bytes : (s : SegmentState) (key : Key) (p : Place) (out : List ℕ)
+    → AnswersWith s (λ d. container_at d key String) (Ok p)
+    → ReadsText s.cut.bytes p out → AnswersWith s (λ d. bytes_at d key) (Ok out)
 reads-bytes s key p out found reads = record {
   answers = λ d l.
       let h : HoldsItems texts s.cut.bytes d key p =
@@ -99,9 +104,9 @@ reads-bytes s key p out found reads = record {
 }
 
 -- as the view before the call names the segment
-module _ {s t : State} (view : s ≡ t) (key : Key) (p : Place) (b : IsSegment s.cut.bytes)
-    (there : Answers t (λ d. container_at d key String) (Ok p)) where
-  there-too : Answers s (λ d. container_at d key String) (Ok p)
+module _ {s t : SegmentState} (view : s ≡ t) (key : Key) (p : Place) (b : IsSegment s.cut.bytes)
+    (there : AnswersWith t (λ d. container_at d key String) (Ok p)) where
+  there-too : AnswersWith s (λ d. container_at d key String) (Ok p)
   there-too = seen-found s t view key String p there
 
   abbrev some : HoldsItems texts s.cut.bytes b.0 key p
@@ -112,27 +117,27 @@ module _ {s t : State} (view : s ≡ t) (key : Key) (p : Place) (b : IsSegment s
   text-standing = (some.items, (some.table, some.stands))
 
   -- one of them
-  pub text-got : (i x : ℕ) → GetsByte s.cut p i (Ok x) → IsStepOfKind s s key String (Get key i) (Element U8 (pos x))
+  pub text-got : (i x : ℕ) → GetsByte s.cut p i (Ok x) → TakesStepOfKind s s key String (Get key i) (Element U8 (pos x))
   text-got i x a = items-stay texts s key p b there-too (Get key i) (Element U8 (pos x)) (open-reading s.mode
       (Get key i) refl) (λ d den h. ap (perform d (live d)) (byte-plan d key h.object h.items h.table h.is h.value i
       (Some (pos x)) (byte-got h.items i (Some x) (a h.items h.table h.stands))))
 
   pub text_got-past : (i : ℕ) (e : Refusal) → GetsByte s.cut p i (Err e)
-      → IsStepOfKind s s key String (Get key i) (Refused e)
-  text_got-past i e a = subst (λ (r : Refusal). IsStepOfKind s s key String (Get key i) (Refused r))
+      → TakesStepOfKind s s key String (Get key i) (Refused e)
+  text_got-past i e a = subst (λ (r : Refusal). TakesStepOfKind s s key String (Get key i) (Refused r))
       (sym (a some.items some.table some.stands).refusal)
       (items-stay texts s key p b there-too (Get key i) (Refused OutOfRange) (open-reading s.mode (Get key i) refl)
       (λ d den h. ap (perform d (live d)) (byte-plan d key h.object h.items h.table h.is h.value i None
       (byte-got h.items i None (slice_get_past h.items i (a h.items h.table h.stands).outside)))))
 
 -- the same, where it may be changed
-module _ {s t : State} (view : s ≡ t) (b : IsSegment s.cut.bytes) {key : Key} {p : Place}
-    (to : IsChangeableContainer t key String p) (new : Cut) where
-  found : Answers s (λ d. container_at d key String) (Ok p)
+module _ {s t : SegmentState} (view : s ≡ t) (b : IsSegment s.cut.bytes) {key : Key} {p : Place}
+    (to : IsChangeableContainer t key String p) (new : WindowState) where
+  found : AnswersWith s (λ d. container_at d key String) (Ok p)
   found = seen-found s t view key String p to.at
 
   writing : is_read_only s.mode ≡ false
-  writing = subst (λ (u : State). is_read_only u.mode ≡ false) (sym view) to.writing
+  writing = subst (λ (u : SegmentState). is_read_only u.mode ≡ false) (sym view) to.writing
 
   seen : {c : Command} {r : Result (Unit {0}) Refusal} → StepsSafely s new key String c r
       → Answered done_answer s t new key String c r
@@ -143,7 +148,7 @@ module _ {s t : State} (view : s ≡ t) (b : IsSegment s.cut.bytes) {key : Key} 
   here-texts : HoldsItems texts s.cut.bytes b.0 key p
   here-texts = some-items texts s key p b found
 
-  grown-gaps : {n : ℕ} {ys : List ℕ} → IsTextGrown s.cut new p here-texts.table n ys
+  grown-gaps : {n : ℕ} {ys : List ℕ} → GrowsTextOk s.cut new p here-texts.table n ys
       → live_of new.bytes ≡ live_of s.cut.bytes → KeepsGaps s.cut new
   grown-gaps g e = g.now.gaps (same-extents p.handle here-texts.table.extent g.table.extent here-texts.stands.heap
       here-texts.stands.own g.now.change e)

@@ -1,14 +1,21 @@
 -- What the calls of seg_vector ensure of the texts at the place that was found, as the steps of the calls on the
 -- object's vector of texts.
 use Rattle.segment_manager.proofs.Common as common
-use common.{IsSomeTexts, option_to_list, slice_get-get_or, slice_get_past, AreTextsAssigned, AssignsTexts, is_untouched}
-use common.{◌≡◌, refl, subst, true, false, Some, None, arith, Table, Place, Change, Clear, Shrink, Reply, State, effect}
-use common.{sym, ap, ◌∙◌, ℕ, ◌+◌, ◌-◌, ◌<◌, ◌≤◌, inl, inr, Ok, Err, List, [], ◌∷◌, map, Bor, Cut, Key, Done, Plan, with}
-use common.{Option, Result, length, get_or, IsTrue, insert, remove, le-ltb, lt-ltb, Refused, Reserve, perform, Answers}
+use common.{IsTextsContainer, option_to_list, slice_get-get_or, slice_get_past, AssignsTextsOk, AssignsTexts}
+use common.{is_untouched}
+use common.{◌≡◌, refl, subst, true, false, Some, None, arith, BackingArray, Place, Change, Clear, Shrink, Reply}
+use common.{SegmentState, effect}
+use common.{sym, ap, ◌∙◌, ℕ, ◌+◌, ◌-◌, ◌<◌, ◌≤◌, inl, inr, Ok, Err, List, [], ◌∷◌, map, Bor, WindowState, Key, Done}
+use common.{Plan, with}
+use common.{Option, Result, length, get_or, IsTrue, insert, remove, le-ltb, lt-ltb, Refused, Reserve, perform}
+use common.{AnswersWith}
 use common.{append-nil, option_map, slice_get, false≢true, OutOfRange, with_array, command_of, refusal_in, done_answer}
-use common.{slice_set, list_all, same_Some, cut_table, IsGivenUp, all_texts, OwnedText, IsOutside, are_bytes, Directory}
-use common.{current, LiveSet, live_of, Refusal, NoSpace, Command, one_more, IsSegment, StandsFor, answer_of, texts_of}
-use common.{StringsKind, placed_text, grown_table, TextElement, container_at, IsStepOfKind, is_read_only, StepsSafely}
+use common.{slice_set, list_all, same_Some, shrunk_backing, UndoesRequests, all_texts, OwnedText, RefusesIndex}
+use common.{are_bytes, Directory}
+use common.{current, LiveSet, live_of, Refusal, NoSpace, Command, one_more, IsSegment, DenotesCurrent, answer_of}
+use common.{texts_of}
+use common.{StringsKind, placed_text, grown_backing, TextElement, container_at, TakesStepOfKind, is_read_only}
+use common.{StepsSafely}
 use Rattle.segment_manager.proofs.containers.TextMoves.{TextsMove, all-other, moved, one-block, texts-stay, texts-steps}
 use Rattle.segment_manager.proofs.containers.TextMoves.{in-array, left-out, Kept, kept, led, texts_in}
 use Rattle.segment_manager.proofs.containers.TextMoves.{Led, StepsKeeping, step-leads-on, texts-lead-on, texts-restored}
@@ -42,17 +49,17 @@ texts-read (bs ∷ bss) = ap (λ (q : Result (List (List ℕ)) Refusal). elim q 
 -- ---- the calls
 
 -- as the view before the call names the segment
-module _ {s t : State} (view : s ≡ t) (key : Key) (p : Place) (b : IsSegment s.cut.bytes)
-    (there : Answers t (λ d. container_at d key StringsKind) (Ok p)) where
-  there-too : Answers s (λ d. container_at d key StringsKind) (Ok p)
+module _ {s t : SegmentState} (view : s ≡ t) (key : Key) (p : Place) (b : IsSegment s.cut.bytes)
+    (there : AnswersWith t (λ d. container_at d key StringsKind) (Ok p)) where
+  there-too : AnswersWith s (λ d. container_at d key StringsKind) (Ok p)
   there-too = seen-found s t view key StringsKind p there
 
   -- some texts stand there
-  pub texts-standing : IsSomeTexts s.cut.bytes p
+  pub texts-standing : IsTextsContainer s.cut.bytes p
   texts-standing = some-texts s key p b there-too
 
   pub text-got : (i : ℕ) (r : Result (Bor (List ℕ)) Refusal) → GetsText s.cut p i r
-      → IsStepOfKind s s key StringsKind (asked.Get key i) (answer_of (λ (x : Bor (List ℕ)). TextElement x.now) r)
+      → TakesStepOfKind s s key StringsKind (asked.Get key i) (answer_of (λ (x : Bor (List ℕ)). TextElement x.now) r)
   text-got i (Ok x) a = texts-stay s key p b there-too _ _ (open-reading s.mode (asked.Get key i) refl) (λ d h.
       ap (perform d (live_of s.cut.bytes)) (got-text h i _ refl)
       ∙ read d (slice_get h.texts i) (a h.texts h.table h.stand))
@@ -64,21 +71,21 @@ module _ {s t : State} (view : s ≡ t) (key : Key) (p : Place) (b : IsSegment s
       read d (Some q) e = ap (λ (bs : List ℕ). (TextElement bs, d)) (same_Some q.bytes x.now e)
   text-got i (Err e) a =
       let h : HoldsTexts s.cut.bytes b.0 key p = texts_in s key p b there-too b.0 b.1 in
-      subst (λ (q : Refusal). IsStepOfKind s s key StringsKind (asked.Get key i) (Refused q))
+      subst (λ (q : Refusal). TakesStepOfKind s s key StringsKind (asked.Get key i) (Refused q))
       (sym (a h.texts h.table h.stand).refusal) (texts-stay s key p b there-too _ (Refused OutOfRange) (open-reading
       s.mode (asked.Get key i) refl) (λ d h. ap (perform d (live_of s.cut.bytes)) (got-text h i None (slice_get_past
       h.texts i (a h.texts h.table h.stand).outside))))
 
 -- the same, where they may be changed
-module _ {s t : State} (view : s ≡ t) (b : IsSegment s.cut.bytes) {key : Key} {p : Place}
-    (to : IsChangeableContainer t key StringsKind p) (new : Cut) where
-  found : Answers s (λ d. container_at d key StringsKind) (Ok p)
+module _ {s t : SegmentState} (view : s ≡ t) (b : IsSegment s.cut.bytes) {key : Key} {p : Place}
+    (to : IsChangeableContainer t key StringsKind p) (new : WindowState) where
+  found : AnswersWith s (λ d. container_at d key StringsKind) (Ok p)
   found = seen-found s t view key StringsKind p to.at
 
   abbrev Holds : Directory → Type 0
   Holds d = HoldsTexts s.cut.bytes d key p
 
-  abbrev holds : (d : Directory) → StandsFor s.cut.bytes d → Holds d
+  abbrev holds : (d : Directory) → DenotesCurrent s.cut.bytes d → Holds d
   holds d l = texts_in s key p b found d l
 
   some : Holds b.0
@@ -88,7 +95,7 @@ module _ {s t : State} (view : s ≡ t) (b : IsSegment s.cut.bytes) {key : Key} 
   heap = live_of s.cut.bytes
 
   writing : is_read_only s.mode ≡ false
-  writing = subst (λ (u : State). is_read_only u.mode ≡ false) (sym view) to.writing
+  writing = subst (λ (u : SegmentState). is_read_only u.mode ≡ false) (sym view) to.writing
 
   seen : {c : Command} {r : Result (Unit {0}) Refusal} → StepsSafely s new key StringsKind c r
       → Answered done_answer s t new key StringsKind c r
@@ -98,8 +105,9 @@ module _ {s t : State} (view : s ≡ t) (b : IsSegment s.cut.bytes) {key : Key} 
   seen-kept done = kept s t view b new key _ _ done
 
   -- a call that is done
-  does : {c : Command} → ((d : Directory) (l : StandsFor s.cut.bytes d) (h : Holds d) → TextsMove s.cut new d key p h c
-      Done) → IsStepOfKind s (record s { cut = new }) key StringsKind c Done
+  does : {c : Command} → ((d : Directory) (l : DenotesCurrent s.cut.bytes d) (h : Holds d)
+      → TextsMove s.cut new d key p h c
+      Done) → TakesStepOfKind s (record s { cut = new }) key StringsKind c Done
   does each = texts-steps s key p b found new _ Done writing each
 
   -- a refusal, and nothing has changed
@@ -112,7 +120,7 @@ module _ {s t : State} (view : s ≡ t) (b : IsSegment s.cut.bytes) {key : Key} 
   given-up : {c : Command} {e : Refusal} → e ≡ NoSpace → KeepsLiveSet current s.cut new → ((d : Directory) (h : Holds d)
       → perform d heap (effect d c) ≡ (Refused NoSpace, d)) → StepsKeeping s new key c (Err e)
   given-up {c} is back each = record {
-    step = subst (λ (r : Refusal). IsStepOfKind s (record s { cut = new }) key StringsKind c (Refused r)) (sym is)
+    step = subst (λ (r : Refusal). TakesStepOfKind s (record s { cut = new }) key StringsKind c (Refused r)) (sym is)
         (texts-restored s key p b found new c _ (open-writing s.mode c writing) back each);
     refused = λ h. absurd (false≢true (sym (ap (λ (r : Refusal). is_untouched (Refused r)) is) ∙ h));
   }
@@ -138,7 +146,7 @@ module _ {s t : State} (view : s ≡ t) (b : IsSegment s.cut.bytes) {key : Key} 
       })))
   text-set i bs (Err e) small a = seen (elim (a some.texts some.table some.stand) [
     | inl o ↦ turned-down o.refusal o.same (λ d h.
-        let q : IsOutside s.cut new (length h.texts) i e =
+        let q : RefusesIndex s.cut new (length h.texts) i e =
         pick-outside e (λ w. w.1.refusal) o.refusal (a h.texts h.table h.stand) in
         ap (perform d heap) (set-text h i bs None (slice_get_past h.texts i q.outside)))
     | inr o ↦ turned-down o.1.refusal o.1.same (λ d h.
@@ -177,14 +185,16 @@ module _ {s t : State} (view : s ≡ t) (b : IsSegment s.cut.bytes) {key : Key} 
   text-pushed bs (Ok u) small a =
       seen-kept (put-steps _ length bs small (λ d h. (a h.texts h.table h.stand, push-text h bs)))
   text-pushed bs (Err e) small a =
-      let o : IsGivenUp s.cut new (one_more heap some.texts some.table bs) e = a some.texts some.table some.stand in
+      let o : UndoesRequests s.cut new (one_more heap some.texts some.table bs) e =
+      a some.texts some.table some.stand in
       seen-kept (given-up o.refusal o.restored
       (λ d h. ap (perform d heap) (push-text h bs) ∙ put-unmet h (length h.texts) bs (a h.texts h.table h.stand).none))
 
   -- where the first block has no space, nothing changes
   pub text-first : (bs : List ℕ) → StaysAtFirst s.cut new p bs
       → UnchangedWhere t (record s { cut = new }) (LacksFirst key bs)
-  text-first bs a = subst (λ (u : State). UnchangedWhere u (record s { cut = new }) (LacksFirst key bs)) view (λ d l w.
+  text-first bs a = subst (λ (u : SegmentState). UnchangedWhere u (record s { cut = new }) (LacksFirst key bs)) view
+      (λ d l w.
       let h : Holds d = holds d l in
       let object : h.object ≡ w.object = same_Some h.object w.object (sym h.is ∙ w.is) in
       let value : Texts h.texts h.table ≡ Texts w.texts w.table =
@@ -192,18 +202,19 @@ module _ {s t : State} (view : s ≡ t) (b : IsSegment s.cut.bytes) {key : Key} 
       let texts : h.texts ≡ w.texts = cc in let table : h.table ≡ w.table = cc in
       let lives : live d ≡ heap = sym (denotes-live current s.cut.bytes d l.denotes) in
       let still : RefusesFirstBlock s.cut new w.texts w.table bs =
-      subst (λ (u : Table). RefusesFirstBlock s.cut new w.texts u bs) table
+      subst (λ (u : BackingArray). RefusesFirstBlock s.cut new w.texts u bs) table
       (subst (λ (ps : List OwnedText). RefusesFirstBlock s.cut new ps h.table bs) texts (a h.texts h.table h.stand)) in
       let same : new ≡ s.cut = elim w.none [
         | inl x ↦ still.text x.0 (subst (λ (m : LiveSet). placed_text m bs ≡ None) lives x.1)
         | inr x ↦ still.array (subst (λ (m : LiveSet).
-            grown_table m 16 (capacity_for_one (length w.texts) w.table.capacity) w.table ≡ None) lives x)
+            grown_backing m 16 (capacity_for_one (length w.texts) w.table.capacity) w.table ≡ None) lives x)
       ] in
       (λ i. record s { cut = same i }))
 
   pub array-first : (n : ℕ) → (new_array heap n ≡ None → new ≡ s.cut)
       → UnchangedWhere t (record s { cut = new }) (LacksArray n)
-  array-first n a = subst (λ (u : State). UnchangedWhere u (record s { cut = new }) (LacksArray n)) view (λ d l w.
+  array-first n a = subst (λ (u : SegmentState). UnchangedWhere u (record s { cut = new }) (LacksArray n)) view
+      (λ d l w.
       let lives : live d ≡ heap = sym (denotes-live current s.cut.bytes d l.denotes) in
       let same : new ≡ s.cut = a (subst (λ (m : LiveSet). new_array m n ≡ None) lives w) in
       (λ i. record s { cut = same i }))
@@ -221,13 +232,13 @@ module _ {s t : State} (view : s ≡ t) (b : IsSegment s.cut.bytes) {key : Key} 
     | inl o ↦
         let safe : StepsSafely s new key StringsKind (asked.Insert key i (asked.Quoted bs)) (Err e) =
         turned-down o.refusal o.same (λ d h.
-        let q : IsOutside s.cut new (length h.texts + 1) i e =
+        let q : RefusesIndex s.cut new (length h.texts + 1) i e =
         pick-outside e (λ w. w.1.refusal) o.refusal (a h.texts h.table h.stand) in
         let past : length h.texts < i = let f = q.outside in omega arith in
         ap (perform d heap) (insert-text h i bs true (lt-ltb (length h.texts) i past))) in
         record { step = safe.step; refused = λ h. o.same }
     | inr o ↦ given-up o.1.refusal o.1.restored (λ d h.
-        let q : (i ≤ length h.texts) × IsGivenUp s.cut new (one_more heap h.texts h.table bs) e =
+        let q : (i ≤ length h.texts) × UndoesRequests s.cut new (one_more heap h.texts h.table bs) e =
         pick-space e (λ w. w.refusal) o.1.refusal (a h.texts h.table h.stand) in
         ap (perform d heap) (insert-put h i bs q.0) ∙ put-unmet h i bs q.1.none)
   ])
@@ -244,14 +255,14 @@ module _ {s t : State} (view : s ≡ t) (b : IsSegment s.cut.bytes) {key : Key} 
         outcome = ap (perform d heap) (erase-text h i (Some r.before) r.found);
       })))
   text-erased i (Err e) a =
-      let o : IsOutside s.cut new (length some.texts) i e = a some.texts some.table some.stand in
+      let o : RefusesIndex s.cut new (length some.texts) i e = a some.texts some.table some.stand in
       seen (turned-down o.refusal o.same (λ d h.
       ap (perform d heap) (erase-text h i None (slice_get_past h.texts i (a h.texts h.table h.stand).outside))))
 
   pub text-popped : (r : Result (Unit {0}) Refusal) → PopsText s.cut new p r
       → Led s t new key (asked.Pop key) r (refusal_in r)
   text-popped (Ok u) a =
-      let out : (d : Directory) → (l : StandsFor s.cut.bytes d)
+      let out : (d : Directory) → (l : DenotesCurrent s.cut.bytes d)
       → RemovesTextOk s.cut new p (holds d l).texts (holds d l).table (length (holds d l).texts - 1) =
       λ d l. a (holds d l).texts (holds d l).table (holds d l).stand in
       led s t view b new key (asked.Pop key) (Ok u) None (texts-lead-on s key p b found new (asked.Pop key)
@@ -263,7 +274,7 @@ module _ {s t : State} (view : s ≡ t) (b : IsSegment s.cut.bytes) {key : Key} 
         outcome = ap (perform d heap) (pop-text h (Some (out d l).before) (out d l).found);
       })) tt
   text-popped (Err e) a =
-      let o : IsOutside s.cut new (length some.texts) 0 e = a some.texts some.table some.stand in
+      let o : RefusesIndex s.cut new (length some.texts) 0 e = a some.texts some.table some.stand in
       let safe : StepsSafely s new key StringsKind (asked.Pop key) (Err e) = turned-down o.refusal o.same (λ d h.
       let none : length h.texts ≤ length h.texts - 1 = let f = (a h.texts h.table h.stand).outside in omega arith in
       ap (perform d heap) (pop-text h None (slice_get_past h.texts (length h.texts - 1) none))) in
@@ -273,7 +284,7 @@ module _ {s t : State} (view : s ≡ t) (b : IsSegment s.cut.bytes) {key : Key} 
   -- ---- none, and others in the place of all
 
   cleared : (c : Command) → ClearsTexts s.cut new p → ((d : Directory) (h : Holds d) → effect d c ≡ assign_in h h.table
-      []) → IsStepOfKind s (record s { cut = new }) key StringsKind c Done
+      []) → TakesStepOfKind s (record s { cut = new }) key StringsKind c Done
   cleared c a each = does (λ d l h. record {
     texts = [];
     table = h.table;
@@ -293,7 +304,7 @@ module _ {s t : State} (view : s ≡ t) (b : IsSegment s.cut.bytes) {key : Key} 
       seen-kept (subst (StepsKeeping s new key (asked.Assign key [])) (sym a.0) done)
   texts-assigned (bs ∷ bss) (Ok u) small a = seen-kept (record {
     step = does (λ d l h.
-        let r : AreTextsAssigned s.cut new p h.texts h.table (bs ∷ bss) = a h.texts h.table h.stand in record {
+        let r : AssignsTextsOk s.cut new p h.texts h.table (bs ∷ bss) = a h.texts h.table h.stand in record {
           texts = r.texts;
           table = r.table;
           move = all-other (texts-bytes (beside_array heap r.table) (bs ∷ bss) r.texts small r.placed) refl r.now;
@@ -303,16 +314,16 @@ module _ {s t : State} (view : s ≡ t) (b : IsSegment s.cut.bytes) {key : Key} 
     refused = tt;
   })
   texts-assigned (bs ∷ bss) (Err e) small a =
-      let o : IsGivenUp s.cut new (all_texts heap (bs ∷ bss)) e = a some.texts some.table some.stand in
+      let o : UndoesRequests s.cut new (all_texts heap (bs ∷ bss)) e = a some.texts some.table some.stand in
       seen-kept (given-up o.refusal o.restored (λ d h. ap (perform d heap) (assign-plan h bs bss)
       ∙ all-unmet d heap (bs ∷ bss) (assign_in h) (a h.texts h.table h.stand).none))
 
   -- ---- places
 
-  reserve-comes : {d : Directory} (h : Holds d) (n : ℕ) {r : Option Table} → grown_table heap 16 n h.table ≡ r
+  reserve-comes : {d : Directory} (h : Holds d) (n : ℕ) {r : Option BackingArray} → grown_backing heap 16 n h.table ≡ r
       → perform d heap (effect d (asked.Reserve key n)) ≡ then_room d heap h.table (λ u. assign_in h u h.texts) r
   reserve-comes {d} h n e =
-      let next : Table → Plan = λ u. assign_in h u h.texts in
+      let next : BackingArray → Plan = λ u. assign_in h u h.texts in
       ap (perform d heap) (reserve-texts h n) ∙ room-grown d heap 16 h.table n next
       ∙ ap (then_room d heap h.table next) e
 
@@ -323,15 +334,15 @@ module _ {s t : State} (view : s ≡ t) (b : IsSegment s.cut.bytes) {key : Key} 
       let r = a.0 h.texts h.table h.stand in
       record { texts = h.texts; table = r.0; move = in-array r.2; outcome = reserve-comes h n r.1 }))
   texts-changed (Reserve n) (Err e) a =
-      let o : LacksFit s.cut new (grown_table heap 16 n some.table) e = a.0 some.texts some.table some.stand in
+      let o : LacksFit s.cut new (grown_backing heap 16 n some.table) e = a.0 some.texts some.table some.stand in
       turned-down o.refusal o.same (λ d h. reserve-comes h n (a.0 h.texts h.table h.stand).none)
   texts-changed Shrink r a =
       subst (StepsSafely s new key StringsKind (asked.Shrink key)) (sym a.0) (done-so (does (λ d l h. record {
         texts = h.texts;
-        table = cut_table heap 16 (length h.texts) h.table;
+        table = shrunk_backing heap 16 (length h.texts) h.table;
         move = in-array (a.1 h.texts h.table h.stand);
         outcome = ap (perform d heap) (shrink-texts h)
-            ∙ ap (λ (m : LiveSet). (Done, texts_after h h.texts (cut_table m 16 (length h.texts) h.table)))
+            ∙ ap (λ (m : LiveSet). (Done, texts_after h h.texts (shrunk_backing m 16 (length h.texts) h.table)))
             (sym (denotes-live current s.cut.bytes d l.denotes));
       })))
   texts-changed Clear r a = subst (StepsSafely s new key StringsKind (asked.Clear key)) (sym a.0)

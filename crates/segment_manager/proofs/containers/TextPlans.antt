@@ -2,9 +2,11 @@
 use Rattle.segment_manager.proofs.Common as common
 use common.{◌≡◌, refl, sym, ap, ◌∙◌, ℕ, ◌-◌, ◌*◌, Bool, true, false, Option, Some, None, Result, Ok, Err, List, [], ◌∷◌}
 use common.{length, ◌==◌, if◌then◌else◌, insert, remove, slice_get, slice_set, nat_lt, option_map, Storage, LiveSet}
-use common.{place, resized, Table, cut_table, no_table, Refusal, NoSpace, OutOfRange, Key, Literal, Place, all_texts}
+use common.{place, resized, BackingArray, shrunk_backing, no_backing, Refusal, NoSpace, OutOfRange, Key, Literal, Place}
+use common.{all_texts}
 use common.{new_array, one_more, placed_text, placed_texts, with_array, with_text, OwnedText, capacity_for_one}
-use common.{grown_table, Answer, Done, Refused, TextElement, Texts, Object, Directory, Value, found_at, live, New, Plan}
+use common.{grown_backing, Answer, Done, Refused, TextElement, Texts, Object, Directory, Value, found_at, live, New}
+use common.{Plan}
 use common.{Refuse, Reply, Request, perform, with, with_capacity, with_owned_text, with_owned_texts, with_storage}
 use common.{changed, effect, storage_of, texts_of, with_items}
 use Rattle.segment_manager.proofs.containers.ContentPlans.{reserve_with, shrink_with}
@@ -60,38 +62,39 @@ texts-placed d l (bs ∷ bss) next = text-placed d l bs (λ q. with_owned_texts 
     ∙ text-then d l bss next (placed_text l bs) (λ q. texts-placed d (with_text l q) bss (λ qs. next (q ∷ qs)))
 
 -- a new array
-abbrev pub beside_array : LiveSet → Table → LiveSet
+abbrev pub beside_array : LiveSet → BackingArray → LiveSet
 beside_array l u = elim u.extent as (λ _. LiveSet) [ None ↦ l | Some x ↦ resized l x ]
 
-abbrev pub then_array : Directory → LiveSet → (Table → Plan) → Option Table → Answer × Directory
+abbrev pub then_array : Directory → LiveSet → (BackingArray → Plan) → Option BackingArray → Answer × Directory
 then_array d l = then_by (beside_array l) d
 
-array-if : (d : Directory) (l : LiveSet) (n : ℕ) (next : Table → Plan) (b : Bool)
-    → perform d l (if b then next no_table else Request (New Storage (16 * n)) (λ x. next (of_places n x)))
-    ≡ then_array d l next (if b then Some no_table else option_map (of_places n) (place l (16 * n) Storage))
+array-if : (d : Directory) (l : LiveSet) (n : ℕ) (next : BackingArray → Plan) (b : Bool)
+    → perform d l (if b then next no_backing else Request (New Storage (16 * n)) (λ x. next (of_places n x)))
+    ≡ then_array d l next (if b then Some no_backing else option_map (of_places n) (place l (16 * n) Storage))
 array-if d l n next true = refl
 array-if d l n next false = asked-met (beside_array l) (of_places n) d l next (λ x. refl) (place l (16 * n) Storage)
 
-pub array-placed : (d : Directory) (l : LiveSet) (n : ℕ) (next : Table → Plan)
+pub array-placed : (d : Directory) (l : LiveSet) (n : ℕ) (next : BackingArray → Plan)
     → perform d l (with_storage 16 n next) ≡ then_array d l next (new_array l n)
 array-placed d l n next = array-if d l n next (n == 0)
 
 -- ---- the array, and then a text
 
-abbrev pub one_more_plan : List OwnedText → Table → List ℕ → (Table → OwnedText → Plan) → Plan
+abbrev pub one_more_plan : List OwnedText → BackingArray → List ℕ → (BackingArray → OwnedText → Plan) → Plan
 one_more_plan ps t bs next =
     with_capacity 16 (capacity_for_one (length ps) t.capacity) t (λ u. with_owned_text bs (next u))
 
-module _ (d : Directory) (l : LiveSet) (ps : List OwnedText) (t : Table) (bs : List ℕ)
-    (next : Table → OwnedText → Plan) where
-  pub one-more-met : (u : Table) (q : OwnedText) → grown_table l 16 (capacity_for_one (length ps) t.capacity) t ≡ Some u
+module _ (d : Directory) (l : LiveSet) (ps : List OwnedText) (t : BackingArray) (bs : List ℕ)
+    (next : BackingArray → OwnedText → Plan) where
+  pub one-more-met : (u : BackingArray) (q : OwnedText)
+      → grown_backing l 16 (capacity_for_one (length ps) t.capacity) t ≡ Some u
       → placed_text (with_array l t u) bs ≡ Some q
       → perform d l (one_more_plan ps t bs next) ≡ perform d (with_text (with_array l t u) q) (next u q)
   one-more-met u q g h = room-grown d l 16 t (capacity_for_one (length ps) t.capacity)
       (λ u. with_owned_text bs (next u)) ∙ ap (then_room d l t (λ u. with_owned_text bs (next u))) g
       ∙ text-placed d (with_array l t u) bs (next u) ∙ ap (then_text d (with_array l t u) (next u)) h
 
-  none-if : (r : Option Table)
+  none-if : (r : Option BackingArray)
       → elim r as (λ _. Option OwnedText) [ None ↦ None | Some u ↦ placed_text (with_array l t u) bs ] ≡ None
       → then_room d l t (λ u. with_owned_text bs (next u)) r ≡ (Refused NoSpace, d)
   none-if None h = refl
@@ -99,21 +102,22 @@ module _ (d : Directory) (l : LiveSet) (ps : List OwnedText) (t : Table) (bs : L
 
   pub one-more-unmet : one_more l ps t bs ≡ None → perform d l (one_more_plan ps t bs next) ≡ (Refused NoSpace, d)
   one-more-unmet h = room-grown d l 16 t (capacity_for_one (length ps) t.capacity) (λ u. with_owned_text bs (next u))
-      ∙ none-if (grown_table l 16 (capacity_for_one (length ps) t.capacity) t) h
+      ∙ none-if (grown_backing l 16 (capacity_for_one (length ps) t.capacity) t) h
 
 -- ---- a new array, and then texts
 
-abbrev pub all_plan : List (List ℕ) → (Table → List OwnedText → Plan) → Plan
+abbrev pub all_plan : List (List ℕ) → (BackingArray → List OwnedText → Plan) → Plan
 all_plan bss next = with_storage 16 (length bss) (λ u. with_owned_texts bss (next u))
 
-module _ (d : Directory) (l : LiveSet) (bss : List (List ℕ)) (next : Table → List OwnedText → Plan) where
-  pub all-met : (u : Table) (qs : List OwnedText) → new_array l (length bss) ≡ Some u → placed_texts (beside_array l u)
+module _ (d : Directory) (l : LiveSet) (bss : List (List ℕ)) (next : BackingArray → List OwnedText → Plan) where
+  pub all-met : (u : BackingArray) (qs : List OwnedText) → new_array l (length bss) ≡ Some u
+      → placed_texts (beside_array l u)
       bss ≡ Some qs → perform d l (all_plan bss next) ≡ perform d (beside_texts (beside_array l u) qs) (next u qs)
   all-met u qs g h = array-placed d l (length bss) (λ u. with_owned_texts bss (next u))
       ∙ ap (then_array d l (λ u. with_owned_texts bss (next u))) g ∙ texts-placed d (beside_array l u) bss (next u)
       ∙ ap (then_texts d (beside_array l u) (next u)) h
 
-  all-none-if : (r : Option Table)
+  all-none-if : (r : Option BackingArray)
       → elim r as (λ _. Option (List OwnedText)) [ None ↦ None | Some u ↦ placed_texts (beside_array l u) bss ] ≡ None
       → then_array d l (λ u. with_owned_texts bss (next u)) r ≡ (Refused NoSpace, d)
   all-none-if None h = refl
@@ -132,7 +136,7 @@ text_in r = elim r as (λ _. Result OwnedText Refusal) [ None ↦ Err OutOfRange
 
 -- as the calls find the vector
 module _ {b : List ℕ} {d : Directory} {key : Key} {p : Place} (h : HoldsTexts b d key p) where
-  abbrev pub texts_after : List OwnedText → Table → Directory
+  abbrev pub texts_after : List OwnedText → BackingArray → Directory
   texts_after qs u = changed d h.object (Texts qs u)
 
   -- a plan that goes by the object and its value
@@ -155,7 +159,7 @@ module _ {b : List ℕ} {d : Directory} {key : Key} {p : Place} (h : HoldsTexts 
       ∙ ap (λ r. with (text_in r) (λ old. with_owned_text bs (set_in i))) g
 
   -- one more, among the others or behind the last
-  abbrev pub insert_in : ℕ → Table → OwnedText → Plan
+  abbrev pub insert_in : ℕ → BackingArray → OwnedText → Plan
   insert_in i u q = Reply Done (texts_after (insert h.texts i q) u)
 
   abbrev pub insert_plan : ℕ → List ℕ → Plan
@@ -186,7 +190,7 @@ module _ {b : List ℕ} {d : Directory} {key : Key} {p : Place} (h : HoldsTexts 
   pub assign-none : effect d (asked.Assign key []) ≡ Reply Done (texts_after [] h.table)
   assign-none = by-texts (λ o v. step.assign d o v [])
 
-  abbrev pub assign_in : Table → List OwnedText → Plan
+  abbrev pub assign_in : BackingArray → List OwnedText → Plan
   assign_in u qs = Reply Done (texts_after qs u)
 
   pub assign-some : (l : Literal) (ls : List Literal) (bss : List (List ℕ)) → texts_of (l ∷ ls) ≡ Ok bss
@@ -198,7 +202,8 @@ module _ {b : List ℕ} {d : Directory} {key : Key} {p : Place} (h : HoldsTexts 
   pub reserve-texts : (n : ℕ) → effect d (asked.Reserve key n) ≡ with_capacity 16 n h.table (λ u. assign_in u h.texts)
   reserve-texts n = by-texts (λ o v. with (storage_of v) (reserve_with d o v n))
 
-  pub shrink-texts : effect d (asked.Shrink key) ≡ assign_in (cut_table (live d) 16 (length h.texts) h.table) h.texts
+  pub shrink-texts : effect d (asked.Shrink key)
+      ≡ assign_in (shrunk_backing (live d) 16 (length h.texts) h.table) h.texts
   shrink-texts = by-texts (λ o v. with (storage_of v) (shrink_with d o v))
 
   pub clear-texts : effect d (asked.Clear key) ≡ assign_in h.table []

@@ -1,12 +1,17 @@
 -- A vector of texts as the value of an object: it stands at its place as the calls of seg_vector see it, and what they
 -- do to it is what becomes of the object.
 use Rattle.segment_manager.proofs.Common as common
-use common.{◌≡◌, sym, true, ◌&&◌, Some, None, List, ◌++◌, live, ◌∙◌, ◌+◌, ◌≢◌, ◌≤◌, Ok, [], ◌∷◌, Cut, Key, ℕ}
-use common.{refl, Storage, LiveSet, live_of, length, IsTrue, nat_le, nat_lt, eq-eqb, Denotes, kind_of, Answers, changed}
-use common.{Value, Texts, State, ap, subst, arith, le-leb, lt-ltb, Extent, handle, Table, serves, Place, Object, padded}
-use common.{list_all, value_len, IsOwnBlock, IsTextsNow, text_blocks, extents_of, IsExchanged, StringsKind, IsSomeTexts}
-use common.{and_from, IsSegment, extent_at, same_kind, is_proper, AreOthers, OwnedText, are_bytes, IsValueAt, Directory}
-use common.{eqb-true, ltb-true, bytes_of, current, is_table, place_at, count_of, StandsAt, Option, is_object, object_at}
+use common.{◌≡◌, sym, true, ◌&&◌, Some, None, List, ◌++◌, live, ◌∙◌, ◌+◌, ◌≢◌, ◌≤◌, Ok, [], ◌∷◌, WindowState, Key, ℕ}
+use common.{refl, Storage, LiveSet, live_of, length, IsTrue, nat_le, nat_lt, eq-eqb, Denotes, kind_of, AnswersWith}
+use common.{changed}
+use common.{Value, Texts, SegmentState, ap, subst, arith, le-leb, lt-ltb, Extent, handle, BackingArray, serves, Place}
+use common.{Object, padded}
+use common.{list_all, value_len, IsStorageBlock, ReplacesTexts, text_blocks, extents_of, ExchangesBlocks, StringsKind}
+use common.{IsTextsContainer}
+use common.{and_from, IsSegment, extent_at, same_kind, is_proper, AreDistinct, OwnedText, are_bytes, IsValueAt}
+use common.{Directory}
+use common.{eqb-true, ltb-true, bytes_of, current, has_backing, place_at, count_of, IsObjectInBlock, Option, is_object}
+use common.{object_at}
 use common.{option_to_list, AllByRecursion, container_place, has_own_block, is_good_value, container_at, is_owned_text}
 use Rattle.segment_manager.proofs.containers.Contained.{good-with, start-place}
 use Rattle.segment_manager.proofs.containers.TextBlocks.{IsPartOther, others-apart, part-exchange}
@@ -80,41 +85,43 @@ owned-each l (p ∷ ps) h s = and_from (is_owned_text p) (list_all is_owned_text
 -- ---- the value
 
 -- what is known of a good one
-record FitsTexts (ps : List OwnedText) (t : Table) : Type 0 where
-  table : IsTrue (is_table Storage 16 t)
+record FitsTexts (ps : List OwnedText) (t : BackingArray) : Type 0 where
+  table : IsTrue (has_backing Storage 16 t)
   fits : length ps ≤ t.capacity
   owned : IsTrue (list_all is_owned_text ps)
 
-fits-texts : (ps : List OwnedText) (t : Table) → IsTrue (is_good_value (Texts ps t)) → FitsTexts ps t
+fits-texts : (ps : List OwnedText) (t : BackingArray) → IsTrue (is_good_value (Texts ps t)) → FitsTexts ps t
 fits-texts ps t h =
-    let front : IsTrue (nat_le (length ps) t.capacity && is_table Storage 16 t) =
-    first (nat_le (length ps) t.capacity && is_table Storage 16 t) (list_all is_owned_text ps) h in
+    let front : IsTrue (nat_le (length ps) t.capacity && has_backing Storage 16 t) =
+    first (nat_le (length ps) t.capacity && has_backing Storage 16 t) (list_all is_owned_text ps) h in
     record {
-      table = second (nat_le (length ps) t.capacity) (is_table Storage 16 t) front;
-      fits = no_more (length ps) t.capacity (first (nat_le (length ps) t.capacity) (is_table Storage 16 t) front);
-      owned = second (nat_le (length ps) t.capacity && is_table Storage 16 t) (list_all is_owned_text ps) h;
+      table = second (nat_le (length ps) t.capacity) (has_backing Storage 16 t) front;
+      fits = no_more (length ps) t.capacity (first (nat_le (length ps) t.capacity) (has_backing Storage 16 t) front);
+      owned = second (nat_le (length ps) t.capacity && has_backing Storage 16 t) (list_all is_owned_text ps) h;
     }
 
 -- texts that stand at a place make one
-pub good-texts : (b : List ℕ) (p : Place) (ps : List OwnedText) (t : Table) → IsTexts b p ps t
+pub good-texts : (b : List ℕ) (p : Place) (ps : List OwnedText) (t : BackingArray) → IsTexts b p ps t
     → AllByRecursion HasBytes ps → IsTrue (is_good_value (Texts ps t))
-good-texts b p ps t h s = and_from (nat_le (length ps) t.capacity && is_table Storage 16 t) (list_all is_owned_text ps)
-    (and_from (nat_le (length ps) t.capacity) (is_table Storage 16 t) (le-leb (length ps) t.capacity h.fits) h.table)
+good-texts b p ps t h s = and_from (nat_le (length ps) t.capacity
+    && has_backing Storage 16 t) (list_all is_owned_text ps)
+    (and_from (nat_le (length ps) t.capacity) (has_backing Storage 16 t) (le-leb (length ps) t.capacity h.fits) h.table)
     (owned-each (live_of b) ps h.held s)
 
 -- ---- the object
 
-texts-if : (v : Value) → StringsKind ≡ kind_of v → (ps : List OwnedText) × ((t : Table) × (v ≡ Texts ps t))
+texts-if : (v : Value) → StringsKind ≡ kind_of v → (ps : List OwnedText) × ((t : BackingArray) × (v ≡ Texts ps t))
 texts-if (Texts ps t) e = (ps, (t, refl))
 texts-if v e = absurd (cc)
 
 pub texts-only : (v : Value) → same_kind StringsKind (kind_of v) ≡ true
-    → (ps : List OwnedText) × ((t : Table) × (v ≡ Texts ps t))
+    → (ps : List OwnedText) × ((t : BackingArray) × (v ≡ Texts ps t))
 texts-only v e = texts-if v (one-kind StringsKind (kind_of v) e)
 
 -- its blocks are in use, and no two of them and its own are one
-its-blocks : (d : Directory) (o : Object) (ps : List OwnedText) (t : Table) → IsIn d o → IsTrue (is_proper (live d))
-    → o.value ≡ Texts ps t → AllByRecursion (InUse (live d)) (option_to_list t.extent ++ text_blocks ps) × AreOthers
+its-blocks : (d : Directory) (o : Object) (ps : List OwnedText) (t : BackingArray) → IsIn d o
+    → IsTrue (is_proper (live d))
+    → o.value ≡ Texts ps t → AllByRecursion (InUse (live d)) (option_to_list t.extent ++ text_blocks ps) × AreDistinct
     (o.extent ∷ (option_to_list t.extent ++ text_blocks ps))
 its-blocks d o ps t f proper e =
     let all : List Extent = o.extent ∷ (option_to_list t.extent ++ text_blocks ps) in
@@ -127,7 +134,7 @@ its-blocks d o ps t f proper e =
     (found.1, others-apart 128 all (rest d o) up)
 
 own-array : (l : LiveSet) (h : ℕ) (r : Option Extent) → AllByRecursion (InUse l) (option_to_list r)
-    → AllByRecursion (Beside h) (option_to_list r) → IsOwnBlock l h r
+    → AllByRecursion (Beside h) (option_to_list r) → IsStorageBlock l h r
 own-array l h None f g = tt
 own-array l h (Some x) f g = (f.0, (λ e. g.0 (sym e)))
 
@@ -142,7 +149,7 @@ pub record HoldsTexts (b : List ℕ) (d : Directory) (key : Key) (p : Place) : T
   pub object : Object
   pub is : object_at d key ≡ Some object
   pub texts : List OwnedText
-  pub table : Table
+  pub table : BackingArray
   pub value : object.value ≡ Texts texts table
   pub at : container_place object ≡ p
   pub stand : IsTexts b p texts table
@@ -153,9 +160,9 @@ pub holds-texts : (b : List ℕ) (d : Directory) (key : Key) (p : Place) → Den
     → Ok p ≡ container_at d key StringsKind → HoldsTexts b d key p
 holds-texts b d key p k e =
     let h : HoldsAt d key StringsKind p = holds-at d key StringsKind p e in let o : Object = h.object in
-    let v : (ps : List OwnedText) × ((t : Table) × (o.value ≡ Texts ps t)) = texts-only o.value h.same in
-    let ps : List OwnedText = v.0 in let t : Table = v.1.0 in
-    let s : StandsAt b (handle o.extent) o = standing b d key o k h.is in
+    let v : (ps : List OwnedText) × ((t : BackingArray) × (o.value ≡ Texts ps t)) = texts-only o.value h.same in
+    let ps : List OwnedText = v.0 in let t : BackingArray = v.1.0 in
+    let s : IsObjectInBlock b (handle o.extent) o = standing b d key o k h.is in
     let good : FitsTexts ps t =
     fits-texts ps t (subst (λ (w : Value). IsTrue (is_good_value w)) v.1.1 (object-roomy current o s.good).value) in
     let array : List Extent = option_to_list t.extent in
@@ -190,8 +197,8 @@ holds-texts b d key p k e =
     }
 
 -- so some texts stand there
-pub some-texts : (s : State) (key : Key) (p : Place) → IsSegment s.cut.bytes
-    → Answers s (λ d. container_at d key StringsKind) (Ok p) → IsSomeTexts s.cut.bytes p
+pub some-texts : (s : SegmentState) (key : Key) (p : Place) → IsSegment s.cut.bytes
+    → AnswersWith s (λ d. container_at d key StringsKind) (Ok p) → IsTextsContainer s.cut.bytes p
 some-texts s key p b a =
     let h : HoldsTexts s.cut.bytes b.0 key p = holds-texts s.cut.bytes b.0 key p b.1.denotes (a.answers b.0 b.1) in
     (h.texts, (h.table, h.stand))
@@ -199,8 +206,9 @@ some-texts s key p b a =
 -- ---- what becomes of the object
 
 -- what a call did to the vector: which texts stand there now, in which array, and which part of them is another
-pub record IsTextsMove (old new : Cut) (p : Place) (ps : List OwnedText) (t : Table) (qs : List OwnedText)
-    (u : Table) : Type 0 where
+pub record IsTextsMove (old new : WindowState) (p : Place) (ps : List OwnedText) (t : BackingArray)
+    (qs : List OwnedText)
+    (u : BackingArray) : Type 0 where
   pub out : List OwnedText
   pub in_place : List OwnedText
   pub part : IsPartOther ps qs out in_place
@@ -209,11 +217,11 @@ pub record IsTextsMove (old new : Cut) (p : Place) (ps : List OwnedText) (t : Ta
   pub come : List Extent
   pub gone_is : gone ≡ option_to_list t.extent ++ text_blocks out
   pub come_is : come ≡ option_to_list u.extent ++ text_blocks in_place
-  pub now : IsTextsNow old new p gone come qs u
+  pub now : ReplacesTexts old new p gone come qs u
 
 -- then the bytes denote the directory with the others
-module _ {old new : Cut} {d : Directory} {key : Key} {p : Place} (k : Denotes current old.bytes d)
-    (h : HoldsTexts old.bytes d key p) {qs : List OwnedText} {u : Table}
+module _ {old new : WindowState} {d : Directory} {key : Key} {p : Place} (k : Denotes current old.bytes d)
+    (h : HoldsTexts old.bytes d key p) {qs : List OwnedText} {u : BackingArray}
     (m : IsTextsMove old new p h.texts h.table qs u) where
   bytes-other : AllByRecursion HasBytes qs
   bytes-other =
@@ -229,7 +237,7 @@ module _ {old new : Cut} {d : Directory} {key : Key} {p : Place} (k : Denotes cu
   pub texts-changed : Denotes current new.bytes (changed d h.object (Texts qs u))
   texts-changed =
       let o : Object = h.object in let w : Value = Texts qs u in
-      let stands : StandsAt old.bytes (handle o.extent) o = standing old.bytes d key o k h.is in
+      let stands : IsObjectInBlock old.bytes (handle o.extent) o = standing old.bytes d key o k h.is in
       let found : IsIn d o = key-found current d key o k.directory h.is in
       let kind : kind_of w ≡ kind_of o.value = sym (ap kind_of h.value) in
       let len : value_len o.value ≡ 24 = ap value_len h.value in
@@ -238,5 +246,5 @@ module _ {old new : Cut} {d : Directory} {key : Key} {p : Place} (k : Denotes cu
       let at : place_at p ≡ value_start o = sym (ap place_at h.at) ∙ sym (start-place o) in
       denotes-container current old new d o w m.gone m.come k found (part-exchange o h.texts qs m.out m.in_place h.table
       u m.gone m.come h.value m.part m.gone_is m.come_is) kind (sym (ap count_of h.value)) len stands.good good
-      (subst (λ n. IsExchanged current old new n 24 m.gone m.come) at m.now.change)
+      (subst (λ n. ExchangesBlocks current old new n 24 m.gone m.come) at m.now.change)
       (subst (λ n. IsTextsAt (bytes_of new.bytes) n qs u) at m.now.texts.words)

@@ -1,15 +1,17 @@
 -- What the calls of seg_vector ensure of the vector at the place that was found, as the steps of the calls on the
 -- object's vector.
 use Rattle.segment_manager.proofs.Common as common
-use common.{◌++◌, slice_get, take-map, slice_set, same_kind, OutOfRange, IsOutside, Directory, IsSegment, answer_of}
-use common.{◌+◌, length-map, map-append, option_map, literal_of, ScalarKind, IsVectorNow, is_read_only, done_answer}
-use common.{◌-◌, ◌<◌, Err, [], ap, inl, inr, map, pos, sym, true, ◌∙◌, ◌∷◌, ◌≡◌, ◌≤◌, Cut, Key, Done, live, Bool}
-use common.{IsTrue, Result, get_or, length, le-ltb, lt-ltb, insert, remove, Vector, Answers, changed, Command, List}
-use common.{None, Some, arith, false, refl, subst, take, Table, Place, Value, Reply, State, effect, Answer, Ok}
-use common.{slice_get-get_or, slice_get-map, slice_get_past, value_of_literal, capacity_for_one, IsWithoutSpace, ℕ}
-use common.{IsSomeVector, IsVectorGrown, container_at, is_good_value, with_capacity, IsStepOfKind, AnswersSafely, ℤ}
+use common.{◌++◌, slice_get, take-map, slice_set, same_kind, OutOfRange, RefusesIndex, Directory, IsSegment, answer_of}
+use common.{◌+◌, length-map, map-append, option_map, literal_of, ScalarKind, ReplacesVector, is_read_only, done_answer}
+use common.{◌-◌, ◌<◌, Err, [], ap, inl, inr, map, pos, sym, true, ◌∙◌, ◌∷◌, ◌≡◌, ◌≤◌, WindowState, Key, Done, live}
+use common.{Bool}
+use common.{IsTrue, Result, get_or, length, le-ltb, lt-ltb, insert, remove, Vector, AnswersWith, changed, Command, List}
+use common.{None, Some, arith, false, refl, subst, take, BackingArray, Place, Value, Reply, SegmentState, effect}
+use common.{Answer, Ok}
+use common.{slice_get-get_or, slice_get-map, slice_get_past, value_of_literal, capacity_for_one, LacksSpace, ℕ}
+use common.{IsSomeVector, GrowsVectorOk, container_at, is_good_value, with_capacity, TakesStepOfKind, AnswersSafely, ℤ}
 use common.{list_all, flat_map, size_of, Refusal, NoSpace, Assigns, Element, Refused, Elements, kind_of, perform}
-use common.{grown_table, current, Denotes, Option, Plan, StandsFor}
+use common.{grown_backing, current, Denotes, Option, Plan, DenotesCurrent}
 use Rattle.segment_manager.proofs.containers.RangeCalls.{RangeWritten, range-done, range-elements, range-refused}
 use Rattle.segment_manager.proofs.containers.RangeCalls.{range-short, range-written, row-elements, whole-replaced}
 use Rattle.segment_manager.proofs.containers.Extending.{VectorExtended, extended-done, extended-found, extended-refused}
@@ -39,9 +41,9 @@ module _ {T : Type 0} {k : ScalarKind} {w : T → ℤ} {size : ℕ} {test : T �
   -- ---- vectors of the values
 
   pub typed-only : (v : Value) → same_kind (Vector k) (kind_of v) ≡ true → IsTrue (is_good_value v)
-      → (xs : List T) × ((t : Table) × (v ≡ Elements k (map w xs) t))
+      → (xs : List T) × ((t : BackingArray) × (v ≡ Elements k (map w xs) t))
   typed-only v e h =
-      let z : (zs : List ℤ) × ((t : Table) × (v ≡ Elements k zs t)) = vector-only k v e in
+      let z : (zs : List ℤ) × ((t : BackingArray) × (v ≡ Elements k zs t)) = vector-only k v e in
       let good : IsTrue (is_good_value (Elements k z.0 z.1.0)) = subst (λ u. IsTrue (is_good_value u)) z.1.1 h in
       let r : (xs : List T) × (map w xs ≡ z.0) =
       whole-reached k w size test sp law z.0 (contents-fit (Elements k z.0 z.1.0) _ refl good).values in
@@ -65,20 +67,23 @@ module _ {T : Type 0} {k : ScalarKind} {w : T → ℤ} {size : ℕ} {test : T �
     values = λ xs t. sym (whole-values k w size test sp law xs);
   }
 
-  now-so : {old new : Cut} {p : Place} {t u : Table} {ys : List T} → IsVectorNow size test sp old new p t ys u
+  now-so : {old new : WindowState} {p : Place} {t u : BackingArray} {ys : List T}
+      → ReplacesVector size test sp old new p t ys u
       → ListedNow typed old new p t ys u
   now-so r = record { change = r.change; stands = r.vector.stands; values = r.vector.values }
 
-  grown-so : {old new : Cut} {p : Place} {t : Table} {n : ℕ} {ys : List T} → IsVectorGrown size test sp old new p t n ys
+  grown-so : {old new : WindowState} {p : Place} {t : BackingArray} {n : ℕ} {ys : List T}
+      → GrowsVectorOk size test sp old new p t n ys
       → ListedGrown typed old new p t n ys
   grown-so r = record { table = r.table; grown = r.grown; now = now-so r.now }
 
   -- the place that was found, as the view before the call, the type and the vector name it
-  module _ {s t : State} (view : s ≡ t) (key : Key) {l : ScalarKind} {q p : Place} (kinds : l ≡ k) (places : p ≡ q)
-      (b : IsSegment s.cut.bytes) (there : Answers t (λ d. container_at d key (Vector l)) (Ok q)) where
-    found : Answers s (λ d. container_at d key (Vector k)) (Ok p)
-    found = subst (λ (r : Place). Answers s (λ d. container_at d key (Vector k)) (Ok r)) (sym places)
-        (subst (λ (m : ScalarKind). Answers s (λ d. container_at d key (Vector m)) (Ok q)) kinds
+  module _ {s t : SegmentState} (view : s ≡ t) (key : Key) {l : ScalarKind} {q p : Place} (kinds : l
+      ≡ k) (places : p ≡ q)
+      (b : IsSegment s.cut.bytes) (there : AnswersWith t (λ d. container_at d key (Vector l)) (Ok q)) where
+    found : AnswersWith s (λ d. container_at d key (Vector k)) (Ok p)
+    found = subst (λ (r : Place). AnswersWith s (λ d. container_at d key (Vector k)) (Ok r)) (sym places)
+        (subst (λ (m : ScalarKind). AnswersWith s (λ d. container_at d key (Vector m)) (Ok q)) kinds
         (seen-found s t view key (Vector l) q there))
 
     abbrev Holds : Directory → Type 0
@@ -104,35 +109,39 @@ module _ {T : Type 0} {k : ScalarKind} {w : T → ℤ} {size : ℕ} {test : T �
     -- ---- the gaps
 
     -- those that stay with the block of the storage
-    grown-gaps : {new : Cut} {n : ℕ} {ys : List T} → IsVectorGrown size test sp s.cut new p some.table n ys
+    grown-gaps : {new : WindowState} {n : ℕ} {ys : List T} → GrowsVectorOk size test sp s.cut new p some.table n ys
         → live_of new.bytes ≡ live_of s.cut.bytes → KeepsGaps s.cut new
     grown-gaps g e = g.now.gaps (same-extents p.handle some.table.extent g.table.extent some.stands.heap
         some.stands.own g.now.change e)
 
-    pub set-gaps : {new : Cut} (i : ℕ) (x : T) (r : Result (Unit {0}) Refusal) → Sets size test sp s.cut new p i x r
+    pub set-gaps : {new : WindowState} (i : ℕ) (x : T) (r : Result (Unit {0}) Refusal)
+        → Sets size test sp s.cut new p i x r
         → KeepsGaps t.cut new
     set-gaps i x r a = kept-gaps view r (a some.items some.table (vector b.0 some)) (λ u m. m.1.gaps refl)
         (λ e m. m.same)
 
-    pub erase-gaps : {new : Cut} (i : ℕ) (r : Result (Unit {0}) Refusal) → ErasesFrom size test sp s.cut new p i r
+    pub erase-gaps : {new : WindowState} (i : ℕ) (r : Result (Unit {0}) Refusal)
+        → ErasesFrom size test sp s.cut new p i r
         → KeepsGaps t.cut new
     erase-gaps i r a = kept-gaps view r (a some.items some.table (vector b.0 some)) (λ u m. m.1.gaps refl)
         (λ e m. m.same)
 
-    pub pop-gaps : {new : Cut} (r : Result T Refusal) → Pops size test sp s.cut new p r → KeepsGaps t.cut new
+    pub pop-gaps : {new : WindowState} (r : Result T Refusal) → Pops size test sp s.cut new p r → KeepsGaps t.cut new
     pop-gaps r a = kept-gaps view r (a some.items some.table (vector b.0 some)) (λ u m. m.1.gaps refl) (λ e m. m.same)
 
-    pub push-gaps : {new : Cut} (x : T) (r : Result (Unit {0}) Refusal) → Pushes size test sp s.cut new p x r
+    pub push-gaps : {new : WindowState} (x : T) (r : Result (Unit {0}) Refusal) → Pushes size test sp s.cut new p x r
         → live_of new.bytes ≡ live_of t.cut.bytes → KeepsGaps t.cut new
     push-gaps {new} x r a e = kept-gaps view r (a some.items some.table (vector b.0 some))
         (λ u g. grown-gaps g (same-live view new e)) (λ e m. m.same)
 
-    pub insert-gaps : {new : Cut} (i : ℕ) (x : T) (r : Result (Unit {0}) Refusal) → InsertsInto size test sp s.cut new p
+    pub insert-gaps : {new : WindowState} (i : ℕ) (x : T) (r : Result (Unit {0}) Refusal)
+        → InsertsInto size test sp s.cut new p
         i x r → live_of new.bytes ≡ live_of t.cut.bytes → KeepsGaps t.cut new
     insert-gaps {new} i x r a e = kept-gaps view r (a some.items some.table (vector b.0 some))
         (λ u g. grown-gaps g.1 (same-live view new e)) (λ e m. elim m [ inl o ↦ o.same | inr o ↦ o.1.same ])
 
-    pub assign-gaps : {new : Cut} (ys : List T) (r : Result (Unit {0}) Refusal) → Assigns size test sp s.cut new p ys r
+    pub assign-gaps : {new : WindowState} (ys : List T) (r : Result (Unit {0}) Refusal)
+        → Assigns size test sp s.cut new p ys r
         → live_of new.bytes ≡ live_of t.cut.bytes → KeepsGaps t.cut new
     assign-gaps {new} ys r a e = kept-gaps view r (a some.items some.table (vector b.0 some))
         (λ u g. grown-gaps g (same-live view new e)) (λ e m. m.same)
@@ -140,19 +149,19 @@ module _ {T : Type 0} {k : ScalarKind} {w : T → ℤ} {size : ℕ} {test : T �
     -- ---- one value
 
     pub vector-got : (i : ℕ) (r : Result T Refusal) → Gets size test sp s.cut p i r
-        → IsStepOfKind s s key (Vector k) (asked.Get key i) (answer_of (λ x. Element k (w x)) r)
+        → TakesStepOfKind s s key (Vector k) (asked.Get key i) (answer_of (λ x. Element k (w x)) r)
     vector-got i (Ok x) a = items-stay typed s key p b found (asked.Get key i) (Element k (w x)) (open-reading s.mode
         (asked.Get key i) refl) (λ d den h. ap (perform d (live d)) (get-plan d key h.object k (map w h.items) h.table
         h.is h.value i (Some (w x)) (slice_get-map w h.items i ∙ ap (option_map w) (a h.items h.table (vector d h)))))
-    vector-got i (Err e) a = subst (λ (q : Refusal). IsStepOfKind s s key (Vector k) (asked.Get key i) (Refused q))
+    vector-got i (Err e) a = subst (λ (q : Refusal). TakesStepOfKind s s key (Vector k) (asked.Get key i) (Refused q))
         (sym (a some.items some.table (vector b.0 some)).refusal) (items-stay typed s key p b found (asked.Get key i)
         (Refused OutOfRange) (open-reading s.mode (asked.Get key i) refl) (λ d den h. ap (perform d (live d))
         (get-plan d key h.object k (map w h.items) h.table h.is h.value i None (behind h.items i (a h.items h.table
         (vector d h)).outside))))
 
-    module _ (new : Cut) (may : is_read_only t.mode ≡ false) where
+    module _ (new : WindowState) (may : is_read_only t.mode ≡ false) where
       writing : is_read_only s.mode ≡ false
-      writing = subst (λ (u : State). is_read_only u.mode ≡ false) (sym view) may
+      writing = subst (λ (u : SegmentState). is_read_only u.mode ≡ false) (sym view) may
 
       -- a call, as that view has it
       seen : {R : Type 0} {says : Result R Refusal → Answer} {c : Command} {r : Result R Refusal}
@@ -216,7 +225,7 @@ module _ {T : Type 0} {k : ScalarKind} {w : T → ℤ} {size : ℕ} {test : T �
           (asked.Insert key i (literal_of k (w x))) Done (insert-so i x v d h r.0) (grown-so r.1))))
       vector-inserted i x (Err e) v a = seen (elim (a some.items some.table (vector b.0 some)) [
         | inl o ↦ items-refused typed s key p b found new writing _ e OutOfRange o.refusal o.same (λ d den h.
-            let out : IsOutside s.cut new (length h.items + 1) i e =
+            let out : RefusesIndex s.cut new (length h.items + 1) i e =
             pick-outside e (λ w. w.1.refusal) o.refusal (a h.items h.table (vector d h)) in
             let past : length h.items < i = let f = out.outside in omega arith in
             ap (perform d (live d)) (insert-plan d key h.object k (map w h.items) h.table h.is h.value i
@@ -224,7 +233,7 @@ module _ {T : Type 0} {k : ScalarKind} {w : T → ℤ} {size : ℕ} {test : T �
             (subst (λ (n : ℕ). n < i) (sym (length-map h.items w)) past))))
         | inr o ↦ items-refused typed s key p b found new writing _ e NoSpace o.1.refusal o.1.same (λ d den h.
             let n : ℕ = capacity_for_one (length h.items) h.table.capacity in
-            let q : (i ≤ length h.items) × IsWithoutSpace s.cut new size n h.table e =
+            let q : (i ≤ length h.items) × LacksSpace s.cut new size n h.table e =
             pick-space e (λ w. w.refusal) o.1.refusal (a h.items h.table (vector d h)) in
             items-full typed s key p b found new writing (asked.Insert key i (literal_of k (w x))) n
             (insert h.items i x) d den h (insert-so i x v d h q.0) q.1.none)
@@ -251,15 +260,17 @@ module _ {T : Type 0} {k : ScalarKind} {w : T → ℤ} {size : ℕ} {test : T �
       })
       vector-popped (Err e) a =
           let r = a some.items some.table (vector b.0 some) in
-          let stay : IsStepOfKind s s key (Vector k) (asked.Pop key) (Refused OutOfRange) = items-stay typed s key p b
+          let stay : TakesStepOfKind s s key (Vector k) (asked.Pop key) (Refused OutOfRange) =
+          items-stay typed s key p b
           found (asked.Pop key) (Refused OutOfRange) (open-writing s.mode (asked.Pop key) writing) (λ d den h.
           let none : length h.items ≤ 0 = (a h.items h.table (vector d h)).outside in
           ap (perform d (live d)) (pop-plan d key h.object k (map w h.items) h.table h.is h.value None
           (ap (λ (m : ℕ). slice_get (map w h.items) m) (last-at d h)
           ∙ behind h.items (length h.items - 1) (omega arith)))) in
           seen (record {
-            step = subst (λ (q : Refusal). IsStepOfKind s (record s { cut = new }) key (Vector k) (asked.Pop key)
-                (Refused q)) (sym r.refusal) (subst (λ (c : Cut). IsStepOfKind s (record s { cut = c }) key (Vector k)
+            step = subst (λ (q : Refusal). TakesStepOfKind s (record s { cut = new }) key (Vector k) (asked.Pop key)
+                (Refused q)) (sym r.refusal) (subst (λ (c : WindowState).
+                TakesStepOfKind s (record s { cut = c }) key (Vector k)
                 (asked.Pop key) (Refused OutOfRange)) (sym r.same) stay);
             refused = r.same;
           })
@@ -306,16 +317,17 @@ module _ {T : Type 0} {k : ScalarKind} {w : T → ℤ} {size : ℕ} {test : T �
         abbrev wanted_places : ℕ
         wanted_places = capacity_for_more (length (map w h.items)) (length (map w ys)) h.table.capacity
 
-        abbrev behind_last : Table → Plan
+        abbrev behind_last : BackingArray → Plan
         behind_last u = Reply Done (changed d h.object (Elements k (map w h.items ++ map w ys) u))
 
-        asked-places : {r : Option Table} → grown_table (live_of s.cut.bytes) size
+        asked-places : {r : Option BackingArray} → grown_backing (live_of s.cut.bytes) size
             (capacity_for_more (length h.items) (length ys) h.table.capacity) h.table ≡ r
-            → grown_table (live_of s.cut.bytes) (size_of k) wanted_places h.table ≡ r
-        asked-places e = (λ i. grown_table (live_of s.cut.bytes) (sym law.long i)
+            → grown_backing (live_of s.cut.bytes) (size_of k) wanted_places h.table ≡ r
+        asked-places e = (λ i. grown_backing (live_of s.cut.bytes) (sym law.long i)
             (capacity_for_more (length-map h.items w i) (length-map ys w i) h.table.capacity) h.table) ∙ e
 
-        extends-to : (l : StandsFor s.cut.bytes d) (r : Option Table) → grown_table (live_of s.cut.bytes) size
+        extends-to : (l : DenotesCurrent s.cut.bytes d) (r : Option BackingArray)
+            → grown_backing (live_of s.cut.bytes) size
             (capacity_for_more (length h.items) (length ys) h.table.capacity) h.table ≡ r
             → extended s.mode d key k (map w ys) ≡ then_room d (live d) h.table behind_last r
         extends-to l r e = extended-found s.mode d key k (map w ys) writing h.object h.is (map w h.items) h.table

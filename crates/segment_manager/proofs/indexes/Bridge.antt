@@ -3,9 +3,10 @@
 use Rattle.segment_manager.proofs.Common as common
 use common.{◌≡◌, refl, sym, ap, subst, ◌∙◌, ℕ, ◌+◌, ◌<◌, ◌≤◌, ◌≢◌, ◌⊎◌, inl, inr, true, false, ◌&&◌, ◌==◌, Some, None}
 use common.{List, [], ◌∷◌, length, arith, IsTrue, filter, find, insert, remove, slice_get, AllByRecursion, nat_cmp}
-use common.{slice_cmp, and_from, cases_lt, cond-true, cond-false, eq-eqb, ne_eqb, false≢true, same_Some, current, Cut}
+use common.{slice_cmp, and_from, cases_lt, cond-true, cond-false, eq-eqb, ne_eqb, false≢true, same_Some, current}
+use common.{WindowState}
 use common.{Memory, bytes_of, handle, NamedClass, UniqueClass, Kind, code_of, same_kind, Index, Named, Unique, Name}
-use common.{Code, Found, Absent, IsPlace, Object, Directory, IsDirectory, has_key, insert_by, is_class, kind_of}
+use common.{Code, Found, Absent, FindsPosition, Object, Directory, IsDirectory, has_key, insert_by, is_class, kind_of}
 use common.{object_at, remove_object, rises_from, same_bytes, with_object, without_object, Denotes, handles, IsEntry}
 use common.{Seeks, class_of_index, entries_of, objects_of, order_of, table_of, by_name, by_kind}
 use Rattle.segment_manager.proofs.indexes.HeldIndexes.{all-in, directory-index, entries-in}
@@ -111,7 +112,7 @@ seeks-sort Named (Name s) (names.ByName name) q = refl
 seeks-sort Unique (Code n) (names.ByKind k) q = refl
 seeks-sort i e key q = absurd q
 
-module _ (i : Index) (c : Cut) {d : Directory} (e : Entry) (key : names.Key) (k : Denotes current c.bytes d)
+module _ (i : Index) (c : WindowState) {d : Directory} (e : Entry) (key : names.Key) (k : Denotes current c.bytes d)
     (q : Seeks i e key) where
   says-at : (j : ℕ) {o : Object} → slice_get (objects_of i d) j ≡ Some o
       → Says (order_of i) (has_key key) o (order (bytes_of c.bytes) e (handle o.extent))
@@ -119,7 +120,7 @@ module _ (i : Index) (c : Cut) {d : Directory} (e : Entry) (key : names.Key) (k 
       (all-at (λ p. is_class (class_of_index i) p ≡ true) (objects_of i d) j (in-class i d) f)
 
   -- the entry of the key
-  pub lookup-found : (at : ℕ) → IsPlace (bytes_of c.bytes) e (entries_of i d) (Found at) → IsEntryFor i d key at
+  pub lookup-found : (at : ℕ) → FindsPosition (bytes_of c.bytes) e (entries_of i d) (Found at) → IsEntryFor i d key at
   lookup-found at p =
       let s = stands-at (objects_of i d) at p.1 in
       record {
@@ -131,7 +132,7 @@ module _ (i : Index) (c : Cut) {d : Directory} (e : Entry) (key : names.Key) (k 
         leads = at-handle (objects_of i d) at s.is;
       }
 
-  absent-one : (at j : ℕ) {o : Object} → IsPlace (bytes_of c.bytes) e (entries_of i d) (Absent at)
+  absent-one : (at j : ℕ) {o : Object} → FindsPosition (bytes_of c.bytes) e (entries_of i d) (Absent at)
       → slice_get (objects_of i d) j ≡ Some o → (j < at) ⊎ (at ≤ j) → has_key key o ≡ false
   absent-one at j {o} p f (inl l) =
       (says-at j f).less ((p.1 j (handle o.extent) (at-handle (objects_of i d) j f)).0 l)
@@ -139,7 +140,8 @@ module _ (i : Index) (c : Cut) {d : Directory} (e : Entry) (key : names.Key) (k 
       (says-at j f).greater ((p.1 j (handle o.extent) (at-handle (objects_of i d) j f)).1 l)
 
   -- no entry has the key, and no object
-  pub lookup-absent : {at : ℕ} → IsPlace (bytes_of c.bytes) e (entries_of i d) (Absent at) → IsNoEntryFor i d key at
+  pub lookup-absent : {at : ℕ} → FindsPosition (bytes_of c.bytes) e (entries_of i d) (Absent at)
+      → IsNoEntryFor i d key at
   lookup-absent {at} p = record {
     none = none-found (has_key key) (order_of i) (class_of_index i) (sought-key i e key q).other d.objects
         (all_of-ordered (λ o. has_key key o ≡ false) (order_of i) [] (filter (is_class (class_of_index i)) d.objects)
@@ -150,8 +152,8 @@ module _ (i : Index) (c : Cut) {d : Directory} (e : Entry) (key : names.Key) (k 
 -- ---- one entry more
 
 -- where the look-up says that an object of the key belongs
-place-of : (i : Index) (c : Cut) {d : Directory} (e : Entry) (key : names.Key) (at : ℕ) (o : Object)
-    → Denotes current c.bytes d → Seeks i e key → IsPlace (bytes_of c.bytes) e (entries_of i d) (Absent at)
+place-of : (i : Index) (c : WindowState) {d : Directory} (e : Entry) (key : names.Key) (at : ℕ) (o : Object)
+    → Denotes current c.bytes d → Seeks i e key → FindsPosition (bytes_of c.bytes) e (entries_of i d) (Absent at)
     → has_key key o ≡ true → IsPlaceOf (order_of i) o (objects_of i d) at
 place-of i c {d} e key at o k q p h j r f =
     let says = says-at i c e key k q j f in
@@ -170,8 +172,8 @@ objects-more Unique d (Code x) (names.ByKind k) o q h n = unique-more d o (first
 objects-more i d e key o q h n = absurd q
 
 -- an object with the key comes in at the place that the look-up answers
-pub entry-added : (i : Index) (c : Cut) {d : Directory} (e : Entry) (key : names.Key) (at : ℕ) (o : Object)
-    → Denotes current c.bytes d → Seeks i e key → IsPlace (bytes_of c.bytes) e (entries_of i d) (Absent at)
+pub entry-added : (i : Index) (c : WindowState) {d : Directory} (e : Entry) (key : names.Key) (at : ℕ) (o : Object)
+    → Denotes current c.bytes d → Seeks i e key → FindsPosition (bytes_of c.bytes) e (entries_of i d) (Absent at)
     → has_key key o ≡ true → insert (entries_of i d) at (handle o.extent) ≡ entries_of i (with_object d o)
 entry-added i c {d} e key at o k q p h =
     let away = lookup-absent i c e key k q p in

@@ -1,7 +1,8 @@
 -- One index of a directory is written, and the other stays.
 use Rattle.segment_manager.proofs.Common as common
 use common.{◌≡◌, refl, sym, ap, subst, ◌∙◌, suc, ◌+◌, ◌<◌, ◌≤◌, true, false, ◌==◌, None, length, arith, IsTrue}
-use common.{flat_map, AllByRecursion, Memory, Same, Same-part, IndexRole, Extent, SameBlock, Table, is_table, no_table}
+use common.{flat_map, AllByRecursion, Memory, SameBytes, SameBytes-part, IndexRole, Extent, SameBlock, BackingArray}
+use common.{has_backing, no_backing}
 use common.{class_code, Key, ByKind, ByName, Index, place_of, IsIndexAt, Object, Directory, extents_of, is_class}
 use common.{is_index, kind_of, live, object_at, table_extents, with_object, handles, class_of_index, entries_of}
 use common.{objects_of, order_of, table_of, with_table_of, by_name, by_kind, NamedClass, UniqueClass}
@@ -55,25 +56,25 @@ more-length index.Named d o c n =
 more-length index.Unique d o c n =
     ap length (unique-more d o c n) ∙ insert_by-length (order_of index.Unique) o (objects_of index.Unique d)
 
-more-index : (i : Index) (d : Directory) (t : Table) (o : Object) → is_class (class_of_index i) o ≡ true
+more-index : (i : Index) (d : Directory) (t : BackingArray) (o : Object) → is_class (class_of_index i) o ≡ true
     → object_at d (key_in i o) ≡ None → IsTrue (is_index (table_of i d) (objects_of i d) (order_of i))
-    → IsTrue (is_table IndexRole 8 t) → length (objects_of i d) < t.capacity
+    → IsTrue (has_backing IndexRole 8 t) → length (objects_of i d) < t.capacity
     → IsTrue (is_index t (objects_of i (with_object d o)) (order_of i))
 more-index index.Named d t o c n h a b =
     ordered-more NamedClass by_name by_name-strict d t d.named o c (new-name d o n) h a b
 more-index index.Unique d t o c n h a b =
     ordered-more UniqueClass by_kind by_kind-strict d t d.unique o c (new-kind d o n) h a b
 
-own-with : (i : Index) {m : Memory} (d : Directory) {t : Table} (o : Object)
+own-with : (i : Index) {m : Memory} (d : Directory) {t : BackingArray} (o : Object)
     → IsTrue (is_index t (objects_of i (with_object d o)) (order_of i))
     → IsIndexAt m (place_of i) t (entries_of i (with_object d o)) → HasOne i m (with_object (with_table_of i d t) o)
 own-with index.Named d o a b = record { is = a; at = b }
 own-with index.Unique d o a b = record { is = a; at = b }
 
 -- the index with the object, where its bytes say the entries in a table with places enough
-pub entered-own : {i : Index} {m : Memory} (d : Directory) {t : Table} (o : Object) → o.class ≡ class_of_index i
+pub entered-own : {i : Index} {m : Memory} (d : Directory) {t : BackingArray} (o : Object) → o.class ≡ class_of_index i
     → object_at d (key_in i o) ≡ None → IsTrue (is_index (table_of i d) (objects_of i d) (order_of i))
-    → IsTrue (is_table IndexRole 8 t) → length (entries_of i (with_object d o)) ≤ t.capacity
+    → IsTrue (has_backing IndexRole 8 t) → length (entries_of i (with_object d o)) ≤ t.capacity
     → IsIndexAt m (place_of i) t (entries_of i (with_object d o)) → HasOne i m (with_object (with_table_of i d t) o)
 entered-own {i} d {t} o c n h a few at =
     let long = handles-length (objects_of i (with_object d o)) ∙ more-length i d o (has_class i o c) n in
@@ -84,7 +85,7 @@ other-with : (i : Index) (d : Directory) (o : Object) → is_class (class_of_ind
 other-with index.Named d o e = ordered-with UniqueClass by_kind d o e
 other-with index.Unique d o e = ordered-with NamedClass by_name d o e
 
-other-one : (i : Index) {m : Memory} (d : Directory) (t : Table) (o : Object)
+other-one : (i : Index) {m : Memory} (d : Directory) (t : BackingArray) (o : Object)
     → IsTrue (is_index (table_of (other i) d) (objects_of (other i) (with_object d o)) (order_of (other i)))
     → IsIndexAt m (place_of (other i)) (table_of (other i) d) (entries_of (other i) (with_object d o))
     → HasOne (other i) m (with_object (with_table_of i d t) o)
@@ -92,7 +93,8 @@ other-one index.Named d t o a b = record { is = a; at = b }
 other-one index.Unique d t o a b = record { is = a; at = b }
 
 -- the other index with the object
-pub entered-other : (i : Index) {m : Memory} {d : Directory} (t : Table) (o : Object) → o.class ≡ class_of_index i
+pub entered-other : (i : Index) {m : Memory} {d : Directory} (t : BackingArray) (o : Object)
+    → o.class ≡ class_of_index i
     → HasOne (other i) m d → HasOne (other i) m (with_object (with_table_of i d t) o)
 entered-other i {m} {d} t o c h =
     let e = sym (other-with i d o (other_class i o c)) in
@@ -107,7 +109,7 @@ pub record OfRest (i : Index) (P : Extent → Type 0) (d : Directory) : Type 0 w
   pub other_table : AllByRecursion P (table_extents (table_of (other i) d))
 
 pub of_rest : (i : Index) (P : Extent → Type 0) {d : Directory}
-    → AllByRecursion P (live (with_table_of i d no_table)).extents → OfRest i P d
+    → AllByRecursion P (live (with_table_of i d no_backing)).extents → OfRest i P d
 of_rest index.Named P {d} h =
     let e = of_each P h in record { objects = e.objects; other_table = e.unique }
 of_rest index.Unique P {d} h =
@@ -118,13 +120,13 @@ of_all index.Named P {d} h = let e = of_each P h in record { objects = e.objects
 of_all index.Unique P {d} h = let e = of_each P h in record { objects = e.objects; other_table = e.named }
 
 -- the three words of the other index
-pub other-words : (i : Index) {m m' : Memory} → Same m m' 32 (place_of i) → Same m m' (place_of i + 24) 128
-    → Same m m' (place_of (other i)) (place_of (other i) + 24)
-other-words index.Named {m} {m'} before behind = Same-part m m' 56 128 56 80 behind (omega arith) (omega arith)
+pub other-words : (i : Index) {m m' : Memory} → SameBytes m m' 32 (place_of i) → SameBytes m m' (place_of i + 24) 128
+    → SameBytes m m' (place_of (other i)) (place_of (other i) + 24)
+other-words index.Named {m} {m'} before behind = SameBytes-part m m' 56 128 56 80 behind (omega arith) (omega arith)
 other-words index.Unique before behind = before
 
 pub other-stays : (i : Index) {m m' : Memory} {d : Directory} → HasOne (other i) m d
-    → Same m m' (place_of (other i)) (place_of (other i) + 24)
+    → SameBytes m m' (place_of (other i)) (place_of (other i) + 24)
     → AllByRecursion (SameBlock m m') (table_extents (table_of (other i) d)) → HasOne (other i) m' d
 other-stays i {d} h s b = record {
   is = h.is;

@@ -3,7 +3,8 @@ use Rattle.segment_manager.proofs.Common as common
 use common.{◌≡◌, refl, sym, ap, subst, ◌∙◌, ℕ, ◌+◌, ◌<◌, ◌≤◌, ◌≢◌, Bool, true, false, ◌&&◌, Option, Some, None, List}
 use common.{[], ◌∷◌, length, arith, if◌then◌else◌, cond, IsTrue, nat_le, find, filter, AllByRecursion, Ordering, Less}
 use common.{Equal, Greater, nat_cmp, is_lt, is_eq, ordering_reverse, slice_cmp, texts_ties, nat_list_cmp_total}
-use common.{and_from, ltb-true, ltb-false, lt-ltb, le-ltb, le-leb, eqb-false, handle, is_proper, Table, is_table, Class}
+use common.{and_from, ltb-true, ltb-false, lt-ltb, le-ltb, le-leb, eqb-false, handle, is_proper, BackingArray}
+use common.{has_backing, Class}
 use common.{code_of, same_kind, ByName, ByKind, Object, Directory, IsDirectory, live, kind_of, same_bytes, has_key}
 use common.{object_at, is_class, is_object, is_index, rises, rises_from, remove_object, with_object, without_object}
 use common.{by_name, by_kind, insert_by, named_objects, unique_objects}
@@ -115,30 +116,32 @@ pub unique-more : (d : Directory) (o : Object) → is_class Unique o ≡ true �
     ≡ None → unique_objects (with_object d o) ≡ insert_by by_kind o (unique_objects d)
 unique-more d o e f = ordered-put Unique by_kind by_kind-strict o d.objects e (new-kind d o f)
 
-pub index-parts : (t : Table) (os : List Object) (lt : Object → Object → Bool) → IsTrue (is_index t os lt)
-    → IsTrue (is_table Index 8 t) × (length os ≤ t.capacity) × IsTrue (rises lt os)
+pub index-parts : (t : BackingArray) (os : List Object) (lt : Object → Object → Bool) → IsTrue (is_index t os lt)
+    → IsTrue (has_backing Index 8 t) × (length os ≤ t.capacity) × IsTrue (rises lt os)
 index-parts t os lt h =
-    let both = first (is_table Index 8 t && nat_le (length os) t.capacity) (rises lt os) h in (
-      first (is_table Index 8 t) (nat_le (length os) t.capacity) both,
-      no_more (length os) t.capacity (second (is_table Index 8 t) (nat_le (length os) t.capacity) both),
-      second (is_table Index 8 t && nat_le (length os) t.capacity) (rises lt os) h,
+    let both = first (has_backing Index 8 t && nat_le (length os) t.capacity) (rises lt os) h in (
+      first (has_backing Index 8 t) (nat_le (length os) t.capacity) both,
+      no_more (length os) t.capacity (second (has_backing Index 8 t) (nat_le (length os) t.capacity) both),
+      second (has_backing Index 8 t && nat_le (length os) t.capacity) (rises lt os) h,
     )
 
-pub index-from : (t : Table) (os : List Object) (lt : Object → Object → Bool) → IsTrue (is_table Index 8 t)
+pub index-from : (t : BackingArray) (os : List Object) (lt : Object → Object → Bool) → IsTrue (has_backing Index 8 t)
     → length os ≤ t.capacity → IsTrue (rises lt os) → IsTrue (is_index t os lt)
-index-from t os lt a b c = and_from (is_table Index 8 t && nat_le (length os) t.capacity) (rises lt os)
-    (and_from (is_table Index 8 t) (nat_le (length os) t.capacity) a (le-leb (length os) t.capacity b)) c
+index-from t os lt a b c = and_from (has_backing Index 8 t && nat_le (length os) t.capacity) (rises lt os)
+    (and_from (has_backing Index 8 t) (nat_le (length os) t.capacity) a (le-leb (length os) t.capacity b)) c
 
 -- an index with a place left is one with the entry
-pub index-more : (lt : Object → Object → Bool) (t : Table) (o : Object) (os : List Object) → IsTrue (is_table Index 8 t)
+pub index-more : (lt : Object → Object → Bool) (t : BackingArray) (o : Object) (os : List Object)
+    → IsTrue (has_backing Index 8 t)
     → length os < t.capacity → AllRanked lt o os → IsTrue (rises lt os) → IsTrue (is_index t (insert_by lt o os) lt)
 index-more lt t o os a b r h =
     index-from t (insert_by lt o os) lt a (omega (arith, insert_by-length lt o os)) (insert_by-rises lt o os r h)
 
 -- the same of the order of a class, of which an object is that is ranked with each of the others
-pub ordered-more : (c : Class) (lt : Object → Object → Bool) → IsStrict lt → (d : Directory) (t u : Table) (o : Object)
+pub ordered-more : (c : Class) (lt : Object → Object → Bool) → IsStrict lt
+    → (d : Directory) (t u : BackingArray) (o : Object)
     → is_class c o ≡ true → AllRanked lt o (filter (is_class c) d.objects)
-    → IsTrue (is_index u (ordered c lt d.objects) lt) → IsTrue (is_table Index 8 t)
+    → IsTrue (is_index u (ordered c lt d.objects) lt) → IsTrue (has_backing Index 8 t)
     → length (ordered c lt d.objects) < t.capacity → IsTrue (is_index t (ordered c lt (with_object d o).objects) lt)
 ordered-more c lt s d t u o e r h a b = subst (λ os. IsTrue (is_index t os lt)) (sym (ordered-put c lt s o d.objects e
     r)) (index-more lt t o (ordered c lt d.objects) a b (all-ordered (IsRanked lt o) c lt d.objects r) (index-parts u
@@ -146,7 +149,7 @@ ordered-more c lt s d t u o e r h a b = subst (λ os. IsTrue (is_index t os lt))
 
 -- ---- one entry less
 
-index-less : (lt : Object → Object → Bool) → IsStrict lt → (t : Table) (o : Object) (os : List Object)
+index-less : (lt : Object → Object → Bool) → IsStrict lt → (t : BackingArray) (o : Object) (os : List Object)
     → IsTrue (is_index t (insert_by lt o os) lt) → IsTrue (is_index t os lt)
 index-less lt s t o os h =
     let parts = index-parts t (insert_by lt o os) lt h in
@@ -154,14 +157,14 @@ index-less lt s t o os h =
 
 -- the order of a class is that of the others with one put in
 pub one-less : (c : Class) (lt : Object → Object → Bool) → IsStrict lt → (d : Directory) (o : Object) → IsIn d o
-    → is_class c o ≡ true → (t : Table) → IsTrue (is_index t (ordered c lt d.objects) lt)
+    → is_class c o ≡ true → (t : BackingArray) → IsTrue (is_index t (ordered c lt d.objects) lt)
     → ordered c lt d.objects ≡ insert_by lt o (ordered c lt (without_object d o).objects)
 one-less c lt s d o f e t h =
     remove-more lt s c (handle o.extent) d.objects o f e (pairwise-remove lt c (handle o.extent) d.objects o f e
     (ordered-pairwise c lt s d.objects (index-parts t (ordered c lt d.objects) lt h).2)) []
 
 ordered-less-if : (c : Class) (lt : Object → Object → Bool) → IsStrict lt → (d : Directory) (o : Object) → IsIn d o
-    → (t : Table) → IsTrue (is_index t (ordered c lt d.objects) lt) → (b : Bool) → is_class c o ≡ b
+    → (t : BackingArray) → IsTrue (is_index t (ordered c lt d.objects) lt) → (b : Bool) → is_class c o ≡ b
     → IsTrue (is_index t (ordered c lt (without_object d o).objects) lt)
 ordered-less-if c lt s d o f t h true e = index-less lt s t o (ordered c lt (without_object d o).objects)
     (subst (λ os. IsTrue (is_index t os lt)) (one-less c lt s d o f e t h) h)
@@ -170,7 +173,7 @@ ordered-less-if c lt s d o f t h false e =
 
 -- an index without an object of any class
 ordered-less : (c : Class) (lt : Object → Object → Bool) → IsStrict lt → (d : Directory) (o : Object) → IsIn d o
-    → (t : Table) → IsTrue (is_index t (ordered c lt d.objects) lt)
+    → (t : BackingArray) → IsTrue (is_index t (ordered c lt d.objects) lt)
     → IsTrue (is_index t (ordered c lt (without_object d o).objects) lt)
 ordered-less c lt s d o f t h = ordered-less-if c lt s d o f t h (is_class c o) refl
 
@@ -229,7 +232,8 @@ remove-insert_by lt o (p ∷ ps) h = remove-insert-if (lt o p) o p (insert_by lt
 
 -- the order of a class without one
 pub one-removed : (c : Class) (lt : Object → Object → Bool) → IsStrict lt → (d : Directory) (o : Object) → IsIn d o
-    → is_class c o ≡ true → IsTrue (rises_from 0 d.objects) → (t : Table) → IsTrue (is_index t (ordered c lt d.objects)
+    → is_class c o ≡ true → IsTrue (rises_from 0 d.objects) → (t : BackingArray)
+    → IsTrue (is_index t (ordered c lt d.objects)
     lt) → ordered c lt (without_object d o).objects ≡ remove_object (handle o.extent) (ordered c lt d.objects)
 one-removed c lt s d o f e r t h = sym (remove-insert_by lt o (ordered c lt (without_object d o).objects)
     (all-ordered (λ (q : Object). handle o.extent ≢ handle q.extent) c lt (remove_object (handle o.extent) d.objects)

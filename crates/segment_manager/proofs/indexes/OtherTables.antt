@@ -1,13 +1,19 @@
 -- What the bytes denote where an index has another table, and where one object is gone.
 use Rattle.segment_manager.proofs.Common as common
-use common.{◌≡◌, Same-part, IndexRole, is_proper, SameBlock, entries_of, option_map, IsReserved, rises_from, objects_of}
-use common.{refl, Option, IsTrue, Memory, Extent, LiveSet, handle, LaysOut, live_of, Denotes, resized, link_at, handles}
-use common.{sym, ◌∙◌, ◌+◌, ◌≤◌, Some, None, List, Cut, live, ◌*◌, Bool, true, ◌&&◌, ◌==◌, [], ◌||◌, place, ◌∷◌}
-use common.{ap, subst, arith, added, Keeps, Table, Index, Object, false, length, nat_le, nat_lt, eq-eqb, serves}
-use common.{ℕ, flat_map, bytes_of, no_table, unlinked, IsIndexOf, Directory, is_object, cut_table, KeepsRest, IsIndexAt}
+use common.{◌≡◌, SameBytes-part, IndexRole, is_proper, SameBlock, entries_of, option_map, ReservesIndexOk, rises_from}
+use common.{objects_of}
+use common.{refl, Option, IsTrue, Memory, Extent, LiveSet, handle, EncodesLiveSet, live_of, Denotes, resized, link_at}
+use common.{handles}
+use common.{sym, ◌∙◌, ◌+◌, ◌≤◌, Some, None, List, WindowState, live, ◌*◌, Bool, true, ◌&&◌, ◌==◌, [], ◌||◌, place, ◌∷◌}
+use common.{ap, subst, arith, added, KeepsBlocks, BackingArray, Index, Object, false, length, nat_le, nat_lt, eq-eqb}
+use common.{serves}
+use common.{ℕ, flat_map, bytes_of, no_backing, unlinked, IsIndexOf, Directory, is_object, shrunk_backing}
+use common.{KeepsOutsideIndex, IsIndexAt}
 use common.{AllByRecursion, class_of_index, with_table_of, if◌then◌else◌, placed_is_proper, lay_out_one, without_object}
-use common.{current, place_of, table_of, list_all, eqb-true, released, is_table, IsShrunk, IsHeader, is_index, order_of}
-use common.{Same-trans, blocks-trans, beside_table, without_link, extents_of, IsObjectAt, remove_object, table_extents}
+use common.{current, place_of, table_of, list_all, eqb-true, released, has_backing, ShrinksIndex, IsHeader, is_index}
+use common.{order_of}
+use common.{SameBytes-trans, blocks-trans, beside_table, without_link, extents_of, IsObjectAt, remove_object}
+use common.{table_extents}
 use Rattle.segment_manager.proofs.indexes.Entered.{HasOne, has_both, of_rest, other, other-stays, other-words}
 use Rattle.segment_manager.proofs.indexes.Tables.{index-left_out, left_out, live-moved_index, live-no_index}
 use Rattle.segment_manager.proofs.indexes.Tabled.{same-size, same-objects, has-one, place-high}
@@ -26,23 +32,24 @@ use Rattle.seg_index.specs.declared.index.Index.TheVariants as index
 -- ---- an index has another table
 
 -- its words and its block say so, and all else stays
-pub record IsTabled (i : Index) (old new : Cut) (d : Directory) (t : Table) : Type 0 where
-  pub laid : LaysOut current new.bytes (live (with_table_of i d t))
+pub record IsTabled (i : Index) (old new : WindowState) (d : Directory) (t : BackingArray) : Type 0 where
+  pub laid : EncodesLiveSet current new.bytes (live (with_table_of i d t))
   pub stands : IsIndexOf new (place_of i) t (entries_of i d)
-  pub keeps : KeepsRest old new (place_of i) (live (with_table_of i d no_table)).extents
+  pub keeps : KeepsOutsideIndex old new (place_of i) (live (with_table_of i d no_backing)).extents
 
-own-table : (i : Index) {m : Memory} (d : Directory) {t : Table} → IsTrue (is_index t (objects_of i d) (order_of i))
+own-table : (i : Index) {m : Memory} (d : Directory) {t : BackingArray}
+    → IsTrue (is_index t (objects_of i d) (order_of i))
     → IsIndexAt m (place_of i) t (entries_of i d) → HasOne i m (with_table_of i d t)
 own-table index.Named d a b = record { is = a; at = b }
 own-table index.Unique d a b = record { is = a; at = b }
 
-other-table : (i : Index) {m : Memory} {d : Directory} (t : Table) → HasOne (other i) m d
+other-table : (i : Index) {m : Memory} {d : Directory} (t : BackingArray) → HasOne (other i) m d
     → HasOne (other i) m (with_table_of i d t)
 other-table index.Named t h = record { is = h.is; at = h.at }
 other-table index.Unique t h = record { is = h.is; at = h.at }
 
 -- the directory with the table is what the new bytes denote
-pub tabled-denotes : {i : Index} {a c : Cut} {d : Directory} {t : Table} → Denotes current a.bytes d
+pub tabled-denotes : {i : Index} {a c : WindowState} {d : Directory} {t : BackingArray} → Denotes current a.bytes d
     → IsTabled i a c d t → Denotes current c.bytes (with_table_of i d t)
 tabled-denotes {i} {a} {c} {d} {t} k e =
     let A = bytes_of a.bytes in let C = bytes_of c.bytes in
@@ -54,7 +61,7 @@ tabled-denotes {i} {a} {c} {d} {t} k e =
     let both = has_both i (own-table i d is e.stands.stands) (other-table i t one) in
     let front : KeepsFront A C = record {
       front = e.keeps.front;
-      zeros = Same-part A C (place_of i + 24) 128 80 128 e.keeps.behind (omega arith) (omega arith);
+      zeros = SameBytes-part A C (place_of i + 24) 128 80 128 e.keeps.behind (omega arith) (omega arith);
     } in
     record {
       directory = record {
@@ -79,24 +86,24 @@ left-link l None = refl
 left-link l (Some x) = refl
 
 -- the table of so many places in a block
-abbrev pub places_in : ℕ → Extent → Table
+abbrev pub places_in : ℕ → Extent → BackingArray
 places_in n x = record { capacity = n; extent = Some x }
 
-pub reserved-tabled : {i : Index} {a c : Cut} {d : Directory} {n : ℕ} → Denotes current a.bytes d
-    → (r : IsReserved a c (place_of i) n) → IsTabled i a c d (places_in n r.extent)
+pub reserved-tabled : {i : Index} {a c : WindowState} {d : Directory} {n : ℕ} → Denotes current a.bytes d
+    → (r : ReservesIndexOk a c (place_of i) n) → IsTabled i a c d (places_in n r.extent)
 reserved-tabled {i} {a} {c} {d} {n} k r =
     let x = denotes-index i a k in let now = denotes-live current a.bytes d k in
     let moved : without_link (added (live_of a.bytes) r.extent) (link_at (bytes_of a.bytes) (place_of i)) ≡ live
     (with_table_of i d (places_in n r.extent)) = (λ j. without_link (added (now j) r.extent) (x.stands.link j))
     ∙ live-moved_index i d (places_in n r.extent) r.extent [] refl (placed_is_proper (live d) (8 * n) IndexRole
     r.extent k.directory.proper (sym (ap (λ l. place l (8 * n) IndexRole) now) ∙ r.placed)) in
-    let left : (unlinked a (place_of i)).extents ≡ (live (with_table_of i d no_table)).extents =
+    let left : (unlinked a (place_of i)).extents ≡ (live (with_table_of i d no_backing)).extents =
     (λ j. (without_link (now j) (x.stands.link j)).extents) ∙ left-link (live d) (table_of i d).extent
     ∙ index-left_out i d [] (live-rises (live d) k.directory.proper) in
     record {
-      laid = subst (LaysOut current c.bytes) moved r.live;
+      laid = subst (EncodesLiveSet current c.bytes) moved r.live;
       stands = r.index (table_of i d) (entries_of i d) x;
-      keeps = subst (KeepsRest a c (place_of i)) left r.keeps;
+      keeps = subst (KeepsOutsideIndex a c (place_of i)) left r.keeps;
     }
 
 -- ---- shrunk
@@ -119,23 +126,27 @@ module _ (i : Index) (d : Directory) (n : ℕ) (proper : IsTrue (is_proper (live
         | Some x ↦ if b then released (live d) (handle x) else resized (live d) (shorter (live d) x (8 * n))
       ]
 
-  abbrev cut_to : Option Extent → Bool → Table
-  cut_to o b = if b then no_table else record { capacity = n; extent = option_map (λ x. shorter (live d) x (8 * n)) o }
+  abbrev cut_to : Option Extent → Bool → BackingArray
+  cut_to o b = if b then no_backing else record {
+    capacity = n;
+    extent = option_map (λ x. shorter (live d) x (8 * n)) o;
+  }
 
   cut-cases : (o : Option Extent) (b : Bool) → (table_of i d).extent ≡ o → (o ≡ None → b ≡ true)
       → cut_live o b ≡ live (with_table_of i d (cut_to o b))
-  cut-cases None true e f = sym (live-same_index i d no_table (sym e))
+  cut-cases None true e f = sym (live-same_index i d no_backing (sym e))
   cut-cases None false e f = absurd (let g : false ≡ true = f refl in cc)
-  cut-cases (Some y) true e f = live-no_index i d no_table e refl proper
+  cut-cases (Some y) true e f = live-no_index i d no_backing e refl proper
   cut-cases (Some y) false e f = live-resized_index i d (cut_to (Some y) false) (shorter (live d) y (8 * n)) e refl
       (shorter-offset (live d) y (8 * n)) proper
 
   pub cut-live : ((table_of i d).extent ≡ None → (n == 0) ≡ true)
-      → with_cut (live d) n (table_of i d) ≡ live (with_table_of i d (cut_table (live d) 8 n (table_of i d)))
-  unfolding cut_table
+      → with_cut (live d) n (table_of i d) ≡ live (with_table_of i d (shrunk_backing (live d) 8 n (table_of i d)))
+  unfolding shrunk_backing
   cut-live f = cut-cases (table_of i d).extent (n == 0) refl f
 
-no-places : (t : Table) (n : ℕ) → IsTrue (is_table IndexRole 8 t) → n ≤ t.capacity → t.extent ≡ None → (n == 0) ≡ true
+no-places : (t : BackingArray) (n : ℕ) → IsTrue (has_backing IndexRole 8 t) → n ≤ t.capacity → t.extent ≡ None
+    → (n == 0) ≡ true
 no-places t n h few e = eq-eqb n 0 (omega (
   arith,
   few,
@@ -145,34 +156,37 @@ no-places t n h few e = eq-eqb n 0 (omega (
   ])) e h)),
 ))
 
-pub shrunk-tabled : {i : Index} {a c : Cut} {d : Directory} → Denotes current a.bytes d → IsShrunk a c (place_of i)
-    (table_of i d) (entries_of i d) → IsTabled i a c d (cut_table (live d) 8 (length (objects_of i d)) (table_of i d))
+pub shrunk-tabled : {i : Index} {a c : WindowState} {d : Directory} → Denotes current a.bytes d
+    → ShrinksIndex a c (place_of i)
+    (table_of i d) (entries_of i d)
+    → IsTabled i a c d (shrunk_backing (live d) 8 (length (objects_of i d)) (table_of i d))
 shrunk-tabled {i} {a} {c} {d} k r =
     let x = denotes-index i a k in let now = denotes-live current a.bytes d k in
     let len = handles-length (objects_of i d) in
-    let laid : LaysOut current c.bytes (with_cut (live d) (length (objects_of i d)) (table_of i d)) =
-    subst (LaysOut current c.bytes) (λ j. with_cut (now j) (len j) (table_of i d)) r.live in
+    let laid : EncodesLiveSet current c.bytes (with_cut (live d) (length (objects_of i d)) (table_of i d)) =
+    subst (EncodesLiveSet current c.bytes) (λ j. with_cut (now j) (len j) (table_of i d)) r.live in
     record {
-      laid = subst (LaysOut current c.bytes) (cut-live i d (length (objects_of i d)) k.directory.proper
+      laid = subst (EncodesLiveSet current c.bytes) (cut-live i d (length (objects_of i d)) k.directory.proper
           (no-places (table_of i d) (length (objects_of i d)) x.places (omega (arith, x.few, len)))) laid;
-      stands = subst (λ (t : Table). IsIndexOf c (place_of i) t (entries_of i d))
-          (λ j. cut_table (now j) 8 (len j) (table_of i d)) r.index;
-      keeps = subst (KeepsRest a c (place_of i)) (ap (λ (l : LiveSet). beside_table (table_of i d) l.extents) now
+      stands = subst (λ (t : BackingArray). IsIndexOf c (place_of i) t (entries_of i d))
+          (λ j. shrunk_backing (now j) 8 (len j) (table_of i d)) r.index;
+      keeps = subst (KeepsOutsideIndex a c (place_of i))
+          (ap (λ (l : LiveSet). beside_table (table_of i d) l.extents) now
           ∙ index-left_out i d [] (live-rises (live d) k.directory.proper)) r.keeps;
     }
 
 -- ---- one object's blocks less
 
 -- These blocks are no longer in use. Nothing in the others changed.
-pub record IsGone (old new : Cut) (xs : List Extent) : Type 0 where
-  pub live : LaysOut current new.bytes (removing (live_of old.bytes) xs)
-  pub keeps : Keeps old new (removing (live_of old.bytes) xs).extents
+pub record IsGone (old new : WindowState) (xs : List Extent) : Type 0 where
+  pub live : EncodesLiveSet current new.bytes (removing (live_of old.bytes) xs)
+  pub keeps : KeepsBlocks old new (removing (live_of old.bytes) xs).extents
 
 -- The entries of an index have become these, in the table that it had. Nothing else changed.
-pub record IsLeft (i : Index) (old new : Cut) (t : Table) (hs : List ℕ) : Type 0 where
-  pub live : LaysOut current new.bytes (live_of old.bytes)
+pub record IsLeft (i : Index) (old new : WindowState) (t : BackingArray) (hs : List ℕ) : Type 0 where
+  pub live : EncodesLiveSet current new.bytes (live_of old.bytes)
   pub stands : IsIndexOf new (place_of i) t hs
-  pub keeps : KeepsRest old new (place_of i) (beside_table t (live_of old.bytes).extents)
+  pub keeps : KeepsOutsideIndex old new (place_of i) (beside_table t (live_of old.bytes).extents)
 
 less-if : (P : Extent → Type 0) (b : Bool) (p : Object) (ps qs : List Object)
     → AllByRecursion P (flat_map extents_of (p ∷ ps)) → AllByRecursion P (flat_map extents_of qs)
@@ -208,7 +222,8 @@ table-in index.Named P d o e = e.named
 table-in index.Unique P d o e = e.unique
 
 -- the directory without the object is what the new bytes denote
-pub removed-denotes : {i : Index} {a b c : Cut} {d : Directory} (o : Object) → Denotes current a.bytes d → IsIn d o
+pub removed-denotes : {i : Index} {a b c : WindowState} {d : Directory} (o : Object) → Denotes current a.bytes d
+    → IsIn d o
     → o.class ≡ class_of_index i → IsLeft i a b (table_of i d) (entries_of i (without_object d o))
     → IsGone b c (extents_of o) → Denotes current c.bytes (without_object d o)
 removed-denotes {i} {a} {b} {c} {d} o k f class e g =
@@ -216,8 +231,8 @@ removed-denotes {i} {a} {b} {c} {d} o k f class e g =
     let C = bytes_of c.bytes in let low = place_behind i in
     let high = place-high i in let now = denotes-live current a.bytes d k in
     let mid = lay_out_one current b.bytes (live_of a.bytes) e.live ∙ now in
-    let laid : LaysOut current c.bytes (removing (live d) (extents_of o)) =
-    subst (λ l. LaysOut current c.bytes (removing l (extents_of o))) mid g.live in
+    let laid : EncodesLiveSet current c.bytes (removing (live d) (extents_of o)) =
+    subst (λ l. EncodesLiveSet current c.bytes (removing l (extents_of o))) mid g.live in
     let others : removing (live_of b.bytes) (extents_of o) ≡ live (without_object d o) =
     ap (λ l. removing l (extents_of o)) mid ∙ sym (live-without d o f k.directory.proper) in
     let after =
@@ -227,18 +242,18 @@ removed-denotes {i} {a} {b} {c} {d} o k f class e g =
     ∙ index-left_out i d [] (live-rises (live d) k.directory.proper)) e.keeps.blocks) in
     let blocks = blocks-trans A B C (flat_map extents_of (remove_object (handle o.extent) d.objects))
     (all-less (SameBlock A B) (handle o.extent) d.objects before.objects) after.objects in
-    let one = other-stays i (has-one (other i) k) (other-words i (Same-trans A B C 32 (place_of i) e.keeps.before
-    (Same-part B C 32 128 32 (place_of i) g.keeps.behind (omega arith) (omega arith))) (Same-trans A B C
-    (place_of i + 24) 128 e.keeps.behind (Same-part B C 32 128 (place_of i + 24) 128 g.keeps.behind (omega arith)
+    let one = other-stays i (has-one (other i) k) (other-words i (SameBytes-trans A B C 32 (place_of i) e.keeps.before
+    (SameBytes-part B C 32 128 32 (place_of i) g.keeps.behind (omega arith) (omega arith))) (SameBytes-trans A B C
+    (place_of i + 24) 128 e.keeps.behind (SameBytes-part B C 32 128 (place_of i + 24) 128 g.keeps.behind (omega arith)
     (omega arith)))) (blocks-trans A B C (table_extents (table_of (other i) d)) before.other_table
     (table-in (other i) (SameBlock B C) d o after)) in
-    let both = both-at i o (any_index-same e.stands.places e.stands.few (Same-part B C 32 128 (place_of i)
+    let both = both-at i o (any_index-same e.stands.places e.stands.few (SameBytes-part B C 32 128 (place_of i)
     (place_of i + 24) g.keeps.behind low (omega arith)) (table-in i (SameBlock B C) d o after) e.stands.stands)
     (subst (IsIndexAt C (place_of (other i)) (table_of (other i) d)) (sym (no-entry-removed (other i) d f.is
     (other_class i o class))) one.at) in
     let front : KeepsFront A C = record {
-      front = Same-trans A B C 0 24 e.keeps.front g.keeps.front;
-      zeros = Same-trans A B C 80 128 (Same-part A B (place_of i + 24) 128 80 128 e.keeps.behind (omega arith)
-          (omega arith)) (Same-part B C 32 128 80 128 g.keeps.behind (omega arith) (omega arith));
+      front = SameBytes-trans A B C 0 24 e.keeps.front g.keeps.front;
+      zeros = SameBytes-trans A B C 80 128 (SameBytes-part A B (place_of i + 24) 128 80 128 e.keeps.behind (omega arith)
+          (omega arith)) (SameBytes-part B C 32 128 80 128 g.keeps.behind (omega arith) (omega arith));
     } in
     denotes-taken o k f laid front blocks both.named both.unique

@@ -1,9 +1,11 @@
 -- A look-up in the index of names parts them by the text that is looked up.
 use Rattle.segment_manager.proofs.Common as common
 use common.{◌≡◌, sym, ap, subst, ◌∙◌, ℕ, ◌<◌, ◌≤◌, ◌⊎◌, inl, inr, true, false, Some, length, arith, cases_lt}
-use common.{slice_get, slice_get_within, List, slice_cmp, nat_cmp, is_lt, Equal, same_Some, Cut, bytes_of, Entry}
-use common.{Name, Found, Absent, IsPlace, handle, Object, Directory, by_name, named_objects, Denotes, IsEntry, Named}
-use common.{entries_of, current, State}
+use common.{slice_get, slice_get_within, List, slice_cmp, nat_cmp, is_lt, Equal, same_Some, WindowState, bytes_of}
+use common.{Entry}
+use common.{Name, Found, Absent, FindsPosition, handle, Object, Directory, by_name, named_objects, Denotes, IsEntry}
+use common.{Named}
+use common.{entries_of, current, SegmentState}
 use Rattle.segment_manager.proofs.indexes.HeldIndexes.{entries-in, objects-ascend}
 use Rattle.segment_manager.proofs.indexes.EntryPlaces.{all-at, ascends-at, at-handle, stands-at}
 use Rattle.segment_manager.proofs.indexes.Indexes.{by_name-strict}
@@ -14,7 +16,7 @@ use Rattle.seg_index.specs.Lookups.{order}
 use Rattle.segment_manager.specs.indexes.NamesFrom.{IsFirstFrom, PartsNames, is_before}
 use denote.Ref.{Bor}
 
-module _ (c : Cut) (d : Directory) (k : Denotes current c.bytes d) (s : Bor (List ℕ)) where
+module _ (c : WindowState) (d : Directory) (k : Denotes current c.bytes d) (s : Bor (List ℕ)) where
   -- an entry compares the name of its object
   compared : (j : ℕ) {o : Object} → slice_get (named_objects d) j ≡ Some o
       → slice_cmp nat_cmp o.name s.now ≡ order (bytes_of c.bytes) (Name s) (handle o.extent)
@@ -33,7 +35,7 @@ module _ (c : Cut) (d : Directory) (k : Denotes current c.bytes d) (s : Bor (Lis
       ap is_lt (subst (λ (q : Object). slice_cmp nat_cmp q.name s.now ≡ Equal)
       (same_Some o p (sym f ∙ ap (slice_get (named_objects d)) same ∙ g)) e)
 
-  pub parts-absent : (at : ℕ) → IsPlace (bytes_of c.bytes) (Name s) (entries_of Named d) (Absent at)
+  pub parts-absent : (at : ℕ) → FindsPosition (bytes_of c.bytes) (Name s) (entries_of Named d) (Absent at)
       → PartsNames s.now (named_objects d) at
   parts-absent at p =
       let each = p.1 in
@@ -43,7 +45,7 @@ module _ (c : Cut) (d : Directory) (k : Denotes current c.bytes d) (s : Bor (Lis
         from = λ j o f l. ap is_lt (compared j f ∙ (each j (handle o.extent) (at-handle (named_objects d) j f)).1 l);
       }
 
-  pub parts-found : (at : ℕ) → IsPlace (bytes_of c.bytes) (Name s) (entries_of Named d) (Found at)
+  pub parts-found : (at : ℕ) → FindsPosition (bytes_of c.bytes) (Name s) (entries_of Named d) (Found at)
       → PartsNames s.now (named_objects d) at
   parts-found at p =
       let t = stands-at (named_objects d) at p.1 in
@@ -58,16 +60,16 @@ module _ (c : Cut) (d : Directory) (k : Denotes current c.bytes d) (s : Bor (Lis
       }
 
 -- the same of each directory that the bytes stand for
-pub first-absent : (s : State) (e : Bor (List ℕ)) (at : ℕ)
-    → ForIndex s.cut Named (λ hs. IsPlace (bytes_of s.cut.bytes) (Name e) hs (Absent at)) → IsFirstFrom s e.now at
+pub first-absent : (s : SegmentState) (e : Bor (List ℕ)) (at : ℕ)
+    → ForIndex s.cut Named (λ hs. FindsPosition (bytes_of s.cut.bytes) (Name e) hs (Absent at)) → IsFirstFrom s e.now at
 first-absent s e at f = record {
   parts = λ d k. parts-absent s.cut d k.denotes e at
-      (of-directory s Named (λ hs. IsPlace (bytes_of s.cut.bytes) (Name e) hs (Absent at)) k f);
+      (of-directory s Named (λ hs. FindsPosition (bytes_of s.cut.bytes) (Name e) hs (Absent at)) k f);
 }
 
-pub first-found : (s : State) (e : Bor (List ℕ)) (at : ℕ)
-    → ForIndex s.cut Named (λ hs. IsPlace (bytes_of s.cut.bytes) (Name e) hs (Found at)) → IsFirstFrom s e.now at
+pub first-found : (s : SegmentState) (e : Bor (List ℕ)) (at : ℕ)
+    → ForIndex s.cut Named (λ hs. FindsPosition (bytes_of s.cut.bytes) (Name e) hs (Found at)) → IsFirstFrom s e.now at
 first-found s e at f = record {
   parts = λ d k. parts-found s.cut d k.denotes e at
-      (of-directory s Named (λ hs. IsPlace (bytes_of s.cut.bytes) (Name e) hs (Found at)) k f);
+      (of-directory s Named (λ hs. FindsPosition (bytes_of s.cut.bytes) (Name e) hs (Found at)) k f);
 }

@@ -1,10 +1,14 @@
 -- The calls that give the indexes other capacities, as steps of the machine.
 use Rattle.segment_manager.proofs.Common as common
-use common.{◌≡◌, cases_lt, IndexRole, IsRefused, cut_table, IsIndexOf, Directory, objects_of, reserve_of, IsSegment}
-use common.{refl, if◌then◌else◌, SamePlace-trans, is_changing, capacity_at, entries_of, with_table_of, is_read_only}
-use common.{sym, ap, ◌∙◌, ◌*◌, ◌<◌, ◌≤◌, ◌⊎◌, inl, inr, List, Cut, Done, live, Plan, New, Bool, subst, true, false}
-use common.{arith, nat_le, le-leb, lt-leb, place, Table, Index, Reply, IsStep, State, effect, ℕ, length, current}
-use common.{NoSpace, IsRoomy, IsShrunk, HasIndex, place_of, Refused, Denotes, table_of, Request}
+use common.{◌≡◌, cases_lt, IndexRole, AllocatesNoSpace, shrunk_backing, IsIndexOf, Directory, objects_of, reserve_of}
+use common.{IsSegment}
+use common.{refl, if◌then◌else◌, SameSurroundings-trans, is_changing, capacity_at, entries_of, with_table_of}
+use common.{is_read_only}
+use common.{sym, ap, ◌∙◌, ◌*◌, ◌<◌, ◌≤◌, ◌⊎◌, inl, inr, List, WindowState, Done, live, Plan, New, Bool, subst, true}
+use common.{false}
+use common.{arith, nat_le, le-leb, lt-leb, place, BackingArray, Index, Reply, TakesStep, SegmentState, effect, ℕ}
+use common.{length, current}
+use common.{NoSpace, KeepsRoomyIndex, ShrinksIndex, HasIndex, place_of, Refused, Denotes, table_of, Request}
 use Rattle.segment_manager.proofs.indexes.OtherTables.{places_in, reserved-tabled, shrunk-tabled, tabled-denotes}
 use Rattle.segment_manager.proofs.Steps.{by_no_change, by_step, lands, open-writing, perform-new, perform-no_space}
 use Rattle.segment_manager.proofs.{Steps.step-plan, Steps.step-reply, containers.Safely.Stepped}
@@ -26,14 +30,14 @@ reserve-effect index.Named d n {b} e = ap (λ b. if b then Reply Done d else tak
 reserve-effect index.Unique d n {b} e = ap (λ b. if b then Reply Done d else take_places index.Unique d n) e
 
 -- there are so many places, or they are taken
-pub reserves : {s t : State} (view : s ≡ t) (b : IsSegment s.cut.bytes) {c : Cut} (i : Index) {n : ℕ}
-    → is_read_only t.mode ≡ false → IsRoomy s.cut c (place_of i) n → Stepped s t c (reserve_of i n) Done
+pub reserves : {s t : SegmentState} (view : s ≡ t) (b : IsSegment s.cut.bytes) {c : WindowState} (i : Index) {n : ℕ}
+    → is_read_only t.mode ≡ false → KeepsRoomyIndex s.cut c (place_of i) n → Stepped s t c (reserve_of i n) Done
 reserves {s} {t} view b {c} i {n} may r = stepped s t view b c (reserve_of i n) Done may
     (λ writing. by_case writing (cases_lt (capacity_at s.cut (place_of i)) n))
   where
     by_case : is_read_only s.mode ≡ false → (capacity_at s.cut (place_of i) < n) ⊎ (n ≤ capacity_at s.cut (place_of i))
-        → IsStep s (record s { cut = c }) (reserve_of i n) Done
-    by_case writing (inr h) = subst (λ (x : Cut). IsStep s (record s { cut = x }) (reserve_of i n) Done)
+        → TakesStep s (record s { cut = c }) (reserve_of i n) Done
+    by_case writing (inr h) = subst (λ (x : WindowState). TakesStep s (record s { cut = x }) (reserve_of i n) Done)
         (sym (r.same h)) (by_no_change s (reserve_of i n) Done (λ d k.
         let x = denotes-index i s.cut k.denotes in
         step-reply s.mode d (reserve_of i n) Done d (open-writing s.mode (reserve_of i n) writing)
@@ -50,11 +54,12 @@ reserves {s} {t} view b {c} i {n} may r = stepped s t view b c (reserve_of i n) 
         }))
 
 -- or their block is refused
-pub reserves-none : {s t : State} (view : s ≡ t) (b : IsSegment s.cut.bytes) {c : Cut} (i : Index) (n : ℕ)
-    → is_read_only t.mode ≡ false → capacity_at s.cut (place_of i) < n → IsRefused s.cut c (8 * n) IndexRole
+pub reserves-none : {s t : SegmentState} (view : s ≡ t) (b : IsSegment s.cut.bytes) {c : WindowState} (i : Index)
+    (n : ℕ)
+    → is_read_only t.mode ≡ false → capacity_at s.cut (place_of i) < n → AllocatesNoSpace s.cut c (8 * n) IndexRole
     → Stepped s t c (reserve_of i n) (Refused NoSpace)
 reserves-none {s} {t} view b {c} i n may h r = stepped s t view b c (reserve_of i n) (Refused NoSpace) may (λ writing.
-    subst (λ (x : Cut). IsStep s (record s { cut = x }) (reserve_of i n) (Refused NoSpace)) (sym r.same)
+    subst (λ (x : WindowState). TakesStep s (record s { cut = x }) (reserve_of i n) (Refused NoSpace)) (sym r.same)
     (by_no_change s (reserve_of i n) (Refused NoSpace) (λ d k.
     let x = denotes-index i s.cut k.denotes in
     step-plan s.mode d (reserve_of i n) (open-writing s.mode (reserve_of i n) writing)
@@ -65,25 +70,26 @@ reserves-none {s} {t} view b {c} i n may h r = stepped s t view b c (reserve_of 
 -- ---- both shrunk
 
 -- an index is shrunk, whichever directory the bytes denote
-abbrev pub Shrinks : Index → Cut → Cut → Type 0
-Shrinks i a c = (t : Table) (hs : List ℕ) → IsIndexOf a (place_of i) t hs → IsShrunk a c (place_of i) t hs
+abbrev pub Shrinks : Index → WindowState → WindowState → Type 0
+Shrinks i a c = (t : BackingArray) (hs : List ℕ) → IsIndexOf a (place_of i) t hs → ShrinksIndex a c (place_of i) t hs
 
 -- an index of a directory with no more places than entries
 abbrev shrunk : Index → Directory → Directory
-shrunk i d = with_table_of i d (cut_table (live d) 8 (length (objects_of i d)) (table_of i d))
+shrunk i d = with_table_of i d (shrunk_backing (live d) 8 (length (objects_of i d)) (table_of i d))
 
-pub shrunk-denotes : (i : Index) {a c : Cut} {d : Directory} → Denotes current a.bytes d → Shrinks i a c
+pub shrunk-denotes : (i : Index) {a c : WindowState} {d : Directory} → Denotes current a.bytes d → Shrinks i a c
     → Denotes current c.bytes (shrunk i d)
 shrunk-denotes i {a} {d} k r =
     tabled-denotes k (shrunk-tabled k (r (table_of i d) (entries_of i d) (denotes-index i a k)))
 
-pub shrinks : {s t : State} (view : s ≡ t) (g : IsSegment s.cut.bytes) {b c : Cut} → is_read_only t.mode ≡ false
+pub shrinks : {s t : SegmentState} (view : s ≡ t) (g : IsSegment s.cut.bytes) {b c : WindowState}
+    → is_read_only t.mode ≡ false
     → Shrinks index.Named s.cut b → Shrinks index.Unique b c → Stepped s t c asked.ShrinkIndexes Done
 shrinks {s} {t} view g {b} {c} may n u =
     let k0 = g.1.denotes in let e0 = shrunk index.Named g.0 in
     stepped s t view g c asked.ShrinkIndexes Done may (λ writing. by_step asked.ShrinkIndexes (record {
       mode = refl;
-      place = SamePlace-trans s.cut b c (n (table_of index.Named g.0) (entries_of index.Named g.0) (denotes-index
+      place = SameSurroundings-trans s.cut b c (n (table_of index.Named g.0) (entries_of index.Named g.0) (denotes-index
           index.Named s.cut k0)).keeps.place (u (table_of index.Unique e0) (entries_of index.Unique e0) (denotes-index
           index.Unique b (shrunk-denotes index.Named k0 n))).keeps.place;
     }) (λ d k. lands (shrunk index.Unique (shrunk index.Named d)) (record {
@@ -93,7 +99,8 @@ shrinks {s} {t} view g {b} {c} may n u =
     })))
 
 -- the other index stands still where one is shrunk
-pub shrunk-index : {a b : Cut} → IsSegment a.bytes → Shrinks index.Named a b → HasIndex b (place_of index.Unique)
+pub shrunk-index : {a b : WindowState} → IsSegment a.bytes → Shrinks index.Named a b
+    → HasIndex b (place_of index.Unique)
 shrunk-index {b} g n =
     let e = shrunk index.Named g.0 in
     record {

@@ -1,9 +1,11 @@
 -- What the bytes denote after an index has an entry more or less, or another capacity.
 use Rattle.segment_manager.proofs.Common as common
 use common.{◌≡◌, refl, sym, ap, subst, ◌∙◌, ℕ, ◌+◌, ◌≤◌, Some, None, Option, List, arith, IsTrue, flat_map, insert}
-use common.{AllByRecursion, Cut, Same, SamePlace, bytes_of, current, Same-part, Same-trans, IndexRole, Extent, LiveSet}
-use common.{handle, is_proper, added, others, IsAllocated, Keeps, LaysOut, SameBlock, extent_at, live_of, Table}
-use common.{no_table, allocated-live, blocks-trans, Index, AddKeeps, Adds, beside_table, unlinked, without_link}
+use common.{AllByRecursion, WindowState, SameBytes, SameSurroundings, bytes_of, current, SameBytes-part}
+use common.{SameBytes-trans, IndexRole, Extent, LiveSet}
+use common.{handle, is_proper, added, others, AllocatesOk, KeepsBlocks, EncodesLiveSet, SameBlock, extent_at, live_of}
+use common.{BackingArray}
+use common.{no_backing, allocated-live, blocks-trans, Index, AddKeeps, AddsEntry, beside_table, unlinked, without_link}
 use common.{IsIndexOf, place_of, grown_capacity, Object, Directory, extents_of, is_object, live, object_at, with_object}
 use common.{Denotes, IsObjectAt, class_of_index, entries_of, table_of, with_table_of}
 use Rattle.segment_manager.proofs.objects.Taking.{IsMade, allocated-found, taken-found, taken-live}
@@ -20,21 +22,21 @@ use Rattle.seg_index.specs.declared.index.Index.TheVariants as index
 
 -- An index has another table, and the entries with the object's. Its old block is no longer in use. Of an object that
 -- was made before, and of all that the directory had, nothing changed.
-pub record IsEntered (i : Index) (old new : Cut) (d : Directory) (t : Table) (o : Object) : Type 0 where
-  pub laid : LaysOut current new.bytes (adding (live (with_table_of i d t)) (extents_of o))
+pub record IsEntered (i : Index) (old new : WindowState) (d : Directory) (t : BackingArray) (o : Object) : Type 0 where
+  pub laid : EncodesLiveSet current new.bytes (adding (live (with_table_of i d t)) (extents_of o))
   pub blocks : AllByRecursion (SameBlock (bytes_of old.bytes) (bytes_of new.bytes))
-      (inserted (extents_of o) (live (with_table_of i d no_table)).extents)
-  pub place : SamePlace old new
-  pub front : Same (bytes_of old.bytes) (bytes_of new.bytes) 0 24
-  pub before : Same (bytes_of old.bytes) (bytes_of new.bytes) 32 (place_of i)
-  pub behind : Same (bytes_of old.bytes) (bytes_of new.bytes) (place_of i + 24) 128
+      (inserted (extents_of o) (live (with_table_of i d no_backing)).extents)
+  pub place : SameSurroundings old new
+  pub front : SameBytes (bytes_of old.bytes) (bytes_of new.bytes) 0 24
+  pub before : SameBytes (bytes_of old.bytes) (bytes_of new.bytes) 32 (place_of i)
+  pub behind : SameBytes (bytes_of old.bytes) (bytes_of new.bytes) (place_of i + 24) 128
   pub stands : IsIndexOf new (place_of i) t (entries_of i (with_object d o))
 
-pub same-size : (i : Index) (d : Directory) (t : Table) → (with_table_of i d t).size ≡ d.size
+pub same-size : (i : Index) (d : Directory) (t : BackingArray) → (with_table_of i d t).size ≡ d.size
 same-size index.Named d t = refl
 same-size index.Unique d t = refl
 
-pub same-objects : (i : Index) (d : Directory) (t : Table) → (with_table_of i d t).objects ≡ d.objects
+pub same-objects : (i : Index) (d : Directory) (t : BackingArray) → (with_table_of i d t).objects ≡ d.objects
 same-objects index.Named d t = refl
 same-objects index.Unique d t = refl
 
@@ -47,28 +49,29 @@ place-high index.Named = omega arith
 place-high index.Unique = omega arith
 
 -- the directory with the object is what the new bytes denote
-pub entered-denotes : {i : Index} (a : Cut) {b c : Cut} {d : Directory} {t : Table} {o : Object}
-    → Denotes current a.bytes d → Keeps a b (live d).extents → IsTrue (is_object current o)
+pub entered-denotes : {i : Index} (a : WindowState) {b c : WindowState} {d : Directory} {t : BackingArray} {o : Object}
+    → Denotes current a.bytes d → KeepsBlocks a b (live d).extents → IsTrue (is_object current o)
     → IsObjectAt (bytes_of b.bytes) o → o.class ≡ class_of_index i → object_at d (key_in i o) ≡ None
     → IsEntered i b c d t o → Denotes current c.bytes (with_object (with_table_of i d t) o)
 entered-denotes {i} a {b} {c} {d} {t} {o} k keeps good at class none e =
     let A = bytes_of a.bytes in let B = bytes_of b.bytes in
     let C = bytes_of c.bytes in let low = place_behind i in
     let high = place-high i in let before = of_all i (SameBlock A B) keeps.blocks in
-    let parts = all_of-inserted (SameBlock B C) (extents_of o) (live (with_table_of i d no_table)).extents e.blocks in
+    let parts = all_of-inserted (SameBlock B C) (extents_of o) (live (with_table_of i d no_backing)).extents e.blocks in
     let after = of_rest i (SameBlock B C) parts.1 in
     let all : OfRest i (SameBlock A C) d = record {
       objects = blocks-trans A B C (flat_map extents_of d.objects) before.objects after.objects;
       other_table = blocks-trans A B C _ before.other_table after.other_table;
     } in
-    let one = other-stays i (has-one (other i) k) (other-words i (Same-trans A B C 32 (place_of i)
-    (Same-part A B 32 128 32 (place_of i) keeps.behind (omega arith) (omega arith)) e.before)
-    (Same-trans A B C (place_of i + 24) 128
-    (Same-part A B 32 128 (place_of i + 24) 128 keeps.behind (omega arith) (omega arith)) e.behind)) all.other_table in
+    let one = other-stays i (has-one (other i) k) (other-words i (SameBytes-trans A B C 32 (place_of i)
+    (SameBytes-part A B 32 128 32 (place_of i) keeps.behind (omega arith) (omega arith)) e.before)
+    (SameBytes-trans A B C (place_of i + 24) 128
+    (SameBytes-part A B 32 128 (place_of i + 24) 128 keeps.behind (omega arith) (omega arith)) e.behind))
+    all.other_table in
     let front : KeepsFront A C = record {
-      front = Same-trans A B C 0 24 keeps.front e.front;
-      zeros = Same-trans A B C 80 128 (Same-part A B 32 128 80 128 keeps.behind (omega arith) (omega arith))
-          (Same-part B C (place_of i + 24) 128 80 128 e.behind (omega arith) (omega arith));
+      front = SameBytes-trans A B C 0 24 keeps.front e.front;
+      zeros = SameBytes-trans A B C 80 128 (SameBytes-part A B 32 128 80 128 keeps.behind (omega arith) (omega arith))
+          (SameBytes-part B C (place_of i + 24) 128 80 128 e.behind (omega arith) (omega arith));
     } in
     denotes-put (with_table_of i d t) k (same-size i d t) (same-objects i d t) good e.laid front all.objects
     (has_both i (entered-own d o class none (has-one i k).is e.stands.places e.stands.few e.stands.stands)
@@ -77,19 +80,22 @@ entered-denotes {i} a {b} {c} {d} {t} {o} k keeps good at class none e =
 -- ---- after `prepare`, the making of an object, and `add`
 
 -- the index had a place left
-pub entered-none : {i : Index} (a : Cut) {b : Cut} {c : Cut} {d : Directory} {o : Object} (at : ℕ)
+pub entered-none : {i : Index} (a : WindowState) {b : WindowState} {c : WindowState} {d : Directory} {o : Object}
+    (at : ℕ)
     → Denotes current a.bytes d → IsMade a b o → IsIndexOf b (place_of i) (table_of i d) (entries_of i d)
-    → insert (entries_of i d) at (handle o.extent) ≡ entries_of i (with_object d o) → Adds b c (place_of i)
-    (table_of i d) (insert (entries_of i d) at (handle o.extent)) None → LaysOut current c.bytes (live_of b.bytes)
+    → insert (entries_of i d) at (handle o.extent) ≡ entries_of i (with_object d o) → AddsEntry b c (place_of i)
+    (table_of i d) (insert (entries_of i d) at (handle o.extent)) None
+    → EncodesLiveSet current c.bytes (live_of b.bytes)
     → AddKeeps b c (place_of i) (table_of i d) None → IsEntered i b c d (table_of i d) o
 entered-none {i} a {b} {c} {d} {o} at k m x e adds laid keeps =
     let ys = extents_of o in
     let same = taken-live a b (extents_of o) m.taken ∙ ap (λ l. adding l ys) (denotes-live current a.bytes d k) in
-    let laid' : LaysOut current c.bytes (adding (live d) ys) = subst (LaysOut current c.bytes) same laid in
+    let laid' : EncodesLiveSet current c.bytes (adding (live d) ys) =
+    subst (EncodesLiveSet current c.bytes) same laid in
     let gone = ap (λ (l : LiveSet). beside_table (table_of i d) l.extents) same
     ∙ index-left_out i d ys (live-rises (adding (live d) ys) laid'.proper) in
     record {
-      laid = subst (λ e. LaysOut current c.bytes (adding (live e) ys)) (sym (same-table i)) laid';
+      laid = subst (λ e. EncodesLiveSet current c.bytes (adding (live e) ys)) (sym (same-table i)) laid';
       blocks = subst (AllByRecursion (SameBlock (bytes_of b.bytes) (bytes_of c.bytes))) gone keeps.blocks;
       place = keeps.place;
       front = keeps.front;
@@ -99,15 +105,15 @@ entered-none {i} a {b} {c} {d} {o} at k m x e adds laid keeps =
     }
 
 -- the table of an index that has grown into a block
-abbrev pub grown_into : Index → Directory → Extent → Table
+abbrev pub grown_into : Index → Directory → Extent → BackingArray
 grown_into i d x = record { capacity = grown_capacity (table_of i d).capacity; extent = Some x }
 
 -- the index grew into a new block
-pub entered-some : {i : Index} {a m b : Cut} {c : Cut} {d : Directory} {o : Object} (at : ℕ) {n h : ℕ}
-    → Denotes current a.bytes d → (g : IsAllocated current a m n IndexRole h) → IsMade m b o → IsIndexOf b (place_of i)
+pub entered-some : {i : Index} {a m b : WindowState} {c : WindowState} {d : Directory} {o : Object} (at : ℕ) {n h : ℕ}
+    → Denotes current a.bytes d → (g : AllocatesOk current a m n IndexRole h) → IsMade m b o → IsIndexOf b (place_of i)
     (table_of i d) (entries_of i d) → insert (entries_of i d) at (handle o.extent) ≡ entries_of i (with_object d o)
-    → Adds b c (place_of i) (table_of i d) (insert (entries_of i d) at (handle o.extent)) (Some h)
-    → LaysOut current c.bytes (unlinked b (place_of i)) → AddKeeps b c (place_of i) (table_of i d) (Some h)
+    → AddsEntry b c (place_of i) (table_of i d) (insert (entries_of i d) at (handle o.extent)) (Some h)
+    → EncodesLiveSet current c.bytes (unlinked b (place_of i)) → AddKeeps b c (place_of i) (table_of i d) (Some h)
     → IsEntered i b c d (grown_into i d g.extent) o
 entered-some {i} {a} {m} {b} {c} {d} {o} at {n} {h} k g made x e adds laid keeps =
     let ys = extents_of o in let t = grown_into i d g.extent in
@@ -117,13 +123,14 @@ entered-some {i} {a} {m} {b} {c} {d} {o} at {n} {h} k g made x e adds laid keeps
     (λ j. without_link ((taken-live m b (extents_of o) made.taken ∙ ap (λ l. adding l ys) mid) j) (x.stands.link j))
     ∙ live-moved_index i d t g.extent ys refl
     (subst (λ l. IsTrue (is_proper (adding l ys))) mid made.taken.live.proper) in
-    let laid' : LaysOut current c.bytes (adding (live (with_table_of i d t)) ys) =
-    subst (LaysOut current c.bytes) left laid in
-    let all : others h (unlinked b (place_of i)).extents ≡ inserted ys (live (with_table_of i d no_table)).extents =
+    let laid' : EncodesLiveSet current c.bytes (adding (live (with_table_of i d t)) ys) =
+    subst (EncodesLiveSet current c.bytes) left laid in
+    let all : others h (unlinked b (place_of i)).extents ≡ inserted ys (live (with_table_of i d no_backing)).extents =
     (λ j. others (g.at j) (left j).extents)
-    ∙ (ap (λ (u : Table). left_out u.extent (inserted ys (live (with_table_of i d t)).extents)) (sym (table-of i d))
+    ∙ (ap (λ (u : BackingArray). left_out u.extent (inserted ys (live (with_table_of i d t)).extents))
+    (sym (table-of i d))
     ∙ index-left_out i (with_table_of i d t) ys (live-rises (adding (live (with_table_of i d t)) ys) laid'.proper)
-    ∙ ap (λ e. inserted ys (live e).extents) (last-table i d t no_table)) in
+    ∙ ap (λ e. inserted ys (live e).extents) (last-table i d t no_backing)) in
     let found = taken-found m b (extents_of o) h made.taken (allocated-found g) in
     record {
       laid = laid';

@@ -5,9 +5,10 @@ use common.{slice_set, eq-eqb, same_Some, Kind, ScalarOf, StringKind, VectorKind
 use common.{NotFound, WrongKind, code_of, is_value, Key, ByHandle, Command, Literal, literal_of, value_of_literal, Mode}
 use common.{Located, Answer, Done, Refused, elements_at, elements_of, kind_at, Value, Numbers, Elements, Bytes, Pairs}
 use common.{Texts, Object, Directory, kind_of, live, object_at, IsMissing, IsLocated, Plan, Refuse, Reply, perform}
-use common.{with, Answers, IsReply, IsReplyOfKind, IsStep, State, StandsFor, changed, effect, element_at, get}
+use common.{with, AnswersWith, AnswersQuery, AnswersQueryOfKind, TakesStep, SegmentState, DenotesCurrent, changed}
+use common.{effect, element_at, get}
 use common.{is_read_only, set, step, with_items, ne_eqb, scalar_code, size_of, same_kind, handle, arith, bytes_of}
-use common.{◌+◌, ◌≤◌, ◌==◌, SameBut, Place}
+use common.{◌+◌, ◌≤◌, ◌==◌, SameBytesExcept, Place}
 use Rattle.std.specs.Prelude.{IfOk, OnOk}
 use Rattle.segment_manager.specs.{Keeping.ChangesElement, objects.Standing.place_in}
 use Rattle.segment_manager.proofs.objects.Locating.{kind-by_key, reply_of_kind-by_key, same-object}
@@ -83,29 +84,29 @@ machine-if mode d key i (Err r) n e =
     sym (ap (λ (x : Answer × Directory). x.0) (step-not_read mode i n (none-if (object_at d key) refl (sym e))))
 
 -- the object of a key is no vector of texts
-abbrev pub HasNoTexts : State → Key → Type 0
-HasNoTexts s key = (d : Directory) → StandsFor s.cut.bytes d → (o : Object) → object_at d key ≡ Some o
+abbrev pub HasNoTexts : SegmentState → Key → Type 0
+HasNoTexts s key = (d : Directory) → DenotesCurrent s.cut.bytes d → (o : Object) → object_at d key ≡ Some o
     → kind_of o.value ≡ StringsKind → ⊥
 
 -- a call that reads scalars alone answers as the machine where there are no texts
-pub scalars-replies : (s : State) (key : Key) (i : ℕ) (answer : Answer) → HasNoTexts s key
-    → Answers s (λ d. scalar_reply s.mode d key (asked.Get key i)) answer → IsReply s (asked.Get key i) answer
+pub scalars-replies : (s : SegmentState) (key : Key) (i : ℕ) (answer : Answer) → HasNoTexts s key
+    → AnswersWith s (λ d. scalar_reply s.mode d key (asked.Get key i)) answer → AnswersQuery s (asked.Get key i) answer
 scalars-replies s key i answer n r = record {
   answers = λ d l. r.answers d l ∙ machine-if s.mode d key i (elements_at d key) (n d l) refl;
 }
 
 -- and where there are scalars
-pub any-replies : (s : State) (key : Key) (k : ScalarKind) (c : Command) (answer : Answer)
-    → Answers s (λ d. elements_at d key) (Ok k) → Answers s (λ d. scalar_reply s.mode d key c) answer
-    → IsReply s c answer
+pub any-replies : (s : SegmentState) (key : Key) (k : ScalarKind) (c : Command) (answer : Answer)
+    → AnswersWith s (λ d. elements_at d key) (Ok k) → AnswersWith s (λ d. scalar_reply s.mode d key c) answer
+    → AnswersQuery s c answer
 any-replies s key k c answer a r = record {
   answers = λ d l. r.answers d l ∙ ap (reply_of s.mode d c) (sym (a.answers d l));
 }
 
 -- the object of the key says its kind: the answer of that kind is it
-pub of_kind-replies : {s : State} (key : Key) {kind : Kind} {k : ScalarKind} (c : Command) {answer : Answer}
-    → Answers s (λ d. kind_at d key) (Ok kind) → elements_of kind ≡ Ok k → IsReplyOfKind s key kind c answer
-    → Answers s (λ d. scalar_reply s.mode d key c) answer
+pub of_kind-replies : {s : SegmentState} (key : Key) {kind : Kind} {k : ScalarKind} (c : Command) {answer : Answer}
+    → AnswersWith s (λ d. kind_at d key) (Ok kind) → elements_of kind ≡ Ok k → AnswersQueryOfKind s key kind c answer
+    → AnswersWith s (λ d. scalar_reply s.mode d key c) answer
 of_kind-replies {s} key {kind} c a f r = record {
   answers = λ d l.
       let e = kind-told d key kind (a.answers d l) in
@@ -115,8 +116,9 @@ of_kind-replies {s} key {kind} c a f r = record {
 }
 
 -- it has no scalars
-pub of_kind-none : (s : State) (key : Key) (kind : Kind) (r : Refusal) (c : Command) → Answers s (λ d. kind_at d key)
-    (Ok kind) → elements_of kind ≡ Err r → Answers s (λ d. scalar_reply s.mode d key c) (Refused r)
+pub of_kind-none : (s : SegmentState) (key : Key) (kind : Kind) (r : Refusal) (c : Command)
+    → AnswersWith s (λ d. kind_at d key)
+    (Ok kind) → elements_of kind ≡ Err r → AnswersWith s (λ d. scalar_reply s.mode d key c) (Refused r)
 of_kind-none s key kind r c a f = record {
   answers = λ d l. sym (ap (reply_of s.mode d c) (elements-told d key kind (kind-told d key kind (a.answers d l)) ∙ f));
 }
@@ -130,16 +132,17 @@ other-elements (VectorKind k) n v t = absurd (v k refl)
 other-elements w n v t = refl
 
 -- an object that was located is of a kind that has scalars
-pub located-replies : (s : State) (key : Key) (o : Located) (l : IsLocated s key o) (kind : Kind) (k : ScalarKind)
-    (i : ℕ) (answer : Answer) → o.kind ≡ kind → elements_of kind ≡ Ok k → IsReplyOfKind s (ByHandle o.handle) kind
-    (asked.Get (ByHandle o.handle) i) answer → Answers s (λ d. scalar_reply s.mode d key (asked.Get key i)) answer
+pub located-replies : (s : SegmentState) (key : Key) (o : Located) (l : IsLocated s key o) (kind : Kind)
+    (k : ScalarKind)
+    (i : ℕ) (answer : Answer) → o.kind ≡ kind → elements_of kind ≡ Ok k → AnswersQueryOfKind s (ByHandle o.handle) kind
+    (asked.Get (ByHandle o.handle) i) answer → AnswersWith s (λ d. scalar_reply s.mode d key (asked.Get key i)) answer
 located-replies s key o l kind k i answer is f r = of_kind-replies key (asked.Get key i)
-    (subst (λ (n : Kind). Answers s (λ d. kind_at d key) (Ok n)) is (kind-by_key s key o l)) f
+    (subst (λ (n : Kind). AnswersWith s (λ d. kind_at d key) (Ok n)) is (kind-by_key s key o l)) f
     (reply_of_kind-by_key s key o l kind (asked.Get key i) answer r)
 
 -- no object has the key
-pub any-missing : (s : State) (key : Key) (c : Command) (why : Refusal) → IsMissing s key why
-    → Answers s (λ d. scalar_reply s.mode d key c) (Refused why)
+pub any-missing : (s : SegmentState) (key : Key) (c : Command) (why : Refusal) → IsMissing s key why
+    → AnswersWith s (λ d. scalar_reply s.mode d key c) (Refused why)
 any-missing s key c why m = record {
   answers = λ d l. ap Refused m.is ∙ sym (ap (reply_of s.mode d c) (ap elements_in (m.missing d l)));
 }
@@ -147,8 +150,9 @@ any-missing s key c why m = record {
 -- ---- writing: the kind of the object
 
 -- a vector of which it is known what its elements are
-pub vector-kind : (s : State) (key : Key) (l k : ScalarKind) → Answers s (λ d. kind_at d key) (Ok (VectorKind l))
-    → Answers s (λ d. elements_at d key) (Ok k) → Answers s (λ d. kind_at d key) (Ok (VectorKind k))
+pub vector-kind : (s : SegmentState) (key : Key) (l k : ScalarKind)
+    → AnswersWith s (λ d. kind_at d key) (Ok (VectorKind l))
+    → AnswersWith s (λ d. elements_at d key) (Ok k) → AnswersWith s (λ d. kind_at d key) (Ok (VectorKind k))
 vector-kind s key l k a b = record {
   answers = λ d w.
       let both = b.answers d w ∙ elements-told d key (VectorKind l) (kind-told d key (VectorKind l) (a.answers d w)) in
@@ -164,9 +168,11 @@ left-kind (VectorKind j) e t v = absurd (v j refl)
 left-kind kind e t v = absurd (cc)
 
 -- neither a text nor a vector: scalars
-pub scalar-kind : (s : State) (key : Key) (kind : Kind) (k : ScalarKind) → Answers s (λ d. kind_at d key) (Ok kind)
-    → Answers s (λ d. elements_at d key) (Ok k) → (kind ≡ StringKind → ⊥) → ((l : ScalarKind) → kind ≡ VectorKind l → ⊥)
-    → Answers s (λ d. kind_at d key) (Ok (ScalarOf k))
+pub scalar-kind : (s : SegmentState) (key : Key) (kind : Kind) (k : ScalarKind)
+    → AnswersWith s (λ d. kind_at d key) (Ok kind)
+    → AnswersWith s (λ d. elements_at d key) (Ok k) → (kind ≡ StringKind → ⊥)
+    → ((l : ScalarKind) → kind ≡ VectorKind l → ⊥)
+    → AnswersWith s (λ d. kind_at d key) (Ok (ScalarOf k))
 scalar-kind s key kind k a b t v = record {
   answers = λ d w. ap Ok (left-kind kind
       (b.answers d w ∙ elements-told d key kind (kind-told d key kind (a.answers d w))) t v) ∙ a.answers d w;
@@ -198,25 +204,26 @@ set-effect {d} {key} i l e f =
     with-found d key e.object (λ o. set d o o.value i l) e.is ∙ p.1 l ∙ ap (set_with d e.object e.object.value i p.0) f
 
 -- a literal that is read as the value is as good as the value's own
-pub any-literal : {old : State} {new : State} (key : Key) {k : ScalarKind} (i : ℕ) (l : Literal) {z : ℤ}
-    {answer : Answer} → Answers old (λ d. elements_at d key) (Ok k) → value_of_literal k l ≡ Ok z → is_value k z ≡ true
-    → IsStep old new (asked.Set key i (literal_of k z)) answer → IsStep old new (asked.Set key i l) answer
+pub any-literal : {old : SegmentState} {new : SegmentState} (key : Key) {k : ScalarKind} (i : ℕ) (l : Literal) {z : ℤ}
+    {answer : Answer} → AnswersWith old (λ d. elements_at d key) (Ok k) → value_of_literal k l ≡ Ok z
+    → is_value k z ≡ true
+    → TakesStep old new (asked.Set key i (literal_of k z)) answer → TakesStep old new (asked.Set key i l) answer
 any-literal {old} {new} key {k} i l {z} {answer} a f v r =
     same_plan-steps old new (asked.Set key i l) (asked.Set key i (literal_of k z)) answer refl (λ d w.
     let e = has-elements d key (a.answers d w) in
     set-effect i l e f ∙ sym (set-effect i (literal_of k z) e (literal-read k z v))) r
 
 -- one that is no value of the kind is refused
-pub any-no_value : (s : State) (key : Key) (k : ScalarKind) (i : ℕ) (l : Literal) (r : Refusal)
-    → Answers s (λ d. elements_at d key) (Ok k) → is_read_only s.mode ≡ false → value_of_literal k l ≡ Err r
-    → IsStep s s (asked.Set key i l) (Refused r)
+pub any-no_value : (s : SegmentState) (key : Key) (k : ScalarKind) (i : ℕ) (l : Literal) (r : Refusal)
+    → AnswersWith s (λ d. elements_at d key) (Ok k) → is_read_only s.mode ≡ false → value_of_literal k l ≡ Err r
+    → TakesStep s s (asked.Set key i l) (Refused r)
 any-no_value s key k i l r a writing f = refused-steps s (asked.Set key i l) r writing
     (λ d w. ap (perform d (live d)) (set-effect i l (has-elements d key (a.answers d w)) f))
 
 -- ---- objects of other kinds than texts
 
 -- the object of the key says another kind
-pub kind-no_texts : (s : State) (key : Key) (kind : Kind) → Answers s (λ d. kind_at d key) (Ok kind)
+pub kind-no_texts : (s : SegmentState) (key : Key) (kind : Kind) → AnswersWith s (λ d. kind_at d key) (Ok kind)
     → (kind ≡ StringsKind → ⊥) → HasNoTexts s key
 kind-no_texts s key kind a n d l o e =
     let k = kind-told d key kind (a.answers d l) in
@@ -249,27 +256,28 @@ no-place P (Some o) k i n e f =
     subst (λ (r : Result ℕ Refusal). IfOk (place_by o r) P) (sym none) tt
 
 -- an object of another kind has no element of scalars
-pub element-elsewhere : (old new : State) (key : Key) (k : ScalarKind) (i : ℕ) (n : Kind)
-    → same_kind (ScalarOf k) n ≡ false → Answers old (λ d. kind_at d key) (Ok n) → ChangesElement old new key k i
+pub element-elsewhere : (old new : SegmentState) (key : Key) (k : ScalarKind) (i : ℕ) (n : Kind)
+    → same_kind (ScalarOf k) n ≡ false → AnswersWith old (λ d. kind_at d key) (Ok n) → ChangesElement old new key k i
 element-elsewhere old new key k i n e a = λ d w.
-    no-place (λ (p : Place). SameBut (bytes_of old.cut.bytes) (bytes_of new.cut.bytes) (p.handle + p.at) (size_of k))
+    no-place (λ (p : Place). SameBytesExcept (bytes_of old.cut.bytes) (bytes_of new.cut.bytes) (p.handle + p.at)
+    (size_of k))
     (object_at d key) k i n e (a.answers d w)
 
-pub element-of_text : (old new : State) (key : Key) (k : ScalarKind) (i : ℕ)
-    → Answers old (λ d. kind_at d key) (Ok StringKind) → ChangesElement old new key k i
+pub element-of_text : (old new : SegmentState) (key : Key) (k : ScalarKind) (i : ℕ)
+    → AnswersWith old (λ d. kind_at d key) (Ok StringKind) → ChangesElement old new key k i
 element-of_text old new key k i a =
     element-elsewhere old new key k i StringKind (above-scalars k 65536 (omega arith)) a
 
-pub element-of_vector : (old new : State) (key : Key) (k l : ScalarKind) (i : ℕ)
-    → Answers old (λ d. kind_at d key) (Ok (VectorKind l)) → ChangesElement old new key k i
+pub element-of_vector : (old new : SegmentState) (key : Key) (k l : ScalarKind) (i : ℕ)
+    → AnswersWith old (λ d. kind_at d key) (Ok (VectorKind l)) → ChangesElement old new key k i
 element-of_vector old new key k l i a =
     element-elsewhere old new key k i (VectorKind l) (above-scalars k (131072 + scalar_code l) (omega arith)) a
 
 -- the element of an object that was located is that of the key
-pub element-by_key : (old new : State) (key : Key) (o : Located) → IsLocated old key o → (k : ScalarKind) (i : ℕ)
+pub element-by_key : (old new : SegmentState) (key : Key) (o : Located) → IsLocated old key o → (k : ScalarKind) (i : ℕ)
     → ChangesElement old new (ByHandle o.handle) k i → ChangesElement old new key k i
 element-by_key old new key o l k i m = λ d w.
-    subst (λ (r : Option Object). IfOk (place_of r k i) (λ (p : Place). SameBut (bytes_of old.cut.bytes)
+    subst (λ (r : Option Object). IfOk (place_of r k i) (λ (p : Place). SameBytesExcept (bytes_of old.cut.bytes)
     (bytes_of new.cut.bytes) (p.handle + p.at) (size_of k))) (sym (same-object old key o l d w)) (m d w)
 
 pub on_ok : {A : Type 0} {P : Type 0} (r : Result A Refusal) → P → OnOk r P

@@ -5,9 +5,11 @@ use common.{Result, Ok, Err, List, [], ◌∷◌, ◌++◌, length, map, replica
 use common.{Yields, le-ltb, lt-ltb, length-map, length-replicate, take_all, ObjectRole, Extent, LiveSet, handle}
 use common.{resized, Class, Anonymous, ScalarKind, Refusal, Exists, NoSpace, OutOfRange, size_of, Key, Mode, Write}
 use common.{CopyOnWrite, Answer, Made, Refused, is_untouched, Numbers, Object, Directory, live, named_objects}
-use common.{object_at, object_len, padded, unique_objects, with_object, TakesItems, head_len, Need, New, Plan, Refuse}
-use common.{Reply, Request, class_of, met, name_of, perform, with_entry, with_new_object, IsStep, KeepsRefused, State}
-use common.{StandsFor, handle_answer, step}
+use common.{object_at, object_len, padded, unique_objects, with_object, ConstructsFromItems, head_len, Need, New, Plan}
+use common.{Refuse}
+use common.{Reply, Request, class_of, met, name_of, perform, with_entry, with_new_object, TakesStep, UnchangedIfRefused}
+use common.{SegmentState}
+use common.{DenotesCurrent, handle_answer, step}
 use Rattle.std.specs.Iterator.{YieldsFirst, YieldsThen}
 use Rattle.std.proofs.lemmas.List.{append-nil, length-append}
 use Rattle.seg_types.specs.declared.kinds.Class.TheVariants.{Named, Unique}
@@ -122,21 +124,23 @@ module _ (r : Refusal) (other : r ≡ OutOfRange → ⊥) where
   step-same CopyOnWrite d key k n zs some long refused =
       items-same d (live d) key k zs (object_at d key) some long refused
 
-  refused-array : {old new : State} (key : Key) (k : ScalarKind) {n : ℕ} (zs : List ℤ) → 1 ≤ n → length zs ≡ n
-      → IsStep old new (asked.ConstructIt key k n []) (Refused r)
-      → IsStep old new (asked.ConstructIt key k n zs) (Refused r)
+  refused-array : {old new : SegmentState} (key : Key) (k : ScalarKind) {n : ℕ} (zs : List ℤ) → 1 ≤ n → length zs ≡ n
+      → TakesStep old new (asked.ConstructIt key k n []) (Refused r)
+      → TakesStep old new (asked.ConstructIt key k n zs) (Refused r)
   refused-array {old} {new} key k {n} zs some long h = record {
     stays = h.stays;
     answers = λ d st. h.answers d st ∙ ap (λ (p : Answer × Directory). p.0)
         (sym (step-same old.mode d key k n zs some long (h.answers d st)));
-    denotes = λ d st. subst (λ (p : Answer × Directory). StandsFor new.cut.bytes p.1)
+    denotes = λ d st. subst (λ (p : Answer × Directory). DenotesCurrent new.cut.bytes p.1)
         (sym (step-same old.mode d key k n zs some long (h.answers d st))) (h.denotes d st);
   }
 
 -- ---- the call takes all items, or none
 
-module _ {S A : Type 0} (items : S → List A) {whole : A → ℤ} {old new : State} {key : Key} {k : ScalarKind} {n : ℕ}
-    {w t : S} {result : Result ℕ Refusal} (takes : TakesItems (YieldsFirst items) whole old new key k n w t result)
+module _ {S A : Type 0} (items : S → List A) {whole : A
+    → ℤ} {old new : SegmentState} {key : Key} {k : ScalarKind} {n : ℕ}
+    {w t : S} {result : Result ℕ Refusal}
+    (takes : ConstructsFromItems (YieldsFirst items) whole old new key k n w t result)
     (long : length (items w) ≡ n) where
   -- it is refused before an item is taken
   early : {xs : List A} (r : Refusal) → (r ≡ OutOfRange → ⊥) → TakesUntil (YieldsFirst items) n w xs t r → xs ≡ []
@@ -161,23 +165,23 @@ module _ {S A : Type 0} (items : S → List A) {whole : A → ℤ} {old new : St
       MatchResult q (λ h. Yields (YieldsFirst items) w xs t × (length xs ≡ n)) (TakesUntil (YieldsFirst items) n w xs t)
 
   step-of : {numbers : List ℤ} → map whole (items w) ≡ numbers → 1 ≤ n → (xs : List A) (q : Result ℕ Refusal)
-      → IsTaken xs q → IsStep old new (asked.ConstructIt key k n (map whole xs)) (handle_answer q)
-      → IsStep old new (asked.ConstructIt key k n numbers) (handle_answer q)
-  step-of are some xs (Ok h) taken step = subst (λ (zs : List ℤ). IsStep old new (asked.ConstructIt key k n zs)
+      → IsTaken xs q → TakesStep old new (asked.ConstructIt key k n (map whole xs)) (handle_answer q)
+      → TakesStep old new (asked.ConstructIt key k n numbers) (handle_answer q)
+  step-of are some xs (Ok h) taken step = subst (λ (zs : List ℤ). TakesStep old new (asked.ConstructIt key k n zs)
       (Made h)) (ap (map whole) (taken-all items w t taken.0 (taken.1 ∙ sym long)) ∙ are) step
   step-of {numbers} are some xs (Err r) taken step =
       let other = enough xs r taken in let none : map whole xs ≡ [] = ap (map whole) (early r other taken) in
       refused-array r other key k numbers some (ap length (sym are) ∙ length-map (items w) whole ∙ long)
-      (subst (λ (zs : List ℤ). IsStep old new (asked.ConstructIt key k n zs) (Refused r)) none step)
+      (subst (λ (zs : List ℤ). TakesStep old new (asked.ConstructIt key k n zs) (Refused r)) none step)
 
   pub array-step : {numbers : List ℤ} → map whole (items w) ≡ numbers → 1 ≤ n
-      → IsStep old new (asked.ConstructIt key k n numbers) (handle_answer result)
+      → TakesStep old new (asked.ConstructIt key k n numbers) (handle_answer result)
   array-step {numbers} are some = step-of are some takes.items result takes.taken takes.step
 
   refused-of : (xs : List A) (q : Result ℕ Refusal) → IsTaken xs q → IfErr q (KeepsUnasked old new)
-      → KeepsRefused old new q
+      → UnchangedIfRefused old new q
   refused-of xs (Ok h) taken same = tt
   refused-of xs (Err r) taken same = kept r (enough xs r taken) same
 
-  pub array-refused : KeepsRefused old new result
+  pub array-refused : UnchangedIfRefused old new result
   array-refused = refused-of takes.items result takes.taken takes.unchanged

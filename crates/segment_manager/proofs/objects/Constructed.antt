@@ -1,12 +1,18 @@
 -- An object made under a key with an entry: what the bytes denote, and what the machine does.
 use Rattle.segment_manager.proofs.Common as common
-use common.{◌≡◌, sym, ◌∙◌, ◌*◌, ◌<◌, ◌≤◌, inl, inr, Some, None, List, Cut, Kind, Adds, Value, live, Plan, New, bare}
-use common.{refl, IndexRole, AddKeeps, IsIndexOf, Directory, objects_of, IsNewKeyOf, IsRestored, with_entry, with_value}
-use common.{ap, current, LiveSet, resized, LaysOut, live_of, IsGrowth, place_of, count_of, IsDenied, table_of, class_of}
-use common.{subst, ℤ, length, arith, insert, Extent, handle, added, place, Keeps, Table, Scalar, Index, Absent, Object}
+use common.{◌≡◌, sym, ◌∙◌, ◌*◌, ◌<◌, ◌≤◌, inl, inr, Some, None, List, WindowState, Kind, AddsEntry, Value, live, Plan}
+use common.{New, bare}
+use common.{refl, IndexRole, AddKeeps, IsIndexOf, Directory, objects_of, IsNewKeyOf, RestoresBlocks, with_entry}
+use common.{with_value}
+use common.{ap, current, LiveSet, resized, EncodesLiveSet, live_of, IsGrowth, place_of, count_of, IsDenied, table_of}
+use common.{class_of}
+use common.{subst, ℤ, length, arith, insert, Extent, handle, added, place, KeepsBlocks, BackingArray, Scalar, Index}
+use common.{Absent, Object}
 use common.{ℕ, allocated-live, keeps-trans, grown_bytes, grown_capacity, class_of_index, with_table_of, with_new_object}
-use common.{Option, Content, IsPlace, Refused, Denotes, Numbers, kind_of, IsGiven, Request, name_of, perform, NoSpace}
-use common.{bytes_of, ObjectRole, ScalarKind, entry_count, extents_of, object_len, with_object, entries_of, IsRequested}
+use common.{Option, Content, FindsPosition, Refused, Denotes, Numbers, kind_of, IsGiven, Request, name_of, perform}
+use common.{NoSpace}
+use common.{bytes_of, ObjectRole, ScalarKind, entry_count, extents_of, object_len, with_object, entries_of}
+use common.{RequestsBlocksOk}
 use Rattle.segment_manager.proofs.objects.Requests.{entry-grows, entry-refused, entry-room}
 use Rattle.segment_manager.proofs.indexes.Tabled.{IsEntered, entered-denotes, entered-none, entered-some, grown_into}
 use Rattle.segment_manager.proofs.objects.NewKeys.{key-class, key-has, key-name, key-own, key-seeks, object_of}
@@ -22,7 +28,7 @@ use Rattle.seg_types.specs.Names as names
 use Rattle.seg_types.specs.Commands as asked
 
 -- what is made is the object, in a directory that the new bytes denote; and so the machine goes on
-pub record IsNewObject (new : Cut) (d : Directory) (key : names.Key) (content : Content) (h : ℕ) : Type 0 where
+pub record IsNewObject (new : WindowState) (d : Directory) (key : names.Key) (content : Content) (h : ℕ) : Type 0 where
   pub object : Object
   pub after : Directory
   pub left : LiveSet
@@ -33,7 +39,7 @@ pub record IsNewObject (new : Cut) (d : Directory) (key : names.Key) (content : 
   pub denotes : Denotes current new.bytes after
 
 -- a request is refused, and so the machine refuses
-pub record IsNoObject (new : Cut) (d : Directory) (key : names.Key) (content : Content) : Type 0 where
+pub record IsNoObject (new : WindowState) (d : Directory) (key : names.Key) (content : Content) : Type 0 where
   pub refused : (next : Object → Directory → Plan)
       → perform d (live d) (with_new_object d key content next) ≡ (Refused NoSpace, d)
   pub denotes : Denotes current new.bytes d
@@ -47,23 +53,25 @@ pub record IsMet (d : Directory) (key : names.Key) (content : Content) : Type 0 
       → perform d (live d) (with_new_object d key content next) ≡ perform d left (next object after)
 
 -- the same blocks are in use, and nothing in them changed: the bytes denote the same directory
-pub restored-denotes : (a c : Cut) (d : Directory) → Denotes current a.bytes d → IsRestored a c
+pub restored-denotes : (a c : WindowState) (d : Directory) → Denotes current a.bytes d → RestoresBlocks a c
     → Denotes current c.bytes d
-restored-denotes a c d said r = denotes-kept a c said (subst (LaysOut current c.bytes) (denotes-live current a.bytes d
-    said) r.laid) (subst (λ (l : LiveSet). Keeps a c l.extents) (denotes-live current a.bytes d said) r.keeps)
+restored-denotes a c d said r =
+    denotes-kept a c said (subst (EncodesLiveSet current c.bytes) (denotes-live current a.bytes d
+    said) r.laid) (subst (λ (l : LiveSet). KeepsBlocks a c l.extents) (denotes-live current a.bytes d said) r.keeps)
 
 -- ---- the index grows, or not
 
 -- the directory where its index has what it grew into
-abbrev pub grown : (i : Index) (d : Directory) (a b : Cut) (g : Option ℕ) → IsGrowth a b (place_of i) g → Directory
+abbrev pub grown : (i : Index) (d : Directory) (a b : WindowState) (g : Option ℕ) → IsGrowth a b (place_of i) g
+    → Directory
 grown i d a b None h = d
 grown i d a b (Some g) h = with_table_of i d (grown_into i d h.1.extent)
 
-count-is : (i : Index) {a : Cut} (d : Directory) → IsIndexOf a (place_of i) (table_of i d) (entries_of i d)
+count-is : (i : Index) {a : WindowState} (d : Directory) → IsIndexOf a (place_of i) (table_of i d) (entries_of i d)
     → entry_count a (place_of i) ≡ length (objects_of i d)
 count-is i d x = x.stands.count ∙ handles-length (objects_of i d)
 
-pub grows-performs : (i : Index) (a b : Cut) {d : Directory} (g : Option ℕ) (next : Directory → Plan)
+pub grows-performs : (i : Index) (a b : WindowState) {d : Directory} (g : Option ℕ) (next : Directory → Plan)
     → Denotes current a.bytes d → (h : IsGrowth a b (place_of i) g)
     → perform d (live d) (with_entry d (class_of_index i) next) ≡ perform d (live_of b.bytes) (next (grown i d a b g h))
 grows-performs i a b {d} None next k h =
@@ -71,7 +79,7 @@ grows-performs i a b {d} None next k h =
     let room : length (objects_of i d) < (table_of i d).capacity =
     omega (arith, h.0, count-is i d x, x.stands.capacity) in
     ap (perform d (live d)) (entry-room i d next room) ∙ ap (λ l. perform d l (next d))
-    (sym (denotes-live current a.bytes d k) ∙ ap (λ (c : Cut). live_of c.bytes) (sym h.1))
+    (sym (denotes-live current a.bytes d k) ∙ ap (λ (c : WindowState). live_of c.bytes) (sym h.1))
 grows-performs i a b {d} (Some g) next k h =
     let x = denotes-index i a k in
     let full : (table_of i d).capacity ≤ length (objects_of i d) =
@@ -83,7 +91,8 @@ grows-performs i a b {d} (Some g) next k h =
     ∙ sym (allocated-live current a b (grown_bytes a (place_of i)) IndexRole g h.1))
 
 -- what the directory had stays while the index takes its block and the object is made
-pub keeps-front : (b c : Cut) (x : Extent) (l : LiveSet) → Keeps b c (added l x).extents → Keeps b c l.extents
+pub keeps-front : (b c : WindowState) (x : Extent) (l : LiveSet) → KeepsBlocks b c (added l x).extents
+    → KeepsBlocks b c l.extents
 keeps-front b c x l k = record {
   place = k.place;
   front = k.front;
@@ -91,35 +100,41 @@ keeps-front b c x l k = record {
   blocks = AllByRecursion-insert _ x l.extents k.blocks;
 }
 
-pub grows-keeps : (i : Index) (a b c : Cut) {d : Directory} (g : Option ℕ) → Denotes current a.bytes d
-    → IsGrowth a b (place_of i) g → Keeps b c (live_of b.bytes).extents → Keeps a c (live d).extents
-grows-keeps i a b c {d} None k h keeps = subst (λ (l : LiveSet). Keeps a c l.extents) (denotes-live current a.bytes d k)
-    (subst (λ (x : Cut). Keeps x c (live_of x.bytes).extents) h.1 keeps)
-grows-keeps i a b c {d} (Some g) k h keeps = subst (λ (l : LiveSet). Keeps a c l.extents) (denotes-live current a.bytes
+pub grows-keeps : (i : Index) (a b c : WindowState) {d : Directory} (g : Option ℕ) → Denotes current a.bytes d
+    → IsGrowth a b (place_of i) g → KeepsBlocks b c (live_of b.bytes).extents → KeepsBlocks a c (live d).extents
+grows-keeps i a b c {d} None k h keeps =
+    subst (λ (l : LiveSet). KeepsBlocks a c l.extents) (denotes-live current a.bytes d k)
+    (subst (λ (x : WindowState). KeepsBlocks x c (live_of x.bytes).extents) h.1 keeps)
+grows-keeps i a b c {d} (Some g) k h keeps =
+    subst (λ (l : LiveSet). KeepsBlocks a c l.extents) (denotes-live current a.bytes
     d k) (keeps-trans a b c (live_of a.bytes).extents h.1.keeps (keeps-front b c h.1.extent (live_of a.bytes)
-    (subst (λ (l : LiveSet). Keeps b c l.extents) (allocated-live current a b (grown_bytes a (place_of i)) IndexRole g
+    (subst (λ (l : LiveSet). KeepsBlocks b c l.extents)
+    (allocated-live current a b (grown_bytes a (place_of i)) IndexRole g
     h.1) keeps)))
 
 -- ---- the entry is there
 
 -- the table that the index has then
-abbrev table_then : (i : Index) (d : Directory) (a b : Cut) (g : Option ℕ) → IsGrowth a b (place_of i) g → Table
+abbrev table_then : (i : Index) (d : Directory) (a b : WindowState) (g : Option ℕ) → IsGrowth a b (place_of i) g
+    → BackingArray
 table_then i d a b None h = table_of i d
 table_then i d a b (Some g) h = grown_into i d h.1.extent
 
-grown-is : (i : Index) (d : Directory) (a b : Cut) (g : Option ℕ) (h : IsGrowth a b (place_of i) g)
+grown-is : (i : Index) (d : Directory) (a b : WindowState) (g : Option ℕ) (h : IsGrowth a b (place_of i) g)
     → grown i d a b g h ≡ with_table_of i d (table_then i d a b g h)
 grown-is i d a b None h = sym (same-table i)
 grown-is i d a b (Some g) h = refl
 
-entered : {i : Index} (a b : Cut) {c : Cut} {e : Cut} {d : Directory} {o : Object} (at : ℕ) (g : Option ℕ)
+entered : {i : Index} (a b : WindowState) {c : WindowState} {e : WindowState} {d : Directory} {o : Object} (at : ℕ)
+    (g : Option ℕ)
     → Denotes current a.bytes d → (h : IsGrowth a b (place_of i) g) → IsMade b c o → IsIndexOf c (place_of i)
     (table_of i d) (entries_of i d) → insert (entries_of i d) at (handle o.extent) ≡ entries_of i (with_object d o)
-    → Adds c e (place_of i) (table_of i d) (insert (entries_of i d) at (handle o.extent)) g → LaysOut current e.bytes
+    → AddsEntry c e (place_of i) (table_of i d) (insert (entries_of i d) at (handle o.extent)) g
+    → EncodesLiveSet current e.bytes
     (grown_live c (place_of i) g) → AddKeeps c e (place_of i) (table_of i d) g → IsEntered i c e d (table_then i d a b g
     h) o
 entered a b {c} {o} at None k h made x same adds laid keeps =
-    entered-none a at k (subst (λ (s : Cut). IsMade s c o) h.1 made) x same adds laid keeps
+    entered-none a at k (subst (λ (s : WindowState). IsMade s c o) h.1 made) x same adds laid keeps
 entered a b at (Some g) k h made x same adds laid keeps = entered-some at k h.1 made x same adds laid keeps
 
 -- ---- what the machine does
@@ -146,19 +161,20 @@ content-plan i d key {name} content next e f = λ j.
 -- ---- both together
 
 -- an entry that leads to a handle was made in an index
-pub record IsLed (i : Index) (w c : Cut) (at h : ℕ) (g : Option ℕ) : Type 0 where
-  pub adds : (t : Table) (hs : List ℕ) → IsIndexOf w (place_of i) t hs → Adds w c (place_of i) t (insert hs at h) g
-  pub live : LaysOut current c.bytes (grown_live w (place_of i) g)
-  pub keeps : (t : Table) (hs : List ℕ) → IsIndexOf w (place_of i) t hs → AddKeeps w c (place_of i) t g
+pub record IsLed (i : Index) (w c : WindowState) (at h : ℕ) (g : Option ℕ) : Type 0 where
+  pub adds : (t : BackingArray) (hs : List ℕ) → IsIndexOf w (place_of i) t hs
+      → AddsEntry w c (place_of i) t (insert hs at h) g
+  pub live : EncodesLiveSet current c.bytes (grown_live w (place_of i) g)
+  pub keeps : (t : BackingArray) (hs : List ℕ) → IsIndexOf w (place_of i) t hs → AddKeeps w c (place_of i) t g
 
-module _ (i : Index) (a : Cut) (d : Directory) (e : Entry) (key : names.Key) (name : List ℕ) (kind : Kind)
+module _ (i : Index) (a : WindowState) (d : Directory) (e : Entry) (key : names.Key) (name : List ℕ) (kind : Kind)
     (content : Content) (said : Denotes current a.bytes d) (new : IsNewKeyOf i e key name kind) where
   abbrev plan-of : (next : Object → Directory → Plan)
       → with_new_object d key content next ≡ with_entry d (class_of_index i) (object_plan i name content next)
   plan-of next = content-plan i d key content next (key-class i e key name kind new) (key-name i e key kind new)
 
   -- the requests are met
-  pub content-met : (b : Cut) {x : Extent} (v : Value) (left : LiveSet) (g : Option ℕ)
+  pub content-met : (b : WindowState) {x : Extent} (v : Value) (left : LiveSet) (g : Option ℕ)
       → (grows : IsGrowth a b (place_of i) g) → place (live_of b.bytes) (object_len name (bare content))
       ObjectRole ≡ Some x → IsGiven d (resized (live_of b.bytes) x) content v left → (next : Object → Directory → Plan)
       → perform d (live d) (with_new_object d key content next) ≡ perform d left
@@ -170,7 +186,7 @@ module _ (i : Index) (a : Cut) (d : Directory) (e : Entry) (key : names.Key) (na
       then) x placed ∙ given.met (λ v. next (object_of i name v x) (with_object then (object_of i name v x)))
 
   -- the value's are refused
-  pub content-denied : (b : Cut) {x : Extent} (g : Option ℕ) → (grows : IsGrowth a b (place_of i) g)
+  pub content-denied : (b : WindowState) {x : Extent} (g : Option ℕ) → (grows : IsGrowth a b (place_of i) g)
       → place (live_of b.bytes) (object_len name (bare content)) ObjectRole ≡ Some x
       → IsDenied d (resized (live_of b.bytes) x) content → (next : Object → Directory → Plan)
       → perform d (live d) (with_new_object d key content next) ≡ (Refused NoSpace, d)
@@ -194,10 +210,12 @@ module _ (i : Index) (a : Cut) (d : Directory) (e : Entry) (key : names.Key) (na
       (sym len) ∙ r.3)
 
   -- the object is made, and its entry is added
-  pub content-entered : (b w : Cut) {c : Cut} {x : Extent} {v : Value} {left : LiveSet} (at : ℕ) {h : ℕ} (g : Option ℕ)
+  pub content-entered : (b w : WindowState) {c : WindowState} {x : Extent} {v : Value} {left : LiveSet} (at : ℕ)
+      {h : ℕ} (g : Option ℕ)
       → IsGrowth a b (place_of i) g → place (live_of b.bytes) (object_len name (bare content)) ObjectRole ≡ Some x
       → IsGiven d (resized (live_of b.bytes) x) content v left → kind_of v ≡ kind → count_of v ≡ count_of (bare content)
-      → IsMade b w (object_of i name v x) → h ≡ handle x → IsPlace (bytes_of a.bytes) e (entries_of i d) (Absent at)
+      → IsMade b w (object_of i name v x) → h ≡ handle x
+      → FindsPosition (bytes_of a.bytes) e (entries_of i d) (Absent at)
       → IsLed i w c at h g → IsNewObject c d key content h
   content-entered b w {c} {x} {v} {left} at g grows placed given is_kind counts made is away led =
       let o = object_of i name v x in
@@ -206,7 +224,7 @@ module _ (i : Index) (a : Cut) (d : Directory) (e : Entry) (key : names.Key) (na
       (growth-index i g grows (denotes-index i a said)) in
       let there = entered a b at g said grows made index
       (entry-added i a e key at o said (key-seeks i e key name kind new) away (key-has i e key name v x new'))
-      (subst (λ n. Adds w c (place_of i) (table_of i d) (insert (entries_of i d) at n) g) is
+      (subst (λ n. AddsEntry w c (place_of i) (table_of i d) (insert (entries_of i d) at n) g) is
       (led.adds (table_of i d) (entries_of i d) index)) led.live (led.keeps (table_of i d) (entries_of i d) index) in
       let none = (lookup-absent i a e key said (key-seeks i e key name kind new) away).none in
       record {
@@ -223,11 +241,11 @@ module _ (i : Index) (a : Cut) (d : Directory) (e : Entry) (key : names.Key) (na
 
 -- ---- numbers
 
-module _ (i : Index) {a : Cut} {d : Directory} (e : Entry) {key : names.Key} (name : List ℕ) (k : ScalarKind)
+module _ (i : Index) {a : WindowState} {d : Directory} (e : Entry) {key : names.Key} (name : List ℕ) (k : ScalarKind)
     (zs : List ℤ) (said : Denotes current a.bytes d) (new : IsNewKeyOf i e key name (Scalar k)) where
   -- its requests are met
-  pub numbers-met : {m : Cut} {n h : ℕ} {g : Option ℕ} → n ≡ object_len name (Numbers k zs)
-      → IsRequested a m (place_of i) n g h → IsMet d key (asked.Numbers k zs)
+  pub numbers-met : {m : WindowState} {n h : ℕ} {g : Option ℕ} → n ≡ object_len name (Numbers k zs)
+      → RequestsBlocksOk a m (place_of i) n g h → IsMet d key (asked.Numbers k zs)
   numbers-met {g} len r =
       let x : Extent = r.takes.extent in
       record {

@@ -1,12 +1,16 @@
 -- The object of a handle and its own entry, and what it is to destroy an object.
 use Rattle.segment_manager.proofs.Common as common
-use common.{◌≡◌, sym, ap, ◌∙◌, ◌<◌, [], ◌∷◌, Cut, refl, true, ◌==◌, Some, None, List, Table, Found, Truth, Seeks, Plan}
-use common.{Reply, subst, Directory, IsReleased, is_live_in, HoldsObject, entries_of, objects_of, ℕ, Option, handle}
-use common.{Class, Index, Absent, Object, State, arith, remove, IsStep, false, LaysOut, live_of, Refused, Denotes}
+use common.{◌≡◌, sym, ap, ◌∙◌, ◌<◌, [], ◌∷◌, WindowState, refl, true, ◌==◌, Some, None, List, BackingArray, Found}
+use common.{Truth, Seeks, Plan}
+use common.{Reply, subst, Directory, Deallocates, is_live_in, HoldsObject, entries_of, objects_of, ℕ, Option, handle}
+use common.{Class, Index, Absent, Object, SegmentState, arith, remove, TakesStep, false, EncodesLiveSet, live_of}
+use common.{Refused, Denotes}
 use common.{Becomes, Empties, emptied, changed, bytes_of, IsAnonymousAt, lay_out_one, beside_table, entry_count}
-use common.{is_read_only, current, IsPlace, is_class, NotFound, HasIndex, place_of, order_of, table_of, class_code}
-use common.{slice_get_within, SamePlace-trans, without_object, class_of_index, object_at, IsSegment, StandsFor}
-use common.{slice_get, same_Some, KeepsRest, IsIndexOf}
+use common.{is_read_only, current, FindsPosition, is_class, NotFound, HasIndex, place_of, order_of, table_of}
+use common.{class_code}
+use common.{slice_get_within, SameSurroundings-trans, without_object, class_of_index, object_at, IsSegment}
+use common.{DenotesCurrent}
+use common.{slice_get, same_Some, KeepsOutsideIndex, IsIndexOf}
 use Rattle.segment_manager.proofs.indexes.Bridge.{lookup-absent, IsEntryFor, entry-removed, in-handles, lookup-found}
 use Rattle.segment_manager.proofs.containers.Emptied.{changed-entries, changed-in, changed-others, emptied-is}
 use Rattle.segment_manager.proofs.Steps.{by_no_change, by_step, lands, open-writing, step-refuse, step-reply}
@@ -39,14 +43,14 @@ entry-class i d at {o} e = class-is i o.class (all-at (λ p. is_class (class_of_
     (of-class (class_of_index i) d.objects)) e)
 
 -- it stands in the heap with the other entries
-pub entry-index : {c : Cut} {i : Index} {at : ℕ} → HoldsEntry c.bytes i at → HasIndex c (place_of i)
+pub entry-index : {c : WindowState} {i : Index} {at : ℕ} → HoldsEntry c.bytes i at → HasIndex c (place_of i)
 entry-index {c} {i} x = record {
   table = table_of i x.directory;
   handles = entries_of i x.directory;
   index = denotes-index i c x.stands.denotes;
 }
 
-pub entry-below : (c : Cut) {i : Index} {at : ℕ} → HoldsEntry c.bytes i at → at < entry_count c (place_of i)
+pub entry-below : (c : WindowState) {i : Index} {at : ℕ} → HoldsEntry c.bytes i at → at < entry_count c (place_of i)
 entry-below c {i} {at} x =
     let d : Directory = x.directory in
     omega (
@@ -56,10 +60,10 @@ entry-below c {i} {at} x =
     )
 
 -- a handle that stands at the entry
-abbrev pub LeadsTo : Cut → Index → ℕ → ℕ → Type 0
-LeadsTo c i at h = (t : Table) (hs : List ℕ) → IsIndexOf c (place_of i) t hs → slice_get hs at ≡ Some h
+abbrev pub LeadsTo : WindowState → Index → ℕ → ℕ → Type 0
+LeadsTo c i at h = (t : BackingArray) (hs : List ℕ) → IsIndexOf c (place_of i) t hs → slice_get hs at ≡ Some h
 
-module _ {a : Cut} (i : Index) (at : ℕ) {h : ℕ} (leads : LeadsTo a i at h) where
+module _ {a : WindowState} (i : Index) (at : ℕ) {h : ℕ} (leads : LeadsTo a i at h) where
   entry-found : {d : Directory} {o : Object} → Denotes current a.bytes d → slice_get (objects_of i d) at ≡ Some o
       → object_at d (names.ByHandle h) ≡ Some o
   entry-found {d} {o} k e = subst (λ g. object_at d (names.ByHandle g) ≡ Some o) (sym (same_Some h (handle o.extent)
@@ -76,17 +80,18 @@ module _ {a : Cut} (i : Index) (at : ℕ) {h : ℕ} (leads : LeadsTo a i at h) w
   }
 
 -- The entry at a place was removed. Its block stays, and so does all else.
-pub record IsUnlisted (i : Index) (old new : Cut) (at : ℕ) : Type 0 where
-  pub removes : (t : Table) (hs : List ℕ) → IsIndexOf old (place_of i) t hs
+pub record IsUnlisted (i : Index) (old new : WindowState) (at : ℕ) : Type 0 where
+  pub removes : (t : BackingArray) (hs : List ℕ) → IsIndexOf old (place_of i) t hs
       → IsIndexOf new (place_of i) t (remove hs at)
-  pub live : LaysOut current new.bytes (live_of old.bytes)
-  pub keeps : (t : Table) (hs : List ℕ) → IsIndexOf old (place_of i) t hs
-      → KeepsRest old new (place_of i) (beside_table t (live_of old.bytes).extents)
+  pub live : EncodesLiveSet current new.bytes (live_of old.bytes)
+  pub keeps : (t : BackingArray) (hs : List ℕ) → IsIndexOf old (place_of i) t hs
+      → KeepsOutsideIndex old new (place_of i) (beside_table t (live_of old.bytes).extents)
 
 -- ---- once its contents are released
 
 -- an object of a handle, and the directory with its value emptied, which the bytes denote then
-module _ {a b : Cut} (h : ℕ) (empties : Empties a b h) {d : Directory} {o : Object} (k : StandsFor a.bytes d)
+module _ {a b : WindowState} (h : ℕ) (empties : Empties a b h) {d : Directory} {o : Object}
+    (k : DenotesCurrent a.bytes d)
     (e : object_at d (names.ByHandle h) ≡ Some o) where
   abbrev emptied_object : Object
   emptied_object = with_value o (emptied o.value)
@@ -116,22 +121,22 @@ module _ {a b : Cut} (h : ℕ) (empties : Empties a b h) {d : Directory} {o : Ob
       (changed-entries d o is-in i (emptied o.value) (emptied-is o.value).kind) (denotes-index i b emptied-denotes)
 
   -- where its own block was released and nothing else, and it has no key
-  pub anonymous-gone : {c : Cut} → o.class ≡ class.Anonymous → IsReleased current b c h
+  pub anonymous-gone : {c : WindowState} → o.class ≡ class.Anonymous → Deallocates current b c h
       → Becomes a c (without_object d o)
   anonymous-gone {c} is r = record {
-    place = SamePlace-trans a b c (empties d o k e).place r.keeps.place;
+    place = SameSurroundings-trans a b c (empties d o k e).place r.keeps.place;
     denotes = subst (Denotes current c.bytes) (changed-others d o is-in (emptied o.value))
         (denotes-released emptied_object emptied-denotes emptied-in is (emptied-is o.value).alone
-        (subst (IsReleased current b c) (found-handle h d.objects o (record { is = e })) r));
+        (subst (Deallocates current b c) (found-handle h d.objects o (record { is = e })) r));
   }
 
   -- where an entry was removed that it has, and then its own block was released
-  entry-gone : {c f : Cut} {i : Index} {at : ℕ} → slice_get (objects_of i d) at ≡ Some o → IsUnlisted i b c at
-      → IsReleased current c f h → Becomes a f (without_object d o)
+  entry-gone : {c f : WindowState} {i : Index} {at : ℕ} → slice_get (objects_of i d) at ≡ Some o → IsUnlisted i b c at
+      → Deallocates current c f h → Becomes a f (without_object d o)
   entry-gone {c} {f} {i} {at} there u r =
       let t = table_of i emptied_directory in
-      let released : IsReleased current c f (handle o.extent) =
-      subst (IsReleased current c f) (found-handle h d.objects o (record { is = e })) r in
+      let released : Deallocates current c f (handle o.extent) =
+      subst (Deallocates current c f) (found-handle h d.objects o (record { is = e })) r in
       let rest = changed-others d o is-in (emptied o.value) in let before = emptied-index i in
       let less = entry-removed i at k.denotes.directory there ∙ ap (entries_of i) (sym rest) in
       let left : IsLeft i b c t (entries_of i (without_object emptied_directory emptied_object)) = record {
@@ -141,15 +146,15 @@ module _ {a b : Cut} (h : ℕ) (empties : Empties a b h) {d : Directory} {o : Ob
       } in
       let none : IsGone c f (o.extent ∷ []) = record { live = released.live; keeps = released.keeps } in
       record {
-        place = SamePlace-trans a b f (empties d o k e).place
-            (SamePlace-trans b c f (u.keeps t (entries_of i d) before).place r.keeps.place);
+        place = SameSurroundings-trans a b f (empties d o k e).place
+            (SameSurroundings-trans b c f (u.keeps t (entries_of i d) before).place r.keeps.place);
         denotes = subst (Denotes current f.bytes) rest
             (removed-denotes emptied_object emptied-denotes emptied-in (entry-class i d at there) left
             (subst (IsGone c f) (ap (λ xs. o.extent ∷ xs) (sym (emptied-is o.value).alone)) none));
       }
 
 -- the same of the object that an entry leads to
-module _ {a b : Cut} {i : Index} {at h : ℕ} (leads : LeadsTo a i at h) (empties : Empties a b h) where
+module _ {a b : WindowState} {i : Index} {at h : ℕ} (leads : LeadsTo a i at h) (empties : Empties a b h) where
   module _ (x : HoldsEntry a.bytes i at) where
     abbrev held : object_at x.directory (names.ByHandle h) ≡ Some x.object
     held = entry-found i at leads x.stands.denotes x.is
@@ -170,33 +175,38 @@ module _ {a b : Cut} {i : Index} {at h : ℕ} (leads : LeadsTo a i at h) (emptie
     )
 
     -- its block is in use, also where the entry is removed
-    pub block-still : (c : Cut) → LaysOut current c.bytes (live_of b.bytes) → is_live_in (live_of c.bytes) h ≡ true
+    pub block-still : (c : WindowState) → EncodesLiveSet current c.bytes (live_of b.bytes)
+        → is_live_in (live_of c.bytes) h ≡ true
     block-still c l =
         ap (λ s. is_live_in s h) (lay_out_one current c.bytes (live_of b.bytes) l) ∙ still-live h empties x.stands held
 
-  pub removes-entry : {c f : Cut} → IsUnlisted i b c at → IsReleased current c f h → RemovesEntry a f i at
+  pub removes-entry : {c f : WindowState} → IsUnlisted i b c at → Deallocates current c f h → RemovesEntry a f i at
   removes-entry u r d o k there = entry-gone h empties k (entry-found i at leads k.denotes there) there u r
 
 -- ---- destroying by a key with an entry
 
 -- what a look-up ends with in the index of a heap
-abbrev pub Ends : Cut → Index → Entry → Lookup → Type 0
-Ends c i e r = (t : Table) (hs : List ℕ) → IsIndexOf c (place_of i) t hs → IsPlace (bytes_of c.bytes) e hs r
+abbrev pub Ends : WindowState → Index → Entry → Lookup → Type 0
+Ends c i e r = (t : BackingArray) (hs : List ℕ) → IsIndexOf c (place_of i) t hs
+    → FindsPosition (bytes_of c.bytes) e hs r
 
-found-for : (c : Cut) {i : Index} (e : Entry) {key : names.Key} {at : ℕ} {d : Directory} → Denotes current c.bytes d
+found-for : (c : WindowState) {i : Index} (e : Entry) {key : names.Key} {at : ℕ} {d : Directory}
+    → Denotes current c.bytes d
     → Seeks i e key → Ends c i e (Found at) → IsEntryFor i d key at
 found-for c {i} e {key} {at} {d} k q p =
     lookup-found i c e key k q at (p (table_of i d) (entries_of i d) (denotes-index i c k))
 
 -- the entry that was found is an object's
-pub found-entry : (c : Cut) (b : IsSegment c.bytes) (i : Index) (e : Entry) (key : names.Key) (at : ℕ) → Seeks i e key
+pub found-entry : (c : WindowState) (b : IsSegment c.bytes) (i : Index) (e : Entry) (key : names.Key) (at : ℕ)
+    → Seeks i e key
     → Ends c i e (Found at) → HoldsEntry c.bytes i at
 found-entry c b i e key at q p =
     let there = found-for c e b.1.denotes q p in
     record { directory = b.0; stands = b.1; object = there.object; is = there.stands }
 
 -- the look-up found its entry
-pub destroys-entered : {s t : State} (view : s ≡ t) (b : IsSegment s.cut.bytes) {c : Cut} (i : Index) (e : Entry)
+pub destroys-entered : {s t : SegmentState} (view : s ≡ t) (b : IsSegment s.cut.bytes) {c : WindowState} (i : Index)
+    (e : Entry)
     (key : names.Key) (at : ℕ) → is_read_only t.mode ≡ false → Seeks i e key → Ends s.cut i e (Found at)
     → RemovesEntry s.cut c i at → Stepped s t c (asked.Destroy key) (Truth true)
 destroys-entered {s} {t} view b {c} i e key at may q p r =
@@ -215,12 +225,14 @@ destroys-entered {s} {t} view b {c} i e key at may q p r =
     })))
 
 -- or there is none
-pub destroys-none : {s t : State} (view : s ≡ t) (i : Index) (e : Entry) (key : names.Key) (at : ℕ)
+pub destroys-none : {s t : SegmentState} (view : s ≡ t) (i : Index) (e : Entry) (key : names.Key) (at : ℕ)
     → is_read_only t.mode
-    ≡ false → Seeks i e key → Ends s.cut i e (Absent at) → IsStep t t (asked.Destroy key) (Truth false)
+    ≡ false → Seeks i e key → Ends s.cut i e (Absent at) → TakesStep t t (asked.Destroy key) (Truth false)
 destroys-none {s} view i e key at may q p =
-    let writing : is_read_only s.mode ≡ false = subst (λ (u : State). is_read_only u.mode ≡ false) (sym view) may in
-    subst (λ (u : State). IsStep u u (asked.Destroy key) (Truth false)) view (by_no_change s (asked.Destroy key)
+    let writing : is_read_only s.mode ≡ false =
+    subst (λ (u : SegmentState). is_read_only u.mode ≡ false) (sym view) may in
+    subst (λ (u : SegmentState). TakesStep u u (asked.Destroy key) (Truth false)) view
+    (by_no_change s (asked.Destroy key)
     (Truth false) (λ d k. step-reply s.mode d (asked.Destroy key) (Truth false) d (open-writing s.mode
     (asked.Destroy key) writing) (ap (λ (r : Option Object).
     elim r as (λ _. Plan) [ None ↦ Reply (Truth false) d | Some o ↦ Reply (Truth true) (without_object d o) ])
@@ -230,9 +242,10 @@ destroys-none {s} view i e key at may q p =
 -- ---- destroying by a handle
 
 -- the object of the handle is gone from each directory
-destroys-object : {s : State} (c : Cut) (h : ℕ) → is_read_only s.mode ≡ false → IsSegment s.cut.bytes → ((d : Directory)
-    → StandsFor s.cut.bytes d → (o : Object) × ((object_at d (names.ByHandle h) ≡ Some o)
-    × Becomes s.cut c (without_object d o))) → IsStep s (record s { cut = c }) (asked.DestroyPtr h) (Truth true)
+destroys-object : {s : SegmentState} (c : WindowState) (h : ℕ) → is_read_only s.mode ≡ false → IsSegment s.cut.bytes
+    → ((d : Directory)
+    → DenotesCurrent s.cut.bytes d → (o : Object) × ((object_at d (names.ByHandle h) ≡ Some o)
+    × Becomes s.cut c (without_object d o))) → TakesStep s (record s { cut = c }) (asked.DestroyPtr h) (Truth true)
 destroys-object {s} c h writing b each =
     by_step (asked.DestroyPtr h) (record { mode = refl; place = (each b.0 b.1).1.1.place }) (λ d k.
     let x = each d k in
@@ -243,10 +256,10 @@ destroys-object {s} c h writing b each =
       denotes = x.1.1.denotes;
     }))
 
-module _ {s t : State} (view : s ≡ t) {h : ℕ} {i : Index} {at : ℕ} where
+module _ {s t : SegmentState} (view : s ≡ t) {h : ℕ} {i : Index} {at : ℕ} where
   -- the entry of the object is found
   seen-entry : IsEntryAt t h i at → IsEntryAt s h i at
-  seen-entry = subst (λ (u : State). IsEntryAt u h i at) (sym view)
+  seen-entry = subst (λ (u : SegmentState). IsEntryAt u h i at) (sym view)
 
   pub own-entry : (b : IsSegment s.cut.bytes) → IsEntryAt t h i at → HoldsEntry s.cut.bytes i at
   own-entry b listed =
@@ -254,7 +267,7 @@ module _ {s t : State} (view : s ≡ t) {h : ℕ} {i : Index} {at : ℕ} where
       let x = l.leads b.0 b.1 in found-entry s.cut b i l.entry x.key at x.seeks l.found
 
   -- it went with its entry
-  pub destroys-ptr : (b : IsSegment s.cut.bytes) {c : Cut} → is_read_only t.mode ≡ false → IsEntryAt t h i at
+  pub destroys-ptr : (b : IsSegment s.cut.bytes) {c : WindowState} → is_read_only t.mode ≡ false → IsEntryAt t h i at
       → RemovesEntry s.cut c i at → Stepped s t c (asked.DestroyPtr h) (Truth true)
   destroys-ptr b {c} may listed r =
       let l = seen-entry listed in
@@ -264,17 +277,18 @@ module _ {s t : State} (view : s ≡ t) {h : ℕ} {i : Index} {at : ℕ} where
       (x.object, (x.is, subst (λ o. Becomes s.cut c (without_object d o)) same (r d there.object k there.stands)))))
 
 -- or it had no key
-pub destroys-anonymous : {s t : State} (view : s ≡ t) (b : IsSegment s.cut.bytes) {c : Cut} (h : ℕ)
+pub destroys-anonymous : {s t : SegmentState} (view : s ≡ t) (b : IsSegment s.cut.bytes) {c : WindowState} (h : ℕ)
     → is_read_only t.mode ≡ false → IsAnonymousAt t h → RemovesAnonymous s.cut c h
     → Stepped s t c (asked.DestroyPtr h) (Truth true)
 destroys-anonymous {s} {t} view b {c} h may listed r =
-    let each : IsAnonymousAt s h = subst (λ (u : State). IsAnonymousAt u h) (sym view) listed in
+    let each : IsAnonymousAt s h = subst (λ (u : SegmentState). IsAnonymousAt u h) (sym view) listed in
     stepped s t view b c (asked.DestroyPtr h) (Truth true) may (λ writing.
     destroys-object c h writing b (λ d k. let x = each d k in (x.0, (x.1, r d x.0 k x.1 x.2))))
 
 -- no object has the handle
-pub destroys-no_ptr : {s : State} (h : ℕ) → is_read_only s.mode ≡ false → ((d : Directory) → StandsFor s.cut.bytes d
-    → object_at d (names.ByHandle h) ≡ None) → IsStep s s (asked.DestroyPtr h) (Refused NotFound)
+pub destroys-no_ptr : {s : SegmentState} (h : ℕ) → is_read_only s.mode ≡ false
+    → ((d : Directory) → DenotesCurrent s.cut.bytes d
+    → object_at d (names.ByHandle h) ≡ None) → TakesStep s s (asked.DestroyPtr h) (Refused NotFound)
 destroys-no_ptr {s} h writing each = by_no_change s (asked.DestroyPtr h) (Refused NotFound) (λ d k.
     step-refuse s.mode d (asked.DestroyPtr h) NotFound (open-writing s.mode (asked.DestroyPtr h) writing)
     (with-not_found d (names.ByHandle h) (λ o. Reply (Truth true) (without_object d o)) (each d k)))

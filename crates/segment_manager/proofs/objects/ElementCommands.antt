@@ -1,10 +1,15 @@
 -- Commands on elements by literals: which call is the step of the command, by the kind of the object.
 use Rattle.segment_manager.proofs.Common as common
-use common.{◌≡◌, true, Some, None, List, Kind, Value, Pairs, Texts, Refuse, IsStep, State, refl, NotFound, is_value}
-use common.{ByHandle, Elements, Directory, IsLocated, StandsFor, sym, ap, ◌∙◌, ◌⊎◌, inl, inr, ℕ, ℤ, Ok, Err, Key, subst}
-use common.{literal_of, OwnedText, elements_at, elements_of, IsToChange, IsValueOf, false, MapKind, Refusal, Literal}
-use common.{Located, Refused, kind_at, kind_of, Answers, Option, Result, length, nat_lt, Table, Scalar, Vector, Quoted}
-use common.{Answer, Object, StringsKind, WrongKind, ScalarValue, IsChangeable, IsStepOfKind, is_read_only, ScalarKind}
+use common.{◌≡◌, true, Some, None, List, Kind, Value, Pairs, Texts, Refuse, TakesStep, SegmentState, refl, NotFound}
+use common.{is_value}
+use common.{ByHandle, Elements, Directory, IsLocated, DenotesCurrent, sym, ap, ◌∙◌, ◌⊎◌, inl, inr, ℕ, ℤ, Ok, Err, Key}
+use common.{subst}
+use common.{literal_of, OwnedText, elements_at, elements_of, IsChangeableObject, IsValueOf, false, MapKind, Refusal}
+use common.{Literal}
+use common.{Located, Refused, kind_at, kind_of, AnswersWith, Option, Result, length, nat_lt, BackingArray, Scalar}
+use common.{Vector, Quoted}
+use common.{Answer, Object, StringsKind, WrongKind, ScalarValue, IsChangeable, TakesStepOfKind, is_read_only}
+use common.{ScalarKind}
 use common.{value_of_literal, kind_of_scalar, value_of_scalar, IsUnchangeable}
 use Rattle.segment_manager.proofs.containers.AnyStorage.{IsOfKindAt, kind-told, of_kind-steps}
 use Rattle.segment_manager.proofs.containers.ContentPlans.{erase-other, insert-other, insert-plan, is_no_vector}
@@ -21,7 +26,7 @@ use Rattle.segment_manager.specs.Step as step
 -- a vector of numbers of a kind
 pub record IsElements (k : ScalarKind) (v : Value) : Type 0 where
   pub numbers : List ℤ
-  pub table : Table
+  pub table : BackingArray
   pub is : v ≡ Elements k numbers table
 
 pub vector-if : (k : ScalarKind) (v : Value) → kind_of v ≡ Vector k → IsElements k v
@@ -32,7 +37,7 @@ vector-if k v e = absurd (cc)
 -- or of texts
 pub record IsTexts (v : Value) : Type 0 where
   pub texts : List OwnedText
-  pub table : Table
+  pub table : BackingArray
   pub is : v ≡ Texts texts table
 
 pub texts-if : (v : Value) → kind_of v ≡ StringsKind → IsTexts v
@@ -48,7 +53,7 @@ no_vector-if v n m = refl
 
 -- ---- no object that may be changed has the key
 
-module _ {s : State} {key : Key} {why : Refusal} (h : IsUnchangeable s key why) where
+module _ {s : SegmentState} {key : Key} {why : Refusal} (h : IsUnchangeable s key why) where
   pub unchangeable-element : (l : Literal) → IsNoElement s key l why
   unchangeable-element l = record {
     push = h.refuses (asked.Push key l) refl (λ d n. with-not_found d key (λ o. step.push d o o.value l) n);
@@ -56,33 +61,33 @@ module _ {s : State} {key : Key} {why : Refusal} (h : IsUnchangeable s key why) 
         (λ d n. with-not_found d key (λ o. step.insert_at d o o.value i l) n);
   }
 
-  pub pop-unchangeable : IsStep s s (asked.Pop key) (Refused why)
+  pub pop-unchangeable : TakesStep s s (asked.Pop key) (Refused why)
   pop-unchangeable = h.refuses (asked.Pop key) refl (λ d n. with-not_found d key (λ o. step.pop d o o.value) n)
 
-  pub erase-unchangeable : (i : ℕ) → IsStep s s (asked.Erase key i) (Refused why)
+  pub erase-unchangeable : (i : ℕ) → TakesStep s s (asked.Erase key i) (Refused why)
   erase-unchangeable i =
       h.refuses (asked.Erase key i) refl (λ d n. with-not_found d key (λ o. step.erase d o o.value i) n)
 
-  pub assign-unchangeable : (ls : List Literal) → IsStep s s (asked.Assign key ls) (Refused why)
+  pub assign-unchangeable : (ls : List Literal) → TakesStep s s (asked.Assign key ls) (Refused why)
   assign-unchangeable ls =
       h.refuses (asked.Assign key ls) refl (λ d n. with-not_found d key (λ o. step.assign d o o.value ls) n)
 
-  pub set-unchangeable : (i : ℕ) (l : Literal) → IsStep s s (asked.Set key i l) (Refused why)
+  pub set-unchangeable : (i : ℕ) (l : Literal) → TakesStep s s (asked.Set key i l) (Refused why)
   set-unchangeable i l =
       h.refuses (asked.Set key i l) refl (λ d n. with-not_found d key (λ o. step.set d o o.value i l) n)
 
 -- ---- the object of the key is no vector
 
-pub told : {s : State} {key : Key} {kind : Kind} → Answers s (λ d. kind_at d key) (Ok kind) → (d : Directory)
-    → StandsFor s.cut.bytes d → IsOfKindAt d key kind
+pub told : {s : SegmentState} {key : Key} {kind : Kind} → AnswersWith s (λ d. kind_at d key) (Ok kind) → (d : Directory)
+    → DenotesCurrent s.cut.bytes d → IsOfKindAt d key kind
 told {s} {key} {kind} a d st = kind-told d key kind (a.answers d st)
 
-module _ {s : State} {key : Key} {o : Located} (h : IsToChange s key o)
+module _ {s : SegmentState} {key : Key} {o : Located} (h : IsChangeableObject s key o)
     (other : (k : ScalarKind) → o.kind ≡ Vector k → ⊥) (no_texts : o.kind ≡ StringsKind → ⊥) where
-  there : {d : Directory} → StandsFor s.cut.bytes d → IsOfKindAt d key o.kind
+  there : {d : Directory} → DenotesCurrent s.cut.bytes d → IsOfKindAt d key o.kind
   there {d} st = told (says-kind h.located refl) d st
 
-  none : {d : Directory} (st : StandsFor s.cut.bytes d) → is_no_vector (there st).object.value ≡ true
+  none : {d : Directory} (st : DenotesCurrent s.cut.bytes d) → is_no_vector (there st).object.value ≡ true
   none st = no_vector-if (there st).object.value (λ k e. other k (sym (there st).kind_is ∙ e))
       (λ e. no_texts (sym (there st).kind_is ∙ e))
 
@@ -94,24 +99,25 @@ module _ {s : State} {key : Key} {o : Located} (h : IsToChange s key o)
         (λ d st. insert-other d key (there st).object (there st).is (none st) i l);
   }
 
-  pub pop-no_vector : IsStep s s (asked.Pop key) (Refused WrongKind)
+  pub pop-no_vector : TakesStep s s (asked.Pop key) (Refused WrongKind)
   pop-no_vector =
       refuses s (asked.Pop key) WrongKind h.writing (λ d st. pop-other d key (there st).object (there st).is (none st))
 
-  pub erase-no_vector : (i : ℕ) → IsStep s s (asked.Erase key i) (Refused WrongKind)
+  pub erase-no_vector : (i : ℕ) → TakesStep s s (asked.Erase key i) (Refused WrongKind)
   erase-no_vector i = refuses s (asked.Erase key i) WrongKind h.writing
       (λ d st. erase-other d key (there st).object (there st).is (none st) i)
 
 -- ---- it is a vector
 
-module _ {s : State} (key : Key) (k : ScalarKind) (a : Answers s (λ d. kind_at d key) (Ok (Vector k))) where
-  held : {d : Directory} (st : StandsFor s.cut.bytes d) → IsElements k (told a d st).object.value
+module _ {s : SegmentState} (key : Key) (k : ScalarKind) (a : AnswersWith s (λ d. kind_at d key) (Ok (Vector k))) where
+  held : {d : Directory} (st : DenotesCurrent s.cut.bytes d) → IsElements k (told a d st).object.value
   held {d} st = vector-if k (told a d st).object.value (told a d st).kind_is
 
   -- a literal that is read as a value of the kind is as good as the value's own
-  push-read : {new : State} (l : Literal) {z : ℤ} {answer : Answer} → value_of_literal k l ≡ Ok z → is_value k z ≡ true
-      → IsStepOfKind s new key (Vector k) (asked.Push key (literal_of k z)) answer
-      → IsStep s new (asked.Push key l) answer
+  push-read : {new : SegmentState} (l : Literal) {z : ℤ} {answer : Answer} → value_of_literal k l ≡ Ok z
+      → is_value k z ≡ true
+      → TakesStepOfKind s new key (Vector k) (asked.Push key (literal_of k z)) answer
+      → TakesStep s new (asked.Push key l) answer
   push-read {new} l {z} {answer} e v r =
       same_plan-steps s new (asked.Push key l) (asked.Push key (literal_of k z)) answer refl (λ d st.
       let f = told a d st in let h = held st in
@@ -119,9 +125,9 @@ module _ {s : State} (key : Key) (k : ScalarKind) (a : Answers s (λ d. kind_at 
       ∙ sym (push-plan d key f.object k h.numbers h.table f.is h.is (literal_of k z) (Ok z) (literal-read k z v)))
       (of_kind-steps s new key (Vector k) (asked.Push key (literal_of k z)) answer a r)
 
-  insert-read : {new : State} (i : ℕ) (l : Literal) {z : ℤ} {answer : Answer} → value_of_literal k l ≡ Ok z
-      → is_value k z ≡ true → IsStepOfKind s new key (Vector k) (asked.Insert key i (literal_of k z)) answer
-      → IsStep s new (asked.Insert key i l) answer
+  insert-read : {new : SegmentState} (i : ℕ) (l : Literal) {z : ℤ} {answer : Answer} → value_of_literal k l ≡ Ok z
+      → is_value k z ≡ true → TakesStepOfKind s new key (Vector k) (asked.Insert key i (literal_of k z)) answer
+      → TakesStep s new (asked.Insert key i l) answer
   insert-read {new} i l {z} {answer} e v r =
       same_plan-steps s new (asked.Insert key i l) (asked.Insert key i (literal_of k z)) answer refl (λ d st.
       let f = told a d st in let h = held st in
@@ -142,7 +148,8 @@ module _ {s : State} (key : Key) (k : ScalarKind) (a : Answers s (λ d. kind_at 
   }
 
 -- what the literal is for it
-module _ {s : State} {key : Key} {o : Located} (h : IsToChange s key o) {k : ScalarKind} (is : o.kind ≡ Vector k) where
+module _ {s : SegmentState} {key : Key} {o : Located} (h : IsChangeableObject s key o) {k : ScalarKind} (is : o.kind
+    ≡ Vector k) where
   pub element-read : {l : Literal} (v : ScalarValue) → IsValueOf k (value_of_literal k l) (Ok v) → IsElement s key l v
   element-read {l} v (same, value, range) = record {
     is = says-kind h.located (is ∙ ap Vector (sym same));
@@ -157,15 +164,15 @@ abbrev own : ScalarValue → Literal
 own v = literal_of (kind_of_scalar v) (value_of_scalar v)
 
 -- a new element, put there under the handle of the vector
-module _ {s : State} {key : Key} {o : Located} (located : IsLocated s key o) {l : Literal} {v : ScalarValue}
-    (e : IsElement s key l v) {new : State} {answer : Answer} where
-  pub push-element : IsStepOfKind s new (ByHandle o.handle) (Vector (kind_of_scalar v))
-      (asked.Push (ByHandle o.handle) (own v)) answer → IsStep s new (asked.Push key l) answer
+module _ {s : SegmentState} {key : Key} {o : Located} (located : IsLocated s key o) {l : Literal} {v : ScalarValue}
+    (e : IsElement s key l v) {new : SegmentState} {answer : Answer} where
+  pub push-element : TakesStepOfKind s new (ByHandle o.handle) (Vector (kind_of_scalar v))
+      (asked.Push (ByHandle o.handle) (own v)) answer → TakesStep s new (asked.Push key l) answer
   push-element r = push-read key (kind_of_scalar v) e.is l e.value e.range
       (step_of_kind-by_key s key o located new (Vector (kind_of_scalar v)) (asked.Push key (own v)) answer r)
 
-  pub insert-element : (i : ℕ) → IsStepOfKind s new (ByHandle o.handle) (Vector (kind_of_scalar v))
-      (asked.Insert (ByHandle o.handle) i (own v)) answer → IsStep s new (asked.Insert key i l) answer
+  pub insert-element : (i : ℕ) → TakesStepOfKind s new (ByHandle o.handle) (Vector (kind_of_scalar v))
+      (asked.Insert (ByHandle o.handle) i (own v)) answer → TakesStep s new (asked.Insert key i l) answer
   insert-element i r = insert-read key (kind_of_scalar v) e.is i l e.value e.range
       (step_of_kind-by_key s key o located new (Vector (kind_of_scalar v)) (asked.Insert key i (own v)) answer r)
 
@@ -174,7 +181,7 @@ module _ {s : State} {key : Key} {o : Located} (located : IsLocated s key o) {l 
 abbrev pub NoText : Literal → Type 0
 NoText l = (bs : List ℕ) → l ≡ Quoted bs → ⊥
 
-module _ (d : Directory) (o : Object) (ps : List OwnedText) (t : Table) where
+module _ (d : Directory) (o : Object) (ps : List OwnedText) (t : BackingArray) where
   not_pushed : (l : Literal) → NoText l → step.push d o (Texts ps t) l ≡ Refuse WrongKind
   not_pushed (Quoted bs) n = absurd (n bs refl)
   not_pushed l n = refl
@@ -187,14 +194,14 @@ module _ (d : Directory) (o : Object) (ps : List OwnedText) (t : Table) where
   not_set i (Quoted bs) n = absurd (n bs refl)
   not_set i l n = refl
 
-module _ {s : State} {key : Key} (h : IsChangeable s key StringsKind) {l : Literal} (n : NoText l) where
-  found : {d : Directory} → StandsFor s.cut.bytes d → IsOfKindAt d key StringsKind
+module _ {s : SegmentState} {key : Key} (h : IsChangeable s key StringsKind) {l : Literal} (n : NoText l) where
+  found : {d : Directory} → DenotesCurrent s.cut.bytes d → IsOfKindAt d key StringsKind
   found {d} st = told h.is d st
 
-  owned : {d : Directory} (st : StandsFor s.cut.bytes d) → IsTexts (found st).object.value
+  owned : {d : Directory} (st : DenotesCurrent s.cut.bytes d) → IsTexts (found st).object.value
   owned st = texts-if (found st).object.value (found st).kind_is
 
-  pub set-no_text : (i : ℕ) → IsStep s s (asked.Set key i l) (Refused WrongKind)
+  pub set-no_text : (i : ℕ) → TakesStep s s (asked.Set key i l) (Refused WrongKind)
   set-no_text i = refuses s (asked.Set key i l) WrongKind h.writing (λ d st.
       let o : Object = (found st).object in
       with-found d key o (λ o. step.set d o o.value i l) (found st).is ∙ ap (λ v. step.set d o v i l) (owned st).is
@@ -218,25 +225,26 @@ abbrev elements_of_object : Option Object → Result ScalarKind Refusal
 elements_of_object r =
     elim r as (λ _. Result ScalarKind Refusal) [ None ↦ Err NotFound | Some o ↦ elements_of (kind_of o.value) ]
 
-pub elements-told : {s : State} {key : Key} {kind : Kind} {k : ScalarKind} → IsChangeable s key kind
-    → elements_of kind ≡ Ok k → Answers s (λ d. elements_at d key) (Ok k)
+pub elements-told : {s : SegmentState} {key : Key} {kind : Kind} {k : ScalarKind} → IsChangeable s key kind
+    → elements_of kind ≡ Ok k → AnswersWith s (λ d. elements_at d key) (Ok k)
 elements-told h e = record {
   answers = λ d st. let f = told h.is d st in sym (ap elements_of_object f.is ∙ ap elements_of f.kind_is ∙ e);
 }
 
 -- of scalars, or of a vector of them
-pub elements-either : {s : State} {key : Key} {kind : Kind} {k : ScalarKind} → IsChangeable s key kind
-    → (kind ≡ Scalar k) ⊎ (kind ≡ Vector k) → Answers s (λ d. elements_at d key) (Ok k)
+pub elements-either : {s : SegmentState} {key : Key} {kind : Kind} {k : ScalarKind} → IsChangeable s key kind
+    → (kind ≡ Scalar k) ⊎ (kind ≡ Vector k) → AnswersWith s (λ d. elements_at d key) (Ok k)
 elements-either h (inl e) = elements-told h (ap elements_of e)
 elements-either h (inr e) = elements-told h (ap elements_of e)
 
 -- a value of the kind that they have
-pub set-step : {old new : State} (key : Key) {k : ScalarKind} (i : ℕ) (l : Literal) (v : ScalarValue) {answer : Answer}
-    → Answers old (λ d. elements_at d key) (Ok k) → IsValueOf k (value_of_literal k l) (Ok v)
-    → IsStep old new (asked.Set key i (literal_of (kind_of_scalar v) (value_of_scalar v))) answer
-    → IsStep old new (asked.Set key i l) answer
+pub set-step : {old new : SegmentState} (key : Key) {k : ScalarKind} (i : ℕ) (l : Literal) (v : ScalarValue)
+    {answer : Answer}
+    → AnswersWith old (λ d. elements_at d key) (Ok k) → IsValueOf k (value_of_literal k l) (Ok v)
+    → TakesStep old new (asked.Set key i (literal_of (kind_of_scalar v) (value_of_scalar v))) answer
+    → TakesStep old new (asked.Set key i l) answer
 set-step {old} {new} key {k} i l v {answer} a (same, value, range) h = any-literal key i l a value range
-    (subst (λ j. IsStep old new (asked.Set key i (literal_of j (value_of_scalar v))) answer) same h)
+    (subst (λ j. TakesStep old new (asked.Set key i (literal_of j (value_of_scalar v))) answer) same h)
 
 -- a map has none
 no_map_set : (d : Directory) (o : Object) (v : Value) (i : ℕ) (l : Literal) (k m : ScalarKind) → kind_of v ≡ MapKind k m
@@ -244,8 +252,8 @@ no_map_set : (d : Directory) (o : Object) (v : Value) (i : ℕ) (l : Literal) (k
 no_map_set d o (Pairs j n ps) i l k m e = refl
 no_map_set d o v i l k m e = absurd (cc)
 
-pub set-map : {s : State} {key : Key} {k m : ScalarKind} (i : ℕ) (l : Literal) → IsChangeable s key (MapKind k m)
-    → IsStep s s (asked.Set key i l) (Refused WrongKind)
+pub set-map : {s : SegmentState} {key : Key} {k m : ScalarKind} (i : ℕ) (l : Literal) → IsChangeable s key (MapKind k m)
+    → TakesStep s s (asked.Set key i l) (Refused WrongKind)
 set-map {s} {key} {k} {m} i l h = refuses s (asked.Set key i l) WrongKind h.writing (λ d st. let f = told h.is d st in
     with-found d key f.object (λ o. step.set d o o.value i l) f.is
     ∙ no_map_set d f.object f.object.value i l k m f.kind_is)

@@ -1,11 +1,13 @@
 -- An object in the place of one like it, whose value has other blocks: the blocks of all other objects stay.
 use Rattle.segment_manager.proofs.Common as common
 use common.{◌≡◌, refl, sym, ap, subst, ◌∙◌, ℕ, ◌+◌, ◌≤◌, ◌≢◌, inl, inr, List, [], ◌∷◌, ◌++◌, length, arith, IsTrue}
-use common.{AllByRecursion, Memory, Cut, Same, bytes_of, exchanged, SameBlockBut, IsExchanged, Extent, LiveSet, handle}
-use common.{end_of, is_proper, LaysOut, SameBlock, Keeps, live_of, Value, Object, Directory, live, extents_of, padded}
+use common.{AllByRecursion, Memory, WindowState, SameBytes, bytes_of, exchanged, SameBlockExcept, ExchangesBlocks}
+use common.{Extent, LiveSet, handle}
+use common.{end_of, is_proper, EncodesLiveSet, SameBlock, KeepsBlocks, live_of, Value, Object, Directory, live}
+use common.{extents_of, padded}
 use common.{count_of, kind_of, value_len, value_extents, is_object, remove_object, with_changed, without_object}
 use common.{Denotes, IsObjectAt, IsValueAt, changed, SameSpread, inserted-append, live-spaced, middle-first}
-use common.{spaced-insert, ◌-◌, current, Some, IsChanged, extent_at}
+use common.{spaced-insert, ◌-◌, current, Some, ChangesBytes, extent_at}
 use Rattle.segment_manager.proofs.Live.{adding, IsFound, IsIn, live-split, live-changed}
 use Rattle.segment_manager.proofs.objects.Regrown.{InPlace, differs-flip, rest, with_extents}
 use Rattle.segment_manager.proofs.objects.Rewritten.{object-held, value_start, with_value}
@@ -86,7 +88,7 @@ live-exchanged d o o' gone come p x h =
 -- ---- what stays
 
 but-beside : {m m' : Memory} {from n : ℕ} {x y : Extent} → handle x ≤ from → from + n ≤ end_of x → LiesBeside x y
-    → SameBlockBut m m' from n y → SameBlock m m' y
+    → SameBlockExcept m m' from n y → SameBlock m m' y
 but-beside f g (above h) s = record {
   payload = record { at = λ k a b. s.payload k a b (inl (omega arith)) };
   colour = s.colour;
@@ -97,7 +99,7 @@ but-beside f g (below h) s = record {
 }
 
 pub all-but-beside : (m m' : Memory) (from n : ℕ) (x : Extent) (ys : List Extent) → handle x ≤ from
-    → from + n ≤ end_of x → AllByRecursion (LiesBeside x) ys → AllByRecursion (SameBlockBut m m' from n) ys
+    → from + n ≤ end_of x → AllByRecursion (LiesBeside x) ys → AllByRecursion (SameBlockExcept m m' from n) ys
     → AllByRecursion (SameBlock m m') ys
 all-but-beside m m' from n x [] f g h s = tt
 all-but-beside m m' from n x (y ∷ ys) f g h s = (but-beside f g h.0 s.0, all-but-beside m m' from n x ys f g h.1 s.1)
@@ -129,34 +131,36 @@ others-beside d o o' p =
 -- What the bytes denote once an object's value has other blocks, whatever its class: a vector or text regrown, cut or
 -- released, texts put or gone, pairs put or removed. In its own block n bytes changed. A block of the value that is
 -- written in is gone, and comes.
-pub denotes-exchanged : {format : ℕ} {old new : Cut} {d : Directory} {o o' : Object} {from n : ℕ} {gone come : List
+pub denotes-exchanged : {format : ℕ} {old new : WindowState} {d : Directory} {o o' : Object} {from n : ℕ}
+    {gone come : List
     Extent} → Denotes format old.bytes d → IsFound (handle o'.extent) d.objects o → IsLike o o' → Exchange o o' gone
-    come → IsTrue (is_object format o') → handle o.extent ≤ from → from + n ≤ end_of o.extent → IsExchanged format old
+    come → IsTrue (is_object format o') → handle o.extent ≤ from → from + n ≤ end_of o.extent
+    → ExchangesBlocks format old
     new from n gone come → IsObjectAt (bytes_of new.bytes) o' → Denotes format new.bytes (with_changed d o')
 denotes-exchanged {format} {old} {new} {d} {o} {o'} {from} {n} {gone} {come} k found like x good f g c at =
     let m = bytes_of old.bytes in let m' = bytes_of new.bytes in
     let p : InPlace d o o' = record { found = found; extent = like.extent; proper = k.directory.proper } in
     let l = denotes-live format old.bytes d k in
-    let laid : LaysOut format new.bytes (exchanged (live d) gone come) =
-    subst (λ (l : LiveSet). LaysOut format new.bytes (exchanged l gone come)) l c.live in
-    let blocks = kept-each (SameBlockBut m m' from n) p x
-    (subst (λ (l : LiveSet). AllByRecursion (SameBlockBut m m' from n) (without_all gone l.extents)) l c.blocks) in
-    let keeps : Keeps old new (rest d o') = record {
+    let laid : EncodesLiveSet format new.bytes (exchanged (live d) gone come) =
+    subst (λ (l : LiveSet). EncodesLiveSet format new.bytes (exchanged l gone come)) l c.live in
+    let blocks = kept-each (SameBlockExcept m m' from n) p x
+    (subst (λ (l : LiveSet). AllByRecursion (SameBlockExcept m m' from n) (without_all gone l.extents)) l c.blocks) in
+    let keeps : KeepsBlocks old new (rest d o') = record {
       place = c.place;
       front = c.front;
       behind = c.behind;
       blocks = all-but-beside m m' from n o.extent (rest d o') f g (others-beside d o o' p) blocks.rest;
     } in
     denotes-replaced format old new d o o' k found like good
-    (subst (LaysOut format new.bytes) (sym (live-exchanged d o o' gone come p x laid.proper)) laid) keeps at
+    (subst (EncodesLiveSet format new.bytes) (sym (live-exchanged d o o' gone come p x laid.proper)) laid) keeps at
 
 -- ---- an object with another value
 
 -- Its head and name stay, blocks are exchanged, and in its own block n bytes behind the name changed.
-denotes-held : {format : ℕ} (old new : Cut) {d : Directory} (o : Object) (v : Value) (from n : ℕ)
+denotes-held : {format : ℕ} (old new : WindowState) {d : Directory} (o : Object) (v : Value) (from n : ℕ)
     (gone come : List Extent) → Denotes format old.bytes d → IsIn d o → Exchange o (with_value o v) gone come
     → kind_of v ≡ kind_of o.value → count_of v ≡ count_of o.value → IsTrue (is_object format (with_value o v))
-    → value_start o ≤ from → from + n ≤ end_of o.extent → IsExchanged format old new from n gone come
+    → value_start o ≤ from → from + n ≤ end_of o.extent → ExchangesBlocks format old new from n gone come
     → IsValueAt (bytes_of new.bytes) (value_start o) v → Denotes format new.bytes (changed d o v)
 denotes-held {format} old new {d} o v from n gone come k found x kind count good low high c at =
     let o' = with_value o v in let m = bytes_of old.bytes in
@@ -164,18 +168,19 @@ denotes-held {format} old new {d} o v from n gone come k found x kind count good
     let like : IsLike o o' = record { extent = refl; name = refl; class = refl; kind = kind } in
     let p : InPlace d o o' = record { found = found; extent = refl; proper = k.directory.proper } in
     let l = denotes-live format old.bytes d k in
-    let blocks = kept-each (SameBlockBut m m' from n) p x
-    (subst (λ (l : LiveSet). AllByRecursion (SameBlockBut m m' from n) (without_all gone l.extents)) l c.blocks) in
-    let s : Same m m' (handle o.extent) (value_start o) =
+    let blocks = kept-each (SameBlockExcept m m' from n) p x
+    (subst (λ (l : LiveSet). AllByRecursion (SameBlockExcept m m' from n) (without_all gone l.extents)) l c.blocks) in
+    let s : SameBytes m m' (handle o.extent) (value_start o) =
     record { at = λ i a b. blocks.own.payload i a (omega arith) (inl (omega arith)) } in
     denotes-exchanged k found like x good (omega arith) high c
     (object-held m m' o v (object-at format old.bytes d (handle o.extent) o k found) kind count s at)
 
 -- So the calls of seg_vector and seg_map change a container of an object: its 24 bytes are written.
-pub denotes-container : (format : ℕ) (old new : Cut) (d : Directory) (o : Object) (v : Value) (gone come : List Extent)
+pub denotes-container : (format : ℕ) (old new : WindowState) (d : Directory) (o : Object) (v : Value)
+    (gone come : List Extent)
     → Denotes format old.bytes d → IsIn d o → Exchange o (with_value o v) gone come → kind_of v ≡ kind_of o.value
     → count_of v ≡ count_of o.value → value_len o.value ≡ 24 → IsTrue (is_object format o)
-    → IsTrue (is_object format (with_value o v)) → IsExchanged format old new (value_start o) 24 gone come
+    → IsTrue (is_object format (with_value o v)) → ExchangesBlocks format old new (value_start o) 24 gone come
     → IsValueAt (bytes_of new.bytes) (value_start o) v → Denotes format new.bytes (changed d o v)
 denotes-container format old new d o v gone come k found x kind count len was good c at =
     let fits : 16 + padded (length o.name) + value_len o.value + 16 ≤ o.extent.len = (object-roomy format o was).room in
@@ -183,10 +188,11 @@ denotes-container format old new d o v gone come k found x kind count len was go
     (omega (arith, len)) c at
 
 -- And so a value is written that has the same blocks.
-pub denotes-rewritten : {old new : Cut} {d : Directory} (o : Object) (v : Value) {from n : ℕ}
+pub denotes-rewritten : {old new : WindowState} {d : Directory} (o : Object) (v : Value) {from n : ℕ}
     → Denotes current old.bytes d → IsIn d o → kind_of v ≡ kind_of o.value → count_of v ≡ count_of o.value
     → value_extents v ≡ value_extents o.value → IsTrue (is_object current (with_value o v)) → value_start o ≤ from
-    → from + n ≤ end_of o.extent → IsChanged current old new from n → IsValueAt (bytes_of new.bytes) (value_start o) v
+    → from + n ≤ end_of o.extent → ChangesBytes current old new from n
+    → IsValueAt (bytes_of new.bytes) (value_start o) v
     → Denotes current new.bytes (changed d o v)
 denotes-rewritten {old} {new} {d} o v {from} {n} k found kind count extents good low high c at =
     let l = live_of old.bytes in let x : Extent = o.extent in

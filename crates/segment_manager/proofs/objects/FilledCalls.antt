@@ -1,10 +1,12 @@
 -- Calls that construct an object, of what fills it or of numbers from items, as the code makes them.
 use Rattle.segment_manager.proofs.Common as common
 use common.{false≢true, ◌≡◌, refl, sym, ap, subst, ◌∙◌, ℕ, true, false, Some, None, Option, Ok, Err, Result, List}
-use common.{IfErr, none-some, Cut, Kind, Refusal, Exists, NoSpace, Command, Content, Index, NewEntry, Mode, Answer}
-use common.{Made, Refused, is_untouched, Begins, IsAbsentAt, IsNotBegun, Object, Directory, count_of, kind_of}
+use common.{IfErr, none-some, WindowState, Kind, Refusal, Exists, NoSpace, Command, Content, Index, PendingEntry, Mode}
+use common.{Answer}
+use common.{Made, Refused, is_untouched, BeginsObject, IsAbsentAt, IsNotBegun, Object, Directory, count_of, kind_of}
 use common.{object_at, value_len, Constructs, FindsOrConstructs, IsBegunFor, MakesValue, with_count, handle_at}
-use common.{pair_answer, IsNewKeyOf, bare, StandsAt, pair_of_kind, Answers, IsSegment, IsStep, State, answer_of}
+use common.{pair_answer, IsNewKeyOf, bare, IsObjectInBlock, pair_of_kind, AnswersWith, IsSegment, TakesStep}
+use common.{SegmentState, answer_of}
 use common.{handle_answer, is_read_only, Reply, effect, found, with_new_object}
 use Rattle.segment_manager.proofs.objects.FoundOrMade.{constructs-exists, finds, found-there, made_for, made_handle}
 use Rattle.segment_manager.proofs.objects.FoundOrMade.{makes, makes-nothing}
@@ -24,31 +26,33 @@ use Rattle.seg_types.specs.Commands as asked
 -- ---- begun
 
 -- what the shape says of an object that was begun is what the content says
-pub begun-for : (old new : Cut) (key : names.Key) {content : Content} {s : ObjectShape}
+pub begun-for : (old new : WindowState) (key : names.Key) {content : Content} {s : ObjectShape}
     (r : Result PendingObject Refusal)
-    → IsShapeOf content s → Begins old new key s.kind s.count s.len r
-    → Begins old new key (kind_of (bare content)) (count_of (bare content)) (value_len (bare content)) r
-begun-for old new key {content} {s} r is g = subst (λ (k : Kind). Begins old new key k (count_of (bare content))
-    (value_len (bare content)) r) is.kind (subst (λ n. Begins old new key s.kind n (value_len (bare content)) r)
-    is.count (subst (λ n. Begins old new key s.kind s.count n r) is.len g))
+    → IsShapeOf content s → BeginsObject old new key s.kind s.count s.len r
+    → BeginsObject old new key (kind_of (bare content)) (count_of (bare content)) (value_len (bare content)) r
+begun-for old new key {content} {s} r is g = subst (λ (k : Kind). BeginsObject old new key k (count_of (bare content))
+    (value_len (bare content)) r) is.kind (subst (λ n. BeginsObject old new key s.kind n (value_len (bare content)) r)
+    is.count (subst (λ n. BeginsObject old new key s.kind s.count n r) is.len g))
 
-pub has-begun : (old new : Cut) (key : names.Key) {content : Content} {s : ObjectShape} (r : PendingObject)
+pub has-begun : (old new : WindowState) (key : names.Key) {content : Content} {s : ObjectShape} (r : PendingObject)
     → IsSegment old.bytes
-    → IsShapeOf content s → Begins old new key s.kind s.count s.len (Ok r) → HasBegun new content r.handle r.at r.entry
+    → IsShapeOf content s → BeginsObject old new key s.kind s.count s.len (Ok r)
+    → HasBegun new content r.handle r.at r.entry
 has-begun old new key r b is g = (old, (b, (key, begun-for old new key (Ok r) is g)))
 
 -- ---- filled
 
 module _ (content : Content) where
   -- what the end wants of a value that was made, or was refused its blocks
-  pub ending : (a m : Cut) (b : IsSegment a.bytes) (key : names.Key) (h at : ℕ) (entry : Option NewEntry) (w : Cut)
+  pub ending : (a m : WindowState) (b : IsSegment a.bytes) (key : names.Key) (h at : ℕ)
+      (entry : Option PendingEntry) (w : WindowState)
       (r : Result (Unit {0}) Refusal) → IsBegunFor a m key content h at entry
       → MakesValue content m w (record { handle = h; at = at }) r → IsEnding w h entry r
   ending a m b key h at entry w (Ok u) g r = value-ready content a b key h at entry g r
   ending a m b key h at entry w (Err why) g r = (a, value-loose content a b key h at entry w why g r)
 
   -- the value is made, and then the object gets its entry; or all is given back
-  pub builds : (m w c : Cut) (h at : ℕ) (entry : Option NewEntry) (filled : Result (Unit {0}) Refusal)
+  pub builds : (m w c : WindowState) (h at : ℕ) (entry : Option PendingEntry) (filled : Result (Unit {0}) Refusal)
       (result : Result ℕ Refusal) → MakesValue content m w (record { handle = h; at = at }) filled
       → Ends w c h entry filled result → FillsObject m c h at entry content result
   builds m w c h at entry (Ok u) result made e =
@@ -58,27 +62,27 @@ module _ (content : Content) where
 
 -- ---- the steps
 
-module _ {a : Cut} (b : IsSegment a.bytes) (key : names.Key) (content : Content) where
+module _ {a : WindowState} (b : IsSegment a.bytes) (key : names.Key) (content : Content) where
   no-space : {A : Type 0} (f : A → Answer) {command : Command} (say : Object → Answer)
       → ((d : Directory) → object_at d key ≡ None
-      → effect d command ≡ with_new_object d key content (λ o e. Reply (say o) e)) → (c : Cut) (why : Refusal)
+      → effect d command ≡ with_new_object d key content (λ o e. Reply (say o) e)) → (c : WindowState) (why : Refusal)
       → why ≡ NoSpace → IsMadeNever a c key content → Constructs a c command (answer_of f) (Err why)
   no-space f {command} say asks c why e d = record {
     step = λ mode writing.
-        subst (λ (r : Refusal). IsStep (record { cut = a; mode = mode }) (record { cut = c; mode = mode }) command
+        subst (λ (r : Refusal). TakesStep (record { cut = a; mode = mode }) (record { cut = c; mode = mode }) command
         (Refused r)) (sym e) (makes-nothing command say writing d.place asks d.each);
     refused = λ t. absurd (false≢true (sym (ap (λ (r : Refusal). is_untouched (Refused r)) e) ∙ t));
   }
 
-  none-constructed : (c : Cut) (why : Refusal) → why ≡ NoSpace → IsMadeNever a c key content
+  none-constructed : (c : WindowState) (why : Refusal) → why ≡ NoSpace → IsMadeNever a c key content
       → Constructs a c (asked.Construct key content) handle_answer (Err why)
   none-constructed = no-space Made made_handle (λ d e. ap (made_for d key content) e)
 
-  none-found : (c : Cut) (why : Refusal) → why ≡ NoSpace → IsMadeNever a c key content
+  none-found : (c : WindowState) (why : Refusal) → why ≡ NoSpace → IsMadeNever a c key content
       → Constructs a c (asked.FindOrConstruct key content) pair_answer (Err why)
   none-found = no-space pair_found found (λ d e. ap (finds d key content) e)
 
-  module _ (entry : Option NewEntry) (m : Cut) {c : Cut} (h at : ℕ) where
+  module _ (entry : Option PendingEntry) (m : WindowState) {c : WindowState} (h at : ℕ) where
     made-now : {n : ℕ} → IsBegunFor a m key content h at entry → FillsObject m c h at entry content (let r = Ok n in r)
         → IsMadeNow a c key content n
     made-now {n} g r =
@@ -113,10 +117,10 @@ module _ {a : Cut} (b : IsSegment a.bytes) (key : names.Key) (content : Content)
     found-built (Err why) g r = none-found c why r.none.refusal (made-never why g r)
 
   -- it is not begun
-  pub construct-not_begun : (why : Refusal) (c : Cut) → IsNotBegun a c key (kind_of (bare content))
+  pub construct-not_begun : (why : Refusal) (c : WindowState) → IsNotBegun a c key (kind_of (bare content))
       (value_len (bare content)) why → Constructs a c (asked.Construct key content) handle_answer (Err why)
   construct-not_begun Exists c t = record {
-    step = λ mode writing. subst (λ (u : Cut). IsStep (record { cut = a; mode = mode })
+    step = λ mode writing. subst (λ (u : WindowState). TakesStep (record { cut = a; mode = mode })
         (record { cut = u; mode = mode }) (asked.Construct key content) (Refused Exists)) (sym t.same)
         (constructs-exists key content writing (key-taken key content t));
     refused = λ e. t.same;
@@ -125,7 +129,7 @@ module _ {a : Cut} (b : IsSegment a.bytes) (key : names.Key) (content : Content)
   construct-not_begun why c t = absurd t
 
   -- where no object has the key
-  pub found-not_begun : (why : Refusal) {c : Cut} → object_at b.0 key ≡ None
+  pub found-not_begun : (why : Refusal) {c : WindowState} → object_at b.0 key ≡ None
       → IsNotBegun a c key (kind_of (bare content)) (value_len (bare content)) why
       → Constructs a c (asked.FindOrConstruct key content) pair_answer (Err why)
   found-not_begun Exists none t = absurd (let o = key-taken key content t b.0 b.1 in none-some o.0 (sym none ∙ o.1))
@@ -133,8 +137,8 @@ module _ {a : Cut} (b : IsSegment a.bytes) (key : names.Key) (content : Content)
   found-not_begun why none t = absurd t
 
   -- an object has the key, and stays as it is
-  pub found-all : {h : ℕ} {r : Result (ℕ × ℕ) Refusal} → ((mode : Mode) → Answers (record { cut = a; mode = mode })
-      (λ d. handle_at d key) (Some h)) → ((o : Object) → StandsAt a.bytes h o → r ≡ pair_of_kind o
+  pub found-all : {h : ℕ} {r : Result (ℕ × ℕ) Refusal} → ((mode : Mode) → AnswersWith (record { cut = a; mode = mode })
+      (λ d. handle_at d key) (Some h)) → ((o : Object) → IsObjectInBlock a.bytes h o → r ≡ pair_of_kind o
       (kind_of (bare content))) → FindsOrConstructs a a key content r
   found-all {r} there each = record {
     constructs = record {
@@ -151,13 +155,14 @@ module _ {a : Cut} (b : IsSegment a.bytes) (key : names.Key) (content : Content)
 -- ---- under an entry
 
 -- a look-up finds no object
-pub no-object : {a : Cut} (b : IsSegment a.bytes) (i : Index) (e : Entry) (at : ℕ) (key : names.Key) (name : List ℕ)
+pub no-object : {a : WindowState} (b : IsSegment a.bytes) (i : Index) (e : Entry) (at : ℕ) (key : names.Key)
+    (name : List ℕ)
     (kind : Kind) → IsNewKeyOf i e key name kind → IsAbsentAt a i e at → object_at b.0 key ≡ None
 no-object {a} b i e at key name kind new away =
     (lookup-absent i a e key b.1.denotes (key-seeks i e key name kind new) (away-in i e at b.1.denotes away)).none
 
 -- and so nothing is said of one
-pub found-absent : {a c : Cut} (i : Index) (e : Entry) (at : ℕ) {key : names.Key} (name : List ℕ) (kind : Kind)
+pub found-absent : {a c : WindowState} (i : Index) (e : Entry) (at : ℕ) {key : names.Key} (name : List ℕ) (kind : Kind)
     {content : Content} {r : Result (ℕ × ℕ) Refusal} → IsNewKeyOf i e key name kind → IsAbsentAt a i e at
     → Constructs a c (asked.FindOrConstruct key content) pair_answer r → FindsOrConstructs a c key content r
 found-absent {a} i e at {key} name kind new away done = record {
@@ -168,12 +173,13 @@ found-absent {a} i e at {key} name kind new away done = record {
 
 -- ---- the segment afterwards, as its view before the call is named
 
-module _ {A : Type 0} {s t : State} (view : s ≡ t) {c : Cut} {command : Command} {answer : Result A Refusal → Answer}
+module _ {A : Type 0} {s t : SegmentState} (view : s ≡ t) {c : WindowState} {command : Command}
+    {answer : Result A Refusal → Answer}
     {r : Result A Refusal} (done : Constructs s.cut c command answer r) where
-  pub made-step : is_read_only t.mode ≡ false → IsStep t (record s { cut = c }) command (answer r)
-  made-step writing = subst (λ (u : State). IsStep u (record s { cut = c }) command (answer r)) view
-      (done.step s.mode (ap (λ (u : State). is_read_only u.mode) view ∙ writing))
+  pub made-step : is_read_only t.mode ≡ false → TakesStep t (record s { cut = c }) command (answer r)
+  made-step writing = subst (λ (u : SegmentState). TakesStep u (record s { cut = c }) command (answer r)) view
+      (done.step s.mode (ap (λ (u : SegmentState). is_read_only u.mode) view ∙ writing))
 
   pub made-segment : is_read_only t.mode ≡ false → IsSegment s.cut.bytes → IsSegment c.bytes
   made-segment writing b = step-segment s (record s { cut = c }) command (answer r)
-      (done.step s.mode (ap (λ (u : State). is_read_only u.mode) view ∙ writing)) b
+      (done.step s.mode (ap (λ (u : SegmentState). is_read_only u.mode) view ∙ writing)) b

@@ -2,7 +2,8 @@
 use Rattle.segment_manager.proofs.Common as common
 use common.{◌≡◌, ap, ◌∙◌, ℕ, zero, suc, ◌+◌, ◌*◌, ◌-◌, ◌<◌, ◌≤◌, Bool, true, false, ◌&&◌, not, List, [], ◌∷◌, ◌++◌}
 use common.{length, replicate, ◌==◌, if◌then◌else◌, arith, IsTrue, nat_le, AllByRecursion, list_all, is_utf8, chars}
-use common.{and_parts, eqb-true, leb-true, Memory, bytes_of, read, Has, word_at, handle, serves, ObjectRole, ScalarKind}
+use common.{and_parts, eqb-true, leb-true, Memory, bytes_of, read, HasBytesAt, word_at, handle, serves, ObjectRole}
+use common.{ScalarKind}
 use common.{BoolKind, Kind, Scalar, Vector, Map, scalar_code, code_of, class_code, is_kind_of, is_name}
 use common.{is_printable_name, is_text_name, is_control, name_len_at, Object, kind_of, count_of, padded, is_class}
 use common.{has_good_name, is_good_value, is_object, object_len, IsObjectAt, IsEntry, subst, length-append}
@@ -56,8 +57,8 @@ good_name-short format o h = good-if format o (is_class Named o) h
 -- ---- an object's words
 
 -- the first of two rows of bytes
-pub Has-front : (m : Memory) (at : ℕ) (xs ys : List ℕ) → Has m at (xs ++ ys) → Has m at xs
-Has-front m at xs ys h = subst (Has m at) (take-append_seam xs ys)
+pub Has-front : (m : Memory) (at : ℕ) (xs ys : List ℕ) → HasBytesAt m at (xs ++ ys) → HasBytesAt m at xs
+Has-front m at xs ys h = subst (HasBytesAt m at) (take-append_seam xs ys)
     (HasBytesAt-take m at (length xs) (xs ++ ys) (omega (arith, length-append xs ys)) h)
 
 -- the length of the name

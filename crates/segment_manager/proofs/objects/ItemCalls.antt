@@ -1,14 +1,18 @@
 -- Calls that construct an object of numbers from items, as the code makes them.
 use Rattle.segment_manager.proofs.Common as common
-use common.{◌≡◌, sym, ap, ◌∙◌, Ok, Err, Cut, ◌+◌, ◌*◌, ◌≤◌, ℤ, [], map, ◌<◌, pos, live, step, Plan}
-use common.{refl, true, Some, None, List, Made, State, Reply, Bool, arith, take, Extent, handle, place, Scalar, padded}
-use common.{subst, Directory, object_at, IsSegment, replicate, SamePlace, IsChanged, TakesItems, IsRestored}
-use common.{ℕ, Option, Result, Exists, Object, IsStep, effect, length, IsTrue, nat_lt, lt-ltb, le-ltb, perform, live_of}
-use common.{false, NewEntry, list_all, take_all, Anonymous, ReadOnly, is_value, head_len, room_for, StandsFor}
-use common.{Refusal, NoSpace, Command, Refused, current, resized, size_of, IsBegun, IsLoose, Denotes, Numbers, has_room}
-use common.{IsNotBegun, length-map, ObjectRole, ScalarKind, OutOfRange, IsTakenKey, LeadsThere, object_len, with_object}
-use common.{is_read_only, with_new_object, if◌then◌else◌, mul-le-mul_left, length-replicate, IsAllocated, is_good_value}
-use common.{inl, inr, option_map, Mode, Answers, StandsAt, handle_at, pair_of_kind, with_count, Index, Kind}
+use common.{◌≡◌, sym, ap, ◌∙◌, Ok, Err, WindowState, ◌+◌, ◌*◌, ◌≤◌, ℤ, [], map, ◌<◌, pos, live, step, Plan}
+use common.{refl, true, Some, None, List, Made, SegmentState, Reply, Bool, arith, take, Extent, handle, place, Scalar}
+use common.{padded}
+use common.{subst, Directory, object_at, IsSegment, replicate, SameSurroundings, ChangesBytes, ConstructsFromItems}
+use common.{RestoresBlocks}
+use common.{ℕ, Option, Result, Exists, Object, TakesStep, effect, length, IsTrue, nat_lt, lt-ltb, le-ltb, perform}
+use common.{live_of}
+use common.{false, PendingEntry, list_all, take_all, Anonymous, ReadOnly, is_value, head_len, room_for, DenotesCurrent}
+use common.{Refusal, NoSpace, Command, Refused, current, resized, size_of, BeginsObjectOk, IsUnindexedObject, Denotes}
+use common.{Numbers, has_room}
+use common.{IsNotBegun, length-map, ObjectRole, ScalarKind, OutOfRange, RefusesKey, LeadsThere, object_len, with_object}
+use common.{is_read_only, with_new_object, if◌then◌else◌, mul-le-mul_left, length-replicate, AllocatesOk, is_good_value}
+use common.{inl, inr, option_map, Mode, AnswersWith, IsObjectInBlock, handle_at, pair_of_kind, with_count, Index, Kind}
 use common.{IsAbsentAt, IsNewKeyOf, Write}
 use Rattle.seg_index.specs.declared.keys.Entry.{Entry}
 use Rattle.segment_manager.proofs.Steps.{step-segment, perform-new, refuses-read_only, by_no_change, by_step, lands}
@@ -32,7 +36,7 @@ use Rattle.seg_types.specs.Commands as asked
 abbrev pub asked_for : ℕ → List ℤ → List ℤ
 asked_for count zs = if nat_lt (length zs) count then replicate count (pos 0) else take count zs
 
-module _ (old : State) (key : names.Key) (k : ScalarKind) (count : ℕ) (zs : List ℤ)
+module _ (old : SegmentState) (key : names.Key) (k : ScalarKind) (count : ℕ) (zs : List ℤ)
     (writing : is_read_only old.mode ≡ false) where
   abbrev c : Command
   c = asked.ConstructIt key k count zs
@@ -42,22 +46,23 @@ module _ (old : State) (key : names.Key) (k : ScalarKind) (count : ℕ) (zs : Li
   plan-of d e f = ap (from-items d key k count zs) e ∙ ap (by-items d key k count zs) f
 
   -- an object has the key, and no item is taken
-  pub items-exists : ((d : Directory) → StandsFor old.cut.bytes d → (o : Object) × (object_at d key ≡ Some o))
-      → IsStep old old c (Refused Exists)
+  pub items-exists : ((d : Directory) → DenotesCurrent old.cut.bytes d → (o : Object) × (object_at d key ≡ Some o))
+      → TakesStep old old c (Refused Exists)
   items-exists each = by_no_change old c (Refused Exists) (λ d st. step-refuse old.mode d c Exists (open-writing
       old.mode c writing) (ap (from-items d key k count zs) (each d st).1))
 
   -- there are enough, and the object is made of them
-  pub items-made : {new : Cut} (h : ℕ) → SamePlace old.cut new → count ≤ length zs
-      → ((d : Directory) → StandsFor old.cut.bytes d → (object_at d key ≡ None)
-      × IsNewObject new d key (asked.Numbers k (take count zs)) h) → IsStep old (record old { cut = new }) c (Made h)
+  pub items-made : {new : WindowState} (h : ℕ) → SameSurroundings old.cut new → count ≤ length zs
+      → ((d : Directory) → DenotesCurrent old.cut.bytes d → (object_at d key ≡ None)
+      × IsNewObject new d key (asked.Numbers k (take count zs)) h) → TakesStep old (record old { cut = new }) c (Made h)
   items-made h place enough each = makes c made_handle writing place
       (λ d e. plan-of d e (le-ltb (length zs) count enough)) (λ d n. ap Made (sym n.at)) each
 
   -- there are too few: what was taken is given back
-  pub items-few : {new : Cut} → SamePlace old.cut new → length zs < count → ((d : Directory) → StandsFor old.cut.bytes d
+  pub items-few : {new : WindowState} → SameSurroundings old.cut new → length zs < count
+      → ((d : Directory) → DenotesCurrent old.cut.bytes d
       → (object_at d key ≡ None) × IsMet d key (asked.Numbers k (replicate count (pos 0)))
-      × Denotes current new.bytes d) → IsStep old (record old { cut = new }) c (Refused OutOfRange)
+      × Denotes current new.bytes d) → TakesStep old (record old { cut = new }) c (Refused OutOfRange)
   items-few {new} place few each = by_step c (record { mode = refl; place = place }) (λ d st.
       let all = each d st in
       lands d (record {
@@ -76,9 +81,10 @@ module _ (old : State) (key : names.Key) (k : ScalarKind) (count : ℕ) (zs : Li
       ∙ none (λ o e. Reply (Made (handle o.extent)) e)
 
   -- a request is refused, and no item is taken
-  pub items-none : {new : Cut} → SamePlace old.cut new → ((d : Directory) → StandsFor old.cut.bytes d
+  pub items-none : {new : WindowState} → SameSurroundings old.cut new
+      → ((d : Directory) → DenotesCurrent old.cut.bytes d
       → (object_at d key ≡ None) × IsNoObject new d key (asked.Numbers k (asked_for count zs)))
-      → IsStep old (record old { cut = new }) c (Refused NoSpace)
+      → TakesStep old (record old { cut = new }) c (Refused NoSpace)
   items-none {new} place each = by_step c (record { mode = refl; place = place }) (λ d st.
       let both = each d st in
       lands d
@@ -99,8 +105,8 @@ asked-long {count} low = ap (λ (b : Bool). length (if b then replicate count (p
 abbrev numbers_in : ScalarKind → List ℤ → Extent → Object
 numbers_in k zs x = record { class = Anonymous; name = []; value = Numbers k zs; extent = x }
 
-anonymous-met : {a m : Cut} {d : Directory} (k : ScalarKind) (zs : List ℤ) {n h : ℕ} → Denotes current a.bytes d
-    → n ≡ object_len [] (Numbers k zs) → IsAllocated current a m n ObjectRole h
+anonymous-met : {a m : WindowState} {d : Directory} (k : ScalarKind) (zs : List ℤ) {n h : ℕ} → Denotes current a.bytes d
+    → n ≡ object_len [] (Numbers k zs) → AllocatesOk current a m n ObjectRole h
     → IsMet d names.NoKey (asked.Numbers k zs)
 anonymous-met {a} {d} k zs said len took =
     let x : Extent = took.extent in
@@ -115,7 +121,7 @@ anonymous-met {a} {d} k zs said len took =
 
 -- ---- the calls
 
-module _ (S : Type 0) {A : Type 0} (gives : S → Option A → S → Type 0) (whole : A → ℤ) (s : State)
+module _ (S : Type 0) {A : Type 0} (gives : S → Option A → S → Type 0) (whole : A → ℤ) (s : SegmentState)
     (b : IsSegment s.cut.bytes) (key : names.Key) (k : ScalarKind) (count : ℕ) (writing : is_read_only s.mode ≡ false)
     (low : 1 ≤ count) (high : count ≤ 1048576) (before after : S) where
   many : (xs : List A) → length xs ≡ count → length (map whole xs) ≡ count
@@ -129,23 +135,23 @@ module _ (S : Type 0) {A : Type 0} (gives : S → Option A → S → Type 0) (wh
   good-items xs e all = let l = many xs e in numbers-value k (map whole xs) (omega arith) (omega arith) all
 
   -- the value is that of the items
-  made-items : {m w : Cut} (h at : ℕ) → (f : Fills gives whole m w k (h + at) count before after (Ok tt))
+  made-items : {m w : WindowState} (h at : ℕ) → (f : Fills gives whole m w k (h + at) count before after (Ok tt))
       → MakesValueOk (asked.Numbers k (map whole f.items)) m w (record { handle = h; at = at })
   made-items {m} {w} h at f =
-      numbers-made k (map whole f.items) (good-items f.items f.taken.1 f.values) (subst (λ n. IsChanged current m w
+      numbers-made k (map whole f.items) (good-items f.items f.taken.1 f.values) (subst (λ n. ChangesBytes current m w
       (h + at) (size_of k * n)) (sym (length-map f.items whole)) f.change) f.content
 
-  begun-items : (entry : Option NewEntry) (m : Cut) (h at : ℕ) (xs : List A) → length xs ≡ count
-      → IsBegun s.cut m key (Scalar k) count (size_of k * count) h at entry
-      → IsBegun s.cut m key (Scalar k) (length (map whole xs)) (size_of k * length (map whole xs)) h at entry
+  begun-items : (entry : Option PendingEntry) (m : WindowState) (h at : ℕ) (xs : List A) → length xs ≡ count
+      → BeginsObjectOk s.cut m key (Scalar k) count (size_of k * count) h at entry
+      → BeginsObjectOk s.cut m key (Scalar k) (length (map whole xs)) (size_of k * length (map whole xs)) h at entry
   begun-items entry m h at xs e g =
-      subst (λ n. IsBegun s.cut m key (Scalar k) n (size_of k * n) h at entry) (sym (many xs e)) g
+      subst (λ n. BeginsObjectOk s.cut m key (Scalar k) n (size_of k * n) h at entry) (sym (many xs e)) g
 
   -- the object is made of the items
-  steps-made : (entry : Option NewEntry) {m w : Cut} (c : Cut) (h at : ℕ)
-      → IsBegun s.cut m key (Scalar k) count (size_of k * count) h at entry
+  steps-made : (entry : Option PendingEntry) {m w : WindowState} (c : WindowState) (h at : ℕ)
+      → BeginsObjectOk s.cut m key (Scalar k) count (size_of k * count) h at entry
       → (f : Fills gives whole m w k (h + at) count before after (Ok tt)) → LeadsThere w c h entry
-      → IsStep s (record s { cut = c }) (asked.ConstructIt key k count (map whole f.items)) (Made h)
+      → TakesStep s (record s { cut = c }) (asked.ConstructIt key k count (map whole f.items)) (Made h)
   steps-made entry {m} {w} c h at g f led =
       let zs = map whole f.items in let long = many f.items f.taken.1 in
       let now = value-built (asked.Numbers k zs) b h at entry (begun-items entry m h at f.items f.taken.1 g)
@@ -155,8 +161,9 @@ module _ (S : Type 0) {A : Type 0} (gives : S → Option A → S → Type 0) (wh
       (both.0, subst (λ ys. IsNewObject c d key (asked.Numbers k ys) h) (sym (whole-list f.items f.taken.1)) both.1))
 
   -- no object had the key, and the requests for zeros are met
-  begun-met : (entry : Option NewEntry) (m : Cut) (h at : ℕ)
-      → IsBegun s.cut m key (Scalar k) count (size_of k * count) h at entry → {d : Directory} → StandsFor s.cut.bytes d
+  begun-met : (entry : Option PendingEntry) (m : WindowState) (h at : ℕ)
+      → BeginsObjectOk s.cut m key (Scalar k) count (size_of k * count) h at entry → {d : Directory}
+      → DenotesCurrent s.cut.bytes d
       → (object_at d key ≡ None) × IsMet d key (asked.Numbers k (replicate count (pos 0)))
   begun-met None m h at g {d} st =
       subst (λ (q : names.Key). (object_at d q ≡ None) × IsMet d q (asked.Numbers k (replicate count (pos 0))))
@@ -172,10 +179,10 @@ module _ (S : Type 0) {A : Type 0} (gives : S → Option A → S → Type 0) (wh
   )
 
   -- its blocks are given back
-  steps-few : (entry : Option NewEntry) {why : Refusal} {m w c : Cut} (h at : ℕ)
-      → IsBegun s.cut m key (Scalar k) count (size_of k * count) h at entry
-      → (f : Fills gives whole m w k (h + at) count before after (Err why)) → IsRestored s.cut c
-      → IsStep s (record s { cut = c }) (asked.ConstructIt key k count (map whole f.items)) (Refused OutOfRange)
+  steps-few : (entry : Option PendingEntry) {why : Refusal} {m w c : WindowState} (h at : ℕ)
+      → BeginsObjectOk s.cut m key (Scalar k) count (size_of k * count) h at entry
+      → (f : Fills gives whole m w k (h + at) count before after (Err why)) → RestoresBlocks s.cut c
+      → TakesStep s (record s { cut = c }) (asked.ConstructIt key k count (map whole f.items)) (Refused OutOfRange)
   steps-few entry {m} {c} h at g f back =
       items-few s key k count (map whole f.items) writing back.keeps.place (let l = length-map f.items whole in
       let few = f.taken.2 in omega arith)
@@ -183,15 +190,15 @@ module _ (S : Type 0) {A : Type 0} (gives : S → Option A → S → Type 0) (wh
 
   -- ---- what is loose
 
-  most : (filled : Result (Unit {0}) Refusal) {m w : Cut} {from : ℕ}
+  most : (filled : Result (Unit {0}) Refusal) {m w : WindowState} {from : ℕ}
       → (f : Fills gives whole m w k from count before after filled) → size_of k * length f.items ≤ size_of k * count
   most (Ok u) f =
       let e : size_of k * length f.items ≡ size_of k * count = ap (λ j. size_of k * j) f.taken.1 in omega arith
   most (Err why) f = mul-le-mul_left (size_of k) (let few = f.taken.2 in omega arith)
 
-  loose : (entry : Option NewEntry) (filled : Result (Unit {0}) Refusal) (m w : Cut) (h at : ℕ)
-      → IsBegun s.cut m key (Scalar k) count (size_of k * count) h at entry
-      → Fills gives whole m w k (h + at) count before after filled → IsLoose s.cut w h entry
+  loose : (entry : Option PendingEntry) (filled : Result (Unit {0}) Refusal) (m w : WindowState) (h at : ℕ)
+      → BeginsObjectOk s.cut m key (Scalar k) count (size_of k * count) h at entry
+      → Fills gives whole m w k (h + at) count before after filled → IsUnindexedObject s.cut w h entry
   loose None filled m w h at g f = record {
     len = room_for [] (size_of k * count);
     taken = g.taken;
@@ -208,22 +215,22 @@ module _ (S : Type 0) {A : Type 0} (gives : S → Option A → S → Type 0) (wh
   -- ---- all together
 
   -- where it is filled an entry may lead to it, and where not all can be given back
-  pub fills-ending : (entry : Option NewEntry) (filled : Result (Unit {0}) Refusal) {m w : Cut} (h at : ℕ)
-      → IsBegun s.cut m key (Scalar k) count (size_of k * count) h at entry
+  pub fills-ending : (entry : Option PendingEntry) (filled : Result (Unit {0}) Refusal) {m w : WindowState} (h at : ℕ)
+      → BeginsObjectOk s.cut m key (Scalar k) count (size_of k * count) h at entry
       → Fills gives whole m w k (h + at) count before after filled → IsEnding w h entry filled
   fills-ending entry (Ok tt) {m} {w} h at g f = value-ready (asked.Numbers k (map whole f.items)) s.cut b key h at entry
       (begun-items entry m h at f.items f.taken.1 g) (made-items h at f)
   fills-ending entry (Err why) {m} {w} h at g f = (s.cut, loose entry (Err why) m w h at g f)
 
   -- it is filled, and then made or given back
-  pub takes : (entry : Option NewEntry) (filled : Result (Unit {0}) Refusal) (m w c : Cut) (h at : ℕ)
-      (result : Result ℕ Refusal) → IsBegun s.cut m key (Scalar k) count (size_of k * count) h at entry
+  pub takes : (entry : Option PendingEntry) (filled : Result (Unit {0}) Refusal) (m w c : WindowState) (h at : ℕ)
+      (result : Result ℕ Refusal) → BeginsObjectOk s.cut m key (Scalar k) count (size_of k * count) h at entry
       → Fills gives whole m w k (h + at) count before after filled → Ends w c h entry filled result
-      → TakesItems gives whole s (record s { cut = c }) key k count before after result
-  takes entry (Ok tt) m w c h at result g f fin = subst (λ (r : Result ℕ Refusal). TakesItems gives whole s
+      → ConstructsFromItems gives whole s (record s { cut = c }) key k count before after result
+  takes entry (Ok tt) m w c h at result g f fin = subst (λ (r : Result ℕ Refusal). ConstructsFromItems gives whole s
       (record s { cut = c }) key k count before after r) (sym fin.0)
       (record { items = f.items; step = steps-made entry c h at g f fin.1; taken = f.taken; unchanged = tt })
-  takes entry (Err why) m w c h at result g f fin = subst (λ (r : Result ℕ Refusal). TakesItems gives whole s
+  takes entry (Err why) m w c h at result g f fin = subst (λ (r : Result ℕ Refusal). ConstructsFromItems gives whole s
       (record s { cut = c }) key k count before after r) (sym (fin.0 ∙ ap Err f.taken.0)) (record {
         items = f.items;
         step = steps-few entry h at g f (fin.1 s.cut (loose entry (Err why) m w h at g f));
@@ -233,9 +240,10 @@ module _ (S : Type 0) {A : Type 0} (gives : S → Option A → S → Type 0) (wh
 
 -- ---- it is refused before an item is taken
 
-module _ (S : Type 0) {A : Type 0} (gives : S → Option A → S → Type 0) (whole : A → ℤ) {s : State} (key : names.Key)
+module _ (S : Type 0) {A : Type 0} (gives : S → Option A → S → Type 0) (whole : A
+    → ℤ) {s : SegmentState} (key : names.Key)
     (k : ScalarKind) (count : ℕ) (at : S) where
-  pub takes-nothing : is_read_only s.mode ≡ true → TakesItems gives whole s s key k count at at (Err ReadOnly)
+  pub takes-nothing : is_read_only s.mode ≡ true → ConstructsFromItems gives whole s s key k count at at (Err ReadOnly)
   takes-nothing e = record {
     items = [];
     step = refuses-read_only s (asked.ConstructIt key k count []) e refl;
@@ -243,25 +251,28 @@ module _ (S : Type 0) {A : Type 0} (gives : S → Option A → S → Type 0) (wh
     unchanged = refl;
   }
 
-  exists-step : {c : Cut} → is_read_only s.mode ≡ false → IsTakenKey s.cut c key (Scalar k)
-      → IsStep s (record s { cut = c }) (asked.ConstructIt key k count []) (Refused Exists)
-  exists-step writing t = subst (λ (u : Cut). IsStep s (record s { cut = u }) (asked.ConstructIt key k count [])
+  exists-step : {c : WindowState} → is_read_only s.mode ≡ false → RefusesKey s.cut c key (Scalar k)
+      → TakesStep s (record s { cut = c }) (asked.ConstructIt key k count []) (Refused Exists)
+  exists-step writing t = subst (λ (u : WindowState).
+      TakesStep s (record s { cut = u }) (asked.ConstructIt key k count [])
       (Refused Exists)) (sym t.same) (items-exists s key k count [] writing (key-taken key (asked.Numbers k []) t))
 
-  none-step : (c : Cut) → is_read_only s.mode ≡ false → 1 ≤ count → IsNotBegun s.cut c key (Scalar k)
-      (size_of k * count) NoSpace → IsStep s (record s { cut = c }) (asked.ConstructIt key k count []) (Refused NoSpace)
+  none-step : (c : WindowState) → is_read_only s.mode ≡ false → 1 ≤ count → IsNotBegun s.cut c key (Scalar k)
+      (size_of k * count) NoSpace → TakesStep s (record s { cut = c }) (asked.ConstructIt key k count [])
+      (Refused NoSpace)
   none-step c writing low t =
       let never = value-not_begun key (asked.Numbers k (asked_for count []))
       (subst (λ n. IsNotBegun s.cut c key (Scalar k) (size_of k * n) NoSpace) (sym (asked-long low)) t) in
       items-none s key k count [] writing never.place never.each
 
-  pub takes-none : (why : Refusal) (c : Cut) → is_read_only s.mode ≡ false → 1 ≤ count → IsNotBegun s.cut c key
-      (Scalar k) (size_of k * count) why → TakesItems gives whole s (record s { cut = c }) key k count at at (Err why)
+  pub takes-none : (why : Refusal) (c : WindowState) → is_read_only s.mode ≡ false → 1 ≤ count → IsNotBegun s.cut c key
+      (Scalar k) (size_of k * count) why
+      → ConstructsFromItems gives whole s (record s { cut = c }) key k count at at (Err why)
   takes-none Exists c writing low t = record {
     items = [];
     step = exists-step writing t;
     taken = (refl, refl);
-    unchanged = ap (λ (u : Cut). let r : State = record s { cut = u } in r) t.same;
+    unchanged = ap (λ (u : WindowState). let r : SegmentState = record s { cut = u } in r) t.same;
   }
   takes-none NoSpace c writing low t = record {
     items = [];
@@ -272,59 +283,69 @@ module _ (S : Type 0) {A : Type 0} (gives : S → Option A → S → Type 0) (wh
   takes-none why c writing low t = absurd t
 
 -- a shape of so many numbers
-pub begun-numbers : (a m : Cut) (key : names.Key) {k : ScalarKind} {count : ℕ} (h at : ℕ) (entry : Option NewEntry)
-    {shape : ObjectShape} → shape ≡ numbers_shape k count → IsBegun a m key shape.kind shape.count shape.len h at entry
-    → IsBegun a m key (Scalar k) count (size_of k * count) h at entry
+pub begun-numbers : (a m : WindowState) (key : names.Key) {k : ScalarKind} {count : ℕ} (h at : ℕ)
+    (entry : Option PendingEntry)
+    {shape : ObjectShape} → shape ≡ numbers_shape k count
+    → BeginsObjectOk a m key shape.kind shape.count shape.len h at entry
+    → BeginsObjectOk a m key (Scalar k) count (size_of k * count) h at entry
 begun-numbers a m key h at entry same begun =
-    subst (λ (j : ObjectShape). IsBegun a m key j.kind j.count j.len h at entry) same begun
+    subst (λ (j : ObjectShape). BeginsObjectOk a m key j.kind j.count j.len h at entry) same begun
 
 -- ---- the same, as the segment is named before the call, and its shape is made for it
 
-module _ (S : Type 0) {A : Type 0} (gives : S → Option A → S → Type 0) (whole : A → ℤ) {s t : State} (view : s ≡ t)
+module _ (S : Type 0) {A : Type 0} (gives : S → Option A → S → Type 0) (whole : A
+    → ℤ) {s t : SegmentState} (view : s ≡ t)
     (b : IsSegment s.cut.bytes) (key : names.Key) (k : ScalarKind) (count : ℕ) {shape : ObjectShape}
     (same : shape ≡ numbers_shape k count) (writing : is_read_only t.mode ≡ false) (low : 1 ≤ count) (before : S) where
   writes : is_read_only s.mode ≡ false
-  writes = subst (λ (u : State). is_read_only u.mode ≡ false) (sym view) writing
+  writes = subst (λ (u : SegmentState). is_read_only u.mode ≡ false) (sym view) writing
 
-  none-taken : {why : Refusal} (c : Cut) → IsNotBegun s.cut c key shape.kind shape.len why
-      → TakesItems gives whole s (record s { cut = c }) key k count before before (Err why)
+  none-taken : {why : Refusal} (c : WindowState) → IsNotBegun s.cut c key shape.kind shape.len why
+      → ConstructsFromItems gives whole s (record s { cut = c }) key k count before before (Err why)
   none-taken {why} c not = takes-none S gives whole key k count before why c writes low
       (subst (λ (j : ObjectShape). IsNotBegun s.cut c key j.kind j.len why) same not)
 
-  pub refused-segment : (why : Refusal) (c : Cut) → IsNotBegun s.cut c key shape.kind shape.len why → IsSegment c.bytes
+  pub refused-segment : (why : Refusal) (c : WindowState) → IsNotBegun s.cut c key shape.kind shape.len why
+      → IsSegment c.bytes
   refused-segment why c not = step-segment s (record s { cut = c }) _ _ (none-taken c not).step b
 
-  pub refused-items : {why : Refusal} (c : Cut) {r : Result ℕ Refusal} → r ≡ Err why → IsNotBegun s.cut c key shape.kind
-      shape.len why → TakesItems gives whole t (record s { cut = c }) key k count before before r
-  refused-items {why} c is not = subst (λ (q : Result ℕ Refusal). TakesItems gives whole t (record s { cut = c }) key k
-      count before before q) (sym is) (subst (λ (u : State). TakesItems gives whole u (record s { cut = c }) key k count
+  pub refused-items : {why : Refusal} (c : WindowState) {r : Result ℕ Refusal} → r ≡ Err why
+      → IsNotBegun s.cut c key shape.kind
+      shape.len why → ConstructsFromItems gives whole t (record s { cut = c }) key k count before before r
+  refused-items {why} c is not =
+      subst (λ (q : Result ℕ Refusal). ConstructsFromItems gives whole t (record s { cut = c }) key k
+      count before before q) (sym is) (subst (λ (u : SegmentState).
+      ConstructsFromItems gives whole u (record s { cut = c }) key k count
       before before (Err why)) view (none-taken c not))
 
-  module _ (m : Cut) (h at : ℕ) (entry : Option NewEntry)
-      (begun : IsBegun s.cut m key shape.kind shape.count shape.len h at entry) where
-    pub begun-so : IsBegun s.cut m key (Scalar k) count (size_of k * count) h at entry
+  module _ (m : WindowState) (h at : ℕ) (entry : Option PendingEntry)
+      (begun : BeginsObjectOk s.cut m key shape.kind shape.count shape.len h at entry) where
+    pub begun-so : BeginsObjectOk s.cut m key (Scalar k) count (size_of k * count) h at entry
     begun-so = begun-numbers s.cut m key h at entry same begun
 
-    module _ {after : S} (c : Cut) (result : Result ℕ Refusal) (done : (old : Cut) (q : names.Key)
-        → IsSegment old.bytes → IsBegun old m q (Scalar k) count (size_of k * count) h at entry
+    module _ {after : S} (c : WindowState) (result : Result ℕ Refusal) (done : (old : WindowState) (q : names.Key)
+        → IsSegment old.bytes → BeginsObjectOk old m q (Scalar k) count (size_of k * count) h at entry
         → TakesItemsIn gives whole old c q k count before after result) where
-      finished : TakesItems gives whole s (record s { cut = c }) key k count before after result
+      finished : ConstructsFromItems gives whole s (record s { cut = c }) key k count before after result
       finished = done s.cut key b begun-so s.mode writes
 
       pub items-segment : IsSegment c.bytes
       items-segment = step-segment s (record s { cut = c }) _ _ finished.step b
 
-      pub items-taken : TakesItems gives whole t (record s { cut = c }) key k count before after result
-      items-taken = subst (λ (u : State). TakesItems gives whole u (record s { cut = c }) key k count before after
+      pub items-taken : ConstructsFromItems gives whole t (record s { cut = c }) key k count before after result
+      items-taken = subst (λ (u : SegmentState).
+          ConstructsFromItems gives whole u (record s { cut = c }) key k count before after
           result) view finished
 
 -- ---- found, or made of items
 
-module _ (S : Type 0) {A : Type 0} (gives : S → Option A → S → Type 0) (whole : A → ℤ) {a : Cut} (key : names.Key)
+module _ (S : Type 0) {A : Type 0} (gives : S → Option A → S → Type 0) (whole : A
+    → ℤ) {a : WindowState} (key : names.Key)
     (k : ScalarKind) (count : ℕ) (before : S) where
   -- an object has the key
-  pub found-items : {h : ℕ} {r : Result (ℕ × ℕ) Refusal} → ((mode : Mode) → Answers (record { cut = a; mode = mode })
-      (λ d. handle_at d key) (Some h)) → ((o : Object) → StandsAt a.bytes h o → r ≡ pair_of_kind o (Scalar k))
+  pub found-items : {h : ℕ} {r : Result (ℕ × ℕ) Refusal}
+      → ((mode : Mode) → AnswersWith (record { cut = a; mode = mode })
+      (λ d. handle_at d key) (Some h)) → ((o : Object) → IsObjectInBlock a.bytes h o → r ≡ pair_of_kind o (Scalar k))
       → FindsOrTakesIn gives whole a a key k count before before r
   found-items {h} there each mode writing = inr (inl (record {
     writing = writing;
@@ -338,7 +359,8 @@ module _ (S : Type 0) {A : Type 0} (gives : S → Option A → S → Type 0) (wh
   }))
 
   -- none has: one is made, or refused
-  pub made-items_or_none : {c : Cut} {after : S} (r : Result ℕ Refusal) → ((d : Directory) → StandsFor a.bytes d
+  pub made-items_or_none : {c : WindowState} {after : S} (r : Result ℕ Refusal)
+      → ((d : Directory) → DenotesCurrent a.bytes d
       → object_at d key ≡ None) → TakesItemsIn gives whole a c key k count before after r
       → FindsOrTakesIn gives whole a c key k count before after (with_count count r)
   made-items_or_none (Ok h) none done mode writing =
@@ -347,7 +369,8 @@ module _ (S : Type 0) {A : Type 0} (gives : S → Option A → S → Type 0) (wh
       inr (inr (record { writing = writing; missing = none; takes = done mode writing; counted = tt }))
 
   -- it is not begun, with a shape of so many numbers
-  pub none-items : {c : Cut} {shape : ObjectShape} {j : ScalarKind} {why : Refusal} → shape ≡ numbers_shape j count
+  pub none-items : {c : WindowState} {shape : ObjectShape} {j : ScalarKind} {why : Refusal}
+      → shape ≡ numbers_shape j count
       → j ≡ k
       → 1 ≤ count → IsNotBegun a c key shape.kind shape.len why
       → TakesItemsIn gives whole a c key k count before before (Err why)
@@ -364,29 +387,31 @@ shaped-key i e key name same is new =
     subst (IsNewKeyOf i e key name) (sym (ap (λ (q : ObjectShape). q.kind) same ∙ ap Scalar is)) new
 
 -- no object has the key of an entry that is not there
-pub no-objects : {a : Cut} (i : Index) (e : Entry) (at : ℕ) (key : names.Key) (name : List ℕ) (kind : Kind)
-    → IsNewKeyOf i e key name kind → IsAbsentAt a i e at → (d : Directory) → StandsFor a.bytes d
+pub no-objects : {a : WindowState} (i : Index) (e : Entry) (at : ℕ) (key : names.Key) (name : List ℕ) (kind : Kind)
+    → IsNewKeyOf i e key name kind → IsAbsentAt a i e at → (d : Directory) → DenotesCurrent a.bytes d
     → object_at d key ≡ None
 no-objects {a} i e at key name kind new away d st =
     (lookup-absent i a e key st.denotes (key-seeks i e key name kind new) (away-in i e at st.denotes away)).none
 
 -- ---- the segment afterwards
 
-pub found-segment : {S A : Type 0} {gives : S → Option A → S → Type 0} {whole : A → ℤ} {a c : Cut} {key : names.Key}
+pub found-segment : {S A : Type 0} {gives : S → Option A → S → Type 0} {whole : A
+    → ℤ} {a c : WindowState} {key : names.Key}
     {k : ScalarKind} {count : ℕ} {before after : S} {r : Result (ℕ × ℕ) Refusal} → IsSegment a.bytes
     → FindsOrTakesIn gives whole a c key k count before after r → IsSegment c.bytes
 found-segment b done = elim (done Write refl) [
-  | inl o ↦ subst (λ (u : State). IsSegment u.cut.bytes) (sym o.stays.segment) b
+  | inl o ↦ subst (λ (u : SegmentState). IsSegment u.cut.bytes) (sym o.stays.segment) b
   | inr m ↦ elim m [
-    | inl o ↦ subst (λ (u : State). IsSegment u.cut.bytes) (sym o.stays.segment) b
+    | inl o ↦ subst (λ (u : SegmentState). IsSegment u.cut.bytes) (sym o.stays.segment) b
     | inr o ↦ step-segment _ _ _ _ o.takes.step b
   ]
 ]
 
-pub seen-found_items : {S A : Type 0} {gives : S → Option A → S → Type 0} {whole : A → ℤ} {s t : State} (view : s ≡ t)
-    {c : Cut} {key : names.Key} {k : ScalarKind} {count : ℕ} {before after : S} {r : Result (ℕ × ℕ) Refusal}
+pub seen-found_items : {S A : Type 0} {gives : S → Option A → S → Type 0} {whole : A
+    → ℤ} {s t : SegmentState} (view : s ≡ t)
+    {c : WindowState} {key : names.Key} {k : ScalarKind} {count : ℕ} {before after : S} {r : Result (ℕ × ℕ) Refusal}
     → is_read_only t.mode ≡ false → FindsOrTakesIn gives whole s.cut c key k count before after r
     → FindsOrTakes gives whole t (record s { cut = c }) key k count before after r
 seen-found_items {gives = gives} {whole} {s} view {c} {key} {k} {count} {before} {after} {r} writing done =
-    subst (λ (u : State). FindsOrTakes gives whole u (record s { cut = c }) key k count before after r) view
-    (done s.mode (subst (λ (u : State). is_read_only u.mode ≡ false) (sym view) writing))
+    subst (λ (u : SegmentState). FindsOrTakes gives whole u (record s { cut = c }) key k count before after r) view
+    (done s.mode (subst (λ (u : SegmentState). is_read_only u.mode ≡ false) (sym view) writing))

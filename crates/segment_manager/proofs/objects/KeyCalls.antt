@@ -1,14 +1,18 @@
 -- What calls that look a key up find, and what they say of it, for each directory that the bytes stand for.
 use Rattle.segment_manager.proofs.Common as common
-use common.{◌≡◌, Option, ne_eqb, Extent, handle, Absent, Object, length, Unique, IsBelow, IsReply, Command, Refusal}
+use common.{◌≡◌, Option, ne_eqb, Extent, handle, Absent, Object, length, Unique, IsBelow, AnswersQuery, Command}
+use common.{Refusal}
 use common.{refl, none-some, same_Some, extent_at, same_role, IsIndexOf, Directory, object_at, handle_at, IsSegment}
-use common.{sym, ◌∙◌, ℕ, ◌+◌, ◌<◌, [], ◌∷◌, Cut, Key, live, Kind, Plan, Mode, step, Err, Ok, ap, Bool, true, ◌&&◌, ◌||◌}
-use common.{◌==◌, Some, None, List, cond, find, Role, State, subst, Named, Reply, found, false, arith, Table, Index}
+use common.{sym, ◌∙◌, ℕ, ◌+◌, ◌<◌, [], ◌∷◌, WindowState, Key, live, Kind, Plan, Mode, step, Err, Ok, ap, Bool, true}
+use common.{◌&&◌, ◌||◌}
+use common.{◌==◌, Some, None, List, cond, find, Role, SegmentState, subst, Named, Reply, found, false, arith}
+use common.{BackingArray, Index}
 use common.{Entry, Found, Seeks, Answer, Number, Refuse, Result, effect, SaysAt, SaysOf, is_some, option_map, slice_get}
 use common.{ObjectRole, is_live_in, entries_of, objects_of, pair_answer, IsInstance, list_any, eqb-true, bytes_of}
-use common.{ByHandle, HasIndex, place_of, StandsFor, WrongKind, same_kind, HasObject, slice_get_within, entry_count}
-use common.{is_object_at, if◌then◌else◌, named_objects, unique_objects, pair_of_kind, current, live_of, IsPlace}
-use common.{has_key, Denotes, table_of, Answers, kind_of, StandsAt, count_of, Instance}
+use common.{ByHandle, HasIndex, place_of, DenotesCurrent, WrongKind, same_kind, HasObject, slice_get_within}
+use common.{entry_count}
+use common.{is_object_at, if◌then◌else◌, named_objects, unique_objects, pair_of_kind, current, live_of, FindsPosition}
+use common.{has_key, Denotes, table_of, AnswersWith, kind_of, IsObjectInBlock, count_of, Instance}
 use Rattle.segment_manager.proofs.indexes.Bridge.{lookup-absent, lookup-found, in-handles}
 use Rattle.segment_manager.proofs.{Steps.open-reading, objects.ObjectLists.found-handle, indexes.EntryPlaces.stands-at}
 use Rattle.segment_manager.proofs.{Steps.IsOpenFor, objects.Here.standing, Calling.denotes-live, Denoted.handles-length}
@@ -83,16 +87,17 @@ of-role None {r} e = absurd (none-some r e)
 of-role (Some x) {r} e = ap (λ role. same_role role ObjectRole) (same_Some x.role r e)
 
 -- the answer of the two tests, for a block in use of this role
-pub role-answers : {s : State} (h : ℕ) {r : Role} {b : Bool} → option_map (λ (x : Extent). x.role)
-    (extent_at (live_of s.cut.bytes) h) ≡ Some r → b ≡ sameb the_type r ObjectRole → Answers s (λ d. is_object_at d h) b
+pub role-answers : {s : SegmentState} (h : ℕ) {r : Role} {b : Bool} → option_map (λ (x : Extent). x.role)
+    (extent_at (live_of s.cut.bytes) h) ≡ Some r → b ≡ sameb the_type r ObjectRole
+    → AnswersWith s (λ d. is_object_at d h) b
 role-answers {s} h {r} e f = record {
   answers =
       λ d k. f ∙ same-test r ∙ sym (of-role (extent_at (live_of s.cut.bytes) h) e) ∙ sym (object-passes h k.denotes);
 }
 
 -- and where no block is in use
-pub dead-answers : {s : State} (h : ℕ) {b : Bool} → b ≡ is_live_in (live_of s.cut.bytes) h → b ≡ false
-    → Answers s (λ d. is_object_at d h) b
+pub dead-answers : {s : SegmentState} (h : ℕ) {b : Bool} → b ≡ is_live_in (live_of s.cut.bytes) h → b ≡ false
+    → AnswersWith s (λ d. is_object_at d h) b
 dead-answers {s} h e f = record {
   answers = λ d k. f ∙ sym (object-passes h k.denotes
       ∙ ap (passes for_object) (none-first h (live_of s.cut.bytes).extents (sym e ∙ f)));
@@ -100,43 +105,45 @@ dead-answers {s} h e f = record {
 
 -- ---- an entry of an index
 
-pub segment-index : {c : Cut} (i : Index) → IsSegment c.bytes → HasIndex c (place_of i)
+pub segment-index : {c : WindowState} (i : Index) → IsSegment c.bytes → HasIndex c (place_of i)
 segment-index {c} i s =
     record { table = table_of i s.0; handles = entries_of i s.0; index = denotes-index i c s.1.denotes }
 
 -- what an index's call says of each table and handles that stand there
-abbrev pub ForIndex : Cut → Index → (List ℕ → Type 0) → Type 0
-ForIndex c i P = (t : Table) (hs : List ℕ) → IsIndexOf c (place_of i) t hs → P hs
+abbrev pub ForIndex : WindowState → Index → (List ℕ → Type 0) → Type 0
+ForIndex c i P = (t : BackingArray) (hs : List ℕ) → IsIndexOf c (place_of i) t hs → P hs
 
-pub of-directory : (s : State) (i : Index) (P : List ℕ → Type 0) {d : Directory} → StandsFor s.cut.bytes d
+pub of-directory : (s : SegmentState) (i : Index) (P : List ℕ → Type 0) {d : Directory} → DenotesCurrent s.cut.bytes d
     → ForIndex s.cut i P → P (entries_of i d)
 of-directory s i P {d} k f = f (table_of i d) (entries_of i d) (denotes-index i s.cut k.denotes)
 
 -- an entry that was found is one of the index
-pub place-below : {c : Cut} (i : Index) (e : Entry) (place : ℕ) → IsSegment c.bytes
-    → ForIndex c i (λ hs. IsPlace (bytes_of c.bytes) e hs (Found place)) → place < entry_count c (place_of i)
+pub place-below : {c : WindowState} (i : Index) (e : Entry) (place : ℕ) → IsSegment c.bytes
+    → ForIndex c i (λ hs. FindsPosition (bytes_of c.bytes) e hs (Found place)) → place < entry_count c (place_of i)
 place-below {c} i e place s f =
     let stands = denotes-index i c s.1.denotes in let at = f (table_of i s.0) (entries_of i s.0) stands in
     omega (arith, slice_get_within (entries_of i s.0) place at.0 at.1, stands.stands.count)
 
 -- the object's handle is what the entry leads to
-pub found-answers : (s : State) (i : Index) (e : Entry) (place : ℕ) {h : ℕ} → ForIndex s.cut i (λ hs. IsPlace
+pub found-answers : (s : SegmentState) (i : Index) (e : Entry) (place : ℕ) {h : ℕ}
+    → ForIndex s.cut i (λ hs. FindsPosition
     (bytes_of s.cut.bytes) e hs (Found place)) → ForIndex s.cut i (λ hs. slice_get hs place ≡ Some h) → (key : Key)
-    → Seeks i e key → Answers s (λ d. handle_at d key) (Some h)
+    → Seeks i e key → AnswersWith s (λ d. handle_at d key) (Some h)
 found-answers s i e place {h} f g key q = record {
   answers = λ d k.
       let there = lookup-found i s.cut e key k.denotes q place
-      (of-directory s i (λ hs. IsPlace (bytes_of s.cut.bytes) e hs (Found place)) k f) in
+      (of-directory s i (λ hs. FindsPosition (bytes_of s.cut.bytes) e hs (Found place)) k f) in
       sym (of-directory s i (λ hs. slice_get hs place ≡ Some h) k g) ∙ there.leads
       ∙ sym (ap (option_map (λ (o : Object). handle o.extent)) there.is);
 }
 
 -- or no object has the key
-pub absent-answers : {s : State} (i : Index) (e : Entry) (place : ℕ) → ForIndex s.cut i (λ hs. IsPlace
-    (bytes_of s.cut.bytes) e hs (Absent place)) → (key : Key) → Seeks i e key → Answers s (λ d. handle_at d key) None
+pub absent-answers : {s : SegmentState} (i : Index) (e : Entry) (place : ℕ) → ForIndex s.cut i (λ hs. FindsPosition
+    (bytes_of s.cut.bytes) e hs (Absent place)) → (key : Key) → Seeks i e key
+    → AnswersWith s (λ d. handle_at d key) None
 absent-answers {s} i e place f key q = record {
   answers = λ d k. sym (ap (option_map (λ (o : Object). handle o.extent)) (lookup-absent i s.cut e key k.denotes q
-      (of-directory s i (λ hs. IsPlace (bytes_of s.cut.bytes) e hs (Absent place)) k f)).none);
+      (of-directory s i (λ hs. FindsPosition (bytes_of s.cut.bytes) e hs (Absent place)) k f)).none);
 }
 
 -- ---- any key
@@ -147,8 +154,8 @@ handle-if h d None e = refl
 handle-if h d (Some o) e = ap Some (found-handle h d.objects o (record { is = e }))
 
 -- a handle means itself, where it is an object's
-pub handle-answers : {s : State} (h : ℕ) {b : Bool} → Answers s (λ d. is_object_at d h) b
-    → Answers s (λ d. handle_at d (ByHandle h)) (then_some b h)
+pub handle-answers : {s : SegmentState} (h : ℕ) {b : Bool} → AnswersWith s (λ d. is_object_at d h) b
+    → AnswersWith s (λ d. handle_at d (ByHandle h)) (then_some b h)
 handle-answers h a = record {
   answers = λ d k. ap (λ t. then_some t h) (a.answers d k) ∙ handle-if h d (object_at d (ByHandle h)) refl;
 }
@@ -158,7 +165,7 @@ no-key [] = refl
 no-key (o ∷ os) = no-key os
 
 -- no object is found without a key
-pub anonymous-answers : {s : State} → Answers s (λ d. handle_at d NoKey) None
+pub anonymous-answers : {s : SegmentState} → AnswersWith s (λ d. handle_at d NoKey) None
 anonymous-answers = record {
   answers = λ d k. sym (ap (option_map (λ (o : Object). handle o.extent)) (no-key d.objects));
 }
@@ -174,8 +181,8 @@ finds d kind r =
     ]
 
 -- nothing has the key
-pub find-absent : {s : State} (key : Key) (kind : Kind) → Answers s (λ d. handle_at d key) None
-    → IsReply s (asked.Find key kind) Absent
+pub find-absent : {s : SegmentState} (key : Key) (kind : Kind) → AnswersWith s (λ d. handle_at d key) None
+    → AnswersQuery s (asked.Find key kind) Absent
 find-absent {s} key kind a = record {
   answers = λ d k. sym (ap (λ (r : Answer × Directory). r.0)
       (step-reply s.mode d (asked.Find key kind) Absent d (open-reading s.mode (asked.Find key kind) refl)
@@ -195,13 +202,15 @@ pub kind-step : (mode : Mode) (d : Directory) (c : Command) (o : Object) (kind :
 kind-step mode d c o kind may e = kind-if mode d c o (same_kind kind (kind_of o.value)) may e
 
 -- an object has it, of the kind or of another
-pub find-there : {s t : State} (view : s ≡ t) (key : Key) (kind : Kind) {h : ℕ} {r : Result (ℕ × ℕ) Refusal}
-    → Answers t (λ d. handle_at d key) (Some h) → ((o : Object) → StandsAt s.cut.bytes h o → r ≡ pair_of_kind o kind)
-    → IsReply t (asked.Find key kind) (pair_answer r)
+pub find-there : {s t : SegmentState} (view : s ≡ t) (key : Key) (kind : Kind) {h : ℕ} {r : Result (ℕ × ℕ) Refusal}
+    → AnswersWith t (λ d. handle_at d key) (Some h)
+    → ((o : Object) → IsObjectInBlock s.cut.bytes h o → r ≡ pair_of_kind o kind)
+    → AnswersQuery t (asked.Find key kind) (pair_answer r)
 find-there {t} view key kind {h} a each = record {
   answers = λ d k.
       let o = here t.cut.bytes d key h k.denotes (a.answers d k) in
-      ap pair_answer (each o.object (subst (λ (u : State). StandsAt u.cut.bytes h o.object) (sym view) o.stands))
+      ap pair_answer (each o.object (subst (λ (u : SegmentState).
+      IsObjectInBlock u.cut.bytes h o.object) (sym view) o.stands))
       ∙ sym (ap (λ (q : Answer × Directory). q.0) (kind-step t.mode d (asked.Find key kind) o.object kind
       (open-reading t.mode (asked.Find key kind) refl) (ap (finds d kind) o.is)));
 }
@@ -209,8 +218,8 @@ find-there {t} view key kind {h} a each = record {
 -- ---- the entries of the indexes
 
 -- how many an index has
-pub index-counts : (s : State) (i : Index) {n : ℕ} → ForIndex s.cut i (λ hs. n ≡ length hs) → (d : Directory)
-    → StandsFor s.cut.bytes d → n ≡ length (objects_of i d)
+pub index-counts : (s : SegmentState) (i : Index) {n : ℕ} → ForIndex s.cut i (λ hs. n ≡ length hs) → (d : Directory)
+    → DenotesCurrent s.cut.bytes d → n ≡ length (objects_of i d)
 index-counts s i {n} f d k = of-directory s i (λ hs. n ≡ length hs) k f ∙ handles-length (objects_of i d)
 
 -- the command that asks for it
@@ -225,30 +234,31 @@ num-step mode Named d = step-reply mode d asked.NumNamed (Number (length (object
 num-step mode Unique d = step-reply mode d asked.NumUnique (Number (length (objects_of Unique d))) d
     (open-reading mode asked.NumUnique refl) refl
 
-pub num-replies : {s : State} (i : Index) (n : ℕ) → ForIndex s.cut i (λ hs. n ≡ length hs)
-    → IsReply s (num_command i) (Number n)
+pub num-replies : {s : SegmentState} (i : Index) (n : ℕ) → ForIndex s.cut i (λ hs. n ≡ length hs)
+    → AnswersQuery s (num_command i) (Number n)
 num-replies {s} i n f = record {
   answers =
       λ d k. ap Number (index-counts s i f d k) ∙ sym (ap (λ (r : Answer × Directory). r.0) (num-step s.mode i d));
 }
 
 -- a number below their count is a place
-pub below-count : {s t : State} (view : s ≡ t) (i : Index) {n : ℕ} → IsSegment s.cut.bytes
+pub below-count : {s t : SegmentState} (view : s ≡ t) (i : Index) {n : ℕ} → IsSegment s.cut.bytes
     → IsBelow t (λ d. length (objects_of i d)) n → n < entry_count s.cut (place_of i)
 below-count {s} view i {n} g b =
     let stands = denotes-index i s.cut g.1.denotes in
-    let below = subst (λ (u : State). IsBelow u (λ d. length (objects_of i d)) n) (sym view) b in
+    let below = subst (λ (u : SegmentState). IsBelow u (λ d. length (objects_of i d)) n) (sym view) b in
     omega (arith, below.below g.0 g.1, stands.stands.count, handles-length (objects_of i g.0))
 
 -- and what stands there is an entry of the directory
-pub at-answers : {s t : State} (view : s ≡ t) (i : Index) (n : ℕ) {h : ℕ}
-    → ForIndex s.cut i (λ hs. slice_get hs n ≡ Some h) → Answers t (λ d. slice_get (entries_of i d) n) (Some h)
-at-answers {s} view i n {h} f = subst (λ (u : State). Answers u (λ d. slice_get (entries_of i d) n) (Some h)) view
+pub at-answers : {s t : SegmentState} (view : s ≡ t) (i : Index) (n : ℕ) {h : ℕ}
+    → ForIndex s.cut i (λ hs. slice_get hs n ≡ Some h) → AnswersWith t (λ d. slice_get (entries_of i d) n) (Some h)
+at-answers {s} view i n {h} f =
+    subst (λ (u : SegmentState). AnswersWith u (λ d. slice_get (entries_of i d) n) (Some h)) view
     (record { answers = λ d k. sym (of-directory s i (λ hs. slice_get hs n ≡ Some h) k f) })
 
 -- ---- an index below that number
 
-below-number : {s : State} (i : Index) (n : ℕ) {at : ℕ} → IsReply s (num_command i) (Number n) → at < n
+below-number : {s : SegmentState} (i : Index) (n : ℕ) {at : ℕ} → AnswersQuery s (num_command i) (Number n) → at < n
     → IsBelow s (λ d. length (objects_of i d)) at
 below-number {s} i n {at} h l = record {
   below = λ d st.
@@ -256,47 +266,49 @@ below-number {s} i n {at} h l = record {
       let same : n ≡ length (objects_of i d) = cc in subst (λ m. at < m) same l;
 }
 
-pub named-below : (s : State) (n i : ℕ) → IsReply s asked.NumNamed (Number n) → i < n
+pub named-below : (s : SegmentState) (n i : ℕ) → AnswersQuery s asked.NumNamed (Number n) → i < n
     → IsBelow s (λ d. length (named_objects d)) i
 named-below s n i h l = below-number Named n h l
 
-pub unique-below : (s : State) (n i : ℕ) → IsReply s asked.NumUnique (Number n) → i < n
+pub unique-below : (s : SegmentState) (n i : ℕ) → AnswersQuery s asked.NumUnique (Number n) → i < n
     → IsBelow s (λ d. length (unique_objects d)) i
 unique-below s n i h l = below-number Unique n h l
 
 -- the object at a place of an index, in its block
-pub record IsEntered (s : State) (d : Directory) (i : Index) (n h : ℕ) : Type 0 where
+pub record IsEntered (s : SegmentState) (d : Directory) (i : Index) (n h : ℕ) : Type 0 where
   pub object : Object
   pub is : slice_get (objects_of i d) n ≡ Some object
-  pub stands : StandsAt s.cut.bytes h object
+  pub stands : IsObjectInBlock s.cut.bytes h object
 
-pub entered : (s : State) {i : Index} {n h : ℕ} → ForIndex s.cut i (λ hs. slice_get hs n ≡ Some h) → {d : Directory}
-    → StandsFor s.cut.bytes d → IsEntered s d i n h
+pub entered : (s : SegmentState) {i : Index} {n h : ℕ} → ForIndex s.cut i (λ hs. slice_get hs n ≡ Some h)
+    → {d : Directory}
+    → DenotesCurrent s.cut.bytes d → IsEntered s d i n h
 entered s {i} {n} {h} f {d} k =
     let at = stands-at (objects_of i d) n (of-directory s i (λ hs. slice_get hs n ≡ Some h) k f) in let o = at.object in
     record {
       object = o;
       is = at.is;
-      stands = subst (λ x. StandsAt s.cut.bytes x o) (sym at.handle) (standing s.cut.bytes d
+      stands = subst (λ x. IsObjectInBlock s.cut.bytes x o) (sym at.handle) (standing s.cut.bytes d
           (ByHandle (handle o.extent)) o k.denotes (all-at (λ (p : Object). object_at d (ByHandle (handle p.extent))
           ≡ Some p) (objects_of i d) n (in-handles i k.denotes.directory) at.is));
     }
 
 -- some object stands there
-pub entered-object : (s : State) (i : Index) (n h : ℕ) → IsSegment s.cut.bytes
+pub entered-object : (s : SegmentState) (i : Index) (n h : ℕ) → IsSegment s.cut.bytes
     → ForIndex s.cut i (λ hs. slice_get hs n ≡ Some h) → HasObject s.cut.bytes h
 entered-object s i n h g f = let o = entered s f g.1 in (o.object, o.stands)
 
 -- what was read is said of it
-pub entered-says : {s : State} (i : Index) {n h : ℕ} {said : Instance} → ForIndex s.cut i (λ hs. slice_get hs n ≡ Some
-    h) → ((o : Object) → StandsAt s.cut.bytes h o → IsInstance o said) → SaysAt s (objects_of i) n said
+pub entered-says : {s : SegmentState} (i : Index) {n h : ℕ} {said : Instance}
+    → ForIndex s.cut i (λ hs. slice_get hs n ≡ Some
+    h) → ((o : Object) → IsObjectInBlock s.cut.bytes h o → IsInstance o said) → SaysAt s (objects_of i) n said
 entered-says {s} i {n} {h} f each = record {
   says = λ d k. let o = entered s f k in (o.object, o.is, each o.object o.stands);
 }
 
 -- the same of the object of a key
-pub key-says : {s : State} {key : Key} {h : ℕ} {said : Instance} → Answers s (λ d. handle_at d key) (Some h)
-    → ((o : Object) → StandsAt s.cut.bytes h o → IsInstance o said) → SaysOf s key said
+pub key-says : {s : SegmentState} {key : Key} {h : ℕ} {said : Instance} → AnswersWith s (λ d. handle_at d key) (Some h)
+    → ((o : Object) → IsObjectInBlock s.cut.bytes h o → IsInstance o said) → SaysOf s key said
 key-says {s} {key} {h} a each = record {
   says = λ d k. let o = here s.cut.bytes d key h k.denotes (a.answers d k) in (o.object, o.is, each o.object o.stands);
 }

@@ -3,9 +3,10 @@ use Rattle.segment_manager.proofs.Common as common
 use common.{◌≡◌, refl, sym, ap, subst, ◌∙◌, ℕ, ◌&&◌, Option, Some, None, Result, Ok, Err, if◌then◌else◌}
 use common.{option_map, same_Some, Kind, Refusal, NotFound, ReadOnly, WrongKind, same_kind, Key, ByHandle, Command}
 use common.{is_changing, Change, Clear, Reserve, Shrink, Located, Answer, kind_at, sizes_at, sizes_at_kind, handle}
-use common.{sizes_of, sizes_of_kind, Object, Directory, kind_of, live, object_at, handle_at, HasPlaces, KeepsWhere}
-use common.{IsLocated, IsSegment, Plan, Refuse, perform, with, StandsAt, Answers, IsReplyOfKind, IsStep, IsStepOfKind}
-use common.{State, StandsFor, effect, is_read_only, step, step_of_kind, HasEnough, command_of}
+use common.{sizes_of, sizes_of_kind, Object, Directory, kind_of, live, object_at, handle_at, HasPlaces, UnchangedWhere}
+use common.{IsLocated, IsSegment, Plan, Refuse, perform, with, IsObjectInBlock, AnswersWith, AnswersQueryOfKind}
+use common.{TakesStep, TakesStepOfKind}
+use common.{SegmentState, DenotesCurrent, effect, is_read_only, step, step_of_kind, HasEnough, command_of}
 use Rattle.segment_manager.proofs.containers.AnyStorage.{measures-kind, of_kind-steps}
 use Rattle.segment_manager.proofs.{indexes.Bridge.by-handle, objects.Here.here, objects.Here.seen-handle}
 use Rattle.segment_manager.proofs.{objects.Standings.alike, Steps.moves-same}
@@ -30,7 +31,8 @@ located-said : (d : Directory) (key : Key) {o : Located} → Some o ≡ located_
 located-said d key e = said-if (object_at d key) refl e
 
 -- it is located by its handle
-pub locates : {s : State} {key : Key} {o : Located} → Answers s (λ d. located_at d key) (Some o) → IsLocated s key o
+pub locates : {s : SegmentState} {key : Key} {o : Located} → AnswersWith s (λ d. located_at d key) (Some o)
+    → IsLocated s key o
 locates {s} {key} {o} a = record {
   at = a;
   here = record {
@@ -42,8 +44,8 @@ locates {s} {key} {o} a = record {
 }
 
 -- its handle is that of the key
-pub handle-located : {s : State} (key : Key) {o : Located} → Answers s (λ d. located_at d key) (Some o)
-    → Answers s (λ d. handle_at d key) (Some o.handle)
+pub handle-located : {s : SegmentState} (key : Key) {o : Located} → AnswersWith s (λ d. located_at d key) (Some o)
+    → AnswersWith s (λ d. handle_at d key) (Some o.handle)
 handle-located key a = record {
   answers = λ d k.
       let p = located-said d key (a.answers d k) in
@@ -51,26 +53,28 @@ handle-located key a = record {
 }
 
 -- what the head of the object at the handle says is what is located, as the view before the call names the segment
-pub head-located : {s t : State} (view : s ≡ t) (key : Key) {h : ℕ} {q : Located}
-    → Answers t (λ d. handle_at d key) (Some h) → ((o : Object) → StandsAt s.cut.bytes h o → q ≡ located o)
-    → Answers t (λ d. located_at d key) (Some q)
+pub head-located : {s t : SegmentState} (view : s ≡ t) (key : Key) {h : ℕ} {q : Located}
+    → AnswersWith t (λ d. handle_at d key) (Some h) → ((o : Object) → IsObjectInBlock s.cut.bytes h o → q ≡ located o)
+    → AnswersWith t (λ d. located_at d key) (Some q)
 head-located {s} {t} view key {h} {q} a each =
-    subst (λ (u : State). Answers u (λ d. located_at d key) (Some q)) view (record {
+    subst (λ (u : SegmentState). AnswersWith u (λ d. located_at d key) (Some q)) view (record {
       answers = λ d k.
           let o = here s.cut.bytes d key h k.denotes ((seen-handle s t view key (Some h) a).answers d k) in
           ap Some (each o.object o.stands) ∙ sym (ap (option_map located) o.is);
     })
 
 -- and of whatever stands at that handle
-pub located-there : {s t : State} (view : s ≡ t) (key : Key) {q : Located} → IsSegment s.cut.bytes
-    → Answers t (λ d. located_at d key) (Some q) → (o : Object) → StandsAt s.cut.bytes q.handle o → q ≡ located o
+pub located-there : {s t : SegmentState} (view : s ≡ t) (key : Key) {q : Located} → IsSegment s.cut.bytes
+    → AnswersWith t (λ d. located_at d key) (Some q) → (o : Object) → IsObjectInBlock s.cut.bytes q.handle o
+    → q ≡ located o
 located-there {s} {t} view key {q} g a o stands =
-    let b = subst (λ (u : State). Answers u (λ d. located_at d key) (Some q)) (sym view) a in
+    let b = subst (λ (u : SegmentState). AnswersWith u (λ d. located_at d key) (Some q)) (sym view) a in
     let p = located-said g.0 key (b.answers g.0 g.1) in
     let there = here s.cut.bytes g.0 key q.handle g.1.denotes ((handle-located key b).answers g.0 g.1) in
     p.said ∙ ap located (same_Some p.object there.object (sym p.is ∙ there.is)) ∙ alike there.stands stands
 
-pub said-at : (s : State) (key : Key) (o : Located) → IsLocated s key o → (d : Directory) → StandsFor s.cut.bytes d
+pub said-at : (s : SegmentState) (key : Key) (o : Located) → IsLocated s key o → (d : Directory)
+    → DenotesCurrent s.cut.bytes d
     → IsSaidAt d key o
 said-at s key o l d k = said-if (object_at d key) refl (l.at.answers d k)
 
@@ -121,8 +125,8 @@ keys_of_kind-same mode d key other kind c e =
 
 -- ---- a call by the handle is one by the key
 
-module _ (old : State) (key : Key) (o : Located) (l : IsLocated old key o) where
-  abbrev same : (d : Directory) → StandsFor old.cut.bytes d → object_at d (ByHandle o.handle) ≡ object_at d key
+module _ (old : SegmentState) (key : Key) (o : Located) (l : IsLocated old key o) where
+  abbrev same : (d : Directory) → DenotesCurrent old.cut.bytes d → object_at d (ByHandle o.handle) ≡ object_at d key
   same d k = sym (same-object old key o l d k)
 
   -- it is located by its handle too
@@ -134,10 +138,11 @@ module _ (old : State) (key : Key) (o : Located) (l : IsLocated old key o) where
 
   -- what is said of the object
   pub told-by_key : {A : Type 0} (say : Directory → Option Object → A) (r : A)
-      → Answers old (λ d. say d (object_at d (ByHandle o.handle))) r → Answers old (λ d. say d (object_at d key)) r
+      → AnswersWith old (λ d. say d (object_at d (ByHandle o.handle))) r
+      → AnswersWith old (λ d. say d (object_at d key)) r
   told-by_key say r a = record { answers = λ d k. a.answers d k ∙ ap (say d) (same d k) }
 
-  pub kind-by_key : Answers old (λ d. kind_at d key) (Ok o.kind)
+  pub kind-by_key : AnswersWith old (λ d. kind_at d key) (Ok o.kind)
   kind-by_key = record {
     answers = λ d k.
         let p = said-at old key o l d k in
@@ -145,24 +150,26 @@ module _ (old : State) (key : Key) (o : Located) (l : IsLocated old key o) where
         elim r as (λ _. Result Kind Refusal) [ None ↦ Err NotFound | Some q ↦ Ok (kind_of q.value) ]) p.is);
   }
 
-  pub step-same : (c : Command) (d : Directory) → StandsFor old.cut.bytes d
+  pub step-same : (c : Command) (d : Directory) → DenotesCurrent old.cut.bytes d
       → step old.mode d (at_key (ByHandle o.handle) c) ≡ step old.mode d (at_key key c)
   step-same c d k = keys-same old.mode d (ByHandle o.handle) key c (same d k)
 
-  pub step-by_key : (new : State) (c : Command) (answer : Answer) → IsStep old new (at_key (ByHandle o.handle) c) answer
-      → IsStep old new (at_key key c) answer
+  pub step-by_key : (new : SegmentState) (c : Command) (answer : Answer)
+      → TakesStep old new (at_key (ByHandle o.handle) c) answer
+      → TakesStep old new (at_key key c) answer
   step-by_key new c answer m = moves-same old new answer (λ d. step old.mode d (at_key (ByHandle o.handle) c))
       (λ d. step old.mode d (at_key key c)) (step-same c) m
 
-  pub step_of_kind-by_key : (new : State) (kind : Kind) (c : Command) (answer : Answer)
-      → IsStepOfKind old new (ByHandle o.handle) kind (at_key (ByHandle o.handle) c) answer
-      → IsStepOfKind old new key kind (at_key key c) answer
+  pub step_of_kind-by_key : (new : SegmentState) (kind : Kind) (c : Command) (answer : Answer)
+      → TakesStepOfKind old new (ByHandle o.handle) kind (at_key (ByHandle o.handle) c) answer
+      → TakesStepOfKind old new key kind (at_key key c) answer
   step_of_kind-by_key new kind c answer m = moves-same old new answer (λ d. step_of_kind old.mode d (ByHandle o.handle)
       kind (at_key (ByHandle o.handle) c)) (λ d. step_of_kind old.mode d key kind (at_key key c))
       (λ d k. keys_of_kind-same old.mode d (ByHandle o.handle) key kind c (same d k)) m
 
-  pub reply_of_kind-by_key : (kind : Kind) (c : Command) (answer : Answer) → IsReplyOfKind old (ByHandle o.handle) kind
-      (at_key (ByHandle o.handle) c) answer → IsReplyOfKind old key kind (at_key key c) answer
+  pub reply_of_kind-by_key : (kind : Kind) (c : Command) (answer : Answer)
+      → AnswersQueryOfKind old (ByHandle o.handle) kind
+      (at_key (ByHandle o.handle) c) answer → AnswersQueryOfKind old key kind (at_key key c) answer
   reply_of_kind-by_key kind c answer a = record {
     answers = λ d k. a.answers d k ∙ ap (λ (n : Answer × Directory). n.0)
         (keys_of_kind-same old.mode d (ByHandle o.handle) key kind c (same d k));
@@ -170,21 +177,22 @@ module _ (old : State) (key : Key) (o : Located) (l : IsLocated old key o) where
 
   -- ---- it says of which kind it is
 
-  pub located-steps : (new : State) (kind : Kind) (c : Command) (answer : Answer) → o.kind ≡ kind → IsStepOfKind old new
-      (ByHandle o.handle) kind (at_key (ByHandle o.handle) c) answer → IsStep old new (at_key key c) answer
+  pub located-steps : (new : SegmentState) (kind : Kind) (c : Command) (answer : Answer) → o.kind ≡ kind
+      → TakesStepOfKind old new
+      (ByHandle o.handle) kind (at_key (ByHandle o.handle) c) answer → TakesStep old new (at_key key c) answer
   located-steps new kind c answer is m = of_kind-steps old new key kind (at_key key c) answer
-      (subst (λ (n : Kind). Answers old (λ d. kind_at d key) (Ok n)) is kind-by_key)
+      (subst (λ (n : Kind). AnswersWith old (λ d. kind_at d key) (Ok n)) is kind-by_key)
       (step_of_kind-by_key new kind c answer m)
 
   pub located-measures : (kind : Kind) (r : Result (ℕ × ℕ) Refusal) → o.kind ≡ kind
-      → Answers old (λ d. sizes_at_kind d (ByHandle o.handle) kind) r → Answers old (λ d. sizes_at d key) r
-  located-measures kind r is m = measures-kind old key kind r (subst (λ (n : Kind). Answers old (λ d. kind_at d key)
+      → AnswersWith old (λ d. sizes_at_kind d (ByHandle o.handle) kind) r → AnswersWith old (λ d. sizes_at d key) r
+  located-measures kind r is m = measures-kind old key kind r (subst (λ (n : Kind). AnswersWith old (λ d. kind_at d key)
       (Ok n)) is kind-by_key) (told-by_key (λ d q. elim q as (λ _. Result (ℕ × ℕ) Refusal)
       [ None ↦ Err NotFound | Some p ↦ sizes_of_kind p kind ]) r m)
 
   -- what is left as it is where there are so many places
-  places-by_key : {new : State} (n : ℕ) → KeepsWhere old new (HasPlaces (ByHandle o.handle) n)
-      → KeepsWhere old new (HasPlaces key n)
+  places-by_key : {new : SegmentState} (n : ℕ) → UnchangedWhere old new (HasPlaces (ByHandle o.handle) n)
+      → UnchangedWhere old new (HasPlaces key n)
   places-by_key n m = λ d k p. m d k (record {
     len = p.len;
     capacity = p.capacity;
@@ -196,15 +204,16 @@ module _ (old : State) (key : Key) (o : Located) (l : IsLocated old key o) where
 
   -- ---- the same of what is done with storage, whichever change it is
 
-  pub located-changes : (change : Change) (new : State) (kind : Kind) (answer : Answer) → o.kind ≡ kind
-      → IsStepOfKind old new (ByHandle o.handle) kind (command_of change (ByHandle o.handle)) answer
-      → IsStep old new (command_of change key) answer
+  pub located-changes : (change : Change) (new : SegmentState) (kind : Kind) (answer : Answer) → o.kind ≡ kind
+      → TakesStepOfKind old new (ByHandle o.handle) kind (command_of change (ByHandle o.handle)) answer
+      → TakesStep old new (command_of change key) answer
   located-changes (Reserve n) new kind answer is m = located-steps new kind (asked.Reserve key n) answer is m
   located-changes Shrink new kind answer is m = located-steps new kind (asked.Shrink key) answer is m
   located-changes Clear new kind answer is m = located-steps new kind (asked.Clear key) answer is m
 
-  pub enough-by_key : (change : Change) (new : State) → KeepsWhere old new (HasEnough change (ByHandle o.handle))
-      → KeepsWhere old new (HasEnough change key)
+  pub enough-by_key : (change : Change) (new : SegmentState)
+      → UnchangedWhere old new (HasEnough change (ByHandle o.handle))
+      → UnchangedWhere old new (HasEnough change key)
   enough-by_key (Reserve n) new m = places-by_key n m
   enough-by_key Shrink new m = λ d k e. absurd e
   enough-by_key Clear new m = λ d k e. absurd e

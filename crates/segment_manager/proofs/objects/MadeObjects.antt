@@ -2,11 +2,13 @@
 use Rattle.segment_manager.proofs.Common as common
 use common.{◌≡◌, ◌&&◌, refl, sym, ap, ◌∙◌, ℕ, ◌==◌, Bool, true, false, Option, Some, None, List, [], ◌∷◌, length}
 use common.{cond, nat_lt, Exists}
-use common.{if◌then◌else◌, is_some, eq-eqb, Extent, handle, LiveSet, resized, Refusal, NoSpace, Table, OwnedText, Class}
+use common.{if◌then◌else◌, is_some, eq-eqb, Extent, handle, LiveSet, resized, Refusal, NoSpace, BackingArray, OwnedText}
+use common.{Class}
 use common.{Anonymous, size_of, Key, ByHandle, Mode, Content, Answer, Made, Refused, Directory, Object, Value, live}
 use common.{has_key, object_at, put_object, with_object, Elements, Bytes, Texts, Plan, Refuse, Reply, Request, perform}
 use common.{met, with_place, with_entry, with_storage, with_owned_text, with_owned_texts, with_value, with_new_object}
-use common.{class_of, name_of, Need, is_read_only, plan, step, is_object_at, Answers, IsSegment, IsStep, State, find}
+use common.{class_of, name_of, Need, is_read_only, plan, step, is_object_at, AnswersWith, IsSegment, TakesStep}
+use common.{SegmentState, find}
 use Rattle.segment_manager.proofs.objects.KeyCalls.{object-passes}
 use Rattle.seg_types.specs.declared.kinds.Class.TheVariants.{Named, Unique}
 use Rattle.seg_types.specs.Commands as asked
@@ -45,7 +47,7 @@ if-here : (b : Bool) (p q : Plan) → MakesHere p → MakesHere q → MakesHere 
 if-here true p q h k = h
 if-here false p q h k = k
 
-place-here : (t : Table) (count : ℕ) (next : Table → Plan) → ((u : Table) → MakesHere (next u))
+place-here : (t : BackingArray) (count : ℕ) (next : BackingArray → Plan) → ((u : BackingArray) → MakesHere (next u))
     → MakesHere (with_place t count next)
 place-here t count next k = if-here (nat_lt count t.capacity) _ _ (k t) (by_request (λ x. k _))
 
@@ -55,7 +57,7 @@ entry-here d Anonymous next k = k d
 entry-here d Named next k = place-here d.named _ _ (λ t. k (record d { named = t }))
 entry-here d Unique next k = place-here d.unique _ _ (λ t. k (record d { unique = t }))
 
-storage-here : (each n : ℕ) (next : Table → Plan) → ((t : Table) → MakesHere (next t))
+storage-here : (each n : ℕ) (next : BackingArray → Plan) → ((t : BackingArray) → MakesHere (next t))
     → MakesHere (with_storage each n next)
 storage-here each n next k = if-here (n == 0) _ _ (k _) (by_request (λ x. k _))
 
@@ -116,8 +118,8 @@ step-here mode d key c = perform-here d (live d) (plan mode d (asked.Construct k
     (if-here (is_read_only mode && true) _ _ by_refusal (effect-here d key c (object_at d key)))
 
 -- an object that was made is there
-pub made-here : {old new : State} (key : Key) (c : Content) (h : ℕ) → IsSegment old.cut.bytes
-    → IsStep old new (asked.Construct key c) (Made h) → Answers new (λ d. is_object_at d h) true
+pub made-here : {old new : SegmentState} (key : Key) (c : Content) (h : ℕ) → IsSegment old.cut.bytes
+    → TakesStep old new (asked.Construct key c) (Made h) → AnswersWith new (λ d. is_object_at d h) true
 made-here {old} key c h g m = record {
   answers = λ e k. sym (object-passes h k.denotes ∙ sym (object-passes h (m.denotes g.0 g.1).denotes)
       ∙ step-here old.mode g.0 key c h (sym (m.answers g.0 g.1)));

@@ -2,14 +2,19 @@
 -- requests are met in order, or one is refused and all is given back.
 use Rattle.segment_manager.proofs.Common as common
 use common.{◌≡◌, sym, true, ◌&&◌, Some, None, List, find, Kind, Value, live, Plan, bare, refl, LiveSet, resized}
-use common.{LaysOut, live_of, Refusal, Content, IsPlace, room_for, ap, Extent, place, Keeps, Table, serves, Class}
+use common.{EncodesLiveSet, live_of, Refusal, Content, FindsPosition, room_for, ap, Extent, place, KeepsBlocks}
+use common.{BackingArray, serves, Class}
 use common.{Index, Absent, Object, padded, subst, IsAbsentAt, IsReadyFor, LeadsThere, extents_of, object_len}
-use common.{entries_of, ◌∙◌, ℕ, ◌+◌, [], ◌∷◌, Cut, Option, length, IsTrue, IsBegun, IsLoose, Denotes, has_key}
-use common.{kind_of, IsGiven, and_from, SamePlace, IsChanged, laid-heap, IsNewKeyOf, IsRestored, with_value, current}
-use common.{NewEntry, IsHeaded, IsWanted, count_of, IsDenied, table_of, head_len, bytes_of, added, place_of, AddKeeps}
-use common.{IsGrowth, prepared, IsSegment, StandsFor, SamePlace-trans, IsBegunAlone, is_good_value, value_extents}
-use common.{class_of_index, ObjectRole, IsAllocated, is_kind_of, IsBegunEntry, with_object, IsMadeValue, Anonymous}
-use common.{IsIndexOf, Directory, is_object, object_at, value_len, IsNoValue, handle}
+use common.{entries_of, ◌∙◌, ℕ, ◌+◌, [], ◌∷◌, WindowState, Option, length, IsTrue, BeginsObjectOk, IsUnindexedObject}
+use common.{Denotes, has_key}
+use common.{kind_of, IsGiven, and_from, SameSurroundings, ChangesBytes, laid-heap, IsNewKeyOf, RestoresBlocks}
+use common.{with_value, current}
+use common.{PendingEntry, WritesObjectHeader, IsReadyForEntry, count_of, IsDenied, table_of, head_len, bytes_of, added}
+use common.{place_of, AddKeeps}
+use common.{IsGrowth, prepared, IsSegment, DenotesCurrent, SameSurroundings-trans, BeginsAnonymous, is_good_value}
+use common.{value_extents}
+use common.{class_of_index, ObjectRole, AllocatesOk, is_kind_of, BeginsEntryOk, with_object, MakesValueOk, Anonymous}
+use common.{IsIndexOf, Directory, is_object, object_at, value_len, MakesValueErr, handle}
 use Rattle.segment_manager.proofs.objects.Taking.{IsMade, IsTaken, taken-growth, taken-index, growth-index}
 use Rattle.segment_manager.proofs.objects.Taking.{growth-stays, made-key, made-stays, restored-taken}
 use Rattle.segment_manager.proofs.objects.MadeValues.{empty-taken, made-object, made-taken, placed-next}
@@ -27,11 +32,12 @@ use Rattle.seg_types.specs.Names as names
 
 -- ---- places
 
-growth-place : {a b : Cut} (at : ℕ) (g : Option ℕ) → IsGrowth a b at g → SamePlace a b
-growth-place {a} at None h = subst (SamePlace a) (sym h.1) (record { before = refl; after = refl })
+growth-place : {a b : WindowState} (at : ℕ) (g : Option ℕ) → IsGrowth a b at g → SameSurroundings a b
+growth-place {a} at None h = subst (SameSurroundings a) (sym h.1) (record { before = refl; after = refl })
 growth-place at (Some g) h = h.1.keeps.place
 
-keeps-place : {a b : Cut} (at : ℕ) (t : Table) (g : Option ℕ) → AddKeeps a b at t g → SamePlace a b
+keeps-place : {a b : WindowState} (at : ℕ) (t : BackingArray) (g : Option ℕ) → AddKeeps a b at t g
+    → SameSurroundings a b
 keeps-place at t None k = k.place
 keeps-place at t (Some g) k = k.place
 
@@ -41,24 +47,25 @@ no_key-none [] = refl
 no_key-none (o ∷ os) = no_key-none os
 
 -- what a look-up that finds no entry says of each directory
-pub away-in : (i : Index) {a : Cut} {d : Directory} (e : Entry) (at : ℕ) → Denotes current a.bytes d
+pub away-in : (i : Index) {a : WindowState} {d : Directory} (e : Entry) (at : ℕ) → Denotes current a.bytes d
     → IsAbsentAt a i e at
-    → IsPlace (bytes_of a.bytes) e (entries_of i d) (Absent at)
+    → FindsPosition (bytes_of a.bytes) e (entries_of i d) (Absent at)
 away-in i {a} {d} e at said away = away (table_of i d) (entries_of i d) (denotes-index i a said)
 
 -- ---- all directories
 
 -- the object is there, for each directory that the old bytes denote
-pub record IsMadeNow (a c : Cut) (key : names.Key) (content : Content) (h : ℕ) : Type 0 where
-  pub place : SamePlace a c
-  pub each : (d : Directory) → StandsFor a.bytes d → (object_at d key ≡ None) × IsNewObject c d key content h
+pub record IsMadeNow (a c : WindowState) (key : names.Key) (content : Content) (h : ℕ) : Type 0 where
+  pub place : SameSurroundings a c
+  pub each : (d : Directory) → DenotesCurrent a.bytes d → (object_at d key ≡ None) × IsNewObject c d key content h
 
 -- or it is refused for each
-pub record IsMadeNever (a c : Cut) (key : names.Key) (content : Content) : Type 0 where
-  pub place : SamePlace a c
-  pub each : (d : Directory) → StandsFor a.bytes d → (object_at d key ≡ None) × IsNoObject c d key content
+pub record IsMadeNever (a c : WindowState) (key : names.Key) (content : Content) : Type 0 where
+  pub place : SameSurroundings a c
+  pub each : (d : Directory) → DenotesCurrent a.bytes d → (object_at d key ≡ None) × IsNoObject c d key content
 
-unchanged : {w : Cut} (l : LiveSet) {from n : ℕ} → LaysOut current w.bytes l → IsChanged current w w from n
+unchanged : {w : WindowState} (l : LiveSet) {from n : ℕ} → EncodesLiveSet current w.bytes l
+    → ChangesBytes current w w from n
 unchanged {w} l laid = record {
   place = record { before = refl; after = refl };
   live = laid-heap w.bytes l laid;
@@ -77,10 +84,11 @@ module _ (content : Content) where
 
   -- ---- the value in its object's block
 
-  module _ (a t m w : Cut) (class : Class) (name : List ℕ) (h at : ℕ)
-      (take : IsAllocated current a t (room_for name long) ObjectRole h) (headed : IsHeaded t m kind class name many h
-      at) (r : IsMadeValue content m w (record { handle = h; at = at })) where
-    block : IsAllocated current a r.empty (room_for name long) ObjectRole h
+  module _ (a t m w : WindowState) (class : Class) (name : List ℕ) (h at : ℕ)
+      (take : AllocatesOk current a t (room_for name long) ObjectRole h)
+      (headed : WritesObjectHeader t m kind class name many h
+      at) (r : MakesValueOk content m w (record { handle = h; at = at })) where
+    block : AllocatesOk current a r.empty (room_for name long) ObjectRole h
     block = empty-taken take headed r.change
 
     abbrev own : Object
@@ -95,9 +103,9 @@ module _ (content : Content) where
 
     made-in : IsTrue (is_object current own) → IsMade a w own
     made-in good =
-        let headed' : IsHeaded t m (kind_of r.value) class name (count_of r.value) h at =
-        subst (λ n. IsHeaded t m (kind_of r.value) class name n h at) (sym r.count)
-        (subst (λ k. IsHeaded t m k class name many h at) (sym r.is_kind) headed) in
+        let headed' : WritesObjectHeader t m (kind_of r.value) class name (count_of r.value) h at =
+        subst (λ n. WritesObjectHeader t m (kind_of r.value) class name n h at) (sym r.count)
+        (subst (λ k. WritesObjectHeader t m k class name many h at) (sym r.is_kind) headed) in
         record {
           good = good;
           taken = both-taken;
@@ -112,16 +120,17 @@ module _ (content : Content) where
 
   -- ---- the directory, under a key with an entry
 
-  module _ {a m : Cut} {key : names.Key} {h at : ℕ} {e : NewEntry} (g : IsBegunEntry a m key kind many long h at e)
+  module _ {a m : WindowState} {key : names.Key} {h at : ℕ} {e : PendingEntry}
+      (g : BeginsEntryOk a m key kind many long h at e)
       {d : Directory} (said : Denotes current a.bytes d) where
     absent : object_at d key ≡ None
     absent = (lookup-absent e.index a g.entry key said (key-seeks e.index g.entry key g.name kind g.is)
         (away-in e.index g.entry e.place said g.absent)).none
 
-    entry-new : {w c : Cut} → IsMadeValue content m w (record { handle = h; at = at }) → IsEntryAdded w c h e
+    entry-new : {w c : WindowState} → MakesValueOk content m w (record { handle = h; at = at }) → IsEntryAdded w c h e
         → IsNewObject c d key content h
     entry-new {w} {c} r added =
-        let b : Cut = g.requested.between in let class = class_of_index e.index in
+        let b : WindowState = g.requested.between in let class = class_of_index e.index in
         let took = block b g.taken m w class g.name h at g.requested.takes g.headed r in
         content-entered e.index a d g.entry key g.name kind content said g.is b w e.place e.growth.block
         g.requested.grows (placed-at b g.taken m w class g.name h at g.requested.takes g.headed r)
@@ -132,8 +141,8 @@ module _ (content : Content) where
         r))) took.at (away-in e.index g.entry e.place said g.absent)
         (record { adds = added.adds; live = added.live; keeps = added.keeps })
 
-    entry-denied : {w c : Cut} {why : Refusal} → IsNoValue content m w (record { handle = h; at = at }) why
-        → IsRestored a c → IsNoObject c d key content
+    entry-denied : {w c : WindowState} {why : Refusal} → MakesValueErr content m w (record { handle = h; at = at }) why
+        → RestoresBlocks a c → IsNoObject c d key content
     entry-denied {c} r back =
         let took = empty-taken g.requested.takes g.headed r.change in
         record {
@@ -145,7 +154,7 @@ module _ (content : Content) where
 
   -- ---- without one
 
-  module _ (a m : Cut) (h at : ℕ) (g : IsBegunAlone a m names.NoKey kind many long h at) (d : Directory)
+  module _ (a m : WindowState) (h at : ℕ) (g : BeginsAnonymous a m names.NoKey kind many long h at) (d : Directory)
       (said : Denotes current a.bytes d) where
     abbrev alone_in : Extent → Value → Object
     alone_in x w = record { class = Anonymous; name = []; value = w; extent = x }
@@ -159,7 +168,7 @@ module _ (content : Content) where
         (serves x ObjectRole (object_len [] w)) (and_from (true && is_kind_of current (kind_of w)) (is_good_value w)
         (and_from true (is_kind_of current (kind_of w)) refl known) good) s
 
-    alone-new : {w : Cut} → IsMadeValue content m w (record { handle = h; at = at })
+    alone-new : {w : WindowState} → MakesValueOk content m w (record { handle = h; at = at })
         → IsNewObject w d names.NoKey content h
     alone-new {w} r =
         let took = block a g.taken m w Anonymous [] h at g.takes g.headed r in let x : Extent = took.extent in
@@ -177,12 +186,13 @@ module _ (content : Content) where
               Anonymous [] h at g.takes g.headed r) ∙ (subst (λ l. IsGiven d (resized l x) content r.value r.left) same
               (given-in a g.taken m w Anonymous [] h at g.takes g.headed r)).met (λ w. next (alone_in x w)
               (with_object d (alone_in x w)));
-          denotes = denotes-with a w said made.good refl (subst (λ l. LaysOut current w.bytes (adding l (extents_of o)))
-              same made.taken.live) (subst (λ (l : LiveSet). Keeps a w l.extents) same made.taken.keeps) made.at;
+          denotes = denotes-with a w said made.good refl
+              (subst (λ l. EncodesLiveSet current w.bytes (adding l (extents_of o)))
+              same made.taken.live) (subst (λ (l : LiveSet). KeepsBlocks a w l.extents) same made.taken.keeps) made.at;
         }
 
-    alone-denied : {w c : Cut} {why : Refusal} → IsNoValue content m w (record { handle = h; at = at }) why
-        → IsRestored a c → IsNoObject c d names.NoKey content
+    alone-denied : {w c : WindowState} {why : Refusal} → MakesValueErr content m w (record { handle = h; at = at }) why
+        → RestoresBlocks a c → IsNoObject c d names.NoKey content
     alone-denied {w} {c} r back =
         let took = empty-taken g.takes g.headed r.change in let x : Extent = took.extent in
         let same = denotes-live current a.bytes d said in
@@ -196,19 +206,19 @@ module _ (content : Content) where
 
   -- ---- an entry is to lead there, or all is given back
 
-  module _ (a : Cut) {m : Cut} (b : IsSegment a.bytes) (key : names.Key) (h at : ℕ) where
-    entry-taken : {w : Cut} {e : NewEntry} → (g : IsBegunEntry a m key kind many long h at e)
-        → (r : IsMadeValue content m w (record { handle = h; at = at })) → IsTaken g.requested.between w
+  module _ (a : WindowState) {m : WindowState} (b : IsSegment a.bytes) (key : names.Key) (h at : ℕ) where
+    entry-taken : {w : WindowState} {e : PendingEntry} → (g : BeginsEntryOk a m key kind many long h at e)
+        → (r : MakesValueOk content m w (record { handle = h; at = at })) → IsTaken g.requested.between w
         ((block g.requested.between g.taken m w (class_of_index e.index) g.name h at g.requested.takes g.headed
         r).extent ∷ value_extents r.value)
     entry-taken {w} {e} g r =
         both-taken g.requested.between g.taken m w (class_of_index e.index) g.name h at g.requested.takes g.headed r
 
     -- what the index wants is there
-    entry-wanted : {w : Cut} {e : NewEntry} → IsBegunEntry a m key kind many long h at e
-        → IsMadeValue content m w (record { handle = h; at = at }) → IsWanted w h e
+    entry-wanted : {w : WindowState} {e : PendingEntry} → BeginsEntryOk a m key kind many long h at e
+        → MakesValueOk content m w (record { handle = h; at = at }) → IsReadyForEntry w h e
     entry-wanted {w} {e} g r =
-        let i : Index = e.index in let mid : Cut = g.requested.between in
+        let i : Index = e.index in let mid : WindowState = g.requested.between in
         let d : Directory = b.0 in let t = table_of i d in
         let hs = entries_of i d in let x = denotes-index i a b.1.denotes in
         let took = block mid g.taken m w (class_of_index i) g.name h at g.requested.takes g.headed r in
@@ -241,13 +251,14 @@ module _ (content : Content) where
           growth = taken-growth mid w _ (place_of i) e.growth.block taken (place_behind i) (place_small i) grown;
         }
 
-    pub value-ready : (entry : Option NewEntry) {w : Cut} → IsBegun a m key kind many long h at entry
-        → IsMadeValue content m w (record { handle = h; at = at }) → IsReadyFor w h entry
+    pub value-ready : (entry : Option PendingEntry) {w : WindowState} → BeginsObjectOk a m key kind many long h at entry
+        → MakesValueOk content m w (record { handle = h; at = at }) → IsReadyFor w h entry
     value-ready None g r = tt
     value-ready (Some e) g r = entry-wanted g r
 
-    pub value-loose : (entry : Option NewEntry) (w : Cut) (why : Refusal) → IsBegun a m key kind many long h at entry
-        → IsNoValue content m w (record { handle = h; at = at }) why → IsLoose a w h entry
+    pub value-loose : (entry : Option PendingEntry) (w : WindowState) (why : Refusal)
+        → BeginsObjectOk a m key kind many long h at entry
+        → MakesValueErr content m w (record { handle = h; at = at }) why → IsUnindexedObject a w h entry
     value-loose None w why g r = record {
       len = room_for [] long;
       taken = w;
@@ -267,25 +278,26 @@ module _ (content : Content) where
 
     -- ---- all directories
 
-    module _ {w c : Cut} {e : NewEntry} (g : IsBegunEntry a m key kind many long h at e) where
-      entry-place : (r : IsMadeValue content m w (record { handle = h; at = at })) → IsEntryAdded w c h e
-          → SamePlace a c
+    module _ {w c : WindowState} {e : PendingEntry} (g : BeginsEntryOk a m key kind many long h at e) where
+      entry-place : (r : MakesValueOk content m w (record { handle = h; at = at })) → IsEntryAdded w c h e
+          → SameSurroundings a c
       entry-place r added =
-          let i : Index = e.index in let mid : Cut = g.requested.between in
+          let i : Index = e.index in let mid : WindowState = g.requested.between in
           let q = (entry-wanted g r).entry in
-          SamePlace-trans a mid c (growth-place (place_of i) e.growth.block g.requested.grows)
-          (SamePlace-trans mid w c (entry-taken g r).keeps.place
+          SameSurroundings-trans a mid c (growth-place (place_of i) e.growth.block g.requested.grows)
+          (SameSurroundings-trans mid w c (entry-taken g r).keeps.place
           (keeps-place (place_of i) q.table e.growth.block (added.keeps q.table q.handles q.index.index)))
 
       -- it is made
-      value-made : IsMadeValue content m w (record { handle = h; at = at }) → IsEntryAdded w c h e
+      value-made : MakesValueOk content m w (record { handle = h; at = at }) → IsEntryAdded w c h e
           → IsMadeNow a c key content h
       value-made r added = record {
         place = entry-place r added;
         each = λ d st. (absent g st.denotes, entry-new g st.denotes r added);
       }
 
-      value-refused : {why : Refusal} → IsNoValue content m w (record { handle = h; at = at }) why → IsRestored a c
+      value-refused : {why : Refusal} → MakesValueErr content m w (record { handle = h; at = at }) why
+          → RestoresBlocks a c
           → IsMadeNever a c key content
       value-refused r back = record {
         place = back.keeps.place;
@@ -293,33 +305,35 @@ module _ (content : Content) where
       }
 
   -- the same of an object without a key
-  module _ {a m : Cut} (h at : ℕ) (g : IsBegunAlone a m names.NoKey kind many long h at) where
-    alone-made : {w : Cut} → IsMadeValue content m w (record { handle = h; at = at })
+  module _ {a m : WindowState} (h at : ℕ) (g : BeginsAnonymous a m names.NoKey kind many long h at) where
+    alone-made : {w : WindowState} → MakesValueOk content m w (record { handle = h; at = at })
         → IsMadeNow a w names.NoKey content h
     alone-made {w} r = record {
       place = (both-taken a g.taken m w Anonymous [] h at g.takes g.headed r).keeps.place;
       each = λ d st. (no_key-none d.objects, alone-new a m h at g d st.denotes r);
     }
 
-    alone-refused : {w c : Cut} {why : Refusal} → IsNoValue content m w (record { handle = h; at = at }) why
-        → IsRestored a c → IsMadeNever a c names.NoKey content
+    alone-refused : {w c : WindowState} {why : Refusal} → MakesValueErr content m w (record { handle = h; at = at }) why
+        → RestoresBlocks a c → IsMadeNever a c names.NoKey content
     alone-refused r back = record {
       place = back.keeps.place;
       each = λ d st. (no_key-none d.objects, alone-denied a m h at g d st.denotes r back);
     }
 
   -- the same whatever the key
-  module _ {a m : Cut} (b : IsSegment a.bytes) {key : names.Key} (h at : ℕ) where
-    pub value-built : (entry : Option NewEntry) {w : Cut} {c : Cut} → IsBegun a m key kind many long h at entry
-        → IsMadeValue content m w (record { handle = h; at = at }) → LeadsThere w c h entry
+  module _ {a m : WindowState} (b : IsSegment a.bytes) {key : names.Key} (h at : ℕ) where
+    pub value-built : (entry : Option PendingEntry) {w : WindowState} {c : WindowState}
+        → BeginsObjectOk a m key kind many long h at entry
+        → MakesValueOk content m w (record { handle = h; at = at }) → LeadsThere w c h entry
         → IsMadeNow a c key content h
     value-built None {c} g r same = subst (λ (q : names.Key). IsMadeNow a c q content h) (sym g.is)
-        (subst (λ (s : Cut). IsMadeNow a s names.NoKey content h) (sym same)
+        (subst (λ (s : WindowState). IsMadeNow a s names.NoKey content h) (sym same)
         (alone-made h at (record { is = refl; taken = g.taken; takes = g.takes; headed = g.headed }) r))
     value-built (Some e) g r added = value-made a b key h at g r added
 
-    pub value-not_built : (entry : Option NewEntry) {w : Cut} {c : Cut} {why : Refusal}
-        → IsBegun a m key kind many long h at entry → IsNoValue content m w (record { handle = h; at = at }) why
+    pub value-not_built : (entry : Option PendingEntry) {w : WindowState} {c : WindowState} {why : Refusal}
+        → BeginsObjectOk a m key kind many long h at entry
+        → MakesValueErr content m w (record { handle = h; at = at }) why
         → GivesAllBack w c h entry → IsMadeNever a c key content
     value-not_built None {w} {c} {why} g r gives =
         let back = gives a (value-loose a b key h at None w why g r) in

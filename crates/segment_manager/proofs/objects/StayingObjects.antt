@@ -1,7 +1,8 @@
 -- What destroys no object leaves what is said of each.
 use Rattle.segment_manager.proofs.Common as common
 use common.{◌≡◌, sym, not, ◌∙◌, ℕ, None, List, [], ◌∷◌, find, cond, Kind, Key, Mode, live, Plan, met, plan, step}
-use common.{refl, ◌==◌, Bool, true, false, Option, Some, Extent, handle, Object, Answer, Refused, perform, Moves, State}
+use common.{refl, ◌==◌, Bool, true, false, Option, Some, Extent, handle, Object, Answer, Refused, perform, Transitions}
+use common.{SegmentState}
 use common.{ap, is_some, LiveSet, resized, Refusal, NoSpace, ByHandle, Command, Directory, has_key, IsSegment, current}
 use common.{subst, if◌then◌else◌, false≢true, replace_object, is_elementwise, step_of_kind, LeadsOnOfKind, option_map}
 use common.{IsDirectory, Denotes, Located, object_at, is_object_at, handle_at, same_Some}
@@ -98,8 +99,9 @@ one-said {b} {d} {e} h q k l f =
     let p = here b e (ByHandle h) h l (own-handle e h (object-passes h l ∙ sym (object-passes h k) ∙ there)) in
     ap (option_map located) p.is ∙ ap Some (alike p.stands o.stands) ∙ sym (ap (option_map located) o.is) ∙ f
 
-moved-keeps : {A : Type 0} {old new : State} {answer : A} {next : Directory → A × Directory} → IsSegment old.cut.bytes
-    → Moves old new answer next → ((d : Directory) → IsDirectory current d → (h : ℕ) (q : Located)
+moved-keeps : {A : Type 0} {old new : SegmentState} {answer : A} {next : Directory → A × Directory}
+    → IsSegment old.cut.bytes
+    → Transitions old new answer next → ((d : Directory) → IsDirectory current d → (h : ℕ) (q : Located)
     → located_at d (ByHandle h) ≡ Some q → located_at (next d).1 (ByHandle h) ≡ Some q) → KeepsObjects old new
 moved-keeps g m keeps q is = record {
   answers = λ e k. sym (one-said q.handle q (m.denotes g.0 g.1).denotes k.denotes
@@ -114,7 +116,7 @@ objects_stay = record {
 }
 
 -- the same of a call that answers less than the machine
-pub leads_on-stay : (old new : State) (key : Key) (kind : Kind) (c : Command) (why : Option Refusal)
+pub leads_on-stay : (old new : SegmentState) (key : Key) (kind : Kind) (c : Command) (why : Option Refusal)
     → IsSegment old.cut.bytes → is_elementwise c ≡ true → LeadsOnOfKind old new key kind c why → KeepsObjects old new
 leads_on-stay old new key kind c why g e m =
     moved-keeps g m (λ d is h q here. step_of_kind-keeps d is h q here old.mode key kind c e)

@@ -1,13 +1,17 @@
 -- The elements of the object of a key: where each stands and its number, what reading one answers, and writing one.
 use Rattle.segment_manager.proofs.Common as common
 use common.{◌≡◌, Option, Result, length, IsTrue, nat_lt, handle, Scalar, Object, padded, eq-eqb, Answer, Refuse, effect}
-use common.{refl, subst, zero, Bool, true, false, Some, None, List, arith, read, State, Mode, Done, live, Reply, with}
-use common.{sym, ap, ◌∙◌, suc, ◌+◌, ◌*◌, ◌<◌, ◌≤◌, pos, Ok, Err, [], ◌∷◌, Has, Key, get, map}
+use common.{refl, subst, zero, Bool, true, false, Some, None, List, arith, read, SegmentState, Mode, Done, live, Reply}
+use common.{with}
+use common.{sym, ap, ◌∙◌, suc, ◌+◌, ◌*◌, ◌<◌, ◌≤◌, pos, Ok, Err, [], ◌∷◌, HasBytesAt, Key, get, map}
 use common.{ℕ, list_all, ltb-true, bytes_of, has_room, option_map, Located, slice_set, ltb-false, IsSegment, answer_of}
 use common.{values_of}
-use common.{ℤ, live_of, Refusal, NotFound, is_value, size_of, spelling, spelled, count_of, StandsAt, BoolKind, and_then}
-use common.{get_or, Numbers, kind_of, Denotes, Answers, code_of, Literal, Element, Refused, perform, changed, Command}
-use common.{if◌then◌else◌, ScalarKind, OutOfRange, is_good_value, MatchOption, false≢true, IsReplyOfKind, step_of_kind}
+use common.{ℤ, live_of, Refusal, NotFound, is_value, size_of, spelling, spelled, count_of, IsObjectInBlock, BoolKind}
+use common.{cons_values}
+use common.{get_or, Numbers, kind_of, Denotes, AnswersWith, code_of, Literal, Element, Refused, perform, changed}
+use common.{Command}
+use common.{if◌then◌else◌, ScalarKind, OutOfRange, is_good_value, MatchOption, false≢true, AnswersQueryOfKind}
+use common.{step_of_kind}
 use common.{slice_get, current, WrongKind, same_kind, Directory, is_object, object_at, value_len, IsValueAt, literal_of}
 use common.{mul-le-mul_left, slice_get-get_or, slice_get_within, slice_get_past, value_of_literal, set as set_element}
 use Rattle.segment_manager.proofs.Steps.{open-reading, step_of_kind-found, step_of_kind-not_found, step_of_kind-other}
@@ -61,7 +65,7 @@ lacks-if o k i n false t e f g = Other e (cc)
 pub record ElementAt (b : List ℕ) (d : Directory) (key : Key) (k : ScalarKind) (i : ℕ) (p : Place) : Type 0 where
   pub object : Object
   pub is : object_at d key ≡ Some object
-  pub stands : StandsAt b p.handle object
+  pub stands : IsObjectInBlock b p.handle object
   pub numbers : List ℤ
   pub value : object.value ≡ Numbers k numbers
   pub at : p.at ≡ element_at k object.name i
@@ -82,7 +86,7 @@ numbers-good o k zs good e =
     second _ (list_all (is_value k) zs) (subst (λ v. IsTrue (is_good_value v)) e (object-roomy current o good).value)
 
 module _ {b : List ℕ} {d : Directory} {key : Key} {k : ScalarKind} {i : ℕ} {p : Place} where
-  element-of : {o : Object} → object_at d key ≡ Some o → StandsAt b p.handle o → Ok p.at ≡ place_in o k i
+  element-of : {o : Object} → object_at d key ≡ Some o → IsObjectInBlock b p.handle o → Ok p.at ≡ place_in o k i
       → ElementAt b d key k i p
   element-of {o} e s f =
       let parts =
@@ -106,7 +110,7 @@ module _ {b : List ℕ} {d : Directory} {key : Key} {k : ScalarKind} {i : ℕ} {
       → Ok p ≡ in_object o q → ElementAt b d key k i p
   found-if {o} (Ok at) h e f g =
       let same : p ≡ record { handle = handle o.extent; at = at } = cc in
-      element-of e (subst (λ (x : Place). StandsAt b x.handle o) (sym same) (standing b d key o h e))
+      element-of e (subst (λ (x : Place). IsObjectInBlock b x.handle o) (sym same) (standing b d key o h e))
       (ap (λ (x : Place). Ok x.at) same ∙ sym f)
   found-if (Err r) h e f g = absurd (cc)
 
@@ -148,13 +152,13 @@ element-missing {d} {key} e = missing-if (object_at d key) refl e
 module _ (b : List ℕ) (d : Directory) (key : Key) (k : ScalarKind) (i : ℕ) (p : Place)
     (e : ElementAt b d key k i p) where
   -- all numbers stand behind the head and the name
-  pub numbers-stand : Has (bytes_of b) (p.handle + (16 + padded (length e.object.name))) (spelled k e.numbers)
+  pub numbers-stand : HasBytesAt (bytes_of b) (p.handle + (16 + padded (length e.object.name))) (spelled k e.numbers)
   numbers-stand =
       let at : handle e.object.extent + 16 + padded
       (length e.object.name) ≡ p.handle + (16 + padded (length e.object.name)) =
       let s = e.stands.at in
       omega arith in
-      subst (λ a. Has (bytes_of b) a (spelled k e.numbers)) at (subst (λ v. IsValueAt (bytes_of b)
+      subst (λ a. HasBytesAt (bytes_of b) a (spelled k e.numbers)) at (subst (λ v. IsValueAt (bytes_of b)
       (handle e.object.extent + 16 + padded (length e.object.name)) v) e.value e.stands.said.value)
 
   -- an element stands in its place
@@ -194,8 +198,8 @@ same-place k i (Some o) = same-spot (handle o.extent) (element_at k o.name i) (s
     (nat_lt i (count_of o.value))
 
 -- the place in the object that is found is the place of the key, and why there is none in it is why the key has none
-pub places : {s : State} (key : Key) (k : ScalarKind) (i : ℕ) {r : Option Located} {q : Result Place Refusal}
-    → Answers s (λ d. located_at d key) r → q ≡ element_of k i r → Answers s (λ d. place_at d key k i) q
+pub places : {s : SegmentState} (key : Key) (k : ScalarKind) (i : ℕ) {r : Option Located} {q : Result Place Refusal}
+    → AnswersWith s (λ d. located_at d key) r → q ≡ element_of k i r → AnswersWith s (λ d. place_at d key k i) q
 places key k i a e = record {
   answers = λ d l. e ∙ ap (element_of k i) (a.answers d l) ∙ same-place k i (object_at d key);
 }
@@ -255,22 +259,22 @@ missing-steps mode {d} {key} {k} {i} {r} c may past (Within o e l) =
 
 -- ---- the call
 
-module _ {t : State} (key : Key) {l k : ScalarKind} (kinds : l ≡ k) (i : ℕ) where
+module _ {t : SegmentState} (key : Key) {l k : ScalarKind} (kinds : l ≡ k) (i : ℕ) where
   -- where no element is found, the step says why
-  pub replies-missing : {r : Refusal} → Answers t (λ d. place_at d key l i) (Err r)
-      → IsReplyOfKind t key (Scalar k) (asked.Get key i) (Refused r)
+  pub replies-missing : {r : Refusal} → AnswersWith t (λ d. place_at d key l i) (Err r)
+      → AnswersQueryOfKind t key (Scalar k) (asked.Get key i) (Refused r)
   replies-missing {r} a = record {
     answers = λ d l. sym (ap (λ (n : Answer × Directory). n.0) (missing-steps t.mode (asked.Get key i) (open-reading
         t.mode (asked.Get key i) refl) (λ o zs e f. get-effect d key k zs i None e f) (element-missing
-        ((subst (λ (m : ScalarKind). Answers t (λ d. place_at d key m i) (Err r)) kinds a).answers d l))));
+        ((subst (λ (m : ScalarKind). AnswersWith t (λ d. place_at d key m i) (Err r)) kinds a).answers d l))));
   }
 
   -- one is found, as the view before the call names the segment
-  module _ {s : State} (view : s ≡ t) {p : Place} {n : ℕ} (long : n ≡ size_of k)
-      (there : Answers t (λ d. place_at d key l i) (Ok p)) where
-    pub seen-place : Answers s (λ d. place_at d key k i) (Ok p)
-    seen-place = subst (λ (m : ScalarKind). Answers s (λ d. place_at d key m i) (Ok p)) kinds
-        (subst (λ (u : State). Answers u (λ d. place_at d key l i) (Ok p)) (sym view) there)
+  module _ {s : SegmentState} (view : s ≡ t) {p : Place} {n : ℕ} (long : n ≡ size_of k)
+      (there : AnswersWith t (λ d. place_at d key l i) (Ok p)) where
+    pub seen-place : AnswersWith s (λ d. place_at d key k i) (Ok p)
+    seen-place = subst (λ (m : ScalarKind). AnswersWith s (λ d. place_at d key m i) (Ok p)) kinds
+        (subst (λ (u : SegmentState). AnswersWith u (λ d. place_at d key l i) (Ok p)) (sym view) there)
 
     -- the block has the room of the element
     pub place-room : IsSegment s.cut.bytes → IsTrue (has_room (live_of s.cut.bytes) p.handle (p.at + n))
@@ -280,9 +284,9 @@ module _ {t : State} (key : Key) {l k : ScalarKind} (kinds : l ≡ k) (i : ℕ) 
     -- what its bytes are read as is the step's answer
     pub replies-found : {answer : Answer} {bytes : List ℕ} → bytes ≡ read (bytes_of s.cut.bytes) (p.handle + p.at) n
         → ((z : ℤ) → IsTrue (is_value k z) → bytes ≡ spelling k z → answer ≡ Element k z)
-        → IsReplyOfKind t key (Scalar k) (asked.Get key i) answer
+        → AnswersQueryOfKind t key (Scalar k) (asked.Get key i) answer
     replies-found {answer} are reads =
-        subst (λ (u : State). IsReplyOfKind u key (Scalar k) (asked.Get key i) answer) view (record {
+        subst (λ (u : SegmentState). AnswersQueryOfKind u key (Scalar k) (asked.Get key i) answer) view (record {
           answers = λ d l.
               let e = element-found l.denotes (seen-place.answers d l) in
               reads e.number e.in_range
@@ -317,4 +321,4 @@ pub literals-read : (k : ScalarKind) (zs : List ℤ) → IsTrue (list_all (is_va
 literals-read k [] h = refl
 literals-read k (z ∷ zs) h =
     let rest = literals-read k zs (second (is_value k z) (list_all (is_value k) zs) h) in
-    λ i. and_then ((literal-read k z (first (is_value k z) (list_all (is_value k) zs) h)) i) (rest i)
+    λ i. cons_values ((literal-read k z (first (is_value k z) (list_all (is_value k) zs) h)) i) (rest i)

@@ -1,12 +1,14 @@
 -- A number of the object of a key is written: what the bytes denote then, and that it is the step.
 use Rattle.segment_manager.proofs.Common as common
 use common.{◌≡◌, refl, sym, ap, subst, ◌∙◌, ℕ, zero, suc, ◌+◌, ◌*◌, ◌<◌, ◌≤◌, ℤ, Bool, true, false, Some, None, Ok, Err}
-use common.{List, [], ◌∷◌, length, arith, IsTrue, list_all, mul-le-mul_left, slice_get_within, current, Has, bytes_of}
+use common.{List, [], ◌∷◌, length, arith, IsTrue, list_all, mul-le-mul_left, slice_get_within, current, HasBytesAt}
+use common.{bytes_of}
 use common.{ScalarKind, Scalar, Refusal, is_value, size_of, spelling, Key, spelled, Numbers, Object, Directory}
-use common.{count_of, is_object, kind_of, padded, value_len, Denotes, IsValueAt, Answers, State, Literal}
+use common.{count_of, is_object, kind_of, padded, value_len, Denotes, IsValueAt, AnswersWith, SegmentState, Literal}
 use common.{value_of_literal, Mode, Refused, Done, live, perform, IsSegment, step_of_kind, done_answer, ◌&&◌, nat_le}
-use common.{and_from, Cut, SameBut, ObjectRole, IsChanged, serves, literal_of, has_good_name, value_extents}
-use common.{with_changed, IsStepOfKind, is_read_only}
+use common.{and_from, WindowState, SameBytesExcept, ObjectRole, ChangesBytes, serves, literal_of, has_good_name}
+use common.{value_extents}
+use common.{with_changed, TakesStepOfKind, is_read_only}
 use Rattle.segment_manager.proofs.Steps.{step_of_kind-found, by_no_change_of_kind, by_step_of_kind, lands, open-writing}
 use Rattle.segment_manager.proofs.objects.Stored.{ElementAt, numbers-good, element-found, element-missing}
 use Rattle.segment_manager.proofs.objects.Stored.{numbers-stand, set-effect, element-kind, missing-steps, literal-read}
@@ -52,7 +54,7 @@ numbers-object o k zs new h e many all =
 
 -- ---- the element is written
 
-module _ (old new : Cut) (d : Directory) (key : Key) (k : ScalarKind) (i : ℕ) (p : Place)
+module _ (old new : WindowState) (d : Directory) (key : Key) (k : ScalarKind) (i : ℕ) (p : Place)
     (e : ElementAt old.bytes d key k i p) where
   -- the object with the new number
   abbrev pub with_number : ℤ → Object
@@ -73,18 +75,18 @@ module _ (old new : Cut) (d : Directory) (key : Key) (k : ScalarKind) (i : ℕ) 
       (list_all-set (is_value k) e.numbers i z (numbers-good e.object k e.numbers e.stands.good e.value) v)
 
   -- the numbers stand there
-  written : (z : ℤ) → SameBut (bytes_of old.bytes) (bytes_of new.bytes) (p.handle + p.at) (size_of k)
-      → Has (bytes_of new.bytes) (p.handle + p.at) (spelling k z)
+  written : (z : ℤ) → SameBytesExcept (bytes_of old.bytes) (bytes_of new.bytes) (p.handle + p.at) (size_of k)
+      → HasBytesAt (bytes_of new.bytes) (p.handle + p.at) (spelling k z)
       → IsValueAt (bytes_of new.bytes) (value_start e.object) (Numbers k (set e.numbers i z))
   written z s w =
       let m = bytes_of old.bytes in let m' = bytes_of new.bytes in
       HasBytesAt-set (spelling k) (spelling-length k) (value_start e.object) e.numbers i z
-      (subst (λ a. Has m a (spelled k e.numbers)) (sym start) (numbers-stand old.bytes d key k i p e)) below
-      (subst (λ a. SameBut m m' a (size_of k)) spot s) (subst (λ a. Has m' a (spelling k z)) spot w)
+      (subst (λ a. HasBytesAt m a (spelled k e.numbers)) (sym start) (numbers-stand old.bytes d key k i p e)) below
+      (subst (λ a. SameBytesExcept m m' a (size_of k)) spot s) (subst (λ a. HasBytesAt m' a (spelling k z)) spot w)
 
   -- the bytes denote the directory with the new number
   pub denotes-number : (z : ℤ) → Denotes current old.bytes d → IsTrue (is_value k z)
-      → IsChanged current old new (p.handle + p.at) (size_of k) → Has (bytes_of new.bytes) (p.handle + p.at)
+      → ChangesBytes current old new (p.handle + p.at) (size_of k) → HasBytesAt (bytes_of new.bytes) (p.handle + p.at)
       (spelling k z) → Denotes current new.bytes (with_changed d (with_number z))
   denotes-number z h v c w =
       let o : Object = e.object in let f = key-found current d key o h.directory e.is in
@@ -111,29 +113,31 @@ stored mode {d} {key} {k} {i} l e writing f = step_of_kind-found mode d key (Sca
 -- ---- the call
 
 -- where no element is found, the step says why
-pub stores-nothing : {s : State} (key : Key) (k : ScalarKind) (i : ℕ) (z : ℤ) {r : Refusal}
-    → is_read_only s.mode ≡ false → is_value k z ≡ true → Answers s (λ d. place_at d key k i) (Err r)
-    → IsStepOfKind s s key (Scalar k) (asked.Set key i (literal_of k z)) (Refused r)
+pub stores-nothing : {s : SegmentState} (key : Key) (k : ScalarKind) (i : ℕ) (z : ℤ) {r : Refusal}
+    → is_read_only s.mode ≡ false → is_value k z ≡ true → AnswersWith s (λ d. place_at d key k i) (Err r)
+    → TakesStepOfKind s s key (Scalar k) (asked.Set key i (literal_of k z)) (Refused r)
 stores-nothing {s} key k i z {r} writing v a = by_no_change_of_kind s key (Scalar k) (asked.Set key i (literal_of k z))
     (Refused r) (λ d l. missing-steps s.mode (asked.Set key i (literal_of k z)) (open-writing s.mode (asked.Set key i
     (literal_of k z)) writing) (λ o zs e f. set-effect d key k zs i (literal_of k z) None e f (literal-read k z v))
     (element-missing (a.answers d l)))
 
 -- a spelling was written at the place: the call is the step
-pub stores-number : {s t : State} (view : s ≡ t) (b : IsSegment s.cut.bytes) {new : Cut} {key : Key} (k : ScalarKind)
+pub stores-number : {s t : SegmentState} (view : s ≡ t) (b : IsSegment s.cut.bytes) {new : WindowState} {key : Key}
+    (k : ScalarKind)
     (i : ℕ) {p : Place} (z : ℤ) {bytes : List ℕ} → is_read_only t.mode ≡ false → is_value k z ≡ true
-    → bytes ≡ spelling k z → Answers t (λ d. place_at d key k i) (Ok p)
-    → IsChanged current s.cut new (p.handle + p.at) (length bytes) → Has (bytes_of new.bytes) (p.handle + p.at) bytes
+    → bytes ≡ spelling k z → AnswersWith t (λ d. place_at d key k i) (Ok p)
+    → ChangesBytes current s.cut new (p.handle + p.at) (length bytes)
+    → HasBytesAt (bytes_of new.bytes) (p.handle + p.at) bytes
     → Answered done_answer s t new key (Scalar k) (asked.Set key i (literal_of k z)) (Ok tt)
 stores-number {s} {t} view b {new} {key} k i {p} z may v f there c w = answered s t view b new key (Scalar k)
     (asked.Set key i (literal_of k z)) (Ok tt) (done-so (by_step_of_kind s (record s { cut = new }) key (Scalar k)
     (asked.Set key i (literal_of k z)) Done (record { mode = refl; place = c.place }) (λ d l.
-    let e = element-found l.denotes ((subst (λ (u : State). Answers u (λ d. place_at d key k i) (Ok p))
+    let e = element-found l.denotes ((subst (λ (u : SegmentState). AnswersWith u (λ d. place_at d key k i) (Ok p))
     (sym view) there).answers d l) in
     lands (with_changed d (with_value e.object (Numbers k (set e.numbers i z)))) (record {
-      is = stored s.mode (literal_of k z) e (subst (λ (u : State). is_read_only u.mode ≡ false) (sym view) may)
+      is = stored s.mode (literal_of k z) e (subst (λ (u : SegmentState). is_read_only u.mode ≡ false) (sym view) may)
           (literal-read k z v);
-      denotes = denotes-number s.cut new d key k i p e z l.denotes v (subst (λ n. IsChanged current s.cut new
+      denotes = denotes-number s.cut new d key k i p e z l.denotes v (subst (λ n. ChangesBytes current s.cut new
           (p.handle + p.at) n) (ap (λ (bs : List ℕ). length bs) f ∙ spelling-length k z) c)
-          (subst (Has (bytes_of new.bytes) (p.handle + p.at)) f w);
+          (subst (HasBytesAt (bytes_of new.bytes) (p.handle + p.at)) f w);
     }))))

@@ -119,7 +119,7 @@ FillsObject now new h at entry content result =
 pub record Constructs {A : Type 0} (old new : WindowState) (command : Command) (answer : Result A Refusal → Answer)
     (result : Result A Refusal) : Type 0 where
   pub step : (mode : Mode) → is_read_only mode ≡ false
-      → IsStep (record { cut = old; mode = mode }) (record { cut = new; mode = mode }) command (answer result)
+      → TakesStep (record { cut = old; mode = mode }) (record { cut = new; mode = mode }) command (answer result)
   pub refused : IfErr result (λ why. is_untouched (Refused why) ≡ true → new ≡ old)
 
 -- and nothing changes where an object has the key

@@ -31,7 +31,7 @@ pub record IsEntryAt (s : SegmentState) (h : ℕ) (i : Index) (at : ℕ) : Type 
   pub entry : Entry
   pub leads : HasEntries s i entry h
   pub found : (t : BackingArray) (handles : List ℕ) → IsIndexOf s.cut (place_of i) t handles
-      → IsPlace (bytes_of s.cut.bytes) entry handles (Found at)
+      → FindsPosition (bytes_of s.cut.bytes) entry handles (Found at)
 
 -- or it has none, since it has no key
 abbrev pub IsAnonymousAt : SegmentState → ℕ → Type 0

@@ -173,7 +173,7 @@ IsReadyFor now h (Some e) = IsReadyForEntry now h e
 -- the entry leads to it, if it is to have one
 pub record IsEntryAdded (now new : WindowState) (h : ℕ) (e : PendingEntry) : Type 0 where
   pub adds : (t : BackingArray) (hs : List ℕ) → IsIndexOf now (place_of e.index) t hs
-      → Adds now new (place_of e.index) t (insert hs e.place h) e.growth.block
+      → AddsEntry now new (place_of e.index) t (insert hs e.place h) e.growth.block
   pub live : EncodesLiveSet current new.bytes (grown_live now (place_of e.index) e.growth.block)
   pub keeps : (t : BackingArray) (hs : List ℕ) → IsIndexOf now (place_of e.index) t hs
       → AddKeeps now new (place_of e.index) t e.growth.block

@@ -77,12 +77,12 @@ pub overflow_sub-node : goal.overflow_sub-node
 overflow_sub-node c = let low = (sought_node (goal.at.overflow_sub-node c).In-Some).low in omega arith
 
 -- once it is out of the tree
-regrown : (c : After-take_out) → Regrown c.args.touches.now.gaps.now.window c.unlink_gap.new.self.gaps.now.window
+regrown : (c : After-unlink_gap) → Regrown c.args.touches.now.gaps.now.window c.unlink_gap.new.self.gaps.now.window
 regrown c =
     let w = c.args.touches.now.gaps.now.window in let e : c.find_best_fit.new.self.gaps.now.window ≡ w = cc in
     let r : Regrown w c.unlink_gap.new.self.gaps.now.window = rw e at c.unlink_gap.ensures.frame in r
 
-out : (c : After-take_out) (f : Found c.args.touches.now.gaps.now.window c.room-wanted.result c.in-Some.node)
+out : (c : After-unlink_gap) (f : Found c.args.touches.now.gaps.now.window c.room-wanted.result c.in-Some.node)
     → NodeAt c.args.touches.now.gaps.now.window c.in-Some.node
     → IsUnlinkedGap c.unlink_gap.new.self.gaps.now.window (c.in-Some.node - 16) f.gap.len
 out c f at_node =

@@ -51,7 +51,7 @@ link_gap-requires-clause-tree c =
     (t.front, t.gap, t.back, t.node, t.lacks c.if-is_cut.true)
 
 -- and the rest is in the tree
-planted : (c : After-put_in) (len : ℕ) → Taken c.args.touches.now.gaps.now.window c.set_use.new.self.gaps.now.window
+planted : (c : After-link_gap) (len : ℕ) → Taken c.args.touches.now.gaps.now.window c.set_use.new.self.gaps.now.window
     c.args.at len c.args.wanted c.args.role c.split_tail-is_cut.result
     → Planted c.args.touches.now.gaps.now.window c.link_gap.new.self.gaps.now.window c.args.at len
     c.args.wanted c.args.role

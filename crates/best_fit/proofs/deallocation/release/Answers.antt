@@ -55,7 +55,7 @@ unlink_if_gap-requires-clause-tree c =
     )
 
 -- the gap behind has left the tree
-half : (c : After-uproot) (b : Block c.args.touches.now.gaps.now.window (c.args.at + 16))
+half : (c : After-unlink_if_gap) (b : Block c.args.touches.now.gaps.now.window (c.args.at + 16))
     → c.next-behind.result ≡ first_in b.back
     → HalfUprooted c.args.touches.now.gaps.now.window c.args.at c.requires.heap b
     c.unlink_if_gap.new.touches.gaps.now.window
@@ -96,7 +96,7 @@ unlink_if_gap-requires-2-clause-no_overflow c =
     (block p) in omega arith
 
 -- and so has the gap before
-both : (c : After-uproot-2) (b : Block c.args.touches.now.gaps.now.window (c.args.at + 16))
+both : (c : After-unlink_if_gap-2) (b : Block c.args.touches.now.gaps.now.window (c.args.at + 16))
     → c.previous-before.result ≡ last_in b.front
     → HalfUprooted c.args.touches.now.gaps.now.window c.args.at c.requires.heap b
     c.unlink_if_gap.new.touches.gaps.now.window
@@ -184,7 +184,7 @@ coalesce_previous-requires-clause-no_overflow c =
     let n3 = c.coalesce_next.ensures.steps_exact in omega arith
 
 -- the block has become a gap with them
-freed : (c : After-join_before) (b : Block c.args.touches.now.gaps.now.window (c.args.at + 16))
+freed : (c : After-coalesce_previous) (b : Block c.args.touches.now.gaps.now.window (c.args.at + 16))
     → Uprooted c.args.touches.now.gaps.now.window c.args.at c.requires.heap b
     c.unlink_if_gap-2.new.touches.gaps.now.window
     c.args.touches.now.count c.unlink_if_gap-2.new.touches.count
@@ -198,7 +198,7 @@ freed c b u =
     c.coalesce_next.new.touches.gaps.now.window c.coalesce_next.ensures.tags c.coalesce_next.ensures.frame
     c.coalesce_previous.new.touches.gaps.now.window c.coalesce_previous.ensures.tags c.coalesce_previous.ensures.frame
 
-counted : (c : After-join_before) (b : Block c.args.touches.now.gaps.now.window (c.args.at + 16))
+counted : (c : After-coalesce_previous) (b : Block c.args.touches.now.gaps.now.window (c.args.at + 16))
     → Uprooted c.args.touches.now.gaps.now.window c.args.at c.requires.heap b
     c.unlink_if_gap-2.new.touches.gaps.now.window
     c.args.touches.now.count c.unlink_if_gap-2.new.touches.count

@@ -44,18 +44,18 @@ unlink_gap-requires-clause-tree c =
     )
 
 -- it has left the tree
-left : (c : After-take_out) (l : LastGap c.args.touches.now.gaps.now.window c.in-Some.at)
+left : (c : After-unlink_gap) (l : LastGap c.args.touches.now.gaps.now.window c.in-Some.at)
     → HasGapTree c.last-last.new.self.gaps.now.window (gaps_of l.front ++ (gap_of l.tile ∷ []))
     → HasGapTree c.unlink_gap.new.self.gaps.now.window (gaps_of l.front ++ [])
 left c l = c.unlink_gap.ensures.tree (gaps_of l.front) (gap_of l.tile) []
     (last_node c.args.touches.now.gaps.now.window c.requires.heap c.in-Some.at l)
 
-rest : (c : After-take_out) → c.last-last.new.self.gaps.now.window ≡ c.args.touches.now.gaps.now.window
+rest : (c : After-unlink_gap) → c.last-last.new.self.gaps.now.window ≡ c.args.touches.now.gaps.now.window
     → Regrown c.args.touches.now.gaps.now.window c.unlink_gap.new.self.gaps.now.window
 rest c f = rw f at c.unlink_gap.ensures.frame
 
 -- few touches more
-counted : (c : After-take_out) (l : LastGap c.args.touches.now.gaps.now.window c.in-Some.at)
+counted : (c : After-unlink_gap) (l : LastGap c.args.touches.now.gaps.now.window c.in-Some.at)
     → HasGapTree c.last-last.new.self.gaps.now.window (gaps_of l.front ++ (gap_of l.tile ∷ []))
     → c.unlink_gap.new.self.count ≤ c.args.touches.now.count + 32
     * bits (length (gaps_in c.args.touches.now.gaps.now.window) + 1) + 34

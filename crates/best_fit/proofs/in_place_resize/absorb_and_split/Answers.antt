@@ -40,7 +40,7 @@ unlink_if_gap-requires-clause-tree c =
     )
 
 -- the gap behind has left the tree
-gone : (c : After-uproot) (b : Block c.args.touches.now.gaps.now.window (c.args.at + 16))
+gone : (c : After-unlink_if_gap) (b : Block c.args.touches.now.gaps.now.window (c.args.at + 16))
     → c.next-behind.result ≡ first_in b.back
     → TailUprooted c.args.touches.now.gaps.now.window c.args.at c.requires.heap b c.args.wanted
     c.unlink_if_gap.new.touches.gaps.now.window c.args.touches.now.count c.unlink_if_gap.new.touches.count
@@ -99,7 +99,7 @@ overflow_add-at-then-is_cut c =
     let a = b.at in let i = b.inside in let z = b.size in let small = c.requires.max_size in omega arith
 
 -- the block has taken the gap, and is cut or not
-cut : (c : After-cut-is_cut) (b : Block c.args.touches.now.gaps.now.window (c.args.at + 16))
+cut : (c : After-split_tail-is_cut) (b : Block c.args.touches.now.gaps.now.window (c.args.at + 16))
     → TailUprooted c.args.touches.now.gaps.now.window c.args.at c.requires.heap b c.args.wanted
     c.unlink_if_gap.new.touches.gaps.now.window c.args.touches.now.count c.unlink_if_gap.new.touches.count
     → Recut c.args.touches.now.gaps.now.window c.split_tail-is_cut.new.touches.gaps.now.window c.args.at

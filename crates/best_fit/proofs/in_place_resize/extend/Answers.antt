@@ -14,11 +14,11 @@ use Rattle.best_fit.proofs.in_place_resize.extend.Goals as goal
 read_once : (c : After-tile_at-len) → c.tile_at-len.new.self.gaps.now.window ≡ c.args.touches.now.gaps.now.window
 read_once c = cc
 
-read_twice : (c : After-gap_behind-gap) → c.next_gap_len-gap.new.touches.gaps.now.window
+read_twice : (c : After-next_gap_len-gap) → c.next_gap_len-gap.new.touches.gaps.now.window
     ≡ c.args.touches.now.gaps.now.window
 read_twice c = cc
 
-sizes : (c : After-gap_behind-gap) (b : Block c.args.touches.now.gaps.now.window (c.args.at + 16))
+sizes : (c : After-next_gap_len-gap) (b : Block c.args.touches.now.gaps.now.window (c.args.at + 16))
     → Measured c.args.touches.now.gaps.now.window (c.args.at + 16) b c.tile_at-len.result.len c.next_gap_len-gap.result
 sizes c b =
     let e : c.tile_at-len.new.self.gaps.now.window ≡ c.args.touches.now.gaps.now.window = cc in
@@ -38,12 +38,12 @@ next_gap_len-gap-requires-clause-tile c =
 
 pub absorb_and_split-requires-clause-heap : goal.absorb_and_split-requires-clause-heap
 absorb_and_split-requires-clause-heap c =
-    rw (read_twice (goal.at.absorb_and_split-requires-clause-heap c).After-gap_behind-gap)
+    rw (read_twice (goal.at.absorb_and_split-requires-clause-heap c).After-next_gap_len-gap)
     c.requires.heap
 
 pub absorb_and_split-requires-clause-live : goal.absorb_and_split-requires-clause-live
 absorb_and_split-requires-clause-live c =
-    rw (read_twice (goal.at.absorb_and_split-requires-clause-live c).After-gap_behind-gap)
+    rw (read_twice (goal.at.absorb_and_split-requires-clause-live c).After-next_gap_len-gap)
     c.requires.live
 
 pub absorb_and_split-requires-clause-min_len : goal.absorb_and_split-requires-clause-min_len
@@ -73,7 +73,7 @@ returns-then-wanted-len-clause-changes c =
 
 pub overflow_add-len : goal.overflow_add-len
 overflow_add-len c =
-    let s = sizes (goal.at.overflow_add-len c).After-gap_behind-gap
+    let s = sizes (goal.at.overflow_add-len c).After-next_gap_len-gap
     (live_block c.args.touches.now.gaps.now.window (c.args.at + 16) c.requires.heap c.requires.live) in
     let len = s.len_is in let gap = s.gap_is in let high = s.high in omega arith
 
@@ -81,7 +81,7 @@ pub returns-then-len-gap-clause-changes : goal.returns-then-len-gap-clause-chang
 returns-then-len-gap-clause-changes c =
     let w = c.args.touches.now.gaps.now.window in let b = live_block c.args.touches.now.gaps.now.window
     (c.args.at + 16) c.requires.heap c.requires.live in
-    let p = (goal.at.returns-then-len-gap-clause-changes c).After-gap_behind-gap in
+    let p = (goal.at.returns-then-len-gap-clause-changes c).After-next_gap_len-gap in
     let s = sizes p b in let len = s.len_is in let gap = s.gap_is in
     let wanted = c.room-wanted.ensures in let less = c.if-len-gap.true in
     let r = not_extended w (c.args.at + 16) c.args.n b (inr (omega arith)) in
@@ -91,7 +91,7 @@ pub returns-clause-changes : goal.returns-clause-changes
 returns-clause-changes c =
     let w = c.args.touches.now.gaps.now.window in let b = live_block c.args.touches.now.gaps.now.window
     (c.args.at + 16) c.requires.heap c.requires.live in
-    let p = (goal.at.returns-clause-changes c).After-gap_behind-gap in let e = read_twice p in
+    let p = (goal.at.returns-clause-changes c).After-next_gap_len-gap in let e = read_twice p in
     let s = sizes p b in let len = s.len_is in let gap = s.gap_is in
     let more = c.if-wanted-len.false in let fits = c.if-len-gap.false in
     let cut : SplitsBlock current w c.absorb_and_split.new.touches.gaps.now.window (c.args.at + 16)
@@ -102,7 +102,7 @@ returns-clause-changes c =
 
 pub returns-clause-touches : goal.returns-clause-touches
 returns-clause-touches c =
-    let e = read_twice (goal.at.returns-clause-touches c).After-gap_behind-gap in
+    let e = read_twice (goal.at.returns-clause-touches c).After-next_gap_len-gap in
     let same = heap_bits c.args.touches.now.gaps.now.window c.requires.heap in
     let one = bits_some (length (gaps_in c.args.touches.now.gaps.now.window)) in let zero = c.requires.count in
     let steps = rw e at c.absorb_and_split.ensures.steps in let n1 = c.tile_at-len.ensures.steps_exact in

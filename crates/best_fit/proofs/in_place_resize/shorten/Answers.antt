@@ -14,11 +14,11 @@ use Rattle.best_fit.proofs.in_place_resize.shorten.Goals as goal
 read_once : (c : After-tile_at-len) → c.tile_at-len.new.self.gaps.now.window ≡ c.args.touches.now.gaps.now.window
 read_once c = cc
 
-read_twice : (c : After-gap_behind-gap) → c.next_gap_len-gap.new.touches.gaps.now.window
+read_twice : (c : After-next_gap_len-gap) → c.next_gap_len-gap.new.touches.gaps.now.window
     ≡ c.args.touches.now.gaps.now.window
 read_twice c = cc
 
-sizes : (c : After-gap_behind-gap) (b : Block c.args.touches.now.gaps.now.window (c.args.at + 16))
+sizes : (c : After-next_gap_len-gap) (b : Block c.args.touches.now.gaps.now.window (c.args.at + 16))
     → Measured c.args.touches.now.gaps.now.window (c.args.at + 16) b c.tile_at-len.result.len c.next_gap_len-gap.result
 sizes c b =
     let e : c.tile_at-len.new.self.gaps.now.window ≡ c.args.touches.now.gaps.now.window = cc in
@@ -38,12 +38,12 @@ next_gap_len-gap-requires-clause-tile c =
 
 pub absorb_and_split-requires-clause-heap : goal.absorb_and_split-requires-clause-heap
 absorb_and_split-requires-clause-heap c =
-    rw (read_twice (goal.at.absorb_and_split-requires-clause-heap c).After-gap_behind-gap)
+    rw (read_twice (goal.at.absorb_and_split-requires-clause-heap c).After-next_gap_len-gap)
     c.requires.heap
 
 pub absorb_and_split-requires-clause-live : goal.absorb_and_split-requires-clause-live
 absorb_and_split-requires-clause-live c =
-    rw (read_twice (goal.at.absorb_and_split-requires-clause-live c).After-gap_behind-gap)
+    rw (read_twice (goal.at.absorb_and_split-requires-clause-live c).After-next_gap_len-gap)
     c.requires.live
 
 pub absorb_and_split-requires-clause-min_len : goal.absorb_and_split-requires-clause-min_len
@@ -106,7 +106,7 @@ returns-else-leaves_gap-clause-changes c =
 
 pub returns-then-leaves_gap-clause-touches : goal.returns-then-leaves_gap-clause-touches
 returns-then-leaves_gap-clause-touches c =
-    let e = read_twice (goal.at.returns-then-leaves_gap-clause-touches c).After-gap_behind-gap in
+    let e = read_twice (goal.at.returns-then-leaves_gap-clause-touches c).After-next_gap_len-gap in
     let same = heap_bits c.args.touches.now.gaps.now.window c.requires.heap in
     let one = bits_some (length (gaps_in c.args.touches.now.gaps.now.window)) in let zero = c.requires.count in
     let steps = rw e at c.absorb_and_split.ensures.steps in let n1 = c.tile_at-len.ensures.steps_exact in

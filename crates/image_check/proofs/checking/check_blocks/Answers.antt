@@ -45,7 +45,7 @@ check_containers-requires-clause-aligned c = c.in_default-check_sharing.ensures.
 pub returns-in-Err-clause-verdict : goal.returns-in-Err-clause-verdict
 returns-in-Err-clause-verdict c =
     let b = c.args.window.now.bytes in
-    let e = c.in-Err.ensures.finds in (
+    let e = c.in-Err.ensures.verdict in (
       blocks-class c.args.format b c.requires.frame _ (late-index c.args.format b e.0),
       of-tiles c.args.format b c.requires.frame (λ ts. IsWrongIndex (bytes_of b) ts c.in-Err.place) e.1,
     )
@@ -53,12 +53,12 @@ returns-in-Err-clause-verdict c =
 pub returns-in-Err-clause-visits : goal.returns-in-Err-clause-visits
 returns-in-Err-clause-visits c =
     spend-less c.args.window.now.bytes index_rates
-    (both object_rates (both sharing_rates (both container_rates orphan_rates))) 10 52 _ _ c.in-Err.ensures.spends
+    (both object_rates (both sharing_rates (both container_rates orphan_rates))) 10 52 _ _ c.in-Err.ensures.visits
 
 pub returns-in-Err-check_objects-clause-verdict : goal.returns-in-Err-check_objects-clause-verdict
 returns-in-Err-check_objects-clause-verdict c =
     let b = c.args.window.now.bytes in
-    let e = c.in-Err-check_objects.ensures.finds in (
+    let e = c.in-Err-check_objects.ensures.verdict in (
       blocks-class c.args.format b c.requires.frame _ (late-object c.args.format b c.in_default.ensures.verdict e.0),
       of-tiles c.args.format b c.requires.frame (λ ts.
           IsWrongObject c.args.format (bytes_of b) ts c.in-Err-check_objects.place) e.1,
@@ -70,12 +70,12 @@ returns-in-Err-check_objects-clause-visits c =
     spend-both b index_rates (both object_rates (both sharing_rates (both container_rates orphan_rates))) 10 52 _ _
     _ c.in_default.ensures.visits
     (spend-less b object_rates (both sharing_rates (both container_rates orphan_rates)) 10 42 _ _
-    c.in-Err-check_objects.ensures.spends)
+    c.in-Err-check_objects.ensures.visits)
 
 pub returns-in-Err-check_sharing-clause-verdict : goal.returns-in-Err-check_sharing-clause-verdict
 returns-in-Err-check_sharing-clause-verdict c =
     let b = c.args.window.now.bytes in
-    let e = c.in-Err-check_sharing.ensures.finds in (
+    let e = c.in-Err-check_sharing.ensures.verdict in (
       blocks-class c.args.format b c.requires.frame _
           (late-shared c.args.format b c.in_default.ensures.verdict c.in_default-check_objects.ensures.verdict e.0),
       of-tiles c.args.format b c.requires.frame (λ ts.
@@ -94,7 +94,7 @@ returns-in-Err-check_sharing-clause-visits c =
 pub returns-in-Err-check_containers-clause-verdict : goal.returns-in-Err-check_containers-clause-verdict
 returns-in-Err-check_containers-clause-verdict c =
     let b = c.args.window.now.bytes in
-    let e = c.in-Err-check_containers.ensures.finds in (
+    let e = c.in-Err-check_containers.ensures.verdict in (
       blocks-class c.args.format b c.requires.frame _
           (late-container c.args.format b c.in_default.ensures.verdict c.in_default-check_objects.ensures.verdict
           c.in_default-check_sharing.ensures.verdict e.0),

@@ -65,7 +65,7 @@ returns-clause-verdict c =
     checked-frame c.args.format c.args.window.now h (sym c.check_gaps.ensures.value ∙ ap is_some c.in-Some.is)
 
 pub returns-clause-steps_lower : goal.returns-clause-steps_lower
-returns-clause-steps_lower c = c.in-Some.ensures.counted
+returns-clause-steps_lower c = c.in-Some.ensures.steps_lower
 
 pub returns-clause-bytes : goal.returns-clause-bytes
 returns-clause-bytes c = c.hold_bytes.ensures

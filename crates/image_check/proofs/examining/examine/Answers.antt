@@ -22,11 +22,11 @@ unfolding current
 returns-in-Ok-clause-examination g c =
     let given = read_delta (g.S.Source.history c.args.reader.now) (g.S.Source.history c.read_image.new.reader) in
     examined current given c.args.region c.args.base c.in_ok-window.window c.in_ok-window.ensures.reading
-    c.into_region.result c.in-Ok.ensures.answers c.into_region.ensures
+    c.into_region.result c.in-Ok.ensures.outcome c.into_region.ensures
 
 pub returns-in-Err-clause-examination : goal.returns-in-Err-clause-examination
 unfolding current
 returns-in-Err-clause-examination g c =
     let given = read_delta (g.S.Source.history c.args.reader.now) (g.S.Source.history c.read_image.new.reader) in
     not-examined current given c.args.region c.args.base c.in_ok-window.window c.in_ok-window.ensures.reading
-    c.in-Err.cause c.into_region-in-Err.result c.in-Err.ensures.answers c.into_region-in-Err.ensures
+    c.in-Err.cause c.into_region-in-Err.result c.in-Err.ensures.outcome c.into_region-in-Err.ensures

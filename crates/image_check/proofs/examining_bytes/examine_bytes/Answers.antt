@@ -44,7 +44,7 @@ returns-in-Ok-clause-examination c =
     c.version_in-format.ensures c.header.ensures.bytes c.header.ensures.len) in
     examined-bytes (format_in c.args.versions c.args.image.now) c.args.image.now c.args.region c.args.base
     c.in_ok-window.window c.in_ok-window.ensures.placement
-    c.into_region.result (subst (λ f. IsImage f c.in_ok-window.window.bytes) same c.in-Ok.ensures.answers)
+    c.into_region.result (subst (λ f. IsImage f c.in_ok-window.window.bytes) same c.in-Ok.ensures.outcome)
     c.into_region.ensures
 
 pub returns-in-Err-clause-examination : goal.returns-in-Err-clause-examination
@@ -56,5 +56,5 @@ returns-in-Err-clause-examination c =
     not-examined-bytes (format_in c.args.versions c.args.image.now) c.args.image.now c.args.region c.args.base
     c.in_ok-window.window c.in_ok-window.ensures.placement
     c.in-Err.cause c.into_region-in-Err.result
-    (subst (λ f. IsWhyRefused f c.in_ok-window.window.bytes c.in-Err.cause) same c.in-Err.ensures.answers)
+    (subst (λ f. IsWhyRefused f c.in_ok-window.window.bytes c.in-Err.cause) same c.in-Err.ensures.outcome)
     c.into_region-in-Err.ensures

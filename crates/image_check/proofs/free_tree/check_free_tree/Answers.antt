@@ -29,8 +29,8 @@ returns-in_default-clause-value c =
 pub check_places-tree-requires : goal.check_places-tree-requires
 check_places-tree-requires c =
     let w = c.args.window.now in
-    good-leads w c.in-Ok.root c.requires.size (ap (is_bad (length w.bytes)) c.in-Ok.ensures.ok
-    ∙ sym c.in-Ok.ensures.err)
+    good-leads w c.in-Ok.root c.requires.size (ap (is_bad (length w.bytes)) c.in-Ok.ensures.on_ok
+    ∙ sym c.in-Ok.ensures.on_error)
 
 pub returns-in_default-nodes-clause-value : goal.returns-in_default-nodes-clause-value
 returns-in_default-nodes-clause-value c =
@@ -38,7 +38,8 @@ returns-in_default-nodes-clause-value c =
     let m = bytes_of w.bytes in
     sym (tree-false w (λ t.
     let p = planted w (tagged w c.requires.size c.requires.tags) t in
-    let s = subst (λ (o : Option ℕ). IsSearchTree (stands_before m) (place_cells w) o p.tree) (sym c.in-Ok.ensures.ok)
+    let s = subst (λ (o : Option ℕ).
+    IsSearchTree (stands_before m) (place_cells w) o p.tree) (sym c.in-Ok.ensures.on_ok)
     p.search in
     c.in_default-nodes.not-Some (length (nodes_of p.tree))
     ((c.check_places-tree.ensures.count (length (nodes_of p.tree))).1 (p.tree, s, refl))))
@@ -46,14 +47,14 @@ returns-in_default-nodes-clause-value c =
 pub count_planted-requires-clause-root : goal.count_planted-requires-clause-root
 count_planted-requires-clause-root c =
     let w = c.args.window.now in
-    good-leads w c.in-Ok.root c.requires.size (ap (is_bad (length w.bytes)) c.in-Ok.ensures.ok
-    ∙ sym c.in-Ok.ensures.err)
+    good-leads w c.in-Ok.root c.requires.size (ap (is_bad (length w.bytes)) c.in-Ok.ensures.on_ok
+    ∙ sym c.in-Ok.ensures.on_error)
 
 pub count_planted-requires-clause-tree : goal.count_planted-requires-clause-tree
 count_planted-requires-clause-tree c =
     let w = c.args.window.now in
-    let good = good-leads w c.in-Ok.root c.requires.size (ap (is_bad (length w.bytes)) c.in-Ok.ensures.ok
-    ∙ sym c.in-Ok.ensures.err) in
+    let good = good-leads w c.in-Ok.root c.requires.size (ap (is_bad (length w.bytes)) c.in-Ok.ensures.on_ok
+    ∙ sym c.in-Ok.ensures.on_error) in
     let x = (c.check_places-tree.ensures.count c.in-Some.nodes).0 c.in-Some.is in
     (x.0, x.1, nodes-few w c.in-Ok.root x.0 c.requires.size good x.1)
 
@@ -64,7 +65,8 @@ returns-in_default-count_planted-clause-value c =
     let m = bytes_of w.bytes in
     sym (tree-false w (λ t.
     let p = planted w (tagged w c.requires.size c.requires.tags) t in
-    let s = subst (λ (o : Option ℕ). IsSearchTree (stands_before m) (place_cells w) o p.tree) (sym c.in-Ok.ensures.ok)
+    let s = subst (λ (o : Option ℕ).
+    IsSearchTree (stands_before m) (place_cells w) o p.tree) (sym c.in-Ok.ensures.on_ok)
     p.search in
     both_ways (is_some c.count_planted.result) (not-given c.count_planted.result c.in_default-count_planted.not-Some)
     (c.count_planted.ensures.value p.tree s ∙ p.all)))
@@ -76,11 +78,12 @@ returns-then-counts-nodes-clause-value c =
     let m = bytes_of w.bytes in
     sym (tree-false w (λ t.
     let p = planted w (tagged w c.requires.size c.requires.tags) t in
-    let s = subst (λ (o : Option ℕ). IsSearchTree (stands_before m) (place_cells w) o p.tree) (sym c.in-Ok.ensures.ok)
+    let s = subst (λ (o : Option ℕ).
+    IsSearchTree (stands_before m) (place_cells w) o p.tree) (sym c.in-Ok.ensures.on_ok)
     p.search in
     let n = some_same c.in-Some.nodes (length (nodes_of p.tree)) (sym c.in-Some.is
     ∙ (c.check_places-tree.ensures.count (length (nodes_of p.tree))).1 (p.tree, s, refl)) in
-    c.if-counts-nodes.true (c.in-Some-count_planted.ensures.counted.free ∙ sym p.few ∙ sym n)))
+    c.if-counts-nodes.true (c.in-Some-count_planted.ensures.steps_lower.free ∙ sym p.few ∙ sym n)))
 
 -- they are the nodes
 pub returns-clause-value : goal.returns-clause-value
@@ -91,15 +94,15 @@ returns-clause-value c =
     let x = (c.check_places-tree.ensures.count c.in-Some.nodes).0 c.in-Some.is in
     sym (tree-true w
     (unplanted w x.0 g (subst (λ (o : Option ℕ). IsSearchTree (stands_before m) (place_cells w) o x.0)
-    c.in-Ok.ensures.ok x.1)
-    (x.2 ∙ sym c.if-counts-nodes.false ∙ c.in-Some-count_planted.ensures.counted.free)
+    c.in-Ok.ensures.on_ok x.1)
+    (x.2 ∙ sym c.if-counts-nodes.false ∙ c.in-Some-count_planted.ensures.steps_lower.free)
     (sym (c.count_planted.ensures.value x.0 x.1) ∙ ap is_some c.in-Some-count_planted.is)))
 
 pub returns-in_default-nodes-clause-visits : goal.returns-in_default-nodes-clause-visits
 returns-in_default-nodes-clause-visits c =
     let w = c.args.window.now in
-    let good = good-leads w c.in-Ok.root c.requires.size (ap (is_bad (length w.bytes)) c.in-Ok.ensures.ok
-    ∙ sym c.in-Ok.ensures.err) in
+    let good = good-leads w c.in-Ok.root c.requires.size (ap (is_bad (length w.bytes)) c.in-Ok.ensures.on_ok
+    ∙ sym c.in-Ok.ensures.on_error) in
     let steps = check-short w c.in-Ok.root _ c.check_places-tree.result.steps c.check_places-tree.new.visits
     (record { size = c.requires.size; tags = c.requires.tags }) good c.check_places-tree.ensures.steps
     c.check_places-tree.ensures.visits in
@@ -118,8 +121,8 @@ planted-spends w root old steps stepped new h good most e x = tree-planted w old
 pub returns-in_default-count_planted-clause-visits : goal.returns-in_default-count_planted-clause-visits
 returns-in_default-count_planted-clause-visits c =
     let w = c.args.window.now in
-    let good = good-leads w c.in-Ok.root c.requires.size (ap (is_bad (length w.bytes)) c.in-Ok.ensures.ok
-    ∙ sym c.in-Ok.ensures.err) in
+    let good = good-leads w c.in-Ok.root c.requires.size (ap (is_bad (length w.bytes)) c.in-Ok.ensures.on_ok
+    ∙ sym c.in-Ok.ensures.on_error) in
     planted-spends w c.in-Ok.root _ c.check_places-tree.result.steps c.check_places-tree.new.visits _
     (record { size = c.requires.size; tags = c.requires.tags }) good c.check_places-tree.ensures.steps
     c.check_places-tree.ensures.visits c.count_planted.ensures.visits
@@ -127,8 +130,8 @@ returns-in_default-count_planted-clause-visits c =
 pub returns-then-counts-nodes-clause-visits : goal.returns-then-counts-nodes-clause-visits
 returns-then-counts-nodes-clause-visits c =
     let w = c.args.window.now in
-    let good = good-leads w c.in-Ok.root c.requires.size (ap (is_bad (length w.bytes)) c.in-Ok.ensures.ok
-    ∙ sym c.in-Ok.ensures.err) in
+    let good = good-leads w c.in-Ok.root c.requires.size (ap (is_bad (length w.bytes)) c.in-Ok.ensures.on_ok
+    ∙ sym c.in-Ok.ensures.on_error) in
     planted-spends w c.in-Ok.root _ c.check_places-tree.result.steps c.check_places-tree.new.visits _
     (record { size = c.requires.size; tags = c.requires.tags }) good c.check_places-tree.ensures.steps
     c.check_places-tree.ensures.visits c.count_planted.ensures.visits
@@ -136,8 +139,8 @@ returns-then-counts-nodes-clause-visits c =
 pub returns-clause-visits : goal.returns-clause-visits
 returns-clause-visits c =
     let w = c.args.window.now in
-    let good = good-leads w c.in-Ok.root c.requires.size (ap (is_bad (length w.bytes)) c.in-Ok.ensures.ok
-    ∙ sym c.in-Ok.ensures.err) in
+    let good = good-leads w c.in-Ok.root c.requires.size (ap (is_bad (length w.bytes)) c.in-Ok.ensures.on_ok
+    ∙ sym c.in-Ok.ensures.on_error) in
     planted-spends w c.in-Ok.root _ c.check_places-tree.result.steps c.check_places-tree.new.visits _
     (record { size = c.requires.size; tags = c.requires.tags }) good c.check_places-tree.ensures.steps
     c.check_places-tree.ensures.visits c.count_planted.ensures.visits

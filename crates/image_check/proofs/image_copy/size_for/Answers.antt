@@ -7,13 +7,13 @@ pub returns-in-Err-2-clause-fits : goal.returns-in-Err-2-clause-fits
 returns-in-Err-2-clause-fits c =
     let long = c.if-image-lt-LEAST.false in
     misfit-front (format_in c.args.versions c.args.image.now) c.args.image.now c.args.base
-    (length c.args.region.now) c.in-Err.field-0.class (sym c.in-Err.ensures.says) (omega arith)
+    (length c.args.region.now) c.in-Err.field-0.class (sym c.in-Err.ensures.text) (omega arith)
 
 pub returns-in-Err-2-clause-output : goal.returns-in-Err-2-clause-output
 returns-in-Err-2-clause-output c =
     let front = c.if-image-lt-FRONT.false in
     front-place (format_in c.args.versions c.args.image.now) c.args.image.now c.in-Err.field-0.class
-    c.in-Err.field-0.place (omega arith) c.in-Err.ensures.shown
+    c.in-Err.field-0.place (omega arith) c.in-Err.ensures.output
 
 pub returns-in-Ok-2-clause-fits : goal.returns-in-Ok-2-clause-fits
 returns-in-Ok-2-clause-fits c =
@@ -23,7 +23,7 @@ returns-in-Ok-2-clause-fits c =
     misfit-cut (format_in c.args.versions c.args.image.now) c.args.image.now c.args.base (length c.args.region.now)
     c.in-Ok.size
     (says-right (format_in c.args.versions c.args.image.now) c.args.image.now c.in-Ok.size (omega arith)
-    (sym c.in-Ok.ensures.says)) (omega arith) (omega arith)
+    (sym c.in-Ok.ensures.text)) (omega arith) (omega arith)
 
 pub returns-in-Ok-3-clause-fits : goal.returns-in-Ok-3-clause-fits
 returns-in-Ok-3-clause-fits c =
@@ -33,11 +33,11 @@ returns-in-Ok-3-clause-fits c =
     misfit-more (format_in c.args.versions c.args.image.now) c.args.image.now c.args.base (length c.args.region.now)
     c.in-Ok.size
     (says-right (format_in c.args.versions c.args.image.now) c.args.image.now c.in-Ok.size (omega arith)
-    (sym c.in-Ok.ensures.says)) (omega arith) (omega arith)
+    (sym c.in-Ok.ensures.text)) (omega arith) (omega arith)
 
 pub returns-in-Ok-3-clause-output : goal.returns-in-Ok-3-clause-output
 returns-in-Ok-3-clause-output c =
     let front = c.if-image-lt-FRONT.false in
     more-place (format_in c.args.versions c.args.image.now) c.args.image.now c.in-Ok.size
     (says-right (format_in c.args.versions c.args.image.now) c.args.image.now c.in-Ok.size (omega arith)
-    (sym c.in-Ok.ensures.says))
+    (sym c.in-Ok.ensures.text))

@@ -42,7 +42,7 @@ returns-in_err-read_all-in-Err-clause-on_error g c =
     (wrong_front_stops (format_in c.args.versions (drop (length old) new)) old mid new front c.read_all-in-Err.new.into
     _ _ _ c.args.base _ c.in-Err.verdict.class (error_for c.in_err-read_all-in-Err.field-0.0) long
     c.read_all-in-Err.auto.into ok.on_ok (ap (λ (f : ℕ). front_of f front) by
-    ∙ sym c.in-Err.ensures.says) was.on_error.0 was.on_error.1
+    ∙ sym c.in-Err.ensures.text) was.on_error.0 was.on_error.1
     (let first = ok.failures in let next = was.failures in omega arith))
 
 pub returns-in_ok-read_all-in-Err-clause-on_error : goal.returns-in_ok-read_all-in-Err-clause-on_error
@@ -58,7 +58,7 @@ returns-in_ok-read_all-in-Err-clause-on_error g c =
     let by = since-format c.args.versions old mid new front c.read_all-in-Err.new.into enough ok.on_ok was.on_ok in
     wrong_front_decides (format_in c.args.versions (drop (length old) new)) old mid new front c.read_all-in-Err.new.into
     _ _ _ c.args.base _ c.in-Err.verdict.class long c.read_all-in-Err.auto.into ok.on_ok
-    (ap (λ (f : ℕ). front_of f front) by ∙ sym c.in-Err.ensures.says) was.on_ok
+    (ap (λ (f : ℕ). front_of f front) by ∙ sym c.in-Err.ensures.text) was.on_ok
     (let first = ok.failures in let next = was.failures in omega arith)
 
 -- ---- the places
@@ -107,7 +107,7 @@ returns-in_ok-read_all-in-Err-clause-output g c =
     let said = added old new (front ++ c.read_all-in-Err.new.into)
     (both_added old mid new front c.read_all-in-Err.new.into ok.on_ok was.on_ok) in
     subst (λ b. Shows f b v.class v.place) (sym said)
-    (front-shown f front c.read_all-in-Err.new.into (omega arith) v.class v.place c.in-Err.ensures.shown)
+    (front-shown f front c.read_all-in-Err.new.into (omega arith) v.class v.place c.in-Err.ensures.output)
 
 -- ---- want of room
 

@@ -18,7 +18,7 @@ read_rest-requires-clause-min_len g c =
     (begun-HasFront by (g.S.Source.history c.args.reader.now).bytes
     (g.S.Source.history c.read_front.new.reader).bytes front c.args.region c.args.base c.in-Ok.size c.write.new.self
     (record {
-      front_read = c.in-Ok.ensures.ok;
+      front_read = c.in-Ok.ensures.on_ok;
       is = c.write.ensures.output ∙ ap (λ (w : WindowState).
           with_bytes w (patched w.bytes 0 front)) c.new-window.ensures.cut;
     }))
@@ -30,7 +30,7 @@ returns-in-Ok-read_rest-clause-reading g c =
     let old = (g.S.Source.history c.args.reader.now).bytes in
     let mid = (g.S.Source.history c.read_front.new.reader).bytes in
     let new = (g.S.Source.history c.read_rest.new.reader).bytes in
-    let read = c.in-Ok.ensures.ok in
+    let read = c.in-Ok.ensures.on_ok in
     let enough : 12 ≤ length front = omega arith in
     let by = since-format c.args.versions old mid new front (drop (length mid) new) enough read.read
     was.history.grows in
@@ -45,7 +45,7 @@ returns-in-Ok-read_rest-clause-reading g c =
     })
     new _ (g.S.Source.history c.args.reader.now).failures (g.S.Source.history c.read_front.new.reader).failures
     (g.S.Source.history c.read_rest.new.reader).failures c.read_rest.new.window
-    was.history.grows c.in-Ok.ensures.history.counted was.history.counted was.ended was.ok was.len))
+    was.history.grows c.in-Ok.ensures.history.counted was.history.counted was.end was.on_ok was.len))
 
 pub returns-in-Err-read_rest-clause-reading : goal.returns-in-Err-read_rest-clause-reading
 returns-in-Err-read_rest-clause-reading g c =
@@ -54,7 +54,7 @@ returns-in-Err-read_rest-clause-reading g c =
     let old = (g.S.Source.history c.args.reader.now).bytes in
     let mid = (g.S.Source.history c.read_front.new.reader).bytes in
     let new = (g.S.Source.history c.read_rest.new.reader).bytes in
-    let read = c.in-Ok.ensures.ok in
+    let read = c.in-Ok.ensures.on_ok in
     let enough : 12 ≤ length front = omega arith in
     let by = since-format c.args.versions old mid new front (drop (length mid) new) enough read.read
     was.history.grows in
@@ -75,7 +75,7 @@ returns-in-Err-read_rest-clause-reading g c =
     (g.S.Source.history c.read_rest.new.reader).failures c.read_rest.new.window
     c.into_region.result (error_for c.in-Err-read_rest.cause) was.history.grows c.in-Ok.ensures.history.counted
     c.into_region.ensures was.place was.len
-    (was.err f0 (begun-HasFront f0 old mid front c.args.region c.args.base c.in-Ok.size c.write.new.self begun)))
+    (was.on_error f0 (begun-HasFront f0 old mid front c.args.region c.args.base c.in-Ok.size c.write.new.self begun)))
 
 pub returns-in-Err-read_rest-clause-output : goal.returns-in-Err-read_rest-clause-output
 returns-in-Err-read_rest-clause-output g c =
@@ -84,7 +84,7 @@ returns-in-Err-read_rest-clause-output g c =
     let old = (g.S.Source.history c.args.reader.now).bytes in
     let mid = (g.S.Source.history c.read_front.new.reader).bytes in
     let new = (g.S.Source.history c.read_rest.new.reader).bytes in
-    let read = c.in-Ok.ensures.ok in
+    let read = c.in-Ok.ensures.on_ok in
     let enough : 12 ≤ length front = omega arith in
     let by = since-format c.args.versions old mid new front (drop (length mid) new) enough read.read
     was.history.grows in
@@ -96,5 +96,5 @@ returns-in-Err-read_rest-clause-output g c =
           ∙ ap (λ (w : WindowState). with_bytes w (patched w.bytes 0 front)) c.new-window.ensures.cut;
     } in
     subst (λ (f : ℕ). IsShown f (drop (length old) new) c.in-Err-read_rest.cause) (sym by)
-    (was.shown f0 (begun-HasFront f0 old mid front c.args.region c.args.base c.in-Ok.size c.write.new.self begun) old
+    (was.output f0 (begun-HasFront f0 old mid front c.args.region c.args.base c.in-Ok.size c.write.new.self begun) old
     (begun-start f0 old mid front c.args.region c.args.base c.in-Ok.size c.write.new.self begun))

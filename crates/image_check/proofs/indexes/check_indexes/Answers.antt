@@ -27,7 +27,7 @@ enter_index-requires-2-clause-previous c =
 pub returns-in-Err-clause-verdict : goal.returns-in-Err-clause-verdict
 returns-in-Err-clause-verdict c =
     let w = c.args.window.now in
-    let e = c.in-Err.ensures.entered in (
+    let e = c.in-Err.ensures.entry in (
       first-wrong (bytes_of w.bytes) (tiles_in w.bytes) c.args.owners.now.blocks.entries c.requires.collection e.0,
       inl e.1,
     )
@@ -36,7 +36,7 @@ pub returns-in-Err-enter_index-clause-verdict : goal.returns-in-Err-enter_index-
 returns-in-Err-enter_index-clause-verdict c =
     let w = c.args.window.now in
     let a = c.in_default.ensures.entry in
-    let e = c.in-Err-enter_index.ensures.entered in (
+    let e = c.in-Err-enter_index.ensures.entry in (
       second-wrong (bytes_of w.bytes) (tiles_in w.bytes) c.args.owners.now.blocks.entries
           c.enter_index.new.owners.blocks.entries c.requires.collection a.1 e.0,
       inr (entered-right (bytes_of w.bytes) (tiles_in w.bytes) c.args.owners.now.blocks.entries 32 a.0, e.1),

@@ -39,7 +39,7 @@ enter_all-requires-clause-in_bounds c =
 pub returns-in-Err-clause-entry : goal.returns-in-Err-clause-entry
 returns-in-Err-clause-entry c =
     let w = c.args.window.now in
-    let e = c.in-Err.ensures.finds in
+    let e = c.in-Err.ensures.verdict in
     (wrong-head (bytes_of w.bytes) (tiles_in w.bytes) c.args.owners.now.blocks.entries c.args.at e.0, inl e.1)
 
 pub returns-in-Some-clause-entry : goal.returns-in-Some-clause-entry

@@ -9,7 +9,7 @@ use Rattle.image_check.proofs.object_walk.check_objects.Goals as goal
 pub returns-in-Err-clause-verdict : goal.returns-in-Err-clause-verdict
 returns-in-Err-clause-verdict c =
     let b = c.args.window.now.bytes in
-    let e = c.in-Err.ensures.finds in
+    let e = c.in-Err.ensures.verdict in
     (wrong-tiles c.args.format (bytes_of b) (tiles_in b) e.0, inl e.1)
 
 pub returns-in-Err-clause-visits : goal.returns-in-Err-clause-visits
@@ -25,7 +25,7 @@ has_order-requires-clause-heads c =
 pub returns-in-Err-has_order-clause-verdict : goal.returns-in-Err-has_order-clause-verdict
 returns-in-Err-has_order-clause-verdict c =
     let b = c.args.window.now.bytes in
-    let e = c.in-Err-has_order.ensures.finds in
+    let e = c.in-Err-has_order.ensures.verdict in
     (wrong-named c.args.format (bytes_of b) (tiles_in b) e.0, inr (c.in_default.ensures.verdict, inl e.1))
 
 pub returns-in-Err-has_order-clause-visits : goal.returns-in-Err-has_order-clause-visits
@@ -42,7 +42,7 @@ has_order-requires-2-clause-heads c =
 pub returns-in-Err-has_order-2-clause-verdict : goal.returns-in-Err-has_order-2-clause-verdict
 returns-in-Err-has_order-2-clause-verdict c =
     let b = c.args.window.now.bytes in
-    let e = c.in-Err-has_order-2.ensures.finds in (
+    let e = c.in-Err-has_order-2.ensures.verdict in (
       wrong-unique c.args.format (bytes_of b) (tiles_in b) e.0,
       inr (c.in_default.ensures.verdict, inr (c.in_default-has_order.ensures.verdict, e.1)),
     )

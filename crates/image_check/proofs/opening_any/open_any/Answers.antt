@@ -12,14 +12,14 @@ use Rattle.image_check.proofs.opening_any.open_any.Goals as goal
 pub header-requires-clause-in_bounds : goal.header-requires-clause-in_bounds
 header-requires-clause-in_bounds g c =
     let given = read_delta (g.S.Source.history c.args.reader.now) (g.S.Source.history c.read_image.new.reader) in
-    let long = (HasFront-IsRight (format_of given.bytes) c.in-Ok.window c.in-Ok.ensures.reads.front).long in
+    let long = (HasFront-IsRight (format_of given.bytes) c.in-Ok.window c.in-Ok.ensures.reading.front).long in
     omega arith
 
 pub check_noting-requires-clause-format : goal.check_noting-requires-clause-format
 check_noting-requires-clause-format g c =
     read-few (read_delta (g.S.Source.history c.args.reader.now) (g.S.Source.history c.read_image.new.reader))
     c.args.region c.args.base c.in-Ok.window
-    c.in-Ok.ensures.reads c.version_in-format.result
+    c.in-Ok.ensures.reading c.version_in-format.result
     (version-part c.in-Ok.window.bytes c.header.result.now c.version_in-format.result c.version_in-format.ensures
     c.header.ensures.bytes c.header.ensures.len)
 
@@ -27,7 +27,7 @@ pub check_noting-requires-clause-front : goal.check_noting-requires-clause-front
 check_noting-requires-clause-front g c =
     read-front (read_delta (g.S.Source.history c.args.reader.now) (g.S.Source.history c.read_image.new.reader))
     c.args.region c.args.base c.in-Ok.window
-    c.in-Ok.ensures.reads c.version_in-format.result
+    c.in-Ok.ensures.reading c.version_in-format.result
     (version-part c.in-Ok.window.bytes c.header.result.now c.version_in-format.result c.version_in-format.ensures
     c.header.ensures.bytes c.header.ensures.len)
 
@@ -35,7 +35,7 @@ pub into_segment-requires-clause-format : goal.into_segment-requires-clause-form
 into_segment-requires-clause-format g c =
     read-few (read_delta (g.S.Source.history c.args.reader.now) (g.S.Source.history c.read_image.new.reader))
     c.args.region c.args.base c.in-Ok.window
-    c.in-Ok.ensures.reads c.version_in-format.result
+    c.in-Ok.ensures.reading c.version_in-format.result
     (version-part c.in-Ok.window.bytes c.header.result.now c.version_in-format.result c.version_in-format.ensures
     c.header.ensures.bytes c.header.ensures.len)
 
@@ -44,24 +44,24 @@ returns-in-Err-clause-opening g c =
     let given = read_delta (g.S.Source.history c.args.reader.now) (g.S.Source.history c.read_image.new.reader) in
     subst (λ (r : OpenRefused). OpensAny given c.args.region c.args.base c.args.mode (Err r))
     (sym c.into_opened.ensures)
-    (unread-any given c.args.region c.args.base c.args.mode (opened_as c.in-Err.refused) c.in-Err.ensures.reads)
+    (unread-any given c.args.region c.args.base c.args.mode (opened_as c.in-Err.refused) c.in-Err.ensures.reading)
 
 pub returns-in-Ok-check_noting-clause-opening : goal.returns-in-Ok-check_noting-clause-opening
 returns-in-Ok-check_noting-clause-opening g c =
     opened-any (read_delta (g.S.Source.history c.args.reader.now) (g.S.Source.history c.read_image.new.reader))
     c.args.region c.args.base c.in-Ok.window
-    c.in-Ok.ensures.reads c.version_in-format.result
+    c.in-Ok.ensures.reading c.version_in-format.result
     (version-part c.in-Ok.window.bytes c.header.result.now c.version_in-format.result c.version_in-format.ensures
     c.header.ensures.bytes c.header.ensures.len)
-    c.args.mode c.into_segment.result c.in-Ok-check_noting.ensures.answers.image
+    c.args.mode c.into_segment.result c.in-Ok-check_noting.ensures.outcome.image
     c.into_segment.ensures.place c.into_segment.ensures.upgrade c.into_segment.ensures.mode
 
 pub returns-in-Err-check_noting-clause-opening : goal.returns-in-Err-check_noting-clause-opening
 returns-in-Err-check_noting-clause-opening g c =
     refused-any (read_delta (g.S.Source.history c.args.reader.now) (g.S.Source.history c.read_image.new.reader))
     c.args.region c.args.base c.in-Ok.window
-    c.in-Ok.ensures.reads c.version_in-format.result
+    c.in-Ok.ensures.reading c.version_in-format.result
     (version-part c.in-Ok.window.bytes c.header.result.now c.version_in-format.result c.version_in-format.ensures
     c.header.ensures.bytes c.header.ensures.len)
     c.args.mode c.in-Err-check_noting.cause c.into_error.result c.into_region.result
-    c.in-Err-check_noting.ensures.answers c.into_error.ensures c.into_region.ensures
+    c.in-Err-check_noting.ensures.outcome c.into_error.ensures c.into_region.ensures

@@ -4,7 +4,7 @@ use Rattle.segment_c.proofs.images.open_in.Goals as goal
 
 pub returns-in-Image : goal.returns-in-Image
 returns-in-Image c =
-    let o = c.in-Err.ensures.opens in
+    let o = c.in-Err.ensures.opening in
     let code = c.class_code.ensures in (
       omega (arith, code),
       why_class c.args.image.now (length c.args.region) _ o.answers.why o.too_small
@@ -13,7 +13,7 @@ returns-in-Image c =
 
 pub returns-in-RegionTooSmall : goal.returns-in-RegionTooSmall
 returns-in-RegionTooSmall c =
-    let o = c.in-Err.ensures.opens in
+    let o = c.in-Err.ensures.opening in
     (omega arith, why_room c.args.image.now (length c.args.region) _ o.answers.why o.too_small c.in-RegionTooSmall.is)
 
 pub returns-in-OutOfMemory : goal.returns-in-OutOfMemory

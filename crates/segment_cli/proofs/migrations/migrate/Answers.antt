@@ -13,10 +13,10 @@ returns-in_err-segment-clause-migration g c =
 
 pub returns-in-Ok-clause-migration : goal.returns-in-Ok-clause-migration
 returns-in-Ok-clause-migration g c = migrated _ _ _ _ _ c.in_ok-segment.segment c.in_ok-segment.ensures.opening
-    c.save.ensures.acceptance (added _ _ _ c.in-Ok.ensures.writes.ok)
-    (none_failed _ _ (let counted = c.in-Ok.ensures.writes.counted in omega arith))
+    c.save.ensures.acceptance (added _ _ _ c.in-Ok.ensures.output.ok)
+    (none_failed _ _ (let counted = c.in-Ok.ensures.output.counted in omega arith))
 
 pub returns-clause-migration : goal.returns-clause-migration
 returns-clause-migration g c =
     unmigrated _ _ _ _ _ c.in_ok-segment.segment c.in_ok-segment.ensures.opening c.save.ensures.acceptance
-    (front_added _ _ _ c.in-Err.ensures.writes.err) (one_failed _ _ c.in-Err.ensures.writes.counted)
+    (front_added _ _ _ c.in-Err.ensures.output.err) (one_failed _ _ c.in-Err.ensures.output.counted)

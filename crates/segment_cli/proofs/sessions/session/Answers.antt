@@ -28,9 +28,9 @@ returns-in_err-serve-clause-output_history g c =
 
 pub returns-in-Ok-clause-session : goal.returns-in-Ok-clause-session
 returns-in-Ok-clause-session g c = done_session _ _ _ _ _ c.in_ok-segment.segment c.serve.new.segment tt
-    c.in_ok-segment.ensures.start (served _ _ _ _ _ c.in_ok-serve.ensures.service) c.in-Ok.ensures.ok (λ writes.
+    c.in_ok-segment.ensures.start (served _ _ _ _ _ c.in_ok-serve.ensures.service) c.in-Ok.ensures.on_ok (λ writes.
     added _ _ _ (c.in-Ok.ensures.bytes
-    writes)) (none_failed _ _ (omega (arith, c.in-Ok.ensures.counted)))
+    writes)) (none_failed _ _ (omega (arith, c.in-Ok.ensures.failures)))
 
 pub returns-in-Ok-clause-output_history : goal.returns-in-Ok-clause-output_history
 returns-in-Ok-clause-output_history g c =
@@ -42,7 +42,7 @@ pub returns-clause-session : goal.returns-clause-session
 returns-clause-session g c =
     unsaved_session _ _ _ _ _ c.in_ok-segment.segment c.serve.new.segment c.in_ok-segment.ensures.start
     (served _ _ _ _ _ c.in_ok-serve.ensures.service)
-    c.in-Err.ensures.err.0 c.in-Err.ensures.err.1 (one_failed _ _ c.in-Err.ensures.counted)
+    c.in-Err.ensures.on_error.0 c.in-Err.ensures.on_error.1 (one_failed _ _ c.in-Err.ensures.failures)
 
 pub returns-clause-output_history : goal.returns-clause-output_history
 returns-clause-output_history g c =

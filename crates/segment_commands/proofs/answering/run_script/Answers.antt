@@ -5,7 +5,7 @@ pub returns-in-Err : goal.returns-in-Err
 returns-in-Err g c =
     let same = c.flush-flushed.ensures.unchanged in
     inl (record {
-      unserved = rw same c.in-Err.ensures.serves;
+      unserved = rw same c.in-Err.ensures.service;
       ok = is_ok c.flush-flushed.result;
       flushed = record { before = c.serve-served.new.out; flush = c.flush-flushed.ensures.flush; same = same };
     })

@@ -11,4 +11,4 @@ returns-clause-creation c = λ f.
     omega (arith, len, capacity, room) in
     absurd (refused-fits c.args.text.now (length c.in_ok-region.region) c.args.size (length c.bytes_mut.result.now)
     c.wanted_size.result c.in-Err.refused c.in_ok-region.ensures.room wide c.wanted_size.ensures.size_request
-    c.in-Err.ensures.succeeds f)
+    c.in-Err.ensures.success f)

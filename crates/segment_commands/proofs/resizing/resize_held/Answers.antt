@@ -13,7 +13,7 @@ returns-in-Ok-tell_and_write g c = inr (inr (record {
   read = c.open_segment.new.disk;
   opens = rw c.more_for.ensures at c.in_ok-segment.ensures;
   resized = c.resize_segment.new.segment;
-  becomes = c.in-Ok.ensures.resized;
+  becomes = c.in-Ok.ensures.changes;
   goes = resized g.D.Disk.step c.open_segment.new.disk c.tell_and_write.new.disk c.args.path.now c.args.making
       g.O.Sink.history g.O.Output.flushes c.args.out.now c.tell_and_write.new.out c.resize_segment.new.segment
       c.in-Ok-tell_and_write.ensures;
@@ -26,7 +26,7 @@ returns-in-Ok g c = inr (inr (record {
   read = c.open_segment.new.disk;
   opens = rw c.more_for.ensures at c.in_ok-segment.ensures;
   resized = c.resize_segment.new.segment;
-  becomes = c.in-Ok.ensures.resized;
+  becomes = c.in-Ok.ensures.changes;
   goes = not_resized g.D.Disk.step c.open_segment.new.disk c.tell_and_write.new.disk c.args.path.now c.args.making
       g.O.Sink.history g.O.Output.flushes c.args.out.now c.tell_and_write.new.out c.resize_segment.new.segment
       c.in-Err-tell_and_write.field-0 _ c.in-Err-tell_and_write.ensures;

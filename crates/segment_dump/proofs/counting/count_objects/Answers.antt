@@ -31,7 +31,7 @@ objects-preserved c =
           c.objects.counter c.in-Some.behind.now never c.objects.invariant.left c.in-Some.ensures.value
           c.and-needs.ensures.sum;
       asks = more-asks AsksObject c.args.text.now c.objects.rest.now c.in-Some.behind.now c.objects.counter
-          c.objects.needs c.in-Some.more c.and-needs.result c.objects.invariant.asks c.in-Some.ensures.asks
+          c.objects.needs c.in-Some.more c.and-needs.result c.objects.invariant.asks c.in-Some.ensures.questions
           c.and-needs.ensures.most;
     }
 

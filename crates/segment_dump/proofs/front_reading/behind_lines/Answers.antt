@@ -20,7 +20,7 @@ lines-preserved c = record {
   skips = lines-more c.args.text.now c.lines.rest.now c.args.count c.lines.counter c.behind_line.result _
       (omega (arith, c.lines-test.true)) c.lines.invariant.skips c.behind_line.ensures.skip_count c.in_ok-rest.was;
   lined = lined-more c.args.text.now c.lines.rest.now _ c.lines.counter 1 c.lines.invariant.lined
-      c.in_ok-rest.ensures.lined;
+      c.in_ok-rest.ensures.line;
 }
 
 pub returns-clause-skip_count : goal.returns-clause-skip_count

@@ -27,5 +27,5 @@ bytes-preserved c = record {
   quotes = quotes-more c.args.text.now c.bytes.rest.now c.bytes.len c.behind_byte.result _ c.in_default.ensures
       c.bytes.invariant.quotes c.behind_byte.ensures.skip_count c.in_ok-rest.was;
   long = can-name-more c.args.text.now c.bytes.rest.now _ c.bytes.len 1 c.bytes.invariant.long
-      c.in_ok-rest.ensures.some;
+      c.in_ok-rest.ensures.non_empty;
 }

@@ -42,7 +42,7 @@ unreachable-requires g c =
     let len : c.len.result ≡ length c.in_ok-text.text.items = c.len.ensures ∙ c.in_ok-text.text.ok.0 in
     let room : length c.in_ok-region.region ≡ region_len (length text + 0) = rw len at c.in_ok-region.ensures.len in
     let x : ExaminesBytes current text c.in_ok-region.region 0 (Err c.in-Err.refused) =
-    rw value at c.in-Err.ensures.examines in
+    rw value at c.in-Err.ensures.examination in
     text-fits Current old new c.args.len 0 c.read_on.ensures.history c.requires.max_size text
     c.in_ok-text.ensures.reading c.in_ok-region.region room
     (text-roomless text (length c.in_ok-region.region) c.in-Err.refused.cause x.answers.why

@@ -27,6 +27,6 @@ returns-in-Some g c =
     let fresh = c.requires.fresh in
     let image = read_delta nothing_given (g.S.Source.history c.examine.new.reader.inner) in
     let x : Examines current image c.in_ok-region.region 0 (Err c.in-Err.refused) =
-    rw fresh at c.in-Err.ensures.examines in
+    rw fresh at c.in-Err.ensures.examination in
     unfit-by (file_region c.args.len 0 image.bytes) (length c.in_ok-region.region) image c.in-Err.refused.cause
     c.in-Some.unfit x.verifies.answers.why x.shown (sym c.unexamined.ensures ∙ c.in-Some.is)

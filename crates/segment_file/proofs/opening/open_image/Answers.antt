@@ -24,22 +24,22 @@ returns-in-Ok g c =
     let image = read_delta nothing_given (g.S.Source.history c.open_at.new.reader.inner) in
     widened-answer image c.in_ok-region.region c.args.mode c.in-Ok.segment c.args.versions c.args.len c.args.more
     c.in_ok-region.ensures.len
-    (opened-at c.args.versions image c.in_ok-region.region c.args.mode c.in-Ok.segment c.in-Ok.ensures.opens)
+    (opened-at c.args.versions image c.in_ok-region.region c.args.mode c.in-Ok.segment c.in-Ok.ensures.opening)
     c.with_room.result c.with_room.ensures
 
 pub returns-in-Some : goal.returns-in-Some
 returns-in-Some g c =
     let image = read_delta nothing_given (g.S.Source.history c.open_at.new.reader.inner) in
     not-opened c.args.versions c.args.more c.args.mode c.args.len image c.in_ok-region.region c.in-Err.refused
-    c.in-Some.error c.in-Err.ensures.opens (sym c.unopened.ensures ∙ c.in-Some.is)
+    c.in-Some.error c.in-Err.ensures.opening (sym c.unopened.ensures ∙ c.in-Some.is)
 
 pub open_behind-requires-clause-exclusive : goal.open_behind-requires-clause-exclusive
 open_behind-requires-clause-exclusive g c =
-    c.in-Err.ensures.alone (no-error c.in-Err.refused.cause (sym c.unopened.ensures ∙ c.in-None.is))
+    c.in-Err.ensures.exclusive (no-error c.in-Err.refused.cause (sym c.unopened.ensures ∙ c.in-None.is))
 
 pub open_behind-requires-clause-max_size : goal.open_behind-requires-clause-max_size
 open_behind-requires-clause-max_size g c =
     let image = read_delta nothing_given (g.S.Source.history c.open_at.new.reader.inner) in
     let small = no-place c.args.versions c.args.more c.args.mode c.args.len image c.in_ok-region.region
-    c.in-Err.refused c.in-Err.ensures.opens (sym c.unopened.ensures ∙ c.in-None.is) in
+    c.in-Err.refused c.in-Err.ensures.opening (sym c.unopened.ensures ∙ c.in-None.is) in
     rw c.in_ok-region.ensures.len at small

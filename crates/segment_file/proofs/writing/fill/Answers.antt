@@ -9,4 +9,4 @@ returns-in-Err g c =
     cut g.D.Disk.step c.args.disk.now c.sync_and_close-lasting.new.self c.args.segment.now.cut.bytes
     c.save-saved.ensures.acceptance (Writer.history c.save-saved.new.out)
     (is_ok c.sync_and_close-lasting.result) c.in-Err.fault c.sync_and_close-lasting.ensures
-    (rw fresh at c.in-Err.ensures.writes)
+    (rw fresh at c.in-Err.ensures.output)

@@ -11,7 +11,7 @@ pub values-preserved : goal.values-preserved
 values-preserved c = record {
   counted = count-more _ c.values.count _ _ _ _ (sym c.in-Some.ensures.value) c.in_ok-scalar_of.ensures
       ∙ c.values.invariant.counted;
-  room = omega (arith, c.in-Some.ensures.shorter);
+  room = omega (arith, c.in-Some.ensures.shrinking);
 }
 
 pub returns-then-not-at_end : goal.returns-then-not-at_end

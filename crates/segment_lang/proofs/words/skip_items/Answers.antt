@@ -6,5 +6,5 @@ pub items-preserved : goal.items-preserved
 items-preserved c = (
   behind_text-item _ _ _ (sym c.in-Some.ensures.value)
       ∙ c.items.invariant.0,
-  omega (arith, c.in-Some.ensures.shorter),
+  omega (arith, c.in-Some.ensures.shrinking),
 )

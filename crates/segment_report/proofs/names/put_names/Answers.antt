@@ -33,7 +33,7 @@ returns-in_err-left g c =
     (g.W.Sink.history c.put_listed.new.out)
     c.args.prefix.now c.args.most c.names.left walk.at c.names.invariant.told c.in-Some.name.now next _
     c.from_residual.result
-    c.from_residual.ensures.0 c.in_err-left.ensures.writes
+    c.from_residual.ensures.0 c.in_err-left.ensures.output
 
 pub names-preserved : goal.names-preserved
 names-preserved g c =
@@ -55,7 +55,7 @@ names-preserved g c =
           subst (λ n. IsListed s.cut.bytes old new c.args.prefix.now c.args.most c.in_ok-left.left n) (sym steps.place)
           (listed-more s old (g.W.Sink.history c.names.out) new c.args.prefix.now c.args.most c.names.left walk.at
           c.names.invariant.told
-          c.in-Some.name.now next _ c.in_ok-left.left c.in_ok-left.ensures.left c.in_ok-left.ensures.writes);
+          c.in-Some.name.now next _ c.in_ok-left.left c.in_ok-left.ensures.remainder c.in_ok-left.ensures.output);
     }
 
 pub returns : goal.returns

@@ -48,12 +48,12 @@ returns-in-Err-feed-clause-fault g c = λ start s.
     let cut = cut_in g.M.Machine.respond stops start before read piece c.pieces.left count c.min-within.result
     script (g.M.Machine.stands c.feed.new.machine) (g.W.Sink.history c.feed.new.out).bytes
     was.limit c.min-within.ensures (since-more old mid new (take count piece) was.grows c.in-Ok.ensures.bytes)
-    unended (c.in-Err-feed.ensures.err start before read (rw same (was.behind start s))) in
+    unended (c.in-Err-feed.ensures.on_error start before read (rw same (was.behind start s))) in
     record {
       left = record {
         answers = cut.part;
-        read = none_failed _ _ (omega (arith, c.in-Ok.ensures.counted, was.reads));
-        written = one_failed _ _ (omega (arith, c.in-Err-feed.ensures.counted, failures, was.writes));
+        read = none_failed _ _ (omega (arith, c.in-Ok.ensures.failures, was.reads));
+        written = one_failed _ _ (omega (arith, c.in-Err-feed.ensures.failures, failures, was.writes));
       };
       on = cut.on;
     }
@@ -75,7 +75,7 @@ returns-then-left-count-clause-fault g c = λ start s.
     let on = subst (LeavesPiece g.M.Machine.respond stops start before read (take c.min-within.result piece)
     (g.M.Machine.stands c.feed.new.machine) c.feed.new.line (g.W.Sink.history c.feed.new.out).bytes)
     c.in-Ok-Whole.field-0-is
-    (c.in-Ok-Whole.ensures.ok start before read (rw same (was.behind start s))) in
+    (c.in-Ok-Whole.ensures.on_ok start before read (rw same (was.behind start s))) in
     record {
       left = record {
         beyond = beyond_limit g.M.Machine.respond read piece _ c.pieces.left count was.limit c.if-left-count.true
@@ -83,8 +83,8 @@ returns-then-left-count-clause-fault g c = λ start s.
         answers = cut_at_limit g.M.Machine.respond start before read piece c.pieces.left count c.min-within.result _
             (g.M.Machine.stands c.feed.new.machine) c.feed.new.line (g.W.Sink.history c.feed.new.out).bytes
             was.limit c.min-within.ensures bytes on.behind;
-        read = none_failed _ _ (omega (arith, c.in-Ok.ensures.counted, was.reads));
-        written = none_failed _ _ (omega (arith, c.in-Ok-Whole.ensures.counted, failures, was.writes));
+        read = none_failed _ _ (omega (arith, c.in-Ok.ensures.failures, was.reads));
+        written = none_failed _ _ (omega (arith, c.in-Ok-Whole.ensures.failures, failures, was.writes));
       };
       on = on_at_limit g.M.Machine.respond (stops_at c.args.until g.M.Machine.refuses) start read piece
           c.pieces.left count c.min-within.result _ was.limit c.min-within.ensures bytes on.on;
@@ -114,6 +114,6 @@ returns-in-Ok-Refused-clause-end g c = λ start s.
     (subst (LeavesPiece g.M.Machine.respond (stops_at c.args.until g.M.Machine.refuses) start before read
     (take c.min-within.result piece) (g.M.Machine.stands c.feed.new.machine) c.feed.new.line
     (g.W.Sink.history c.feed.new.out).bytes) c.in-Ok-Refused.field-0-is
-    (c.in-Ok-Refused.ensures.ok start before read (rw same (was.behind start s)))) refl
-    (none_failed _ _ (omega (arith, c.in-Ok.ensures.counted, was.reads)))
-    (none_failed _ _ (omega (arith, c.in-Ok-Refused.ensures.counted, failures, was.writes)))
+    (c.in-Ok-Refused.ensures.on_ok start before read (rw same (was.behind start s)))) refl
+    (none_failed _ _ (omega (arith, c.in-Ok.ensures.failures, was.reads)))
+    (none_failed _ _ (omega (arith, c.in-Ok-Refused.ensures.failures, failures, was.writes)))

@@ -30,9 +30,9 @@ returns-in-Ok-clause-remainder g c = λ place s.
     until_last g.M.Machine.respond (stops_at c.args.until g.M.Machine.refuses) place before script out
     (g.M.Machine.stands c.answer_last.new.machine) (g.W.Sink.history c.answer_last.new.out).bytes c.in-Ok.end
     read.end.whole read.end.within
-    (c.in-Ok.ensures.ok place before script.bytes (record { behind = read.end.behind; on = read.on })) refl
+    (c.in-Ok.ensures.on_ok place before script.bytes (record { behind = read.end.behind; on = read.on })) refl
     (none_failed _ _ (omega (arith, c.in_ok-read_lines.ensures.devices.reads.counted)))
-    (none_failed _ _ (omega (arith, c.in_ok-read_lines.ensures.devices.writes_counted, c.in-Ok.ensures.counted)))
+    (none_failed _ _ (omega (arith, c.in_ok-read_lines.ensures.devices.writes_counted, c.in-Ok.ensures.failures)))
 
 pub returns-in-Err-clause-remainder : goal.returns-in-Err-clause-remainder
 returns-in-Err-clause-remainder g c = λ place s.
@@ -43,7 +43,7 @@ returns-in-Err-clause-remainder g c = λ place s.
     (g.W.Sink.history c.read_lines.new.out).bytes
     (write_delta (g.W.Sink.history c.args.out.now) (g.W.Sink.history c.read_lines.new.out)))
     c.in-Whole.is (c.in_ok-read_lines.ensures.end place s) in
-    let cut = c.in-Err.ensures.err place before script.bytes (record { behind = read.end.behind; on = read.on }) in
+    let cut = c.in-Err.ensures.on_error place before script.bytes (record { behind = read.end.behind; on = read.on }) in
     let p = printed_part g.M.Machine.respond (stops_at c.args.until g.M.Machine.refuses) place before
     (executable script) (ended_lines script.bytes) (open_line script.bytes) []
     (g.M.Machine.stands c.answer_last.new.machine)
@@ -56,7 +56,7 @@ returns-in-Err-clause-remainder g c = λ place s.
         written = one_failed _ _ (omega (
           arith,
           c.in_ok-read_lines.ensures.devices.writes_counted,
-          c.in-Err.ensures.counted,
+          c.in-Err.ensures.failures,
         ));
       };
       on = p.on;
@@ -73,7 +73,7 @@ returns-in-Ok-clause-output_history g c = λ place s.
     c.in-Whole.is (c.in_ok-read_lines.ensures.end place s) in
     grows_last g.M.Machine.respond (stops_at c.args.until g.M.Machine.refuses) place before script.bytes
     (g.M.Machine.stands c.answer_last.new.machine) (g.W.Sink.history c.answer_last.new.out).bytes c.in-Ok.end
-    (c.in-Ok.ensures.ok place before script.bytes (record { behind = read.end.behind; on = read.on }))
+    (c.in-Ok.ensures.on_ok place before script.bytes (record { behind = read.end.behind; on = read.on }))
 
 pub returns-in-Err-clause-output_history : goal.returns-in-Err-clause-output_history
 returns-in-Err-clause-output_history g c = λ place s.
@@ -86,4 +86,4 @@ returns-in-Err-clause-output_history g c = λ place s.
     c.in-Whole.is (c.in_ok-read_lines.ensures.end place s) in
     grows_stopped g.M.Machine.respond place before _ _ (g.M.Machine.stands c.answer_last.new.machine)
     (g.W.Sink.history c.answer_last.new.out).bytes
-    (c.in-Err.ensures.err place before script.bytes (record { behind = read.end.behind; on = read.on })).stopped
+    (c.in-Err.ensures.on_error place before script.bytes (record { behind = read.end.behind; on = read.on })).stopped

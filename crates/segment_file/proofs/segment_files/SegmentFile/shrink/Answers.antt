@@ -4,7 +4,7 @@ use Rattle.segment_file.proofs.segment_files.SegmentFile.shrink.Goals as goal
 
 pub returns-in-Ok-clause-shrinking : goal.returns-in-Ok-clause-shrinking
 returns-in-Ok-clause-shrinking g c =
-    record { may = λ d h. sym (c.in-Ok.ensures.refused.refused d h); shrinks = c.in-Ok.ensures.shrunk }
+    record { may = λ d h. sym (c.in-Ok.ensures.refused.refused d h); shrinks = c.in-Ok.ensures.shrinking }
 
 pub returns-in-Err-clause-shrinking : goal.returns-in-Err-clause-shrinking
 returns-in-Err-clause-shrinking g c = record {

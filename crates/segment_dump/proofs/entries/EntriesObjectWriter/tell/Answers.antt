@@ -2,7 +2,7 @@ use Rattle.segment_dump.proofs.Common.{refl, ByHandle, head_line, in_lines, laid
 use Rattle.segment_dump.proofs.Elements.{said-here}
 use Rattle.segment_dump.proofs.Owed.{of-cut, of-one, of-same, of-then}
 use Rattle.segment_dump.proofs.Sections.{entry-text}
-use Rattle.segment_dump.proofs.entries.put_entry.Goals as goal
+use Rattle.segment_dump.proofs.entries.EntriesObjectWriter.tell.Goals as goal
 
 pub object_here-object-requires : goal.object_here-object-requires
 object_here-object-requires g c = said-here c.args.segment.now c.args.said c.requires.text

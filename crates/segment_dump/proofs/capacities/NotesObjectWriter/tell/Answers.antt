@@ -2,7 +2,7 @@ use Rattle.segment_dump.proofs.Common.{subst, ByHandle, AnswersWith, Holds, capa
 use Rattle.segment_dump.proofs.Elements.{said-here}
 use Rattle.segment_dump.proofs.Owed.{of-none, of-one}
 use Rattle.segment_dump.proofs.PlaceNotes.{none-told, note-told}
-use Rattle.segment_dump.proofs.capacities.put_capacity.Goals as goal
+use Rattle.segment_dump.proofs.capacities.NotesObjectWriter.tell.Goals as goal
 
 pub object_here-object-requires : goal.object_here-object-requires
 object_here-object-requires g c = said-here c.args.segment.now c.args.said c.requires.text

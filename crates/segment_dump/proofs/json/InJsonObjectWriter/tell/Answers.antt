@@ -3,7 +3,7 @@ use Rattle.segment_dump.specs.Json.{closing, in_json, json_key, json_kind, openi
 use Rattle.segment_dump.proofs.Elements.{said-here}
 use Rattle.segment_dump.proofs.JsonLines.{kind-said, line-said}
 use Rattle.segment_dump.proofs.Owed.{of-cut, of-one, of-same, of-then}
-use Rattle.segment_dump.proofs.json.put_object.Goals as goal
+use Rattle.segment_dump.proofs.json.InJsonObjectWriter.tell.Goals as goal
 
 pub object_here-object-requires : goal.object_here-object-requires
 object_here-object-requires g c = said-here c.args.segment.now c.args.said c.requires.text

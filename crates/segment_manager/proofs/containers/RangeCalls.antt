@@ -35,7 +35,8 @@ use Rattle.segment_manager.proofs.{Codes.numbers-only, objects.Stored.ElementAt,
 use Rattle.segment_manager.proofs.{objects.ObjectLists.key-found, objects.Exchanged.denotes-rewritten}
 use Rattle.segment_manager.proofs.{Frame.object-roomy, blocks.Blocks.spelling-length, blocks.Blocks.spelled-length}
 use Rattle.segment_manager.proofs.objects.Rewritten.{value_start, with_value}
-use Rattle.segment_manager.proofs.containers.Safely.{seen-refused}
+use Rattle.segment_manager.proofs.containers.Safely.{Performed, performed}
+use Rattle.segment_manager.proofs.Steps.{IsMove, by_moves, by_same, moves-same, stays-refl}
 
 -- ---- a list with others in the places from one on
 
@@ -132,57 +133,22 @@ range-elements d key o k ns t first zs is value = ap (range_with d first zs) is
 -- ---- the segment
 
 -- what the call did
-pub record RangeWritten (s t : SegmentState) (new : WindowState) (key : Key) (k : ScalarKind) (first : ℕ) (zs : List ℤ)
-    (r : Result (Unit {0}) Refusal) : Type 0 where
-  pub step : WritesRange t (record s { cut = new }) key k first zs (done_answer r)
-  pub refused : OnErr r ((record s { cut = new }) ≡ t)
-  pub segment : IsSegment new.bytes
+abbrev pub RangeWritten : SegmentState → SegmentState → WindowState → Key → ScalarKind → ℕ → List ℤ
+    → Result (Unit {0}) Refusal → Type 0
+RangeWritten s t new key k first zs r = Performed s t new (λ mode d. written mode d key k first zs) r
 
 module _ (s : SegmentState) (key : Key) (k : ScalarKind) (first : ℕ) (zs : List ℤ) where
   -- nothing changes
   pub range-stays : (why : Refusal) → ((d : Directory) → DenotesCurrent s.cut.bytes d
       → written s.mode d key k first zs ≡ (Refused why, d)) → WritesRange s s key k first zs (Refused why)
-  range-stays why each = record {
-    stays = record { mode = refl; place = record { before = refl; after = refl } };
-    answers = λ d st. sym (ap (λ (n : Answer × Directory). n.0) (each d st));
-    denotes = λ d st. subst (λ (n : Answer × Directory). DenotesCurrent s.cut.bytes n.1) (sym (each d st)) st;
-  }
+  range-stays why each = by_same (λ d. written s.mode d key k first zs) each
 
   -- the elements are others
-  range-moves : (new : WindowState) → SameSurroundings s.cut new → ((d : Directory) → DenotesCurrent s.cut.bytes d
-      → written s.mode d key k first zs ≡ (Done, with_range d key first zs)) → ((d : Directory)
-      → DenotesCurrent s.cut.bytes d → Denotes current new.bytes (with_range d key first zs))
-      → WritesRange s (record s { cut = new }) key k first zs Done
-  range-moves new place each leads = record {
-    stays = record { mode = refl; place = place };
-    answers = λ d st. sym (ap (λ (n : Answer × Directory). n.0) (each d st));
-    denotes = λ d st. subst (λ (n : Answer × Directory). DenotesCurrent new.bytes n.1) (sym (each d st))
-        (record { denotes = leads d st });
-  }
-
-  -- the same, as the view before the call names the segment
-  module _ (t : SegmentState) (view : s ≡ t) (b : IsSegment s.cut.bytes) (new : WindowState) where
-    pub range-written : {u : Unit {0}} → SameSurroundings s.cut new → ((d : Directory) → DenotesCurrent s.cut.bytes d
-        → written s.mode d key k first zs ≡ (Done, with_range d key first zs)) → ((d : Directory)
-        → DenotesCurrent s.cut.bytes d → Denotes current new.bytes (with_range d key first zs))
-        → RangeWritten s t new key k first zs (Ok u)
-    range-written place each leads = record {
-      step = subst (λ (u : SegmentState). WritesRange u (record s { cut = new }) key k first zs Done) view
-          (range-moves new place each leads);
-      refused = tt;
-      segment = (with_range b.0 key first zs, record { denotes = leads b.0 b.1 });
-    }
-
-    pub range-refused : (why e : Refusal) → e ≡ why → new ≡ s.cut → ((d : Directory) → DenotesCurrent s.cut.bytes d
-        → written s.mode d key k first zs ≡ (Refused why, d)) → RangeWritten s t new key k first zs (Err e)
-    range-refused why e is same each = record {
-      step = subst (λ (u : SegmentState). WritesRange u (record s { cut = new }) key k first zs (Refused e)) view
-          (subst (λ (r : Refusal). WritesRange s (record s { cut = new }) key k first zs (Refused r)) (sym is)
-          (subst (λ (c : WindowState). WritesRange s (record s { cut = c }) key k first zs (Refused why)) (sym same)
-          (range-stays why each)));
-      refused = seen-refused {R = Unit {0}} s t view new (Err e) same;
-      segment = subst (λ (c : WindowState). IsSegment c.bytes) (sym same) b;
-    }
+  pub range-moves : (new : WindowState) (d : Directory) → written s.mode d key k first zs
+      ≡ (Done, with_range d key first zs) → Denotes current new.bytes (with_range d key first zs)
+      → IsMove (record s { cut = new }) Done (written s.mode d key k first zs)
+  range-moves new d is leads =
+      record { after = with_range d key first zs; is = is; stands = record { denotes = leads } }
 
 -- no object has the key
 pub why-missing : (s : SegmentState) (key : Key) (k : ScalarKind) (first : ℕ) (zs : List ℤ)
@@ -203,11 +169,8 @@ range-by_key s t key o l k first zs answer m =
     ap (λ (r : Option Object). if is_read_only s.mode then (Refused ReadOnly, d)
     else written_if (range_in (row_in k r) first (length zs)) d (range_with d first zs r))
     (sym (same-object s key o l d st)) in
-    record {
-      stays = m.stays;
-      answers = λ d st. m.answers d st ∙ ap (λ (n : Answer × Directory). n.0) (same d st);
-      denotes = λ d st. subst (λ (n : Answer × Directory). DenotesCurrent t.cut.bytes n.1) (same d st) (m.denotes d st);
-    }
+    moves-same s t answer (λ d. written s.mode d (ByHandle o.handle) k first zs)
+    (λ d. written s.mode d key k first zs) same m
 
 -- ---- kinds
 
@@ -334,19 +297,19 @@ module _ (s : SegmentState) (o : Located) (l : IsLocated s (ByHandle o.handle) o
 
       -- they are written
       pub array-written : RangeWritten s t new (ByHandle o.handle) k first zs (Ok tt)
-      array-written = range-written s (ByHandle o.handle) k first zs t view b new c.place (λ d st.
+      array-written = performed s t view b new (λ mode d. written mode d (ByHandle o.handle) k first zs) c.place
+          (λ d st.
           let h = numbers-of d st in
-          range-done s.mode d (ByHandle o.handle) k first zs
+          range-moves s (ByHandle o.handle) k first zs new d
+          (range-done s.mode d (ByHandle o.handle) k first zs
           (subst (λ (u : SegmentState). is_read_only u.mode ≡ false) (sym view) writing) h.object h.is h.numbers
-          (row-of h)
-          (inside h)) (λ d st.
-          let h = numbers-of d st in
-          subst (Denotes current new.bytes)
+          (row-of h) (inside h))
+          (subst (Denotes current new.bytes)
           (sym (range-numbers d (ByHandle o.handle) h.object k h.numbers first zs h.is h.value))
           (array-denotes s.cut new d (ByHandle o.handle) h.object k h.numbers first zs st.denotes h.is h.value
           (inside h)
           good (subst (λ at. ChangesBytes current s.cut new at (size_of k * length zs)) (same-spot h) c)
-          (subst (λ at. HasBytesAt (bytes_of new.bytes) at (spelled k zs)) (same-spot h) w)))
+          (subst (λ at. HasBytesAt (bytes_of new.bytes) at (spelled k zs)) (same-spot h) w))))
 
 -- ---- no other byte of an array
 
@@ -424,23 +387,22 @@ pub array-empty : (s : SegmentState) (o : Located) → IsLocated s (ByHandle o.h
     → length zs ≡ 0 → WritesRange s s (ByHandle o.handle) k first zs Done
 array-empty s o l k first zs is writing fits none =
     let nothing : zs ≡ [] = nil_from_length zs none in
-    range-moves s (ByHandle o.handle) k first zs s.cut (record { before = refl; after = refl }) (λ d st.
+    by_moves stays-refl (λ d st.
     let h = numbers-of s o l k first zs is d st in
-    range-done s.mode d (ByHandle o.handle) k first zs writing h.object h.is h.numbers
-    (row-of s o l k first zs is h)
-    (let f = leb-true (first + length zs) o.count fits in omega (arith, f, many s o l k first zs is h))) (λ d st.
-    let h = numbers-of s o l k first zs is d st in
-    subst (Denotes current s.cut.bytes)
+    let f = leb-true (first + length zs) o.count fits in
+    let inside : first + length zs ≤ length h.numbers = omega (arith, f, many s o l k first zs is h) in
+    range-moves s (ByHandle o.handle) k first zs s.cut d
+    (range-done s.mode d (ByHandle o.handle) k first zs writing h.object h.is h.numbers
+    (row-of s o l k first zs is h) inside)
+    (subst (Denotes current s.cut.bytes)
     (sym (range-numbers d (ByHandle o.handle) h.object k h.numbers first zs h.is h.value))
-    (array-denotes s.cut s.cut d (ByHandle o.handle) h.object k h.numbers first zs st.denotes h.is h.value
-    (let f = leb-true (first + length zs) o.count fits in omega (arith, f, many s o l k first zs is h))
+    (array-denotes s.cut s.cut d (ByHandle o.handle) h.object k h.numbers first zs st.denotes h.is h.value inside
     (subst (λ ys. IsTrue (list_all (is_value k) ys)) (sym nothing) refl) (record {
       place = record { before = refl; after = refl };
       live = denotes-heap current s.cut.bytes d st.denotes;
       rest = record { at = λ j out. refl };
     }) (subst (λ ys. HasBytesAt (bytes_of s.cut.bytes) (value_start h.object + size_of k * first) (spelled k ys))
-    (sym nothing)
-    refl)))
+    (sym nothing) refl))))
 
 -- its block has the room
 pub array-room : (s : SegmentState) (b : IsSegment s.cut.bytes) (o : Located) → IsLocated s (ByHandle o.handle) o

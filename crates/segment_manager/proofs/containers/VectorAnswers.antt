@@ -12,14 +12,13 @@ use common.{slice_get-get_or, slice_get-map, slice_get_past, value_of_literal, c
 use common.{IsSomeVector, GrowsVectorOk, container_at, is_good_value, with_capacity, TakesStepOfKind, AnswersSafely, ℤ}
 use common.{list_all, flat_map, size_of, Refusal, NoSpace, Assigns, Element, Refused, Elements, kind_of, perform}
 use common.{grown_backing, current, Denotes, Option, Plan, DenotesCurrent}
-use Rattle.segment_manager.proofs.containers.RangeCalls.{RangeWritten, range-done, range-elements, range-refused}
-use Rattle.segment_manager.proofs.containers.RangeCalls.{range-short, range-written, row-elements, whole-replaced}
-use Rattle.segment_manager.proofs.containers.Extending.{VectorExtended, extended-done, extended-found, extended-refused}
-use Rattle.segment_manager.proofs.containers.Extending.{extended-room}
+use Rattle.segment_manager.proofs.containers.RangeCalls.{RangeWritten, range-done, range-elements, range-moves}
+use Rattle.segment_manager.proofs.containers.RangeCalls.{range-short, row-elements, whole-replaced}
+use Rattle.segment_manager.proofs.containers.Extending.{VectorExtended, extended-found, extended-room}
 use Rattle.segment_manager.proofs.containers.Refilled.{then_room}
-use Rattle.segment_manager.specs.containers.Ranges.{extended, numbers_if, replaced}
+use Rattle.segment_manager.specs.containers.Ranges.{extended, numbers_if, replaced, written}
 use Rattle.seg_vector.specs.{Vector.capacity_for_more, VectorCalls.ExtendsBy, VectorCalls.SetsAll}
-use Rattle.segment_manager.proofs.containers.Safely.{pick-outside, pick-space, Answered, answered, done-so, kept-gaps}
+use Rattle.segment_manager.proofs.containers.Safely.{performed, pick-outside, pick-space, Answered, answered, done-so, kept-gaps, refuses-so}
 use Rattle.segment_manager.proofs.{containers.Safely.same-live, Common.live_of}
 use Rattle.best_fit.specs.Heap.{KeepsGaps}
 use Rattle.seg_vector.proofs.Laws.{same-extents}
@@ -291,22 +290,24 @@ module _ {T : Type 0} {k : ScalarKind} {w : T → ℤ} {size : ℕ} {test : T �
 
       pub vector-overwritten : (first : ℕ) (ys : List T) (r : Result (Unit {0}) Refusal)
           → SetsAll size test sp s.cut new p first ys r → RangeWritten s t new key k first (map w ys) r
-      vector-overwritten first ys (Ok u) a = range-written s key k first (map w ys) t view b new
+      vector-overwritten first ys (Ok u) a =
+          performed s t view b new (λ mode d. written mode d key k first (map w ys))
           (a some.items some.table (vector b.0 some)).1.change.place (λ d l.
           let h = found-items typed s key p b found d l in
-          range-done s.mode d key k first (map w ys) writing h.object h.is (map w h.items)
+          let r = a h.items h.table (vector d h) in
+          let inside = r.0 in
+          range-moves s key k first (map w ys) new d
+          (range-done s.mode d key k first (map w ys) writing h.object h.is (map w h.items)
           (ap (numbers_if k) h.value ∙ row-elements k (map w h.items) h.table)
-          (let inside = (a h.items h.table (vector d h)).0 in
-          omega (arith, inside, length-map ys w, length-map h.items w))) (λ d l.
-          let h = found-items typed s key p b found d l in
-          subst (Denotes current new.bytes)
+          (omega (arith, inside, length-map ys w, length-map h.items w)))
+          (subst (Denotes current new.bytes)
           (ap (λ zs. changed d h.object (Elements k zs h.table)) (whole-replaced w h.items first ys)
           ∙ sym (range-elements d key h.object k (map w h.items) h.table first (map w ys) h.is h.value))
-          (items-denote s.cut new l.denotes h (replaced h.items first ys) h.table
-          (now-so (a h.items h.table (vector d h)).1)))
+          (items-denote s.cut new l.denotes h (replaced h.items first ys) h.table (now-so r.1))))
       vector-overwritten first ys (Err e) a =
           let out = a some.items some.table (vector b.0 some) in
-          range-refused s key k first (map w ys) t view b new OutOfRange e out.refusal out.same (λ d l.
+          refuses-so s t view b new (λ mode d. written mode d key k first (map w ys)) OutOfRange e out.refusal
+          out.same (λ d l.
           let h = found-items typed s key p b found d l in
           range-short s.mode d key k first (map w ys) writing h.object h.is (map w h.items)
           (ap (numbers_if k) h.value ∙ row-elements k (map w h.items) h.table)
@@ -336,18 +337,20 @@ module _ {T : Type 0} {k : ScalarKind} {w : T → ℤ} {size : ℕ} {test : T �
 
       pub vector-extended : (ys : List T) (r : Result (Unit {0}) Refusal) → ExtendsBy size test sp s.cut new p ys r
           → VectorExtended s t new key k (map w ys) r
-      vector-extended ys (Ok u) a = extended-done s key k (map w ys) t view b new
-          (a some.items some.table (vector b.0 some)).now.change.place (λ d l.
+      vector-extended ys (Ok u) a =
+          performed s t view b new (λ mode d. extended mode d key k (map w ys)) (a some.items some.table (vector b.0 some)).now.change.place (λ d l.
           let h = found-items typed s key p b found d l in
           let r = a h.items h.table (vector d h) in
           record {
             after = changed d h.object (Elements k (map w (h.items ++ ys)) r.table);
             is = extends-to ys d h l (Some r.table) r.grown
                 ∙ ap (λ zs. (Done, changed d h.object (Elements k zs r.table))) (sym (map-append w h.items ys));
-            denotes = items-denote s.cut new l.denotes h (h.items ++ ys) r.table (now-so r.now);
+            stands = record {
+              denotes = items-denote s.cut new l.denotes h (h.items ++ ys) r.table (now-so r.now);
+            };
           })
       vector-extended ys (Err e) a =
           let out = a some.items some.table (vector b.0 some) in
-          extended-refused s key k (map w ys) t view b new NoSpace e out.refusal out.same (λ d l.
+          refuses-so s t view b new (λ mode d. extended mode d key k (map w ys)) NoSpace e out.refusal out.same (λ d l.
           let h = found-items typed s key p b found d l in
           extends-to ys d h l None (a h.items h.table (vector d h)).none)

@@ -117,6 +117,3 @@ module _ (image : List ℕ) (capacity : ℕ) (cause : ExamineError)
   pub not_small : min (size_said image) 1073741824 ≤ capacity → cause ≡ TooSmall → ⊥
   not_small room e = has_room image capacity room
       (subst (λ (c : ExamineError). IsWhyNotOf current image 0 capacity (error_for c)) e why)
-
-  pub not_faulty : cause ≡ Fault → ⊥
-  not_faulty e = subst (λ (c : ExamineError). IsWhyNotOf current image 0 capacity (error_for c)) e why

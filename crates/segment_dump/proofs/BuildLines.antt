@@ -117,9 +117,6 @@ head-short i h =
       length-append (class_words i.class i.name) m,
     )
 
-measure-ended : (kind n : List ℕ) → kind ++ 0x20 ∷ n ++ 0x0A ∷ [] ≡ (kind ++ 0x20 ∷ n) ++ 0x0A ∷ []
-measure-ended kind n = refl
-
 head-by : (c : Class) (name : List ℕ) (kind : Kind) (n : ℕ)
     → head_line c name kind n ≡ ended (class_words c name ++ measure_words kind n)
 head-by Named name kind n =

@@ -15,9 +15,6 @@ before_entries = 0x0A ∷ codes "indexes "
 front-apart : (s i p q l x : List ℕ) → s ++ i ++ p ++ q ++ l ++ x ≡ s ++ (i ++ (p ++ q ++ l ++ x))
 front-apart s i p q l x = simp append_assoc
 
-entries-apart : (p q x : List ℕ) → p ++ 0x20 ∷ (q ++ 0x0A ∷ x) ≡ (p ++ 0x20 ∷ q ++ 0x0A ∷ []) ++ x
-entries-apart p q x = simp append_assoc
-
 front-behind : (text x : List ℕ) (s n u : ℕ) (a : List ℕ) → text ≡ before_size ++ x → text ≡ front_text s n u ++ a
     → x ≡ number_text s ++ (before_entries ++ (entries_text (n, u) ++ a))
 front-behind text x s n u a e f =
@@ -73,13 +70,6 @@ front-some text x n rest y named unique last e h z k = record {
       let s = some-pair (named, unique) (f.named, f.unique) last a r.1 in
       λ i. Some (record { size = r.0 i; named = (s.0 i).0; unique = (s.0 i).1 }, s.1 i);
 }
-
--- what was read is what the text begins with
-pub entries-whole : (text : List ℕ) (n u : ℕ) (r0 r1 r2 r3 : List ℕ) → text ≡ number_text n ++ r0 → r0 ≡ 0x20 ∷ r1
-    → r1 ≡ number_text u ++ r2 → r2 ≡ 0x0A ∷ r3 → text ≡ entries_text (n, u) ++ r3
-entries-whole text n u r0 r1 r2 r3 e f g h =
-    e ∙ ap (λ l. number_text n ++ l) (f ∙ ap (λ l. 0x20 ∷ l) (g ∙ ap (λ l. number_text u ++ l) h))
-    ∙ entries-apart (number_text n) (number_text u) r3
 
 pub front-whole : (text x : List ℕ) (n : ℕ) (rest y : List ℕ) (named unique : ℕ) (last : List ℕ)
     → text ≡ before_size ++ x → x ≡ number_text n ++ rest → rest ≡ before_entries ++ y

@@ -85,15 +85,6 @@ pub judged : (text region : List ℕ) (base : ℕ) (size : Option ℕ) (room : �
 judged text region base size room (Ok s) h = loaded text size s h
 judged text region base size room (Err refused) h = let-go text region base size room refused h
 
--- no segment was created: the region is handed back
-pub not-created : (text region : List ℕ) (base : ℕ) (size : Option ℕ) (room n : ℕ) (refused : CreateRefused)
-    (said : LoadRefused) → CreatesErr region base n refused → said.region ≡ Some refused.region
-    → IsWrong text said.cause → IsNotLoaded text region base size room said
-not-created text region base size room n refused said h e w = record {
-  why = wrong-why text region base size room said.cause w;
-  back = subst (IsBack said.cause region) (sym (e ∙ ap Some h.region_same)) (back-some region said.cause);
-}
-
 -- ---- too little of something for the objects of a segment
 
 nameless-items : (c : Class) (is : List DumpItem) → AllByRecursion (IsGoodItem c) is → AllByRecursion IsNameless is
@@ -188,24 +179,6 @@ lacks text region base size room (Ok count) o cause h r e =
 lacks text region base size room (Err left) o cause h r e = absurd (none-some cause (sym r ∙ e))
 
 -- ---- exactly
-
--- the text is wrong: that is no other reason
-pub wrong-bad : (text : List ℕ) (cause : LoadError) → IsWrong text cause → cause_but_bad cause ≡ None
-wrong-bad text (Bad bad) h = refl
-wrong-bad text cause h = absurd h
-
-pub made-wrong : (text : List ℕ) (capacity base : ℕ) (size : Option ℕ) (room : ℕ) (counted : Result Count ℕ)
-    (cause : LoadError) → IsWrong text cause → LoadsUnlessLacking capacity base size room counted (cause_but_bad cause)
-made-wrong text capacity base size room (Ok count) cause h = λ e. wrong-bad text cause h
-made-wrong text capacity base size room (Err left) cause h = wrong-bad text cause h
-
-pub made-judged : (text : List ℕ) (capacity base : ℕ) (size : Option ℕ) (room : ℕ) (counted : Result Count ℕ)
-    (r : Result SegmentState LoadRefused) → MatchResult r (IsJudged text size) (IsLetGo text)
-    → LoadsUnlessLacking capacity base size room counted (cause_in r)
-made-judged text capacity base size room (Ok count) (Ok s) h = λ e. refl
-made-judged text capacity base size room (Ok count) (Err refused) h = λ e. wrong-bad text refused.cause h.why
-made-judged text capacity base size room (Err left) (Ok s) h = refl
-made-judged text capacity base size room (Err left) (Err refused) h = wrong-bad text refused.cause h.why
 
 -- a reason that is none of the text
 but-bad : (legal short full long : Bool) (cause : LoadError)

@@ -67,9 +67,6 @@ is-lead i h = (h.nameless, omega (arith, name-least (length i.name) (kind_in i) 
 is-measure : (i : DumpItem) → IsCountable i → IsMeasure (kind_in i, count_in i)
 is-measure i h = count-small i.content (length i.name) (own-small i h).0
 
-is-content : (i : DumpItem) → IsCountable i → HasContentShape (kind_in i) (count_in i) i.content
-is-content i h = record { kind_is = refl; many = refl; small = (own-small i h).1 }
-
 -- ---- an object
 
 abbrev pub LeadReads : List ℕ → Option (ℕ × List ℕ) → Type 0

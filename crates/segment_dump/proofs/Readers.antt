@@ -51,9 +51,6 @@ word-append : (w : List ℕ) (c : ℕ) → IsWord w → 0x20 < c → IsWord (w +
 word-append [] c h l = (l, tt)
 word-append (d ∷ w) c h l = (h.0, word-append w c h.1 l)
 
-pub word-starts : (text : List ℕ) → InWord text text
-word-starts text = record { word = []; high = tt; whole = refl }
-
 -- all behind the first
 pub tail-all : (c : ℕ) (tail : List ℕ) → take (length (c ∷ tail) - 1) tail ≡ tail
 tail-all c tail = take_all (length (c ∷ tail) - 1) tail (omega arith)

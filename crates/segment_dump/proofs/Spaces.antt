@@ -63,9 +63,6 @@ share-fits : (available wanted rest : ℕ) → wanted + rest ≤ available → I
     → share available wanted + rest ≤ available
 share-fits available wanted rest h r = share-if (nat_lt available (wanted + 32)) available wanted rest refl h r
 
-share-least : (available wanted : ℕ) → wanted ≤ available → wanted ≤ share available wanted
-share-least available wanted h = grind (arith, nat_tests)
-
 one-fit : (g : Gap) (n : ℕ) → room n ≤ g.len → least (filter (λ (g : Gap). nat_le (room n) g.len) (g ∷ [])) ≡ Some g
 one-fit g n h = let e : nat_le (room n) g.len ≡ true = grind (arith, nat_tests)
     in ap (λ b. least (if b then g ∷ [] else [])) e

@@ -63,9 +63,6 @@ pub record InString (old now : SegmentState) (h : ℕ) (text rest : List ℕ) (r
       → (bs : List ℕ) × (p.content ≡ String bs) × (len ≡ length bs) × IsByteList bs
       × StringAt now rest p h (suc counter) bs
 
-no-front : (bs : List ℕ) → front_bytes bs 0 ≡ []
-no-front bs = refl
-
 table-string : (bs : List ℕ) (w : Value) → HasTable (Bytes [] no_backing) (length bs) w
     → (t : BackingArray) × (w ≡ Bytes [] t) × (length bs ≤ t.capacity)
 table-string bs w (none e) = (no_backing, refl, omega (arith, e))

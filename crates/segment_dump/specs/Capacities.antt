@@ -74,13 +74,6 @@ object_notes o = capacities_text (object_capacities o)
 abbrev pub notes_at : Directory → Key → List ℕ
 notes_at d key = part_of object_notes (object_at d key)
 
--- the same where it is anonymous
-abbrev pub anonymous_notes : Object → List ℕ
-anonymous_notes = where_anonymous object_notes
-
-abbrev pub anonymous_notes_at : Directory → Key → List ℕ
-anonymous_notes_at d key = part_of anonymous_notes (object_at d key)
-
 -- the places of the object of a key, if it has a capacity
 abbrev pub places_in : Option Object → Option ℕ
 places_in None = None

@@ -27,13 +27,6 @@ text_at d key = part_of object_text (object_at d key)
 abbrev pub where_anonymous : (Object → List ℕ) → Object → List ℕ
 where_anonymous text o = if is_class Anonymous o then text o else []
 
--- the lines of an object where it is anonymous
-abbrev pub anonymous_text : Object → List ℕ
-anonymous_text = where_anonymous object_text
-
-abbrev pub anonymous_at : Directory → Key → List ℕ
-anonymous_at d key = part_of anonymous_text (object_at d key)
-
 -- all lines of some objects
 abbrev pub objects_text : List Object → List ℕ
 objects_text = flat_map object_text

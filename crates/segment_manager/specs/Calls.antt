@@ -74,10 +74,6 @@ elements_of Strings = Err WrongKind
 abbrev pub elements_at : Directory → Key → Result ScalarKind Refusal
 elements_at d key = elim (object_at d key) [ None ↦ Err NotFound | Some o ↦ elements_of (kind_of o.value) ]
 
--- the elements of the object of a key are scalars of some kind
-abbrev pub HasScalars : SegmentState → Key → Type 0
-HasScalars s key = (k : ScalarKind) × AnswersWith s (λ d. elements_at d key) (Ok k)
-
 -- what a command answers for objects whose elements are scalars, and for others why there are none
 abbrev pub scalar_reply : Mode → Directory → Key → Command → Answer
 scalar_reply mode d key c = elim (elements_at d key) [ Err r ↦ Refused r | Ok k ↦ (step mode d c).0 ]

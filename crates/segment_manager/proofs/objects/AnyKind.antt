@@ -115,22 +115,6 @@ of_kind-replies {s} key {kind} c a f r = record {
       ∙ sym (ap (reply_of s.mode d c) (elements-told d key kind e ∙ f));
 }
 
--- it has no scalars
-pub of_kind-none : (s : SegmentState) (key : Key) (kind : Kind) (r : Refusal) (c : Command)
-    → AnswersWith s (λ d. kind_at d key)
-    (Ok kind) → elements_of kind ≡ Err r → AnswersWith s (λ d. scalar_reply s.mode d key c) (Refused r)
-of_kind-none s key kind r c a f = record {
-  answers = λ d l. sym (ap (reply_of s.mode d c) (elements-told d key kind (kind-told d key kind (a.answers d l)) ∙ f));
-}
-
--- neither scalars nor a vector of them nor a string
-pub other-elements : (kind : Kind) → ((k : ScalarKind) → kind ≡ ScalarOf k → ⊥)
-    → ((k : ScalarKind) → kind ≡ VectorKind k → ⊥) → (kind ≡ StringKind → ⊥) → elements_of kind ≡ Err WrongKind
-other-elements (ScalarOf k) n v t = absurd (n k refl)
-other-elements StringKind n v t = absurd (t refl)
-other-elements (VectorKind k) n v t = absurd (v k refl)
-other-elements w n v t = refl
-
 -- an object that was located is of a kind that has scalars
 pub located-replies : (s : SegmentState) (key : Key) (o : Located) (l : IsLocated s key o) (kind : Kind)
     (k : ScalarKind)
@@ -139,13 +123,6 @@ pub located-replies : (s : SegmentState) (key : Key) (o : Located) (l : IsLocate
 located-replies s key o l kind k i answer is f r = of_kind-replies key (asked.Get key i)
     (subst (λ (n : Kind). AnswersWith s (λ d. kind_at d key) (Ok n)) is (kind-by_key s key o l)) f
     (reply_of_kind-by_key s key o l kind (asked.Get key i) answer r)
-
--- no object has the key
-pub any-missing : (s : SegmentState) (key : Key) (c : Command) (why : Refusal) → IsMissing s key why
-    → AnswersWith s (λ d. scalar_reply s.mode d key c) (Refused why)
-any-missing s key c why m = record {
-  answers = λ d l. ap Refused m.is ∙ sym (ap (reply_of s.mode d c) (ap elements_in (m.missing d l)));
-}
 
 -- ---- writing: the kind of the object
 

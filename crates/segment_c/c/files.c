@@ -25,7 +25,7 @@ struct zx_held_file {
     uint8_t *at;               /* the mapping, of `len` bytes */
     uint64_t len;
     unsigned forks;            /* of the process that opened it */
-    int folder;                /* where the name stands; of a mapped file that existed AT_FDCWD, and its name is a path */
+    int folder;                /* of the name; AT_FDCWD for a mapped file that existed, whose name is a path */
     int file;                  /* with its lock; -1 if none exists under the name */
     bool is_read;              /* mapped and not changed: others may map it too */
     bool is_new;               /* created and never saved */
@@ -408,7 +408,8 @@ static zx_code hold_once(zx_file *file, const char *path, uint32_t mode, bool is
     if (code != ZX_DONE) return code;
     if (mode == ZX_CREATE_ONLY) return AGAIN;
     char *real = is_link ? realpath(path, NULL) : NULL;
-    if (is_link && !real) return errno == ENOENT ? (zx_code)AGAIN : errno == ENOMEM ? (zx_code)ZX_NO_MEMORY : fault(file);
+    if (is_link && !real)
+        return errno == ENOENT ? (zx_code)AGAIN : errno == ENOMEM ? (zx_code)ZX_NO_MEMORY : fault(file);
     code = is_mapped ? keep(real ? real : path, held) : find(file, real ? real : path, held);
     free(real);
     if (code == ZX_FILE_MISSING) return AGAIN;
@@ -430,8 +431,8 @@ static zx_code hold(zx_file *file, const char *path, uint32_t mode, bool is_mapp
 
 /* ---- a file opened */
 
-/* The code of bytes that an opening answered by this one, and where they show it. What says more bytes than there are is
-   refused by its class. */
+/* Returns the class of bytes that an opening refused, and notes the offset that shows it. An image that states more
+   bytes than there are is refused by its class. */
 static zx_code explained(zx_file *file, zx_code code, const uint8_t *image, size_t len) {
     if (code != ZX_SHORT_REGION && code < ZX_TRUNCATED) return code;
     return zx_explain(image, len, &file->place);
@@ -483,9 +484,9 @@ static uint64_t size_said(const uint8_t *image) {
     return size;
 }
 
-/* Where files of one length are mapped again and again: between two pages that stay, and for a short one at the front of
-   what one table of the system covers. With what lies beside a mapping the system keeps its tables for both ends of it;
-   to make and free them would cost as much as all else that an opening asks of it. */
+/* Addresses for a process that maps files of one length again and again: between two pages that stay; a short file lies
+   at the start of what one page table of the system covers. The pages beside a mapping keep the tables of its ends.
+   Without them the system makes and frees tables each time, which costs as much as all else in an opening. */
 static struct {
     uint8_t *at;  /* null if there are no such pages */
     uint64_t len; /* of the file that was mapped last, in whole pages */

@@ -208,7 +208,8 @@ void *zx_python_class(void) {
     return is_there() ? PyType_FromSpec(&class) : NULL;
 }
 
-bool zx_python_place(void *object, zx_segment *segment, const zx_key *key, uint32_t kind, uint64_t thread, void *owner) {
+bool zx_python_place(void *object, zx_segment *segment, const zx_key *key, uint32_t kind, uint64_t thread,
+                     void *owner) {
     struct place *place = object;
     if (!is_there() || place->segment) return false;
     place->thread = thread;

@@ -1,16 +1,16 @@
-/* Zaluxhoni for C and C++: typed objects under names in one run of bytes, which can be saved and opened again.
-   Each function declared here is proved; what a caller must keep stands in docs/C.md, and in short:
+/* Zaluxhoni for C and C++: typed objects under names in one run of bytes, which a program saves and opens again. Its
+   calls are proved, and the inline functions of this header are tested. docs/C.md is the guide. In short:
 
-   - A zx_segment begins as ZX_CLOSED_HANDLE. These calls alone change it, it is not copied, and zx_close ends it.
-   - One call at a time on one handle, and all of them on one thread.
-   - A pointer to a handle, a key, a value or a result is not null, and what stands there may be read (and written, where it
-     is no const). What is written through one pointer overlaps nothing else that the call is given.
-   - A slice is a pointer and how many elements are there. A null one is answered by ZX_NULL_SLICE, also where it is empty,
-     and so is a null text among several: the calls that take a slice are inline functions of this header that look.
-   - Names and texts are bytes: UTF-8 in names, and anything in texts. No byte 0 ends them.
+   - A zx_segment starts as ZX_CLOSED_HANDLE. Only these calls change it, nobody copies it, and zx_close frees it.
+   - Make one call at a time on a handle, and all of them on one thread.
+   - No pointer to a handle, key, value or result is null. The call may read what it points to, and write it if it is
+     not const. What a call writes through one pointer overlaps nothing else that it is given.
+   - A slice is a pointer and a number of elements. A null slice returns ZX_NULL_SLICE, even an empty one, and so does
+     a null text in a list. The calls that take a slice are inline functions of this header, which check it.
+   - Names and texts are bytes: UTF-8 in names, anything in texts. No byte 0 ends them.
 
-   Each call answers a code. 0 is done. With any other code nothing has changed: neither the segment (but for bytes of gaps
-   where there was no space) nor any result, unless the call says so. */
+   Each call returns a code, and 0 means done. Any other code leaves the segment and every result as they were, unless
+   the call says otherwise; after ZX_NO_SPACE the bytes of gaps may differ. */
 #ifndef ZALUXHONI_H
 #define ZALUXHONI_H
 
@@ -19,22 +19,22 @@
 #include <stdint.h>
 #include <string.h>
 
-/* The name that the linker has for a function. */
+/* Sets the name that the linker uses for a function. */
 #define ZX_NAMED(name) __asm__(#name)
 
 #ifdef __cplusplus
 extern "C" {
 #endif
 
-/* ---- the version: 10000 for each major one, 100 for each minor one, and 1 for each patch */
+/* ---- the version: 10000 for each major version, 100 for each minor one, and 1 for each patch */
 
 #define ZX_VERSION 900
 
-/* The one of the library, where ZX_VERSION is that of this header. */
+/* Returns the version of the library; ZX_VERSION is that of this header. */
 uint32_t zx_version(void);
 
-/* The state of the crates that was proved, and the logic of the prover, as `state S, logic L` with 16 hexadecimal
-   digits each; dashes stand for both in a library that is not from a package. */
+/* Returns the state of the crates that was proved, and the logic of the prover: `state S, logic L`, with 16 hexadecimal
+   digits each. A library that is not from a package has dashes for both. */
 const char *zx_state(void);
 
 /* ---- codes */
@@ -44,34 +44,34 @@ typedef uint32_t zx_code;
 enum {
     ZX_DONE = 0,
 
-    /* Refused by the segment. These are the numbers that the program prints behind `error`. */
+    /* Refused by the segment: the numbers that the program prints after `error`. */
     ZX_READ_ONLY = 4,    /* the call may change the segment, which is open for reading */
     ZX_EXISTS = 5,       /* an object has the name, or is the unique one of its kind */
     ZX_NOT_FOUND = 6,    /* no object has the key */
-    ZX_WRONG_KIND = 7,   /* the object, or a value, is not of the kind that the call is for */
-    ZX_OUT_OF_RANGE = 8, /* an index past the end, or a number outside the range of the element */
+    ZX_WRONG_KIND = 7,   /* the call is not for the kind of this object or value */
+    ZX_OUT_OF_RANGE = 8, /* an index is past the end, or a number outside the range of the element */
     ZX_NO_SPACE = 9,     /* no gap is long enough */
 
-    /* No refusal: nothing is there. */
+    /* Not a refusal: nothing was found. */
     ZX_ABSENT = 10,
 
-    /* Not asked of the segment. */
+    /* Wrong arguments, or no memory. */
     ZX_CLOSED = 16,       /* the handle has no segment */
-    ZX_BAD_KEY = 17,      /* the key's `how` is none, or none that the call takes */
+    ZX_BAD_KEY = 17,      /* the key's `how` is unknown, or the call does not take it */
     ZX_BAD_NAME = 18,     /* a name is 1 to 255 bytes of UTF-8 without control characters */
-    ZX_BAD_KIND = 19,     /* no kind has the code, or the unique key is for another kind */
-    ZX_BAD_VALUE = 20,    /* the value's kind is no scalar's, or its number is outside that kind */
+    ZX_BAD_KIND = 19,     /* no kind has the code, or the unique key names another kind */
+    ZX_BAD_VALUE = 20,    /* the value's kind is no scalar kind, or its number is outside that kind */
     ZX_BAD_COUNT = 21,    /* an object of scalars has 1 to 1048576 of them */
     ZX_BAD_SIZE = 22,     /* a segment has 144 bytes, or a multiple of 16 from 176 to 1073741824 */
-    ZX_BAD_MODE = 23,     /* the mode is none */
-    ZX_SHORT_BUFFER = 24, /* the buffer has too little room */
+    ZX_BAD_MODE = 23,     /* the mode is unknown */
+    ZX_SHORT_BUFFER = 24, /* the buffer is too short */
     ZX_NULL_SLICE = 25,   /* a slice is null */
     ZX_NO_MEMORY = 26,    /* the C library gave no memory */
-    ZX_SHORT_REGION = 27, /* the region has too little room */
+    ZX_SHORT_REGION = 27, /* the region is too short */
     ZX_BAD_GROWTH = 28,   /* a segment grows by a multiple of 16, at least 32 */
     ZX_TOO_LARGE = 29,    /* it would have more than 1073741824 bytes */
 
-    /* The bytes are no image of a segment: 100 and the number of the first class that holds. */
+    /* The bytes are no image of a segment: 100 plus the number of the first class that holds. */
     ZX_TRUNCATED = 101,
     ZX_BAD_MAGIC = 102,
     ZX_UNSUPPORTED_VERSION = 103,
@@ -88,22 +88,22 @@ enum {
 
 /* ---- what is passed */
 
-/* A segment, or nothing, and what is noted of it. */
+/* A segment, or none, and what the library notes about it. */
 typedef struct {
     void *at;
-    uint64_t changes; /* another one behind each call that may have changed the segment */
-    bool lent;        /* whether it lies in memory that was lent by zx_attach */
-    bool shared;      /* whether since the last change zx_view_mut told where elements stand */
+    uint64_t changes; /* differs after each call that may have changed the segment */
+    bool lent;        /* whether it lies in memory that zx_attach borrowed */
+    bool shared;      /* whether zx_view_mut gave a view since the last change */
 } zx_segment;
 
-/* None; in C a static one is that without an initializer. */
+/* No segment. In C, a static handle without an initializer is closed. */
 #ifdef __cplusplus
 #define ZX_CLOSED_HANDLE (zx_segment{})
 #else
 #define ZX_CLOSED_HANDLE ((zx_segment){ 0, 0, false, false })
 #endif
 
-/* Memory that a segment may lie in: `len` bytes from `at` on. */
+/* Memory for a segment: `len` bytes from `at` on. */
 typedef struct {
     uint8_t *at;
     uint64_t len;
@@ -112,7 +112,7 @@ typedef struct {
 /* How a segment is open. */
 enum { ZX_WRITE = 0, ZX_READ = 1, ZX_COPY_ON_WRITE = 2 };
 
-/* Kinds of scalars, and of objects: those of scalars are one scalar or an array. */
+/* Kinds of scalars and of objects. An object of a scalar kind is one scalar or an array. */
 enum { ZX_BOOL = 1, ZX_U8 = 2, ZX_I32 = 3, ZX_I64 = 4, ZX_U64 = 5, ZX_STRING = 65536, ZX_STRINGS = 262144 };
 #define ZX_VECTOR(scalar) (131072u + (scalar))
 #define ZX_MAP(key, value) (196608u + 256u * (key) + (value))
@@ -120,26 +120,28 @@ enum { ZX_BOOL = 1, ZX_U8 = 2, ZX_I32 = 3, ZX_I64 = 4, ZX_U64 = 5, ZX_STRING = 6
 /* How an object is found again. */
 enum { ZX_IS_ANONYMOUS = 0, ZX_IS_NAMED = 1, ZX_IS_UNIQUE = 2 };
 
-/* Which object: the one of a name, the unique one of a kind, the one of a handle; or, where one is made, a new one with no key. */
+/* Which object: the one with a name, the unique one of a kind, or the one with a handle. ZX_NO_KEY makes a new object
+   without a key. */
 enum { ZX_BY_NAME = 0, ZX_BY_KIND = 1, ZX_BY_HANDLE = 2, ZX_NO_KEY = 3, ZX_NULL_NAME = 4 };
 
 typedef struct {
     uint32_t how;
     uint32_t kind;       /* with ZX_BY_KIND */
     uint64_t handle;     /* with ZX_BY_HANDLE */
-    const uint8_t *name; /* with ZX_BY_NAME; else not null, with len 0 */
+    const uint8_t *name; /* with ZX_BY_NAME; otherwise not null, with len 0 */
     size_t len;
 } zx_key;
 
-/* A scalar with its kind. The number of ZX_I32 and ZX_I64 stands in `number`, that of the others in `natural`, where 0 is false.
-   A value that is passed for an element takes the element's kind: a number must be in its range, a truth is for truths alone. */
+/* A scalar with its kind. ZX_I32 and ZX_I64 use `number`; the other kinds use `natural`, where 0 is false. A value that
+   a call stores takes the element's kind: the number must be in its range, and only a bool takes a bool. */
 typedef struct {
     uint32_t kind;
     int64_t number;
     uint64_t natural;
 } zx_value;
 
-/* The elements of a vector or an array: the slice of their kind. The other slices are not null and empty. Kind 0 stands for a null slice. */
+/* The elements of a vector or an array: the slice of their kind. The other slices are empty and not null. Kind 0 means
+   a null slice. */
 typedef struct {
     uint32_t kind;
     const bool *truths;
@@ -160,26 +162,26 @@ typedef struct {
     size_t len;
 } zx_text;
 
-/* Elements where they stand, one after another, each the bytes that spell it: the lowest byte of a number first, a
-   truth 0 or 1. */
+/* Elements where they are, one after another, each as the bytes that spell it: a number little-endian, a bool 0 or
+   1. */
 typedef struct {
-    const void *at;   /* where the first one stands */
-    uint64_t offset;  /* from the front of the segment on: a multiple of 8 */
+    const void *at;   /* the address of the first */
+    uint64_t offset;  /* from the start of the segment: a multiple of 8 */
     uint64_t count;
     uint64_t changes; /* of the handle */
-    uint32_t kind;    /* of a scalar; the elements of a string are ZX_U8 */
+    uint32_t kind;    /* a scalar kind; the elements of a string are ZX_U8 */
 } zx_elements;
 
-/* What an object says of itself. */
+/* What a call tells about an object. */
 typedef struct {
     uint32_t found_by; /* ZX_IS_.. */
     uint32_t kind;
-    uint32_t count;    /* how many scalars, and 1 where it is no object of scalars */
-    uint64_t name_len; /* 0 where it has no name */
+    uint32_t count;    /* the number of scalars; 1 for a container */
+    uint64_t name_len; /* 0 for an object without a name */
     uint64_t handle;
 } zx_info;
 
-/* A block in use, or a gap. */
+/* What a tile is: a gap, or a block by its role. */
 enum { ZX_GAP = 0, ZX_OBJECT = 1, ZX_INDEX = 2, ZX_STORAGE = 3, ZX_NODE = 4 };
 
 typedef struct {
@@ -190,7 +192,7 @@ typedef struct {
 
 /* ---- making what is passed */
 
-/* Bytes where no bytes are, so that no slice is null. */
+/* Returns a pointer to no bytes, so that an empty slice is not null. */
 static inline const uint8_t *zx_no_bytes(void) {
     static const uint8_t none[1] = { 0 };
     return none;
@@ -276,64 +278,68 @@ static inline zx_values zx_u64s(const uint64_t *at, size_t count) {
 
 /* ---- a segment made, opened, saved and closed */
 
-/* An empty segment of `size` bytes, open for writing. What the handle had is closed. ZX_BAD_SIZE, ZX_NO_MEMORY. */
+/* Creates an empty segment of `size` bytes, open for writing. Closes what the handle had. Errors: ZX_BAD_SIZE,
+   ZX_NO_MEMORY. */
 zx_code zx_create(zx_segment *segment, uint64_t size);
 
-/* The segment whose image the bytes are, in a region of `capacity` bytes, a multiple of 16 from 16 to 1099511627776. What the
-   handle had is closed. ZX_BAD_SIZE (the capacity), ZX_BAD_MODE, ZX_NO_MEMORY, ZX_SHORT_REGION, ZX_TRUNCATED to
-   ZX_ORPHAN_BLOCK. */
+/* Opens a copy of the image, in a region of `capacity` bytes: a multiple of 16 from 16 to 1099511627776. Closes what
+   the handle had. Errors: ZX_NULL_SLICE, ZX_BAD_SIZE (the capacity), ZX_BAD_MODE, ZX_NO_MEMORY, ZX_SHORT_REGION,
+   ZX_TRUNCATED to ZX_ORPHAN_BLOCK. */
 static inline zx_code zx_open(zx_segment *segment, const uint8_t *image, size_t len, uint64_t capacity,
                               uint32_t mode) ZX_NAMED(zx_open_or_null);
 
-/* Whether the bytes are the image of a segment: ZX_DONE, ZX_TRUNCATED to ZX_ORPHAN_BLOCK, ZX_NO_MEMORY. It takes a region
-   for as many bytes as the first of them say, and none where there are fewer. */
+/* Checks whether the bytes are the image of a segment. It allocates a region of the size that the image states; if
+   fewer bytes are there, it allocates none. Errors: ZX_NULL_SLICE, ZX_NO_MEMORY, ZX_TRUNCATED to ZX_ORPHAN_BLOCK. */
 static inline zx_code zx_check(const uint8_t *image, size_t len) ZX_NAMED(zx_check_or_null);
 
-/* The same, and where they show that they are none: with ZX_TRUNCATED to ZX_ORPHAN_BLOCK `place` is the offset of a byte
-   that shows the class, as docs/C.md lists them. With any other code it stays. */
+/* Checks as zx_check does, and says where the image is wrong. With ZX_TRUNCATED to ZX_ORPHAN_BLOCK, `place` is the
+   offset of a byte that shows the class; docs/C.md lists them. With any other code `place` is unchanged. */
 static inline zx_code zx_explain(const uint8_t *image, size_t len, uint64_t *place) ZX_NAMED(zx_explain_or_null);
 
-/* Copies the image to the front of the buffer: as many bytes as zx_size says. ZX_CLOSED, ZX_SHORT_BUFFER. */
+/* Copies the image to the start of the buffer: as many bytes as zx_size says. Errors: ZX_NULL_SLICE, ZX_CLOSED,
+   ZX_SHORT_BUFFER. */
 static inline zx_code zx_save(zx_segment *segment, uint8_t *image, size_t room) ZX_NAMED(zx_save_or_null);
 
-/* Opens the image that stands at the front of the memory and has `len` bytes, where it stands: none is copied, and none
-   is written before the first call that changes (with ZX_READ none ever). The memory has a multiple of 16 bytes, as a
-   region of zx_open; those behind the image are room to grow into. What the handle had is closed. Until zx_detach gives
-   it back, the memory is the segment's: nobody else writes it, gives it up or makes a file that is mapped there
-   shorter, and only between calls is it read. Then `memory` has nothing; where the call is refused it is as it was.
-   ZX_NULL_SLICE; ZX_BAD_SIZE (also where `len` is more than the memory has), ZX_BAD_MODE; and as zx_open. */
+/* Opens the image of `len` bytes at the start of the memory, without a copy. No byte is written before the first call
+   that changes the segment, and with ZX_READ none ever. The memory has a multiple of 16 bytes, as a region of zx_open;
+   the bytes after the image are room to grow. Closes what the handle had. On success `memory` is empty, and the segment
+   owns the bytes until zx_detach gives them back. Until then nobody else writes, frees or unmaps them, or makes a file
+   that is mapped there shorter, and others read them only between calls. On failure `memory` is unchanged. Errors:
+   ZX_NULL_SLICE; ZX_BAD_SIZE, also if `len` exceeds the memory; ZX_BAD_MODE; and those of zx_open. */
 static inline zx_code zx_attach(zx_segment *segment, zx_memory *memory, uint64_t len,
                                 uint32_t mode) ZX_NAMED(zx_attach_or_null);
 
-/* Closes the segment, and gives the memory back that it lies in, with its bytes: what was lent, or what the library
-   took, which is the caller's to free() then. It is refused by ZX_CLOSED alone. (zx_close, or another segment in the
-   handle, frees no lent memory.) */
+/* Closes the segment, and gives back the memory in which it lies, with its bytes. The caller free()s it if the library
+   allocated it. zx_close, or another segment in the handle, frees no borrowed memory. Errors: ZX_CLOSED. */
 zx_code zx_detach(zx_segment *segment, zx_memory *memory);
 
-/* Makes the segment longer by `extra` bytes, which are free, in a larger region where its own has no room; in lent
-   memory there alone, or else ZX_SHORT_REGION. ZX_CLOSED, ZX_READ_ONLY, ZX_BAD_GROWTH, ZX_TOO_LARGE, ZX_NO_MEMORY. */
+/* Makes the segment longer by `extra` bytes, which are free. It allocates a larger region if its own has no room; in
+   borrowed memory it returns ZX_SHORT_REGION instead. Errors: ZX_CLOSED, ZX_READ_ONLY, ZX_BAD_GROWTH, ZX_TOO_LARGE,
+   ZX_NO_MEMORY. */
 zx_code zx_grow(zx_segment *segment, uint64_t extra);
 
-/* Makes the segment as short as its last block lets it be. ZX_CLOSED, ZX_READ_ONLY. */
+/* Cuts the free bytes off the end of the segment. Errors: ZX_CLOSED, ZX_READ_ONLY. */
 zx_code zx_shrink(zx_segment *segment);
 
-/* Moves the segment into a region of `capacity` bytes, as for zx_open. Keys and handles stay good. ZX_BAD_SIZE,
-   ZX_CLOSED, ZX_NO_MEMORY; ZX_SHORT_REGION, also where it lies in lent memory, which it does not leave. */
+/* Moves the segment into a region of `capacity` bytes, as for zx_open. Keys and handles stay valid. Errors:
+   ZX_BAD_SIZE, ZX_CLOSED, ZX_NO_MEMORY, ZX_SHORT_REGION. A segment in borrowed memory does not leave it, and returns
+   ZX_SHORT_REGION. */
 zx_code zx_relocate(zx_segment *segment, uint64_t capacity);
 
 /* Frees the segment. A closed handle stays closed. */
 void zx_close(zx_segment *segment);
 
-/* Several calls as one. zx_begin copies the segment to a handle of its own, `before`; what that had is closed. Behind
-   the calls zx_commit closes the copy, or zx_rollback makes the segment again what it was, where it lies now, and
-   closes the copy. What lies in `before` may be read like any segment. ZX_CLOSED (zx_rollback: also a closed copy),
-   ZX_READ_ONLY, ZX_NO_MEMORY (zx_begin alone); ZX_SHORT_REGION (zx_rollback alone) if zx_relocate left too little room,
-   and another zx_relocate helps. */
+/* Groups several calls into one step. zx_begin copies the segment to the handle `before`, and closes what that had.
+   After the calls, zx_commit closes the copy, and zx_rollback restores the segment, where it is now, and closes the
+   copy. Meanwhile `before` may be read like any segment. Errors: ZX_CLOSED (of zx_rollback also for a closed copy),
+   ZX_READ_ONLY; of zx_begin alone ZX_NO_MEMORY; of zx_rollback alone ZX_SHORT_REGION, if zx_relocate left too little
+   room: relocate again, and repeat it. */
 zx_code zx_begin(zx_segment *segment, zx_segment *before);
 zx_code zx_rollback(zx_segment *segment, zx_segment *before);
 static inline void zx_commit(zx_segment *before) { zx_close(before); }
 
-/* How it is open; its bytes; those of all gaps; those of its region behind it. ZX_CLOSED. */
+/* Tell how the segment is open; its bytes; the bytes of all gaps; the bytes of its region after it. Errors:
+   ZX_CLOSED. */
 zx_code zx_mode(zx_segment *segment, uint32_t *mode);
 zx_code zx_size(zx_segment *segment, uint64_t *size);
 zx_code zx_free_bytes(zx_segment *segment, uint64_t *free_bytes);
@@ -341,26 +347,31 @@ zx_code zx_region_left(zx_segment *segment, uint64_t *left);
 
 /* ---- objects
 
-   Calls that take a key: ZX_NULL_SLICE (a null name), ZX_BAD_KEY, ZX_BAD_NAME, ZX_BAD_KIND; then ZX_CLOSED; then the refusals that
-   are named. An object is made by name, by kind or with no key; it is found or made by name or by kind. */
+   Calls that take a key check it first: ZX_NULL_SLICE (a null name), ZX_BAD_KEY, ZX_BAD_NAME, ZX_BAD_KIND; then
+   ZX_CLOSED; then the errors that each call names. The construct calls take a name, a kind or no key, and the
+   find_or_construct calls a name or a kind. */
 
-/* Makes `count` times a value. ZX_BAD_VALUE, ZX_BAD_COUNT; ZX_READ_ONLY, ZX_EXISTS, ZX_NO_SPACE. */
+/* Makes an object of `count` scalars, each with the value. Errors: ZX_BAD_VALUE, ZX_BAD_COUNT; ZX_READ_ONLY, ZX_EXISTS,
+   ZX_NO_SPACE. */
 zx_code zx_construct(zx_segment *segment, const zx_key *key, uint32_t count, const zx_value *value, uint64_t *handle);
-/* Makes an array of values. ZX_NULL_SLICE, ZX_BAD_KIND, ZX_BAD_COUNT; ZX_READ_ONLY, ZX_EXISTS, ZX_NO_SPACE. */
+/* Makes an array of these values. Errors: ZX_NULL_SLICE, ZX_BAD_KIND, ZX_BAD_COUNT; ZX_READ_ONLY, ZX_EXISTS,
+   ZX_NO_SPACE. */
 zx_code zx_construct_array(zx_segment *segment, const zx_key *key, const zx_values *values, uint64_t *handle);
-/* Makes a vector of values. ZX_NULL_SLICE, ZX_BAD_KIND; ZX_READ_ONLY, ZX_EXISTS, ZX_NO_SPACE. */
+/* Makes a vector of these values. Errors: ZX_NULL_SLICE, ZX_BAD_KIND; ZX_READ_ONLY, ZX_EXISTS, ZX_NO_SPACE. */
 zx_code zx_construct_vector(zx_segment *segment, const zx_key *key, const zx_values *values, uint64_t *handle);
-/* Makes a string; a vector of strings; an empty map from keys of one kind to values of another. */
+/* Make a string; a vector of strings; an empty map from keys of one kind to values of another. Errors: ZX_NULL_SLICE or
+   ZX_BAD_KIND; ZX_READ_ONLY, ZX_EXISTS, ZX_NO_SPACE. */
 static inline zx_code zx_construct_string(zx_segment *segment, const zx_key *key, const uint8_t *text, size_t len,
                                           uint64_t *handle) ZX_NAMED(zx_construct_string_or_null);
 static inline zx_code zx_construct_strings(zx_segment *segment, const zx_key *key, const zx_text *texts, size_t count,
                                            uint64_t *handle) ZX_NAMED(zx_construct_strings_or_null);
 zx_code zx_construct_map(zx_segment *segment, const zx_key *key, uint32_t keys, uint32_t values, uint64_t *handle);
 
-/* Finds the object of the key, which stays as it is, or makes it, and says how many scalars it has (1 where it is no object of
-   scalars). ZX_READ_ONLY, ZX_WRONG_KIND, ZX_NO_SPACE. */
-zx_code zx_find_or_construct(zx_segment *segment, const zx_key *key, uint32_t count, const zx_value *value, uint64_t *handle,
-                             uint32_t *found);
+/* Finds the object of the key, which stays unchanged, or makes it. `found` is the number of its scalars, and 1 for a
+   container. Errors: those of the construct call except ZX_EXISTS; ZX_WRONG_KIND, if an object of another kind has the
+   key. */
+zx_code zx_find_or_construct(zx_segment *segment, const zx_key *key, uint32_t count, const zx_value *value,
+                             uint64_t *handle, uint32_t *found);
 zx_code zx_find_or_construct_vector(zx_segment *segment, const zx_key *key, const zx_values *values, uint64_t *handle,
                                     uint32_t *found);
 static inline zx_code zx_find_or_construct_string(zx_segment *segment, const zx_key *key, const uint8_t *text,
@@ -369,43 +380,45 @@ static inline zx_code zx_find_or_construct_string(zx_segment *segment, const zx_
 static inline zx_code zx_find_or_construct_strings(zx_segment *segment, const zx_key *key, const zx_text *texts,
                                                    size_t count, uint64_t *handle,
                                                    uint32_t *found) ZX_NAMED(zx_find_or_construct_strings_or_null);
-zx_code zx_find_or_construct_map(zx_segment *segment, const zx_key *key, uint32_t keys, uint32_t values, uint64_t *handle,
-                                 uint32_t *found);
+zx_code zx_find_or_construct_map(zx_segment *segment, const zx_key *key, uint32_t keys, uint32_t values,
+                                 uint64_t *handle, uint32_t *found);
 
-/* The object of a kind under the key: a name, a kind or a handle. ZX_ABSENT where no object has the key; ZX_WRONG_KIND, also where
-   the key is another kind. */
+/* Finds the object of a kind by a name, a kind or a handle. ZX_ABSENT: no object has the key. Errors: ZX_WRONG_KIND,
+   also if the key names another kind. */
 zx_code zx_find(zx_segment *segment, const zx_key *key, uint32_t kind, uint64_t *handle, uint32_t *count);
-/* Destroys the object of a name or kind, and says whether there was one; or that of a handle, where ZX_NOT_FOUND says that there is
-   none. Where there is none no byte changes. ZX_READ_ONLY. */
+/* Destroys the object of a name or kind, and says whether it existed; if not, no byte changes. Or destroys the object
+   of a handle; ZX_NOT_FOUND if none has it. Errors: ZX_READ_ONLY. */
 zx_code zx_destroy(zx_segment *segment, const zx_key *key, bool *was_there);
-/* What the object says of itself. Its name is copied to the front of `name`, which has room for it or else ZX_SHORT_BUFFER; 255
-   bytes always do. ZX_NOT_FOUND. */
+/* Tells about an object, and copies its name to the start of `name`; 255 bytes are always enough. Errors:
+   ZX_NULL_SLICE, ZX_NOT_FOUND, ZX_SHORT_BUFFER. */
 static inline zx_code zx_tell(zx_segment *segment, const zx_key *key, zx_info *info, uint8_t *name,
                               size_t room) ZX_NAMED(zx_tell_or_null);
 
-/* ---- elements: of objects of scalars, of vectors, and of strings, which have bytes
+/* ---- elements: of objects of scalars, of vectors, and of strings, whose elements are bytes
 
-   ZX_BAD_VALUE; ZX_READ_ONLY where something would change; ZX_NOT_FOUND, ZX_WRONG_KIND, ZX_OUT_OF_RANGE, ZX_NO_SPACE. */
+   Errors: ZX_BAD_VALUE; ZX_READ_ONLY if the call would change something; ZX_NOT_FOUND, ZX_WRONG_KIND,
+   ZX_OUT_OF_RANGE, ZX_NO_SPACE. */
 
 zx_code zx_get(zx_segment *segment, const zx_key *key, uint64_t index, zx_value *value);
 zx_code zx_set(zx_segment *segment, const zx_key *key, uint64_t index, const zx_value *value);
-/* Of vectors alone. zx_extend puts values behind the last element: all of them or none. */
+/* For vectors only. zx_extend appends the values: all of them or none. */
 zx_code zx_push(zx_segment *segment, const zx_key *key, const zx_value *value);
 zx_code zx_pop(zx_segment *segment, const zx_key *key, zx_value *value);
 zx_code zx_insert(zx_segment *segment, const zx_key *key, uint64_t index, const zx_value *value);
 zx_code zx_extend(zx_segment *segment, const zx_key *key, const zx_values *values);
 zx_code zx_assign(zx_segment *segment, const zx_key *key, const zx_values *values);
-/* Of vectors, and of vectors of strings. */
+/* For vectors and vectors of strings. */
 zx_code zx_erase(zx_segment *segment, const zx_key *key, uint64_t index);
-/* Of vectors, strings and vectors of strings: elements and places; of a map pairs, and 0. */
+/* For vectors, strings and vectors of strings. zx_measure tells length and capacity; of a map, the number of pairs and
+   0. zx_reserve makes the capacity at least `places`, zx_trim makes it the length, and zx_clear makes the length 0. */
 zx_code zx_measure(zx_segment *segment, const zx_key *key, uint64_t *len, uint64_t *places);
 zx_code zx_reserve(zx_segment *segment, const zx_key *key, uint64_t places);
 zx_code zx_trim(zx_segment *segment, const zx_key *key);
 zx_code zx_clear(zx_segment *segment, const zx_key *key);
 
-/* Of objects of scalars and of vectors, `count` elements at once, from `first` on, of the kind that the name says: all are copied
-   to `row`, or none. What stands in a row of truths is truths before the call too. ZX_NULL_SLICE; ZX_NOT_FOUND, ZX_WRONG_KIND;
-   ZX_OUT_OF_RANGE where there are not so many elements. */
+/* Copy `count` elements of an array or a vector to `row`, from `first` on: all of them or none. The name of the call
+   says their kind. Each byte of a row of bools is 0 or 1 before the call too. Errors: ZX_NULL_SLICE; ZX_NOT_FOUND,
+   ZX_WRONG_KIND, ZX_OUT_OF_RANGE. */
 static inline zx_code zx_read_bools(zx_segment *segment, const zx_key *key, uint64_t first, bool *row,
                                     size_t count) ZX_NAMED(zx_read_bools_or_null);
 static inline zx_code zx_read_u8s(zx_segment *segment, const zx_key *key, uint64_t first, uint8_t *row,
@@ -416,21 +429,22 @@ static inline zx_code zx_read_i64s(zx_segment *segment, const zx_key *key, uint6
                                    size_t count) ZX_NAMED(zx_read_i64s_or_null);
 static inline zx_code zx_read_u64s(zx_segment *segment, const zx_key *key, uint64_t first, uint64_t *row,
                                    size_t count) ZX_NAMED(zx_read_u64s_or_null);
-/* The same the other way: the values, of the kind of the elements, are written from `first` on, all or none. ZX_NULL_SLICE,
-   ZX_BAD_KIND; ZX_READ_ONLY, ZX_NOT_FOUND, ZX_WRONG_KIND, ZX_OUT_OF_RANGE. */
+/* Writes values of the elements' kind, from `first` on: all of them or none. Errors: ZX_NULL_SLICE, ZX_BAD_KIND;
+   ZX_READ_ONLY, ZX_NOT_FOUND, ZX_WRONG_KIND, ZX_OUT_OF_RANGE. */
 zx_code zx_write_elements(zx_segment *segment, const zx_key *key, uint64_t first, const zx_values *values);
 
-/* Where the elements of an object of scalars, a vector of them or a string stand. There they may be read between calls,
-   as long as zx_is_current. ZX_NOT_FOUND, ZX_WRONG_KIND. */
+/* Tells where the elements of an array, a vector of scalars or a string are. Between calls the program may read them
+   there, as long as zx_is_current holds. Errors: ZX_NOT_FOUND, ZX_WRONG_KIND. */
 zx_code zx_view(zx_segment *segment, const zx_key *key, zx_elements *elements);
-/* The same of elements that may be written there too, each as the bytes of a value of their kind: nothing else is
-   written. Other views stay current. ZX_READ_ONLY, ZX_NOT_FOUND, ZX_WRONG_KIND. */
+/* Tells where the elements are, as zx_view does, for a program that also writes them. It writes nothing else there, and
+   each element as the bytes of a value of its kind. Other views stay current. Errors: ZX_READ_ONLY, ZX_NOT_FOUND,
+   ZX_WRONG_KIND. */
 zx_code zx_view_mut(zx_segment *segment, const zx_key *key, zx_elements *elements);
-/* Whether the elements still stand there: no call has changed the segment since. */
+/* Tells whether the elements are still there: no call has changed the segment since the view. */
 static inline bool zx_is_current(const zx_segment *segment, const zx_elements *elements) {
     return segment->at && segment->changes == elements->changes;
 }
-/* The first of elements that zx_view_mut told of; null if they may stand elsewhere now. */
+/* Returns the address of the first element of a zx_view_mut view, or null if the view is no longer current. */
 static inline void *zx_elements_mut(const zx_segment *segment, const zx_elements *elements) {
     if (!zx_is_current(segment, elements) || !segment->shared) return NULL;
 #ifdef __cplusplus
@@ -442,7 +456,7 @@ static inline void *zx_elements_mut(const zx_segment *segment, const zx_elements
 
 /* ---- strings
 
-   A read copies the bytes to the front of the buffer. With ZX_SHORT_BUFFER `len` says how much room is wanted. */
+   A read copies the bytes to the start of the buffer. With ZX_SHORT_BUFFER `len` is the room that it needs. */
 
 static inline zx_code zx_read_string(zx_segment *segment, const zx_key *key, uint8_t *text, size_t room,
                                      uint64_t *len) ZX_NAMED(zx_read_string_or_null);
@@ -469,32 +483,32 @@ static inline zx_code zx_assign_texts(zx_segment *segment, const zx_key *key, co
 
    Keys and values take the kinds of the map, as elements do. */
 
-/* The value at a key; ZX_ABSENT where the map has no such key. */
+/* Gets the value of a map key. ZX_ABSENT: the map has no such key. */
 zx_code zx_map_get(zx_segment *segment, const zx_key *key, const zx_value *at, zx_value *value);
 zx_code zx_map_put(zx_segment *segment, const zx_key *key, const zx_value *at, const zx_value *value, bool *is_new);
-/* Where there was none no byte changes. */
+/* Removes a map key, and says whether it existed; if not, no byte changes. */
 zx_code zx_map_erase(zx_segment *segment, const zx_key *key, const zx_value *at, bool *was_there);
-/* The pair with the least key; with the least key above `after`. ZX_ABSENT where there is none. */
+/* Find the pair with the least map key; the pair with the least one above `after`. ZX_ABSENT: there is none. */
 zx_code zx_map_first(zx_segment *segment, const zx_key *key, zx_value *at, zx_value *value);
 zx_code zx_map_next(zx_segment *segment, const zx_key *key, const zx_value *after, zx_value *at, zx_value *value);
 
-/* ---- lists: what has `index` others before it, or ZX_OUT_OF_RANGE */
+/* ---- lists: the entry with `index` others before it, or ZX_OUT_OF_RANGE */
 
 zx_code zx_num_named(zx_segment *segment, uint64_t *count);
 zx_code zx_num_unique(zx_segment *segment, uint64_t *count);
-/* Objects with names, by the bytes of their names; the name as in zx_tell. */
+/* Tells about the named objects, in the order of the bytes of their names, and copies the name as zx_tell does. */
 static inline zx_code zx_named_at(zx_segment *segment, uint64_t index, zx_info *info, uint8_t *name,
                                   size_t room) ZX_NAMED(zx_named_at_or_null);
-/* How many names stand before a text, which may be any bytes: the index for zx_named_at of the first name that does
-   not. ZX_NULL_SLICE. */
+/* Counts the names below a text of any bytes: the index, for zx_named_at, of the first name that is not below it.
+   Errors: ZX_NULL_SLICE. */
 static inline zx_code zx_named_from(zx_segment *segment, const uint8_t *text, size_t len,
                                     uint64_t *index) ZX_NAMED(zx_named_from_or_null);
-/* Unique objects, by the codes of their kinds. */
+/* Tells about the unique objects, by kind code. */
 zx_code zx_unique_at(zx_segment *segment, uint64_t index, zx_info *info);
-/* Blocks and gaps, by offset. It is looked for from the first one on. */
+/* Tells about blocks and gaps, by offset. Each call walks from the first one. */
 zx_code zx_tile_at(zx_segment *segment, uint64_t index, zx_tile *tile);
 
-/* ---- the two indexes, and all of the segment. ZX_READ_ONLY where something would change; ZX_NO_SPACE. */
+/* ---- the two indexes, and the whole segment. Errors: ZX_READ_ONLY if the call would change something; ZX_NO_SPACE. */
 
 zx_code zx_reserve_named(zx_segment *segment, uint64_t places);
 zx_code zx_reserve_unique(zx_segment *segment, uint64_t places);
@@ -505,10 +519,11 @@ zx_code zx_all_deallocated(zx_segment *segment, bool *is_empty);
 
 /* ---- words */
 
-/* The words for a code, which are there as long as the program runs and end with no byte 0; empty where it is none of these. */
+/* Gives the words for a code: they last as long as the program, and no byte 0 ends them. For an unknown code they are
+   empty. */
 void zx_words(zx_code code, zx_text *words);
 
-/* ---- null slices: the calls that take a slice are inline functions, which look, and then call what is proved */
+/* ---- null slices: the calls that take a slice are inline functions, which check it and then call what is proved */
 
 static inline bool zx_are_there(const zx_text *texts, size_t count) {
     if (!texts) return false;

@@ -47,7 +47,7 @@ namespace zaluxhoni {
 
 // ---- errors
 
-/// The words of a code, as `no space`.
+/// Gives the words of a code, such as `no space`.
 inline std::string words(zx_code code) {
     zx_text text{};
     zx_file_words(code, &text);
@@ -55,7 +55,7 @@ inline std::string words(zx_code code) {
     return std::string(reinterpret_cast<const char *>(text.at), text.len);
 }
 
-/// What the library refused. `code()` is one of ZX_.. in zaluxhoni.h, and `what()` its words.
+/// The base of all errors. `code()` is one of ZX_.. in zaluxhoni.h, and `what()` its words.
 class error : public std::runtime_error {
   public:
     explicit error(zx_code code) : std::runtime_error(words(code)), code_(code) {}
@@ -65,7 +65,7 @@ class error : public std::runtime_error {
     zx_code code_;
 };
 
-/// The error of one code, so that a program can catch this one alone.
+/// The error of one code, so that a program can catch it alone.
 template <zx_code CODE> class error_of : public error {
   public:
     error_of() : error(CODE) {}
@@ -92,11 +92,11 @@ using no_memory = error_of<ZX_NO_MEMORY>;
 using short_region = error_of<ZX_SHORT_REGION>;
 using bad_growth = error_of<ZX_BAD_GROWTH>;
 using too_large = error_of<ZX_TOO_LARGE>;
-/// The segment has no file, which `save_file()` wants.
+/// The segment has no file, so `save_file()` cannot save it.
 using no_file = error_of<ZX_FILE_NONE>;
 
-/// Bytes that are no image of a segment; `number()` is that of the class in docs/FORMAT.md, from 1 to 12, and `place()`
-/// the offset of a byte that shows it, as `zx_explain` says.
+/// The bytes are no image of a segment. `number()` is the class of docs/FORMAT.md, from 1 to 12, and `place()` the
+/// offset of a byte that shows it, as `zx_explain` says.
 class bad_image : public error {
   public:
     explicit bad_image(zx_code code, std::uint64_t place = 0) : error(code), place_(place) {}
@@ -107,7 +107,7 @@ class bad_image : public error {
     std::uint64_t place_;
 };
 
-/// Throws the error of a code; where that is a class of images, with the place that shows it.
+/// Throws the error of a code; for an image class, with the offset that shows it.
 [[noreturn]] inline void throw_code(zx_code code, std::uint64_t place = 0) {
     switch (code) {
     case ZX_READ_ONLY: throw read_only();
@@ -138,8 +138,7 @@ class bad_image : public error {
     }
 }
 
-/// Why a file was refused. `code()` is the error of the system, and `file_code()` one of ZX_FILE_.. in
-/// zaluxhoni_files.h.
+/// A file was refused. `code()` is the error of the system, and `file_code()` one of ZX_FILE_.. in zaluxhoni_files.h.
 class file_error : public std::system_error {
   public:
     file_error(zx_code code, int error, const std::string &path)
@@ -150,7 +149,7 @@ class file_error : public std::system_error {
     zx_code code_;
 };
 
-/// The error of one code, so that a program can catch this one alone.
+/// The error of one code, so that a program can catch it alone.
 template <zx_code CODE> class file_error_of : public file_error {
   public:
     file_error_of(int error, const std::string &path) : file_error(CODE, error, path) {}
@@ -160,11 +159,11 @@ using file_in_use = file_error_of<ZX_FILE_IN_USE>;
 using file_exists = file_error_of<ZX_FILE_EXISTS>;
 using file_missing = file_error_of<ZX_FILE_MISSING>;
 using file_replaced = file_error_of<ZX_FILE_REPLACED>;
-/// The file is saved, but its folder was not synced.
+/// The file is saved, but its folder is not synced.
 using file_unsynced = file_error_of<ZX_FILE_UNSYNCED>;
 using file_forked = file_error_of<ZX_FILE_FORKED>;
 
-/// Throws the error of a code that a call for a file answered.
+/// Throws the error of a code that a file call returned.
 [[noreturn]] inline void throw_file_code(zx_code code, const zx_file &file, const std::string &path) {
     const int error = file.error;
     switch (code) {
@@ -180,12 +179,12 @@ using file_forked = file_error_of<ZX_FILE_FORKED>;
     }
 }
 
-/// Throws where the code is not ZX_DONE.
+/// Throws unless the code is ZX_DONE.
 inline void check_code(zx_code code) {
     if (code != ZX_DONE) throw_code(code);
 }
 
-/// Whether it is done, or nothing is there.
+/// Tells whether a call found something; throws on an error.
 inline bool is_there(zx_code code) {
     if (code == ZX_ABSENT) return false;
     check_code(code);
@@ -203,7 +202,7 @@ inline constexpr bool is_character = std::is_same_v<T, char> || std::is_same_v<T
 #endif
                                      std::is_same_v<T, char16_t> || std::is_same_v<T, char32_t>;
 
-/// The scalar of the library that T is, or 0.
+/// The library's scalar kind for T, or 0.
 template <class T> constexpr std::uint32_t scalar_kind() {
     if (std::is_same_v<T, bool>) return ZX_BOOL;
     if (!std::is_integral_v<T> || is_character<T>) return 0;
@@ -213,7 +212,7 @@ template <class T> constexpr std::uint32_t scalar_kind() {
     return 0;
 }
 
-/// Whether values of T mean something only where what they lead to is.
+/// Whether values of T refer to memory outside themselves.
 template <class T> inline constexpr bool leads_elsewhere =
     std::is_pointer_v<T> || std::is_member_pointer_v<T> || std::is_null_pointer_v<T>;
 template <class C, class R> inline constexpr bool leads_elsewhere<std::basic_string_view<C, R>> = true;
@@ -223,35 +222,35 @@ template <class T> inline constexpr bool leads_elsewhere<std::reference_wrapper<
 template <class T, std::size_t N> inline constexpr bool leads_elsewhere<std::span<T, N>> = true;
 #endif
 
-/// A product, or the largest number, which is no index of anything.
+/// The product, or the largest number if it overflows: that is never an index.
 constexpr std::uint64_t product(std::uint64_t a, std::uint64_t b) {
     return b != 0 && a > UINT64_MAX / b ? UINT64_MAX : a * b;
 }
 
 } // namespace detail
 
-/// Whether T is a scalar of the library: bool, or an integer of 8 bits without a sign, of 32 bits with one, or of 64.
+/// Whether T is a scalar of the library: bool, uint8_t, int32_t, int64_t or uint64_t.
 template <class T> inline constexpr bool is_scalar = detail::scalar_kind<T>() != 0;
 
-/// Whether T can be stored: a scalar, or what is copied byte by byte and leads nowhere else: a number of another width,
-/// `double`, an enum, a struct of such. No pointer, no view, no std::string.
+/// Whether T can be stored: a scalar, or a trivially copyable type that refers to nothing else, such as `double`, an
+/// integer of another width, an enum, or a struct of such. Pointers, views and std::string cannot.
 template <class T>
 inline constexpr bool is_storable = std::is_trivially_copyable_v<T> && std::is_default_constructible_v<T> &&
                                     std::is_object_v<T> && !std::is_array_v<T> && !std::is_const_v<T> &&
                                     !detail::leads_elsewhere<T>;
 
-/// How values of T are stored: a scalar as what it is, any other as its bytes, each a std::uint8_t.
+/// How values of T are stored: a scalar as itself, any other type as its bytes, each a std::uint8_t.
 template <class T> struct stored {
     static_assert(is_storable<T>, "this type cannot be stored: it is not copied byte by byte, or it leads elsewhere");
     static constexpr std::uint32_t kind = is_scalar<T> ? detail::scalar_kind<T>() : std::uint32_t{ZX_U8};
-    /// How many elements of the kind a value is.
+    /// How many elements of the kind make one value.
     static constexpr std::uint64_t width = is_scalar<T> ? 1 : sizeof(T);
 
     static zx_value value(T of) {
         if constexpr (kind == ZX_I32 || kind == ZX_I64) return zx_number(kind, of);
         else return zx_natural(kind, of);
     }
-    /// Throws `wrong_kind` where the value is of another kind.
+    /// Throws `wrong_kind` if the value is of another kind.
     static T from(const zx_value &value) {
         if (value.kind != kind) throw wrong_kind();
         if constexpr (kind == ZX_I32 || kind == ZX_I64) return static_cast<T>(value.number);
@@ -264,7 +263,7 @@ template <class T> struct stored {
         else if constexpr (kind == ZX_U64) return zx_u64s(reinterpret_cast<const std::uint64_t *>(at), count);
         else return zx_u8s(reinterpret_cast<const std::uint8_t *>(at), count * sizeof(T));
     }
-    /// Copies elements, from one on.
+    /// Copies elements, from `first` on.
     static zx_code read(zx_segment *of, const zx_key *at, std::uint64_t first, T *row, std::size_t count) {
         static T none{};
         if (row == nullptr && count == 0) row = &none;
@@ -279,8 +278,8 @@ template <class T> struct stored {
     }
 };
 
-/// The kind of an object, for the type of C++ that says it: one that can be stored, `std::string`, `std::vector` of one
-/// that can be stored or of `std::string`, `std::map` from scalars to scalars.
+/// The object kind for a C++ type: a type that can be stored, `std::string`, `std::vector` of a type that can be stored
+/// or of `std::string`, or `std::map` from scalars to scalars.
 template <class T> struct object_kind {
     static constexpr std::uint32_t code = stored<T>::kind;
 };
@@ -305,7 +304,7 @@ template <class T> inline constexpr std::uint32_t kind_of = object_kind<T>::code
 
 namespace detail {
 
-/// What a number is passed as: the number that an enum without a class is, and the value that an element stands for.
+/// The number that stands for a passed value: an unscoped enum as its integer, an element as its value.
 template <class T, class = void> struct plain {
     using type = T;
 };
@@ -322,7 +321,7 @@ template <class T, class U, class = void> inline constexpr bool is_made_of = fal
 template <class T, class U>
 inline constexpr bool is_made_of<T, U, std::void_t<decltype(T{std::declval<const U &>()})>> = true;
 
-/// Whether a U may be a number of T: a truth is one of truths alone, and a fraction none of whole numbers.
+/// Whether a U may be passed for a T: only a bool for a bool, and no fraction for an integer.
 template <class T, class U> constexpr bool may_be() {
     if constexpr (std::is_same_v<T, U>) return true;
     else if constexpr (std::is_class_v<U>) return std::is_convertible_v<const U &, T> && is_made_of<T, U>;
@@ -335,7 +334,7 @@ template <class T, class U> constexpr bool is_in_range(U value) {
     if constexpr (std::is_floating_point_v<U>) {
         return !(value < limits::lowest() || value > limits::max()) || value - value != 0;
     } else if constexpr (std::is_floating_point_v<T>) {
-        // as many bits as the fraction has, and zeros behind them
+        // as many bits as the fraction has, and zeros after them
         std::uintmax_t bits = value < 0 ? 0 - static_cast<std::uintmax_t>(value) : static_cast<std::uintmax_t>(value);
         while (bits != 0 && bits % 2 == 0) bits /= 2;
         return limits::digits >= 64 || bits >> (limits::digits % 64) == 0;
@@ -349,8 +348,8 @@ template <class T, class U> constexpr bool is_in_range(U value) {
 
 } // namespace detail
 
-/// A number or a truth that is passed for a T. One of another type is taken where its value is in the range of T; else
-/// that throws `out_of_range`. A fraction for a whole number, a pointer for a truth and a truth for a number do not
+/// A number or a bool that is passed for a T. A number of another type is accepted if T can represent it; otherwise the
+/// constructor throws `out_of_range`. A fraction for an integer, a pointer for a bool and a bool for a number do not
 /// compile.
 template <class T> class number {
   public:
@@ -390,8 +389,8 @@ template <class T, class R> inline constexpr bool
 
 } // namespace detail
 
-/// Elements that are passed, for as long as the call takes: a pointer and how many, a list in braces, or a range. Those
-/// that stand side by side are not copied.
+/// Elements that are passed to a call, for the time of the call: a pointer and a count, a list in braces, or a range.
+/// Contiguous elements are not copied.
 template <class T> class slice {
     using listed = std::conditional_t<std::is_arithmetic_v<T>, number<T>, T>;
 
@@ -411,7 +410,7 @@ template <class T> class slice {
         }
     }
 
-    /// Not null, where there is no element.
+    /// Not null, even without elements.
     const T *data() const noexcept {
         static const T none{};
         return at_ == nullptr && count_ == 0 ? &none : at_;
@@ -434,14 +433,14 @@ template <class T> class slice {
     std::unique_ptr<T[]> copy_;
 };
 
-/// The bytes of a text, not null.
+/// The bytes of a text; never null.
 inline const std::uint8_t *bytes_of(std::string_view text) {
     return reinterpret_cast<const std::uint8_t *>(text.data() != nullptr ? text.data() : "");
 }
 
 namespace detail {
 
-/// A text of a list, and no null pointer.
+/// A text of a list; never a null pointer.
 class text {
   public:
     template <class T, std::enable_if_t<
@@ -469,8 +468,8 @@ inline constexpr bool is_texts<R, std::void_t<decltype(*std::begin(std::declval<
 
 } // namespace detail
 
-/// Texts that are passed, for as long as the call takes: a list in braces, or a range of strings, views of strings or
-/// literals, as `std::vector<std::string>`.
+/// Texts that are passed to a call, for the time of the call: a list in braces, or a range of strings, string views or
+/// literals, such as `std::vector<std::string>`.
 class texts {
   public:
     texts() : texts(nullptr, 0) {}
@@ -483,7 +482,7 @@ class texts {
         take(std::begin(range), std::end(range));
     }
 
-    /// As the library takes them, and not null. They lead to the bytes of those that they are made of.
+    /// The texts as the library takes them; never null. They point to the bytes of the strings that were passed.
     const zx_text *data() const noexcept { return passed_.data(); }
     std::size_t size() const noexcept { return passed_.size() - 1; }
     std::vector<std::string> copies() const {
@@ -506,23 +505,24 @@ class texts {
     std::vector<zx_text> passed_;
 };
 
-/// Which object: a name, which is kept in it, or what `unique`, `by_handle` and `anonymous` give.
+/// A key says which object a call is for: a name, which the key copies, or what `unique`, `by_handle` and `anonymous`
+/// return.
 class key {
   public:
     key(std::string_view name) : how_(ZX_BY_NAME), name_(name) {}
     key(std::string name) : how_(ZX_BY_NAME), name_(std::move(name)) {}
     key(const char *name) : how_(name != nullptr ? ZX_BY_NAME : ZX_NULL_NAME), name_(name != nullptr ? name : "") {}
 
-    /// The unique object of a kind.
+    /// Returns the key of the unique object of a kind.
     static key unique_of(std::uint32_t kind) { return key(ZX_BY_KIND, kind, 0); }
     template <class T> static key unique() { return unique_of(kind_of<T>); }
-    /// The object of a handle.
+    /// Returns the key of the object with a handle.
     static key by_handle(std::uint64_t handle) { return key(ZX_BY_HANDLE, 0, handle); }
-    /// A new object without a key.
+    /// Returns the key of a new object without a key.
     static key anonymous() { return key(ZX_NO_KEY, 0, 0); }
 
     [[nodiscard]] bool is_handle() const noexcept { return how_ == ZX_BY_HANDLE; }
-    /// As the library takes it; it leads to the name that is kept here.
+    /// Returns the key as the library takes it; it points to the name in this key.
     [[nodiscard]] zx_key raw() const noexcept { return {how_, kind_, handle_, bytes_of(name_), name_.size()}; }
 
     friend bool operator==(const key &a, const key &b) {
@@ -543,7 +543,7 @@ class key {
 
 // ---- what calls answer
 
-/// An object that was found or made: its handle, and how many values it has (1 where it is no object of such).
+/// An object that a call found or made: its handle, and its number of values, which is 1 for a container.
 struct found {
     std::uint64_t handle;
     std::uint32_t count;
@@ -552,7 +552,7 @@ struct found {
     friend bool operator!=(const found &a, const found &b) { return !(a == b); }
 };
 
-/// What an object says of itself. `name` is empty where it has none.
+/// What `tell` returns about an object. `name` is empty for an object without a name.
 struct info {
     std::uint32_t found_by;
     std::uint32_t kind;
@@ -567,7 +567,7 @@ struct info {
     friend bool operator!=(const info &a, const info &b) { return !(a == b); }
 };
 
-/// Elements, and places for elements.
+/// Length and capacity.
 struct measures {
     std::uint64_t len;
     std::uint64_t places;
@@ -593,19 +593,19 @@ class strings;
 
 namespace detail {
 
-/// What a segment is, at a place that stays the same.
+/// The state of a segment, at an address that never changes.
 struct state {
     zx_file file{};
     std::string path;
     bool grows = false;
 
     zx_segment *raw() noexcept { return &file.segment; }
-    /// Throws where the code is not ZX_DONE, as `file_error` where it is one of the file's.
+    /// Throws unless the code is ZX_DONE; a `file_error` for a code of files.
     void check(zx_code code) const {
         if (code != ZX_DONE) throw_file_code(code, file, path);
     }
 
-    /// A call that may need space: where there is none, and the segment grows by itself, it is made longer.
+    /// Makes a call that may need space. If there is none, and the segment grows by itself, makes the segment longer.
     template <class Call> void change(Call call) {
         const zx_code code = call(raw());
         if (code == ZX_NO_SPACE && grows) check(in_more_space(call));
@@ -621,7 +621,7 @@ struct state {
     }
 
   private:
-    /// Where it cannot be long enough, it becomes as long as it was.
+    /// If the segment cannot become long enough, it gets its old length back.
     template <class Call> zx_code in_more_space(Call call) {
         std::uint64_t before = 0, size = 0;
         zx_code code = ZX_NO_SPACE;
@@ -636,14 +636,14 @@ struct state {
     }
 };
 
-/// What a segment was, to which it is put back at the end, unless that is given up.
+/// A copy of a segment, from which the destructor restores it, unless the change is committed.
 class snapshot {
   public:
     explicit snapshot(state &of) : of_(of) { check_code(zx_begin(of_.raw(), &before_)); }
     snapshot(const snapshot &) = delete;
     ~snapshot() {
         if (before_.at == nullptr || zx_file_rollback(&of_.file, &before_) == ZX_DONE) return;
-        // a segment that cannot be put back is closed, so that nobody takes it for what it was
+        // closes a segment that cannot be restored, so that nobody takes it for the old one
         zx_commit(&before_);
         zx_file_discard(&of_.file);
     }
@@ -654,7 +654,7 @@ class snapshot {
     zx_segment before_{};
 };
 
-/// An object by its handle. It is good for as long as the segment is, or something that was asked of it.
+/// An object by its handle. It stays valid as long as the segment, or anything that was asked of it.
 struct spot {
     state *of = nullptr;
     std::uint64_t handle = 0;
@@ -671,7 +671,7 @@ struct spot {
     friend bool operator==(const spot &a, const spot &b) { return a.of == b.of && a.handle == b.handle; }
 };
 
-/// Reads a text by a call that says how much room it wants.
+/// Reads a text by a call that says how much room it needs.
 template <class Read> std::string text_by(Read read) {
     std::string text(256, '\0');
     std::uint64_t len = 0;
@@ -685,7 +685,7 @@ template <class Read> std::string text_by(Read read) {
     return text;
 }
 
-/// The info that a call gives, with the name that it copies.
+/// Gets the info from a call, with the name that it copies.
 template <class Tell> zx_code info_by(Tell tell, info &told) {
     zx_info raw{};
     std::uint8_t name[255] = {};
@@ -697,7 +697,7 @@ template <class Tell> zx_code info_by(Tell tell, info &told) {
     return code;
 }
 
-/// What the object with so many names before its own says of itself; whether there is one.
+/// Tells about the object whose name has `index` others before it; returns whether there is one.
 inline bool named_at(zx_segment *of, std::uint64_t index, info &told) {
     const zx_code code = info_by(
         [&](zx_info *said, std::uint8_t *name, std::size_t room) { return zx_named_at(of, index, said, name, room); },
@@ -706,20 +706,20 @@ inline bool named_at(zx_segment *of, std::uint64_t index, info &told) {
     return code == ZX_DONE;
 }
 
-/// How many names stand before a text.
+/// Counts the names below a text.
 inline std::uint64_t named_from(zx_segment *of, std::string_view text) {
     std::uint64_t index = 0;
     check_code(zx_named_from(of, bytes_of(text), text.size(), &index));
     return index;
 }
 
-/// So many values as the elements are, or `wrong_kind`: bytes of another type.
+/// Converts a number of elements to a number of values; throws `wrong_kind` if bytes are left over.
 template <class T> std::uint64_t whole(std::uint64_t elements) {
     if (elements % stored<T>::width != 0) throw wrong_kind();
     return elements / stored<T>::width;
 }
 
-// -- how the elements of each kind of object are read and set. `begun` is what `+=` and its like begin with
+// -- how the elements of each kind of object are read and set; `begun` is the value that `+=` and its like begin with
 
 /// The values of an array or a vector, and the bytes of a string.
 template <class T> struct values {
@@ -750,7 +750,7 @@ template <class T> struct values {
     }
 };
 
-/// The texts of a vector of strings.
+/// The strings of a vector of strings.
 struct lines {
     using index_type = std::uint64_t;
     using value_type = std::string;
@@ -793,7 +793,7 @@ template <class K, class V> struct pairs {
     static void set(const spot &of, K at, V value) { put(of, at, value); }
 };
 
-/// A number that the type has, or `out_of_range`.
+/// Returns the number, or throws `out_of_range` if the type cannot represent it.
 template <class T> T in_range(bool is_too_large, T number) {
     if (is_too_large) throw out_of_range();
     return number;
@@ -837,7 +837,7 @@ template <class T> T quotient(T a, T b) {
     }
 }
 
-/// What a value is read through by `->`.
+/// Holds a value that is read through `->`.
 template <class T> class arrow {
   public:
     explicit arrow(T value) : value_(std::move(value)) {}
@@ -847,8 +847,8 @@ template <class T> class arrow {
     T value_;
 };
 
-/// One element, which is read where a value is wanted and set where one is assigned. It is good for as long as the
-/// segment is.
+/// One element. It reads when a value is needed, and writes when one is assigned. It stays valid as long as the
+/// segment.
 template <class Access> class element {
   public:
     using value_type = typename Access::value_type;
@@ -871,7 +871,7 @@ template <class Access> class element {
         return *this;
     }
 
-    // those of integers throw `out_of_range` where the result does not fit
+    // integer operators throw `out_of_range` if the result does not fit
     const element &operator+=(value_of<value_type> by) const { return to(sum<value_type>(begun(), by)); }
     const element &operator-=(value_of<value_type> by) const { return to(difference<value_type>(begun(), by)); }
     const element &operator*=(value_of<value_type> by) const { return to(times<value_type>(begun(), by)); }
@@ -906,10 +906,10 @@ template <class Access> class element {
     typename Access::index_type at_;
 };
 
-/// What is read as a text by `str()`: a string, and an element of a vector of strings.
+/// Base of what `str()` reads as a text: a string, and an element of a vector of strings.
 struct read_as_text {};
 
-/// The same of a text.
+/// One string of a vector of strings, as an element.
 template <> class element<lines> : public read_as_text {
   public:
     using value_type = std::string;
@@ -951,13 +951,13 @@ inline constexpr bool are_texts =
     (is_text_read<A> && (is_text_read<B> || std::is_convertible_v<const B &, std::string_view>)) ||
     (is_text_read<B> && std::is_convertible_v<const A &, std::string_view>);
 
-/// The text that is read, or that is there.
+/// Returns the text that it reads, or the text itself.
 template <class T> auto text_of(const T &of) {
     if constexpr (is_text_read<T>) return of.str();
     else return std::string_view(of);
 }
 
-// -- over what has places from 0 on. R is what an iterator leads to: a value, or an element
+// -- iterators over elements from index 0 on; R is the reference type: a value, or an element
 
 template <class Access, class R> class iterator {
   public:
@@ -1009,7 +1009,7 @@ template <class Access, class R> class iterator {
     std::uint64_t index_ = 0;
 };
 
-// -- texts that are read, compared and written
+// -- texts: reading, comparing and printing
 
 template <class A, class B, std::enable_if_t<are_texts<A, B>, int> = 0> bool operator==(const A &a, const B &b) {
     return text_of(a) == text_of(b);
@@ -1036,7 +1036,7 @@ std::basic_ostream<char, Traits> &operator<<(std::basic_ostream<char, Traits> &o
 
 } // namespace detail
 
-/// Whether bytes are the image of a segment; else the code of the class that refuses them.
+/// Checks whether bytes are the image of a segment: returns ZX_DONE, or the code of the class that rejects them.
 [[nodiscard]] inline zx_code check_image(slice<std::uint8_t> image) {
     const zx_code code = zx_check(image.data(), image.size());
     if (code == ZX_NO_MEMORY || code == ZX_NULL_SLICE) throw_code(code);
@@ -1045,17 +1045,16 @@ std::basic_ostream<char, Traits> &operator<<(std::basic_ostream<char, Traits> &o
 
 // ---- the segment
 
-/// A segment, which its destructor frees. Only `save`, `save_file` and `close_file` save what it has. It moves and is
-/// not copied; each call of one that was moved from, or closed, throws `closed`.
-///
-/// One that was opened from a file for writing, or that created it, holds the file until it is closed: any other that
-/// opens it for writing, in this program or elsewhere, gets `file_in_use`.
+/// A segment, which the destructor frees. Only `save`, `save_file` and `close_file` save it. It can be moved, but not
+/// copied. After a move from it, or after it is closed, each of its calls throws `closed`. A segment that was opened
+/// from a file for writing, or that created it, holds the file until it is closed: anyone else who opens the file for
+/// writing, in this program or another one, gets `file_in_use`.
 class segment {
   public:
-    /// Has no segment.
+    /// Constructs a closed segment.
     segment() = default;
     segment(segment &&) noexcept = default;
-    /// Frees the segment that was there, as `close` does.
+    /// Frees the old segment, as `close` does.
     segment &operator=(segment &&other) noexcept {
         if (this != &other) {
             close();
@@ -1065,15 +1064,14 @@ class segment {
     }
     ~segment() { close(); }
 
-    /// An empty segment of `size` bytes: 144, or a multiple of 16 from 176 to 1073741824.
+    /// Creates an empty segment of `size` bytes: 144, or a multiple of 16 from 176 to 1073741824.
     [[nodiscard]] static segment create(std::uint64_t size) {
         segment made = allotted();
         check_code(zx_create(made.raw(), size));
         return made;
     }
 
-    /// The segment whose image the bytes are, in a region of `capacity` bytes; where that is 0, of as many as the image
-    /// has.
+    /// Opens a copy of the image, in a region of `capacity` bytes; 0 means the size of the image.
     [[nodiscard]] static segment open(slice<std::uint8_t> image, zaluxhoni::mode how = zaluxhoni::mode::write,
                                       std::uint64_t capacity = 0) {
         segment made = allotted();
@@ -1081,7 +1079,7 @@ class segment {
         zx_code code = zx_open(made.raw(), image.data(), image.size(), capacity != 0 ? capacity : least,
                                static_cast<std::uint32_t>(how));
         std::uint64_t place = 0;
-        // an image that says more bytes than there are is refused by that class
+        // an image that states more bytes than there are is rejected by that class
         if (code >= ZX_TRUNCATED || (code == ZX_SHORT_REGION && capacity == 0))
             code = zx_explain(image.data(), image.size(), &place);
         if (code != ZX_DONE) throw_code(code, place);
@@ -1092,16 +1090,16 @@ class segment {
     [[nodiscard]] static segment open_file(const std::string &path, zaluxhoni::mode how = zaluxhoni::mode::write) {
         return of_file(path, file_mode(how), 0);
     }
-    /// Opens it for writing; creates it with an empty segment of `size` bytes if it does not exist.
+    /// Opens a file for writing, or creates it with an empty segment of `size` bytes.
     [[nodiscard]] static segment open_or_create_file(const std::string &path, std::uint64_t size) {
         return of_file(path, ZX_OPEN_OR_CREATE, size);
     }
-    /// Creates a file with an empty segment of `size` bytes. Throws `file_exists` if something exists there.
+    /// Creates a file with an empty segment of `size` bytes. Throws `file_exists` if something exists at the path.
     [[nodiscard]] static segment create_file(const std::string &path, std::uint64_t size) {
         return of_file(path, ZX_CREATE_ONLY, size);
     }
 
-    /// The same with the file mapped: opening copies nothing, and each change is in the file at once.
+    /// Opens the segment of a file, and maps the file: opening copies nothing, and each change is in the file at once.
     /// zaluxhoni_files.h says what that costs.
     [[nodiscard]] static segment map_file(const std::string &path, zaluxhoni::mode how = zaluxhoni::mode::write) {
         return of_file(path, file_mode(how) | ZX_MAPPED, 0);
@@ -1113,37 +1111,38 @@ class segment {
         return of_file(path, ZX_CREATE_ONLY | ZX_MAPPED, size);
     }
 
-    /// Frees the segment and saves nothing; removes a file that it created and never saved. What was asked of it throws
-    /// `closed` from then on.
+    /// Frees the segment without saving, and removes a file that it created and never saved. Everything that was asked
+    /// of it throws `closed` from then on.
     void close() noexcept {
         if (state_ != nullptr) zx_file_discard(&state_->file);
     }
     [[nodiscard]] bool is_open() const noexcept { return state_ != nullptr && state_->raw()->at != nullptr; }
     explicit operator bool() const noexcept { return is_open(); }
-    /// For the calls of zaluxhoni.h.
+    /// Returns the handle for the calls of zaluxhoni.h.
     [[nodiscard]] zx_segment *raw() const { return state().raw(); }
 
-    /// The image.
+    /// Returns the image.
     [[nodiscard]] std::vector<std::uint8_t> save() const {
         std::vector<std::uint8_t> image(size());
         save(image.data(), image.size());
         return image;
     }
-    /// Copies the image to the front of a buffer: as many bytes as `size()` says.
+    /// Copies the image to the start of a buffer: `size()` bytes.
     void save(std::uint8_t *image, std::size_t room) const { check_code(zx_save(raw(), image, room)); }
 
-    /// Saves the file that the segment was opened from, unless it has just these bytes: a new file takes its place when
-    /// all of it is on the disk. Whatever fails, one of the two stands whole under the name. Throws `file_error` if the
-    /// file is refused; after `file_unsynced` alone it is saved.
+    /// Saves the segment in its file, unless the file has these bytes already. A new file replaces the old one when it
+    /// is wholly on the disk. Whatever fails, the name leads to the whole old image or the whole new one. Throws
+    /// `file_error` if the file is refused; only after `file_unsynced` it is saved.
     void save_file() const { state().check(zx_file_save(&state().file)); }
-    /// Waits until the changes of a mapped file are on the disk; saves another one.
+    /// Waits until the changes of a mapped file are on the disk; saves any other file.
     void flush_file() const { state().check(zx_file_flush(&state().file)); }
-    /// Saves as `save_file` does, and frees the segment. Of a mapped file it waits for nothing.
+    /// Saves as `save_file` does, and frees the segment. For a mapped file it does not wait for the disk.
     void close_file() {
         if (!is_open()) throw closed();
         state().check(zx_file_close(&state().file));
     }
-    /// Puts the image into the file of a path, which is created if it does not exist; its own file is saved as above.
+    /// Saves the image to the file at a path, and creates that file if it does not exist. For the segment's own file it
+    /// is `save_file()`.
     void save_file(const std::string &path) const {
         const zx_code code = zx_file_save_as(&state().file, whole(path).c_str(), ZX_OPEN_OR_CREATE);
         if (code != ZX_DONE) throw_file_code(code, state().file, path);
@@ -1151,17 +1150,17 @@ class segment {
 
     /// Makes the segment longer by `extra` bytes: a multiple of 16, at least 32.
     void grow(std::uint64_t extra) { state().check(zx_file_grow(&state().file, extra)); }
-    /// Makes the segment as short as its last block lets it be.
+    /// Cuts the free bytes off the end of the segment.
     void shrink() { state().check(zx_file_shrink(&state().file)); }
     /// Moves the segment into a region of `capacity` bytes.
     void relocate(std::uint64_t capacity) { check_code(zx_relocate(raw(), capacity)); }
 
-    /// Whether a call that finds no space makes the segment longer by half and goes on. Where the segment cannot be
-    /// long enough, the call throws `too_large` or `no_memory`, and the segment is as long as before.
+    /// Lets the segment grow by itself: a call that finds no space makes it longer by half, and continues. If it cannot
+    /// become long enough, the call throws `too_large` or `no_memory`, and the length is unchanged.
     void set_growing(bool grows) { state().grows = grows; }
     [[nodiscard]] bool is_growing() const { return state().grows; }
-    /// Calls `call`, and where it throws `no_space` makes the segment longer by half and calls it again. Where the
-    /// segment cannot become longer it throws `too_large` or `no_memory`, and stays as long as it has become by then.
+    /// Runs `call`. Each time it throws `no_space`, makes the segment longer by half and runs it again. If the segment
+    /// cannot grow further, throws `too_large` or `no_memory`; the segment keeps the length that it has by then.
     template <class Call> auto growing(Call call) -> decltype(call()) {
         for (;;) {
             try {
@@ -1172,9 +1171,9 @@ class segment {
         }
     }
 
-    /// Calls `call`, as one step: where it throws, the segment is again what it was before, and the error goes on.
-    /// Steps may lie in one another. It copies the segment. Of a file it saves nothing. Where there is no memory, or no
-    /// room in a mapped file, to make it what it was, it is closed.
+    /// Runs `call` as one step: if it throws, restores the segment and passes the exception on. Steps may nest. It
+    /// copies the segment, and saves no file. If memory, or room in a mapped file, is missing to restore the segment,
+    /// it is closed.
     template <class Call> auto transaction(Call call) -> decltype(call()) {
         detail::snapshot before(state());
         if constexpr (std::is_void_v<decltype(call())>) {
@@ -1196,9 +1195,9 @@ class segment {
     [[nodiscard]] std::uint64_t free_bytes() const { return number_by(zx_free_bytes); }
     [[nodiscard]] std::uint64_t region_left() const { return number_by(zx_region_left); }
 
-    // -- objects, which are made, found, told of and destroyed
+    // -- objects: made, found, described and destroyed
 
-    /// Makes `count` times a value, and gives the handle of the object: `construct<std::int64_t>("a", 5)`.
+    /// Makes an object of `count` times the value, and returns its handle: `construct<std::int64_t>("a", 5)`.
     template <class T> std::uint64_t construct(const key &at, value_of<T> value, std::uint64_t count = 1) {
         if constexpr (is_scalar<T>) {
             const zx_value passed = stored<T>::value(value);
@@ -1207,7 +1206,7 @@ class segment {
             return construct_array<T>(at, std::vector<T>(count_of(count), value));
         }
     }
-    /// Makes an array of these values, 1 to 1048576 of them; of a type that is no scalar as many as have so many bytes.
+    /// Makes an array of 1 to 1048576 values; for a type that is no scalar, of at most that many bytes.
     template <class T> std::uint64_t construct_array(const key &at, slice<T> values) {
         const zx_values passed = stored<T>::values(values.data(), values.size());
         return made(zx_construct_array, at, &passed);
@@ -1227,8 +1226,8 @@ class segment {
         return made(zx_construct_map, at, kind_of<K>, kind_of<V>);
     }
 
-    /// Finds the object, which stays as it is, or makes it. Where one of another kind has the key it throws
-    /// `wrong_kind`.
+    /// Finds the object, which stays unchanged, or makes it. Throws `wrong_kind` if an object of another kind has the
+    /// key.
     template <class T> found find_or_construct(const key &at, value_of<T> value, std::uint64_t count = 1) {
         if constexpr (is_scalar<T>) {
             const zx_value passed = stored<T>::value(value);
@@ -1253,9 +1252,9 @@ class segment {
         return found_or_made(zx_find_or_construct_map, at, kind_of<K>, kind_of<V>);
     }
 
-    /// The object of a key, where there is one. T says its kind: a type that can be stored, `std::string`,
-    /// `std::vector<std::string>`, `std::vector<std::int64_t>`, `std::map<std::int32_t, std::int64_t>`. Where one of
-    /// another kind has the key it throws `wrong_kind`.
+    /// Finds the object of a key, if there is one. T says its kind: a type that can be stored, `std::string`,
+    /// `std::vector<std::string>`, `std::vector<std::int64_t>`, `std::map<std::int32_t, std::int64_t>`. Throws
+    /// `wrong_kind` if an object of another kind has the key.
     template <class T> [[nodiscard]] std::optional<found> find(const key &at) const {
         std::optional<found> had = find_kind(at, kind_of<T>);
         if constexpr (is_storable<T>) {
@@ -1263,7 +1262,7 @@ class segment {
         }
         return had;
     }
-    /// Whether there is an object of the key, of whatever kind.
+    /// Tells whether an object has the key, whatever its kind.
     [[nodiscard]] bool contains(const key &at) const {
         const zx_key raw_key = at.raw();
         zx_info told{};
@@ -1273,8 +1272,8 @@ class segment {
         return code == ZX_DONE;
     }
 
-    /// Destroys the object of a name or of a kind, and says whether there was one; or that of a handle, or throws
-    /// `not_found`.
+    /// Destroys the object of a name or kind, and returns whether it existed; or destroys the object of a handle, and
+    /// throws `not_found` if there is none.
     bool destroy(const key &at) {
         const zx_key raw_key = at.raw();
         bool was_there = false;
@@ -1318,7 +1317,7 @@ class segment {
         }
     }
 
-    // -- many values of an array or a vector, from one on: all of them or none
+    // -- many values of an array or a vector, from `first` on: all of them or none
 
     template <class T> void read(const key &at, std::uint64_t first, T *row, std::size_t count) const {
         const zx_key raw_key = at.raw();
@@ -1330,8 +1329,7 @@ class segment {
         check_code(zx_write_elements(raw(), &raw_key, detail::product(first, stored<T>::width), &passed));
     }
 
-    // -- one object, as what it is. A container that is not there is made, empty; of a segment that is const it is
-    // there, or that throws `not_found`
+    // -- one object, by its type. A missing container is made, empty; a const segment throws `not_found` instead
 
     template <class T> [[nodiscard]] zaluxhoni::array<T> array(const key &at);
     template <class T> [[nodiscard]] const_array<T> array(const key &at) const;
@@ -1348,7 +1346,7 @@ class segment {
 
     [[nodiscard]] std::uint64_t num_named() const { return number_by(zx_num_named); }
     [[nodiscard]] std::uint64_t num_unique() const { return number_by(zx_num_unique); }
-    /// Objects with names, by the bytes of their names; and the unique ones, by the codes of their kinds.
+    /// Lists the named objects by the bytes of their names; `unique` lists the unique ones by kind code.
     [[nodiscard]] std::vector<info> named() const {
         std::vector<info> all;
         info told{};
@@ -1363,10 +1361,9 @@ class segment {
             all.push_back(told);
         return all;
     }
-    /// The objects whose names begin with a text.
+    /// Returns the objects whose names begin with a text.
     [[nodiscard]] zaluxhoni::group group(std::string prefix) const;
-    /// Blocks and gaps, by offset. Each is looked for from the first one on, so all of them take as long as the square
-    /// of their number.
+    /// Lists blocks and gaps by offset. Each is searched from the first one, so the list takes quadratic time.
     [[nodiscard]] std::vector<zx_tile> tiles() const {
         std::vector<zx_tile> all;
         zx_tile tile{};
@@ -1374,7 +1371,7 @@ class segment {
         return all;
     }
 
-    // -- the two indexes, and all of the segment
+    // -- the two indexes, and the whole segment
 
     void reserve_named(std::uint64_t places) {
         state().change([&](zx_segment *raw) { return zx_reserve_named(raw, places); });
@@ -1413,7 +1410,7 @@ class segment {
         return made;
     }
 
-    /// A path without a byte 0.
+    /// Returns the path; throws if it has a byte 0.
     static const std::string &whole(const std::string &path) {
         if (path.find('\0') != std::string::npos) throw file_error(ZX_FILE_FAULT, EINVAL, path);
         return path;
@@ -1424,7 +1421,7 @@ class segment {
         return *state_;
     }
 
-    /// A number of values that an object can have, or `bad_count`.
+    /// Returns the count; throws `bad_count` if no object can have so many values.
     static std::uint32_t count_of(std::uint64_t count) {
         if (count > UINT32_MAX) throw bad_count();
         return static_cast<std::uint32_t>(count);
@@ -1436,13 +1433,13 @@ class segment {
         if (!is_there(zx_find(raw(), &raw_key, kind, &had.handle, &had.count))) return std::nullopt;
         return had;
     }
-    /// The handle of an object of the kind. Throws `not_found` where there is none.
+    /// Returns the handle of an object of the kind. Throws `not_found` if there is none.
     std::uint64_t existing(const key &at, std::uint32_t kind) const {
         const std::optional<found> had = find_kind(at, kind);
         if (!had) throw not_found();
         return had->handle;
     }
-    /// The same; it is made where no object has the name, or is of the kind.
+    /// Returns the handle of an object of the kind, and makes the object if none has the key.
     template <class Make> std::uint64_t existing_or(Make make, const key &at, std::uint32_t kind) const {
         const std::optional<found> had = find_kind(at, kind);
         if (!had && at.is_handle()) throw not_found();
@@ -1477,12 +1474,12 @@ class segment {
         return had;
     }
 
-    // the handle itself stays where it is: it is not copied. What was asked of the segment keeps it, and finds it
-    // closed behind the destructor
+    // the handle itself never moves and is never copied. Objects that were asked of the segment share it, and find it
+    // closed after the destructor
     std::shared_ptr<detail::state> state_;
 };
 
-/// The objects whose names begin with a text, by the rests of their names.
+/// The objects whose names begin with a text, by the rest of their names.
 class group {
   public:
     group(std::shared_ptr<detail::state> of, std::string prefix) : of_(std::move(of)), prefix_(std::move(prefix)) {
@@ -1490,11 +1487,11 @@ class group {
     }
 
     [[nodiscard]] const std::string &prefix() const noexcept { return prefix_; }
-    /// The key of the object with this rest of a name, which need not be there.
+    /// Returns the key of the object with this rest of a name. The object need not exist.
     [[nodiscard]] key operator[](std::string_view rest) const { return key(prefix_ + std::string(rest)); }
     [[nodiscard]] bool empty() const { return named().empty(); }
     [[nodiscard]] std::uint64_t size() const { return named().size(); }
-    /// What they say of themselves, with the rests of their names, in the order of their bytes.
+    /// Lists them, with the rests of their names, in the order of their bytes.
     [[nodiscard]] std::vector<info> named() const {
         std::vector<info> all;
         info told{};
@@ -1513,9 +1510,9 @@ class group {
 
 // ---- one object
 
-/// What the objects have in common: their segment, of which each call throws `closed` when it is freed, and the handle
-/// of the object. When the object is destroyed, calls throw `not_found`; when another one has got its handle, they are
-/// for that one, or throw `wrong_kind`.
+/// The base of all objects: their segment and their handle. After the segment is freed, each call throws `closed`.
+/// After the object is destroyed, calls throw `not_found`; once another object has its handle, they are for that
+/// object, or throw `wrong_kind`.
 class object {
   public:
     object(std::shared_ptr<detail::state> of, std::uint64_t handle) noexcept : of_(std::move(of)), handle_(handle) {}
@@ -1538,15 +1535,15 @@ class object {
     std::uint64_t handle_;
 };
 
-/// What is thrown where elements are asked for by a `view` that is no longer good.
+/// Thrown when elements are asked of a `view` that is no longer current.
 class outdated : public std::logic_error {
   public:
     outdated() : std::logic_error("the segment has changed since the view was made") {}
 };
 
-/// The values of an array, a vector or a string where they stand, without a copy: as good as a pointer and a count,
-/// until the next call that changes the segment. T is const in those that are only read; others are changed by writing
-/// there. It goes wherever a `std::span` goes.
+/// The values of an array, a vector or a string in place, without a copy. It is a pointer and a count until the next
+/// call that changes the segment. T is const for reading; otherwise the program may write the values there. It converts
+/// to a `std::span`.
 template <class T> class view {
   public:
     using element_type = T;
@@ -1555,11 +1552,11 @@ template <class T> class view {
 
     view(std::shared_ptr<detail::state> of, const zx_elements &there) : of_(std::move(of)), there_(there) {}
 
-    /// Whether the elements still stand there: no call has changed the segment since, and none has saved what was
+    /// Tells whether the elements are still there: no call has changed the segment since, and none has saved what was
     /// written.
     [[nodiscard]] bool is_current() const noexcept { return at() != nullptr; }
-    /// The first. With this, `begin`, `end` and [] it throws `outdated` where they may stand elsewhere now; what they
-    /// gave before is a pointer, which nobody looks at.
+    /// Returns the address of the first. This, `begin`, `end` and [] throw `outdated` if the view is no longer current.
+    /// A pointer that they returned before is not checked.
     [[nodiscard]] T *data() const {
         T *const first = at();
         if (first == nullptr) throw outdated();
@@ -1569,7 +1566,7 @@ template <class T> class view {
     [[nodiscard]] bool empty() const noexcept { return size() == 0; }
     [[nodiscard]] T *begin() const { return data(); }
     [[nodiscard]] T *end() const { return data() + size(); }
-    /// Throws `out_of_range` behind the last one.
+    /// Throws `out_of_range` past the last one.
     [[nodiscard]] T &operator[](std::size_t index) const {
         if (index >= size()) throw out_of_range();
         return data()[index];
@@ -1587,7 +1584,7 @@ template <class T> class view {
 
 namespace detail {
 
-/// What has places from 0 on, for reading. `Of` is the class that derives from it, and says its size.
+/// Elements from index 0 on, for reading. `Of` is the derived class, which tells its size.
 template <class Of, class Access> class const_row : public object {
   public:
     using value_type = typename Access::value_type;
@@ -1600,7 +1597,7 @@ template <class Of, class Access> class const_row : public object {
     [[nodiscard]] value_type get(std::uint64_t index) const { return Access::get(spot(), index); }
     [[nodiscard]] value_type at(std::uint64_t index) const { return get(index); }
     [[nodiscard]] value_type operator[](std::uint64_t index) const { return get(index); }
-    /// The first and the last. Where there is none they throw `out_of_range`.
+    /// Return the first and the last element. Throw `out_of_range` if there is none.
     [[nodiscard]] value_type front() const { return get(0); }
     [[nodiscard]] value_type back() const { return get(of().size() - 1); }
     [[nodiscard]] const_iterator begin() const { return {spot(), 0}; }
@@ -1612,7 +1609,7 @@ template <class Of, class Access> class const_row : public object {
     const Of &of() const noexcept { return static_cast<const Of &>(*this); }
 };
 
-/// The same, for changing elements too.
+/// Elements from index 0 on, for reading and writing.
 template <class Reader, class Access> class row : public Reader {
   public:
     using reference = element<Access>;
@@ -1628,7 +1625,7 @@ template <class Reader, class Access> class row : public Reader {
     [[nodiscard]] iterator end() const { return {this->spot(), this->size()}; }
 };
 
-/// The first values, so many, by one call.
+/// Reads the first `count` values by one call.
 template <class T> std::vector<T> row_of(const spot &of, std::uint64_t count) {
     if constexpr (std::is_same_v<T, bool>) {
         const std::unique_ptr<bool[]> all = std::make_unique<bool[]>(count);
@@ -1640,7 +1637,7 @@ template <class T> std::vector<T> row_of(const spot &of, std::uint64_t count) {
         return all;
     }
 }
-/// Where the elements of an object stand: those of no other kind, or `wrong_kind`.
+/// Tells where the elements of an object are; throws `wrong_kind` if they are of another kind.
 template <class T>
 zx_elements elements_by(zx_code (*call)(zx_segment *, const zx_key *, zx_elements *), const spot &of) {
     static_assert(alignof(T) <= 8, "elements stand at multiples of 8 bytes");
@@ -1656,7 +1653,7 @@ template <class Of, class T> class const_values : public const_row<Of, values<T>
   public:
     using const_row<Of, values<T>>::const_row;
 
-    /// Copies `count` values, from `first` on: all of them or none, by one call.
+    /// Copies `count` values, from `first` on, by one call: all of them or none.
     void read(std::uint64_t first, T *row, std::size_t count) const {
         this->spot().ask(stored<T>::read, first, row, count);
     }
@@ -1666,11 +1663,11 @@ template <class Of, class T> class const_values : public const_row<Of, values<T>
     [[nodiscard]] std::vector<T> to_vector() const {
         return row_of<T>(this->spot(), static_cast<const Of &>(*this).size());
     }
-    /// Its values where they stand.
+    /// Returns a view of its values.
     [[nodiscard]] zaluxhoni::view<const T> view() const {
         return {this->state(), elements_by<T>(zx_view, this->spot())};
     }
-    /// The same, for reading, of what can be changed too.
+    /// Returns a view for reading, even of what may change.
     [[nodiscard]] zaluxhoni::view<const T> cview() const { return view(); }
 };
 
@@ -1681,7 +1678,7 @@ template <class T> void write_row(const spot &of, std::uint64_t first, const sli
 
 } // namespace detail
 
-/// An array, for reading: it has as many values as it was made with.
+/// An array, for reading. Its length never changes.
 template <class T> class const_array : public detail::const_values<const_array<T>, T> {
     using base = detail::const_values<const_array<T>, T>;
 
@@ -1700,15 +1697,14 @@ template <class T> class const_array : public detail::const_values<const_array<T
     [[nodiscard]] measures measure() const { return {size(), size()}; }
 };
 
-/// An array.
+/// An array. Its length never changes.
 template <class T> class array : public detail::row<const_array<T>, detail::values<T>> {
   public:
     using detail::row<const_array<T>, detail::values<T>>::row;
 
-    /// Makes values elements, from `first` on: all of them or none, by one call.
+    /// Overwrites elements from `first` on, by one call: all of them or none.
     void write(std::uint64_t first, slice<T> values) const { detail::write_row(this->spot(), first, values); }
-    /// Its values where they stand, which may be changed there. In a segment that is open for reading it throws
-    /// `read_only`.
+    /// Returns a view of its values, for writing too. Throws `read_only` in a segment that is open for reading.
     [[nodiscard]] zaluxhoni::view<T> view() const {
         return {this->state(), detail::elements_by<T>(zx_view_mut, this->spot())};
     }
@@ -1722,7 +1718,7 @@ template <class T> class const_vector : public detail::const_values<const_vector
     using base::base;
     const_vector(const segment &of, const key &at) : base(of, at, kind_of<std::vector<T>>) {}
 
-    /// Values, and places for values.
+    /// Returns length and capacity.
     [[nodiscard]] measures measure() const {
         const measures bytes = this->measured();
         return {detail::whole<T>(bytes.len), bytes.places / stored<T>::width};
@@ -1745,13 +1741,13 @@ template <class T> class vector : public detail::row<const_vector<T>, detail::va
             append_range(slice<T>(&of, 1));
         }
     }
-    /// Takes the last value out, and gives it. Of an empty vector it throws `out_of_range`.
+    /// Removes the last value, and returns it. Throws `out_of_range` for an empty vector.
     T pop_back() const {
         if constexpr (is_scalar<T>) {
             zx_value value{};
             this->spot().ask(zx_pop, &value);
-            // one of another kind goes back into its place, which is still there, and is told of then: to look at the
-            // kind first would make each call a look-up dearer
+            // a value of another kind goes back into its place, which is still there, and then throws: checking the
+            // kind first would cost every call a look-up
             if (value.kind != stored<T>::kind) this->spot().ask(zx_push, &value);
             return stored<T>::from(value);
         } else {
@@ -1761,7 +1757,7 @@ template <class T> class vector : public detail::row<const_vector<T>, detail::va
             return last;
         }
     }
-    /// Puts a value, or several, before the one of the index, which may be the size.
+    /// Inserts a value, or several, before `index`, which may be the size.
     void insert(std::uint64_t index, value_of<T> value) const {
         const T of = value;
         if constexpr (is_scalar<T>) {
@@ -1777,12 +1773,12 @@ template <class T> class vector : public detail::row<const_vector<T>, detail::va
         all.insert(all.begin() + static_cast<std::ptrdiff_t>(index), values.begin(), values.end());
         assign(all);
     }
-    /// Puts values behind the last one, all of them or none, by one call.
+    /// Appends values by one call: all of them or none.
     void append_range(slice<T> values) const {
         const zx_values passed = stored<T>::values(values.data(), values.size());
         this->spot().change(zx_extend, &passed);
     }
-    /// Takes the value of an index out; those from `first` on and before `last`.
+    /// Removes the value at `index`; the values from `first` on and before `last`.
     void erase(std::uint64_t index) const {
         if constexpr (is_scalar<T>) this->spot().ask(zx_erase, index);
         else erase(index, index + 1);
@@ -1797,17 +1793,16 @@ template <class T> class vector : public detail::row<const_vector<T>, detail::va
         const zx_values passed = stored<T>::values(values.data(), values.size());
         this->spot().change(zx_assign, &passed);
     }
-    /// Makes values elements, from `first` on: all of them or none, by one call.
+    /// Overwrites elements from `first` on, by one call: all of them or none.
     void write(std::uint64_t first, slice<T> values) const { detail::write_row(this->spot(), first, values); }
-    /// Its values where they stand, which may be changed there. In a segment that is open for reading it throws
-    /// `read_only`.
+    /// Returns a view of its values, for writing too. Throws `read_only` in a segment that is open for reading.
     [[nodiscard]] zaluxhoni::view<T> view() const {
         return {this->state(), detail::elements_by<T>(zx_view_mut, this->spot())};
     }
     void reserve(std::uint64_t places) const {
         this->spot().change(zx_reserve, detail::product(places, stored<T>::width));
     }
-    /// Makes it so long: what is cut off is gone, and what is new has the value.
+    /// Sets the size: cuts values off, or appends copies of `value`.
     void resize(std::uint64_t size, value_of<T> value = T{}) const {
         const std::uint64_t now = this->size();
         if (size < now) erase(size, now);
@@ -1817,7 +1812,7 @@ template <class T> class vector : public detail::row<const_vector<T>, detail::va
     void clear() const { this->spot().ask(zx_clear); }
 };
 
-/// A string, for reading: bytes, which are no text of any kind for the library.
+/// A string, for reading: bytes, in any encoding.
 class const_string : public detail::const_row<const_string, detail::values<std::uint8_t>>, public detail::read_as_text {
   public:
     using const_row::const_row;
@@ -1832,7 +1827,7 @@ class const_string : public detail::const_row<const_string, detail::values<std::
         });
     }
     operator std::string() const { return str(); }
-    /// Its bytes where they stand, until the next call that changes the segment.
+    /// Returns its bytes in place, until the next call that changes the segment.
     [[nodiscard]] std::string_view view() const {
         const zx_elements there = detail::elements_by<std::uint8_t>(zx_view, spot());
         return {static_cast<const char *>(there.at), there.count};
@@ -1873,13 +1868,13 @@ class strings : public detail::row<const_strings, detail::lines> {
     using row::row;
 
     void push_back(std::string_view text) const { spot().change(zx_push_text, bytes_of(text), text.size()); }
-    /// Takes the last string out, and gives it. Of an empty vector it throws `out_of_range`.
+    /// Removes the last string, and returns it. Throws `out_of_range` for an empty vector.
     std::string pop_back() const {
         std::string last = get(size() - 1);
         spot().ask(zx_pop_text);
         return last;
     }
-    /// Puts a text, or several, before the one of the index, which may be the size.
+    /// Inserts a string, or several, before `index`, which may be the size.
     void insert(std::uint64_t index, std::string_view text) const {
         spot().change(zx_insert_text, index, bytes_of(text), text.size());
     }
@@ -1891,7 +1886,7 @@ class strings : public detail::row<const_strings, detail::lines> {
         assign(all);
     }
     void append_range(const texts &list) const { insert_range(size(), list); }
-    /// Takes the text of an index out; those from `first` on and before `last`.
+    /// Removes the string at `index`; the strings from `first` on and before `last`.
     void erase(std::uint64_t index) const { spot().ask(zx_erase, index); }
     void erase(std::uint64_t first, std::uint64_t last) const {
         std::vector<std::string> all = to_vector();
@@ -1916,7 +1911,7 @@ template <class K, class V> class const_map : public object {
     using value_type = std::pair<K, V>;
     using size_type = std::uint64_t;
 
-    /// Goes from each pair to the one with the least key above it, also where the map has changed meanwhile.
+    /// Moves from each pair to the one with the least key above it, even if the map has changed meanwhile.
     class iterator {
       public:
         using iterator_category = std::input_iterator_tag;
@@ -1950,32 +1945,32 @@ template <class K, class V> class const_map : public object {
     using object::object;
     const_map(const segment &of, const key &at) : object(of, at, kind_of<std::map<K, V>>) {}
 
-    /// How many pairs; there are no places for more.
+    /// Returns the number of pairs; the capacity is 0.
     [[nodiscard]] measures measure() const { return measured(); }
     [[nodiscard]] std::uint64_t size() const { return measure().len; }
     [[nodiscard]] bool empty() const { return size() == 0; }
 
-    /// The value at a key; with `get`, `at` and [] it is there, or they throw `absent`.
+    /// Returns the value of a key, or nothing; `get`, `at` and [] throw `absent` instead.
     [[nodiscard]] std::optional<V> find(number<K> wanted) const { return detail::pairs<K, V>::find(spot(), wanted); }
     [[nodiscard]] V get(number<K> wanted) const { return detail::pairs<K, V>::get(spot(), wanted); }
     [[nodiscard]] V at(number<K> wanted) const { return get(wanted); }
     [[nodiscard]] V operator[](number<K> wanted) const { return get(wanted); }
     [[nodiscard]] bool contains(number<K> wanted) const { return find(wanted).has_value(); }
 
-    /// The pair with the least key; with the least key above another.
+    /// Returns the pair with the least key; with the least key above another.
     [[nodiscard]] std::optional<value_type> first() const {
         zx_value at{}, value{};
         if (!is_there(spot().code_of(zx_map_first, &at, &value))) return std::nullopt;
         return value_type(stored<K>::from(at), stored<V>::from(value));
     }
     [[nodiscard]] std::optional<value_type> next(number<K> after) const { return next_of(spot(), after); }
-    /// The pair with the greatest key; with the greatest key below another. Each looks up some 64 keys at most.
+    /// Returns the pair with the greatest key; with the greatest key below another. Each looks up at most some 64 keys.
     [[nodiscard]] std::optional<value_type> last() const { return greatest(std::numeric_limits<K>::max()); }
     [[nodiscard]] std::optional<value_type> previous(number<K> before) const {
         if (before == std::numeric_limits<K>::min()) return std::nullopt;
         return greatest(static_cast<K>(before - 1));
     }
-    /// At the first pair whose key is not below another; whose key is above it.
+    /// Returns an iterator to the first pair whose key is at least `from`; whose key is above it.
     [[nodiscard]] iterator lower_bound(number<K> from) const {
         const std::optional<V> value = find(from);
         return {spot(), value ? value_type(from, *value) : next(from)};
@@ -1994,11 +1989,11 @@ template <class K, class V> class const_map : public object {
         if (!is_there(of.code_of(zx_map_next, &passed, &at, &value))) return std::nullopt;
         return value_type(stored<K>::from(at), stored<V>::from(value));
     }
-    /// The pair with the greatest key that is not above `high`.
+    /// Returns the pair with the greatest key that is at most `high`.
     std::optional<value_type> greatest(K high) const {
         std::optional<value_type> pair = first();
         if (!pair || pair->first > high) return std::nullopt;
-        // the key that is wanted is not below that of the pair, and not above `high`
+        // the key that we want is at least that of the pair, and at most `high`
         while (pair->first < high) {
             const std::uint64_t low = static_cast<std::uint64_t>(pair->first);
             const K middle = static_cast<K>(low + (static_cast<std::uint64_t>(high) - low) / 2);
@@ -2015,31 +2010,31 @@ template <class K, class V> class map : public const_map<K, V> {
   public:
     using const_map<K, V>::const_map;
 
-    /// Puts a value at a key, and says whether the key is new.
+    /// Puts a value at a key, and returns whether the key is new.
     bool put(number<K> at, number<V> value) const { return detail::pairs<K, V>::put(this->spot(), at, value); }
     void set(number<K> at, number<V> value) const { put(at, value); }
-    /// Puts each pair of a range, as of a `std::map`, one after another.
+    /// Puts each pair of a range, such as a `std::map`, one after another.
     template <class R> void put_range(const R &range) const {
         for (const auto &[at, value] : range) put(at, value);
     }
     void put_range(std::initializer_list<std::pair<K, V>> list) const { put_range<>(list); }
-    /// An element that is read, or put. Reading makes no pair; `+=`, `++` and their like begin with 0 where there is
-    /// none.
+    /// Returns an element to read or put. Reading makes no pair; `+=`, `++` and their like begin with 0 if the key is
+    /// new.
     [[nodiscard]] detail::element<detail::pairs<K, V>> operator[](number<K> at) const { return {this->spot(), at}; }
-    /// Takes a key out, and says whether it was there.
+    /// Removes a key, and returns whether it existed.
     bool erase(number<K> at) const {
         const zx_value passed = stored<K>::value(at);
         bool was_there = false;
         this->spot().ask(zx_map_erase, &passed, &was_there);
         return was_there;
     }
-    /// Takes all keys out, one after another.
+    /// Removes all keys, one after another.
     void clear() const {
         while (const auto pair = this->first()) erase(pair->first);
     }
 };
 
-// ---- comparing all that two have
+// ---- comparing whole objects
 
 namespace detail {
 
@@ -2051,7 +2046,7 @@ std::false_type is_row_of(...);
 
 template <class T> inline constexpr bool is_read = decltype(is_row_of(std::declval<const T &>()))::value;
 
-/// What is there, read by one call where it can be.
+/// Returns the range itself, or its elements, read by one call.
 template <class T> decltype(auto) all_of(const T &of) {
     if constexpr (is_read<T>) return of.to_vector();
     else return (of);
@@ -2059,7 +2054,7 @@ template <class T> decltype(auto) all_of(const T &of) {
 
 } // namespace detail
 
-/// Whether two have equal elements in the same order: arrays, vectors and maps of a segment, and any other range.
+/// Compares elements in order: of arrays, vectors and maps of a segment, and of any other range.
 template <class A, class B, std::enable_if_t<detail::is_read<A> || detail::is_read<B>, int> = 0>
 auto operator==(const A &a, const B &b) -> decltype(std::begin(a) == std::end(a) && std::begin(b) == std::end(b)) {
     const auto &left = detail::all_of(a);
@@ -2118,7 +2113,7 @@ template <> struct std::hash<zaluxhoni::const_string> {
 template <> struct std::hash<zaluxhoni::string> : std::hash<zaluxhoni::const_string> {};
 
 #ifdef __cpp_lib_format
-/// A text as a text, and an element as its value.
+/// Formats a text as a text, and an element as its value.
 template <class T>
     requires zaluxhoni::detail::is_text_read<T>
 struct std::formatter<T, char> : std::formatter<std::string_view, char> {
@@ -2137,7 +2132,7 @@ struct std::formatter<zaluxhoni::detail::element<Access>, char> : std::formatter
 #endif
 
 #if __cplusplus >= 202002L
-// iterators lead to the segment, and outlive what gave them
+// iterators lead to the segment, and outlive the object that returned them
 template <class T> inline constexpr bool std::ranges::enable_borrowed_range<zaluxhoni::view<T>> = true;
 template <class T> inline constexpr bool std::ranges::enable_borrowed_range<zaluxhoni::const_array<T>> = true;
 template <class T> inline constexpr bool std::ranges::enable_borrowed_range<zaluxhoni::array<T>> = true;

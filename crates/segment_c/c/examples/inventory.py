@@ -1,10 +1,14 @@
-"""An inventory: articles as records, prices in a map, names as texts, suppliers as a group. Each run sells one apple."""
+"""An inventory: articles as records, prices in a map, names as texts, suppliers as a group. Each run sells an apple."""
 import ctypes
 import sys
 
 import zaluxhoni
 
-FIRST = ((1, "apples", 10, 0.25, 250, "north"), (2, "pears", 4, 0.5, 320, "south"), (3, "figs", 7, 0.125, 1999, "north"))
+FIRST = (
+    (1, "apples", 10, 0.25, 250, "north"),
+    (2, "pears", 4, 0.5, 320, "south"),
+    (3, "figs", 7, 0.125, 1999, "north"),
+)
 
 
 class Article(ctypes.Structure):

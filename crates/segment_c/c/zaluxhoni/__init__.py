@@ -6,14 +6,14 @@
         shop.map("prices", "i32", "i64")[7] = 250
         shop.strings("basket").append("apples")
 
-At the end of the block the file is saved, whole or not at all; where the block ends by an exception it stays as it was.
+The end of the block saves the file, whole or not at all. If the block ends by an exception, the file stays unchanged.
 
-An object is found by its name: shop["prices"] is its value where it is one number, truth or text, and else an object
-that is used as a list (Vector, Strings, Array) or as a dict (Map). Each of their methods looks the name up, so they are
-good as long as the segment is open. What the library refuses is raised as an Error, of the class that has the refusal's
-name, and then nothing has changed, but for methods that are several calls, as docs/PYTHON.md says.
+A name finds an object. shop["prices"] is the value of one number, bool or text; any other object is used as a list
+(Vector, Strings, Array) or as a dict (Map). Objects look their name up in each call, so they stay valid as long as the
+segment is open. A refused call raises an Error, of the class with the refusal's name, and changes nothing; a method
+that makes several calls may be done in part, as docs/PYTHON.md says.
 
-A segment is used by the thread that opened it alone, unless it is opened with check_same_thread=False. The guide is
+Only the thread that opened a segment uses it, unless it was opened with check_same_thread=False. The guide is
 docs/PYTHON.md."""
 from __future__ import annotations
 
@@ -61,8 +61,8 @@ def _image_bytes(image: Any) -> bytes:
 
 def create(size: int, *, grow: bool = False, encoding: Optional[str] = "utf-8",
            check_same_thread: bool = True) -> Segment:
-    """An empty segment of `size` bytes, without a file. With `grow` it becomes longer where there is no space. BadSize,
-    NoMemory."""
+    """Creates an empty segment of `size` bytes, without a file. With `grow` it becomes longer if there is no space.
+    BadSize, NoMemory."""
     made = new_segment(grow, encoding, check_same_thread)
     made._call(zx.zx_create, natural(size))
     return made
@@ -70,9 +70,9 @@ def create(size: int, *, grow: bool = False, encoding: Optional[str] = "utf-8",
 
 def load(image: Any, mode: str = "w", *, capacity: Optional[int] = None, grow: bool = False,
          encoding: Optional[str] = "utf-8", check_same_thread: bool = True) -> Segment:
-    """The segment that bytes are the image of, without a file. `mode` is "w", "r" for reading alone, or "p" for changes
-    that are saved nowhere; `capacity` is how many bytes its region has, a multiple of 16. BadImage, BadMode,
-    ShortRegion, BadSize."""
+    """Opens a copy of an image, without a file. `mode` is "w", "r" for reading, or "p" for changes that are never
+    saved. `capacity` is the length of its region in bytes: a multiple of 16. BadImage, BadMode, ShortRegion,
+    BadSize."""
     image = _image_bytes(image)
     if not isinstance(mode, str) or mode not in MODES:
         raise BadMode(f"no mode is {mode!r}")
@@ -81,7 +81,7 @@ def load(image: Any, mode: str = "w", *, capacity: Optional[int] = None, grow: b
     try:
         made._call(zx.zx_open, image, len(image), wanted, MODES[mode])
     except (BadImage, ShortRegion) as error:
-        # what says more bytes than there are is refused by that class
+        # an image that states more bytes than there are is rejected by that class
         if capacity is None or isinstance(error, BadImage):
             check(image)
         raise
@@ -90,19 +90,19 @@ def load(image: Any, mode: str = "w", *, capacity: Optional[int] = None, grow: b
 
 def open(path: Any, mode: str = "c", *, size: int = 65536, grow: bool = False, encoding: Optional[str] = "utf-8",
          check_same_thread: bool = True, mapped: bool = False) -> Segment:
-    """The segment of a file. `mode` is one of
+    """Opens the segment of a file. `mode` is one of
 
-        "r"  the file is there, and is read alone             (open_read_only)
-        "w"  the file is there, and is saved by `close`       (open_only)
-        "c"  the same, and where it is not there it is made   (open_or_create)
-        "x"  the file is not there, and is made               (create_only)
-        "p"  changes are private, and saved nowhere           (open_copy_on_write)
+        "r"  opens a file that exists, and only reads it          (open_read_only)
+        "w"  opens a file that exists; `close` saves it           (open_only)
+        "c"  does so too, and creates a file that does not exist  (open_or_create)
+        "x"  creates a file that must not exist                   (create_only)
+        "p"  opens a file that exists; changes are private        (open_copy_on_write)
 
-    A new segment has `size` bytes, and its file stands under the name at once, with an empty segment. With `grow` a
-    segment becomes longer where there is no space. In the modes that save, the file belongs to this segment until it is
-    closed: FileInUse. With check_same_thread=False each thread may use it: each of its calls is then alone on it.
+    A new segment has `size` bytes, and its file exists at once, with an empty segment. With `grow` a segment becomes
+    longer if there is no space. In the modes that save, the file belongs to this segment until it is closed: anyone
+    else gets FileInUse. With check_same_thread=False each thread may use the segment, and each call is alone on it.
     With `mapped` the segment lies in the file: opening copies nothing, each change is in the file at once, and
-    `discard` takes none back; docs/C.md says what that costs. FileError, if the file is refused; BadImage, BadMode,
+    `discard` reverts none; docs/C.md says what that costs. FileError, if the file is refused; BadImage, BadMode,
     BadSize."""
     if not isinstance(mode, str) or mode not in FILE_MODES:
         raise BadMode(f"no mode is {mode!r}")
@@ -114,20 +114,20 @@ def open(path: Any, mode: str = "c", *, size: int = 65536, grow: bool = False, e
 
 
 def state() -> str:
-    """The state of the crates that was proved, and the logic of the prover; dashes, outside a package."""
+    """Returns the state of the crates that was proved, and the logic of the prover; dashes outside a package."""
     return str(zx.zx_state().decode())
 
 
 def check(image: Any) -> None:
-    """Raises the class of BadImage that bytes are refused by, where they are no image of a segment; its `place` is the
-    offset of a byte that shows it."""
+    """Raises the class of BadImage that rejects the bytes, if they are no image; its `place` is the offset of a byte
+    that shows it."""
     image, place = _image_bytes(image), ctypes.c_uint64()
     code = zx.zx_explain(image, len(image), place)
     if code:
         raise image_error_of(code, place.value)
 
 
-# they are documented, and shown, as those of this module
+# document and show the classes as those of this module
 for _name in __all__:
     if isinstance(globals()[_name], type):
         globals()[_name].__module__ = __name__

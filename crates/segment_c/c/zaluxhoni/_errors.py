@@ -1,4 +1,4 @@
-"""What the library refuses, as classes that derive from Error."""
+"""Errors of the library, as classes that derive from Error."""
 from __future__ import annotations
 
 import errno
@@ -9,7 +9,7 @@ from . import _library
 
 
 class Error(Exception):
-    """What the library refused. `code` is the number of zaluxhoni.h."""
+    """The base of all errors. `code` is the number in zaluxhoni.h."""
     code: Optional[int] = None
 
     def __init__(self, *arguments: object) -> None:
@@ -60,7 +60,7 @@ class Closed(Error, ValueError):
 
 
 class BadKey(Error, ValueError):
-    """A handle stands where a name or a kind is wanted, or nothing where an object is wanted."""
+    """The call takes no such key: a handle for a name or kind, or None for an object."""
     code = 17
 
 
@@ -70,12 +70,12 @@ class BadName(Error, ValueError):
 
 
 class BadKind(Error, ValueError):
-    """There is no such kind, or the unique object is of another one."""
+    """No kind has this name, or the unique object is of another kind."""
     code = 19
 
 
 class BadValue(Error, ValueError):
-    """A new object's value is outside its kind."""
+    """A value for a new object is outside its kind."""
     code = 20
 
 
@@ -85,22 +85,22 @@ class BadCount(Error, ValueError):
 
 
 class BadSize(Error, ValueError):
-    """A segment has 144 bytes, or a multiple of 16 from 176 to 1073741824; a region a multiple of 16 from 16 on."""
+    """A segment has 144 bytes, or a multiple of 16 from 176 to 1073741824; a region a multiple of 16, from 16 on."""
     code = 22
 
 
 class BadMode(Error, ValueError):
-    """There is no such mode."""
+    """No mode has this name."""
     code = 23
 
 
 class ShortBuffer(Error, ValueError):
-    """A buffer has too little room; this module makes them long enough."""
+    """A buffer is too short; this package makes them long enough."""
     code = 24
 
 
 class NullSlice(Error, ValueError):
-    """A null pointer; this module passes none."""
+    """A pointer is null; this package passes none."""
     code = 25
 
 
@@ -125,14 +125,13 @@ class TooLarge(Error, MemoryError):
 
 
 class BadImage(Error, ValueError):
-    """The bytes are no image of a segment; the class that says why derives from this one. `place` is the offset of a
-    byte that shows it."""
+    """The bytes are no image of a segment; a derived class says why. `place` is the offset of a byte that shows it."""
     code: Optional[int] = None
     place: Optional[int] = None
 
 
 class Truncated(BadImage):
-    """There are fewer bytes than the image says."""
+    """The image states more bytes than there are."""
     code = 101
 
 
@@ -142,17 +141,17 @@ class BadMagic(BadImage):
 
 
 class UnsupportedVersion(BadImage):
-    """The image has another format; `segment migrate` writes older ones anew."""
+    """The image has another format; `segment migrate` rewrites older ones."""
     code = 103
 
 
 class BadImageSize(BadImage):
-    """The size that it says is none, or not that of the bytes."""
+    """The image states an illegal size, or not the size of the bytes."""
     code = 104
 
 
 class BadReserved(BadImage):
-    """Bytes of the header that are 0 in an image are not."""
+    """Header bytes that must be 0 are not."""
     code = 105
 
 
@@ -162,7 +161,7 @@ class BadTag(BadImage):
 
 
 class BadFreeTree(BadImage):
-    """The tree of the gaps is wrong."""
+    """The free tree is wrong."""
     code = 107
 
 
@@ -177,7 +176,7 @@ class BadObject(BadImage):
 
 
 class SharedBlock(BadImage):
-    """A block belongs to two."""
+    """Two owners share a block."""
     code = 110
 
 
@@ -187,18 +186,17 @@ class BadContainer(BadImage):
 
 
 class OrphanBlock(BadImage):
-    """A block belongs to nothing."""
+    """A block has no owner."""
     code = 112
 
 
 class NoFile(Error, ValueError):
-    """The segment has no file: `save_as` makes one."""
+    """The segment has no file; `save_as` creates one."""
     code = 40
 
 
 class FileError(Error, OSError):
-    """A file was refused; the class that says why derives from this one, and `errno` and `filename` are as of any
-    OSError."""
+    """A file was refused; a derived class says why. `errno` and `filename` are those of any OSError."""
     number = 0
 
     def __init__(self, number: Optional[int] = None, path: Any = None) -> None:
@@ -211,17 +209,17 @@ class FileError(Error, OSError):
 
 
 class FileInUse(FileError, BlockingIOError):
-    """Another program, or another segment of this one, has the right to write the file."""
+    """Another program, or another segment of this one, may write the file."""
     code, number = 42, errno.EWOULDBLOCK
 
 
 class FileExists(FileError, FileExistsError):
-    """Something stands under the path."""
+    """Something exists at the path."""
     code, number = 43, errno.EEXIST
 
 
 class FileMissing(FileError, FileNotFoundError):
-    """Nothing stands under the path, or its folder is not there."""
+    """Nothing exists at the path, or its folder does not exist."""
     code, number = 44, errno.ENOENT
 
 
@@ -251,27 +249,28 @@ class FileTooLarge(FileError):
 
 
 class FileFault(FileError):
-    """The system refused. It is also of the class that Python has for its `errno`, as PermissionError."""
+    """The system refused. The exception is also of the class that Python has for its `errno`, such as
+    PermissionError."""
     code, number = 50, errno.EIO
 
 
 class FileReplaced(FileError):
-    """The name no longer leads to the file that was opened. What is there is left alone."""
+    """The name leads to another file now, which is left alone."""
     code, number = 51, errno.ESTALE
 
 
 class FileUnsynced(FileError):
-    """The file is saved, but its folder was not synced."""
+    """The file is saved, but its folder is not synced."""
     code, number = 52, errno.EIO
 
 
 class FileForked(FileError, PermissionError):
-    """The file belongs to the process that this one was forked from."""
+    """The file belongs to the parent of this forked process."""
     code, number = 53, errno.EPERM
 
 
 class WrongThread(Error, RuntimeError):
-    """A segment is used by the thread that opened it."""
+    """Only the thread that opened a segment uses it."""
 
     def __init__(self, *arguments: object) -> None:
         Exception.__init__(self, *(arguments or ("the segment belongs to another thread",)))
@@ -285,7 +284,7 @@ class NoElement(Error, ValueError):
 
 
 class Lent(Error, BufferError):
-    """The memory of the object, or of the segment, is lent to a view that is still there."""
+    """A view holds the memory of the object, or of the segment."""
 
     def __init__(self, *arguments: object) -> None:
         Exception.__init__(self, *(arguments or ("its memory is lent to a view",)))
@@ -296,7 +295,7 @@ def _words(code: Optional[int]) -> str:
 
 
 def _all(kind: Type[Error]) -> Dict[int, Type[Error]]:
-    """The classes below one, by their codes."""
+    """Maps the codes of a class and its subclasses to these classes."""
     classes = {} if kind.code is None else {kind.code: kind}
     for each in kind.__subclasses__():
         classes.update(_all(each))
@@ -307,14 +306,14 @@ _classes = _all(Error)
 
 
 def error_of(code: int, about: object = None) -> Error:
-    """The error that a code stands for, with the name of what was asked for."""
+    """Returns the error of a code, with the name that the call was about."""
     kind = _classes.get(code, Error)
     said = _words(code)
     return kind(said if about is None else f"{said}: {about!r}")
 
 
 def image_error_of(code: int, place: int, about: object = None) -> Error:
-    """The error of bytes that are no image, with the place that shows why."""
+    """Returns the error of bytes that are no image, with the offset that shows why."""
     error = error_of(code, about)
     if isinstance(error, BadImage):
         error.place = place
@@ -322,7 +321,7 @@ def image_error_of(code: int, place: int, about: object = None) -> Error:
 
 
 def file_error_of(code: int, file: _library.File, path: Any) -> Error:
-    """The error that a code of a file stands for."""
+    """Returns the error of a code that a file call returned."""
     kind, number = _classes.get(code, Error), file.error
     if not issubclass(kind, FileError):
         return image_error_of(code, file.place, path)

@@ -1,4 +1,5 @@
-"""The shared object libzaluxhoni.so, and what its calls take: zaluxhoni.h, zaluxhoni_files.h and zaluxhoni_rows.h."""
+"""Loads the shared object libzaluxhoni.so, and declares its calls: zaluxhoni.h, zaluxhoni_files.h and
+zaluxhoni_rows.h."""
 from __future__ import annotations
 
 import ctypes
@@ -57,7 +58,7 @@ class Tile(ctypes.Structure):
 
 
 def _path() -> str:
-    """The library that ZALUXHONI_LIBRARY names, or that beside this module or its folder, or that which the system
+    """Returns the library that ZALUXHONI_LIBRARY names, or one in or beside this folder, or the one that the system
     finds."""
     named = os.environ.get("ZALUXHONI_LIBRARY")
     if named:
@@ -71,7 +72,7 @@ def _path() -> str:
 
 
 def _calls() -> Dict[str, List[Any]]:
-    """What each call takes behind the handle of a segment, as zaluxhoni.h and zaluxhoni_rows.h declare it."""
+    """Lists the arguments of each call after the segment's handle, as zaluxhoni.h and zaluxhoni_rows.h declare them."""
     pointer, u32, u64, size, text = ctypes.POINTER, ctypes.c_uint32, ctypes.c_uint64, ctypes.c_size_t, ctypes.c_char_p
     key, value, values, memory = pointer(Key), pointer(Value), pointer(Values), ctypes.c_void_p
     texts, info, truth = pointer(Text), pointer(Info), pointer(ctypes.c_bool)
@@ -113,7 +114,7 @@ def _calls() -> Dict[str, List[Any]]:
 
 
 def _load() -> Any:
-    """The library, with the types of its calls."""
+    """Loads the library, with the types of its calls."""
     library = ctypes.CDLL(_path())
     u32, u64 = ctypes.c_uint32, ctypes.c_uint64
     for name, arguments in _calls().items():
@@ -139,7 +140,7 @@ def _load() -> Any:
 
 
 def _load_quick() -> Any:
-    """The calls of zaluxhoni_rows.h for objects of CPython's, which keep the interpreter's lock."""
+    """Loads the calls of zaluxhoni_rows.h for objects of CPython, which keep the interpreter's lock."""
     library, pointer = ctypes.PyDLL(_path()), ctypes.POINTER
     library.zx_thread.argtypes, library.zx_thread.restype = [], ctypes.c_uint64
     library.zx_python_class.argtypes, library.zx_python_class.restype = [], ctypes.py_object
@@ -159,13 +160,13 @@ HAS_PYTHON: bool = quick.zx_python_row([], U8, None, 0)
 """Whether the library takes this interpreter's own lists and numbers."""
 if TYPE_CHECKING or not HAS_PYTHON:
     class Place:
-        """What stands for the class of zx_python_class where the library makes none."""
+        """Replaces the class of zx_python_class if the library makes none."""
 
         def _item(self, index: Any) -> Any:
             raise NotImplementedError
 
         def _at(self, *place: Any) -> Any:
-            """The value at a key or an index, or puts one there. None where the other calls say why."""
+            """Gets the value at a key or an index, or sets it. None means: let the other calls say why not."""
             return None
 
         def __getitem__(self, index: Any) -> Any:
@@ -176,5 +177,5 @@ NO_SPACE = 9
 
 
 def words(code: int) -> str:
-    """The library's words for a code."""
+    """Returns the library's words for a code."""
     return zx.zx_message(code).decode() or f"code {code}"

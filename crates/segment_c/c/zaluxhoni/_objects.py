@@ -1,4 +1,4 @@
-"""The objects of a segment: arrays, vectors, strings and maps."""
+"""Objects of a segment: arrays, vectors, strings and maps."""
 from __future__ import annotations
 
 import collections.abc
@@ -22,7 +22,7 @@ _AHEAD = 4096
 
 
 class Lease:
-    """The elements of an object where they stand, which are lent as long as this is there."""
+    """Lends the elements of an object in place, as long as this instance exists."""
 
     def __init__(self, owner: Any, code: int) -> None:
         segment = self._segment = owner._segment
@@ -40,7 +40,7 @@ class Lease:
         self._segment._give_back(self)
 
     def view(self) -> memoryview:
-        """A view that has the lease."""
+        """Returns a view that holds the lease."""
         if not self._count:
             return memoryview(bytearray(self._scalar.size)).cast(self._scalar.letter)[:0]
         memory = (ctypes.c_uint8 * (self._count * self._scalar.size)).from_address(self._at)
@@ -49,7 +49,7 @@ class Lease:
         return view.toreadonly() if self._readonly else view
 
     def array(self, dtype: Any, copy: Any) -> Any:
-        """An array of numpy that has the lease, or a copy."""
+        """Returns a numpy array that holds the lease, or a copy."""
         numpy: Any = importlib.import_module("numpy")
         elements = numpy.asarray(self) if self._count else numpy.empty(0, self.__array_interface__["typestr"])
         if dtype is not None and elements.dtype != dtype:
@@ -61,7 +61,7 @@ _FORMS = {"?": "b", "B": "u", "i": "i", "q": "i", "Q": "u"}
 
 
 def places_of(index: slice, length: int) -> range:
-    """The places that a slice means."""
+    """Returns the indexes that a slice means."""
     try:
         return range(*index.indices(length))
     except TypeError:
@@ -71,7 +71,7 @@ def places_of(index: slice, length: int) -> range:
 
 
 class Object(_library.Place):
-    """An object of a segment. Each of its methods looks its key up, so it is good as long as the segment is open."""
+    """An object of a segment. It looks its key up in each call, so it stays valid as long as the segment is open."""
 
     def __init__(self, segment: Segment, key: Key, code: int) -> None:
         self._segment, self._key, self._code, self._raw = segment, key, code, raw_key(key)
@@ -79,11 +79,11 @@ class Object(_library.Place):
 
     @property
     def key(self) -> Key:
-        """Its key: its name, or what unique() or handle() gave."""
+        """Its key: its name, or what unique() or handle() returned."""
         return self._key
 
     def _start(self) -> None:
-        """Tells the class of the library what it stands for."""
+        """Tells the library's class which object this is."""
         segment = self._segment
         quick.zx_python_place(self, segment._handle, self._raw, self._code, segment._thread_number,
                               (segment, self._raw))
@@ -94,7 +94,7 @@ class Object(_library.Place):
             raise error_of(code, self._key)
 
     def _change(self, call: Any, *arguments: Any) -> None:
-        """A call that may move or change its elements."""
+        """Makes a call that may move or change the elements."""
         segment = self._segment
         segment._changes += 1
         if segment._lent:
@@ -103,11 +103,11 @@ class Object(_library.Place):
 
     @property
     def kind(self) -> str:
-        """Its kind, as "vec<i64>"."""
+        """Its kind, such as "vec<i64>"."""
         return KINDS[self._code]
 
     def info(self) -> Info:
-        """What it says of itself: Info. NotFound."""
+        """Returns its Info. NotFound."""
         return self._segment.info(self._key)
 
     @property
@@ -116,7 +116,7 @@ class Object(_library.Place):
         return self.info().handle
 
     def destroy(self) -> bool:
-        """Destroys it, and says whether it was there."""
+        """Destroys it, and returns whether it existed."""
         return self._segment.destroy(self._key)
 
     def _measure(self) -> Tuple[int, int]:
@@ -128,7 +128,7 @@ class Object(_library.Place):
         return self._measure()[0]
 
     def _place(self, index: Any) -> int:
-        """The place of an index, which counts from the end where it is below 0."""
+        """Returns the place of an index; a negative index counts from the end."""
         number = whole(index)
         if number < 0:
             number += len(self)
@@ -145,11 +145,11 @@ class Object(_library.Place):
         raise NotImplementedError
 
     def _value(self) -> Any:
-        """Its value as a list, dict, text or bytes of Python."""
+        """Returns its value as a list, dict, str or bytes."""
         raise NotImplementedError
 
     def copy(self) -> Any:
-        """Its value, as a list or dict of Python's own."""
+        """Returns its value as a list or dict."""
         return self._value()
 
     def __reduce_ex__(self, _: Any) -> Any:
@@ -163,39 +163,39 @@ class Object(_library.Place):
             return f"<{self.kind} {self._key!r}: {error}>"
 
     def _named(self, error: Error) -> Error:
-        """The error, with the object's key."""
+        """Returns the error, with the object's key."""
         return type(error)(f"{self._key!r}: {error}")
 
 
 class _Places(Object):
-    """What vectors, strings and vectors of strings have besides: places."""
+    """What vectors, strings and vectors of strings share: a capacity."""
 
     @property
     def capacity(self) -> int:
-        """The places for elements."""
+        """The number of elements that fit without more storage."""
         return self._measure()[1]
 
     def reserve(self, places: int) -> None:
-        """Makes at least so many places. NoSpace."""
+        """Makes the capacity at least `places`. NoSpace."""
         self._change(zx.zx_reserve, natural(places))
 
     def trim(self) -> None:
-        """Makes as many places as there are elements."""
+        """Makes the capacity the length."""
         self._change(zx.zx_trim)
 
     def clear(self) -> None:
-        """Takes all elements out. The places stay."""
+        """Removes all elements. Keeps the capacity."""
         self._change(zx.zx_clear)
 
 
 class _Elements(Object):
-    """What objects of several elements have in common, as a list has it."""
+    """What objects of several elements share with a list."""
 
     def _get(self, place: int) -> Any:
         raise NotImplementedError
 
     def _read(self, first: int, count: int) -> List[Any]:
-        """So many elements, from a place on."""
+        """Reads elements from an index on."""
         raise NotImplementedError
 
     def _set_slice(self, index: slice, value: Any) -> None:
@@ -218,7 +218,7 @@ class _Elements(Object):
         return elements if places.step == 1 else [elements[place - first] for place in places]
 
     def __iter__(self) -> Iterator[Any]:
-        # elements are read ahead, twice as many each time; behind a change of the segment they are read again, and few
+        # reads elements ahead, twice as many each time; after a change of the segment it reads again, a few
         segment, place, many = self._segment, 0, 1
         while True:
             left = len(self) - place
@@ -243,11 +243,11 @@ class _Elements(Object):
         return value in self._all()
 
     def count(self, value: Any) -> int:
-        """How often it has the value."""
+        """Returns how often it has the value."""
         return self._all().count(value)
 
     def index(self, value: Any, start: Any = 0, stop: Any = None) -> int:
-        """The first place of a value, from `start` on and before `stop`. NoElement."""
+        """Returns the first index of a value, from `start` on and before `stop`. NoElement."""
         try:
             return self._all().index(value, start, *(() if stop is None else (stop,)))
         except TypeError as error:
@@ -256,11 +256,11 @@ class _Elements(Object):
             raise NoElement(f"{self._key!r} has no element {value!r}") from None
 
     def _other(self, other: object) -> Optional[List[Any]]:
-        """The elements of what is compared as a list."""
+        """Returns the elements that are compared as a list."""
         return other._all() if isinstance(other, _Elements) else other if isinstance(other, list) else None
 
     def _with(self, operation: Any, other: object) -> Any:
-        """The operation of two lists."""
+        """Applies an operator to two lists."""
         elements = self._other(other)
         return NotImplemented if elements is None else operation(self._all(), elements)
 
@@ -294,7 +294,7 @@ class _Elements(Object):
 
 
 class _Scalars(_Elements):
-    """What arrays and vectors of scalars have in common: many elements are read, or written, by one call."""
+    """What arrays and vectors of scalars share: one call reads or writes many elements."""
 
     def __init__(self, segment: Segment, key: Key, code: int) -> None:
         super().__init__(segment, key, code)
@@ -316,7 +316,7 @@ class _Scalars(_Elements):
             raise self._named(error) from None
 
     def _memory(self, first: int, count: int) -> Any:
-        """The bytes of so many elements from a place on."""
+        """Returns the bytes of elements from an index on."""
         memory = ctypes.create_string_buffer(max(8, count * SCALARS[self._scalar_code].size))
         self._call(_reads[self._scalar_code], first, memory, count)
         return memory
@@ -325,8 +325,8 @@ class _Scalars(_Elements):
         return unpacked(self._scalar_code, self._memory(first, count), count)
 
     def view(self) -> memoryview:
-        """The elements where they stand, without a copy: what is written there is written, and what would move them is
-        refused, by Lent, as long as the view is there. It may be read only. NotFound."""
+        """Returns a memoryview of the elements in place, without a copy; it may be read-only. Writing to it changes the
+        elements. As long as it exists, calls that would move them raise Lent. NotFound."""
         return Lease(self, self._scalar_code).view()
 
     def __array__(self, dtype: Any = None, copy: Any = None) -> Any:
@@ -338,13 +338,13 @@ class _Scalars(_Elements):
         self._call(zx.zx_set, place, passed)
 
     def _write(self, first: int, values: Any) -> None:
-        """Makes values the elements from a place on."""
+        """Overwrites elements from an index on."""
         passed = self._row(values)
         self._segment._changes += 1
         self._call(zx.zx_write_elements, first, passed.passed)
 
     def _write_to(self, places: range, values: List[Any]) -> None:
-        """Makes as many values the elements at places."""
+        """Overwrites the elements at some indexes."""
         if not places:
             return
         first, last = min(places[0], places[-1]), max(places[0], places[-1])
@@ -365,7 +365,7 @@ class _Scalars(_Elements):
 
 
 class Array(_Scalars, Sequence[int]):
-    """Scalars that were made together: one or more, used as a list whose length stays."""
+    """One or more scalars that were made together, used as a list of fixed length."""
 
     def __len__(self) -> int:
         return self.info().count
@@ -386,7 +386,7 @@ class Array(_Scalars, Sequence[int]):
 
 
 class _List(_Places, _Elements):
-    """What vectors of scalars and of strings have in common."""
+    """What vectors of scalars and of strings share."""
 
     def _insert(self, place: int, value: Any) -> None:
         raise NotImplementedError
@@ -398,11 +398,11 @@ class _List(_Places, _Elements):
         raise NotImplementedError
 
     def append(self, value: Any) -> None:
-        """Puts a value behind the last element. NoSpace, OutOfRange, WrongKind."""
+        """Appends a value. NoSpace, OutOfRange, WrongKind."""
         self._insert(len(self), value)
 
     def assign(self, values: Iterable[Any]) -> None:
-        """Makes these the elements."""
+        """Replaces all elements."""
         raise NotImplementedError
 
     def _set_slice(self, index: slice, value: Any) -> None:
@@ -424,12 +424,12 @@ class _List(_Places, _Elements):
             self.assign(elements)
 
     def insert(self, index: int, value: Any) -> None:
-        """Puts a value before the element `index`; as in a list, an index past an end is that end."""
+        """Inserts a value before the element `index`; an index past an end means that end, as for a list."""
         length, place = len(self), whole(index)
         self._insert(min(max(place + length if place < 0 else place, 0), length), value)
 
     def pop(self, index: int = -1) -> Any:
-        """Takes one element out, and gives it: the last one, where no other is named. OutOfRange."""
+        """Removes an element, the last one by default, and returns it. OutOfRange."""
         if whole(index) == -1:
             return self._pop()
         place = self._place(index)
@@ -438,23 +438,23 @@ class _List(_Places, _Elements):
         return value
 
     def remove(self, value: Any) -> None:
-        """Takes the first element out that has a value. NoElement."""
+        """Removes the first element with a value. NoElement."""
         del self[self.index(value)]
 
     def extend(self, values: Iterable[Any]) -> None:
-        """Puts values behind the last element: all of them, or none. NoSpace, OutOfRange, WrongKind."""
+        """Appends values: all of them, or none. NoSpace, OutOfRange, WrongKind."""
         self._extend(values._all() if isinstance(values, _Elements) else values)  # type: ignore[arg-type]
 
     def reverse(self) -> None:
-        """Puts the elements in the other order."""
+        """Reverses the elements."""
         self.assign(self._all()[::-1])
 
     def sort(self, *, key: Any = None, reverse: bool = False) -> None:
-        """Puts the elements in order, as list.sort does."""
+        """Sorts the elements, as list.sort does."""
         self.assign(sorted(self._all(), key=key, reverse=reverse))
 
     def clear(self) -> None:
-        """Takes all elements out. The places stay."""
+        """Removes all elements. Keeps the capacity."""
         _Places.clear(self)
 
     def __iadd__(self, values: Any) -> Any:
@@ -483,7 +483,7 @@ class Vector(_Scalars, _List, MutableSequence[int]):
         return number_in(value)
 
     def append(self, value: int) -> None:
-        """Puts a value behind the last element. NoSpace, OutOfRange, WrongKind."""
+        """Appends a value. NoSpace, OutOfRange, WrongKind."""
         segment = self._segment
         segment._changes += 1
         if not segment._lent and self._at(-1, value):
@@ -494,12 +494,12 @@ class Vector(_Scalars, _List, MutableSequence[int]):
         self._change(zx.zx_extend, self._row(values).passed)
 
     def assign(self, values: Iterable[int]) -> None:
-        """Makes these the elements: all of them, or none. NoSpace, OutOfRange, WrongKind."""
+        """Replaces all elements: by all values, or none. NoSpace, OutOfRange, WrongKind."""
         self._change(zx.zx_assign, self._row(values._all() if isinstance(values, _Elements) else values).passed)
 
 
 class Strings(_List, MutableSequence[str]):
-    """A vector of strings, used as a list of str; of bytes, where the segment's encoding is None."""
+    """A vector of strings, used as a list of str; of bytes, if the segment's encoding is None."""
 
     def _bytes(self, text: Any) -> bytes:
         try:
@@ -553,7 +553,7 @@ class Strings(_List, MutableSequence[str]):
         return last
 
     def append(self, value: Union[str, bytes]) -> None:
-        """Puts a text behind the last one. NoSpace, WrongKind."""
+        """Appends a string. NoSpace, WrongKind."""
         text = self._bytes(value)
         self._change(zx.zx_push_text, text, len(text))
 
@@ -567,7 +567,7 @@ class Strings(_List, MutableSequence[str]):
             raise
 
     def assign(self, values: Iterable[Union[str, bytes]]) -> None:
-        """Makes these the texts: all of them, or none. NoSpace, WrongKind."""
+        """Replaces all strings: by all values, or none. NoSpace, WrongKind."""
         texts = self._texts(values._all() if isinstance(values, _Elements) else values)
         self._change(zx.zx_assign_texts, texts.passed, texts.count)
 
@@ -576,7 +576,7 @@ _SHORT_BUFFER = 24
 
 
 def _cut(memory: Any, ends: List[int], encoding: Optional[str]) -> List[Any]:
-    """The texts that stand one behind another and end there."""
+    """Splits texts that follow one another at their ends."""
     first, texts = 0, []
     joined = memory.raw[:ends[-1]] if ends else b""
     for end in ends:
@@ -589,7 +589,7 @@ class String(_Places):
     """A string: bytes, used as a bytearray; str(s) decodes them."""
 
     def view(self) -> memoryview:
-        """The bytes where they stand, as Vector.view gives elements."""
+        """Returns a memoryview of the bytes in place, as Vector.view does of elements."""
         return Lease(self, U8).view()
 
     def _text(self) -> bytes:
@@ -651,12 +651,12 @@ class String(_Places):
         return part in list(self._text())
 
     def assign(self, text: Any) -> None:
-        """Makes this the text: str or bytes. NoSpace, WrongKind."""
+        """Replaces the text by a str or bytes. NoSpace, WrongKind."""
         passed = self._bytes(text)
         self._change(zx.zx_assign_string, passed, len(passed))
 
     def append(self, text: Any) -> None:
-        """Puts a text behind the last byte: str or bytes. NoSpace, WrongKind."""
+        """Appends a str or bytes. NoSpace, WrongKind."""
         passed = self._bytes(text)
         self._change(zx.zx_append, passed, len(passed))
 
@@ -713,21 +713,21 @@ class _ValuesView(collections.abc.ValuesView):  # type: ignore[type-arg]
 
 
 class _Pairs:
-    """What maps and mappings of names have in common with dict, beside the methods of MutableMapping."""
+    """What maps and mappings of names share with dict, beside the methods of MutableMapping."""
 
     def _pairs(self) -> Iterator[Tuple[Any, Any]]:
         raise NotImplementedError
 
     def keys(self) -> Any:
-        """Its keys, in order, as of a dict."""
+        """Returns its keys, in order, as for a dict."""
         return _Keys(self)  # type: ignore[arg-type]
 
     def items(self) -> Any:
-        """Its pairs, in the order of the keys, as of a dict."""
+        """Returns its pairs, in the order of the keys, as for a dict."""
         return _Items(self)  # type: ignore[arg-type]
 
     def values(self) -> Any:
-        """Its values, in the order of the keys, as of a dict."""
+        """Returns its values, in the order of the keys, as for a dict."""
         return _ValuesView(self)  # type: ignore[arg-type]
 
     def __reversed__(self) -> Iterator[Any]:
@@ -761,7 +761,7 @@ class Map(_Pairs, Object, MutableMapping[int, int]):
         return value
 
     def _get(self, key: Any) -> Optional[int]:
-        """The value at a key, or None: also where no map of this kind has such a key."""
+        """Returns the value of a key, or None, also for what no map of this kind can have as a key."""
         value = _library.Value()
         try:
             at = value_of(self._key_code, scalar(self._key_code, key))
@@ -775,7 +775,7 @@ class Map(_Pairs, Object, MutableMapping[int, int]):
         return number_in(value)
 
     def get(self, key: Any, default: Any = None) -> Any:
-        """The value at a key, or `default`."""
+        """Returns the value of a key, or `default`."""
         value = self._at(key)
         value = self._get(key) if value is None else value
         return default if value is None else value
@@ -797,7 +797,7 @@ class Map(_Pairs, Object, MutableMapping[int, int]):
             raise self._named(error) from None
 
     def put(self, key: int, value: int) -> bool:
-        """Puts a value at a key, and says whether the key is new. NoSpace, OutOfRange, WrongKind."""
+        """Puts a value at a key, and returns whether the key is new. NoSpace, OutOfRange, WrongKind."""
         is_new = ctypes.c_bool()
         at, passed = self._number(self._key_code, key), self._number(self._value_code, value)
         self._segment._changes += 1
@@ -805,7 +805,7 @@ class Map(_Pairs, Object, MutableMapping[int, int]):
         return is_new.value
 
     def erase(self, key: int) -> bool:
-        """Takes a key out, and says whether it was there. OutOfRange, WrongKind."""
+        """Removes a key, and returns whether it existed. OutOfRange, WrongKind."""
         was_there = ctypes.c_bool()
         at = self._number(self._key_code, key)
         self._segment._changes += 1
@@ -813,11 +813,11 @@ class Map(_Pairs, Object, MutableMapping[int, int]):
         return was_there.value
 
     def first(self) -> Optional[Tuple[int, int]]:
-        """The pair with the least key, or None."""
+        """Returns the pair with the least key, or None."""
         return self._pair(zx.zx_map_first)
 
     def next_after(self, key: int) -> Optional[Tuple[int, int]]:
-        """The pair with the least key above another, or None. OutOfRange, WrongKind."""
+        """Returns the pair with the least key above another, or None. OutOfRange, WrongKind."""
         return self._pair(zx.zx_map_next, self._number(self._key_code, key))
 
     def _pair(self, call: Any, *after: Any) -> Optional[Tuple[int, int]]:
@@ -830,7 +830,7 @@ class Map(_Pairs, Object, MutableMapping[int, int]):
         return number_in(key), number_in(value)
 
     def _rows(self, after: Optional[int], count: int) -> Tuple[List[int], List[int]]:
-        """Keys and values of at most so many pairs: the first ones, or those above a key."""
+        """Reads keys and values of at most `count` pairs: the first ones, or those above a key."""
         keys, values = ctypes.create_string_buffer(8 * count), ctypes.create_string_buffer(8 * count)
         read = ctypes.c_size_t()
         above = None if after is None else ctypes.byref(value_of(self._key_code, after))
@@ -838,7 +838,7 @@ class Map(_Pairs, Object, MutableMapping[int, int]):
         return from_words(self._key_code, keys, read.value), from_words(self._value_code, values, read.value)
 
     def _pairs(self) -> Iterator[Tuple[int, int]]:
-        # pairs are read ahead, twice as many each time; behind a change of the segment they are read again, and few
+        # reads pairs ahead, twice as many each time; after a change of the segment it reads again, a few
         segment, last, many = self._segment, None, 4
         while True:
             keys, values = self._rows(last, many)
@@ -870,7 +870,7 @@ class Map(_Pairs, Object, MutableMapping[int, int]):
     __hash__ = None  # type: ignore[assignment]
 
     def popitem(self) -> Tuple[int, int]:
-        """Takes the pair with the least key out, and gives it. Absent."""
+        """Removes the pair with the least key, and returns it. Absent."""
         pair = self.first()
         if pair is None:
             raise Absent(f"the map {self._key!r} is empty")
@@ -878,7 +878,7 @@ class Map(_Pairs, Object, MutableMapping[int, int]):
         return pair
 
     def pop(self, key: Any, default: Any = _missing) -> Any:
-        """Takes a key out and gives its value; where there is none `default`, or Absent is raised."""
+        """Removes a key and returns its value; for a missing key it returns `default`, or raises Absent."""
         value = self._get(key)
         if value is not None:
             self.erase(key)
@@ -888,13 +888,13 @@ class Map(_Pairs, Object, MutableMapping[int, int]):
         return default
 
     def clear(self) -> None:
-        """Takes all pairs out."""
+        """Removes all pairs."""
         self._segment._changes += 1
         self._call(zx.zx_clear_map)
 
     def update(self, *others: Any, **named: Any) -> None:
-        """Puts the pairs of a mapping, or those of a list of pairs. None is put where one is outside the kinds of the
-        map: OutOfRange, WrongKind; with NoSpace the first ones are put."""
+        """Puts the pairs of a mapping, or of a list of pairs. It puts none if one is outside the kinds of the map:
+        OutOfRange, WrongKind. After NoSpace the first ones are put."""
         if len(others) > 1:
             raise WrongKind(f"update of {self._key!r} takes one mapping, not {len(others)}")
         self._put_all(dict_of(self, *others, **named))
@@ -908,7 +908,7 @@ class Map(_Pairs, Object, MutableMapping[int, int]):
         self._call(zx.zx_put_pairs, self._key_code, self._value_code, keys, values, count)
 
     def _become(self, value: Any) -> None:
-        """Makes these the pairs: those that stay keep their blocks."""
+        """Replaces all pairs; a pair that stays keeps its block."""
         if not isinstance(value, collections.abc.Mapping):
             raise WrongKind(f"{self._key!r}: {value!r} is no mapping")
         pairs = dict(value)
@@ -925,7 +925,7 @@ _ABSENT = 10
 
 
 def dict_of(about: Any, *others: Any, **named: Any) -> Dict[Any, Any]:
-    """The pairs that an update is given."""
+    """Returns the pairs that an update gets."""
     try:
         return dict(*(other._value() if isinstance(other, Map) else other for other in others), **named)
     except Error:
@@ -937,7 +937,7 @@ def dict_of(about: Any, *others: Any, **named: Any) -> Dict[Any, Any]:
 
 
 def is_list_for(code: int, value: Any) -> bool:
-    """Whether a value is a list, as an object of the kind is assigned one by its name."""
+    """Whether an assignment by name takes the value as a list for an object of the kind."""
     if isinstance(value, (str, collections.abc.Mapping, collections.abc.Set, String)):
         return False
     if isinstance(value, (bytes, bytearray)):
@@ -946,7 +946,7 @@ def is_list_for(code: int, value: Any) -> bool:
 
 
 def object_of(segment: Any, key: Key, code: int) -> Any:
-    """The object of a key, which has a kind."""
+    """Returns the object of a key that has a kind."""
     classes = segment._classes
     if is_scalar(code):
         return classes[Array](segment, key, code)

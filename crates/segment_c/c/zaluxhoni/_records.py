@@ -1,4 +1,4 @@
-"""Records: structures and numbers of other widths, kept as the bytes that spell them."""
+"""Records: structures and numbers of other widths, stored as the bytes that spell them."""
 from __future__ import annotations
 
 import ctypes
@@ -15,7 +15,7 @@ if TYPE_CHECKING:
 
 
 class _Form:
-    """How many bytes a record has, and what it is as a value of Python."""
+    """How many bytes a record has, and how it converts to a value of Python."""
 
     def __init__(self, size: int, to_bytes: Callable[[Any], bytes], from_bytes: Callable[[bytes], Any]) -> None:
         self.size, self.to_bytes, self.from_bytes = size, to_bytes, from_bytes
@@ -43,7 +43,7 @@ def _form_of_dtype(form: Any) -> _Form:
 
 
 def _form_of(form: Any) -> _Form:
-    """A form is a format of `struct`, a ctypes.Structure or a dtype of numpy."""
+    """Returns the form of a struct format, a ctypes.Structure or a numpy dtype."""
     try:
         if isinstance(form, (str, bytes, struct.Struct)):
             made = _form_of_struct(form if isinstance(form, struct.Struct) else struct.Struct(form))
@@ -61,10 +61,9 @@ def _form_of(form: Any) -> _Form:
 
 
 class Records(MutableSequence[Any]):
-    """Records of one form, used as a list: those of a vector of u8, or of an array of them, whose length stays. A form
-    is a format of `struct` ("d" for doubles, whose records are numbers; "<ihx" for tuples), a ctypes.Structure, or a
-    dtype of numpy. The bytes are those of the form, as a structure of C and C++ has them. `Segment.records` makes
-    one."""
+    """Records of one form, used as a list: those of a vector of u8, or of an array of u8, whose length is fixed. A form
+    is a struct format ("d" for doubles, whose records are numbers; "<ihx" for tuples), a ctypes.Structure, or a numpy
+    dtype. The bytes are those of the form, as C and C++ lay it out. `Segment.records` makes one."""
 
     def __init__(self, elements: Any, form: Any) -> None:
         self._elements, self._form, self._given, self._lock = elements, _form_of(form), form, elements._lock
@@ -136,7 +135,7 @@ class Records(MutableSequence[Any]):
             self._splice(places.start, places.stop if places else places.start, b"".join(records))
 
     def _splice(self, start: int, stop: int, joined: bytes) -> None:
-        """Puts other bytes in the place of the records there."""
+        """Replaces the records there by other bytes."""
         size = self._form.size
         kept = self._vector()._memory(0, len(self._elements)).raw[:len(self._elements)]
         self._vector().assign(kept[:start * size] + joined + kept[stop * size:])
@@ -159,7 +158,7 @@ class Records(MutableSequence[Any]):
             self._vector().assign(kept)
 
     def insert(self, index: int, value: Any) -> None:
-        """Puts a record before the one at `index`; as in a list, an index past an end is that end. NoSpace,
+        """Inserts a record before the one at `index`; an index past an end means that end, as for a list. NoSpace,
         WrongKind."""
         length, place = len(self), whole(index)
         place = min(max(place + length if place < 0 else place, 0), length)
@@ -168,19 +167,19 @@ class Records(MutableSequence[Any]):
         self._splice(place, place, self._bytes(value))
 
     def append(self, value: Any) -> None:
-        """Puts a record behind the last one. NoSpace, WrongKind."""
+        """Appends a record. NoSpace, WrongKind."""
         self._vector().extend(self._bytes(value))
 
     def extend(self, values: Iterable[Any]) -> None:
-        """Puts records behind the last one: all of them, or none. NoSpace, WrongKind."""
+        """Appends records: all of them, or none. NoSpace, WrongKind."""
         self._vector().extend(self._joined(values))
 
     def assign(self, values: Iterable[Any]) -> None:
-        """Makes these the records: all of them, or none. NoSpace, WrongKind."""
+        """Replaces all records: by all values, or none. NoSpace, WrongKind."""
         self._vector().assign(self._joined(values))
 
     def clear(self) -> None:
-        """Takes all records out."""
+        """Removes all records."""
         self._vector().clear()
 
     def __iter__(self) -> Iterator[Any]:

@@ -30,8 +30,8 @@ _missing = object()
 
 
 class Info(NamedTuple):
-    """What an object says of itself: "named", "unique" or "anonymous"; its name or None; its kind; how many scalars it
-    has (1 where it is no object of scalars); its handle."""
+    """What `info` tells about an object: "named", "unique" or "anonymous"; its name or None; its kind; its number of
+    scalars, 1 for a container; its handle."""
     found_by: str
     name: Optional[str]
     kind: str
@@ -40,7 +40,7 @@ class Info(NamedTuple):
 
 
 class Tile(NamedTuple):
-    """A block, or a gap: offset and bytes, and "gap", "object", "index", "storage" or "node"."""
+    """A block or a gap: its offset, its bytes, and "gap", "object", "index", "storage" or "node"."""
     offset: int
     len: int
     use: str
@@ -57,7 +57,7 @@ def _info(told: _library.Info, name: bytes) -> Info:
 
 
 class _Here(threading.local):
-    """The number of this thread, which no other one has."""
+    """The number of this thread, which no other thread has."""
 
     def __init__(self) -> None:
         self.number: int = quick.zx_thread()
@@ -67,28 +67,28 @@ _here = _Here()
 
 
 class _Named(_Pairs, MutableMapping[str, Any]):
-    """What segments and groups have in common: a mapping from names to objects, in the order of the names' bytes."""
+    """What segments and groups share: a mapping from names to objects, in the order of the names' bytes."""
     _segment: Segment
     _prefix: str
 
     def _full(self, key: Any) -> Any:
-        """The key in the segment."""
+        """Returns the key in the segment."""
         raise NotImplementedError
 
     # -- objects
 
     def construct(self, kind: str, key: Optional[Key] = None, value: Any = None) -> Any:
-        """Makes an object and gives it: construct("i64", "a", 5), construct("i64[3]", "b", 7), construct("i64[3]", "c",
-        [1, 2, 3]), construct("vec<i64>", "v", [1]), construct("string", "s", "text"), construct("vec<string>", "t",
-        ["text"]) or construct("map<i32,i64>", "m", {1: 2}). The key is a name, unique(kind), or None for an object
-        without a key. A map is made with all its pairs, or there is none. Exists, NoSpace, BadKey, BadName, BadKind,
+        """Makes an object and returns it: construct("i64", "a", 5), construct("i64[3]", "b", 7), construct("i64[3]",
+        "c", [1, 2, 3]), construct("vec<i64>", "v", [1]), construct("string", "s", "text"), construct("vec<string>",
+        "t", ["text"]) or construct("map<i32,i64>", "m", {1: 2}). The key is a name, unique(kind), or None for an object
+        without a key. It makes a map with all its pairs, or not at all. Exists, NoSpace, BadKey, BadName, BadKind,
         BadValue, BadCount, WrongKind."""
         full, made = self._full(key), ctypes.c_uint64()
         code = self._make("construct", kind, full, value, made)
         return object_of(self._segment, full if full is not None else handle(made.value), code)
 
     def find_or_construct(self, kind: str, key: Key, value: Any = None) -> Any:
-        """The object of the key, which stays as it is, or makes it, as `construct` does. WrongKind where one of another
+        """Returns the object of the key, unchanged, or makes it as `construct` does. WrongKind, if an object of another
         kind has the key."""
         full = self._full(key)
         code = self._make("find_or_construct", kind, full, value, ctypes.c_uint64(), ctypes.c_uint32())
@@ -116,7 +116,7 @@ class _Named(_Pairs, MutableMapping[str, Any]):
         return code
 
     def _make_map(self, call: str, code: int, key: Any, value: Any, told: Tuple[Any, ...]) -> None:
-        """Makes a map with its pairs. Where one of them finds no space the map is destroyed again."""
+        """Makes a map with its pairs. If one finds no space, it destroys the map again."""
         segment = self._segment
         pairs = value if value and self._is_new(call, code, key) else {}
         if pairs:
@@ -149,23 +149,25 @@ class _Named(_Pairs, MutableMapping[str, Any]):
         self._segment._change(call, key, count, value_of(code, number), *told)
 
     def _is_new(self, call: str, code: int, key: Any) -> bool:
-        """Whether the call will make an object."""
+        """Tells whether the call will make an object."""
         return call == "construct" or self._segment._find(code, key) is None
 
     def vector(self, key: Key, kind: str = "i64") -> Vector:
-        """The vector of a name, which is made where there is none: vector("queue", "i64"). WrongKind, NoSpace."""
+        """Returns the vector of a name, and makes an empty one if there is none: vector("queue", "i64"). WrongKind,
+        NoSpace."""
         return self._found_or_made(f"vec<{kind}>", key)  # type: ignore[no-any-return]
 
     def map(self, key: Key, keys: str = "i64", values: str = "i64") -> Map:
-        """The map of a name, which is made where there is none: map("prices", "i32", "i64"). WrongKind, NoSpace."""
+        """Returns the map of a name, and makes an empty one if there is none: map("prices", "i32", "i64"). WrongKind,
+        NoSpace."""
         return self._found_or_made(f"map<{keys},{values}>", key)  # type: ignore[no-any-return]
 
     def string(self, key: Key) -> String:
-        """The string of a name, which is made where there is none. WrongKind, NoSpace."""
+        """Returns the string of a name, and makes an empty one if there is none. WrongKind, NoSpace."""
         return self._found_or_made("string", key)  # type: ignore[no-any-return]
 
     def strings(self, key: Key) -> Strings:
-        """The vector of strings of a name, which is made where there is none. WrongKind, NoSpace."""
+        """Returns the vector of strings of a name, and makes an empty one if there is none. WrongKind, NoSpace."""
         return self._found_or_made("vec<string>", key)  # type: ignore[no-any-return]
 
     def _found_or_made(self, kind: str, key: Key) -> Any:
@@ -173,19 +175,19 @@ class _Named(_Pairs, MutableMapping[str, Any]):
         return self.find_or_construct(kind, key) if found is None else found
 
     def find(self, kind: str, key: Key) -> Any:
-        """The object of a kind under a name or unique(kind), or None. WrongKind where one of another kind has the
-        key."""
+        """Returns the object of a kind under a name or unique(kind), or None. WrongKind, if an object of another kind
+        has the key."""
         return self._segment._find(code_of(kind), self._full(key))
 
     def object(self, key: Key) -> Any:
-        """The object of a name, of unique(kind) or of handle(number): also of one number an Array, of a text a String.
-        NotFound."""
+        """Returns the object of a name, of unique(kind) or of handle(number); one number as an Array, a text as a
+        String. NotFound."""
         full = self._full(key)
         return object_of(self._segment, full, code_of(self._segment._info(full).kind))
 
     def destroy(self, key: Key) -> bool:
-        """Destroys the object of a name or of unique(kind), and says whether there was one; or that of handle(number),
-        or raises NotFound."""
+        """Destroys the object of a name or of unique(kind), and returns whether it existed; or destroys that of
+        handle(number), and raises NotFound if there is none."""
         was_there, full = ctypes.c_bool(), self._full(key)
         if self._segment._lent:
             self._segment._refuse_lent(full)
@@ -193,19 +195,19 @@ class _Named(_Pairs, MutableMapping[str, Any]):
         return was_there.value
 
     def info(self, key: Key) -> Info:
-        """What the object says of itself: Info. NotFound."""
+        """Returns the Info of an object. NotFound."""
         return self._segment._info(self._full(key))
 
     def records(self, key: Key, form: Any) -> Records:
-        """The records of a name, of a form: those of its vector of u8, or of its array of u8; where there is none, an
-        empty vector is made: records("points", "dd"). WrongKind, NoSpace."""
+        """Returns the records of a name, in a form: those of its vector of u8, or of its array of u8. It makes an empty
+        vector if there is none: records("points", "dd"). WrongKind, NoSpace."""
         told = self._segment._told(self._full(key))
         if told is not None and told.kind == U8:
             return self._segment._classes[Records](self.object(key), form)  # type: ignore[no-any-return]
         return self._segment._classes[Records](self.vector(key, "u8"), form)  # type: ignore[no-any-return]
 
     def group(self, prefix: str) -> Group:
-        """The names that begin with a text, as a mapping from the rest of each name: group("prices/")."""
+        """Returns the names that begin with a text, as a mapping from the rest of each name: group("prices/")."""
         if not isinstance(prefix, str):
             raise BadName(f"{prefix!r} is no front of names")
         return self._segment._classes[Group](self._segment, self._prefix + prefix)  # type: ignore[no-any-return]
@@ -223,8 +225,8 @@ class _Named(_Pairs, MutableMapping[str, Any]):
         return found[0] if told.count == 1 and is_scalar(told.kind) else found
 
     def __setitem__(self, key: Any, value: Any) -> None:
-        """Gives an object another value, which is of its kind; where there is none, makes one: of a truth a bool, of a
-        number an i64 (above its range a u64), of a text a string, of a list a vector, of a dict a map."""
+        """Gives an object another value of its kind. If the name is new, makes an object: a bool of a bool, an i64 of a
+        number (above its range a u64), a string of a text, a vector of a list, a map of a dict."""
         full = self._full(key)
         told = self._segment._told(full)
         if told is None:
@@ -253,14 +255,14 @@ class _Named(_Pairs, MutableMapping[str, Any]):
     __hash__ = None  # type: ignore[assignment]
 
     def setdefault(self, key: Any, default: Any = None) -> Any:
-        """What the key has, as self[key]; where it has nothing, it is given `default` first."""
+        """Returns self[key]; if the key is new, assigns `default` first."""
         if key not in self:
             self[key] = default
         return self[key]
 
     def pop(self, key: Any, default: Any = _missing) -> Any:
-        """Destroys the object of a name and gives its value, as a number, text, list or dict; where there is none
-        `default`, or NotFound is raised."""
+        """Destroys the object of a name and returns its value, as a number, str, list or dict. If there is none, it
+        returns `default`, or raises NotFound."""
         if key not in self:
             if default is _missing:
                 raise NotFound(f"no object is {self._full(key)!r}")
@@ -271,7 +273,7 @@ class _Named(_Pairs, MutableMapping[str, Any]):
         return value
 
     def popitem(self) -> Tuple[str, Any]:
-        """Destroys the object of the first name and gives the name and its value. NotFound."""
+        """Destroys the object of the first name, and returns the name and its value. NotFound."""
         for name in self:
             return name, self.pop(name)
         raise NotFound("there are no names")
@@ -282,7 +284,7 @@ class _Named(_Pairs, MutableMapping[str, Any]):
             del self[name]
 
     def update(self, *others: Any, **named: Any) -> None:
-        """Gives objects other values, or makes them, as self[key] = value for each pair."""
+        """Assigns self[key] = value for each pair."""
         if len(others) > 1:
             raise WrongKind(f"update takes one mapping, not {len(others)}")
         try:
@@ -308,11 +310,11 @@ class _Named(_Pairs, MutableMapping[str, Any]):
     # -- lists
 
     def named(self) -> List[Info]:
-        """The objects with these names, by the bytes of the names: a list of Info, with whole names."""
+        """Lists the objects with these names by the bytes of the names, as Info with whole names."""
         return [Info("named", name, KINDS[kind], count, number) for name, kind, count, number, _ in self._rows()]
 
     def _rows(self) -> Iterator[_Row]:
-        """The objects with these names."""
+        """Reads the objects with these names."""
         segment, prefix = self._segment, self._prefix
         index, many = segment._first_from(prefix.encode()), 8
         while True:
@@ -339,12 +341,12 @@ def _pairs_in(other: Any = ()) -> List[Tuple[Any, Any]]:
 
 
 def _is_number(value: Any) -> bool:
-    """Whether a value is one whole number or truth; arrays of numpy have __index__ too."""
+    """Whether a value is one whole number or bool; numpy arrays have __index__ too."""
     return is_truth(value) or hasattr(value, "__index__") and not hasattr(value, "__len__")
 
 
 def _new_scalar(code: int, value: Any) -> int:
-    """The number of a value of a new object."""
+    """Returns the number for a value of a new object."""
     try:
         return scalar(code, value, BadValue)
     except WrongKind as error:
@@ -354,7 +356,7 @@ def _new_scalar(code: int, value: Any) -> int:
 
 
 def _kind_for(value: Any, key: Any) -> str:
-    """The kind of a new object that gets this value."""
+    """Returns the kind of a new object for this value."""
     if isinstance(value, Object):
         return f"{value.kind}[{len(value)}]" if isinstance(value, Array) else value.kind
     if isinstance(value, TEXTS):
@@ -387,7 +389,7 @@ def _scalar_for(values: Any, key: Any) -> str:
 
 
 class _Left:
-    """Memory that views have when their segment is closed."""
+    """Holds memory for views after their segment is closed."""
 
     def __init__(self, at: int) -> None:
         self._at = at
@@ -397,8 +399,8 @@ class _Left:
 
 
 class Segment(_Named):
-    """A segment, as a mapping from names to objects in the order of their bytes. `open`, `create` and `load` make
-    one."""
+    """A segment, used as a mapping from names to objects, in the order of the names' bytes. `open`, `create` and `load`
+    make one."""
 
     def __init__(self, *, grow: bool = False, encoding: Optional[str] = "utf-8",
                  check_same_thread: bool = True) -> None:
@@ -435,7 +437,7 @@ class Segment(_Named):
     # -- calls
 
     def _code(self, call: Any, *arguments: Any) -> int:
-        """What a call of the library answers."""
+        """Returns the code of a library call."""
         if self._thread_number and _here.number != self._thread_number:
             raise WrongThread()
         code: int = call(self._handle, *arguments)
@@ -444,24 +446,24 @@ class Segment(_Named):
         return code
 
     def _call(self, call: Any, *arguments: Any) -> None:
-        """A call of the library; what it refuses is raised."""
+        """Makes a library call, and raises its error."""
         code = self._code(call, *arguments)
         if code:
             raise error_of(code)
 
     def _change(self, call: str, key: Any, *arguments: Any) -> None:
-        """A call with a key, which may change which objects there are."""
+        """Makes a call with a key, which may change which objects exist."""
         self._changes += 1
         code = self._code(getattr(zx, f"zx_{call}"), raw_key(key), *arguments)
         if code:
             raise error_of(code, key)
 
     def _named(self, error: Error, key: Any) -> Error:
-        """The error, with the key."""
+        """Returns the error, with the key."""
         return error if key is None or repr(key) in str(error) else type(error)(f"{key!r}: {error}")
 
     def _file_call(self, call: Any, path: Any, *arguments: Any) -> None:
-        """A call for the file; what it refuses is raised with the path."""
+        """Makes a file call, and raises its error with the path."""
         if self._thread_number and _here.number != self._thread_number:
             raise WrongThread()
         code = call(self._file, *arguments)
@@ -469,7 +471,7 @@ class Segment(_Named):
             raise file_error_of(code, self._file, path)
 
     def _code_in_more_space(self, call: Any, arguments: Tuple[Any, ...]) -> int:
-        """Makes the segment longer until the call finds space; where that cannot be, it becomes as long as it was."""
+        """Makes the segment longer until the call finds space. If it cannot become long enough, restores its length."""
         before, code = self.size, NO_SPACE
         try:
             while code == NO_SPACE:
@@ -511,7 +513,7 @@ class Segment(_Named):
         return _info(told, name.raw)
 
     def _told(self, key: Any) -> Optional[_library.Info]:
-        """What the object says of itself, but for its name; None also for what is the key of no object."""
+        """Tells about an object, except its name; None also for a key that no object can have."""
         told = _library.Info()
         try:
             code = self._code(zx.zx_tell, raw_key(key), told, self._any_name, _LONGEST_NAME)
@@ -522,7 +524,7 @@ class Segment(_Named):
         return None if code else told
 
     def _refuse_lent(self, key: Any) -> None:
-        """Raises Lent where the object's memory is lent to a view."""
+        """Raises Lent if a view holds the object's memory."""
         told = self._told(key)
         if told is not None and told.handle in self._lent.values():
             raise Lent(f"{key!r} is lent to a view that is still there")
@@ -535,7 +537,7 @@ class Segment(_Named):
 
     @property
     def mode(self) -> str:
-        """How it is open: "write", "read" or "copy on write"."""
+        """How the segment is open: "write", "read" or "copy on write"."""
         mode = ctypes.c_uint32()
         self._call(zx.zx_mode, mode)
         return ("write", "read", "copy on write")[mode.value]
@@ -552,11 +554,11 @@ class Segment(_Named):
 
     @property
     def region_left(self) -> int:
-        """The bytes of its region behind it."""
+        """The bytes of its region after the segment."""
         return self._number(zx.zx_region_left)
 
     def image(self) -> bytes:
-        """The bytes that `load` takes."""
+        """Returns the image: the bytes that `load` takes."""
         image = ctypes.create_string_buffer(self.size)
         self._call(zx.zx_save, image, len(image))
         return image.raw
@@ -569,24 +571,24 @@ class Segment(_Named):
         self._file_call(zx.zx_file_grow, self._path, natural(extra))
 
     def shrink(self) -> None:
-        """Makes the segment as short as its last block lets it be. ReadOnly, Lent."""
+        """Cuts the free bytes off the end of the segment. ReadOnly, Lent."""
         self._refuse_any_lent()
         self._changes += 1
         self._file_call(zx.zx_file_shrink, self._path)
 
     def relocate(self, capacity: int) -> None:
-        """Moves the segment into a region of so many bytes. BadSize, ShortRegion, NoMemory, Lent."""
+        """Moves the segment into a region of `capacity` bytes. BadSize, ShortRegion, NoMemory, Lent."""
         self._refuse_any_lent()
         self._changes += 1
         self._call(zx.zx_relocate, natural(capacity))
 
     def transaction(self) -> Transaction:
-        """Several calls as one: behind `with segment.transaction():` all of them are done; where an exception leaves
-        the block the segment is as it was at its begin. It takes a copy of the segment. NoMemory, Closed."""
+        """Makes a block one step. `with segment.transaction():` keeps all that the block did; if an exception leaves
+        the block, the segment is as before it. It copies the segment. NoMemory, Closed."""
         return Transaction(self)
 
     def _roll_back(self, before: _library.Handle) -> None:
-        """Makes the segment what its copy is. Views keep what they show, in memory of their own."""
+        """Restores the segment from its copy. Views keep what they show, in memory of their own."""
         self._changes += 1
         if not self._lent:
             return self._file_call(zx.zx_file_rollback, self._path, before)
@@ -602,24 +604,24 @@ class Segment(_Named):
     # -- its file
 
     def save(self) -> None:
-        """Saves the file that the segment was opened from, unless it has just these bytes: a new file takes its place
-        when all of it is on the disk, so that one of the two stands whole under the name whatever fails. ReadOnly,
-        NoFile, FileError; after FileUnsynced alone it is saved."""
+        """Saves the segment in its file, unless the file has these bytes already. A new file replaces the old one when
+        it is wholly on the disk, so the name leads to one of the two, whole, whatever fails. ReadOnly, NoFile,
+        FileError; only after FileUnsynced it is saved."""
         self._note_views()
         self._file_call(zx.zx_file_save, self._path)
 
     def flush(self) -> None:
-        """Waits until the changes of a mapped file are on the disk; saves another one. As save."""
+        """Waits until the changes of a mapped file are on the disk; saves any other file. The errors of `save`."""
         self._note_views()
         self._file_call(zx.zx_file_flush, self._path)
 
     def save_as(self, path: Any) -> None:
-        """Saves the image in a new file. FileExists, FileError."""
+        """Saves the image to a new file. FileExists, FileError."""
         self._file_call(zx.zx_file_save_as, path, path_bytes(path), FILE_MODES["x"])
 
     def close(self) -> None:
-        """Saves the file, if there is one that is open for writing, and closes the segment. After an error it is still
-        open, but for FileUnsynced. A view keeps the memory that it shows, but of a mapped file: Lent."""
+        """Saves the file, if it is open for writing, and closes the segment. After an error other than FileUnsynced it
+        is still open. A view keeps the memory that it shows; a view of a mapped file raises Lent."""
         if self._lent:
             self._refuse_lent_file()
             try:
@@ -634,8 +636,8 @@ class Segment(_Named):
         self._file_call(zx.zx_file_close, self._path)
 
     def discard(self) -> None:
-        """Closes the segment and saves nothing. Removes a file that it created and never saved. A mapped file stays,
-        with all changes. Lent as close."""
+        """Closes the segment without saving. Removes a file that it created and never saved. A mapped file stays, with
+        all changes. Lent, as for `close`."""
         if self._thread_number and _here.number != self._thread_number:
             raise WrongThread()
         if self._lent:
@@ -647,7 +649,7 @@ class Segment(_Named):
     # -- views
 
     def _lend(self, lease: Any, number: int) -> None:
-        """Notes that the elements of an object are lent."""
+        """Notes that a view holds the elements of an object."""
         self._lent[id(lease)] = number
         self._was_lent = True
 
@@ -655,7 +657,7 @@ class Segment(_Named):
         self._lent.pop(id(lease), None)
 
     def _note_views(self) -> None:
-        """Has a save look whether views changed bytes."""
+        """Lets a save check whether views changed bytes."""
         if self._was_lent:
             self._handle.shared = True
 
@@ -664,7 +666,7 @@ class Segment(_Named):
             self._refuse_any_lent()
 
     def _leave_memory(self) -> None:
-        """Closes the segment, and leaves its memory to the views that are there."""
+        """Closes the segment, and leaves its memory to the views that exist."""
         memory = _library.Memory()
         self._call(zx.zx_detach, memory)
         self._left.append(_Left(memory.at))
@@ -672,7 +674,7 @@ class Segment(_Named):
 
     @property
     def is_open(self) -> bool:
-        """Whether it is open."""
+        """Whether the segment is open."""
         return bool(self._handle.at)
 
     def __enter__(self) -> Segment:
@@ -685,7 +687,7 @@ class Segment(_Named):
             self.discard()
 
     def __del__(self) -> None:
-        # nobody else has it any more, whatever thread this is
+        # nobody else uses it any more, whatever thread this is
         file = getattr(self, "_file", None)
         if file is None or not (self._handle.at or file.held):
             return
@@ -709,23 +711,23 @@ class Segment(_Named):
         return self._number(zx.zx_num_named)
 
     def unique(self) -> List[Info]:
-        """The unique objects, by the codes of their kinds: a list of Info."""
+        """Lists the unique objects by kind code, as Info."""
         told = _library.Info()
         return [_info(told, b"") for _ in self._each(zx.zx_unique_at, told)]
 
     @property
     def num_unique(self) -> int:
-        """How many unique objects there are; of those with names it is len()."""
+        """The number of unique objects; len() counts those with names."""
         return self._number(zx.zx_num_unique)
 
     def tiles(self) -> List[Tile]:
-        """Blocks and gaps, by offset: a list of Tile. It takes as long as the square of their number."""
+        """Lists blocks and gaps by offset, as Tile. It takes quadratic time."""
         tile = _library.Tile()
         return [Tile(tile.offset, tile.len, ("gap", "object", "index", "storage", "node")[tile.use])
                 for _ in self._each(zx.zx_tile_at, tile)]
 
     def _each(self, call: Any, *told: Any) -> Iterator[int]:
-        """Asks for what stands at each place, until there is no more."""
+        """Asks for the entry at each index, until there is no more."""
         index = 0
         while True:
             code = self._code(call, index, *told)
@@ -737,7 +739,7 @@ class Segment(_Named):
             index += 1
 
     def _names(self, index: int, many: int) -> List[_Row]:
-        """At most so many objects with names, from an index on."""
+        """Reads at most `count` named objects, from an index on."""
         infos, values = ctypes.create_string_buffer(many * _INFO.size), ctypes.create_string_buffer(many * _VALUE.size)
         room, read = max(_LONGEST_NAME, 64 * many), ctypes.c_size_t()
         names = ctypes.create_string_buffer(room)
@@ -754,7 +756,7 @@ class Segment(_Named):
         return rows
 
     def _first_from(self, text: bytes) -> int:
-        """How many names stand before a text."""
+        """Counts the names below a text."""
         index = ctypes.c_uint64()
         self._call(zx.zx_named_from, text, len(text), index)
         return index.value
@@ -762,15 +764,15 @@ class Segment(_Named):
     # -- the two indexes, and all of the segment
 
     def reserve_named(self, places: int) -> None:
-        """Makes room for so many names. NoSpace."""
+        """Makes the capacity of the index of names at least `places`. NoSpace."""
         self._call(zx.zx_reserve_named, natural(places))
 
     def reserve_unique(self, places: int) -> None:
-        """Makes room for so many unique objects. NoSpace."""
+        """Makes the capacity of the index of unique objects at least `places`. NoSpace."""
         self._call(zx.zx_reserve_unique, natural(places))
 
     def shrink_indexes(self) -> None:
-        """Gives back the room that no name and no unique object has."""
+        """Makes the capacity of each index its number of entries."""
         self._call(zx.zx_shrink_indexes)
 
     def zero_free(self) -> None:
@@ -778,24 +780,24 @@ class Segment(_Named):
         self._call(zx.zx_zero_free)
 
     def sanity(self) -> bool:
-        """Whether the segment is sound; it always is."""
+        """Tells whether the segment is sound; it always is."""
         return self._truth(zx.zx_sanity)
 
     def all_deallocated(self) -> bool:
-        """Whether no block is in use."""
+        """Tells whether no block is in use."""
         return self._truth(zx.zx_all_deallocated)
 
 
 class Group(_Named):
-    """The names of a segment that begin with a text, as a mapping from the rest of each name to its object, as a
-    segment is one from names. `Segment.group` makes one; it is good as long as the segment is open."""
+    """The names of a segment that begin with a text: a mapping from the rest of each name to its object.
+    `Segment.group` makes one; it stays valid as long as the segment is open."""
 
     def __init__(self, segment: Segment, prefix: str) -> None:
         self._segment, self._prefix, self._lock = segment, prefix, segment._lock
 
     @property
     def prefix(self) -> str:
-        """What its names begin with."""
+        """The text that its names begin with."""
         return self._prefix
 
     def _full(self, key: Any) -> Any:
@@ -817,7 +819,7 @@ class Group(_Named):
 
 
 class _NoName:
-    """What is no name, as a key in a group."""
+    """A key in a group that is no name."""
 
     def __init__(self, key: Any) -> None:
         self._key = key
@@ -827,7 +829,7 @@ class _NoName:
 
 
 class Transaction:
-    """Several calls as one. `Segment.transaction` makes one."""
+    """Several calls as one step. `Segment.transaction` makes one."""
 
     def __init__(self, segment: Segment) -> None:
         self._segment = segment
@@ -861,7 +863,7 @@ MODES_OF = {"write": 0, "read": 1, "copy on write": 2}
 # ---- segments of several threads
 
 def _locks(call: Callable[..., Any]) -> Callable[..., Any]:
-    """The same call, alone on the segment."""
+    """Wraps a method, so that its call is alone on the segment."""
     def alone(self: Any, *arguments: Any, **named: Any) -> Any:
         with self._lock:
             return call(self, *arguments, **named)
@@ -870,7 +872,7 @@ def _locks(call: Callable[..., Any]) -> Callable[..., Any]:
 
 
 def _locked(kind: Any) -> Any:
-    """The class below one whose methods are each alone on the segment."""
+    """Makes a subclass whose methods are each alone on the segment."""
     members: Dict[str, Any] = {}
     for base in reversed(kind.__mro__[:-1]):
         for name, member in vars(base).items():
@@ -892,14 +894,14 @@ _locked_kinds: Dict[Any, Any] = {}
 
 
 def _locked_classes() -> Dict[Any, Any]:
-    """The classes of a segment that several threads use."""
+    """Returns the classes of a segment that several threads use."""
     if not _locked_kinds:
         _locked_kinds.update({kind: _locked(kind) for kind in _plain})
     return _locked_kinds
 
 
 def path_bytes(path: Any) -> bytes:
-    """The bytes of a path."""
+    """Returns the bytes of a path."""
     try:
         path = os.fsencode(path)
     except TypeError:
@@ -910,7 +912,7 @@ def path_bytes(path: Any) -> bytes:
 
 
 def new_segment(grow: bool, encoding: Optional[str], check_same_thread: bool) -> Segment:
-    """A segment that is still closed."""
+    """Returns a segment that is still closed."""
     kind = Segment if check_same_thread else _locked_classes()[Segment]
     made: Segment = kind(grow=grow, encoding=encoding, check_same_thread=check_same_thread)
     return made

@@ -1,4 +1,4 @@
-"""Kinds, values and rows of values: what is checked before it is handed to the library."""
+"""Kinds, values and rows of values: checked before the library gets them."""
 from __future__ import annotations
 
 import ctypes
@@ -15,7 +15,7 @@ MOST = 2**63
 
 
 class Scalar(NamedTuple):
-    """A kind of scalars: its name, its least and most, its letter of `struct`, and its slice in zx_values."""
+    """A scalar kind: its name, its least and greatest value, its letter in `struct`, and its slice in zx_values."""
     name: str
     least: int
     most: int
@@ -48,7 +48,7 @@ def is_scalar(code: int) -> bool:
 
 
 def code_of(kind: str) -> int:
-    """The code of a kind that is spelled as in docs/LANGUAGE.md, as "map<i32,i64>"."""
+    """Returns the code of a kind as docs/LANGUAGE.md spells it, such as "map<i32,i64>"."""
     code = _codes.get(kind.replace(" ", "")) if isinstance(kind, str) else None
     if code is None:
         raise BadKind(f"no kind is {kind!r}")
@@ -56,7 +56,7 @@ def code_of(kind: str) -> int:
 
 
 def counted(kind: str) -> Tuple[int, Optional[int]]:
-    """The code and the count of a kind, which may be an array, as "i64[3]"."""
+    """Returns the code and count of a kind, which may be an array, such as "i64[3]"."""
     array = re.fullmatch(r"(\w+)\[([0-9]{1,9})\]", kind) if isinstance(kind, str) else None
     if array is None:
         return code_of(kind), None
@@ -69,7 +69,7 @@ def counted(kind: str) -> Tuple[int, Optional[int]]:
 # ---- one value
 
 def whole(number: Any) -> int:
-    """A whole number, which may come from another package as a type of its own."""
+    """Returns a whole number, also from a type of another package."""
     try:
         return operator.index(number)
     except TypeError:
@@ -77,7 +77,7 @@ def whole(number: Any) -> int:
 
 
 def natural(number: Any) -> int:
-    """A number that is passed in 64 bits."""
+    """Returns a number that fits 64 bits."""
     number = whole(number)
     if not 0 <= number < 2**64:
         raise OutOfRange(f"{number} is outside 0 to 2**64 - 1")
@@ -89,7 +89,7 @@ def is_truth(value: Any) -> bool:
 
 
 def scalar(code: int, value: Any, refused: Type[Error] = OutOfRange) -> int:
-    """The number of a value of a kind; of one that is outside it `refused` is raised, or WrongKind."""
+    """Returns the number for a value of a kind; raises `refused`, or WrongKind, for a value outside it."""
     if (code == BOOL) != is_truth(value):
         raise WrongKind(f"{value!r} is no {KINDS[code]}")
     number = int(value) if code == BOOL else whole(value)
@@ -99,12 +99,12 @@ def scalar(code: int, value: Any, refused: Type[Error] = OutOfRange) -> int:
 
 
 def value_of(code: int, number: int) -> _library.Value:
-    """A value as the library takes it."""
+    """Returns a value as the library takes it."""
     return _library.Value(code, number, 0) if code in (I32, I64) else _library.Value(code, 0, number)
 
 
 def number_in(value: _library.Value) -> int:
-    """The number or truth in a value that the library gave."""
+    """Returns the number or bool in a value of the library."""
     if value.kind == BOOL:
         return bool(value.natural)
     return int(value.number if value.kind in (I32, I64) else value.natural)
@@ -123,7 +123,7 @@ class Row:
         return self.part(0)
 
     def part(self, first: int) -> _library.Values:
-        """The values from a place on."""
+        """Returns the values from an index on."""
         own = SCALARS[self.code]
         values = _library.Values(kind=self.code)
         for each in SCALARS.values():
@@ -142,7 +142,7 @@ def listed(values: Any) -> List[Any]:
 
 
 def _buffer_of(code: int, values: Any) -> Optional[memoryview]:
-    """The bytes of an array of another package that has just this kind, in one run."""
+    """Returns the bytes of an array of another package, if it has exactly this kind and is contiguous."""
     if isinstance(values, (list, tuple, range)):
         return None
     try:
@@ -155,18 +155,18 @@ def _buffer_of(code: int, values: Any) -> Optional[memoryview]:
 
 
 def _memory_of(view: memoryview) -> Any:
-    """The bytes of a buffer where they stand, if it may be written, or else a copy."""
+    """Returns the bytes of a buffer in place, if it is writable; otherwise a copy."""
     whole_of = ctypes.c_uint8 * view.nbytes
     return whole_of.from_buffer_copy(view) if view.readonly else whole_of.from_buffer(view)
 
 
 def row(code: int, values: Any, refused: Type[Error] = OutOfRange) -> Row:
-    """Values of one kind side by side; of one that is outside it `refused` is raised, or WrongKind."""
+    """Returns values of one kind side by side; raises `refused`, or WrongKind, for a value outside it."""
     own = SCALARS[code]
     view = _buffer_of(code, values)
     if view is not None and code != BOOL:
         return Row(code, _memory_of(view), view.nbytes // own.size)
-    # of other packages' arrays the values are those of Python
+    # takes the values of other packages' arrays as numbers of Python
     plain = values if type(values) in (list, range) else listed(getattr(values, "tolist", lambda: values)())
     memory = _spelled(own, code, plain)
     if memory is not None:
@@ -179,7 +179,7 @@ def row(code: int, values: Any, refused: Type[Error] = OutOfRange) -> Row:
 
 
 def _spelled(own: Scalar, code: int, plain: Any) -> Any:
-    """Memory with the values of a list that are of the very type of their kind, or None."""
+    """Returns memory with the values of a list whose items all have the exact type of the kind, or None."""
     if not _library.HAS_PYTHON or type(plain) is not list:
         return None
     memory = ctypes.create_string_buffer(max(1, len(plain) * own.size))
@@ -187,7 +187,7 @@ def _spelled(own: Scalar, code: int, plain: Any) -> Any:
 
 
 def _packed(own: Scalar, code: int, plain: Any) -> Optional[bytes]:
-    """The bytes of values that are of the very type of their kind, or None."""
+    """Returns the bytes of values that all have the exact type of the kind, or None."""
     expected = bool if code == BOOL else int
     if type(plain) is not range and not set(map(type, plain)) <= {expected}:
         return None
@@ -198,13 +198,13 @@ def _packed(own: Scalar, code: int, plain: Any) -> Optional[bytes]:
 
 
 def unpacked(code: int, memory: Any, count: int) -> List[int]:
-    """So many values at the front of the memory."""
+    """Returns `count` values at the start of the memory."""
     own = SCALARS[code]
     return memoryview(memory).cast("B")[:count * own.size].cast(own.letter).tolist()
 
 
 def words(code: int, values: Iterable[Any], refused: Type[Error] = OutOfRange) -> Any:
-    """Numbers of a kind in 64 bits each, as rows of pairs have them."""
+    """Returns numbers of a kind in 64 bits each, as rows of pairs have them."""
     numbers = values if isinstance(values, list) else list(values)
     packed = None if code in (U8, I32) else _packed(SCALARS[U64 if code == BOOL else code], code, numbers)
     if packed is None:
@@ -214,14 +214,13 @@ def words(code: int, values: Iterable[Any], refused: Type[Error] = OutOfRange) -
 
 
 def from_words(code: int, memory: Any, count: int) -> List[int]:
-    """So many numbers of a kind, of 64 bits each."""
+    """Returns `count` numbers of a kind from 64 bits each."""
     numbers = unpacked(U64 if code == U64 else I64, memory, count)
     return list(map(bool, numbers)) if code == BOOL else numbers
 
 
 def pairs_of(code: int, value: Any) -> Tuple[Any, Any, int]:
-    """The keys and values of the pairs of a map of a kind, and how many; WrongKind or OutOfRange where one is outside
-    it."""
+    """Returns keys, values and number of the pairs for a kind of map; WrongKind or OutOfRange for a pair outside it."""
     try:
         pairs = dict(value)
     except (TypeError, ValueError):
@@ -232,7 +231,7 @@ def pairs_of(code: int, value: Any) -> Tuple[Any, Any, int]:
 # ---- texts
 
 def encoded(text: Any, encoding: Optional[str]) -> bytes:
-    """The bytes of a text."""
+    """Returns the bytes of a text."""
     if isinstance(text, str):
         try:
             return text.encode(encoding or "utf-8", "surrogateescape")
@@ -244,7 +243,7 @@ def encoded(text: Any, encoding: Optional[str]) -> bytes:
 
 
 def decoded(text: bytes, encoding: Optional[str]) -> Any:
-    """The text of bytes, or the bytes where there is no encoding."""
+    """Returns the text of bytes, or the bytes if there is no encoding."""
     if encoding is None:
         return text
     try:
@@ -272,7 +271,7 @@ class Texts:
         self.passed = (_library.Text * max(1, len(kept))).from_buffer_copy(packed or bytes(16))
 
     def part(self, first: int) -> Any:
-        """The texts from a place on."""
+        """Returns the texts from an index on."""
         return ctypes.cast(ctypes.byref(self.passed, first * ctypes.sizeof(_library.Text)),
                            ctypes.POINTER(_library.Text))
 
@@ -280,7 +279,7 @@ class Texts:
 # ---- keys
 
 class ObjectKey:
-    """A key that is no name: what unique() and handle() give."""
+    """A key that is no name: what unique() and handle() return."""
 
     def __init__(self, key: _library.Key, words: str) -> None:
         self._key, self._words = key, words
@@ -299,17 +298,17 @@ Key = Union[str, bytes, ObjectKey]
 
 
 def unique(kind: str) -> ObjectKey:
-    """The key of the only object of a kind: unique("u64"). BadKind."""
+    """Returns the key of the unique object of a kind: unique("u64"). BadKind."""
     return ObjectKey(_library.Key(1, code_of(kind), 0, b"", 0), f"unique({kind!r})")
 
 
 def handle(number: int) -> ObjectKey:
-    """The key of the object that has a handle."""
+    """Returns the key of the object with a handle."""
     return ObjectKey(_library.Key(2, 0, natural(number), b"", 0), f"handle({number})")
 
 
 def raw_key(key: Any) -> _library.Key:
-    """A key as the library takes it; None stands for no key."""
+    """Returns a key as the library takes it; None means no key."""
     if isinstance(key, str):
         try:
             name = key.encode()

@@ -32,7 +32,7 @@ move_elements_down-requires c =
 
 pub set_storage-requires : goal.set_storage-requires
 set_storage-requires c =
-    let r = c.requires in let d = c.move_elements_down.ensures.changes in
+    let r = c.requires in let d = c.move_elements_down.ensures.change in
     record {
       heap = laid-heap _ _ d.live;
       aligned = r.texts.aligned;
@@ -44,8 +44,8 @@ pub deallocate-requires : goal.deallocate-requires
 deallocate-requires c =
     let w = ready-new c.requires (sym c.link_of.ensures ∙ c.in-Some.is) c.if-old-array.true in
     live-if c.in-Some.old (0 + 16 * length c.requires.ps) (live_of c.set_storage.new.heap.bytes).extents
-    (changed-room _ _ _ _ 24 c.in-Some.old (0 + 16 * length c.requires.ps) c.set_storage.ensures.changes
-    (changed-room _ _ _ _ _ c.in-Some.old (0 + 16 * length c.requires.ps) c.move_elements_down.ensures.changes
+    (changed-room _ _ _ _ 24 c.in-Some.old (0 + 16 * length c.requires.ps) c.set_storage.ensures.change
+    (changed-room _ _ _ _ _ c.in-Some.old (0 + 16 * length c.requires.ps) c.move_elements_down.ensures.change
     w.source))
 
 pub returns-then-old-array : goal.returns-then-old-array
@@ -54,7 +54,7 @@ returns-then-old-array c r =
     adopt-other c.args.n r.texts r.more r.asked r.since (sym (ready-link r) ∙ sym c.link_of.ensures ∙ c.in-Some.is)
     c.if-old-array.true (subst (λ k.
     ChangesBytes current c.args.heap.now c.move_elements_down.new.heap (c.args.array + 0)
-    (16 * k)) n c.move_elements_down.ensures.changes) (subst (SameElements (bytes_of c.args.heap.now.bytes)
+    (16 * k)) n c.move_elements_down.ensures.change) (subst (SameElements (bytes_of c.args.heap.now.bytes)
     (bytes_of c.move_elements_down.new.heap.bytes) (c.in-Some.old + 0) (c.args.array + 0)) n
     c.move_elements_down.ensures.carried)
     c.set_storage.ensures c.deallocate.ensures.released

@@ -8,10 +8,10 @@ pub returns-in-Ok-clause-read : goal.returns-in-Ok-clause-read
 returns-in-Ok-clause-read c = λ d st.
     subst (CopiesAnswer c.args.text.now c.copy_text.new.text c.copy_text.new.len c.copy_text.result)
     (ap (answer_of (λ (t : Bor (List ℕ)). TextElement t.now)) (sym c.in-Ok.is)
-    ∙ c.texts_get.ensures.outcome d st) c.copy_text.ensures.copy
+    ∙ c.texts_get.ensures.answers d st) c.copy_text.ensures.copy
 
 pub returns-in-Err-clause-read : goal.returns-in-Err-clause-read
 returns-in-Err-clause-read c = λ d st.
     subst (CopiesAnswer c.args.text.now c.args.text.now c.args.len.now c.code_of.result)
     (ap (answer_of (λ (t : Bor (List ℕ)). TextElement t.now)) (sym c.in-Err.is)
-    ∙ c.texts_get.ensures.outcome d st) c.code_of.ensures.number
+    ∙ c.texts_get.ensures.answers d st) c.code_of.ensures.number

@@ -30,7 +30,7 @@ pub spread-requires-clause-links : goal.spread-requires-clause-links
 spread-requires-clause-links c =
     let q = c.requires.entry in
     let p = had (goal.at.spread-requires-clause-links c).After-unwrap_or-block q.index.index in
-    links_lead c.unwrap_or-block.result c.args.header_offset (c.len-count.result - c.args.header_offset) q.handles
+    links_lead c.unwrap_or-block.result c.args.place (c.len-count.result - c.args.place) q.handles
     p.links
     q.index.index.whole (omega arith)
 
@@ -41,7 +41,7 @@ pub returns-in-None-clause-index : goal.returns-in-None-clause-index
 returns-in-None-clause-index c = λ t hs i.
     let A = c.args.heap.now in let at = place_of c.args.self in
     let v = (goal.at.returns-in-None-clause-index c).After-unwrap_or-block in let left = few v in let p = had v i in
-    subst (λ b. AddsEntry A c.set_header_word.new.self at t (insert hs c.args.header_offset c.args.handle) b)
+    subst (λ b. AddsEntry A c.set_header_word.new.self at t (insert hs c.args.place c.args.handle) b)
     (sym c.in-None.is)
     (inserted p (in_header c.args.self) (c.len-count.ensures.len t hs i) (omega arith) (omega arith)
     (aligned c.requires.entry)
@@ -59,14 +59,14 @@ pub returns-in-None-clause-frame : goal.returns-in-None-clause-frame
 returns-in-None-clause-frame c = λ t hs i.
     let v = (goal.at.returns-in-None-clause-frame c).After-unwrap_or-block in let left = few v in let p = had v i in
     subst (λ b. AddKeeps c.args.heap.now c.set_header_word.new.self (place_of c.args.self) t b) (sym c.in-None.is)
-    (block_and_count p (in_header c.args.self) (8 * c.args.header_offset) c.spread.ensures.changes (omega arith)
+    (block_and_count p (in_header c.args.self) (8 * c.args.place) c.spread.ensures.changes (omega arith)
     c.header_offset-in-None.ensures c.set_header_word.ensures.changes)
 
 pub returns-in-None-clause-gaps : goal.returns-in-None-clause-gaps
 returns-in-None-clause-gaps c = λ none.
     let v = (goal.at.returns-in-None-clause-gaps c).After-unwrap_or-block in let left = few v in
     let p = had v c.requires.entry.index.index in
-    gaps_kept p (in_header c.args.self) (8 * c.args.header_offset) c.spread.ensures.changes (omega arith)
+    gaps_kept p (in_header c.args.self) (8 * c.args.place) c.spread.ensures.changes (omega arith)
     c.header_offset-in-None.ensures c.set_header_word.ensures.changes
 
 -- the block of the growth, and where the links come from
@@ -95,7 +95,7 @@ all c = written_both c.in-Some.block c.shift_non_null_links.ensures.changes c.sp
 
 pub shift_non_null_links-requires : goal.shift_non_null_links-requires
 shift_non_null_links-requires c =
-    let q = c.requires.entry in let place = c.args.header_offset in
+    let q = c.requires.entry in let place = c.args.place in
     let o = given (goal.at.shift_non_null_links-requires c).After-unwrap_or-from q.index.index in let s = source o in
     record {
       from_aligned = refl;
@@ -107,12 +107,12 @@ shift_non_null_links-requires c =
 
 pub spread-requires-in-Some : goal.spread-requires-in-Some
 spread-requires-in-Some c =
-    let q = c.requires.entry in let place = c.args.header_offset in let count = c.len-count.result in
+    let q = c.requires.entry in let place = c.args.place in let count = c.len-count.result in
     let o = given (goal.at.spread-requires-in-Some c).After-unwrap_or-from q.index.index in
     let p = written o c.shift_non_null_links.ensures.changes (omega arith) in let s = source p in
     record {
       heap = p.index.heap;
-      within = omega arith;
+      in_bounds = omega arith;
       source = s.room (8 * count) (omega arith);
       target = target (8 * count + 8) p (omega arith);
       links = links_lead c.unwrap_or-from.result place (count - place) q.handles s.links q.index.index.whole
@@ -136,7 +136,7 @@ settle-requires c =
 
 pub returns-in-Some-clause-index : goal.returns-in-Some-clause-index
 returns-in-Some-clause-index c = λ t hs i.
-    let A = c.args.heap.now in let at = goal.at.returns-in-Some-clause-index c in let place = c.args.header_offset in
+    let A = c.args.heap.now in let at = goal.at.returns-in-Some-clause-index c in let place = c.args.place in
     let cap = c.grown-capacity.ensures ∙ ap grown_capacity c.capacity.ensures.word in
     let before = given at.After-unwrap_or-from i in
     let behind = written before c.shift_non_null_links.ensures.changes (omega arith) in
@@ -181,14 +181,14 @@ returns-in-None-clause-order c =
     let v = (goal.at.returns-in-None-clause-order c).After-unwrap_or-block in let left = few v in
     let q = c.requires.entry.index.index in let p = had v q in
     let live = same_live c.set_header_word.ensures.changes ∙ same_live c.spread.ensures.changes in
-    keeps-sorted (beside-stays q (block_and_count p (in_header c.args.self) (8 * c.args.header_offset)
+    keeps-sorted (beside-stays q (block_and_count p (in_header c.args.self) (8 * c.args.place)
     c.spread.ensures.changes
     (omega arith) c.header_offset-in-None.ensures c.set_header_word.ensures.changes)
     (λ h x f other. ap (λ (l : LiveSet). extent_at l h) live ∙ f))
 
 pub returns-in-None-clause-sorted : goal.returns-in-None-clause-sorted
 returns-in-None-clause-sorted c = λ t hs i. returns-in-None-clause-order c c.args.self
-    (insert hs c.args.header_offset c.args.handle) (added-sorted c.requires.entry i)
+    (insert hs c.args.place c.args.handle) (added-sorted c.requires.entry i)
 
 pub returns-in-Some-clause-order : goal.returns-in-Some-clause-order
 returns-in-Some-clause-order c =
@@ -202,7 +202,7 @@ returns-in-Some-clause-order c =
 
 pub returns-in-Some-clause-sorted : goal.returns-in-Some-clause-sorted
 returns-in-Some-clause-sorted c = λ t hs i. returns-in-Some-clause-order c c.args.self
-    (insert hs c.args.header_offset c.args.handle) (added-sorted c.requires.entry i)
+    (insert hs c.args.place c.args.handle) (added-sorted c.requires.entry i)
 
 pub returns-in-Some-clause-noop : goal.returns-in-Some-clause-noop
 returns-in-Some-clause-noop c =

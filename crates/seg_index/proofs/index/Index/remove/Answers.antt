@@ -9,7 +9,7 @@ use Rattle.seg_index.proofs.index.Index.remove.Goals as goal
 
 pub shift_non_null_links-requires-clause-links : goal.shift_non_null_links-requires-clause-links
 shift_non_null_links-requires-clause-links c =
-    let q = c.requires.index in let block = c.unwrap_or-block.result in let place = c.args.header_offset in
+    let q = c.requires.index in let block = c.unwrap_or-block.result in let place = c.args.place in
     let rest = c.len-count.result - place - 1 in
     let p = has_places q.index (omega arith) c.header_offset.ensures c.header_link.ensures c.unwrap_or-block.ensures in
     let lead = links_lead block (place + 1) rest q.handles p.links q.index.whole (omega arith) in
@@ -23,7 +23,7 @@ returns c =
     let p = λ (t : ATable) (hs : List ℕ) (i : IsIndexOf c.args.heap.now (place_of c.args.self) t hs).
     has_places i (omega arith) c.header_offset.ensures c.header_link.ensures c.unwrap_or-block.ensures in
     let q = c.requires.index in let r = p q.table q.handles q.index in
-    let keeps = block_and_count r w (8 * c.args.header_offset) moved.changes (omega (arith, r))
+    let keeps = block_and_count r w (8 * c.args.place) moved.changes (omega (arith, r))
     c.header_offset-2.ensures counted.changes in
     let live = same_live counted.changes ∙ same_live moved.changes in
     let order : KeepsSorted c.args.heap.now D = keeps-sorted (beside-stays q.index keeps
@@ -33,11 +33,11 @@ returns c =
           c.header_offset-2.ensures counted.changes counted.word;
       sorted = λ t hs s.
           let long = s.index.stands.count in
-          order c.args.self (remove hs c.args.header_offset) (one-less s.sorted (omega arith));
+          order c.args.self (remove hs c.args.place) (one-less s.sorted (omega arith));
       order = order;
       live = subst (λ (l : LiveSet). EncodesLiveSet current D.bytes l) (same_live moved.changes) counted.changes.live;
-      frame = λ t hs i. block_and_count (p t hs i) w (8 * c.args.header_offset) moved.changes (omega (arith, p t hs i))
+      frame = λ t hs i. block_and_count (p t hs i) w (8 * c.args.place) moved.changes (omega (arith, p t hs i))
           c.header_offset-2.ensures counted.changes;
-      gaps = gaps_kept r w (8 * c.args.header_offset) moved.changes (omega arith) c.header_offset-2.ensures
+      gaps = gaps_kept r w (8 * c.args.place) moved.changes (omega arith) c.header_offset-2.ensures
           counted.changes;
     }

@@ -12,11 +12,11 @@ set_header_link-requires-clause-target c = block_whole c.requires.heap c.require
 pub returns-in-Some : goal.returns-in-Some
 returns-in-Some c =
     let A = c.args.heap.now in
-    let w = headed c.header_offset-header_offset.ensures c.set_header_link.ensures.changes
+    let w = headed c.header_offset-place.ensures c.set_header_link.ensures.changes
     c.set_header_link.ensures.link_target
     c.set_header_word.ensures.changes c.set_header_word.ensures.word c.set_header_word-2.ensures.changes
     c.set_header_word-2.ensures.word in
-    let leads = leads_from A c.header_offset-header_offset.ensures c.header_link-old.ensures c.in-Some.is in
+    let leads = leads_from A c.header_offset-place.ensures c.header_link-old.ensures c.in-Some.is in
     let E = c.deallocate.new.self in let h = in_header c.args.self in
     let r = c.deallocate.ensures.released in let live = same_live w.change in let old = c.in-Some.old in
     let is : unlinked A (place_of c.args.self) ≡ released (live_of A.bytes) old =
@@ -41,10 +41,10 @@ pub returns-in_default : goal.returns-in_default
 returns-in_default c =
     let A = c.args.heap.now in let D = c.set_header_word-2.new.self in let h = in_header c.args.self in
     let at = place_of c.args.self in
-    let w = headed c.header_offset-header_offset.ensures
+    let w = headed c.header_offset-place.ensures
     c.set_header_link.ensures.changes c.set_header_link.ensures.link_target c.set_header_word.ensures.changes
     c.set_header_word.ensures.word c.set_header_word-2.ensures.changes c.set_header_word-2.ensures.word in
-    let leads = leads_from A c.header_offset-header_offset.ensures c.header_link-old.ensures c.in_default.is in
+    let leads = leads_from A c.header_offset-place.ensures c.header_link-old.ensures c.in_default.is in
     let is : unlinked A at ≡ live_of A.bytes = ap (without_link (live_of A.bytes)) leads in
     record {
       index = λ hs links long whole.

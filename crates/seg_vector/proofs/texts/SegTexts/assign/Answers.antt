@@ -4,18 +4,18 @@ use Rattle.seg_vector.proofs.{laid-even, texts-still, some-texts}
 use Rattle.seg_vector.proofs.texts.SegTexts.assign.Goals as goal
 
 pub release-requires : goal.release-requires
-release-requires c = (c.requires.0, (c.requires.1.0, texts-still c.requires.1.1 c.in_ok-array.ensures.changes))
+release-requires c = (c.requires.0, (c.requires.1.0, texts-still c.requires.1.1 c.in_ok-array.ensures.change))
 
 pub set_storage-requires : goal.set_storage-requires
 set_storage-requires c =
-    let still = texts-still c.requires.1.1 c.in_ok-array.ensures.changes in
+    let still = texts-still c.requires.1.1 c.in_ok-array.ensures.change in
     let x = (c.release.ensures c.requires.0 c.requires.1.0 still).texts in
     record { heap = x.heap; aligned = x.aligned; room = x.room; even = laid-even c.in_ok-array.ensures }
 
 pub set_word-requires : goal.set_word-requires
 set_word-requires c =
-    let still = texts-still c.requires.1.1 c.in_ok-array.ensures.changes in
-    changed-room _ _ _ _ 24 c.args.self.place.handle (c.args.self.place.at + 8 + 8) c.set_storage.ensures.changes
+    let still = texts-still c.requires.1.1 c.in_ok-array.ensures.change in
+    changed-room _ _ _ _ 24 c.args.self.place.handle (c.args.self.place.at + 8 + 8) c.set_storage.ensures.change
     (len-room c.release.new.heap.bytes c.args.self.place
     (c.release.ensures c.requires.0 c.requires.1.0 still).texts.room)
 

@@ -42,7 +42,7 @@ move_elements_down-requires c =
 
 pub set_word-requires : goal.set_word-requires
 set_word-requires c = changed-room _ _ _ _ _ c.args.self.place.handle (c.args.self.place.at + 8 + 8)
-    c.move_elements_down.ensures.changes (len-room c.release_text.new.heap.bytes c.args.self.place
+    c.move_elements_down.ensures.change (len-room c.release_text.new.heap.bytes c.args.self.place
     (head-room (left-at (goal.at.set_word-requires c).After-release_text).1))
 
 pub returns-in-Some : goal.returns-in-Some
@@ -53,7 +53,7 @@ returns-in-Some c ps t s =
       before = q.0;
       found = q.1;
       now = erased-by c.args.index c.len-len.result s q.1 (sym c.link_of.ensures ∙ c.in-Some.is) n
-          (c.release_text.ensures q.0 w.element) c.move_elements_down.ensures.changes
+          (c.release_text.ensures q.0 w.element) c.move_elements_down.ensures.change
           c.move_elements_down.ensures.carried
           c.set_word.ensures.changes c.set_word.ensures.word;
     }

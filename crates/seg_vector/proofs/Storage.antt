@@ -605,20 +605,25 @@ extended {old} {s1} {each} {len} {g} n {t} {bytes} more s f long link c1 content
     rewritten (each * len) (len + n) (bytes ++ more) s link c1 (omega (arith, long, less, step)) f
     (omega (arith, sum, total, long, step)) (HasBytesAt-append ms g bytes more front behind) c2 word
 
+-- without storage there are none
+pub none-more : (c : WindowState) {p : Place} {each len k : ℕ} (n : ℕ) {o : Option Extent} {bytes : List ℕ}
+    → IsContainer c.bytes p each len (table k o) bytes → len + n ≤ k → link_at (bytes_of c.bytes) (place_at p) ≡ None
+    → n ≡ 0
+none-more c {k = k} n {o = None} s f link = let none = eqb-true k 0 s.table in omega (arith, f, none)
+none-more c n {o = Some x} s f link = absurd (none-some link s.words.link)
+
 pub extended-not : (c : WindowState) {p : Place} {each len k : ℕ} (n : ℕ) {o : Option Extent} {bytes : List ℕ}
-    (more : List ℕ)
-    → IsContainer c.bytes p each len (table k o) bytes → len + n ≤ k → length more ≡ each * n
+    (more : List ℕ) → IsContainer c.bytes p each len (table k o) bytes → len + n ≤ k → length more ≡ each * n
     → link_at (bytes_of c.bytes) (place_at p) ≡ None → RewritesElements c c p each (len + n) (table k o) (bytes ++ more)
-extended-not c {p} {each} {len} {k} n {o = None} {bytes} more s f long link =
-    let none = eqb-true k 0 s.table in let no : n ≡ 0 = omega (arith, f, none) in
+extended-not c {p} {each} {len} {k} n {o} {bytes} more s f long link =
+    let no = none-more c n s f link in
     let nothing : each * 0 ≡ 0 = omega arith in
     let empty = nil_from_length more (long ∙ ap (λ j. each * j) no ∙ nothing) in
-    subst (λ (ws : List ℕ). RewritesElements c c p each (len + n) (table k None) (bytes ++ ws)) (sym empty)
-    (subst (λ j. RewritesElements c c p each j (table k None) (bytes ++ [])) (let e : len ≡ len + n =
+    subst (λ (ws : List ℕ). RewritesElements c c p each (len + n) (table k o) (bytes ++ ws)) (sym empty)
+    (subst (λ j. RewritesElements c c p each j (table k o) (bytes ++ [])) (let e : len ≡ len + n =
     omega (arith, no) in e)
-    (subst (λ (ws : List ℕ). RewritesElements c c p each len (table k None) ws) (sym (append-nil bytes))
+    (subst (λ (ws : List ℕ). RewritesElements c c p each len (table k o) ws) (sym (append-nil bytes))
     (unchanged-rewritten c s)))
-extended-not c n {o = Some x} more s f long link = none-some link s.words.link
 
 -- ---- how many bytes there are before and behind an element
 

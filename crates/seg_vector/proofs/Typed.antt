@@ -31,6 +31,11 @@ pub all-both : {T : Type 0} → (test : T → Bool) (xs ys : List T) → IsTrue 
     → IsTrue (list_all test ys) → IsTrue (list_all test (xs ++ ys))
 all-both test xs ys v w = list_all-append test xs ys ∙ and_from (list_all test xs) (list_all test ys) v w
 
+-- there is none
+pub all-none : {T : Type 0} → (test : T → Bool) (xs : List T) → length xs ≡ 0 → IsTrue (list_all test xs)
+all-none test [] e = refl
+all-none test (x ∷ xs) e = absurd (omega (arith, e))
+
 -- other elements in the place of those between the first i and those from j on
 all-edit : {T : Type 0} → (test : T → Bool) (xs : List T) (i j : ℕ) (ys : List T) → IsTrue (list_all test xs)
     → IsTrue (list_all test ys) → IsTrue (list_all test (take i xs ++ (ys ++ drop j xs)))
@@ -367,6 +372,14 @@ module _ {T : Type 0} {size : ℕ} {test : T → Bool} {sp : T
       vector-now test sp (xs ++ y ∷ []) r (sym (length-append xs (y ∷ [])))
       (ap (λ bs. flat_map sp xs ++ bs) (sym (append-nil (sp y))) ∙ sym (flat_map-append sp xs (y ∷ [])))
       (all-both test xs (y ∷ []) v.values (all-one test y good))
+
+  pub extended-now : (ys : List T) → IsTrue (list_all test ys) → Extends old mid p k (length ys) (flat_map sp ys)
+      → ReplacesVector size test sp old mid p t (xs ++ ys) t
+  extended-now ys good h =
+      let r = subst (λ j. Extends old mid p j (length ys) (flat_map sp ys)) e h (length xs) t (flat_map sp xs)
+      v.stands in
+      vector-now test sp (xs ++ ys) r (sym (length-append xs ys)) (sym (flat_map-append sp xs ys))
+      (all-both test xs ys v.values good)
 
   pub inserted-now : (i : ℕ) (y : T) → ((x : T) → test x ≡ true → length (sp x) ≡ size) → i ≤ length xs → test y ≡ true
       → Inserts old mid p k i (sp y) → ReplacesVector size test sp old mid p t (insert xs i y) t

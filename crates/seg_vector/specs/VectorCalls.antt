@@ -172,10 +172,3 @@ abbrev pub ReleasesVector : {T : Type 0} → ℕ → (T → Bool) → (T → Lis
 ReleasesVector {T} size is_value spelling old new p =
     (xs : List T) (t : BackingArray) → IsVector size is_value spelling old.bytes p xs t
     → let none : List T = [] in ReplacesVector size is_value spelling old new p t none no_backing
-
--- values put behind the last one, where there are places for all of them
-abbrev pub PutsAll : {T : Type 0} → ℕ → (T → Bool) → (T → List ℕ) → WindowState → WindowState → Place → List T → Type 0
-PutsAll {T} size is_value spelling old new p ys =
-    (xs : List T) (t : BackingArray) → IsVector size is_value spelling old.bytes p xs t
-    → length xs + length ys ≤ t.capacity
-    → ReplacesVector size is_value spelling old new p t (xs ++ ys) t

@@ -187,3 +187,18 @@ pub fn put_over<T: Plain>(heap: &mut Heap, place: Place, first: u64, values: &[T
         spell(heap, storage, T::SIZE * first, values);
     }
 }
+
+/// Spells values behind the last element, one after another, where the capacity allows.
+pub fn put_behind<T: Plain>(heap: &mut Heap, place: Place, values: &[T])
+    requires container { IsStanding heap.old.bytes place T.SIZE }
+    requires space { len_at heap.old.bytes place + length values.now ≤ capacity_at heap.old.bytes place }
+    ensures values { IsTrue (list_all T.is_value values.now) }
+    ensures effect { Extends heap.old heap.new place T.SIZE (length values.now) (flat_map T.spelling values.now) }
+{
+    let len = len_of(heap, place);
+    let more = values.len() as u64;
+    if let Some(storage) = link_of(heap, place) {
+        spell(heap, storage, T::SIZE * len, values);
+        heap.set_word(place.handle, place.at + LEN, len + more);
+    }
+}

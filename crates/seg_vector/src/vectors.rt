@@ -6,7 +6,7 @@ ghost use Rattle.best_fit.specs.{Table.BackingArray as ATable};
 ghost use Rattle.seg_vector.specs.Containers.{place_at};
 ghost use Rattle.seg_vector.specs.VectorCalls.{Assigns, Clears, ReadsVectorLen, CountsPlaces, ErasesFrom, ExtendsBy};
 ghost use Rattle.seg_vector.specs.VectorCalls.{Gets};
-ghost use Rattle.seg_vector.specs.VectorCalls.{InsertsInto, IsSomeVector, IsVector, Pops, Pushes, PutsAll};
+ghost use Rattle.seg_vector.specs.VectorCalls.{InsertsInto, IsSomeVector, IsVector, Pops, Pushes};
 ghost use Rattle.seg_vector.specs.VectorCalls.{ReleasesVector};
 ghost use Rattle.seg_vector.specs.VectorCalls.{ReservesVector, ReservesNothing, Sets, SetsAll, ShrinksVector};
 ghost use Rattle.seg_vector.specs.VectorCalls.{InitsVector};
@@ -14,7 +14,9 @@ ghost use Rattle.seg_vector.specs.VectorCalls.{InitsVector};
 use crate::container_capacity::{
     self, capacity_for_more, free_storage, grow_for_one, init_container, shrink_storage,
 };
-use crate::elements::{WritePos, element, erase_element, put_over, put_value, truncate};
+use crate::elements::{
+    WritePos, element, erase_element, put_behind, put_over, put_value, truncate,
+};
 use crate::places::{capacity_of, len_of};
 use best_fit::{Heap, Place};
 use block_tags::MAX_SEGMENT_LEN;
@@ -208,7 +210,7 @@ impl<T: Plain> SegVec<T> {
         }
         let wanted = capacity_for_more(self.len(heap), more, self.capacity(heap));
         container_capacity::reserve(heap, self.place, T::SIZE, wanted)?;
-        put_all(heap, self.place, values);
+        put_behind(heap, self.place, values);
         Ok(())
     }
 
@@ -236,7 +238,7 @@ impl<T: Plain> SegVec<T> {
     {
         container_capacity::reserve(heap, self.place, T::SIZE, values.len() as u64)?;
         self.clear(heap);
-        put_all(heap, self.place, values);
+        put_behind(heap, self.place, values);
         Ok(())
     }
 
@@ -263,16 +265,5 @@ impl<T: Plain> SegVec<T> {
         ensures { ReleasesVector T.SIZE T.is_value T.spelling heap.old heap.new self.place }
     {
         free_storage(heap, self.place, T::SIZE);
-    }
-}
-
-/// Puts values behind the last one, one after another, where there are places for all of them.
-fn put_all<T: Plain>(heap: &mut Heap, place: Place, values: &[T])
-    requires { (xs : List T) × ((t : ATable) × (IsVector T.SIZE T.is_value T.spelling heap.old.bytes place xs t
-        × (length xs + length values.now ≤ t.capacity))) }
-    ensures { PutsAll T.SIZE T.is_value T.spelling heap.old heap.new place values.now }
-{
-    for value in values {
-        put_value(heap, place, WritePos::End, *value);
     }
 }

@@ -7,12 +7,12 @@ use Rattle.segment_dump.proofs.Common.{literal_of, is_value, size_of, ByHandle, 
 use Rattle.segment_dump.proofs.Common.{Answer, Done, Truth, Directory, IsDirectory, current, Numbers, Pairs, Texts, Value}
 use Rattle.segment_dump.proofs.Common.{TakesStep, TakesStepOfKind, SegmentState, DenotesCurrent, step, step_of_kind}
 use Rattle.segment_dump.proofs.Common.{HasBuiltItems, IsFilling, IsByteList, AreRising, AreValues, FillState, FillsAt}
-use Rattle.segment_dump.proofs.Common.{IsTypedPair, IsPartialValue, head_of, ValueContent, Map, Scalars, String, Strings}
+use Rattle.segment_dump.proofs.Common.{Site, DumpItem, Head, StandsFilling, IsTypedPair, IsPartialValue, head_of, ValueContent, Map, Scalars, String, Strings}
 use Rattle.segment_dump.proofs.Common.{Vector, bytes_in, content_of, count_of_content, all_needs, block_room, text_needs}
 use Rattle.segment_dump.proofs.Common.{element_line, pair_line, text_lines}
 use Rattle.segment_manager.specs.State.{Transitions}
 use Rattle.segment_dump.specs.Builders.{IsFilled}
-use Rattle.segment_dump.specs.Filling.{FillCourse, HasFront, HasPlaces, array_course, filled_item, map_course}
+use Rattle.segment_dump.specs.Filling.{FillCourse, HasFront, HasPlaces, StandsBuilt, array_course, filled_item, map_course}
 use Rattle.segment_dump.specs.Filling.{strings_course, vector_course}
 use Rattle.segment_dump.proofs.Builds.{built}
 use Rattle.segment_dump.proofs.Fills.{AreLess, StepsTo, pushed, text-pushed, was-put, was-set}
@@ -50,6 +50,12 @@ module _ {old new : SegmentState} {d : Directory} {answer given : Answer} {Next 
   led-of_kind h kind c m t =
       led-by (λ d. step_of_kind Write d (ByHandle h) kind c)
       (subst (λ mode. Transitions old new answer (λ d. step_of_kind mode d (ByHandle h) kind c)) w m) t
+
+-- it is filled so far
+pub stands-filling : {s : SegmentState} {d : Directory} {site : Site} {done : List DumpItem} {head : Head} {v : Value}
+    {rest : ℕ} → DenotesCurrent s.cut.bytes d → s.mode ≡ Write → IsFilling d site done head v rest
+    → StandsFilling s site done head v rest
+stands-filling {d = d} st mode filling = record { directory = d; stands = st; mode = mode; filling = filling }
 
 -- ---- lists
 
@@ -148,12 +154,7 @@ module _ {X Y : Type 0} (way : FillCourse X Y) (s : SegmentState) (text : List �
                   text_is = refl;
                   need_is = refl;
                 });
-                stands = record {
-                  directory = u.directory;
-                  stands = u.stands;
-                  mode = u.mode;
-                  filling = u.holds.filling;
-                };
+                stands = stands-filling u.stands u.mode u.holds.filling;
                 text_is = refl;
               },
             );
@@ -326,20 +327,24 @@ whole-by (Map k w ps) n v left need l q = whole-front (map_course k w) ps n v le
 whole-by (Strings ts) n v left need l q = whole-front (strings_course q.table) ts n v left need Strings (λ front. refl)
     refl (λ front. length-map front bytes_in) l q.part
 
+-- with all of its content it is built
+pub filled-so : {s : SegmentState} (p : FillState) (h : ℕ) (v : Value) (rest : ℕ) → content_of v ≡ p.content
+    → StandsFilling s p.site p.done (head_of p h) v rest → StandsBuilt s p.site (p.done ++ filled_item p ∷ []) rest
+filled-so {s} p h v rest e f = subst (λ (c : ValueContent).
+    StandsBuilt s p.site (p.done ++ record { class = p.class; name = p.name; content = c } ∷ []) rest) e (record {
+      directory = f.directory;
+      stands = f.stands;
+      mode = f.mode;
+      built = built f.directory p.site p.done (head_of p h) v rest f.filling;
+    })
+
 pub filled : (s : SegmentState) (text : List ℕ) (p : FillState) (h n : ℕ) → count_of_content p.content ≤ n
     → FillsAt s text p h n → IsFilled s text p
 filled s text p h n l f =
     let w = whole-by p.content n f.value f.left f.need l f.part in
     let rest : f.need + p.more ≡ p.more = omega (arith, w.need_is) in
-    let done = built f.stands.directory p.site p.done (head_of p h) f.value (f.need + p.more) f.stands.filling in
     record {
-      stands = record {
-        directory = f.stands.directory;
-        stands = f.stands.stands;
-        mode = f.stands.mode;
-        built = subst (HasBuiltItems f.stands.directory p.site (p.done ++ filled_item p ∷ [])) rest
-            (subst (λ (c : ValueContent). HasBuiltItems f.stands.directory p.site (p.done
-            ++ record { class = p.class; name = p.name; content = c } ∷ []) (f.need + p.more)) w.value_is done);
-      };
+      stands = subst (StandsBuilt s p.site (p.done ++ filled_item p ∷ [])) rest
+          (filled-so p h f.value (f.need + p.more) w.value_is f.stands);
       text_is = f.text_is ∙ ap (λ l. l ++ p.after) w.left_is;
     }

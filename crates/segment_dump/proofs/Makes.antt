@@ -18,7 +18,7 @@ use Rattle.segment_dump.specs.Building.{IsRest}
 use Rattle.segment_dump.proofs.Builds.{HasEntry, IsPlain, made, map-plain, numbers-plain, string-plain, texts-plain}
 use Rattle.segment_dump.proofs.Builds.{vector-plain}
 use Rattle.segment_dump.proofs.Found.{never-ok, ok-same}
-use Rattle.segment_dump.proofs.Fillings.{led, times-rest, texts-rest}
+use Rattle.segment_dump.proofs.Fillings.{led, times-rest, texts-rest, stands-filling}
 use Rattle.segment_dump.proofs.Orders.{named-len, new-none, unique-len}
 use Rattle.segment_dump.proofs.Spaces.{block-rest, rest-both, needs-rest}
 use Rattle.segment_dump.proofs.Fills.{StepsTo}
@@ -157,15 +157,10 @@ new-object old new site done i more room called next moved =
     record {
       handle = m.handle;
       is = made-handle called m.handle u.given_is;
-      stands = record {
-        directory = u.directory;
-        stands = u.stands;
-        mode = u.mode;
-        filling = subst (λ l. IsFilling u.directory site done (record { class = i.class; name = l; handle = m.handle })
-            (bare content) rest) name
-            (subst (λ c. IsFilling u.directory site done (record { class = c; name = name_of key; handle = m.handle })
-            (bare content) rest) class u.holds);
-      };
+      stands = subst (λ l. StandsFilling new site done (record { class = i.class; name = l; handle = m.handle })
+          (bare content) rest) name
+          (subst (λ c. StandsFilling new site done (record { class = c; name = name_of key; handle = m.handle })
+          (bare content) rest) class (stands-filling u.stands u.mode u.holds));
     }
 
 -- ---- behind its kind and its count

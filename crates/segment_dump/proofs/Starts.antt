@@ -13,7 +13,7 @@ use Rattle.segment_dump.specs.Builders.{FillsElements}
 use Rattle.segment_dump.specs.Filling.{FillCourse, HasFront, HasPlaces, array_course, map_course, strings_course}
 use Rattle.segment_dump.specs.Filling.{vector_course}
 use Rattle.segment_dump.proofs.Adds.{string-of, was-done}
-use Rattle.segment_dump.proofs.Fillings.{filled, led, texts-rest}
+use Rattle.segment_dump.proofs.Fillings.{filled, led, stands-filling, texts-rest}
 use Rattle.segment_dump.proofs.Fills.{HasTable, IsStored, none, reserved, some, table_of, texts-stored, vector-stored}
 use Rattle.segment_dump.proofs.Spaces.{IsRest, rest-both}
 use Rattle.seg_types.specs.declared.kinds.Kind.TheVariants as kinds
@@ -132,12 +132,7 @@ reserved-for c p e first each n more stored long needs rest part s new text h ca
     st.stands.denotes.directory stored long f rest in
     let u = led st.stands st.mode _ moved done in (
       u.given_is,
-      at-front new text p h c e u.holds.value (part u.holds.value u.holds.table) (record {
-        directory = u.directory;
-        stands = u.stands;
-        mode = u.mode;
-        filling = u.holds.filling;
-      }) t,
+      at-front new text p h c e u.holds.value (part u.holds.value u.holds.table) (stands-filling u.stands u.mode u.holds.filling) t,
     )
 
 reserved-by : (c : ValueContent) (p : FillState) (kind : Kind) → c ≡ p.content → kind_of_content c ≡ kind

@@ -13,10 +13,9 @@ use Rattle.segment_dump.proofs.Common.{kind_of_content, ReadsLine, block_room, c
 use Rattle.segment_dump.proofs.Common.{text_lines}
 use Rattle.segment_dump.specs.Builders.{AppendsPiece}
 use Rattle.segment_dump.proofs.Adds.{string-of, was-done}
-use Rattle.segment_dump.proofs.Builds.{built}
 use Rattle.segment_dump.proofs.ContentLines.{piece_front}
 use Rattle.segment_dump.proofs.Found.{never-ok, ok-same}
-use Rattle.segment_dump.proofs.Fillings.{led, led-of_kind}
+use Rattle.segment_dump.proofs.Fillings.{filled-so, led, led-of_kind, stands-filling}
 use Rattle.segment_dump.proofs.Fills.{HasTable, appended, none, reserved, some, string-stored, table_of}
 use Rattle.segment_dump.proofs.PieceReads.{first-fits, front-all, front-few, front-more, front_bytes, none-left}
 use Rattle.segment_dump.proofs.PieceReads.{piece-bytes, piece-line}
@@ -44,7 +43,7 @@ piece-appended {E} {F} old new h words p bytes called result r e step ok = recor
       let done' = appended s.directory site done head front t rest bs s.stands.denotes.directory s.filling l in
       let u = led-of_kind s.stands s.mode _ _ _ step' done' in (
         ok (was-done called u.given_is),
-        record { directory = u.directory; stands = u.stands; mode = u.mode; filling = u.holds },
+        stands-filling u.stands u.mode u.holds,
       );
 }
 
@@ -93,12 +92,7 @@ begun old text p h room f b =
       is = q.1;
       counted = good.0;
       good = good.1;
-      stands = record {
-        directory = s.directory;
-        stands = s.stands;
-        mode = s.mode;
-        filling = subst (IsFilling s.directory p.site p.done (head_of p h) (Bytes [] no_backing)) needs s.filling;
-      };
+      stands = subst (StandsFilling old p.site p.done (head_of p h) (Bytes [] no_backing)) needs s;
       lines = b.text_is ∙ ap (λ (c : ValueContent). content_text c ++ p.after) q.1;
     }
 
@@ -141,12 +135,8 @@ module _ (old mid : SegmentState) (h room : ℕ) (text rest words : List ℕ) (l
         was = u.given_is;
         table = t.0;
         places = t.2;
-        stands = record {
-          directory = u.directory;
-          stands = u.stands;
-          mode = u.mode;
-          filling = subst (λ w. IsFilling u.directory p.site p.done (head_of p h) w p.more) t.1 u.holds.filling;
-        };
+        stands = subst (λ w. StandsFilling mid p.site p.done (head_of p h) w p.more) t.1
+            (stands-filling u.stands u.mode u.holds.filling);
         words_are = ap (λ (b : List ℕ × ℕ). b.0) both;
         left = q.1;
       }
@@ -177,13 +167,7 @@ module _ (old mid : SegmentState) (h room : ℕ) (text rest words : List ℕ) (l
           record {
             table = g.table;
             places = g.places;
-            stands = record {
-              directory = one.1.directory;
-              stands = one.1.stands;
-              mode = one.1.mode;
-              filling = subst (λ w. IsFilling one.1.directory p.site p.done (head_of p h) (Bytes w g.table) p.more)
-                  front one.1.filling;
-            };
+            stands = subst (λ w. StandsFilling new p.site p.done (head_of p h) (Bytes w g.table) p.more) front one.1;
             left = g.left;
             inside = omega arith;
           },
@@ -250,13 +234,8 @@ module _ (old now : SegmentState) (h room : ℕ) (text rest : List ℕ) (len cou
         record {
           table = at.table;
           places = at.places;
-          stands = record {
-            directory = one.1.directory;
-            stands = one.1.stands;
-            mode = one.1.mode;
-            filling = subst (λ w. IsFilling one.1.directory p.site p.done (head_of p h) (Bytes w at.table) p.more)
-                (sym (front-more bs n)) one.1.filling;
-          };
+          stands = subst (λ w. StandsFilling new p.site p.done (head_of p h) (Bytes w at.table) p.more)
+              (sym (front-more bs n)) one.1;
           left = read.1;
           inside = omega (arith, l, q.2);
         },
@@ -297,23 +276,10 @@ string-end {F} old now h room text rest len counter i l = record {
       let at = q.4 in
       let n : suc counter ≡ pieces_in (length bs) = omega (arith, at.inside, q.2, l) in
       let all : front_bytes bs (suc counter) ≡ bs = front-all bs (suc counter) n in
-      let filling : IsFilling at.stands.directory p.site p.done (head_of p h) (Bytes bs at.table) p.more =
-      subst (λ w. IsFilling at.stands.directory p.site p.done (head_of p h) (Bytes w at.table) p.more) all
-      at.stands.filling in
-      let done = built at.stands.directory p.site p.done (head_of p h) (Bytes bs at.table) p.more filling in (
+      let stands = subst (λ w. StandsFilling now p.site p.done (head_of p h) (Bytes w at.table) p.more) all at.stands in (
         refl,
         record {
-          stands = record {
-            directory = at.stands.directory;
-            stands = at.stands.stands;
-            mode = at.stands.mode;
-            built = subst (λ (c : ValueContent).
-                HasBuiltItems at.stands.directory p.site (p.done ++ record {
-                  class = p.class;
-                  name = p.name;
-                  content = c;
-                } ∷ []) p.more) (sym q.1) done;
-          };
+          stands = filled-so p h (Bytes bs at.table) p.more (sym q.1) stands;
           text_is = none-left bs p.after (suc counter) rest n at.left;
         },
       );

@@ -116,7 +116,8 @@ module _ {E : Type 0} (old new : SegmentState) (h : ℕ) (k : ScalarKind) (text 
   -- the step is that of the kind and the value that were read
   scalar-read : (kind_by : ScalarKind → Kind) (c : ScalarKind → ℤ → Command) (v : ScalarValue) (given : Answer)
       → ReadsElement {E = E} k text rest (Ok v)
-      → TakesStepOfKind old new (ByHandle h) (kind_by (kind_of_scalar v)) (c (kind_of_scalar v) (value_of_scalar v)) given
+      → TakesStepOfKind old new (ByHandle h) (kind_by (kind_of_scalar v)) (c (kind_of_scalar v) (value_of_scalar v))
+      given
       → (z : ℤ) (a : List ℕ) → is_value k z ≡ true → text ≡ element_line k z ++ a
       → TakesStepOfKind old new (ByHandle h) (kind_by k) (c k z) given × (rest ≡ a)
   scalar-read kind_by c v given r step z a good t =
@@ -125,7 +126,8 @@ module _ {E : Type 0} (old new : SegmentState) (h : ℕ) (k : ScalarKind) (text 
       let kind_is : kind_of_scalar v ≡ k = ap kind_of_scalar is ∙ scalar-kind k z in
       let value_is : value_of_scalar v ≡ z = ap value_of_scalar is ∙ scalar-value k z good in (
         subst (λ y. TakesStepOfKind old new (ByHandle h) (kind_by k) (c k y) given) value_is
-            (subst (λ j. TakesStepOfKind old new (ByHandle h) (kind_by j) (c j (value_of_scalar v)) given) kind_is step),
+            (subst (λ j. TakesStepOfKind old new (ByHandle h) (kind_by j) (c j (value_of_scalar v)) given) kind_is
+            step),
         read.1,
       )
 
@@ -136,16 +138,13 @@ module _ {E F : Type 0} (old new : SegmentState) (h n room : ℕ) (k : ScalarKin
       (λ z a good t. never-ok e (scalar_of k z) (r.reads z a good t).0)
 
   pub set-adds : (v : ScalarValue) (called : Result (Unit {0}) Refusal) (result : Result (Unit {0}) F)
-      → ReadsElement {E = E} k text rest (Ok v)
-      → TakesStepOfKind old new (ByHandle h) (kinds.Scalar (kind_of_scalar v))
+      → ReadsElement {E = E} k text rest (Ok v) → TakesStepOfKind old new (ByHandle h) (kinds.Scalar (kind_of_scalar v))
       (asked.Set (ByHandle h) n (literal_of (kind_of_scalar v) (value_of_scalar v))) (done_answer called)
-      → (called ≡ Ok tt → result ≡ Ok tt)
-      → AddsElement old new h (kinds.Scalar k) n text rest room result
+      → (called ≡ Ok tt → result ≡ Ok tt) → AddsElement old new h (kinds.Scalar k) n text rest room result
   set-adds v called result r step ok =
       added old h n room _ text _ _ _ _ new rest result (done_answer called) (set-next old h n room k text)
       (scalar-read old new h k text rest kinds.Scalar (λ j z. asked.Set (ByHandle h) n (literal_of j z)) v
-      (done_answer called) r step)
-      (λ e. ok (was-done called e))
+      (done_answer called) r step) (λ e. ok (was-done called e))
 
   pub push-unread : (e : E) (result : Result (Unit {0}) F) → ReadsElement k text rest (Err e)
       → AddsElement old new h (kinds.Vector k) n text rest room result
@@ -153,16 +152,13 @@ module _ {E F : Type 0} (old new : SegmentState) (h n room : ℕ) (k : ScalarKin
       (λ z a good t. never-ok e (scalar_of k z) (r.reads z a good t).0)
 
   pub push-adds : (v : ScalarValue) (called : Result (Unit {0}) Refusal) (result : Result (Unit {0}) F)
-      → ReadsElement {E = E} k text rest (Ok v)
-      → TakesStepOfKind old new (ByHandle h) (kinds.Vector (kind_of_scalar v))
+      → ReadsElement {E = E} k text rest (Ok v) → TakesStepOfKind old new (ByHandle h) (kinds.Vector (kind_of_scalar v))
       (asked.Push (ByHandle h) (literal_of (kind_of_scalar v) (value_of_scalar v))) (done_answer called)
-      → (called ≡ Ok tt → result ≡ Ok tt)
-      → AddsElement old new h (kinds.Vector k) n text rest room result
+      → (called ≡ Ok tt → result ≡ Ok tt) → AddsElement old new h (kinds.Vector k) n text rest room result
   push-adds v called result r step ok =
       added old h n room _ text _ _ _ _ new rest result (done_answer called) (push-next old h n room k text)
       (scalar-read old new h k text rest kinds.Vector (λ j z. asked.Push (ByHandle h) (literal_of j z)) v
-      (done_answer called) r step)
-      (λ e. ok (was-done called e))
+      (done_answer called) r step) (λ e. ok (was-done called e))
 
 -- ---- pairs
 

@@ -1,27 +1,23 @@
 -- What the steps lead to by which an object comes to be, and how the objects of a segment are those of a dump in the
 -- end.
+use Rattle.seg_types.specs.Commands as asked
 use Rattle.segment_dump.proofs.Common.{◌≡◌, ℕ, ◌+◌, ◌*◌, ◌<◌, ◌≤◌, ◌==◌, ℤ, Bool, true, false, nat_lt, List, [], ◌∷◌}
 use Rattle.segment_dump.proofs.Common.{◌++◌, length, map, Option, Some, None, if◌then◌else◌, refl, sym, ap, subst, ◌∙◌}
 use Rattle.segment_dump.proofs.Common.{arith, append_assoc, flat_map, ⊤, AllByRecursion, nat_tests, flat_map-append}
 use Rattle.segment_dump.proofs.Common.{append-nil, map-append, Index, Extent, end_of, handle, room, BackingArray}
-use Rattle.segment_dump.proofs.Common.{no_backing, nat_le, Command}
-use Rattle.segment_dump.proofs.Common.{current, Class, Anonymous, Named, Unique, ScalarKind, Key, Write, Answer, Done}
-use Rattle.segment_dump.proofs.Common.{Made, Directory, IsDirectory, Object, Value, empty, extents_of, live}
-use Rattle.segment_dump.proofs.Common.{named_objects, object_at, object_len, table_extents, unique_objects}
-use Rattle.segment_dump.proofs.Common.{value_extents, Plan, Reply, Request, New, bare, class_of, name_of, perform}
-use Rattle.segment_dump.proofs.Common.{effect, step, AllByRecursion-behind, AllByRecursion-front, EndBy, HasExactRoom}
-use Rattle.segment_dump.proofs.Common.{Head}
-use Rattle.segment_dump.proofs.Common.{HasBuiltItems, IsFilling, Site, all_extents, total, DumpItem, content_of}
-use Rattle.segment_dump.proofs.Common.{item_of_object}
-use Rattle.segment_dump.proofs.Common.{block_room, le-leb, lt-leb, lt-ltb}
+use Rattle.segment_dump.proofs.Common.{no_backing, nat_le, Command, current, Class, Anonymous, Named, Unique}
+use Rattle.segment_dump.proofs.Common.{ScalarKind, Key, Write, Answer, Done, Made, Directory, IsDirectory, Object}
+use Rattle.segment_dump.proofs.Common.{Value, empty, extents_of, live, named_objects, object_at, object_len}
+use Rattle.segment_dump.proofs.Common.{table_extents, unique_objects, value_extents, Plan, Reply, Request, New, bare}
+use Rattle.segment_dump.proofs.Common.{class_of, name_of, perform, effect, step, AllByRecursion-behind}
+use Rattle.segment_dump.proofs.Common.{AllByRecursion-front, EndBy, HasExactRoom, Head, HasBuiltItems, IsFilling, Site}
+use Rattle.segment_dump.proofs.Common.{all_extents, total, DumpItem, content_of, item_of_object, block_room, le-leb}
+use Rattle.segment_dump.proofs.{Common.lt-leb, Common.lt-ltb, Steps.put-last, Steps.writes}
 use Rattle.block_tags.specs.declared.tile.Role.TheVariants.{Object as ObjectRole}
 use Rattle.seg_types.specs.declared.refusals.Refusal.TheVariants.{Exists}
-use Rattle.segment_manager.specs.Directory.{with_object}
-use Rattle.segment_manager.specs.Plan.{with_entry, with_new_object, with_value}
+use Rattle.segment_manager.specs.{Directory.with_object, Plan.with_entry, Plan.with_new_object, Plan.with_value}
 use Rattle.segment_dump.proofs.Fills.{StepsTo, met-perform, no-bytes}
 use Rattle.segment_dump.proofs.Spaces.{IsRest, block-some, room-taken, room-with}
-use Rattle.segment_dump.proofs.Steps.{put-last, writes}
-use Rattle.seg_types.specs.Commands as asked
 
 -- ---- an object is made
 
@@ -227,7 +223,8 @@ module _ (d : Directory) (n rest : ℕ) (i : IsDirectory current d)
       record {
         next = d;
         is = index-asks true (le-leb n 0 (omega (arith, z)));
-        holds = none z (subst (λ m. HasExactRoom (all_extents d) d.size m) (no-bytes (8 * n) rest (omega (arith, z))) b);
+        holds = none z
+            (subst (λ m. HasExactRoom (all_extents d) d.size m) (no-bytes (8 * n) rest (omega (arith, z))) b);
       }
   index-by false e =
       let l : 0 < n = grind (arith, nat_tests) in
@@ -235,8 +232,7 @@ module _ (d : Directory) (n rest : ℕ) (i : IsDirectory current d)
       let taken = room-taken d (8 * n) Index rest i.proper h r in
       record {
         next = made (table_of n taken.extent);
-        is = index-asks false (lt-leb n 0 l)
-            ∙ met-perform d (8 * n) Index taken.extent (λ x.
+        is = index-asks false (lt-leb n 0 l) ∙ met-perform d (8 * n) Index taken.extent (λ x.
             Reply Done (made (table_of n x))) Done (made (table_of n taken.extent)) taken.is refl;
         holds = some taken.extent h taken.front taken.fits;
       }

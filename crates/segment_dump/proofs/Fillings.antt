@@ -1,24 +1,23 @@
 -- An element more of an object that is being filled.
+use Rattle.seg_types.specs.declared.kinds.Kind.TheVariants as kinds
+use Rattle.seg_types.specs.Commands as asked
 use Rattle.segment_dump.proofs.Common.{◌≡◌, inl, ℕ, zero, suc, ◌+◌, ◌*◌, ◌<◌, ◌≤◌, ℤ, pos, true, false, List, [], ◌∷◌}
 use Rattle.segment_dump.proofs.Common.{◌++◌, length, map, replicate, refl, sym, ap, subst, ◌∙◌, arith, append_assoc}
 use Rattle.segment_dump.proofs.Common.{append-nil, ◌^◌, flat_map, int_lt, slice_set, AllByRecursion, suc-mul, zero-mul}
 use Rattle.segment_dump.proofs.Common.{ints, length-append, length-map, map-append, Kind, ScalarKind, Command}
 use Rattle.segment_dump.proofs.Common.{literal_of, is_value, size_of, ByHandle, node_len, NumberPair, item_of, Write}
-use Rattle.segment_dump.proofs.Common.{Answer, Done, Truth, Directory, IsDirectory, current, Numbers, Pairs, Texts, Value}
-use Rattle.segment_dump.proofs.Common.{TakesStep, TakesStepOfKind, SegmentState, DenotesCurrent, step, step_of_kind}
-use Rattle.segment_dump.proofs.Common.{HasBuiltItems, IsFilling, IsByteList, AreRising, AreValues, FillState, FillsAt}
-use Rattle.segment_dump.proofs.Common.{Site, DumpItem, Head, StandsFilling, IsTypedPair, IsPartialValue, head_of, ValueContent, Map, Scalars, String, Strings}
-use Rattle.segment_dump.proofs.Common.{Vector, bytes_in, content_of, count_of_content, all_needs, block_room, text_needs}
-use Rattle.segment_dump.proofs.Common.{element_line, pair_line, text_lines}
+use Rattle.segment_dump.proofs.Common.{Answer, Done, Truth, Directory, IsDirectory, current, Numbers, Pairs, Texts}
+use Rattle.segment_dump.proofs.Common.{Value, TakesStep, TakesStepOfKind, SegmentState, DenotesCurrent, step}
+use Rattle.segment_dump.proofs.Common.{step_of_kind, IsFilling, IsByteList, AreRising, AreValues, FillState, FillsAt}
+use Rattle.segment_dump.proofs.Common.{Site, DumpItem, Head, StandsFilling, IsTypedPair, IsPartialValue, head_of}
+use Rattle.segment_dump.proofs.Common.{ValueContent, Map, Scalars, String, Strings, Vector, bytes_in, content_of}
+use Rattle.segment_dump.proofs.Common.{count_of_content, all_needs, block_room, text_needs, element_line, pair_line}
+use Rattle.segment_dump.proofs.{Common.text_lines, Builds.built}
 use Rattle.segment_manager.specs.State.{Transitions}
-use Rattle.segment_dump.specs.Builders.{IsFilled}
-use Rattle.segment_dump.specs.Filling.{FillCourse, HasFront, HasPlaces, StandsBuilt, array_course, filled_item, map_course}
-use Rattle.segment_dump.specs.Filling.{strings_course, vector_course}
-use Rattle.segment_dump.proofs.Builds.{built}
+use Rattle.segment_dump.specs.{Builders.IsFilled, Filling.map_course, Filling.strings_course, Filling.vector_course}
+use Rattle.segment_dump.specs.Filling.{FillCourse, HasFront, HasPlaces, StandsBuilt, array_course, filled_item}
 use Rattle.segment_dump.proofs.Fills.{AreLess, StepsTo, pushed, text-pushed, was-put, was-set}
 use Rattle.segment_dump.proofs.Spaces.{IsRest, block-rest, rest-both, needs-rest}
-use Rattle.seg_types.specs.declared.kinds.Kind.TheVariants as kinds
-use Rattle.seg_types.specs.Commands as asked
 
 -- ---- a call that is a step
 
@@ -110,8 +109,8 @@ module _ {X Y : Type 0} (way : FillCourse X Y) (s : SegmentState) (text : List �
     → (d : Directory) → IsDirectory current d
     → IsFilling d p.site p.done (head_of p h) (way.value front (y ∷ back)) (way.need (y ∷ back) + p.more)
     → StepsTo (step_of_kind Write d (ByHandle h) kind (c y)) answer (HasNext way p h front y back)) where
-  next-behind : (f : FillsAt s text p h n) (q : HasFront way all n f.value f.left f.need) (back : List Y) → q.back ≡ back
-      → NextElement s text p h n way.line Good kind c answer
+  next-behind : (f : FillsAt s text p h n) (q : HasFront way all n f.value f.left f.need) (back : List Y)
+      → q.back ≡ back → NextElement s text p h n way.line Good kind c answer
   next-behind f q [] b = absurd (omega (
     arith,
     l,
@@ -127,8 +126,7 @@ module _ {X Y : Type 0} (way : FillCourse X Y) (s : SegmentState) (text : List �
       let filling : IsFilling st.directory p.site p.done (head_of p h) (way.value front (y ∷ back))
       (way.need (y ∷ back) + p.more) =
       subst (λ m. IsFilling st.directory p.site p.done (head_of p h) (way.value front (y ∷ back)) (m + p.more))
-      (q.need_is ∙ ap way.need b)
-      (subst (λ v. IsFilling st.directory p.site p.done (head_of p h) v (f.need + p.more))
+      (q.need_is ∙ ap way.need b) (subst (λ v. IsFilling st.directory p.site p.done (head_of p h) v (f.need + p.more))
       (q.value_is ∙ ap (way.value front) b) st.filling) in
       let made = steps front y back a q.many is st.directory st.stands.denotes.directory filling in
       record {
@@ -262,17 +260,15 @@ all-short longest [] g h = tt
 all-short longest (t ∷ ts) g h = ((omega (arith, h), g.0), all-short longest ts g.1 (omega (arith, h)))
 
 pub next-text_of : (s : SegmentState) (text : List ℕ) (p : FillState) (h n longest : ℕ) (ts : List (List ℕ))
-    → p.content ≡ Strings ts → n < length ts
-    → AllByRecursion (λ (bs : List ℕ). (length bs < 2 ^ 64) × IsByteList bs) ts
-    → (all_needs text_needs ts).longest ≤ longest → IsRest p.more → FillsAt s text p h n
-    → NextElement s text p h n text_lines (IsShortText longest) kinds.Strings
+    → p.content ≡ Strings ts → n < length ts → AllByRecursion (λ (bs : List ℕ). (length bs < 2 ^ 64) × IsByteList bs) ts
+    → (all_needs text_needs ts).longest ≤ longest
+    → IsRest p.more → FillsAt s text p h n → NextElement s text p h n text_lines (IsShortText longest) kinds.Strings
     (λ bs. asked.Push (ByHandle h) (asked.Quoted bs)) Done
 next-text_of s text p h n longest ts e l g long m f =
     let q : HasPlaces strings_course ts n f.value f.left f.need = its-part s text p h n f e in
     next-behind (strings_course q.table) s text p h n ts kinds.Strings
     (λ bs. asked.Push (ByHandle h) (asked.Quoted bs)) Done (IsShortText longest) l (all-short longest ts g long)
-    (λ front. length-map front bytes_in)
-    (λ v left need r. as-part s text p h n f e v left need
+    (λ front. length-map front bytes_in) (λ v left need r. as-part s text p h n f e v left need
     (record { table = q.table; places = q.places; part = r }))
     (λ front bs back a many is d i filling.
     let places = q.places in

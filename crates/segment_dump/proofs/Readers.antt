@@ -3,15 +3,13 @@ use Rattle.segment_dump.proofs.Common.{◌≡◌, ◌≢◌, ℕ, suc, ◌+◌, 
 use Rattle.segment_dump.proofs.Common.{get_or, refl, sym, ap, subst, ◌∙◌, arith, append_assoc, ◌^◌, Option, Some, None}
 use Rattle.segment_dump.proofs.Common.{decimal, flat_map, option_map, take_all, AllByRecursion, kind_text, name_text}
 use Rattle.segment_dump.proofs.Common.{IsSmall, closed_text, Any, AreLines, Breaks, HasNoEnd, IsWord, ParsesPrefix}
-use Rattle.segment_dump.proofs.Common.{Skips}
-use Rattle.segment_dump.proofs.Common.{ended, itself, lines_text, seen, seen_rest, current, Kind, whole}
+use Rattle.segment_dump.proofs.Common.{Skips, ended, itself, lines_text, seen, seen_rest, current, Kind, whole}
 use Rattle.segment_dump.proofs.Common.{NumbersAreDecimals, kind_named, number_text, number_of}
 use Rattle.std.specs.Borrow.{Bor}
 use Rattle.seg_types.specs.Texts.{item_text}
-use Rattle.segment_dump.proofs.Codes.{heads, tails, words-read}
+use Rattle.segment_dump.proofs.{Codes.heads, Codes.tails, Codes.words-read, Words.decimal-word}
 use Rattle.segment_dump.proofs.KindWords.{kind-named, kind-word}
 use Rattle.segment_dump.proofs.Quotes.{IsName, bare, item-is, item-opens, name-is, quoted}
-use Rattle.segment_dump.proofs.Words.{decimal-word}
 
 -- ---- where nothing is found
 

@@ -1,6 +1,8 @@
 -- An object with nothing in it is ready to be filled, and is filled element by element.
-use Rattle.segment_dump.proofs.Common.{◌≡◌, ℕ, ◌+◌, ◌*◌, ◌<◌, ◌≤◌, ℤ, pos, List, [], ◌++◌, length, replicate, Result}
-use Rattle.segment_dump.proofs.Common.{Ok, Err, refl, sym, ap, subst, ◌∙◌, arith, zero-add, flat_map, no_backing, Kind}
+use Rattle.seg_types.specs.declared.kinds.Kind.TheVariants as kinds
+use Rattle.seg_types.specs.Commands as asked
+use Rattle.segment_dump.proofs.Common.{◌≡◌, ℕ, ◌+◌, ◌*◌, ◌<◌, ◌≤◌, pos, List, [], ◌++◌, length, replicate, Result, Ok}
+use Rattle.segment_dump.proofs.Common.{Err, refl, sym, ap, subst, ◌∙◌, arith, zero-add, flat_map, no_backing, Kind}
 use Rattle.segment_dump.proofs.Common.{ScalarKind, Refusal, size_of, ByHandle, Done, Elements, Numbers, Pairs, Texts}
 use Rattle.segment_dump.proofs.Common.{Value, bare, TakesStep, SegmentState, done_answer, AddsElement, FillsNew}
 use Rattle.segment_dump.proofs.Common.{IsEmptyObject, IsFillable, IsVectorKind, content_need, first_content, IsFilling}
@@ -9,15 +11,11 @@ use Rattle.segment_dump.proofs.Common.{Scalars, String, Strings, Vector, count_o
 use Rattle.segment_dump.proofs.Common.{block_room, text_needs, content_text, BackingArray}
 use Rattle.seg_types.specs.declared.kinds.ScalarKind.TheVariants.{Bool as BoolKind}
 use Rattle.segment_manager.specs.Step.{with_table}
-use Rattle.segment_dump.specs.Builders.{FillsElements}
+use Rattle.segment_dump.specs.{Builders.FillsElements, Filling.vector_course}
 use Rattle.segment_dump.specs.Filling.{FillCourse, HasFront, HasPlaces, array_course, map_course, strings_course}
-use Rattle.segment_dump.specs.Filling.{vector_course}
-use Rattle.segment_dump.proofs.Adds.{string-of, was-done}
+use Rattle.segment_dump.proofs.{Adds.string-of, Adds.was-done, Spaces.IsRest, Spaces.rest-both}
 use Rattle.segment_dump.proofs.Fillings.{filled, led, stands-filling, texts-rest}
 use Rattle.segment_dump.proofs.Fills.{HasTable, IsStored, none, reserved, some, table_of, texts-stored, vector-stored}
-use Rattle.segment_dump.proofs.Spaces.{IsRest, rest-both}
-use Rattle.seg_types.specs.declared.kinds.Kind.TheVariants as kinds
-use Rattle.seg_types.specs.Commands as asked
 
 -- ---- one element after another
 
@@ -39,8 +37,7 @@ elements-more old now new h kind text rest rest' room counter u i a =
 
 pub elements-cut : {E F : Type 0} (old now new last : SegmentState) (h : ℕ) (kind : Kind) (count : ℕ)
     (text rest rest' final : List ℕ) (room counter : ℕ) (e : E) (result : Result (Unit {0}) F) → counter < count
-    → InElements old now h kind text rest room counter
-    → AddsElement now new h kind counter rest rest' room (Err e)
+    → InElements old now h kind text rest room counter → AddsElement now new h kind counter rest rest' room (Err e)
     → FillsElements old last h kind count text final room result
 elements-cut old now new last h kind count text rest rest' final room counter e result l i a = record {
   fills = λ p f c s.
@@ -99,8 +96,7 @@ begun-by (Strings ts) p kind e q n v s text h st t = absurd (v (subst IsVectorKi
 
 pub fills-plain : {E : Type 0} (old new : SegmentState) (h : ℕ) (kind : Kind) (count : ℕ) (text rest : List ℕ)
     (room : ℕ) (result : Result (Unit {0}) E) → (kind ≡ kinds.String → ⊥) → (IsVectorKind kind → ⊥)
-    → FillsElements old new h kind count text rest room result
-    → FillsNew old new h kind count text rest room result
+    → FillsElements old new h kind count text rest room result → FillsNew old new h kind count text rest room result
 fills-plain old new h kind count text rest room result n v f = record {
   fills = λ p g c b. f.fills p g c (begun-by p.content p kind refl g.kind_is n v old text h b.stands b.text_is);
 }
@@ -132,7 +128,8 @@ reserved-for c p e first each n more stored long needs rest part s new text h ca
     st.stands.denotes.directory stored long f rest in
     let u = led st.stands st.mode _ moved done in (
       u.given_is,
-      at-front new text p h c e u.holds.value (part u.holds.value u.holds.table) (stands-filling u.stands u.mode u.holds.filling) t,
+      at-front new text p h c e u.holds.value (part u.holds.value u.holds.table)
+          (stands-filling u.stands u.mode u.holds.filling) t,
     )
 
 reserved-by : (c : ValueContent) (p : FillState) (kind : Kind) → c ≡ p.content → kind_of_content c ≡ kind
@@ -200,8 +197,7 @@ as-room {E} old new h kind n text rest room room' result e a =
 
 pub fills-text : {E : Type 0} (old new : SegmentState) (h : ℕ) (kind : Kind) (count : ℕ) (text rest : List ℕ)
     (room : ℕ) (result : Result (Unit {0}) E) → kind ≡ kinds.String
-    → FillsNew old new h kinds.String 1 text rest room result
-    → FillsNew old new h kind count text rest room result
+    → FillsNew old new h kinds.String 1 text rest room result → FillsNew old new h kind count text rest room result
 fills-text old new h kind count text rest room result e f = record {
   fills = λ p g c b.
       let q = string-of p.content (g.kind_is ∙ e) in

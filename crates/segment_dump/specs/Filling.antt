@@ -1,21 +1,15 @@
 -- An object that is being filled: what of its content it has, and what is left in the text and of the room.
 use Rattle.std.specs.Prelude.{◌≡◌, ℕ, ◌+◌, ◌*◌, ◌^◌, ◌<◌, ◌≤◌, ℤ, pos, ⊤, true, int_lt, List, [], ◌∷◌, ◌++◌, length}
-use Rattle.std.specs.Prelude.{map, replicate, flat_map}
-use Rattle.std.specs.List.{AllByRecursion}
+use Rattle.std.specs.{Prelude.map, Prelude.replicate, Prelude.flat_map, List.AllByRecursion}
 use Rattle.best_fit.specs.Table.{BackingArray}
 use Rattle.raw_region.specs.Format.{current}
-use Rattle.seg_types.specs.declared.kinds.Class.{Class}
+use Rattle.seg_types.specs.{declared.kinds.Class.Class, Kinds.is_value, Kinds.size_of, Names.is_name}
 use Rattle.seg_types.specs.declared.kinds.Class.TheVariants.{Anonymous, Named, Unique}
 use Rattle.seg_types.specs.declared.kinds.ScalarKind.{ScalarKind}
-use Rattle.seg_types.specs.Kinds.{is_value, size_of}
-use Rattle.seg_types.specs.Names.{is_name}
-use Rattle.seg_map.specs.Map.{node_len}
-use Rattle.seg_map.specs.Numbers.{NumberPair}
-use Rattle.seg_map.specs.Places.{item_of}
+use Rattle.seg_map.specs.{Map.node_len, Numbers.NumberPair, Places.item_of}
 use Rattle.seg_vector.specs.Vector.{OwnedText}
-use Rattle.segment_manager.specs.declared.modes.Mode.TheVariants.{Write}
+use Rattle.segment_manager.specs.{declared.modes.Mode.TheVariants.Write, State.SegmentState, State.DenotesCurrent}
 use Rattle.segment_manager.specs.Directory.{Directory, Elements, Numbers, Pairs, Texts, Value}
-use Rattle.segment_manager.specs.State.{SegmentState, DenotesCurrent}
 use Rattle.segment_dump.specs.Building.{Head, HasBuiltItems, IsFilling, Site}
 use Rattle.segment_dump.specs.Items.{ValueContent, DumpItem, Map, Scalars, String, Strings, Vector, bytes_in}
 use Rattle.segment_dump.specs.Need.{all_needs, block_room, text_needs}

@@ -1,15 +1,15 @@
 -- Elements that one call puts behind the last of a vector: what comes of it in each directory.
 use Rattle.segment_manager.proofs.Common as common
-use common.{◌≡◌, refl, sym, ap, ◌∙◌, ℕ, ℤ, Bool, true, false, Option, Some, None, Result, Ok, Err, List, ◌++◌, length}
+use common.{◌≡◌, refl, sym, ap, ◌∙◌, ℕ, ℤ, Bool, true, false, Option, Some, Result, Err, List, ◌++◌, length}
 use common.{if◌then◌else◌, eq-eqb, WindowState, current, ScalarKind, Vector, code_of, same_kind, size_of, Key, Refusal}
-use common.{NotFound, NoSpace, ReadOnly, WrongKind, Mode, Answer, Done, Refused, Directory, Object, Elements, kind_of}
-use common.{object_at, changed, is_read_only, SegmentState, DenotesCurrent, Denotes, Plan, Refuse, Reply, perform, with}
+use common.{NotFound, ReadOnly, WrongKind, Mode, Done, Refused, Directory, Object, Elements, kind_of, object_at}
+use common.{changed, is_read_only, SegmentState, DenotesCurrent, Denotes, Plan, Refuse, Reply, perform, with}
 use common.{with_capacity, found_at, live, live_of, grown_backing, BackingArray, container_at}
 use Rattle.seg_vector.specs.Vector.{capacity_for_more}
 use Rattle.segment_manager.specs.containers.Ranges.{ExtendsVector, extend, extended}
-use Rattle.segment_manager.proofs.{Calling.denotes-live, Steps.by_same, Steps.with-found, Steps.with-not_found}
+use Rattle.segment_manager.proofs.{Calling.denotes-live, containers.Safely.Performed, containers.Refilled.told-none}
+use Rattle.segment_manager.proofs.{containers.Refilled.told-some, Steps.by_same, Steps.with-found, Steps.with-not_found}
 use Rattle.segment_manager.proofs.containers.Refilled.{by-kind, not-Err, placed, room-grown, same_Err, then_room}
-use Rattle.segment_manager.proofs.containers.{Refilled.told-none, Refilled.told-some, Safely.Performed}
 
 -- ---- the plan
 
@@ -27,8 +27,7 @@ module _ (mode : Mode) (d : Directory) (key : Key) (k : ScalarKind) (more : List
     plan-is f = λ i. perform d (live d) (if e i then Refuse ReadOnly else f i)
 
     of-kind : (o : Object) (b : Bool) → object_at d key ≡ Some o → same_kind (Vector k) (kind_of o.value) ≡ b
-        → extended mode d key k more
-        ≡ perform d (live d) (if b then extend d o o.value more else Refuse WrongKind)
+        → extended mode d key k more ≡ perform d (live d) (if b then extend d o o.value more else Refuse WrongKind)
     of-kind o b f g = plan-is (with-found d key o (of_object d k more) f
         ∙ ap (λ c. if c then extend d o o.value more else Refuse WrongKind) g)
 
@@ -44,8 +43,7 @@ module _ (mode : Mode) (d : Directory) (key : Key) (k : ScalarKind) (more : List
     -- or there is none
     pub extended-missing : (why : Refusal) → Err why ≡ container_at d key (Vector k)
         → extended mode d key k more ≡ (Refused why, d)
-    extended-missing why a = by-kind d key (Vector k)
-        (λ f. plan-is (with-not_found d key (of_object d k more) f)
+    extended-missing why a = by-kind d key (Vector k) (λ f. plan-is (with-not_found d key (of_object d k more) f)
         ∙ (λ i. (Refused (sym (same_Err why NotFound (a ∙ told-none d key (Vector k) placed f)) i), d)))
         (λ o f g. of-kind o false f g
         ∙ (λ i. (Refused (sym (same_Err why WrongKind (a ∙ told-some d key (Vector k) placed o false f g)) i), d)))
@@ -55,8 +53,7 @@ module _ (mode : Mode) (d : Directory) (key : Key) (k : ScalarKind) (more : List
 pub extended-room : {b : List ℕ} (d : Directory) → Denotes current b d → (k : ScalarKind) (n : ℕ) (t : BackingArray)
     (next : BackingArray → Plan) (r : Option BackingArray) → grown_backing (live_of b) (size_of k) n t ≡ r
     → perform d (live d) (with_capacity (size_of k) n t next) ≡ then_room d (live d) t next r
-extended-room {b} d den k n t next r g = room-grown d (live d) (size_of k) t n next
-    ∙ ap (then_room d (live d) t next)
+extended-room {b} d den k n t next r g = room-grown d (live d) (size_of k) t n next ∙ ap (then_room d (live d) t next)
     (ap (λ l. grown_backing l (size_of k) n t) (sym (denotes-live current b d den)) ∙ g)
 
 -- ---- the segment

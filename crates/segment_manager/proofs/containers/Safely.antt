@@ -1,12 +1,10 @@
 -- A call on the container of an object that answers nothing: its step, and that it changes nothing where it is refused.
 use Rattle.segment_manager.proofs.Common as common
-use common.{NoSpace, OutOfRange, ◌⊎◌, inl, inr, TakesStep, is_read_only, ◌≡◌, refl, sym, ap, subst, ◌∙◌, Bool, true}
-use common.{false, Option, Some, None, Result, Ok, Err, OnErr, WindowState, Kind, Refusal, NotFound, Key, Command}
-use common.{Place}
-use common.{Answer, done_answer, Mode, SameSurroundings, Transitions, Directory, DenotesCurrent}
-use common.{Done, Refused, container_at, place_of_kind, Object, object_at, option_map, AnswersWith, IsSegment}
-use common.{TakesStepOfKind}
-use common.{SegmentState, AnswersSafely, StepsSafely, MatchResult, live_of, Located}
+use common.{NoSpace, OutOfRange, ◌⊎◌, inl, inr, TakesStep, is_read_only, ◌≡◌, refl, sym, ap, subst, ◌∙◌, false, Option}
+use common.{Some, None, Result, Ok, Err, OnErr, WindowState, Kind, Refusal, NotFound, Key, Command, Place, Answer}
+use common.{done_answer, Mode, SameSurroundings, Transitions, Directory, DenotesCurrent, Done, Refused, container_at}
+use common.{place_of_kind, Object, object_at, option_map, AnswersWith, IsSegment, TakesStepOfKind, SegmentState}
+use common.{AnswersSafely, StepsSafely, MatchResult, live_of, Located}
 use Rattle.best_fit.proofs.Laws.{gaps-refl}
 use Rattle.best_fit.specs.Heap.{KeepsGaps}
 use Rattle.segment_manager.proofs.Steps.{IsMove, by_moves, by_same, step-segment, step_of_kind-segment}
@@ -14,8 +12,7 @@ use Rattle.segment_manager.specs.objects.Located.{container_in, located, located
 
 -- it is refused, and nothing has changed
 pub stays : (s : SegmentState) (new : WindowState) (key : Key) (kind : Kind) (c : Command) (e why : Refusal)
-    → e ≡ why → new ≡ s.cut
-    → TakesStepOfKind s s key kind c (Refused why) → StepsSafely s new key kind c (Err e)
+    → e ≡ why → new ≡ s.cut → TakesStepOfKind s s key kind c (Refused why) → StepsSafely s new key kind c (Err e)
 stays s new key kind c e why is same step = record {
   step = subst (λ (r : Refusal). TakesStepOfKind s (record s { cut = new }) key kind c (Refused r)) (sym is)
       (subst (λ (x : WindowState). TakesStepOfKind s (record s { cut = x }) key kind c (Refused why)) (sym same) step);
@@ -43,8 +40,7 @@ pick-space e f h (inr y) = y
 
 -- nothing has changed where it was refused
 pub seen-refused : {R : Type 0} (s t : SegmentState) (view : s ≡ t) (new : WindowState) (r : Result R Refusal)
-    → OnErr r (new ≡ s.cut)
-    → OnErr r ((record s { cut = new }) ≡ t)
+    → OnErr r (new ≡ s.cut) → OnErr r ((record s { cut = new }) ≡ t)
 seen-refused s t view new (Ok u) e = tt
 seen-refused s t view new (Err w) e = (λ i. record s { cut = e i }) ∙ view
 
@@ -110,8 +106,7 @@ pub record Stepped (s t : SegmentState) (new : WindowState) (c : Command) (answe
   pub segment : IsSegment new.bytes
 
 pub stepped : (s t : SegmentState) (view : s ≡ t) (b : IsSegment s.cut.bytes) (new : WindowState) (c : Command)
-    (answer : Answer)
-    → is_read_only t.mode ≡ false
+    (answer : Answer) → is_read_only t.mode ≡ false
     → (is_read_only s.mode ≡ false → TakesStep s (record s { cut = new }) c answer) → Stepped s t new c answer
 stepped s t view b new c answer may each =
     let done : TakesStep s (record s { cut = new }) c answer =

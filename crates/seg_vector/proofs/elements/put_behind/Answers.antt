@@ -1,8 +1,8 @@
 -- The elements lie in the storage, and the length in the container's own block.
-use Rattle.seg_vector.proofs.{◌≡◌, ◌+◌, ◌*◌, ◌≤◌, sym, ap, subst, ◌∙◌, arith, ℕ, length, HasBytesAt, ChangesBytes, IsTrue}
+use Rattle.seg_vector.proofs.{◌≡◌, ◌+◌, ◌*◌, ◌≤◌, sym, ap, subst, ◌∙◌, arith, ℕ, length, HasBytesAt, ChangesBytes}
+use Rattle.seg_vector.proofs.{IsTrue, elements.put_behind.Goals.After-SIZE, elements.put_behind.Given.Over}
 use Rattle.seg_vector.proofs.{all-none, at-least, bytes_of, capacity-bytes, current, extended, extended-not, flat-long}
 use Rattle.seg_vector.proofs.{flat_map, has_room, live_of, more-times, none-left, none-more, room-small, some-room}
-use Rattle.seg_vector.proofs.{elements.put_behind.Goals.After-SIZE, elements.put_behind.Given.Over}
 use Rattle.seg_vector.proofs.elements.put_behind.Goals as goal
 
 -- those that come have room behind the others

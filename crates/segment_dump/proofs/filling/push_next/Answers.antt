@@ -1,7 +1,5 @@
-use Rattle.segment_dump.proofs.Common.{refl}
-use Rattle.segment_dump.proofs.HereObjects.{still_of_kind-here}
-use Rattle.segment_dump.proofs.Adds.{push-adds, push-unread}
 use Rattle.segment_dump.proofs.filling.push_next.Goals as goal
+use Rattle.segment_dump.proofs.{Common.refl, HereObjects.still_of_kind-here, Adds.push-adds, Adds.push-unread}
 
 pub returns-in_err-value-clause-visits : goal.returns-in_err-value-clause-visits
 returns-in_err-value-clause-visits c =

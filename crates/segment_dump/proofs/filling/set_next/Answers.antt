@@ -1,7 +1,5 @@
-use Rattle.segment_dump.proofs.Common.{refl}
-use Rattle.segment_dump.proofs.HereObjects.{still_of_kind-here}
-use Rattle.segment_dump.proofs.Adds.{set-adds, set-unread}
 use Rattle.segment_dump.proofs.filling.set_next.Goals as goal
+use Rattle.segment_dump.proofs.{Common.refl, HereObjects.still_of_kind-here, Adds.set-adds, Adds.set-unread}
 
 pub returns-in_err-value-clause-visits : goal.returns-in_err-value-clause-visits
 returns-in_err-value-clause-visits c =

@@ -1,9 +1,8 @@
 -- The storage grows, and then the values are put in behind the others.
-use Rattle.seg_vector.proofs.{◌+◌, ◌≤◌, arith, length, subst, live_of, ReservesStorageOk, IsVector}
-use Rattle.seg_vector.proofs.{enough-for-more, extended-now, few-places, flat_map, grown-of, grown-then, refl}
-use Rattle.seg_vector.proofs.{table-places, too-many, wanted-for-more}
-use Rattle.seg_vector.specs.Vector.{capacity_for_more}
 use Rattle.seg_vector.proofs.vectors.SegVec.extend.Goals as goal
+use Rattle.seg_vector.proofs.{arith, length, subst, live_of, ReservesStorageOk, IsVector, enough-for-more, extended-now}
+use Rattle.seg_vector.proofs.{few-places, flat_map, grown-of, grown-then, refl, table-places, too-many, wanted-for-more}
+use Rattle.seg_vector.specs.Vector.{capacity_for_more}
 
 pub returns-then-more-gt-MAX_SEGMENT_LEN : goal.returns-then-more-gt-MAX_SEGMENT_LEN
 returns-then-more-gt-MAX_SEGMENT_LEN g c xs t v =

@@ -1,8 +1,7 @@
 -- The bytes are put behind the others of the string that is found.
-use Rattle.segment_manager.proofs.containers.TextAnswers.{text-appended, text-standing}
-use Rattle.segment_manager.proofs.{Common.refl, containers.ToChange.not-changed}
-use Rattle.segment_manager.proofs.containers.TextAnswers.{append-gaps}
 use Rattle.segment_manager.proofs.segment.Segment.string_append.Goals as goal
+use Rattle.segment_manager.proofs.containers.TextAnswers.{text-appended, text-standing, append-gaps}
+use Rattle.segment_manager.proofs.{Common.refl, containers.ToChange.not-changed}
 
 pub append-requires : goal.append-requires
 append-requires g c = text-standing c.self.view_is _ _ c.self.invariant c.in_ok-place.ensures.at

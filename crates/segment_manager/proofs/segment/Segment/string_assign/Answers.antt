@@ -1,8 +1,7 @@
 -- The bytes are put in the place of those of the string that is found.
-use Rattle.segment_manager.proofs.containers.TextAnswers.{text-assigned, text-standing}
-use Rattle.segment_manager.proofs.{Common.refl, containers.ToChange.not-changed}
-use Rattle.segment_manager.proofs.containers.TextAnswers.{assign_text-gaps}
 use Rattle.segment_manager.proofs.segment.Segment.string_assign.Goals as goal
+use Rattle.segment_manager.proofs.containers.TextAnswers.{text-assigned, text-standing, assign_text-gaps}
+use Rattle.segment_manager.proofs.{Common.refl, containers.ToChange.not-changed}
 
 pub assign-requires : goal.assign-requires
 assign-requires g c = text-standing c.self.view_is _ _ c.self.invariant c.in_ok-place.ensures.at

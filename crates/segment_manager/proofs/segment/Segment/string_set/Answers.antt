@@ -1,8 +1,7 @@
 -- The byte is written in the string that is found.
-use Rattle.segment_manager.proofs.containers.TextAnswers.{byte-value, text-set, text-standing}
-use Rattle.segment_manager.proofs.{Common.lt-ltb, Common.refl, containers.ToChange.not-changed}
-use Rattle.segment_manager.proofs.containers.TextAnswers.{set_byte-gaps}
 use Rattle.segment_manager.proofs.segment.Segment.string_set.Goals as goal
+use Rattle.segment_manager.proofs.containers.TextAnswers.{byte-value, text-set, text-standing, set_byte-gaps}
+use Rattle.segment_manager.proofs.{Common.lt-ltb, Common.refl, containers.ToChange.not-changed}
 
 pub set-requires : goal.set-requires
 set-requires g c = text-standing c.self.view_is _ _ c.self.invariant c.in_ok-place.ensures.at

@@ -1,9 +1,8 @@
 -- The values are put in the place of those of the vector that is found.
-use Rattle.segment_manager.proofs.{Common.Vector, Common.ap, Common.refl}
-use Rattle.segment_manager.proofs.{containers.ScalarTypes.of-vector, containers.ToChange.not-changed}
-use Rattle.segment_manager.proofs.{containers.VectorAnswers.some-vector, containers.VectorAnswers.vector-assigned}
-use Rattle.segment_manager.proofs.containers.VectorAnswers.{assign-gaps}
 use Rattle.segment_manager.proofs.segment.Segment.vec_assign.Goals as goal
+use Rattle.segment_manager.proofs.{Common.Vector, Common.ap, Common.refl, containers.ToChange.not-changed}
+use Rattle.segment_manager.proofs.containers.ScalarTypes.{of-vector}
+use Rattle.segment_manager.proofs.containers.VectorAnswers.{some-vector, vector-assigned, assign-gaps}
 
 pub assign-requires : goal.assign-requires
 assign-requires g c = some-vector (of-vector g.met.T.Scalar) c.self.view_is _ c.kind.ensures c.at.ensures

@@ -1,9 +1,8 @@
 -- The value is left out of the vector that is found.
-use Rattle.segment_manager.proofs.{Common.Vector, Common.ap, Common.refl}
-use Rattle.segment_manager.proofs.{containers.ScalarTypes.of-vector, containers.ToChange.not-changed}
-use Rattle.segment_manager.proofs.{containers.VectorAnswers.some-vector, containers.VectorAnswers.vector-erased}
-use Rattle.segment_manager.proofs.containers.VectorAnswers.{erase-gaps}
 use Rattle.segment_manager.proofs.segment.Segment.vec_erase.Goals as goal
+use Rattle.segment_manager.proofs.{Common.Vector, Common.ap, Common.refl, containers.ToChange.not-changed}
+use Rattle.segment_manager.proofs.containers.ScalarTypes.{of-vector}
+use Rattle.segment_manager.proofs.containers.VectorAnswers.{some-vector, vector-erased, erase-gaps}
 
 pub erase-requires : goal.erase-requires
 erase-requires g c = some-vector (of-vector g.met.T.Scalar) c.self.view_is _ c.kind.ensures c.at.ensures

@@ -1,9 +1,8 @@
 -- The value is put behind the last of the vector that is found.
-use Rattle.segment_manager.proofs.{Common.Vector, Common.ap, Common.refl}
-use Rattle.segment_manager.proofs.{containers.ScalarTypes.of-vector, containers.ToChange.not-changed}
-use Rattle.segment_manager.proofs.{containers.VectorAnswers.some-vector, containers.VectorAnswers.vector-pushed}
-use Rattle.segment_manager.proofs.containers.VectorAnswers.{push-gaps}
 use Rattle.segment_manager.proofs.segment.Segment.vec_push.Goals as goal
+use Rattle.segment_manager.proofs.{Common.Vector, Common.ap, Common.refl, containers.ToChange.not-changed}
+use Rattle.segment_manager.proofs.containers.ScalarTypes.{of-vector}
+use Rattle.segment_manager.proofs.containers.VectorAnswers.{some-vector, vector-pushed, push-gaps}
 
 pub push-requires : goal.push-requires
 push-requires g c = some-vector (of-vector g.met.T.Scalar) c.self.view_is _ c.kind.ensures c.at.ensures c.self.invariant

@@ -14,8 +14,9 @@ use Rattle.segment_dump.proofs.Common.{ValueContent, Map, Scalars, String, Strin
 use Rattle.segment_dump.proofs.Common.{count_of_content, all_needs, block_room, text_needs, element_line, pair_line}
 use Rattle.segment_dump.proofs.{Common.text_lines, Builds.built}
 use Rattle.segment_manager.specs.State.{Transitions}
-use Rattle.segment_dump.specs.{Builders.IsFilled, Filling.map_course, Filling.strings_course, Filling.vector_course}
-use Rattle.segment_dump.specs.Filling.{FillCourse, HasFront, HasPlaces, StandsBuilt, array_course, filled_item}
+use Rattle.segment_dump.specs.Builders.{IsFilled}
+use Rattle.segment_dump.specs.Filling.{map_course, strings_course, vector_course, FillCourse, HasFirstElements}
+use Rattle.segment_dump.specs.Filling.{HasReservedPlaces, StandsBuilt, array_course, filled_item}
 use Rattle.segment_dump.proofs.Fills.{AreLess, StepsTo, pushed, text-pushed, was-put, was-set}
 use Rattle.segment_dump.proofs.Spaces.{IsRest, block-rest, rest-both, needs-rest}
 
@@ -103,13 +104,13 @@ steps-so t f = record { next = t.next; is = t.is; holds = f t.next t.holds }
 module _ {X Y : Type 0} (way : FillCourse X Y) (s : SegmentState) (text : List ℕ) (p : FillState) (h n : ℕ)
     (all : List Y) (kind : Kind) (c : Y → Command) (answer : Answer) (Good : Y → Type 0) (l : n < length all)
     (g : AllByRecursion Good all) (count : (front : List X) → length (way.items front) ≡ length front)
-    (part : (v : Value) (left : List ℕ) (need : ℕ) → HasFront way all (n + 1) v left need
+    (part : (v : Value) (left : List ℕ) (need : ℕ) → HasFirstElements way all (n + 1) v left need
     → IsPartialValue p.content (n + 1) v left need)
     (steps : (front : List X) (y : Y) (back : List Y) → all ≡ way.items front ++ y ∷ back → n ≡ length front → Good y
     → (d : Directory) → IsDirectory current d
     → IsFilling d p.site p.done (head_of p h) (way.value front (y ∷ back)) (way.need (y ∷ back) + p.more)
     → StepsTo (step_of_kind Write d (ByHandle h) kind (c y)) answer (HasNext way p h front y back)) where
-  next-behind : (f : FillsAt s text p h n) (q : HasFront way all n f.value f.left f.need) (back : List Y)
+  next-behind : (f : FillsAt s text p h n) (q : HasFirstElements way all n f.value f.left f.need) (back : List Y)
       → q.back ≡ back → NextElement s text p h n way.line Good kind c answer
   next-behind f q [] b = absurd (omega (
     arith,
@@ -188,7 +189,7 @@ module _ (s : SegmentState) (text : List ℕ) (p : FillState) (h n : ℕ) (f : F
       → NextElement s text p h n (element_line k) (λ z. is_value k z ≡ true) (kinds.Vector k)
       (λ z. asked.Push (ByHandle h) (literal_of k z)) Done
   next-pushed k zs e l g =
-      let q : HasPlaces (vector_course k) zs n f.value f.left f.need = its-part e in
+      let q : HasReservedPlaces (vector_course k) zs n f.value f.left f.need = its-part e in
       next-behind (vector_course k q.table) s text p h n zs (kinds.Vector k)
       (λ z. asked.Push (ByHandle h) (literal_of k z)) Done (λ z. is_value k z ≡ true) l g (λ front. refl)
       (λ v left need r. as-part e v left need (record { table = q.table; places = q.places; part = r }))
@@ -265,7 +266,7 @@ pub next-text_of : (s : SegmentState) (text : List ℕ) (p : FillState) (h n lon
     → IsRest p.more → FillsAt s text p h n → NextElement s text p h n text_lines (IsShortText longest) kinds.Strings
     (λ bs. asked.Push (ByHandle h) (asked.Quoted bs)) Done
 next-text_of s text p h n longest ts e l g long m f =
-    let q : HasPlaces strings_course ts n f.value f.left f.need = its-part s text p h n f e in
+    let q : HasReservedPlaces strings_course ts n f.value f.left f.need = its-part s text p h n f e in
     next-behind (strings_course q.table) s text p h n ts kinds.Strings
     (λ bs. asked.Push (ByHandle h) (asked.Quoted bs)) Done (IsShortText longest) l (all-short longest ts g long)
     (λ front. length-map front bytes_in) (λ v left need r. as-part s text p h n f e v left need
@@ -297,7 +298,7 @@ no-more all front (x ∷ back) a l = absurd (omega (arith, l, ap length a, lengt
 module _ {X Y : Type 0} (way : FillCourse X Y) (all : List Y) (n : ℕ) (v : Value) (left : List ℕ) (need : ℕ)
     (c : List Y → ValueContent) (has : (front : List X) → content_of (way.value front []) ≡ c (way.items front))
     (none : way.need [] ≡ 0) (count : (front : List X) → length (way.items front) ≡ length front)
-    (l : length all ≤ n) (q : HasFront way all n v left need) where
+    (l : length all ≤ n) (q : HasFirstElements way all n v left need) where
   whole-front : IsWhole (c all) v left need
   whole-front =
       let end : q.back ≡ [] = no-more all (way.items q.front) q.back q.all_are (omega (arith, l, q.many, count q.front))

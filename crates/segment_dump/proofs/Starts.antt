@@ -11,8 +11,8 @@ use Rattle.segment_dump.proofs.Common.{Scalars, String, Strings, Vector, count_o
 use Rattle.segment_dump.proofs.Common.{block_room, text_needs, content_text, BackingArray}
 use Rattle.seg_types.specs.declared.kinds.ScalarKind.TheVariants.{Bool as BoolKind}
 use Rattle.segment_manager.specs.Step.{with_table}
-use Rattle.segment_dump.specs.{Builders.FillsElements, Filling.vector_course}
-use Rattle.segment_dump.specs.Filling.{FillCourse, HasFront, HasPlaces, array_course, map_course, strings_course}
+use Rattle.segment_dump.specs.{Builders.FillsElements, Filling.map_course, Filling.strings_course}
+use Rattle.segment_dump.specs.Filling.{vector_course, FillCourse, HasFirstElements, HasReservedPlaces, array_course}
 use Rattle.segment_dump.proofs.{Adds.string-of, Adds.was-done, Spaces.IsRest, Spaces.rest-both}
 use Rattle.segment_dump.proofs.Fillings.{filled, led, stands-filling, texts-rest}
 use Rattle.segment_dump.proofs.Fills.{HasTable, IsStored, none, reserved, some, table_of, texts-stored, vector-stored}
@@ -56,7 +56,7 @@ elements-end old now h kind count text rest room counter e i = record {
 
 -- nothing is there yet
 first-part : {X Y : Type 0} (way : FillCourse X Y) (all : List Y) (v : Value) (need : ℕ) → way.items [] ≡ []
-    → v ≡ way.value [] all → need ≡ way.need all → HasFront way all 0 v (flat_map way.line all) need
+    → v ≡ way.value [] all → need ≡ way.need all → HasFirstElements way all 0 v (flat_map way.line all) need
 first-part way all v need none e f = record {
   front = [];
   back = all;
@@ -108,8 +108,8 @@ size-long BoolKind = omega arith
 size-long k = omega arith
 
 with-places : {X Y : Type 0} (way : BackingArray → FillCourse X Y) (first : Value) (all : List Y) (text : List ℕ)
-    (need : ℕ) → ((t : BackingArray) → HasFront (way t) all 0 (with_table first t) text need) → (w : Value)
-    → HasTable first (length all) w → HasPlaces way all 0 w text need
+    (need : ℕ) → ((t : BackingArray) → HasFirstElements (way t) all 0 (with_table first t) text need) → (w : Value)
+    → HasTable first (length all) w → HasReservedPlaces way all 0 w text need
 with-places way first all text need part w (none e) =
     record { table = no_backing; places = omega (arith, e); part = part no_backing }
 with-places way first all text need part w (some x) =

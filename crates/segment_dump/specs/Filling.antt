@@ -79,7 +79,8 @@ pub record FillCourse (X Y : Type 0) : Type 0 where
   pub line : Y → List ℕ
   pub need : List Y → ℕ
 
-pub record HasFront {X Y : Type 0} (way : FillCourse X Y) (all : List Y) (n : ℕ) (v : Value) (text : List ℕ)
+-- the value has the first n elements, and the lines of the others and the bytes that they need are left
+pub record HasFirstElements {X Y : Type 0} (way : FillCourse X Y) (all : List Y) (n : ℕ) (v : Value) (text : List ℕ)
     (need : ℕ) : Type 0 where
   pub front : List X
   pub back : List Y
@@ -123,19 +124,19 @@ strings_course t = record {
   need = λ back. (all_needs text_needs back).room;
 }
 
--- with places for all
-pub record HasPlaces {X Y : Type 0} (way : BackingArray → FillCourse X Y) (all : List Y) (n : ℕ) (v : Value)
+-- the same of a value that has places for all of them
+pub record HasReservedPlaces {X Y : Type 0} (way : BackingArray → FillCourse X Y) (all : List Y) (n : ℕ) (v : Value)
     (text : List ℕ) (need : ℕ) : Type 0 where
   pub table : BackingArray
   pub places : length all ≤ table.capacity
-  pub part : HasFront (way table) all n v text need
+  pub part : HasFirstElements (way table) all n v text need
 
 abbrev pub IsPartialValue : ValueContent → ℕ → Value → List ℕ → ℕ → Type 0
-IsPartialValue (Scalars k zs) = HasFront (array_course k) zs
-IsPartialValue (Vector k zs) = HasPlaces (vector_course k) zs
+IsPartialValue (Scalars k zs) = HasFirstElements (array_course k) zs
+IsPartialValue (Vector k zs) = HasReservedPlaces (vector_course k) zs
 IsPartialValue (String bs) = λ n v text need. ⊥
-IsPartialValue (Map k w ps) = HasFront (map_course k w) ps
-IsPartialValue (Strings ts) = HasPlaces strings_course ts
+IsPartialValue (Map k w ps) = HasFirstElements (map_course k w) ps
+IsPartialValue (Strings ts) = HasReservedPlaces strings_course ts
 
 -- what is being filled, what the objects behind it need, and the text behind it
 pub record FillState : Type 0 where

@@ -202,7 +202,7 @@ pub record MarksLink (format : ℕ) (m : Memory) (ts : List Tile) (now : Option 
   -- what is due for storage that was met first is taken off
   pub paid : role ≡ Storage → (target : ℕ) (t : Tile) → link_at m link.at ≡ Some target
       → tile_of ts Storage target ≡ Some t → owner_at old target ≡ None
-      → 6 * waiting + debt es + 3 * (t.len / 16) ≤ 6 * waited + unspent_budget old
+      → 6 * waiting + unspent_budget es + 3 * (t.len / 16) ≤ 6 * waited + unspent_budget old
 
 -- ---- of an image
 

@@ -35,7 +35,7 @@ fn load_held<D: Disk, S: Source>(
 ///
 /// # Errors
 ///
-/// Those of [`load`], but for `Exists`, and `AlreadyLocked` where another has the right to write the file; the dump is
+/// Those of [`load`], but for `Exists`, and `InUse` where another has the right to write the file; the dump is
 /// not read
 /// then.
 pub fn load_over<D: Disk, S: Source>(

@@ -41,7 +41,7 @@ fn migrate_held<D: Disk, O: Output>(
 ///
 /// # Errors
 ///
-/// Why the image is refused, `ReadFault` where the file can't be read, `OutOfMemory`, and `AlreadyLocked` where another
+/// Why the image is refused, `ReadFault` where the file can't be read, `OutOfMemory`, and `InUse` where another
 /// has the
 /// right to write it: the file is as it was. `WriteFault` where it can't be emptied, takes not the whole image, or need
 /// not last, and where the output fails behind it.

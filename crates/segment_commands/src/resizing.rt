@@ -141,7 +141,7 @@ fn resize_file<D: Disk, O: Output>(
 ///
 /// Those of opening it; `GrowthFault` where it does not grow; `WriteFault` where the size does not go out, or the file
 /// can't
-/// be emptied or replaced, takes not the whole image, or need not last. `AlreadyLocked` where another has the right to
+/// be emptied or replaced, takes not the whole image, or need not last. `InUse` where another has the right to
 /// write it.
 pub fn grow<D: Disk, O: Output>(
     alloc: Global,

@@ -92,7 +92,7 @@ fn run_held<D: Disk, S: Source, O: Lined>(
 /// answers don't go out, or the file can't be emptied or replaced, takes not the whole image, or need not last. It is
 /// neither emptied nor changed before all answers went out. `Stopped` where the run is to end with the first line that
 /// is refused, and did: its answer and all before went out, no line behind it was executed, and nothing is saved.
-/// `AlreadyLocked` where another has the right to write the file, in mode `Write` alone; the script is not read then.
+/// `InUse` where another has the right to write the file, in mode `Write` alone; the script is not read then.
 pub fn run_on_file<D: Disk, S: Source, O: Lined>(
     alloc: Global,
     disk: &mut D,

@@ -55,7 +55,7 @@ pub fn check<D: Disk>(alloc: Global, disk: &mut D, path: &str) -> Result<(), Fil
 ///
 /// # Errors
 ///
-/// Those of [`read`], and `AlreadyLocked` where another has the right to write the file: it is as it was. `WriteFault`
+/// Those of [`read`], and `InUse` where another has the right to write the file: it is as it was. `WriteFault`
 /// where it
 /// can't be emptied, takes not the whole image, or need not last.
 pub fn migrate<D: Disk>(alloc: Global, disk: &mut D, path: &str) -> Result<(), FileError>

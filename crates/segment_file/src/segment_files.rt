@@ -60,7 +60,7 @@ impl<H: Drop> SegmentFile<H> {
     ///
     /// # Errors
     ///
-    /// `AlreadyLocked` where another has the right to write the file. Those of [`read`](crate::read); the right is
+    /// `InUse` where another has the right to write the file. Those of [`read`](crate::read); the right is
     /// given back.
     pub fn open<D: Disk<Hold = H>>(
         alloc: Global,

@@ -9,7 +9,7 @@
 //! - a key suits the kind of what is made ([`ConstructKey`]);
 //! - an iterator may be asked for its next item, and each that `construct_values` takes is of the kind.
 //!
-//! The functions of [`conditioned`] want to be told what the segment holds, and so does every call that is given an
+//! The functions of [`unchecked`] want to be told what the segment holds, and so does every call that is given an
 //! [`Object`], which [`locate`] found: it is still there ([`ObjectRef`]). No program needs these.
 #![tactic(auto)]
 

@@ -32,14 +32,14 @@ overflow_add-result c =
     (standing-room c.args.heap.now.bytes c.args.object.handle (16 + padded (length o.name)) o s (omega arith)) in
     omega (arith, at, small)
 
-pub storage_run-requires-in-String-clause-whole : goal.storage_run-requires-in-String-clause-whole
-storage_run-requires-in-String-clause-whole c =
+pub storage_run-requires-in-String-clause-aligned : goal.storage_run-requires-in-String-clause-aligned
+storage_run-requires-in-String-clause-aligned c =
     let o = c.requires.object.0 in let s = c.requires.object.1 in let said = c.requires.text o s in
     (are-words o s _ (c.value_at-at.ensures ∙ ap value_in said)
     (string-len o.value (sym c.in-String.is ∙ ap (λ (q : Located). q.kind) said))).whole
 
-pub storage_run-requires-in-String-clause-near : goal.storage_run-requires-in-String-clause-near
-storage_run-requires-in-String-clause-near c =
+pub storage_run-requires-in-String-clause-near_end : goal.storage_run-requires-in-String-clause-near_end
+storage_run-requires-in-String-clause-near_end c =
     let o = c.requires.object.0 in let s = c.requires.object.1 in let said = c.requires.text o s in
     (are-words o s _ (c.value_at-at.ensures ∙ ap value_in said)
     (string-len o.value (sym c.in-String.is ∙ ap (λ (q : Located). q.kind) said))).near

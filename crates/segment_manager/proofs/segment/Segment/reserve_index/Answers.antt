@@ -16,17 +16,17 @@ pub invariant_of-self : goal.invariant_of-self
 invariant_of-self c =
     elim c.match-reserve.branch [
       | in-Ok w ↦ (reserves c.self.view_is c.self.invariant c.args.index
-          (sym c.is_read_only.ensures ∙ c.if-is_read_only.false) w.in-Ok.ensures.reserved).segment
+          (sym c.is_read_only.ensures ∙ c.if-is_read_only.false) w.in-Ok.ensures.capacity).segment
       | in-Err w ↦ (reserves-none c.self.view_is c.self.invariant c.args.index c.args.n (sym c.is_read_only.ensures
-          ∙ c.if-is_read_only.false) w.in-Err.ensures.reserved.0 w.in-Err.ensures.reserved.1).segment
+          ∙ c.if-is_read_only.false) w.in-Err.ensures.capacity.0 w.in-Err.ensures.capacity.1).segment
     ]
 
 pub returns-clause-step : goal.returns-clause-step
 returns-clause-step c =
     elim c.match-reserve.branch [
       | in-Ok w ↦ rw w.result-is (reserves c.self.view_is c.self.invariant c.args.index
-          (sym c.is_read_only.ensures ∙ c.if-is_read_only.false) w.in-Ok.ensures.reserved).step
+          (sym c.is_read_only.ensures ∙ c.if-is_read_only.false) w.in-Ok.ensures.capacity).step
       | in-Err w ↦ rw w.result-is (reserves-none c.self.view_is c.self.invariant c.args.index c.args.n
-          (sym c.is_read_only.ensures ∙ c.if-is_read_only.false) w.in-Err.ensures.reserved.0
-          w.in-Err.ensures.reserved.1).step
+          (sym c.is_read_only.ensures ∙ c.if-is_read_only.false) w.in-Err.ensures.capacity.0
+          w.in-Err.ensures.capacity.1).step
     ]

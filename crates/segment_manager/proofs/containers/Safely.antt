@@ -100,6 +100,15 @@ pub told : {R : Type 0} {says : Result R Refusal
     }
 told a = record { step = a.step; refused = a.refused }
 
+-- the same, and what it does to the gaps
+pub told-gaps : {R G : Type 0} {says : Result R Refusal → Answer} {s t : SegmentState} {new : WindowState} {key : Key}
+    {kind : Kind} {c : Command} {r : Result R Refusal} → Answered says s t new key kind c r → G → record {
+      step : TakesStepOfKind t (record s { cut = new }) key kind c (says r);
+      refused : OnErr r ((record s { cut = new }) ≡ t);
+      gaps : G;
+    }
+told-gaps a g = record { step = a.step; refused = a.refused; gaps = g }
+
 -- the same of a call on whatever object
 pub record Stepped (s t : SegmentState) (new : WindowState) (c : Command) (answer : Answer) : Type 0 where
   pub step : TakesStep t (record s { cut = new }) c answer

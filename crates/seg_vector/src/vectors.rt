@@ -5,7 +5,7 @@ ghost use Rattle.best_fit.specs.{Heap.ChangesBytes, Heap.IsHeap, Heap.has_room, 
 ghost use Rattle.seg_vector.specs.Containers.{place_at};
 ghost use Rattle.seg_vector.specs.VectorCalls.{Assigns, Clears, ReadsVectorLen, CountsPlaces, ErasesFrom, ExtendsBy};
 ghost use Rattle.seg_vector.specs.VectorCalls.{Gets};
-ghost use Rattle.seg_vector.specs.VectorCalls.{InsertsInto, IsSomeVector, Pops, Pushes};
+ghost use Rattle.seg_vector.specs.VectorCalls.{InsertsInto, IsSomeVector, IsVector, Pops, Pushes};
 ghost use Rattle.seg_vector.specs.VectorCalls.{ReleasesVector};
 ghost use Rattle.seg_vector.specs.VectorCalls.{ReservesVector, ReservesNothing, Sets, SetsAll, ShrinksVector};
 ghost use Rattle.seg_vector.specs.VectorCalls.{InitsVector};

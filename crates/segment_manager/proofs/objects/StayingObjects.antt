@@ -1,12 +1,10 @@
 -- What destroys no object leaves what is said of each.
 use Rattle.segment_manager.proofs.Common as common
-use common.{◌≡◌, sym, not, ◌∙◌, ℕ, None, List, [], ◌∷◌, find, cond, Kind, Key, Mode, live, Plan, met, plan, step}
-use common.{refl, ◌==◌, Bool, true, false, Option, Some, Extent, handle, Object, Answer, Refused, perform, Transitions}
-use common.{SegmentState, ℤ, ◌+◌, ◌≤◌, Ok, Err, length, take, drop, nat_le, leb-true, ScalarKind, Value, Numbers}
-use common.{OutOfRange, ReadOnly, WrongKind, changed, count_of, kind_of, is_read_only, with_items}
-use common.{ap, is_some, LiveSet, resized, Refusal, NoSpace, ByHandle, Command, Directory, has_key, IsSegment, current}
-use common.{subst, if◌then◌else◌, false≢true, replace_object, is_elementwise, step_of_kind, LeadsOnOfKind, option_map}
-use common.{IsDirectory, Denotes, Located, object_at, is_object_at, handle_at, same_Some}
+use common.{◌≡◌, sym, not, ◌∙◌, ℕ, None, List, [], ◌∷◌, find, cond, Kind, Key, Mode, live, Plan, met, plan, step, refl}
+use common.{◌==◌, Bool, true, false, Option, Some, Extent, handle, Object, Answer, Refused, perform, Transitions}
+use common.{SegmentState, ap, is_some, LiveSet, resized, Refusal, NoSpace, ByHandle, Command, Directory, has_key}
+use common.{IsSegment, current, if◌then◌else◌, false≢true, replace_object, is_elementwise, step_of_kind, LeadsOnOfKind}
+use common.{option_map, IsDirectory, Denotes, Located, object_at, is_object_at, handle_at, same_Some}
 use Rattle.segment_manager.proofs.Refusals.{IsAnother, Leaves, by_change, by_other, by_refusal, by_request, by_same}
 use Rattle.segment_manager.proofs.Refusals.{extended-leaves, plan-leaves, plan_of_kind-leaves}
 use Rattle.segment_manager.proofs.containers.RangeCalls.{range_with, replaced-length, row_in}

@@ -1,8 +1,7 @@
+use Rattle.segment_dump.proofs.capacities.NotesObjectWriter.tell.Goals as goal
 use Rattle.segment_dump.proofs.Common.{subst, ByHandle, AnswersWith, Holds, capacity_note, places_at}
-use Rattle.segment_dump.proofs.Elements.{said-here}
-use Rattle.segment_dump.proofs.Owed.{of-none, of-one}
+use Rattle.segment_dump.proofs.{Elements.said-here, Owed.of-none, Owed.of-one}
 use Rattle.segment_dump.proofs.PlaceNotes.{none-told, note-told}
-use Rattle.segment_dump.proofs.capacities.put_capacity.Goals as goal
 
 pub object_here-object-requires : goal.object_here-object-requires
 object_here-object-requires g c = said-here c.args.segment.now c.args.said c.requires.text
@@ -16,8 +15,7 @@ returns-in-Some g c =
     let said = c.args.said in
     let places = c.in-Some.places in
     of-one {text = capacity_note (record { holder = Holds said.class said.name.now said.kind; places = places })}
-    c.put_note.ensures
-    (note-told s said c.requires.text places
+    c.put_note.ensures (note-told s said c.requires.text places
     (subst (AnswersWith s (λ d. places_at d (ByHandle said.handle))) c.in-Some.is
     (rw c.object_here-object.ensures.handle at c.places_of.ensures)))
 

@@ -83,5 +83,3 @@ pub use Rattle.best_fit.proofs.Carrying.{ends-then}
 pub use Rattle.best_fit.proofs.Writes.{header_changed}
 -- no byte of a gap changes where bytes of the header or of a payload do, and through several such changes
 pub use Rattle.best_fit.proofs.KeptGaps.{free-refl, gaps-header, gaps-payload, gaps-refl, gaps-then, gaps-trans}
--- way-points: none, and one handle more of a block in use
-pub use Rattle.best_fit.proofs.HintedBlocks.{none-lead, noted-lead}

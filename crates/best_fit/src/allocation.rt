@@ -19,7 +19,7 @@ use crate::refusal::NoSpace;
 use crate::sizes::{MIN_BLOCK_LEN, room};
 use block_tags::{MAX_SEGMENT_LEN, Role, TAG_LEN};
 
-/// Takes a block for `n` bytes into use and answers its handle, or refuses where no gap is long enough.
+/// Takes a block for `n` bytes into use and returns its handle, or refuses if no gap is long enough.
 pub fn allocate(touches: &mut TouchCounter, n: u64, role: Role) -> Result<u64, NoSpace>
     requires heap { IsHeap current touches.old.gaps.now.window.bytes }
     requires count { touches.old.count ≡ 0 }
@@ -40,8 +40,8 @@ pub fn allocate(touches: &mut TouchCounter, n: u64, role: Role) -> Result<u64, N
     Ok(node)
 }
 
-/// Takes `wanted` bytes at the front of a gap that is not in the tree into use, or all of them where less than 32 would
-/// be left. What is left enters the tree.
+/// Takes `wanted` bytes at the front of a gap that is not in the tree into use, or all of them if less than 32 would be
+/// left. What is left enters the tree.
 fn take(touches: &mut TouchCounter, at: u64, wanted: u64, role: Role)
     requires gap { (len : ℕ) × IsUnlinkedGap touches.old.gaps.now.window at len × (wanted ≤ len) }
     requires min_len { MIN_BLOCK_LEN ≤ wanted }
@@ -70,8 +70,8 @@ fn take(touches: &mut TouchCounter, at: u64, wanted: u64, role: Role)
     }
 }
 
-/// Cuts the tile at `at` to `len` bytes and answers true. The rest is free. Nothing changes where less than 32 bytes
-/// would be left.
+/// Cuts the tile at `at` to `len` bytes and returns true. The rest is free. Nothing changes if less than 32 bytes would
+/// be left.
 pub fn split_tail(touches: &mut TouchCounter, at: u64, len: u64) -> bool
     requires tile { HasTileAt touches.old.gaps.now.window at }
     requires min_len { MIN_BLOCK_LEN ≤ len }

@@ -18,7 +18,7 @@ pub struct BlockHints {
 }
 
 impl BlockHints {
-    /// No way-points.
+    /// Makes hints that lead to no block.
     pub fn none() -> BlockHints
         ensures { AreNone result }
     {
@@ -28,7 +28,7 @@ impl BlockHints {
         }
     }
 
-    /// Notes a handle where no lower one is known in its piece. Where it stands behind all pieces, these become longer.
+    /// Notes a handle if no lower one is known in its piece. Where it stands after all pieces, these become longer.
     pub fn insert(&mut self, handle: u64)
         ensures { (h : ℕ) → IsHinted self.new h → (h ≡ handle) ⊎ IsHinted self.old h }
     {
@@ -39,7 +39,7 @@ impl BlockHints {
         }
     }
 
-    /// Notes a handle where no lower one is known in its piece.
+    /// Notes a handle if no lower one is known in its piece.
     fn enter(&mut self, handle: u64)
         ensures { (h : ℕ) → IsHinted self.new h → (h ≡ handle) ⊎ IsHinted self.old h }
     {
@@ -70,7 +70,7 @@ impl BlockHints {
         *self = wider;
     }
 
-    /// Takes a handle out, and answers whether it was noted.
+    /// Takes a handle out, and returns whether it was noted.
     pub(crate) fn remove(&mut self, handle: u64) -> bool
         ensures { (h : ℕ) → IsHinted self.new h → (h ≢ handle) × IsHinted self.old h }
     {
@@ -82,7 +82,7 @@ impl BlockHints {
         false
     }
 
-    /// The nearest noted handle at or before this one, if there is one.
+    /// Returns the nearest noted handle at or before this one, if there is one.
     pub(crate) fn nearest(&self, handle: u64) -> Option<u64>
         ensures { IfSome result (λ h. IsHinted self.now h × (h ≤ handle)) }
     {
@@ -97,7 +97,7 @@ impl BlockHints {
     }
 }
 
-/// The piece in which an offset lies.
+/// Returns the piece in which an offset lies.
 fn place(piece: u32, offset: u64) -> usize
     ensures { result ≡ place_of piece offset }
 {

@@ -13,12 +13,12 @@ use block_tags::{Role, TAG_LEN};
 use raw_region::Steps;
 
 impl Heap {
-    /// Takes a block for `n` bytes into use and answers its handle: the front of the least gap that is long enough, or
-    /// all of it where less than 32 bytes would be left. Of gaps as long the first one is taken.
+    /// Takes a block for `n` bytes into use and returns its handle. The block is the front of the least gap that is
+    /// long enough, or all of it if less than 32 bytes would be left. Of gaps as long the first one is taken.
     ///
     /// # Errors
     ///
-    /// `NoSpace` where no gap is long enough, as for each `n` above 1073741824. Nothing changes.
+    /// `NoSpace` if no gap is long enough, as for each `n` above 1073741824. Nothing changes.
     pub fn allocate(&mut self, n: u64, role: Role, steps: &mut Steps) -> Result<u64, NoSpace>
         ensures answer { Allocates current self.old self.new n role result }
         ensures steps_lower { steps.old ≤ steps.new }
@@ -34,7 +34,7 @@ impl Heap {
         result
     }
 
-    /// Gives back the block of a handle: it becomes one gap with those before and behind it.
+    /// Gives back the block of a handle: it becomes one gap with those before and after it.
     pub fn deallocate(&mut self, handle: u64, steps: &mut Steps)
         requires { IsTrue (is_live_in (live_of self.old.bytes) handle) }
         ensures released { Deallocates current self.old self.new handle }
@@ -47,9 +47,9 @@ impl Heap {
         steps.add(touches.count());
     }
 
-    /// Lengthens the block of a handle where it stands, to hold `n` bytes, and answers whether it did: the block is too
-    /// short, and it is long enough with the gap behind it. All of the gap is taken where less than 32 bytes would be
-    /// left. Else nothing changes.
+    /// Lengthens the block of a handle in place, to hold `n` bytes, and tells whether it did. It does if the block is
+    /// too short, and long enough with the gap after it. All of the gap is taken if less than 32 bytes would be left.
+    /// Otherwise nothing changes.
     pub fn try_extend(&mut self, handle: u64, n: u64, steps: &mut Steps) -> bool
         requires { IsTrue (is_live_in (live_of self.old.bytes) handle) }
         ensures changes { TryExtends current self.old self.new handle n result }
@@ -63,8 +63,8 @@ impl Heap {
         longer
     }
 
-    /// Shortens the block of a handle where it stands, to hold `n` bytes, where it is longer and a gap stands behind it
-    /// or at least 32 bytes are cut off. Else nothing changes.
+    /// Shortens the block of a handle in place, to hold `n` bytes, if it is longer and a gap stands after it or at
+    /// least 32 bytes are cut off. Otherwise nothing changes.
     pub fn shrink_in_place(&mut self, handle: u64, n: u64, steps: &mut Steps)
         requires { IsTrue (is_live_in (live_of self.old.bytes) handle) }
         ensures changes { ShrinksInPlace current self.old self.new handle n }

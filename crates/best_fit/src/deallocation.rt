@@ -13,7 +13,7 @@ ghost use Rattle.best_fit.specs.Tiling.{free_behind, joined_before, joined_free_
 use crate::heap::touch_counter::TouchCounter;
 use block_tags::{TAG_LEN, Tile};
 
-/// Gives back the block whose tag begins at `at`: it becomes one gap with those before and behind it, which leave the
+/// Gives back the block whose tag begins at `at`: it becomes one gap with those before and after it, which leave the
 /// tree.
 pub fn release(touches: &mut TouchCounter, at: u64)
     requires heap { IsHeap current touches.old.gaps.now.window.bytes }
@@ -36,7 +36,7 @@ pub fn release(touches: &mut TouchCounter, at: u64)
     touches.link_gap(start(before, at) + TAG_LEN);
 }
 
-/// Takes the gap at an offset out of the tree, where there is one.
+/// Takes the gap at an offset out of the tree, if there is one.
 pub fn unlink_if_gap(touches: &mut TouchCounter, gap: Option<u64>)
     requires tree { (xs gs ys : List Gap) × (gap ≡ offset_of gs) × (length gs ≤ 1)
         × HasGapTree touches.old.gaps.now.window (xs ++ (gs ++ ys)) }
@@ -55,7 +55,7 @@ pub fn unlink_if_gap(touches: &mut TouchCounter, gap: Option<u64>)
     }
 }
 
-/// Where a tile begins, if there is one and it is free.
+/// Returns where a tile begins, if there is one and it is free.
 pub fn gap_at(tile: Option<Tile>) -> Option<u64>
     ensures { result ≡ gap_offset tile }
 {
@@ -65,7 +65,7 @@ pub fn gap_at(tile: Option<Tile>) -> Option<u64>
     }
 }
 
-/// Where the tile at `at` begins with the one before it, where that is free.
+/// Returns where the tile at `at` begins with the one before it, if that is free.
 fn start(before: Option<Tile>, at: u64) -> u64
     ensures { result ≡ start_of before at }
 {
@@ -75,7 +75,7 @@ fn start(before: Option<Tile>, at: u64) -> u64
     }
 }
 
-/// Joins the tile at `at` with the one behind it, where there is one and it is free.
+/// Joins the tile at `at` with the one after it, if there is one and it is free.
 pub fn coalesce_next(touches: &mut TouchCounter, at: u64)
     requires tile { HasTileAt touches.old.gaps.now.window at }
     requires no_overflow { touches.old.count + 2 < 2 ^ 64 }
@@ -92,7 +92,7 @@ pub fn coalesce_next(touches: &mut TouchCounter, at: u64)
     }
 }
 
-/// The length of the gap behind the tile at `at`, or 0 where there is none.
+/// Returns the length of the gap after the tile at `at`, or 0 if there is none.
 pub fn next_gap_len(touches: &mut TouchCounter, at: u64) -> u64
     requires tile { HasTileAt touches.old.gaps.now.window at }
     requires no_overflow { touches.old.count + 1 < 2 ^ 64 }
@@ -107,7 +107,7 @@ pub fn next_gap_len(touches: &mut TouchCounter, at: u64) -> u64
     }
 }
 
-/// Joins the free tile at `at` with the one before it, where there is one and it is free.
+/// Joins the free tile at `at` with the one before it, if there is one and it is free.
 fn coalesce_previous(touches: &mut TouchCounter, at: u64)
     requires tile { HasTileAt touches.old.gaps.now.window at }
     requires no_overflow { touches.old.count + 3 < 2 ^ 64 }

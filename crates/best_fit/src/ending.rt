@@ -17,7 +17,7 @@ use block_tags::{Role, TAG_LEN};
 use raw_region::Steps;
 
 impl Heap {
-    /// Lengthens the window by `extra` bytes of the region behind it: a multiple of 16, at least 32. They are a gap, or
+    /// Lengthens the window by `extra` bytes of the region after it: a multiple of 16, at least 32. They are a gap, or
     /// part of the gap that stood at the end. All blocks stay.
     pub fn extend_end(&mut self, extra: u64, steps: &mut Steps)
         requires min_len { 32 ≤ extra }
@@ -34,7 +34,7 @@ impl Heap {
         steps.add(touches.count());
     }
 
-    /// Shortens the window by the gap at its end, where there is one, so that it ends behind the last block. A window
+    /// Shortens the window by the gap at its end, if there is one, so that it ends after the last block. A window
     /// without blocks has 144 bytes then. All blocks stay, and without such a gap every byte does.
     pub fn cut_end(&mut self, steps: &mut Steps)
         ensures changes { MovesEnd current self.old self.new (least_size (live_of self.old.bytes)) }
@@ -48,7 +48,7 @@ impl Heap {
     }
 }
 
-/// Lengthens a heap's window by `extra` bytes, which become a block in use behind all others, and answers where its tag
+/// Lengthens a heap's window by `extra` bytes, which become a block in use after all others, and returns where its tag
 /// begins.
 fn append_block(touches: &mut TouchCounter, extra: u64) -> u64
     requires heap { IsHeap current touches.old.gaps.now.window.bytes }
@@ -71,7 +71,7 @@ fn append_block(touches: &mut TouchCounter, extra: u64) -> u64
     size - TAG_LEN
 }
 
-/// Shortens a heap's window by the gap at its end, where there is one.
+/// Shortens a heap's window by the gap at its end, if there is one.
 fn cut_gap(touches: &mut TouchCounter)
     requires heap { IsHeap current touches.old.gaps.now.window.bytes }
     requires no_overflow { touches.old.count < 2 ^ 60 }

@@ -11,7 +11,6 @@ ghost use Rattle.best_fit.specs.FreeTree.{span};
 ghost use Rattle.best_fit.specs.Heap.{ChangesBytes, FormatsHeap, IsHeap, IsTileOf, ZeroesFree, extent_at, has_room};
 ghost use Rattle.best_fit.specs.Heap.{is_live_in, live_of, payload_at, with_payload};
 ghost use Rattle.best_fit.specs.Pairs.{CallsOnTwo, TakesTwo};
-ghost use Rattle.best_fit.specs.BlockHints.{LeadToBlocks};
 
 mod free_tree_build;
 mod links;
@@ -53,8 +52,8 @@ impl Model for Heap {
 impl Heap {
     ghost use Rattle.best_fit.specs.Lent.{LendsBlock};
 
-    /// A heap with no block in use, over a window of 144 bytes or of a multiple of 16 from 176 to 1073741824. It writes
-    /// the tags, the links of the one gap and the word at 24, and no other byte.
+    /// Returns a heap with no block in use, over a window of 144 bytes or of a multiple of 16 from 176 to 1073741824.
+    /// It writes the tags, the links of the one gap and the word at 24, and no other byte.
     pub fn fresh(window: Window) -> Heap
         requires { IsTrue (is_legal_size (length window.bytes)) }
         ensures { FormatsHeap current window result }
@@ -69,27 +68,38 @@ impl Heap {
         }
     }
 
-    /// The heap that the bytes of a window already are: good tags, and at the word at 24 a good tree of the gaps. No
-    /// byte changes.
+    /// Returns the heap that the bytes of a window already are: good tags, and at the word at 24 a good tree of the
+    /// gaps. No byte changes.
     pub fn adopt(window: Window) -> Heap
         requires { IsHeap current window.bytes }
         ensures { result ≡ window }
     {
         let points = tile_walk::way_points(&window);
-        Heap::adopt_noted(window, points)
-    }
-
-    /// As `adopt`, with way-points that are known to lead to blocks in use. No tile is read.
-    pub fn adopt_noted(window: Window, points: BlockHints) -> Heap
-        requires heap { IsHeap current window.bytes }
-        requires points { LeadToBlocks points window.bytes }
-        ensures { result ≡ window }
-    {
         let gaps = GapTree { window };
         Heap { gaps, points }
     }
 
-    /// The heap's window, with the bytes that it has now.
+    /// Makes a heap as `adopt` does, without hints, which `insert_hint` notes. It reads no tile.
+    pub fn adopt_without_hints(window: Window) -> Heap
+        requires { IsHeap current window.bytes }
+        ensures { result ≡ window }
+    {
+        Heap {
+            gaps: GapTree { window },
+            points: BlockHints::none(),
+        }
+    }
+
+    /// Notes the handle of a block in use, from which blocks behind it are looked for. No byte changes, and no tile is
+    /// read.
+    pub fn insert_hint(&mut self, handle: u64)
+        requires { IsTrue (is_live_in (live_of self.old.bytes) handle) }
+        ensures { self.new ≡ self.old }
+    {
+        self.points.insert(handle);
+    }
+
+    /// Returns the heap's window, with the bytes that it has now.
     pub fn into_window(self) -> Window
         ensures window { result ≡ self }
         ensures heap { IsHeap current result.bytes }
@@ -101,28 +111,28 @@ impl Heap {
         window
     }
 
-    /// All bytes of the window.
+    /// Returns all bytes of the window.
     pub fn as_bytes(&self) -> &[u8]
         ensures { result.now ≡ self.now.bytes }
     {
         self.gaps.window.bytes(0, self.gaps.window.size())
     }
 
-    /// The number of bytes in the window.
+    /// Returns the number of bytes in the window.
     pub fn size(&self) -> u64
         ensures { result ≡ length self.now.bytes }
     {
         self.gaps.window.size()
     }
 
-    /// The number of bytes of the region behind the window.
+    /// Returns the number of bytes of the region after the window.
     pub fn region_left(&self) -> u64
         ensures { result ≡ length (whole self.now) - (length self.now.before + length self.now.bytes) }
     {
         self.gaps.window.capacity() - (self.gaps.window.base() + self.gaps.window.size())
     }
 
-    /// The header's word at `at`: a multiple of 8 below 128, and not 24.
+    /// Returns the header's word at `at`: a multiple of 8 below 128, and not 24.
     pub fn header_word(&self, at: u64) -> u64
         requires aligned { at % 8 ≡ 0 }
         requires subtree { at < HEADER_LEN }
@@ -143,14 +153,14 @@ impl Heap {
         self.gaps.window.write_u64(at, value);
     }
 
-    /// Whether a block in use has this handle. Any number may be asked for.
+    /// Tells whether a block in use has this handle. Any number may be asked for.
     pub fn is_live(&self, handle: u64) -> bool
         ensures { result ≡ is_live_in (live_of self.now.bytes) handle }
     {
         tile_walk::is_live(&self.gaps.window, &self.points, handle)
     }
 
-    /// What the block of a handle is used for.
+    /// Returns what the block of a handle is used for.
     pub fn role(&self, handle: u64) -> Role
         requires { IsTrue (is_live_in (live_of self.now.bytes) handle) }
         ensures { option_map (λ (x : Extent). x.role) (extent_at (live_of self.now.bytes) handle) ≡ Some result }
@@ -160,7 +170,7 @@ impl Heap {
             .unwrap()
     }
 
-    /// The number of bytes that the block of a handle has room for.
+    /// Returns the number of bytes that the block of a handle has room for.
     pub fn room(&self, handle: u64) -> u64
         requires { IsTrue (is_live_in (live_of self.now.bytes) handle) }
         ensures { option_map (λ (x : Extent). x.len - 16) (extent_at (live_of self.now.bytes) handle) ≡ Some result }
@@ -168,7 +178,7 @@ impl Heap {
         block_tags::tile_at(&self.gaps.window, handle - TAG_LEN).len - TAG_LEN
     }
 
-    /// The word at `at` in the block of a handle.
+    /// Returns the word at `at` in the block of a handle.
     pub fn word(&self, handle: u64, at: u64) -> u64
         requires { IsTrue (has_room (live_of self.now.bytes) handle (at + 8)) }
         ensures { result ≡ word_at (bytes_of self.now.bytes) (handle + at) }
@@ -176,7 +186,7 @@ impl Heap {
         self.gaps.window.read_u64(handle + at)
     }
 
-    /// The `len` bytes from `at` on in the block of a handle.
+    /// Returns the `len` bytes from `at` on in the block of a handle.
     pub fn bytes(&self, handle: u64, at: u64, len: u64) -> &[u8]
         requires { IsTrue (has_room (live_of self.now.bytes) handle (at + len)) }
         ensures { result.now ≡ read (bytes_of self.now.bytes) (handle + at) len }
@@ -214,7 +224,7 @@ impl Heap {
         self.gaps.window.move_within(from + from_at, to + to_at, n);
     }
 
-    /// The payload of the block of a handle: its bytes behind the tag, at least as many as were asked for.
+    /// Returns the payload of the block of a handle: its bytes after the tag, at least as many as were asked for.
     pub fn block(&self, handle: u64) -> &[u8]
         requires { IsTrue (is_live_in (live_of self.now.bytes) handle) }
         ensures { result.now ≡ payload_at self.now.bytes (live_of self.now.bytes) handle }
@@ -223,7 +233,7 @@ impl Heap {
         self.gaps.window.bytes(handle, len - TAG_LEN)
     }
 
-    /// The same, to be written.
+    /// Returns the payload of the block of a handle, mutably.
     pub fn block_mut(&mut self, handle: u64) -> &mut [u8]
         requires { IsTrue (is_live_in (live_of self.old.bytes) handle) }
         ensures* writes_back { sem 𝓛 (LendsBlock self.entry handle result) }
@@ -259,7 +269,7 @@ impl Heap {
         on_two(bytes, a, b, change);
     }
 
-    /// The block or gap that stands first, or nothing where there is none.
+    /// Returns the block or gap that stands first, or nothing if there is none.
     pub fn first_tile(&self) -> Option<Tile>
         ensures tile { result ≡ slice_get (tiles_of (bytes_of self.now.bytes) (length self.now.bytes)) 0 }
         ensures span { option_map span result ≡ slice_get (spans (live_of self.now.bytes)) 0 }
@@ -267,7 +277,7 @@ impl Heap {
         block_tags::first(&self.gaps.window)
     }
 
-    /// The block or gap behind one of the heap's, or nothing where that is the last.
+    /// Returns the block or gap after one of the heap's, or nothing if that is the last.
     pub fn next_tile(&self, tile: Tile) -> Option<Tile>
         requires { IsTileOf self.now.bytes tile }
         ensures tile { (i : ℕ) → slice_get (tiles_of (bytes_of self.now.bytes) (length self.now.bytes)) i ≡ Some tile
@@ -278,7 +288,7 @@ impl Heap {
         block_tags::next(&self.gaps.window, tile.offset)
     }
 
-    /// The block or gap with `index` others before it, or nothing where there are no more.
+    /// Returns the block or gap with `index` others before it, or nothing if there are no more.
     pub fn tile(&self, index: u64) -> Option<Tile>
         ensures tile { result ≡ slice_get (tiles_of (bytes_of self.now.bytes) (length self.now.bytes)) index }
         ensures span { option_map span result ≡ slice_get (spans (live_of self.now.bytes)) index }
@@ -286,28 +296,28 @@ impl Heap {
         tile_walk::tile(&self.gaps.window, index)
     }
 
-    /// The number of blocks in use.
+    /// Returns the number of blocks in use.
     pub fn live_count(&self) -> u64
         ensures { result ≡ length (live_of self.now.bytes).extents }
     {
         tile_walk::live_count(&self.gaps.window)
     }
 
-    /// The bytes of all gaps, their tags included.
+    /// Returns the bytes of all gaps, their tags included.
     pub fn free_bytes(&self) -> u64
         ensures { result ≡ free_bytes_of (live_of self.now.bytes) }
     {
         summing::free_bytes(&self.gaps)
     }
 
-    /// Makes the free bytes of each gap zero: those behind its tag and its two links. No other byte changes.
+    /// Makes the free bytes of each gap zero: those after its tag and its two links. No other byte changes.
     pub fn zero_free(&mut self)
         ensures { ZeroesFree current self.old self.new }
     {
         zeroing::zero_gaps(&mut self.gaps.window);
     }
 
-    /// Whether the tags are whole, as they are in each heap.
+    /// Tells whether the tags are whole, as they are in each heap.
     pub fn sanity(&self) -> bool
         ensures { IsTrue result }
     {

@@ -12,7 +12,7 @@ use crate::heap::touch_counter::TouchCounter;
 use crate::sizes::{MIN_BLOCK_LEN, room};
 use block_tags::{MAX_SEGMENT_LEN, TAG_LEN};
 
-/// Lengthens the block whose tag begins at `at` to hold `n` bytes, where it is too short and the gap behind it allows.
+/// Lengthens the block whose tag begins at `at` to hold `n` bytes, if it is too short and the gap after it allows.
 pub fn extend(touches: &mut TouchCounter, at: u64, n: u64) -> bool
     requires heap { IsHeap current touches.old.gaps.now.window.bytes }
     requires live { IsTrue (is_live_in (live_of touches.old.gaps.now.window.bytes) (at + TAG_LEN)) }
@@ -64,15 +64,15 @@ pub fn shorten(touches: &mut TouchCounter, at: u64, n: u64)
     }
 }
 
-/// Whether what is cut off a block is part of a gap: of the one behind it, or of one of its own.
+/// Tells whether what is cut off a block is part of a gap: of the one after it, or of one of its own.
 fn leaves_gap(cut: u64, behind: u64) -> bool
     ensures { result ≡ (nat_lt 0 behind || nat_le 32 cut) }
 {
     behind > 0 || cut >= MIN_BLOCK_LEN
 }
 
-/// Gives the block whose tag begins at `at` all of the gap behind it, and cuts it to `wanted` bytes where enough for a
-/// gap is left, which enters the tree.
+/// Gives the block whose tag begins at `at` all of the gap after it, and cuts it to `wanted` bytes if enough for a gap
+/// is left. That gap enters the tree.
 pub fn absorb_and_split(touches: &mut TouchCounter, at: u64, wanted: u64)
     requires heap { IsHeap current touches.old.gaps.now.window.bytes }
     requires live { IsTrue (is_live_in (live_of touches.old.gaps.now.window.bytes) (at + TAG_LEN)) }

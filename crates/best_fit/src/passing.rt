@@ -1,4 +1,4 @@
-//! A way-point that leads to a block which is given back goes on to the block behind it.
+//! A way-point that leads to a block which is given back goes on to the block after it.
 ghost use Rattle.std.specs.Prelude.{◌≡◌, ◌≢◌, ℕ, ◌+◌, ◌^◌, ◌<◌, ◌≤◌, IfSome, IsTrue};
 ghost use Rattle.raw_region.specs.Format.{current};
 ghost use Rattle.best_fit.specs.Heap.{IsHeap, is_live_in, live_of};
@@ -8,7 +8,7 @@ use crate::block_hints::BlockHints;
 use crate::heap::touch_counter::TouchCounter;
 use block_tags::TAG_LEN;
 
-/// Lets no way-point lead to the block of a handle: one that did leads to the block behind it, if there is one.
+/// Lets no way-point lead to the block of a handle: one that did leads to the block after it, if there is one.
 pub fn retarget_hint(touches: &mut TouchCounter, points: &mut BlockHints, handle: u64)
     requires heap { IsHeap current touches.old.gaps.now.window.bytes }
     requires points { LeadToBlocks points.old touches.old.gaps.now.window.bytes }
@@ -28,7 +28,7 @@ pub fn retarget_hint(touches: &mut TouchCounter, points: &mut BlockHints, handle
     }
 }
 
-/// The handle of the next block in use behind the one of a handle, if there is one.
+/// Returns the handle of the next block in use after the one of a handle, if there is one.
 fn block_behind(touches: &mut TouchCounter, handle: u64) -> Option<u64>
     requires heap { IsHeap current touches.old.gaps.now.window.bytes }
     requires live { IsTrue (is_live_in (live_of touches.old.gaps.now.window.bytes) handle) }

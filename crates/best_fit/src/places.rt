@@ -1,6 +1,6 @@
 //! Places in blocks.
 
-/// A place in the block of a handle: `at` bytes behind the handle.
+/// A place in the block of a handle: `at` bytes after the handle.
 #[derive(Clone, Copy, Debug)]
 pub struct Place {
     /// The block's handle.

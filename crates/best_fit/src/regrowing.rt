@@ -10,14 +10,13 @@ use block_tags::Role;
 use raw_region::Steps;
 
 impl Heap {
-    /// A block for `n` bytes in the place of the one of a handle, of which the first `used` bytes are kept: the same
-    /// block where it has the room, and then no byte changes, else the block lengthened where it stands, and else a new
-    /// one of role storage, which is taken before the old one is given back. Without a handle a new one. It answers the
-    /// block's handle.
+    /// Returns the handle of a block for `n` bytes in place of the one of a handle, and keeps its first `used` bytes.
+    /// If the block has the room, it stays, and no byte changes. Otherwise it is lengthened in place if possible, or a
+    /// new block of role storage is allocated before the old one is freed. Without a handle the block is new.
     ///
     /// # Errors
     ///
-    /// `NoSpace` where a new block is needed and has no gap that is long enough. Nothing changes.
+    /// `NoSpace` if a new block is needed and has no gap that is long enough. Nothing changes.
     pub fn regrow(&mut self, storage: Option<u64>, n: u64, used: u64) -> Result<u64, NoSpace>
         requires fits { used ≤ n }
         requires room { IfSome storage (λ h. IsTrue (has_room (live_of self.old.bytes) h used)) }
@@ -39,7 +38,7 @@ impl Heap {
         }
     }
 
-    /// A new block in the place of one, of which the first `used` bytes are kept.
+    /// Returns a new block in the place of one, of which the first `used` bytes are kept.
     fn replace(&mut self, handle: u64, n: u64, used: u64) -> Result<u64, NoSpace>
         requires fits { used ≤ n }
         requires room { IsTrue (has_room (live_of self.old.bytes) handle used) }

@@ -10,7 +10,7 @@ use crate::block_hints::BlockHints;
 use block_tags::{TAG_LEN, Tile, first, next, tile_at};
 use raw_region::Window;
 
-/// Whether a block in use has this handle. Any number may be asked for. The walk begins at the nearest way-point.
+/// Tells whether a block in use has this handle. Any number may be asked for. The walk begins at the nearest way-point.
 pub fn is_live(window: &Window, points: &BlockHints, handle: u64) -> bool
     requires { IsHintedHeap window.now.bytes points.now }
     ensures { result ≡ is_live_in (live_of window.now.bytes) handle }
@@ -28,7 +28,7 @@ pub fn is_live(window: &Window, points: &BlockHints, handle: u64) -> bool
     false
 }
 
-/// The first block in use of each piece of a heap's window.
+/// Returns the first block in use of each piece of a heap's window.
 pub fn way_points(window: &Window) -> BlockHints
     requires { IsHeap current window.now.bytes }
     ensures { LeadToBlocks result window.now.bytes }
@@ -44,7 +44,7 @@ pub fn way_points(window: &Window) -> BlockHints
     points
 }
 
-/// The number of blocks in use.
+/// Returns the number of blocks in use.
 pub fn live_count(window: &Window) -> u64
     requires { IsHeap current window.now.bytes }
     ensures { result ≡ length (live_of window.now.bytes).extents }
@@ -60,7 +60,7 @@ pub fn live_count(window: &Window) -> u64
     count
 }
 
-/// The tile with `index` tiles before it, or nothing where there are no more.
+/// Returns the tile with `index` tiles before it, or nothing if there are no more.
 pub fn tile(window: &Window, index: u64) -> Option<Tile>
     requires { IsHeap current window.now.bytes }
     ensures { result ≡ slice_get (tiles_of (bytes_of window.now.bytes) (length window.now.bytes)) index }

@@ -1,5 +1,5 @@
 //! Tiles that are split, joined, and given another use or colour. Only tags are written: those of the tiles that are
-//! named, and the length before in the tag behind them, so that a tile is found from either side without a search.
+//! named, and the length before in the tag after them, so that a tile is found from either side without a search.
 ghost use Rattle.std.specs.Prelude.{◌+◌, List};
 ghost use Rattle.raw_region.specs.Memory.{SameBytesExcept, bytes_of};
 ghost use Rattle.block_tags.specs.declared.tile.Tile.{Tile};
@@ -33,7 +33,7 @@ pub fn split(window: &mut Window, at: u64, len: u64)
     put_word(window, at + tile.len, rest.len);
 }
 
-/// Joins the tile behind the one at `at`, which is free, to it. The use and the colour of the tile at `at` stay.
+/// Joins the tile after the one at `at`, which is free, to it. The use and the colour of the tile at `at` stay.
 pub fn merge_next(window: &mut Window, at: u64)
     requires { HasFreeNext window.old at }
     ensures tags { (ts : List Tile) → EncodesTiles window.old ts

@@ -43,8 +43,8 @@ pub fn check(window: &Window) -> Result<(), BadTag>
     }
 }
 
-/// Reads all tags of such a window up to the first that is wrong in the format, and counts them: there is at most one
-/// for each 32 bytes behind the header. Where all are right, these are one for each tile and the end tag.
+/// Reads all tags of such a window up to the first that is wrong in the format, and counts them. There is at most one
+/// for each 32 bytes after the header. If all are right, these are one for each tile and the end tag.
 pub fn check_counted(format: u64, window: &Window) -> CheckedTags
     requires { IsTrue (is_legal_size (length window.now.bytes)) }
     ensures good { result.are_good ≡ has_tags format (bytes_of window.now.bytes) (length window.now.bytes) }
@@ -78,7 +78,7 @@ pub fn check_counted(format: u64, window: &Window) -> CheckedTags
     CheckedTags { are_good, tags, at }
 }
 
-/// Whether the end tag stands at `end`, behind a tile of `before` bytes.
+/// Tells whether the end tag stands at `end`, after a tile of `before` bytes.
 fn ends_well(window: &Window, end: u64, before: u64) -> bool
     requires max_size { end < 2 ^ 63 }
     requires in_bounds { end + TAG_LEN ≤ length window.now.bytes }
@@ -88,7 +88,8 @@ fn ends_well(window: &Window, end: u64, before: u64) -> bool
     window.read_u64(end) == before && window.read_u64(end + 8) == END_MARK
 }
 
-/// Whether a tag that is good in the format stands at `at`, of a tile that ends by `end`, behind one of `before` bytes.
+/// Tells whether a tag that is good in the format stands at `at`, of a tile that ends by `end`, after one of `before`
+/// bytes.
 #[tactic(auto, unfolding(crate::specs::Checks::is_good_tile))]
 fn is_good(format: u64, window: &Window, at: u64, before: u64, behind_free: bool, end: u64) -> bool
     requires in_bounds { at < end }
@@ -109,7 +110,7 @@ fn is_good(format: u64, window: &Window, at: u64, before: u64, behind_free: bool
     is_whole(format, tile, window.read_u64(at + 8))
 }
 
-/// Whether the tile is one that may stand in a window of the format, and this the second word of its tag.
+/// Tells whether the tile is one that may stand in a window of the format, and this the second word of its tag.
 fn is_whole(format: u64, tile: Tile, word: u64) -> bool
     requires { tile.len < 2 ^ 63 }
     ensures { result ≡ is_tagged format tile word }

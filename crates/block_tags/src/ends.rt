@@ -9,7 +9,7 @@ use crate::sizes::{HEADER_LEN, TAG_LEN};
 use crate::words::{END_MARK, put_word};
 use raw_region::Window;
 
-/// Writes the tags of one free tile that fills the window behind the header, or of none where there is no room for one.
+/// Writes the tags of one free tile that fills the window after the header, or of none if there is no room for one.
 pub fn lay(window: &mut Window)
     requires { IsTrue (is_legal_size (length window.old.bytes)) }
     ensures tags { EncodesTiles window.new (laid (length window.old.bytes)) }
@@ -42,7 +42,7 @@ pub fn append_free(window: &mut Window, old_size: u64)
     put_word(window, end + 8, END_MARK);
 }
 
-/// Takes away the last tile, which is free, and answers the number of bytes that the other tiles fill with the header
+/// Takes away the last tile, which is free, and returns the number of bytes that the other tiles fill with the header
 /// and an end tag.
 pub fn drop_last(window: &mut Window) -> u64
     requires { HasFreeLast window.old }

@@ -9,7 +9,7 @@ use crate::tile::Tile;
 use crate::words::tile_there;
 use raw_region::Window;
 
-/// The tile that begins at the offset `at`.
+/// Returns the tile that begins at the offset `at`.
 pub fn tile_at(window: &Window, at: u64) -> Tile
     requires { HasTileAt window.now at }
     ensures { (ts : List Tile) → EncodesTiles window.now ts → tile_in ts at ≡ Some result }
@@ -17,7 +17,7 @@ pub fn tile_at(window: &Window, at: u64) -> Tile
     tile_there(window, at)
 }
 
-/// The tile behind the header, or nothing where there is none.
+/// Returns the tile after the header, or nothing if there is none.
 pub fn first(window: &Window) -> Option<Tile>
     requires { IsTiledWindow window.now }
     ensures { (ts : List Tile) → EncodesTiles window.now ts → result ≡ first_in ts }
@@ -29,7 +29,7 @@ pub fn first(window: &Window) -> Option<Tile>
     }
 }
 
-/// The tile before the end tag, or nothing where there is none.
+/// Returns the tile before the end tag, or nothing if there is none.
 pub fn last(window: &Window) -> Option<Tile>
     requires { IsTiledWindow window.now }
     ensures { (ts : List Tile) → EncodesTiles window.now ts → result ≡ last_in ts }
@@ -43,7 +43,7 @@ pub fn last(window: &Window) -> Option<Tile>
     }
 }
 
-/// The tile behind the one at `at`, or nothing where that is the last.
+/// Returns the tile after the one at `at`, or nothing if that is the last.
 pub fn next(window: &Window, at: u64) -> Option<Tile>
     requires { HasTileAt window.now at }
     ensures { (ts : List Tile) → EncodesTiles window.now ts → result ≡ next_in ts at }
@@ -56,7 +56,7 @@ pub fn next(window: &Window, at: u64) -> Option<Tile>
     }
 }
 
-/// The tile before the one at `at`, or nothing where that is the first.
+/// Returns the tile before the one at `at`, or nothing if that is the first.
 pub fn previous(window: &Window, at: u64) -> Option<Tile>
     requires { HasTileAt window.now at }
     ensures { (ts : List Tile) → EncodesTiles window.now ts → result ≡ previous_in ts at }
@@ -69,7 +69,7 @@ pub fn previous(window: &Window, at: u64) -> Option<Tile>
     }
 }
 
-/// Whether the tile at `at` is red.
+/// Tells whether the tile at `at` is red.
 pub fn red(window: &Window, at: u64) -> bool
     requires { HasTileAt window.now at }
     ensures { (ts : List Tile) (tile : Tile) → EncodesTiles window.now ts → tile_in ts at ≡ Some tile

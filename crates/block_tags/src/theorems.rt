@@ -7,17 +7,17 @@ ghost use Rattle.block_tags.specs.Laws.{TilesFillTheWindow};
 ghost use Rattle.block_tags.specs.Tiles.{SayOneList};
 ghost use Rattle.block_tags.specs.Worked.{WorkedTiles};
 
-/// The tags of a segment say one list of tiles.
+/// States that the tags of a segment say one list of tiles.
 pub fn tags_say_one_list()
     ensures { SayOneList }
 {}
 
-/// The tiles that the tags say are those that are read off from the header on.
+/// States that the tiles that the tags say are those that are read off from the header on.
 pub fn tiles_are_read_off()
     ensures { TilesAreReadOff }
 {}
 
-/// A tile that the tags say is read off from its own tag.
+/// States that a tile that the tags say is read off from its own tag.
 pub fn tile_is_read_off()
     ensures { TileIsReadOff }
 {}
@@ -27,32 +27,32 @@ pub fn good_tags_say_tiles()
     ensures { GoodTagsSayTiles }
 {}
 
-/// The tiles fill a window from its header to its end tag, one behind the other.
+/// States that the tiles fill a window from its header to its end tag, one after the other.
 pub fn tiles_fill_the_window()
     ensures { TilesFillTheWindow }
 {}
 
-/// No tag lies in the header.
+/// States that no tag lies in the header.
 pub fn header_is_beside_tags()
     ensures { HeaderIsBesideTags }
 {}
 
-/// No tag lies in the payload of a tile.
+/// States that no tag lies in the payload of a tile.
 pub fn payload_is_beside_tags()
     ensures { PayloadIsBesideTags }
 {}
 
-/// The tile at an offset stands between those before it and those behind it.
+/// States that the tile at an offset stands between those before it and those after it.
 pub fn tile_stands_in_list()
     ensures { TileStandsInList }
 {}
 
-/// Each tile that the tags say is the one that is found at its offset.
+/// States that each tile that the tags say is the one that is found at its offset.
 pub fn one_tile_at_an_offset()
     ensures { OneTileAtAnOffset }
 {}
 
-/// A list of tiles is those without the last, and the last.
+/// States that a list of tiles is those without the last, and the last.
 pub fn last_tile_ends_list()
     ensures { LastTileEndsList }
 {}
@@ -62,22 +62,22 @@ pub fn tags_that_stay_say_the_same()
     ensures { TagsThatStaySayTheSame }
 {}
 
-/// The tags say the same tiles where bytes of a payload change.
+/// States that the tags say the same tiles where bytes of a payload change.
 pub fn payload_may_change()
     ensures { PayloadMayChange }
 {}
 
-/// The tags say the same tiles where bytes of the header change.
+/// States that the tags say the same tiles where bytes of the header change.
 pub fn header_may_change()
     ensures { HeaderMayChange }
 {}
 
-/// The first bytes of a window say the tiles that they say as a window of their own.
+/// States that the first bytes of a window say the tiles that they say as a window of their own.
 pub fn front_is_a_window()
     ensures { FrontIsAWindow }
 {}
 
-/// What the words of the definitions are at the tiles of one window.
+/// States what the words of the definitions are at the tiles of one window.
 pub fn worked_tiles()
     ensures { WorkedTiles }
 {}

@@ -22,7 +22,7 @@ pub struct Tile {
     pub offset: u64,
     /// The number of bytes with the tag: a multiple of 16, at least 32.
     pub len: u64,
-    /// What the payload is for, or nothing where the tile is free.
+    /// What the payload is for, or nothing if the tile is free.
     pub use_of: Option<Role>,
     /// The tile's colour in a tree of tiles, red or black.
     pub red: bool,

@@ -35,7 +35,7 @@ fn role_of_bits(bits: u64) -> Role
     }
 }
 
-/// The second word of a tile's tag.
+/// Returns the second word of a tile's tag.
 pub fn tag_word(tile: Tile) -> u64
     requires { tile.len < 2 ^ 63 }
     ensures { result ≡ word_of tile }
@@ -48,7 +48,7 @@ pub fn tag_word(tile: Tile) -> u64
     tile.len + used + red
 }
 
-/// The tile at `at` whose tag has this second word.
+/// Returns the tile at `at` whose tag has this second word.
 pub fn tile_of_word(at: u64, word: u64) -> Tile
     ensures { result ≡ tile_of at word }
 {
@@ -65,7 +65,7 @@ pub fn tile_of_word(at: u64, word: u64) -> Tile
     }
 }
 
-/// Whether a tile used for this may be red in the format.
+/// Tells whether a tile used for this may be red in the format.
 pub fn may_be_red(format: u64, use_of: Option<Role>) -> bool
     ensures { result ≡ may_be_red_in format use_of }
 {
@@ -76,7 +76,7 @@ pub fn may_be_red(format: u64, use_of: Option<Role>) -> bool
     }
 }
 
-/// The tile that the 16 bytes at `at` say.
+/// Returns the tile that the 16 bytes at `at` say.
 pub fn tile_there(window: &Window, at: u64) -> Tile
     requires max_size { at < 2 ^ 63 }
     requires in_bounds { at + TAG_LEN ≤ length window.now.bytes }

@@ -13,7 +13,7 @@ struct Article {
 }
 
 impl Article {
-    /// So many of an article, of a weight each.
+    /// Makes an entry of a count of an article, of a weight each.
     fn new(number: i32, count: i32, weight: u64) -> Article {
         Article {
             number,
@@ -22,7 +22,7 @@ impl Article {
         }
     }
 
-    /// The bytes of an article.
+    /// Returns the bytes of an article.
     fn to_bytes(self) -> [u8; 16] {
         let [a, b, c, d] = self.number.to_le_bytes();
         let [e, f, g, h] = self.count.to_le_bytes();
@@ -30,7 +30,7 @@ impl Article {
         [a, b, c, d, e, f, g, h, i, j, k, l, m, n, o, p]
     }
 
-    /// The article that bytes spell.
+    /// Returns the article that bytes spell.
     fn of_bytes(bytes: [u8; 16]) -> Article {
         let [a, b, c, d, e, f, g, h, i, j, k, l, m, n, o, p] = bytes;
         Article::new(
@@ -40,7 +40,7 @@ impl Article {
         )
     }
 
-    /// Its kilograms; none where the bits are those of no number.
+    /// Returns its kilograms; none if the bits are those of no number.
     fn kilograms(self) -> Option<f64> {
         if self.weight % 0x8000_0000_0000_0000 > 0x7ff0_0000_0000_0000 {
             return None;
@@ -56,7 +56,7 @@ fn note_name(alloc: Global, shop: &mut Segment, number: i32, name: &str) -> Resu
     Ok(())
 }
 
-/// Puts an article behind those that a supplier sells.
+/// Puts an article after those that a supplier sells.
 fn note_supplier(alloc: Global, shop: &mut Segment, number: i32, supplier: &str) -> Result<()> {
     let text = format!(in alloc; "suppliers/{supplier}")?;
     let key = named(text.as_str())?;
@@ -94,7 +94,7 @@ fn fill(alloc: Global, shop: &mut Segment) -> Result<()> {
     add(alloc, shop, figs, "figs", 1999, "north")
 }
 
-/// The article at an index.
+/// Returns the article at an index.
 fn article_at(shop: &Segment, articles: &Name, index: u64) -> Result<Article> {
     let mut bytes = [0u8; 16];
     let mut place = index.saturating_mul(16);
@@ -171,7 +171,7 @@ fn tell(rt: &HostRuntime, shop: &Segment) -> Result<()> {
     Ok(())
 }
 
-/// Sells an apple of an inventory, which is filled where it is new, saves it, and tells what it has.
+/// Sells an apple of an inventory, which is filled if it is new, saves it, and tells what it has.
 fn trade<D: Disk>(rt: &HostRuntime, disk: &mut D, file: &mut SegmentFile<D::Hold>) -> Result<()> {
     if file.segment.num_named() == 0 {
         fill(rt.alloc(), &mut file.segment)?;

@@ -39,7 +39,7 @@ fn clean(rt: &HostRuntime) {
     }
 }
 
-/// The first six programs, the first of them twice.
+/// Runs the first six programs, the first of them twice.
 fn run_six(rt: &HostRuntime, disk: &mut impl Disk) -> Result<()> {
     shop::visit_a_shop(rt, disk)?;
     shop::visit_a_shop(rt, disk)?;

@@ -2,7 +2,7 @@
 use anyhow::Result;
 use zaluxhoni::{Disk, Mode, Name, Refusal, Segment, named, read};
 
-/// The prices of two articles.
+/// Returns the prices of two articles.
 fn two_prices(shop: &Segment, prices: &Name) -> Result<[Option<i64>; 2], Refusal> {
     Ok([shop.map_get(prices, 2i32)?, shop.map_get(prices, 4i32)?])
 }

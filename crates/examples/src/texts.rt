@@ -2,7 +2,7 @@
 use anyhow::Result;
 use zaluxhoni::{Disk, Name, Refusal, Segment, SegmentFile, named};
 
-/// Makes a vector of two strings, puts a third behind them, and tells how many there are.
+/// Makes a vector of two strings, puts a third after them, and tells how many there are.
 fn keep_three(segment: &mut Segment, list: &Name) -> Result<u64, Refusal> {
     segment.construct_texts(list, &[b"apples", b"pears"])?;
     segment.texts_push(list, b"plums")?;

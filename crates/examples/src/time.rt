@@ -14,7 +14,7 @@ pub struct Time {
 }
 
 impl Time {
-    /// The time of this hour and minute.
+    /// Returns the time of this hour and minute.
     pub fn at(hour: u8, minute: u8) -> Time {
         Time { hour, minute }
     }

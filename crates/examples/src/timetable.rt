@@ -7,7 +7,7 @@ use anyhow::Result;
 use std::alloc::Global;
 use zaluxhoni::{Heap, Place, Plain, RawRegion, Refusal, Role, SegVec, Steps, Window};
 
-/// A heap of 1024 bytes with a vector without a value.
+/// Returns a heap of 1024 bytes with a vector without a value.
 fn begun<T: Plain>(alloc: Global) -> Result<(Heap, SegVec<T>)>
     ensures { IfOk result (λ made. IsSomeVector T.SIZE T.is_value T.spelling made.0.bytes made.1.place) }
 {
@@ -17,7 +17,7 @@ fn begun<T: Plain>(alloc: Global) -> Result<(Heap, SegVec<T>)>
     Ok((heap, vector))
 }
 
-/// Puts a value behind the last one. The vector stands behind the call, also where it is refused.
+/// Puts a value after the last one. The vector stands after the call, also if it is refused.
 fn note<T: Plain>(heap: &mut Heap, vector: SegVec<T>, value: T) -> Result<(), Refusal>
     requires { IsSomeVector T.SIZE T.is_value T.spelling heap.old.bytes vector.place }
     ensures { IsSomeVector T.SIZE T.is_value T.spelling heap.new.bytes vector.place }

@@ -57,7 +57,7 @@ fn add_up_years(years: &MapView<'_, i32, i64>) -> i64 {
     sum
 }
 
-/// Keeps years, and looks for the first of all and for one behind the number 3.
+/// Keeps years, and looks for the first of all and for one after the number 3.
 fn look_into_a_map(segment: &mut Segment, name: &Name) -> Result<([Option<(i32, i64)>; 2], i64)> {
     segment.construct_map::<i32, i64, _>(name)?;
     let mut years = MapView::<i32, i64>::of(segment, name)?;
@@ -73,7 +73,7 @@ fn tell_the_last(rt: &HostRuntime, years: &MapView<'_, i32, i64>) -> Result<()> 
     Ok(())
 }
 
-/// Keeps a text, and puts more behind it.
+/// Keeps a text, and puts more after it.
 fn lengthen_a_text(segment: &mut Segment, name: &Name) -> Result<usize, Refusal> {
     segment.construct_string(name, b"red")?;
     let mut title = StringView::of(segment, name)?;

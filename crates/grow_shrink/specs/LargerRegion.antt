@@ -58,9 +58,3 @@ GrowsOrMovesErr old new extra (OutOfMemory refusal) =
 abbrev pub GrowsOrMoves : SegmentState → SegmentState → ℕ → Result (Unit {0}) GrowOrMoveError → Type 0
 GrowsOrMoves old new extra result =
     MatchResult result (λ u. GrowsOrMovesOk old new extra) (λ why. GrowsOrMovesErr old new extra why)
-
--- the bytes and the mode of a segment at the front of a region with room for so many bytes
-pub record CopiesWithRoom (old new : SegmentState) (bytes : ℕ) : Type 0 where
-  pub bytes_same : new.cut.bytes ≡ old.cut.bytes
-  pub mode : new.mode ≡ old.mode
-  pub room : bytes ≤ room_of new.cut

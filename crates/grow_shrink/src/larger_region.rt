@@ -4,8 +4,7 @@ ghost use Rattle.std.specs.Prelude.{◌≡◌, ◌≤◌, ◌+◌, length, min, 
 ghost use Rattle.raw_region.specs.Memory.{SameSurroundings, cut_at, zeros};
 ghost use Rattle.raw_region.specs.{Refusals.refusal_of, Regions.IsCapacity};
 ghost use Rattle.segment_manager.specs.State.{IsSegment};
-ghost use Rattle.grow_shrink.specs.LargerRegion.{CopiesWithRoom, GrowsOrMoves, GrowsOrMovesOk, IsShortOfRoom};
-ghost use Rattle.grow_shrink.specs.LargerRegion.{region_len};
+ghost use Rattle.grow_shrink.specs.LargerRegion.{GrowsOrMoves, GrowsOrMovesOk, IsShortOfRoom, region_len};
 
 use crate::refusals::GrowError;
 use crate::resizing::grow;
@@ -54,8 +53,7 @@ pub fn region_for(alloc: Global, bytes: u64) -> Result<RawRegion, OutOfMemory>
 }
 
 /// Lengthens a segment by `extra` bytes, which are free: a multiple of 16, at least 32. It moves into a larger region
-/// if
-/// its own has no room. Every object keeps its handle and its value.
+/// if its own has no room. Every object keeps its handle and its value.
 ///
 /// # Errors
 ///
@@ -115,25 +113,10 @@ fn grown_copy(
     ensures changes { IfOk result (λ copy. GrowsOrMovesOk segment.now copy extra) }
     ensures refused { IfErr result (λ refusal. refusal ≡ refusal_of (region_len (size + extra))) }
 {
-    match copy_with_room(alloc, segment, size + extra) {
-        Ok(copy) => {
-            let mut copy = copy;
-            extend_end(&mut copy, extra);
-            Ok(copy)
-        }
-        Err(refused) => Err(refused),
-    }
-}
-
-/// Copies a segment to the front of a region of its own with room for `bytes` bytes.
-fn copy_with_room(alloc: Global, segment: &Segment, bytes: u64) -> Result<Segment, OutOfMemory>
-    requires min_len { length segment.now.cut.bytes ≤ bytes }
-    requires max_count { bytes ≤ 1073741824 }
-    ensures copy { IfOk result (λ copy. CopiesWithRoom segment.now copy bytes) }
-    ensures refused { IfErr result (λ refusal. refusal ≡ refusal_of (region_len bytes)) }
-{
-    let region = region_for(alloc, bytes)?;
-    Ok(copy_into(segment, region))
+    let region = region_for(alloc, size + extra)?;
+    let mut copy = copy_into(segment, region);
+    extend_end(&mut copy, extra);
+    Ok(copy)
 }
 
 /// Copies a segment to the front of a region, open as it is. No other byte of the region changes.

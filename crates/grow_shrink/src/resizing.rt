@@ -17,9 +17,9 @@ const LEAST: u64 = 32;
 ///
 /// # Errors
 ///
-/// The first of these that applies: `ReadOnly` where the segment is open for reading, `BadGrow` where `extra` is below
-/// 32 or no multiple of 16, `TooLarge` where the size would be above 1073741824, and `RegionTooSmall` where the region
-/// ends before it. Nothing changes.
+/// The first of these that applies: `ReadOnly` if the segment is open for reading. `BadGrow` if `extra` is below 32 or
+/// no multiple of 16. `TooLarge` if the size would be above 1073741824. `RegionTooSmall` if the region ends before the
+/// new size. Nothing changes.
 pub fn grow(segment: &mut Segment, extra: u64) -> Result<(), GrowError>
     ensures refused { IsRefusedBy segment.old result (λ d.
         growth_refusal segment.old.mode d.size extra (room_of segment.old.cut)) }
@@ -42,12 +42,12 @@ pub fn grow(segment: &mut Segment, extra: u64) -> Result<(), GrowError>
     Ok(())
 }
 
-/// Shortens a segment by what is free at its end: it ends behind its last block, and one without blocks has 144 bytes.
+/// Shortens a segment by what is free at its end: it ends after its last block, and one without blocks has 144 bytes.
 /// Every object keeps its handle and its value.
 ///
 /// # Errors
 ///
-/// `ReadOnly` where the segment is open for reading. Nothing changes.
+/// `ReadOnly` if the segment is open for reading. Nothing changes.
 pub fn shrink_to_fit(segment: &mut Segment) -> Result<(), GrowError>
     ensures refused { IsRefusedBy segment.old result (λ d. shrink_refusal segment.old.mode) }
     ensures shrinking { OnOk result (Resizes segment.old segment.new (λ d. shrunk d)) }
@@ -60,21 +60,21 @@ pub fn shrink_to_fit(segment: &mut Segment) -> Result<(), GrowError>
     Ok(())
 }
 
-/// Whether a segment is open for reading.
+/// Tells whether a segment is open for reading.
 fn is_read_only(segment: &Segment) -> bool
     ensures { result ≡ may_only_be_read segment.now.mode }
 {
     segment.mode() == Mode::ReadOnly
 }
 
-/// Whether no segment grows by so many bytes.
+/// Tells whether no segment grows by so many bytes.
 fn is_bad(extra: u64) -> bool
     ensures { result ≡ (nat_lt extra 32 || not (extra % 16 == 0)) }
 {
     extra < LEAST || extra % 16 != 0
 }
 
-/// Whether a segment of a size would have too many bytes with so many more.
+/// Tells whether a segment of a size would have too many bytes with so many more.
 fn is_above(size: u64, extra: u64) -> bool
     ensures { result ≡ nat_lt 1073741824 (size + extra) }
 {

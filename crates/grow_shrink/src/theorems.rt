@@ -1,13 +1,13 @@
 //! What holds of directories at other sizes. Each function here does nothing: its contract is the law.
 ghost use Rattle.grow_shrink.specs.Resized.{GrownIsDirectory, ShrunkIsDirectory, ShrunkIsLeast};
 
-/// A directory is one in a larger segment, and in the one that ends behind its last block.
+/// States that a directory is one in a larger segment, and in the one that ends after its last block.
 pub fn resized_are_directories()
     ensures growth { GrownIsDirectory }
     ensures shrinking { ShrunkIsDirectory }
 {}
 
-/// No smaller segment serves the same blocks in place.
+/// States that no smaller segment serves the same blocks in place.
 pub fn shrunk_is_least()
     ensures { ShrunkIsLeast }
 {}

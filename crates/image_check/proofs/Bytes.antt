@@ -113,17 +113,7 @@ number_at-AreZero m at (suc n) e =
 
 -- ---- words and half words
 
--- a word is below 2 ^ 64
-pub word_at-small : (m : Memory) (at : ℕ) → AreSmall m → word_at m at < 256 ^ 8
-unfolding word_at
-word_at-small m at s = number_at-small m at 8 s
-
--- the bytes of a word
-pub word_at-bytes : (m : Memory) (at : ℕ) → AreSmall m → bytes_low_first 0 8 (word_at m at) ≡ read m at 8
-unfolding word_at
-word_at-bytes m at s = bytes_low_first-number_at m at 8 s
-
--- the same of a half word
+-- a half word is 0 where its bytes are
 pub AreZero-half_word_at : (m : Memory) (at : ℕ) → AreZero m at (at + 4) → half_word_at m at ≡ 0
 unfolding half_word_at
 AreZero-half_word_at m at z = AreZero-number_at m at 4 z

@@ -3,7 +3,7 @@ use Rattle.std.proofs.Common.{◌≡◌, ap, ◌∙◌, ℕ, ◌+◌, ◌-◌, �
 use Rattle.std.proofs.Common.{Err}
 use Rattle.std.specs.Prelude.{Result, IfErr}
 use Rattle.std.specs.List.{refill}
-use Rattle.std.proofs.lemmas.Bool.{and_parts}
+use Rattle.std.proofs.lemmas.Bool.{and_parts, eqb-true}
 use Rattle.std.proofs.lemmas.List.{drop_all, append-nil, length-append, length-take}
 use Rattle.raw_region.specs.Answers.{AppendsProperPrefix}
 use Rattle.raw_region.specs.Memory.{WindowState, part, patched, whole}
@@ -12,6 +12,7 @@ use Rattle.block_tags.specs.Format.{is_legal_size}
 use Rattle.best_fit.proofs.Laws.{legal_size}
 use Rattle.image_check.specs.declared.errors.OpenError.{OpenError}
 use Rattle.image_check.specs.EarlyTests.{size_word, has_magic, has_version}
+use Rattle.image_check.specs.Formats.{version_word}
 use Rattle.image_check.specs.Opening.{failed_reads}
 use Rattle.image_check.specs.Reading.{IsShort, ReadsPastEnd, HasFront, Stops}
 use Rattle.image_check.proofs.Fronts.{IsRight, has_front-IsRight, IsRight-take, IsRight-append}
@@ -25,6 +26,11 @@ HasFront-IsRight format w h =
     let least = (legal_size (size_word w.bytes) legal).low in
     let says = h.says in
     has_front-IsRight format w.bytes (length w.bytes) (omega arith) h.right says
+
+-- they say the format
+pub HasFront-version : (format : ℕ) (w : WindowState) (v : ℕ) → HasFront format w → v ≡ version_word w.bytes
+    → v ≡ format
+HasFront-version format w v h said = said ∙ eqb-true (version_word w.bytes) format (HasFront-IsRight format w h).version
 
 pub HasFront-least : (format : ℕ) (w : WindowState) → HasFront format w → 144 ≤ length w.bytes
 HasFront-least format w h = (legal_size (length w.bytes) (HasFront-IsRight format w h).legal).low

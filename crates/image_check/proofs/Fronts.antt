@@ -157,14 +157,3 @@ IsRight-take format b size r =
       legal = r.legal;
       says = sym (ap size_word both ∙ size_word-front (take 24 b) (drop 24 b) some) ∙ r.says;
     }
-
--- ---- the bytes that are kept for later
-
--- two rows of bytes are zeros where the second is, behind a first that is
-pub second_row : (b : List ℕ) (a n c k : ℕ) (p q : Bool) → a + n ≤ length b → c + k ≤ length b → p ≡ true
-    → p ≡ is_zero (part b a n) → q ≡ is_zero (part b c k)
-    → q ≡ is_zero (read (bytes_of b) a n ++ read (bytes_of b) c k)
-second_row b a n c k p q l m e f g =
-    let first : is_zero (read (bytes_of b) a n) ≡ true = ap is_zero (read-part b a n l) ∙ sym f ∙ e in
-    g ∙ ap is_zero (sym (read-part b c k m)) ∙ sym (ap (λ x. x && is_zero (read (bytes_of b) c k)) first)
-    ∙ sym (list_all-append (λ x. x == 0) (read (bytes_of b) a n) (read (bytes_of b) c k))

@@ -144,14 +144,6 @@ module _ (format : ℕ) (m : Memory) (ts : List Tile) (now : Option ℕ) (es : B
         was-owned : owner_at es target ≡ b.owner
         was-owned = ap owner_in is ∙ owner-is b plain-here
 
-        -- ---- it is the link that was met
-
-        pub own-link : (o : Owner) → b.owner ≡ Some o → o ≡ link → Answer es pending waiting
-        own-link o own same = stays
-            (λ n l. ap (owner_at es) (same-target n l.0) ∙ was-owned ∙ own ∙ ap Some same)
-            (λ s n t l f e. let g : owner_at es target ≡ None = ap (owner_at es) (sym (same-target n l)) ∙ e
-            in let h = was-owned in absurd (cc))
-
         -- ---- it leads to the block
 
         module _ (may : MayCount format m ts role link.at) where

@@ -13,9 +13,6 @@ use Rattle.image_check.specs.Rows.{AreBelow, AreSortedBlocks, IsRow, HasSortedPa
 
 -- ---- a block of a number
 
-pub row-within : (es : Blocks) (n i : ℕ) → IsRow es n i → i < length es
-row-within es n i w = slice_get_within es i (n, w.block) w.is
-
 rises-behind : (e : ℕ × Block) (es : Blocks) → HasSortedPayloads (e ∷ es) → HasSortedPayloads es
 rises-behind e es r i j x y h f g = r (suc i) (suc j) x y (omega arith) f g
 
@@ -36,10 +33,6 @@ row-found (e ∷ es) n (suc i) r w =
 pub entry-found : (es : Blocks) (i : ℕ) (x : ℕ × Block) → HasSortedPayloads es → slice_get es i ≡ Some x
     → block_at es x.0 ≡ Some x.1
 entry-found es i x r g = row-found es x.0 i r (record { block = x.1; is = g })
-
--- and what is found at the number of a row is its block
-pub row-entry : (es : Blocks) (n i : ℕ) (x : ℕ × Block) → IsRow es n i → slice_get es i ≡ Some x → x.0 ≡ n
-row-entry es n i x w g = let h = w.is in let same : x ≡ (n, w.block) = cc in ap (λ (p : ℕ × Block). p.0) same
 
 -- ---- a payload that is looked for
 

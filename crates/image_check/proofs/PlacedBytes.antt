@@ -1,11 +1,11 @@
 -- An image that lies in memory: why no segment is opened of it.
 use Rattle.std.proofs.Common.{◌≡◌, refl, sym, ap, subst, ◌∙◌, ℕ, ◌+◌, ◌<◌, ◌≤◌, Bool, true, false, ◌&&◌, List, [], ◌++◌}
 use Rattle.std.proofs.Common.{length, take, drop, arith, Some, Ok, Err}
-use Rattle.std.specs.Prelude.{IsTrue, if◌then◌else◌}
-use Rattle.std.proofs.lemmas.Bool.{both_ways, cond-true, eqb-true}
+use Rattle.std.specs.Prelude.{IsTrue, MatchResult, Result, if◌then◌else◌}
+use Rattle.std.proofs.lemmas.Bool.{both_ways, cond-true}
 use Rattle.std.proofs.lemmas.List.{append-nil}
 use Rattle.raw_region.specs.Format.{current}
-use Rattle.raw_region.specs.Memory.{WindowState, SameSurroundings, whole}
+use Rattle.raw_region.specs.Memory.{WindowState, whole}
 use Rattle.block_tags.specs.Format.{is_legal_size}
 use Rattle.segment_manager.specs.declared.modes.Mode.{Mode}
 use Rattle.segment_manager.specs.declared.modes.Mode.TheVariants.{ReadOnly}
@@ -24,22 +24,21 @@ use Rattle.image_check.specs.declared.errors.ExamineRefused.{ExamineRefused}
 use Rattle.image_check.specs.EarlyTests.{has_front, has_magic, has_version, size_word}
 use Rattle.image_check.specs.Classes.{class_of, holds}
 use Rattle.image_check.specs.Causes.{IsShown, error_for, opened_as}
-use Rattle.image_check.specs.Checking.{IsWhyRefused}
+use Rattle.image_check.specs.Checking.{ExaminesWindow, IsWhyRefused, OpensWindow, OpensWindowErr}
 use Rattle.image_check.specs.Examining.{ExaminesBytes}
-use Rattle.image_check.specs.Formats.{format_in, version_word}
+use Rattle.image_check.specs.Formats.{format_in}
 use Rattle.image_check.specs.HeaderPlaces.{IsFrontPlace}
 use Rattle.image_check.specs.Opening.{IsHandedBack, IsImage, IsTooSmallFor, has_early_class}
-use Rattle.image_check.specs.OpeningAny.{UpgradesFormat}
 use Rattle.image_check.specs.OpeningBytes.{IsMisfit, IsNotOpenedOf, IsNotPlaced, IsWhyNotOf, OpensBytes, as_given}
 use Rattle.image_check.specs.Passes.{IsRefusalFor, has_block}
-use Rattle.image_check.specs.Reading.{HasFront, IsImageRead, front_of}
+use Rattle.image_check.specs.Reading.{IsImageRead, front_of}
 use Rattle.image_check.proofs.Deciding.{decided-some, first_class}
 use Rattle.image_check.proofs.Early.{cut-Truncated}
-use Rattle.image_check.proofs.Filled.{HasFront-IsRight}
 use Rattle.image_check.proofs.Fronts.{IsRight, front-decided, front-wrong, has_front-IsRight}
 use Rattle.image_check.specs.Verdicts.{Shows}
+use Rattle.image_check.proofs.HandedBack.{whole-kept}
 use Rattle.image_check.proofs.ReadFormats.{format_of-few}
-use Rattle.image_check.proofs.Refused.{back-from, no-room, opened, shown-why, verified}
+use Rattle.image_check.proofs.Refused.{back-from, no-room, opens, shown-why, verified}
 use Rattle.image_check.proofs.Stopping.{front-early, more-decided}
 use Rattle.image_check.proofs.ToldPlaces.{front-shown}
 
@@ -138,22 +137,10 @@ not-placed format b region base mode refused n = record {
 
 -- ---- the format that it says
 
-format_in-few : (versions : AcceptedVersions) (b : List ℕ) → format_in versions b ≤ 2
+pub format_in-few : (versions : AcceptedVersions) (b : List ℕ) → format_in versions b ≤ 2
 unfolding current
 format_in-few Current b = omega arith
 format_in-few All b = format_of-few b
-
-module _ (versions : AcceptedVersions) (b region : List ℕ) (base : ℕ) (w : WindowState)
-    (h : IsImageRead (format_in versions b) (as_given b) region base w) (v : ℕ) (said : v ≡ version_word w.bytes) where
-  pub said-format : v ≡ format_in versions b
-  said-format = said ∙ eqb-true (version_word w.bytes) (format_in versions b)
-      (HasFront-IsRight (format_in versions b) w h.front).version
-
-  pub said-few : v ≤ 2
-  said-few = let same = said-format in let few = format_in-few versions b in omega arith
-
-  pub said-front : HasFront v w
-  said-front = subst (λ (f : ℕ). HasFront f w) (sym said-format) h.front
 
 -- ---- why no segment is opened
 
@@ -177,41 +164,45 @@ module _ (format : ℕ) (b region : List ℕ) (base : ℕ) (w : WindowState)
   as-long : length b ≡ size_word b
   as-long = sym (ap length h.bytes) ∙ sym h.front.says ∙ ap size_word h.bytes
 
-  pub opened-bytes : (mode : Mode) (s : SegmentState) → format ≡ current → IsImage format w.bytes
-      → SameSurroundings w s.cut
-      → UpgradesFormat format w.bytes s.cut.bytes → s.mode ≡ mode → OpensBytes format b region base mode (Ok s)
-  opened-bytes mode s now d place r f =
-      let o = opened format (as_given b) region base w h mode s now d place r f in
-      record { answers = o.answers; too_small = o.too_small }
-
-  pub refused-bytes : (mode : Mode) (why : ExamineError) (cause : OpenError) (back : List ℕ)
-      → IsWhyRefused format w.bytes why → cause ≡ error_for why → back ≡ whole w
-      → OpensBytes format b region base mode (Err (record { region = back; cause = cause }))
-  refused-bytes mode why cause back x e f = record {
+  refused-bytes : (mode : Mode) (e : OpenRefused) → OpensWindowErr format w e
+      → OpensBytes format b region base mode (Err e)
+  refused-bytes mode e o = record {
     answers = record {
-      why = subst (IsWhyNotOf format b base (length region)) (sym e) (why-not-of why x);
-      handed_back = back-from format (as_given b) region base w h back f;
+      why = subst (IsWhyNotOf format b base (length region)) (sym o.cause) (why-not-of o.why o.holds);
+      handed_back = back-from format (as_given b) region base w h e.region o.region;
       unwritten = λ other. absurd (other as-long);
     };
     too_small = λ t. absurd (no-room format (as_given b) region base w h t);
   }
 
+  pub opens-bytes : (mode : Mode) (r : Result SegmentState OpenRefused) → format ≡ current
+      → OpensWindow format w mode r → OpensBytes format b region base mode r
+  opens-bytes mode (Ok s) now o =
+      let x = opens format (as_given b) region base w h mode (Ok s) now o in
+      record { answers = x.answers; too_small = x.too_small }
+  opens-bytes mode (Err e) now o = refused-bytes mode e o
+
   -- a check of which no segment is made
-  pub not-examined-bytes : (why : ExamineError) (back : List ℕ) → IsWhyRefused format w.bytes why → back ≡ whole w
-      → ExaminesBytes format b region base (Err (record { region = back; cause = why }))
-  not-examined-bytes why back x f =
-      let opens = refused-bytes ReadOnly why (error_for why) back x refl f in
+  pub examines-bytes : (r : Result (List ℕ) ExamineRefused) → ExaminesWindow format w r
+      → ExaminesBytes format b region base r
+  examines-bytes (Ok back) o =
+      let v = verified format (as_given b) region base w h back o.0 o.1
+      in record { answers = v.answers; too_small = v.too_small; shown = tt }
+  examines-bytes (Err e) o =
+      let x = refused-bytes ReadOnly (opened_as e)
+      (record { why = e.cause; holds = o.0; cause = refl; region = o.1 }) in
       record {
-        answers = opens.answers;
-        too_small = opens.too_small;
-        shown = shown-why format (as_given b) region base w h why x;
+        answers = x.answers;
+        too_small = x.too_small;
+        shown = shown-why format (as_given b) region base w h e.cause o.0;
       }
 
-  pub examined-bytes : (back : List ℕ) → IsImage format w.bytes → back ≡ whole w
-      → ExaminesBytes format b region base (Ok back)
-  examined-bytes back d f =
-      let v = verified format (as_given b) region base w h back d f
-      in record { answers = v.answers; too_small = v.too_small; shown = tt }
+-- an image of the current format is not written where it is opened, nor where it is refused
+pub window-kept : (w : WindowState) (mode : Mode) (r : Result SegmentState OpenRefused) (region : List ℕ)
+    → whole w ≡ region → OpensWindow current w mode r
+    → MatchResult r (λ s. whole s.cut ≡ region) (λ refused. refused.region ≡ region)
+window-kept w mode (Ok s) region e o = whole-kept w s.cut o.place (o.upgrade.same refl) ∙ e
+window-kept w mode (Err refused) region e o = o.region ∙ e
 
 pub unplaced-bytes : (format : ℕ) (b region : List ℕ) (base : ℕ) (refused : ExamineRefused)
     → IsNotPlaced format b region base (opened_as refused)

@@ -2,29 +2,27 @@
 use Rattle.std.proofs.Common.{◌≡◌, refl, sym, ap, subst, ◌∙◌, inl, ℕ, ◌+◌, ◌≤◌, List, length, arith, Some, Ok, Err}
 use Rattle.raw_region.specs.Device.{ReadDelta}
 use Rattle.raw_region.specs.Format.{current}
-use Rattle.raw_region.specs.Memory.{WindowState, SameSurroundings, whole}
+use Rattle.raw_region.specs.Memory.{WindowState, whole}
 use Rattle.segment_manager.specs.declared.modes.Mode.{Mode}
 use Rattle.segment_manager.specs.declared.modes.Mode.TheVariants.{ReadOnly}
 use Rattle.segment_manager.specs.State.{SegmentState}
-use Rattle.image_check.specs.declared.errors.OpenError.{OpenError}
 use Rattle.image_check.specs.declared.errors.OpenRefused.{OpenRefused}
 use Rattle.image_check.specs.EarlyTests.{has_front, size_word}
 use Rattle.image_check.specs.Classes.{class_of}
 use Rattle.image_check.specs.Opening.{IsHandedBack, IsTooSmallFor, IsImage, IsOpenCause, Opens, Verifies}
 use Rattle.image_check.specs.Opening.{has_early_class}
-use Rattle.image_check.specs.Checking.{IsWhyRefused}
+use Rattle.image_check.specs.Checking.{ExaminesWindow, IsWhyRefused, OpensWindow, OpensWindowErr}
 use Rattle.image_check.specs.declared.errors.ExamineError.{ExamineError}
 use Rattle.image_check.specs.declared.errors.ExamineError.TheVariants.{Image, RegionTooSmall, OutOfMemory, ReadFault}
 use Rattle.image_check.specs.declared.errors.ExamineRefused.{ExamineRefused}
 use Rattle.image_check.specs.Causes.{IsShown, error_for, opened_as}
 use Rattle.image_check.specs.Examining.{Examines}
 use Rattle.image_check.specs.Verdicts.{Shows}
-use Rattle.image_check.specs.OpeningAny.{UpgradesFormat}
 use Rattle.image_check.specs.Reading.{IsImageRead, IsNotRead}
 use Rattle.image_check.specs.Passes.{IsRefusalFor, has_block}
 use Rattle.image_check.proofs.Filled.{HasFront-IsRight, HasFront-least}
 use Rattle.image_check.proofs.HandedBack.{written-back}
-use Rattle.std.specs.Prelude.{IsTrue, false}
+use Rattle.std.specs.Prelude.{IsTrue, Result, false}
 
 module _ (format : ℕ) (image : ReadDelta) (region : List ℕ) (base : ℕ) (w : WindowState)
     (h : IsImageRead format image region base w) where
@@ -70,31 +68,30 @@ module _ (format : ℕ) (image : ReadDelta) (region : List ℕ) (base : ℕ) (w 
       })
       says f
 
-  -- the answer of an opening
-  pub refused : (mode : Mode) (why : ExamineError) (cause : OpenError) (back : List ℕ)
-      → IsWhyRefused format w.bytes why → cause ≡ error_for why → back ≡ whole w
-      → Opens format image region base mode (Err (record { region = back; cause = cause }))
-  refused mode why cause back x e f = record {
+  -- the answer of an opening, from that of its window
+  pub refused : (mode : Mode) (e : OpenRefused) → OpensWindowErr format w e
+      → Opens format image region base mode (Err e)
+  refused mode e o = record {
     answers = record {
-      why = subst (IsOpenCause format image base (length region)) (sym e) (why-not why x);
-      handed_back = back-from back f;
+      why = subst (IsOpenCause format image base (length region)) (sym o.cause) (why-not o.why o.holds);
+      handed_back = back-from e.region o.region;
     };
     too_small = λ t. absurd (no-room t);
   }
 
-  -- a segment of its bytes
-  pub opened : (mode : Mode) (s : SegmentState) → format ≡ current → IsImage format w.bytes → SameSurroundings w s.cut
-      → UpgradesFormat format w.bytes s.cut.bytes → s.mode ≡ mode → Opens format image region base mode (Ok s)
-  opened mode s now d place r f = record {
+  pub opens : (mode : Mode) (r : Result SegmentState OpenRefused) → format ≡ current → OpensWindow format w mode r
+      → Opens format image region base mode r
+  opens mode (Ok s) now o = record {
     answers = record {
       read = h.read;
-      mode = f;
-      bytes = r.same now ∙ h.bytes;
-      place = record { before = place.before ∙ h.place.before; after = place.after ∙ h.place.after };
-      denotes = subst (IsImage format) h.bytes d;
+      mode = o.mode;
+      bytes = o.upgrade.same now ∙ h.bytes;
+      place = record { before = o.place.before ∙ h.place.before; after = o.place.after ∙ h.place.after };
+      denotes = subst (IsImage format) h.bytes o.image;
     };
     too_small = λ t. absurd (no-room t);
   }
+  opens mode (Err e) now o = refused mode e o
 
   -- a place that shows the class of the window shows that of what was read
   pub shown-why : (why : ExamineError) → IsWhyRefused format w.bytes why → IsShown format image.bytes why
@@ -104,13 +101,13 @@ module _ (format : ℕ) (image : ReadDelta) (region : List ℕ) (base : ℕ) (w 
   shown-why ReadFault x = tt
 
   -- the answers of a check of which no segment is made
-  pub not-examined : (why : ExamineError) (back : List ℕ) → IsWhyRefused format w.bytes why → back ≡ whole w
-      → Examines format image region base (Err (record { region = back; cause = why }))
-  not-examined why back x f =
-      let opens = refused ReadOnly why (error_for why) back x refl f in
+  pub not-examined : (e : ExamineRefused) → IsWhyRefused format w.bytes e.cause → e.region ≡ whole w
+      → Examines format image region base (Err e)
+  not-examined e x f =
+      let opens = refused ReadOnly (opened_as e) (record { why = e.cause; holds = x; cause = refl; region = f }) in
       record {
         verifies = record { answers = opens.answers; too_small = opens.too_small };
-        shown = shown-why why x;
+        shown = shown-why e.cause x;
       }
 
   pub verified : (back : List ℕ) → IsImage format w.bytes → back ≡ whole w → Verifies format image region base (Ok back)
@@ -129,8 +126,10 @@ module _ (format : ℕ) (image : ReadDelta) (region : List ℕ) (base : ℕ) (w 
     too_small = no-room;
   }
 
-  pub examined : (back : List ℕ) → IsImage format w.bytes → back ≡ whole w → Examines format image region base (Ok back)
-  examined back d f = record { verifies = verified back d f; shown = tt }
+  pub examines : (r : Result (List ℕ) ExamineRefused) → ExaminesWindow format w r
+      → Examines format image region base r
+  examines (Ok back) o = record { verifies = verified back o.0 o.1; shown = tt }
+  examines (Err e) o = not-examined e o.0 o.1
 
 -- one that was not read
 pub unread-opens : (format : ℕ) (image : ReadDelta) (region : List ℕ) (base : ℕ) (mode : Mode)

@@ -1,11 +1,11 @@
 -- An image of an older format whose tags and free tree are made those of the current one, and then its version.
-use Rattle.std.proofs.Common.{◌≡◌, refl, sym, subst, ◌∙◌, ℕ, zero, suc, ◌<◌, ◌≤◌, ◌⊎◌, inl, inr, List, [], length}
-use Rattle.std.proofs.Common.{arith}
+use Rattle.std.proofs.Common.{◌≡◌, ◌≢◌, ap, refl, sym, subst, ◌∙◌, ℕ, zero, suc, ◌<◌, ◌≤◌, ◌⊎◌, inl, inr, List, []}
+use Rattle.std.proofs.Common.{length, arith}
 use Rattle.std.specs.Prelude.{IsTrue}
 use Rattle.std.specs.List.{AllByRecursion}
-use Rattle.std.proofs.lemmas.Bool.{cases_lt}
+use Rattle.std.proofs.lemmas.Bool.{cases_eq, cases_lt}
 use Rattle.raw_region.specs.Memory.{AreZero, WindowState, Memory, SameBytes, SameBytesExcept, bytes_of, half_word_at}
-use Rattle.raw_region.specs.Memory.{word_at}
+use Rattle.raw_region.specs.Memory.{SameSurroundings, word_at}
 use Rattle.raw_region.specs.Format.{current}
 use Rattle.raw_region.proofs.Laws.{SameBytes-half_word, SameBytes-part}
 use Rattle.block_tags.specs.Format.{is_legal_size}
@@ -210,6 +210,41 @@ renewed-same b image = record {
   version = λ e. absurd (omega arith);
   replanted = λ e. absurd (omega arith);
 }
+
+-- from each format
+pub upgraded : (format : ℕ) (old mid new : WindowState) → format ≤ 2 → IsImage format old.bytes
+    → RebuildsFreeTree current old mid → (0 < format → mid ≡ old) → (format ≡ 2 → new ≡ mid)
+    → (format ≢ 2 → ChangesBytes current mid new 8 8) → (format ≢ 2 → word_at (bytes_of new.bytes) 8 ≡ 2)
+    → UpgradesFormat format old.bytes new.bytes
+unfolding current
+upgraded format old mid new few image r same stays changes word = elim (cases_eq format 2) [
+  | inl two ↦
+      subst (λ (v : WindowState). UpgradesFormat format old.bytes v.bytes) (sym (stays two ∙ same (omega arith)))
+      (subst (λ (f : ℕ). UpgradesFormat f old.bytes old.bytes) (sym two)
+      (renewed-same old.bytes (subst (λ (f : ℕ). IsImage f old.bytes) two image)))
+  | inr n ↦ renewed format old mid new few image r (changes n) (word n) same n
+]
+
+-- with the same blocks
+pub upgraded-live : (format : ℕ) (old mid new : WindowState) → RebuildsFreeTree current old mid
+    → (format ≡ 2 → new ≡ mid) → (format ≢ 2 → ChangesBytes current mid new 8 8)
+    → live_of new.bytes ≡ live_of old.bytes
+upgraded-live format old mid new r stays changes =
+    (elim (cases_eq format 2) [
+      | inl two ↦ ap (λ (v : WindowState). live_of v.bytes) (stays two)
+      | inr n ↦ lay_out_one current new.bytes (live_of mid.bytes) (changes n).live
+    ]) ∙ lay_out_one current mid.bytes (live_of old.bytes) r.live
+
+-- in the same place
+pub upgraded-place : (format : ℕ) (old mid new : WindowState) → RebuildsFreeTree current old mid
+    → (format ≡ 2 → new ≡ mid) → (format ≢ 2 → ChangesBytes current mid new 8 8) → SameSurroundings old new
+upgraded-place format old mid new r stays changes = elim (cases_eq format 2) [
+  | inl two ↦ subst (SameSurroundings old) (sym (stays two)) r.keeps.place
+  | inr n ↦
+      let first = r.keeps.place in
+      let then = (changes n).place in
+      record { before = then.before ∙ first.before; after = then.after ∙ first.after }
+]
 
 -- ---- the laws
 

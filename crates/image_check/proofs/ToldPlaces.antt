@@ -98,13 +98,6 @@ module _ (w : WindowState) (old mid new ws : List ℕ) (n : ℕ) (is : n ≡ len
   whole-shown (Err (OutOfMemory refusal)) g s = λ format h start e. tt
   whole-shown (Err ReadFault) g s = λ format h start e. tt
 
--- as many bytes came as are taken
-pub took-length : (old new xs : List ℕ) (n : ℕ) → n ≤ length xs → new ≡ old ++ take n xs → length new - length old ≡ n
-took-length old new xs n l e =
-    let all = ap length e ∙ length-append old (take n xs) in
-    let cut = length-take-le n xs l in
-    omega arith
-
 -- what is so of a cause without its place
 pub err-in : {A : Type 0} (Q : OpenError → Type 0) (r : Result A ExamineError)
     → IfErr r (λ cause. Q (error_for cause)) → IfErr (error_in r) Q

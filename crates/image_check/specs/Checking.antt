@@ -1,19 +1,23 @@
 -- What the check of an image that stands in its window finds.
-use Rattle.std.specs.Prelude.{◌≡◌, ℕ, Bool, false, Option, Some, None, List, IsTrue, if◌then◌else◌}
-use Rattle.raw_region.specs.Memory.{Memory}
+use Rattle.std.specs.Prelude.{◌≡◌, ℕ, Bool, false, Option, Some, None, List, IsTrue, if◌then◌else◌, MatchResult, Result}
+use Rattle.raw_region.specs.Memory.{Memory, SameSurroundings, WindowState, whole}
 use Rattle.block_tags.specs.declared.tile.Tile.{Tile}
 use Rattle.image_check.specs.declared.classes.ImageClass.{ImageClass}
 use Rattle.image_check.specs.declared.classes.ImageClass.TheVariants.{BadIndex, BadObject, SharedBlock, BadContainer}
 use Rattle.image_check.specs.declared.classes.ImageClass.TheVariants.{OrphanBlock}
 use Rattle.image_check.specs.ObjectTests.{has_indexes, has_objects}
 use Rattle.image_check.specs.Fields.{is_shared, is_orphaned, has_containers}
-use Rattle.best_fit.specs.BlockHints.{LeadToBlocks}
-use Rattle.best_fit.specs.declared.block_hints.BlockHints.{BlockHints}
 use Rattle.image_check.specs.Owners.{Blocks, entries_of, frames}
 use Rattle.image_check.specs.Passes.{CountsTiles, HasTiles, IsRefusalFor, Spends, tiles_in, has_block}
 use Rattle.image_check.specs.declared.errors.ExamineError.{ExamineError}
 use Rattle.image_check.specs.declared.errors.ExamineError.TheVariants.{Image, RegionTooSmall, OutOfMemory, ReadFault}
+use Rattle.image_check.specs.declared.errors.ExamineRefused.{ExamineRefused}
+use Rattle.image_check.specs.declared.errors.OpenRefused.{OpenRefused}
+use Rattle.segment_manager.specs.declared.modes.Mode.{Mode}
+use Rattle.segment_manager.specs.State.{SegmentState}
+use Rattle.image_check.specs.Causes.{error_for}
 use Rattle.image_check.specs.Opening.{IsImage, has_early_class}
+use Rattle.image_check.specs.OpeningAny.{UpgradesFormat}
 use Rattle.image_check.specs.Verdicts.{IsVerdict}
 use Rattle.image_check.specs.Visits.{all_rates}
 
@@ -38,14 +42,34 @@ IsWhyRefused format b (OutOfMemory refusal) =
 IsWhyRefused format b RegionTooSmall = ⊥
 IsWhyRefused format b ReadFault = ⊥
 
--- it denotes a directory, and the way-points lead to its blocks
-pub record IsImageNoted (format : ℕ) (b : List ℕ) (points : BlockHints) : Type 0 where
-  pub image : IsImage format b
-  pub lead : LeadToBlocks points b
-
 -- all passes over an image went well: the map has its blocks, and they spent no more than they may
 pub record PassesImage (b : List ℕ) (es : Blocks) (old new : ℕ) : Type 0 where
   pub tiles : HasTiles b
   pub frame : frames es ≡ frames (entries_of (tiles_in b))
   pub spent : Spends all_rates 115 b old new
   pub counted : CountsTiles b old new
+
+-- ---- an image in its window
+
+-- it denotes a directory, and the segment that stands in the window's place has it by the current format
+pub record OpensWindowOk (format : ℕ) (w : WindowState) (how : Mode) (s : SegmentState) : Type 0 where
+  pub image : IsImage format w.bytes
+  pub place : SameSurroundings w s.cut
+  pub upgrade : UpgradesFormat format w.bytes s.cut.bytes
+  pub mode : s.mode ≡ how
+
+-- it is refused, and its region comes back as it was
+pub record OpensWindowErr (format : ℕ) (w : WindowState) (refused : OpenRefused) : Type 0 where
+  pub why : ExamineError
+  pub holds : IsWhyRefused format w.bytes why
+  pub cause : refused.cause ≡ error_for why
+  pub region : refused.region ≡ whole w
+
+-- the call opens the image, or refuses it
+abbrev pub OpensWindow : ℕ → WindowState → Mode → Result SegmentState OpenRefused → Type 0
+OpensWindow format w mode result = MatchResult result (OpensWindowOk format w mode) (OpensWindowErr format w)
+
+-- the call tells whether the image denotes a directory; the region comes back as it was
+abbrev pub ExaminesWindow : ℕ → WindowState → Result (List ℕ) ExamineRefused → Type 0
+ExaminesWindow format w result = MatchResult result (λ region. IsImage format w.bytes × (region ≡ whole w))
+    (λ refused. IsWhyRefused format w.bytes refused.cause × (refused.region ≡ whole w))

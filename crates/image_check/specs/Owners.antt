@@ -8,6 +8,8 @@ use Rattle.offset_link.specs.Link.{link_at}
 use Rattle.block_tags.specs.declared.tile.Role.{Role}
 use Rattle.block_tags.specs.declared.tile.Role.TheVariants.{Object, Index, Storage, Node}
 use Rattle.block_tags.specs.declared.tile.Tile.{Tile}
+use Rattle.best_fit.specs.Extents.{LiveSet}
+use Rattle.best_fit.specs.Heap.{is_live_in}
 use Rattle.best_fit.specs.Table.{same_role}
 use Rattle.image_check.specs.declared.owners.Block.{Block}
 use Rattle.image_check.specs.declared.owners.Owner.{Owner}
@@ -65,6 +67,10 @@ pub record IsBlockAt (es : Blocks) (n : ℕ) (role : Role) (t : Tile) : Type 0 w
 pub record AreBlocks (ts : List Tile) (es : Blocks) : Type 0 where
   pub tiles : (n : ℕ) (b : Block) → block_at es n ≡ Some b → IsTileAt ts n b
   pub blocks : (n : ℕ) (role : Role) (t : Tile) → tile_of ts role n ≡ Some t → IsBlockAt es n role t
+
+-- each is a block of the live set
+abbrev pub AreBlocksIn : LiveSet → Blocks → Type 0
+AreBlocksIn live es = (n : ℕ) (b : Block) → block_at es n ≡ Some b → IsTrue (is_live_in live n)
 
 -- The visits that the links behind a block may take once a link is met to lead to it: six for a node, and three for
 -- each 16 bytes of storage.
@@ -202,7 +208,7 @@ pub record MarksLink (format : ℕ) (m : Memory) (ts : List Tile) (now : Option 
   -- what is due for storage that was met first is taken off
   pub paid : role ≡ Storage → (target : ℕ) (t : Tile) → link_at m link.at ≡ Some target
       → tile_of ts Storage target ≡ Some t → owner_at old target ≡ None
-      → 6 * waiting + debt es + 3 * (t.len / 16) ≤ 6 * waited + unspent_budget old
+      → 6 * waiting + unspent_budget es + 3 * (t.len / 16) ≤ 6 * waited + unspent_budget old
 
 -- ---- of an image
 

@@ -51,7 +51,7 @@ pub record IsStorageNoted (format : ℕ) (b : List ℕ) (at : ℕ) (old : Blocks
   pub noted : 0 < word_at (bytes_of b) (at + 16) → IsMarkedLink (bytes_of b) (tiles_in b) es Storage at at
   pub paid : 0 < word_at (bytes_of b) (at + 16) → (target : ℕ) (t : Tile) → link_at (bytes_of b) at ≡ Some target
       → tile_of (tiles_in b) Storage target ≡ Some t → owner_at old target ≡ None
-      → 6 * waiting + debt es + 3 * (t.len / 16) ≤ 6 * waited + unspent_budget old
+      → 6 * waiting + unspent_budget es + 3 * (t.len / 16) ≤ 6 * waited + unspent_budget old
 
 -- ---- elements
 

@@ -1,8 +1,8 @@
 //! Whether a whole image is that of a directory.
-ghost use Rattle.std.specs.Prelude.{◌≡◌, ◌≤◌, IfErr, IfOk, IsTrue, None, Some, MatchResult, OnErr, OnOk};
+ghost use Rattle.std.specs.Prelude.{◌≡◌, ◌≤◌, ℕ, IfErr, IfOk, IsTrue, None, Some, MatchResult, OnErr, OnOk};
 ghost use Rattle.std.specs.Prelude.{false, length, true};
 ghost use Rattle.image_check.specs.Causes.{error_for};
-ghost use Rattle.image_check.specs.Checking.{PassesImage, IsImageNoted, IsWhyRefused};
+ghost use Rattle.image_check.specs.Checking.{ExaminesWindow, IsWhyRefused, OpensWindow, PassesImage};
 ghost use Rattle.raw_region.specs.Memory.{are_bytes};
 ghost use Rattle.image_check.specs.Counting.{AreCounted};
 ghost use Rattle.image_check.specs.EarlyTests.{has_reserved as is_reserved};
@@ -22,127 +22,88 @@ use crate::block_collection::collect_blocks;
 use crate::classes::ImageClass;
 use crate::containers::check_containers;
 use crate::counting::Counts;
-use crate::errors::ExamineError;
+use crate::errors::{ExamineError, ExamineRefused, OpenRefused};
 use crate::free_tree::check_gaps;
 use crate::image_window::ImageWindow;
 use crate::indexes::check_indexes;
-use crate::noting::note_blocks;
 use crate::object_walk::check_objects;
 use crate::orphans::check_orphans;
 use crate::owners::Owners;
 use crate::shared_blocks::check_sharing;
 use crate::verdict::{Offset, Verdict};
-use best_fit::{BlockHints, FREE_TREE_ROOT};
+use best_fit::FREE_TREE_ROOT;
 use block_tags::HEADER_LEN;
-use raw_region::Steps;
+use raw_region::{RawRegion, Steps};
 use segment_manager::layout::{FORMAT_AT, RESERVED_AT};
+use segment_manager::{Mode, Segment};
 use std::alloc::Global;
 use std::mem;
 pub(crate) use visit_counter::VisitCounter;
 
-/// Whether a window whose first words are right by a format, from 0 to 2, is the image of a directory by it. A visit is
-/// a step: where it is, or a class from `BadIndex` on holds, there is at least one for each tile.
+/// Opens the image that its window has, whose first words are right by a format from 0 to 2. A visit is a step: if a
+/// segment is answered, or a class from `BadIndex` on, there is at least one for each tile.
 ///
 /// # Errors
 ///
 /// The first class that holds. `OutOfMemory` only where none of the classes before `BadIndex` holds and a tile is in
-/// use.
-pub fn check(
-    format: u64,
+/// use. The region comes back as it was.
+pub fn open_window(
     alloc: Global,
-    window: &ImageWindow,
+    window: ImageWindow,
+    mode: Mode,
     steps: &mut Steps,
-) -> Result<(), ExamineError>
-    requires format { format ≤ 2 }
-    requires front { HasFront format window.now }
-    ensures outcome { MatchResult result (λ done.
-        IsImage format window.now.bytes) (IsWhyRefused format window.now.bytes) }
-    ensures steps { IsRaisedFor (length window.now.bytes) steps.old steps.new }
-    ensures tiles { OnOk result (CountsTiles window.now.bytes steps.old steps.new) }
-    ensures visits_on_error { IfErr result (λ cause. is_late (error_for cause) ≡ true
-        → CountsTiles window.now.bytes steps.old steps.new) }
+) -> Result<Segment, OpenRefused>
+    requires { (format : ℕ) × HasFront format window × (format ≤ 2) }
+    ensures opening { (format : ℕ) → HasFront format window → OpensWindow format window mode result }
+    ensures steps { IsRaisedFor (length window.bytes) steps.old steps.new }
+    ensures tiles { OnOk result (CountsTiles window.bytes steps.old steps.new) }
+    ensures blocks { OnOk result (CountsBlocks window.bytes steps.old steps.new) }
+    ensures visits_on_error { IfErr result (λ refused. is_late refused.cause ≡ true
+        → CountsTiles window.bytes steps.old steps.new) }
 {
+    let format = window.version();
     let mut visits = VisitCounter::new(mem::replace(steps, Steps::new()));
-    let checked = check_counted(format, alloc, window, &mut visits);
-    *steps = visits.into_steps();
-    checked
-}
-
-/// As [`check`], with way-points to the blocks in use of the image that was checked. One visit more for each of them.
-///
-/// # Errors
-///
-/// As [`check`].
-pub fn check_noting(
-    format: u64,
-    alloc: Global,
-    window: &ImageWindow,
-    steps: &mut Steps,
-) -> Result<BlockHints, ExamineError>
-    requires format { format ≤ 2 }
-    requires front { HasFront format window.now }
-    ensures outcome { MatchResult result (IsImageNoted format window.now.bytes) (IsWhyRefused format window.now.bytes) }
-    ensures steps { IsRaisedFor (length window.now.bytes) steps.old steps.new }
-    ensures tiles { OnOk result (CountsTiles window.now.bytes steps.old steps.new) }
-    ensures blocks { OnOk result (CountsBlocks window.now.bytes steps.old steps.new) }
-    ensures visits_on_error { IfErr result (λ cause. is_late (error_for cause) ≡ true
-        → CountsTiles window.now.bytes steps.old steps.new) }
-{
-    let mut visits = VisitCounter::new(mem::replace(steps, Steps::new()));
-    let noted = note_counted(format, alloc, window, &mut visits);
-    *steps = visits.into_steps();
-    noted
-}
-
-/// As [`check`], where each visit is counted.
-///
-/// # Errors
-///
-/// As [`check`].
-fn check_counted(
-    format: u64,
-    alloc: Global,
-    window: &ImageWindow,
-    visits: &mut VisitCounter,
-) -> Result<(), ExamineError>
-    requires format { format ≤ 2 }
-    requires front { HasFront format window.now }
-    ensures outcome { MatchResult result (λ done.
-        IsImage format window.now.bytes) (IsWhyRefused format window.now.bytes) }
-    ensures visits { IsRaisedFor (length window.now.bytes) visits.old visits.new }
-    ensures tiles { OnOk result (CountsTiles window.now.bytes visits.old visits.new) }
-    ensures visits_on_error { IfErr result (λ cause. is_late (error_for cause) ≡ true
-        → CountsTiles window.now.bytes visits.old visits.new) }
-{
-    match pass_all(format, alloc, window, visits) {
-        Ok(_) => Ok(()),
-        Err(why) => Err(why),
+    match pass_all(format, alloc, &window, &mut visits) {
+        Ok(owners) => {
+            let segment = window.into_segment(format, &owners.blocks, mode, &mut visits);
+            *steps = visits.into_steps();
+            Ok(segment)
+        }
+        Err(cause) => {
+            *steps = visits.into_steps();
+            Err(OpenRefused {
+                region: window.into_region(),
+                cause: cause.into_error(),
+            })
+        }
     }
 }
 
-/// As [`check_noting`], where each visit is counted.
+/// Checks the image that its window has, as [`open_window`] does, and makes no segment of it.
 ///
 /// # Errors
 ///
-/// As [`check`].
-fn note_counted(
-    format: u64,
+/// As [`open_window`], and a class with the place that shows it.
+pub fn examine_window(
     alloc: Global,
-    window: &ImageWindow,
-    visits: &mut VisitCounter,
-) -> Result<BlockHints, ExamineError>
-    requires format { format ≤ 2 }
-    requires front { HasFront format window.now }
-    ensures outcome { MatchResult result (IsImageNoted format window.now.bytes) (IsWhyRefused format window.now.bytes) }
-    ensures visits { IsRaisedFor (length window.now.bytes) visits.old visits.new }
-    ensures tiles { OnOk result (CountsTiles window.now.bytes visits.old visits.new) }
-    ensures blocks { OnOk result (CountsBlocks window.now.bytes visits.old visits.new) }
-    ensures visits_on_error { IfErr result (λ cause. is_late (error_for cause) ≡ true
-        → CountsTiles window.now.bytes visits.old visits.new) }
+    window: ImageWindow,
+    steps: &mut Steps,
+) -> Result<RawRegion, ExamineRefused>
+    requires { (format : ℕ) × HasFront format window × (format ≤ 2) }
+    ensures examination { (format : ℕ) → HasFront format window → ExaminesWindow format window result }
+    ensures steps { IsRaisedFor (length window.bytes) steps.old steps.new }
+    ensures tiles { OnOk result (CountsTiles window.bytes steps.old steps.new) }
+    ensures visits_on_error { IfErr result (λ refused. is_late (error_for refused.cause) ≡ true
+        → CountsTiles window.bytes steps.old steps.new) }
 {
-    match pass_all(format, alloc, window, visits) {
-        Ok(owners) => Ok(note_blocks(&owners.blocks, visits)),
-        Err(why) => Err(why),
+    let format = window.version();
+    let mut visits = VisitCounter::new(mem::replace(steps, Steps::new()));
+    let checked = pass_all(format, alloc, &window, &mut visits);
+    *steps = visits.into_steps();
+    let region = window.into_region();
+    match checked {
+        Ok(_) => Ok(region),
+        Err(cause) => Err(ExamineRefused { region, cause }),
     }
 }
 
@@ -150,7 +111,7 @@ fn note_counted(
 ///
 /// # Errors
 ///
-/// As [`check`].
+/// As [`open_window`].
 fn pass_all(
     format: u64,
     alloc: Global,

@@ -8,12 +8,11 @@ ghost use Rattle.image_check.specs.Opening.{AsksToTheEnd, IsRaisedFor, ReadsFron
 ghost use Rattle.image_check.specs.Opening.{is_late, size_or_least};
 ghost use Rattle.image_check.specs.Passes.{CountsTiles};
 
-use crate::checking::check;
+use crate::checking::examine_window;
 use crate::errors::ExamineRefused;
 use crate::image_read::read_image;
 use crate::versions::AcceptedVersions;
 use raw_region::{RawRegion, Source, Steps};
-use segment_manager::layout::FORMAT;
 use std::alloc::Global;
 
 /// Reads an image into the region, from `base` on, which is a multiple of 16, and tells whether it denotes a directory.
@@ -48,11 +47,5 @@ pub fn examine<S: Source>(
         → CountsTiles (read_delta (S.history reader.old) (S.history reader.new)).bytes steps.old steps.new) }
 {
     let window = read_image(AcceptedVersions::Current, reader, region, base)?;
-    match check(FORMAT, alloc, &window, steps) {
-        Ok(()) => Ok(window.into_region()),
-        Err(cause) => Err(ExamineRefused {
-            region: window.into_region(),
-            cause,
-        }),
-    }
+    examine_window(alloc, window, steps)
 }

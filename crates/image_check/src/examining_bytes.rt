@@ -6,11 +6,10 @@ ghost use Rattle.image_check.specs.Formats.{format_in};
 ghost use Rattle.image_check.specs.Opening.{IsRaisedFor, is_late, size_or_least};
 ghost use Rattle.image_check.specs.Passes.{CountsTiles};
 
-use crate::checking::check;
+use crate::checking::examine_window;
 use crate::errors::ExamineRefused;
-use crate::header::FRONT;
 use crate::image_copy::copy_image;
-use crate::versions::{AcceptedVersions, version_in};
+use crate::versions::AcceptedVersions;
 use raw_region::{RawRegion, Steps};
 use std::alloc::Global;
 
@@ -38,12 +37,5 @@ pub fn examine_bytes(
         → CountsTiles image.now steps.old steps.new) }
 {
     let window = copy_image(versions, image, region, base)?;
-    let format = version_in(window.header(0, FRONT as u64));
-    match check(format, alloc, &window, steps) {
-        Ok(()) => Ok(window.into_region()),
-        Err(cause) => Err(ExamineRefused {
-            region: window.into_region(),
-            cause,
-        }),
-    }
+    examine_window(alloc, window, steps)
 }

@@ -6,12 +6,11 @@ ghost use Rattle.image_check.specs.Opening.{AsksToTheEnd, IsRaisedFor, Opens, Re
 ghost use Rattle.image_check.specs.Opening.{is_late, size_or_least};
 ghost use Rattle.image_check.specs.Passes.{CountsBlocks, CountsTiles};
 
-use crate::checking::check_noting;
+use crate::checking::open_window;
 use crate::errors::OpenRefused;
 use crate::image_read::read_image;
 use crate::versions::AcceptedVersions;
 use raw_region::{RawRegion, Source, Steps};
-use segment_manager::layout::FORMAT;
 use segment_manager::{Mode, Segment};
 use std::alloc::Global;
 
@@ -51,15 +50,8 @@ pub fn open<S: Source>(
     ensures visits_on_error { IfErr result (λ refused. is_late refused.cause ≡ true
         → CountsTiles (read_delta (S.history reader.old) (S.history reader.new)).bytes steps.old steps.new) }
 {
-    let window = match read_image(AcceptedVersions::Current, reader, region, base) {
-        Ok(window) => window,
-        Err(refused) => return Err(refused.into_opened()),
-    };
-    match check_noting(FORMAT, alloc, &window, steps) {
-        Ok(points) => Ok(window.into_segment(FORMAT, points, mode)),
-        Err(cause) => Err(OpenRefused {
-            region: window.into_region(),
-            cause: cause.into_error(),
-        }),
+    match read_image(AcceptedVersions::Current, reader, region, base) {
+        Ok(window) => open_window(alloc, window, mode, steps),
+        Err(refused) => Err(refused.into_opened()),
     }
 }

@@ -11,6 +11,7 @@ ghost use Rattle.block_tags.specs.Lists.{first_in, next_in};
 ghost use Rattle.block_tags.specs.Tiles.{has_tags};
 ghost use Rattle.block_tags.specs.Windows.{HasTileAt, IsTiledWindow, EncodesTiles};
 ghost use Rattle.block_tags.specs.declared.tile.Tile.{Tile as ATile};
+ghost use Rattle.image_check.specs.Formats.{version_word};
 ghost use Rattle.image_check.specs.HeaderPlaces.{IsFirstFilled};
 
 mod blocks;
@@ -20,6 +21,8 @@ mod places;
 mod renewing;
 
 use crate::checking::VisitCounter;
+use crate::header::FRONT;
+use crate::versions::version_in;
 use block_tags::{CheckedTags, Tile, check_counted, first, next};
 pub(crate) use blocks::BlockTable;
 pub(crate) use objects::{Object, Value};
@@ -112,14 +115,12 @@ impl ImageWindow {
         checked(&self.window, at)
     }
 
-    /// The `len` bytes of the header from `from` on.
-    pub fn header(&self, from: u64, len: u64) -> &[u8]
-        requires header { from + len ≤ 128 }
-        requires in_bounds { from + len ≤ length self.now.bytes }
-        ensures bytes { result.now ≡ part self.now.bytes from len }
-        ensures len { length result.now ≡ len }
+    /// The version that the first bytes say.
+    pub fn version(&self) -> u64
+        requires { 24 ≤ length self.now.bytes }
+        ensures { result ≡ version_word self.now.bytes }
     {
-        self.window.bytes(from, len)
+        version_in(self.bytes(0, FRONT as u64))
     }
 
     /// The number in the 8 bytes of the header at `at`.

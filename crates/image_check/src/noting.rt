@@ -1,24 +1,23 @@
-//! The way-points of a segment, from the map of the blocks of its image.
-ghost use Rattle.std.specs.Prelude.{◌≡◌, ◌+◌, ℕ, List, length};
-ghost use Rattle.best_fit.specs.BlockHints.{LeadToBlocks};
-ghost use Rattle.image_check.specs.Owners.{AreBlocks};
-ghost use Rattle.image_check.specs.Passes.{tiles_in};
+//! The way-points of a heap, from the map of the blocks of an image.
+ghost use Rattle.std.specs.Prelude.{◌≡◌, ◌+◌, length};
+ghost use Rattle.best_fit.specs.Heap.{live_of};
+ghost use Rattle.image_check.specs.Owners.{AreBlocksIn};
 
 use crate::checking::VisitCounter;
 use crate::image_window::BlockTable;
-use best_fit::BlockHints;
+use best_fit::Heap;
 
-/// Way-points to the blocks in use. One visit for each; no tag is read.
-pub(crate) fn note_blocks(blocks: &BlockTable, visits: &mut VisitCounter) -> BlockHints
-    ensures points { (b : List ℕ) → AreBlocks (tiles_in b) blocks.now.entries → LeadToBlocks result b }
+/// Notes each block in use as a way-point of a heap that has them. One visit for each; no tag is read, and no byte
+/// changes.
+pub(crate) fn note_blocks(blocks: &BlockTable, heap: &mut Heap, visits: &mut VisitCounter)
+    requires { AreBlocksIn (live_of heap.old.bytes) blocks.now.entries }
+    ensures unchanged { heap.new ≡ heap.old }
     ensures visits { visits.new ≡ visits.old + length blocks.now.entries }
 {
-    let mut points = BlockHints::none();
     let mut number = 0;
     'rows: while number < blocks.len() {
         let (payload, _) = blocks.row(number, visits);
-        points.insert(payload as u64);
+        heap.insert_hint(payload as u64);
         number += 1;
     }
-    points
 }

@@ -6,11 +6,10 @@ ghost use Rattle.image_check.specs.Opening.{is_late, size_or_least};
 ghost use Rattle.image_check.specs.OpeningAny.{OpensAny};
 ghost use Rattle.image_check.specs.Passes.{CountsBlocks, CountsTiles};
 
-use crate::checking::check_noting;
+use crate::checking::open_window;
 use crate::errors::OpenRefused;
-use crate::header::FRONT;
 use crate::image_read::read_image;
-use crate::versions::{AcceptedVersions, version_in};
+use crate::versions::AcceptedVersions;
 use raw_region::{RawRegion, Source, Steps};
 use segment_manager::{Mode, Segment};
 use std::alloc::Global;
@@ -48,16 +47,8 @@ pub fn open_any<S: Source>(
     ensures visits_on_error { IfErr result (λ refused. is_late refused.cause ≡ true
         → CountsTiles (read_delta (S.history reader.old) (S.history reader.new)).bytes steps.old steps.new) }
 {
-    let window = match read_image(AcceptedVersions::All, reader, region, base) {
-        Ok(window) => window,
-        Err(refused) => return Err(refused.into_opened()),
-    };
-    let format = version_in(window.header(0, FRONT as u64));
-    match check_noting(format, alloc, &window, steps) {
-        Ok(points) => Ok(window.into_segment(format, points, mode)),
-        Err(cause) => Err(OpenRefused {
-            region: window.into_region(),
-            cause: cause.into_error(),
-        }),
+    match read_image(AcceptedVersions::All, reader, region, base) {
+        Ok(window) => open_window(alloc, window, mode, steps),
+        Err(refused) => Err(refused.into_opened()),
     }
 }

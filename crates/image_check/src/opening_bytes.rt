@@ -5,12 +5,11 @@ ghost use Rattle.image_check.specs.Opening.{IsRaisedFor, is_late, size_or_least}
 ghost use Rattle.image_check.specs.OpeningBytes.{OpensBytes};
 ghost use Rattle.image_check.specs.Passes.{CountsBlocks, CountsTiles};
 
-use crate::checking::check_noting;
+use crate::checking::open_window;
 use crate::errors::OpenRefused;
 use crate::image_copy::copy_image;
 use crate::versions::AcceptedVersions;
 use raw_region::{RawRegion, Steps};
-use segment_manager::layout::FORMAT;
 use segment_manager::{Mode, Segment};
 use std::alloc::Global;
 
@@ -42,15 +41,8 @@ pub fn open_bytes(
     ensures visits_on_error { IfErr result (λ refused. is_late refused.cause ≡ true
         → CountsTiles image.now steps.old steps.new) }
 {
-    let window = match copy_image(AcceptedVersions::Current, image, region, base) {
-        Ok(window) => window,
-        Err(refused) => return Err(refused.into_opened()),
-    };
-    match check_noting(FORMAT, alloc, &window, steps) {
-        Ok(points) => Ok(window.into_segment(FORMAT, points, mode)),
-        Err(cause) => Err(OpenRefused {
-            region: window.into_region(),
-            cause: cause.into_error(),
-        }),
+    match copy_image(AcceptedVersions::Current, image, region, base) {
+        Ok(window) => open_window(alloc, window, mode, steps),
+        Err(refused) => Err(refused.into_opened()),
     }
 }

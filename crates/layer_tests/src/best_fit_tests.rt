@@ -11,7 +11,7 @@ use std::alloc::Global;
 use std::process::Abort;
 use std::test::Fail;
 
-/// A heap with no block.
+/// Makes a heap with no block.
 fn empty(alloc: Global) -> Result<Heap, Fail> {
     Ok(Heap::fresh(Window::new(RawRegion::new(alloc, 1024)?, 0, 1024)))
 }
@@ -40,7 +40,7 @@ enum Step {
     Extends(u64, u64, bool),
     /// A block is shortened to so many bytes, and has so much room then.
     Shrinks(u64, u64, u64),
-    /// So many bytes are free, and so many blocks are in use.
+    /// Checks that so many bytes are free, and so many blocks are in use.
     HasFree(u64, u64),
 }
 
@@ -56,7 +56,7 @@ fn play(rt: &impl Abort, heap: &mut Heap, step: Step) {
     }
 }
 
-/// A heap behind some steps.
+/// Returns a heap after some steps.
 fn played<R: Abort + AllocGlobal>(rt: &R, steps: &[Step]) -> Heap {
     let region = done(rt, RawRegion::new(rt.alloc(), 1024));
     let mut heap = Heap::fresh(Window::new(region, 0, 1024));
@@ -85,13 +85,13 @@ fn shrinks(rt: &impl Abort, heap: &mut Heap, handle: u64, n: u64, room: u64) {
     has_just(rt, heap, handle, room);
 }
 
-/// A block has room for just so many bytes.
+/// Checks that a block has room for just so many bytes.
 fn has_just(rt: &impl Abort, heap: &Heap, handle: u64, room: u64) {
     holds(rt, heap.is_live(handle));
     same(rt, heap.room(handle), room);
 }
 
-/// So many bytes are free, and so many blocks are in use.
+/// Checks that so many bytes are free, and so many blocks are in use.
 fn has_free(rt: &impl Abort, heap: &Heap, free: u64, blocks: u64) {
     same(rt, heap.free_bytes(), free);
     same(rt, heap.live_count(), blocks);
@@ -103,20 +103,20 @@ fn fills(rt: &impl Abort, heap: &mut Heap, handle: u64, byte: u8) {
     heap.block_mut(handle).fill(byte);
 }
 
-/// A block of a role has these bytes at its end.
+/// Checks that a block of a role has these bytes at its end.
 fn ends_with(rt: &impl Abort, heap: &Heap, handle: u64, role: Role, bytes: &[u8]) {
     holds(rt, heap.is_live(handle));
     same(rt, heap.role(handle), role);
     holds(rt, heap.block(handle).ends_with(bytes));
 }
 
-/// A node block is red or not.
+/// Checks that a node block is red or not.
 fn is_red(rt: &impl Abort, heap: &Heap, handle: u64, red: bool) {
     holds(rt, heap.is_live(handle));
     same(rt, heap.node_red(handle), red);
 }
 
-/// A block has room for so many bytes.
+/// Checks that a block has room for so many bytes.
 fn fits(rt: &impl Abort, heap: &Heap, handle: u64, n: u64)
     requires { 1 ≤ n }
     ensures { IsTrue (has_room (live_of heap.now.bytes) handle n) }
@@ -132,21 +132,21 @@ fn sets_word(rt: &impl Abort, heap: &mut Heap, handle: u64, at: u32, value: u64)
     heap.set_word(handle, at, value);
 }
 
-/// A block has this word.
+/// Checks that a block has this word.
 fn has_word(rt: &impl Abort, heap: &Heap, handle: u64, at: u32, value: u64) {
     let at = u64::from(at);
     fits(rt, heap, handle, at + 8);
     same(rt, heap.word(handle, at), value);
 }
 
-/// The link at a place of a block leads to a target, or nowhere.
+/// Checks that the link at a place of a block leads to a target, or nowhere.
 fn is_linked(rt: &impl Abort, heap: &Heap, handle: u64, place: u32, to: Option<u64>) {
     let at = 8 * u64::from(place);
     fits(rt, heap, handle, at + 8);
     same(rt, heap.link(handle, at), to);
 }
 
-/// The link at an offset leads to a target, or nowhere.
+/// Checks that the link at an offset leads to a target, or nowhere.
 fn leads(rt: &impl Abort, window: &Window, at: u64, target: Option<u64>) {
     holds(rt, at % 8 == 0);
     holds(rt, window.in_range(at, 8));
@@ -175,7 +175,7 @@ fn the_least_gap_is_taken(rt: HostRuntime) {
     drop(heap);
 }
 
-/// The same blocks, of which the first is given back, and the others become longer and shorter.
+/// The steps that give back the first block, and make the others longer and shorter.
 const LENGTHS: [Step; 11] = [
     Step::Takes(64, 144),
     Step::Takes(16, 224),
@@ -195,7 +195,7 @@ fn blocks_change_their_length(rt: HostRuntime) {
     drop(played(&rt, &LENGTHS));
 }
 
-/// Three gaps: the first, the third, and what is behind the last block.
+/// Three gaps: the first, the third, and what is after the last block.
 const THREE_GAPS: [Step; 6] = [
     Step::Takes(24, 144),
     Step::Takes(24, 192),
@@ -269,7 +269,7 @@ fn writes_end(rt: &impl Abort, heap: &mut Heap, handle: u64) {
     heap.write(handle, 24, b"of bytes");
 }
 
-/// Copies the first word of a block behind its first four bytes.
+/// Copies the first word of a block after its first four bytes.
 fn copies_word(rt: &impl Abort, heap: &mut Heap, handle: u64) {
     fits(rt, heap, handle, 8);
     fits(rt, heap, handle, 12);

@@ -12,7 +12,7 @@ use raw_region::{OutOfMemory, RawRegion, Window};
 use std::alloc::Global;
 use std::test::Fail;
 
-/// A window of 1024 bytes, of which one free tile fills all but the header and the end tag.
+/// Returns a window of 1024 bytes, of which one free tile fills all but the header and the end tag.
 fn laid_window(alloc: Global) -> Result<Window, OutOfMemory>
     ensures { IfOk result (λ w. EncodesTiles w (free_tile 128 880 ∷ [])) }
 {

@@ -8,14 +8,14 @@ pub fn same<T: PartialEq + Drop>(rt: &impl Abort, got: T, want: T) {
     holds(rt, got == want);
 }
 
-/// Fails where something is not so. What a caller does behind it may rest on it.
+/// Fails if something is not so. What a caller does after it may rest on it.
 pub fn holds(rt: &impl Abort, so: bool)
     ensures { IsTrue so }
 {
     assert!(rt; so);
 }
 
-/// What a call answers, which is not refused.
+/// Returns what a call answers, which is not refused.
 pub fn done<T, E: Drop>(rt: &impl Abort, got: Result<T, E>) -> T
     ensures { got ≡ Ok result }
 {

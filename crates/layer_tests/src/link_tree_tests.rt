@@ -10,7 +10,7 @@ use crate::node_tables::{Numbered, empty_table};
 use link_tree::{NodesMut, check, find_first_not_before, insert, remove, walk};
 use std::process::Abort;
 
-/// Whether the node is in the tree, where the links are one.
+/// Tells whether the node is in the tree, if the links are one.
 fn has<R: Abort, N: Numbered>(rt: &R, nodes: &N, root: Option<u64>, node: u64) -> bool
     requires { leads (N.is_node nodes.now) root ≡ true }
     ensures { (t : Tree) × IsSearchTree (N.order nodes.now) (N.cells nodes.now) root t
@@ -24,7 +24,7 @@ fn has<R: Abort, N: Numbered>(rt: &R, nodes: &N, root: Option<u64>, node: u64) -
     found.node == Some(node)
 }
 
-/// Puts a node in, where the links are a tree and the node is not in it yet.
+/// Puts a node in, if the links are a tree and the node is not in it yet.
 fn put<R: Abort, N: Numbered>(rt: &R, nodes: &mut N, root: Option<u64>, node: u64) -> Option<u64>
     requires root { leads (N.is_node nodes.old) root ≡ true }
     requires node { node < 64 }
@@ -36,7 +36,7 @@ fn put<R: Abort, N: Numbered>(rt: &R, nodes: &mut N, root: Option<u64>, node: u6
     insert(nodes, root, node).root
 }
 
-/// Takes a node out, where the links are a tree and the node is in it.
+/// Takes a node out, if the links are a tree and the node is in it.
 fn take<R: Abort, N: Numbered>(rt: &R, nodes: &mut N, root: Option<u64>, node: u64) -> Option<u64>
     requires root { leads (N.is_node nodes.old) root ≡ true }
     ensures { leads (N.is_node nodes.new) result ≡ true }
@@ -88,7 +88,7 @@ fn orders(rt: HostRuntime) {
     }
 }
 
-/// Links that are no tree: the check answers none, and ends.
+/// Checks links that are no tree: the check answers none, and ends.
 #[test]
 fn no_trees(rt: HostRuntime) {
     let mut cycle = empty_table();

@@ -119,7 +119,7 @@ impl Numbered for Table {
     ghost probed = { λ s probe. refl };
 }
 
-/// A table in which no node leads anywhere, and all are black.
+/// Returns a table in which no node leads anywhere, and all are black.
 pub fn empty_table() -> Table {
     Table {
         left: [NOWHERE; 64],

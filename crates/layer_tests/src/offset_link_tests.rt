@@ -12,7 +12,7 @@ fn window<R: Abort + AllocGlobal>(rt: &R) -> Window {
     Window::new(region, 64, 400)
 }
 
-/// A window has these bytes from an offset on.
+/// Checks that a window has these bytes from an offset on.
 fn reads(rt: &impl Abort, w: &Window, at: u64, bytes: &[u8]) {
     let len = bytes.len() as u64;
     holds(rt, w.in_range(at, len));
@@ -34,14 +34,14 @@ fn unlinks(rt: &impl Abort, w: &mut Window, at: u64) {
     store_null(w, at);
 }
 
-/// The link at an offset leads to a target, or nowhere.
+/// Checks that the link at an offset leads to a target, or nowhere.
 fn leads(rt: &impl Abort, w: &Window, at: u64, target: Option<u64>) {
     holds(rt, at % 8 == 0);
     holds(rt, w.in_range(at, 8));
     same(rt, load(w, at), target);
 }
 
-/// The link at an offset leads to a target, or nowhere, and is stored so.
+/// Checks that the link at an offset leads to a target, or nowhere, and is stored so.
 fn stores(rt: &impl Abort, w: &Window, at: u64, target: Option<u64>, bytes: &[u8]) {
     leads(rt, w, at, target);
     reads(rt, w, at, bytes);
@@ -94,7 +94,7 @@ fn moves_back(rt: &impl Abort, w: &mut Window) {
     shift(w, 24, 2, Places::Down(2));
 }
 
-/// A word that leads to no multiple of 16 is no link.
+/// Checks that a word that leads to no multiple of 16 is no link.
 fn has_no_links(rt: &impl Abort, w: &mut Window) {
     holds(rt, w.in_range(24, 16));
     w.write_u64(24, 4);
@@ -140,14 +140,14 @@ fn moves_run_down(rt: &impl Abort, w: &mut Window) {
     shift_non_null(w, 32, 11, Places::Down(2));
 }
 
-/// Eleven links from an offset on lead to one block of 16 bytes after another.
+/// Checks that eleven links from an offset on lead to one block of 16 bytes after another.
 fn lead_to_blocks(rt: &impl Abort, w: &Window, at: u32) {
     for i in 0..11 {
         leads(rt, w, u64::from(at) + 8 * i, Some(144 + 16 * i));
     }
 }
 
-/// Of links that lead to blocks the first is made null.
+/// Checks that of links that lead to blocks the first is made null.
 fn not_all_lead(rt: &impl Abort, w: &mut Window) {
     holds(rt, w.in_range(16, 16));
     store_null(w, 16);
@@ -182,7 +182,7 @@ const WORDS: [(u64, Option<Option<u64>>); 10] = [
     (376, None),
 ];
 
-/// A word leads to a target, or is refused.
+/// Checks that a word leads to a target, or is refused.
 fn is_checked(rt: &impl Abort, w: &mut Window, word: u64, target: Option<Option<u64>>) {
     holds(rt, w.in_range(24, 8));
     w.write_u64(24, word);

@@ -1,3 +1,4 @@
+//! Readers and writers of std as sources and sinks.
 use crate::checks::{holds, same};
 use raw_region::std_io::{StdSink, StdSource};
 use raw_region::{Sink, Source, write_all};

@@ -1,3 +1,4 @@
+//! Regions, windows on them, and parts of them.
 ghost use Rattle.std.specs.Prelude.{◌≡◌, length};
 
 use crate::checks::{done, holds, same};
@@ -58,7 +59,7 @@ fn the_smallest_region_and_a_gibibyte(rt: HostRuntime) {
     drop(large);
 }
 
-/// A window of 48 bytes in a region of 96, each of them 7.
+/// Returns a window of 48 bytes in a region of 96, each of them 7.
 fn window<R: Abort + AllocGlobal>(rt: &R) -> Window
     ensures { length result.bytes ≡ 48 }
 {
@@ -95,7 +96,7 @@ fn bytes_of_a_window_move(rt: HostRuntime) {
     drop(region);
 }
 
-/// A region has these bytes from an offset on.
+/// Checks that a region has these bytes from an offset on.
 fn reads(rt: &impl Abort, region: &RawRegion, at: u64, bytes: &[u8]) {
     let len = bytes.len() as u64;
     holds(rt, region.in_range(at, len));

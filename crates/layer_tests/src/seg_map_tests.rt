@@ -12,7 +12,7 @@ use seg_types::Plain;
 use std::alloc::Global;
 use std::test::Fail;
 
-/// A heap with a map without a pair. The block of the map has 48 bytes, and the rest of 880 is free.
+/// Returns a heap with a map without a pair. The block of the map has 48 bytes, and the rest of 880 is free.
 fn begun<K: Plain, V: Plain>(alloc: Global) -> Result<(Heap, SegMap<K, V>), Fail>
     ensures { IfOk result (λ made. IsSomeMap K.Plain V.Plain made.0.bytes made.1.place.handle made.1.place.at) }
 {

@@ -13,7 +13,7 @@ use std::alloc::Global;
 use std::fmt::Display;
 use std::process::Abort;
 
-/// A value is spelled by these bytes, which are read as it, and it does not stand before itself.
+/// Checks that a value is spelled by these bytes, which are read as it, and it does not stand before itself.
 fn is_spelled<T: Plain + PartialEq + Drop>(rt: &impl Abort, value: T, spelled: &[u8]) {
     holds(rt, spelled.len() as u64 == T::SIZE);
     holds(rt, spelled.len() <= 8);
@@ -26,13 +26,13 @@ fn is_spelled<T: Plain + PartialEq + Drop>(rt: &impl Abort, value: T, spelled: &
     holds(rt, unordered_are_same(value, value));
 }
 
-/// A value stands before another, which does not stand before it.
+/// Checks that a value stands before another, which does not stand before it.
 fn stands_before<T: Plain>(rt: &impl Abort, low: T, high: T) {
     holds(rt, low.precedes(high));
     holds(rt, !high.precedes(low));
 }
 
-/// Each of these values is spelled by the bytes beside it, and stands before the next.
+/// Checks that each of these values is spelled by the bytes beside it, and stands before the next.
 fn rise<T: Plain + PartialEq + Drop>(rt: &impl Abort, rows: &[(T, &[u8])]) {
     let mut last = None;
     for (value, spelled) in rows {
@@ -44,7 +44,7 @@ fn rise<T: Plain + PartialEq + Drop>(rt: &impl Abort, rows: &[(T, &[u8])]) {
     }
 }
 
-/// A scalar type has this size, this code and this kind.
+/// Checks that a scalar type has this size, this code and this kind.
 fn has_codes<T: Scalar>(rt: &impl Abort, size: u64, code: u32, kind: ScalarKind) {
     same(rt, T::SIZE, size);
     same(rt, T::CODE, code);
@@ -140,7 +140,7 @@ const NAMES: [(&[u8], bool, bool); 13] = [
     (b"\xC2\x9F", false, false),
 ];
 
-/// Whether these bytes are a name, which then holds them.
+/// Tells whether these bytes are a name, which then holds them.
 fn is_held(bytes: &[u8]) -> bool {
     match Name::new(bytes) {
         Some(name) => name.as_bytes() == bytes,
@@ -232,7 +232,7 @@ fn values_are_spelled(rt: HostRuntime) {
     holds(&rt, !ScalarKind::U64.precedes(&[255; 8], &[0; 8]));
 }
 
-/// Something is printed as this.
+/// Checks that something is printed as this.
 fn is_printed<T: Display + Drop>(rt: &impl Abort, alloc: Global, it: T, text: &str) {
     let printed = done(rt, format!(in alloc; "{it}"));
     holds(rt, printed.as_str() == text);

@@ -12,7 +12,7 @@ use seg_vector::{Place, SegVec};
 use std::alloc::Global;
 use std::test::Fail;
 
-/// A heap with a vector without a value.
+/// Returns a heap with a vector without a value.
 fn begun<T: Plain>(alloc: Global) -> Result<(Heap, SegVec<T>), Fail>
     ensures { IfOk result (λ made. IsSomeVector T.SIZE T.is_value T.spelling made.0.bytes made.1.place) }
 {
@@ -38,7 +38,7 @@ fn insert<T: Plain>(heap: &mut Heap, vector: SegVec<T>, index: u64, value: T) ->
     vector.insert(heap, index, value)
 }
 
-/// The length and the capacity.
+/// Returns the length and the capacity.
 fn sizes<T: Plain>(heap: &Heap, vector: SegVec<T>) -> (u64, u64)
     requires { IsSomeVector T.SIZE T.is_value T.spelling heap.now.bytes vector.place }
 {

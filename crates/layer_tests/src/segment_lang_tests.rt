@@ -1,4 +1,4 @@
-//! Words, and what they spell. Whole lines are read, and answers printed, by the rows of `crates/rows/data`.
+//! Words, and what they spell. Whole lines are read, and returns printed, by the rows of `crates/rows/data`.
 use crate::checks::{holds, same};
 use seg_types::Key;
 use segment_lang::{Deed, LineBuffer, Literal, Word, next_word, number_of, only_word, whole_of};
@@ -12,7 +12,7 @@ const _: () = prove!(size_of::<Literal<'static>>() <= 24);
 
 const _: () = prove!(size_of::<Deed<'static>>() <= 64);
 
-/// The whole number that a word spells.
+/// Returns the whole number that a word spells.
 fn whole(word: &[u8]) -> Option<i128> {
     Some(whole_of(word)?.get())
 }
@@ -41,7 +41,7 @@ fn numbers_have_one_spelling(rt: HostRuntime) {
     }
 }
 
-/// The first word of a line, and what stands behind it.
+/// Returns the first word of a line, and what stands after it.
 fn first_word<'a>(rt: &impl Abort, line: &'a [u8]) -> (Word<'a>, &'a [u8]) {
     let Some(parts) = next_word(line) else {
         panic!(rt; "no word");
@@ -49,7 +49,7 @@ fn first_word<'a>(rt: &impl Abort, line: &'a [u8]) -> (Word<'a>, &'a [u8]) {
     parts
 }
 
-/// Whether a word has these bytes, and is bare.
+/// Tells whether a word has these bytes, and is bare.
 fn is_bare(word: Word<'_>, bytes: &[u8]) -> bool {
     match word {
         Word::Bare(bare) => bare == bytes,

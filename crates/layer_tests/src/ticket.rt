@@ -14,7 +14,7 @@ pub struct Ticket {
 }
 
 impl Ticket {
-    /// An urgent ticket.
+    /// Returns an urgent ticket.
     pub fn urgent(number: u16) -> Ticket {
         Ticket {
             urgent: true,
@@ -22,7 +22,7 @@ impl Ticket {
         }
     }
 
-    /// A ticket that is not urgent.
+    /// Returns a ticket that is not urgent.
     pub fn plain(number: u16) -> Ticket {
         Ticket {
             urgent: false,
@@ -30,7 +30,7 @@ impl Ticket {
         }
     }
 
-    /// The urgent ones by their numbers, and then the others.
+    /// Returns the urgent ones by their numbers, and then the others.
     fn place(self) -> u32
         ensures { result ≡ place self.urgent self.number }
     {

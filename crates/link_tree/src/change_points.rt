@@ -15,7 +15,7 @@ use crate::nodes::Nodes;
 /// The node that was looked for, if there is one, and where a node would enter in its place.
 #[derive(Clone, Copy, Debug, PartialEq, Eq)]
 pub struct InsertPoint {
-    /// The first node that does not stand before the probe; none where there is no such node in the tree.
+    /// The first node that does not stand before the probe; none if there is no such node in the tree.
     pub node: Option<u64>,
     /// Where an insertion at the end of the way begins, for `insert_at`; none where it begins at the root.
     pub entry: Option<u64>,
@@ -28,14 +28,14 @@ pub struct InsertPoint {
 struct Passed {
     /// The last node passed that does not stand before the probe.
     node: Option<u64>,
-    /// The node that was passed last, where it is black.
+    /// The node that was passed last, if it is black.
     above: Option<u64>,
     /// The lowest black node above it that no red one followed.
     entry: Option<u64>,
 }
 
 impl Passed {
-    /// Where the insertion begins, if the way ends here.
+    /// Returns where the insertion begins, if the way ends here.
     fn end(self) -> Option<u64>
         ensures { result ≡ option_or self.above self.entry }
     {
@@ -68,7 +68,7 @@ impl PathFold for Passed {
 /// The node that was looked for, if there is one, and where its removal begins.
 #[derive(Clone, Copy, Debug, PartialEq, Eq)]
 pub struct RemovePoint {
-    /// The first node that does not stand before the probe; none where there is no such node in the tree.
+    /// The first node that does not stand before the probe; none if there is no such node in the tree.
     pub node: Option<u64>,
     /// Where the removal of that node begins, for `remove_at`; none where it begins at the root, or where there is no
     /// such node.

@@ -13,10 +13,10 @@ use crate::nodes::Nodes;
 /// A red-black tree of at most 2 to the 40th nodes is no higher.
 pub const MAX_HEIGHT: u64 = 82;
 
-/// How many nodes the tree has, where there is one, and the steps that the check took.
+/// How many nodes the tree has, if there is one, and the steps that the check took.
 #[derive(Clone, Copy, Debug, PartialEq, Eq)]
 pub struct CheckedTree {
-    /// The number of nodes; none where the links are no ordered red-black tree.
+    /// The number of nodes; none if the links are no ordered red-black tree.
     pub nodes: Option<u64>,
     /// How often the check went to a node.
     pub steps: u64,
@@ -145,7 +145,7 @@ fn check_below<N: Nodes>(
     })
 }
 
-/// How many nodes are reached from the root, where they are an ordered red-black tree, or none, where they are not.
+/// Returns how many nodes are reached from the root, if they are an ordered red-black tree, or none, if they are not.
 ///
 /// The links may be any links between nodes: with cycles, with nodes that are shared.
 /// A step is going to a node, with all that is read there before the check goes to another.

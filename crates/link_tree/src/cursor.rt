@@ -19,14 +19,14 @@ pub enum Side {
 impl Side {
     ghost use Rattle.link_tree.specs.Sides.{opposite, side_of};
 
-    /// The side of a node that precedes another, or follows it.
+    /// Returns the side of a node that precedes another, or follows it.
     pub fn of(precedes: bool) -> Side
         ensures { result ≡ side_of precedes }
     {
         if precedes { Side::Left } else { Side::Right }
     }
 
-    /// The opposite side.
+    /// Returns the opposite side.
     pub fn other(self) -> Side
         ensures { result ≡ opposite self }
     {
@@ -53,6 +53,7 @@ pub struct NodeCursor<'a, N> {
 }
 
 impl<'a, N: Nodes> NodeCursor<'a, N> {
+    /// Makes a cursor that stands nowhere and took no step.
     pub fn new(nodes: &'a N) -> NodeCursor<'a, N>
         ensures nodes { result.nodes.now ≡ nodes.now }
         ensures position { result.at ≡ None }
@@ -65,6 +66,7 @@ impl<'a, N: Nodes> NodeCursor<'a, N> {
         }
     }
 
+    /// Returns the steps that the cursor took.
     pub fn steps(&self) -> u64
         ensures { result ≡ self.now.steps }
     {
@@ -86,6 +88,7 @@ impl<'a, N: Nodes> NodeCursor<'a, N> {
         }
     }
 
+    /// Goes to a node, and returns its left link.
     pub fn left(&mut self, node: u64) -> Option<u64>
         requires node { N.is_node self.old.nodes.now node ≡ true }
         requires no_overflow { self.old.steps + 1 < 2 ^ 64 }
@@ -100,6 +103,7 @@ impl<'a, N: Nodes> NodeCursor<'a, N> {
         self.nodes.left(node)
     }
 
+    /// Goes to a node, and returns its right link.
     pub fn right(&mut self, node: u64) -> Option<u64>
         requires node { N.is_node self.old.nodes.now node ≡ true }
         requires no_overflow { self.old.steps + 1 < 2 ^ 64 }
@@ -114,6 +118,7 @@ impl<'a, N: Nodes> NodeCursor<'a, N> {
         self.nodes.right(node)
     }
 
+    /// Goes to a node, and tells whether it is red.
     pub fn red(&mut self, node: u64) -> bool
         requires node { N.is_node self.old.nodes.now node ≡ true }
         requires no_overflow { self.old.steps + 1 < 2 ^ 64 }
@@ -129,6 +134,7 @@ impl<'a, N: Nodes> NodeCursor<'a, N> {
         self.nodes.red(node)
     }
 
+    /// Goes to both nodes, and tells whether the first precedes the second.
     pub fn precedes(&mut self, first: u64, second: u64) -> bool
         requires first { N.is_node self.old.nodes.now first ≡ true }
         requires second { N.is_node self.old.nodes.now second ≡ true }
@@ -145,6 +151,7 @@ impl<'a, N: Nodes> NodeCursor<'a, N> {
         self.nodes.precedes(first, second)
     }
 
+    /// Goes to a node, and tells whether it stands before the probe.
     pub fn before_probe(&mut self, node: u64, probe: &N::Probe) -> bool
         requires node { N.is_node self.old.nodes.now node ≡ true }
         requires no_overflow { self.old.steps + 1 < 2 ^ 64 }
@@ -170,6 +177,7 @@ pub struct NodeCursorMut<'a, N> {
 impl<'a, N: NodesMut> NodeCursorMut<'a, N> {
     ghost use Rattle.link_tree.specs.Sides.{child_of, side_of, with_child};
 
+    /// Makes a cursor that stands nowhere and took no step.
     pub fn new(nodes: &'a mut N) -> NodeCursorMut<'a, N>
         ensures same_borrow { result.nodes.ghost_name ≡ nodes.entry.ghost_name }
         ensures nodes { result.nodes.now ≡ nodes.old }
@@ -183,6 +191,7 @@ impl<'a, N: NodesMut> NodeCursorMut<'a, N> {
         }
     }
 
+    /// Returns the steps that the cursor took.
     pub fn steps(&self) -> u64
         ensures { result ≡ self.now.steps }
     {
@@ -205,6 +214,7 @@ impl<'a, N: NodesMut> NodeCursorMut<'a, N> {
         }
     }
 
+    /// Goes to a node, and returns its link on a side.
     pub fn child(&mut self, node: u64, side: Side) -> Option<u64>
         requires node { N.is_node self.old.nodes.now node ≡ true }
         requires no_overflow { self.old.steps + 1 < 2 ^ 64 }
@@ -225,6 +235,7 @@ impl<'a, N: NodesMut> NodeCursorMut<'a, N> {
         }
     }
 
+    /// Goes to a node, and tells whether it is red.
     pub fn red(&mut self, node: u64) -> bool
         requires node { N.is_node self.old.nodes.now node ≡ true }
         requires no_overflow { self.old.steps + 1 < 2 ^ 64 }
@@ -241,6 +252,7 @@ impl<'a, N: NodesMut> NodeCursorMut<'a, N> {
         self.nodes.red(node)
     }
 
+    /// Goes to both nodes, and tells whether the first precedes the second.
     pub fn precedes(&mut self, first: u64, second: u64) -> bool
         requires first { N.is_node self.old.nodes.now first ≡ true }
         requires second { N.is_node self.old.nodes.now second ≡ true }
@@ -259,7 +271,7 @@ impl<'a, N: NodesMut> NodeCursorMut<'a, N> {
         self.nodes.precedes(first, second)
     }
 
-    /// The side of `at` on which the node stands or is to stand, and the link there.
+    /// Returns the side of `at` on which the node stands or is to stand, and the link there.
     pub fn toward(&mut self, node: u64, at: u64) -> Onward
         requires node { N.is_node self.old.nodes.now node ≡ true }
         requires position { N.is_node self.old.nodes.now at ≡ true }
@@ -280,6 +292,7 @@ impl<'a, N: NodesMut> NodeCursorMut<'a, N> {
         Onward { side, link }
     }
 
+    /// Goes to a node, and writes its link on a side.
     pub fn set_child(&mut self, node: u64, side: Side, to: Option<u64>)
         requires node { N.is_node self.old.nodes.now node ≡ true }
         requires target { leads (N.is_node self.old.nodes.now) to ≡ true }
@@ -301,6 +314,7 @@ impl<'a, N: NodesMut> NodeCursorMut<'a, N> {
         }
     }
 
+    /// Goes to a node, and makes it red or black.
     pub fn set_red(&mut self, node: u64, red: bool)
         requires node { N.is_node self.old.nodes.now node ≡ true }
         requires no_overflow { self.old.steps + 1 < 2 ^ 64 }

@@ -32,8 +32,8 @@ pub struct Descent<K> {
     pub steps: u64,
 }
 
-/// Goes down the path of a search for the probe, to its end: on to the right of a node that stands before the probe,
-/// and to the left of any other.
+/// Goes down the path of a search for the probe, to its end. It goes to the right of a node before the probe, and to
+/// the left of any other.
 pub fn descend<N: Nodes, K: PathFold>(
     nodes: &N,
     root: Option<u64>,

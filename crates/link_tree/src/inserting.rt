@@ -15,10 +15,10 @@ use crate::nodes::NodesMut;
 use crate::rotation::{fix_double_red, paint};
 use crate::search_adaptors::SearchForNode;
 
-/// The root of a tree that was changed, and the steps that the change took.
+/// The root of a tree after a change, and the steps that the change took.
 #[derive(Clone, Copy, Debug, PartialEq, Eq)]
 pub struct Changed {
-    /// The link to the tree from now on, which the caller keeps; none where no node is left.
+    /// The link to the tree from now on, which the caller keeps; none if no node is left.
     pub root: Option<u64>,
     /// How often the call went to a node.
     pub steps: u64,
@@ -41,7 +41,7 @@ fn lay<N: NodesMut>(visits: &mut NodeCursorMut<N>, node: u64)
     visits.set_red(node, true);
 }
 
-/// Puts the node into the tree that the link leads to, and answers the root of what it has become.
+/// Puts the node into the tree that the link leads to, and returns the root of what it has become.
 fn grow<N: NodesMut>(visits: &mut NodeCursorMut<N>, link: Option<u64>, node: u64) -> u64
     requires link { leads (N.is_node visits.old.nodes.now) link ≡ true }
     requires node { N.is_node visits.old.nodes.now node ≡ true }

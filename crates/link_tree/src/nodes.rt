@@ -6,9 +6,9 @@ ghost use Rattle.link_tree.specs.Nodes.{with_left, with_right, with_red, is_in, 
 
 /// Nodes that are numbers, each with two links and a colour, in a strict order.
 ///
-/// There are finitely many, at most 2 to the 40th, and links from nodes lead to nodes. The links need not be a tree.
-/// A tree call goes from node to node. A step is going to one, with all that is read and written of its fields until
-/// the call goes to another; to have two nodes compared it goes to both.
+/// There are finitely many, at most 2 to the 40th, and links from nodes lead to nodes. The links need not be a tree. A
+/// tree call goes from node to node. A step is going to one node, with all that is read and written there until the
+/// call goes to another. To compare two nodes a call goes to both.
 pub trait Nodes {
     /// What a search looks for: a node can be compared with it, and it need not be a node.
     type Probe;
@@ -35,28 +35,28 @@ pub trait Nodes {
 
     ghost kept: { Self → Kept };
 
-    /// The link to the left: the root of the nodes below this one that precede it.
+    /// Returns the link to the left: the root of the nodes below this one that precede it.
     fn left(&self, node: u64) -> Option<u64>
         requires { is_node self.now node ≡ true }
         ensures { result ≡ (cells self.now node).left };
 
-    /// The link to the right: the root of the nodes below this one that it precedes.
+    /// Returns the link to the right: the root of the nodes below this one that it precedes.
     fn right(&self, node: u64) -> Option<u64>
         requires { is_node self.now node ≡ true }
         ensures { result ≡ (cells self.now node).right };
 
-    /// Whether the node is red, not black.
+    /// Tells whether the node is red, not black.
     fn red(&self, node: u64) -> bool
         requires { is_node self.now node ≡ true }
         ensures { result ≡ (cells self.now node).red };
 
-    /// Whether the first node precedes the second.
+    /// Tells whether the first node precedes the second.
     fn precedes(&self, a: u64, b: u64) -> bool
         requires first { is_node self.now a ≡ true }
         requires second { is_node self.now b ≡ true }
         ensures { result ≡ order self.now a b };
 
-    /// Whether the node stands before the probe, so that a search for the probe goes on to the right of it.
+    /// Tells whether the node stands before the probe, so that a search for the probe goes on to the right of it.
     fn before_probe(&self, node: u64, probe: &Self::Probe) -> bool
         requires { is_node self.now node ≡ true }
         ensures { result ≡ before self.now probe.now node };
@@ -87,8 +87,8 @@ pub trait Nodes {
 
 /// Nodes whose links and colours can be set.
 ///
-/// Each call changes one field of one node and nothing else: which numbers are nodes, their order, what stands before
-/// a probe, the reference that the nodes are reached by, and what the keeper has besides all stay as they were.
+/// Each call changes one field of one node. It keeps which numbers are nodes, their order, what stands before a probe,
+/// the reference to the nodes, and all else that the keeper has.
 pub trait NodesMut: Nodes {
     ghost use Rattle.link_tree.specs.Frame.{SameExceptCells};
 

@@ -30,7 +30,7 @@ struct Least {
     rest: Leftover,
 }
 
-/// `mend` under a heavy child that is red: its inner child gives the black node away.
+/// Rebalances as `mend` does, under a heavy child that is red: its inner child gives the black node away.
 fn mend_red<N: NodesMut>(
     visits: &mut NodeCursorMut<N>,
     top: u64,
@@ -64,7 +64,7 @@ fn mend_red<N: NodesMut>(
     }
 }
 
-/// Where the tree below `top` on the other side fell, takes a black node from this, heavy side.
+/// Takes a black node from this, heavy side, if the tree below `top` on the other side fell.
 ///
 /// Jean-Christophe Filliâtre and Pierre Letouzey, Functors for Proofs and Programs, 2004.
 fn mend<N: NodesMut>(visits: &mut NodeCursorMut<N>, top: u64, side: Side) -> Leftover

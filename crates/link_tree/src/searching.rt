@@ -15,7 +15,7 @@ use crate::search_adaptors::SearchToEnd;
 /// The node that was looked for, if there is one, and the steps that the search took.
 #[derive(Clone, Copy, Debug, PartialEq, Eq)]
 pub struct SearchResult {
-    /// The node; none where there is no such node in the tree.
+    /// The node; none if there is no such node in the tree.
     pub node: Option<u64>,
     /// How often the search went to a node.
     pub steps: u64,
@@ -55,10 +55,10 @@ impl PathFold for Last {
     }
 }
 
-/// The first node of the tree that does not stand before the probe.
+/// Returns the first node of the tree that does not stand before the probe.
 ///
-/// A step is going to a node, with all that is read there before the search goes to another: it takes one for each node
-/// of the path that it goes down from the root, so there are at most as many steps as the tree is high.
+/// A step is going to a node, with all that is read there. The search takes one for each node of its path from the
+/// root, so it takes at most as many steps as the tree is high.
 pub fn find_first_not_before<N: Nodes>(
     nodes: &N,
     root: Option<u64>,
@@ -82,7 +82,7 @@ pub fn find_first_not_before<N: Nodes>(
     }
 }
 
-/// The last node of the tree that stands before the probe.
+/// Returns the last node of the tree that stands before the probe.
 ///
 /// It goes down the same path as `find_first_not_before`, with as many steps.
 pub fn find_last_before<N: Nodes>(nodes: &N, root: Option<u64>, probe: &N::Probe) -> SearchResult
@@ -103,7 +103,7 @@ pub fn find_last_before<N: Nodes>(nodes: &N, root: Option<u64>, probe: &N::Probe
     }
 }
 
-/// The last node of the tree.
+/// Returns the last node of the tree.
 ///
 /// It takes a step for each node of the path that goes down from the root to the right.
 pub fn find_last<N: Nodes>(nodes: &N, root: Option<u64>) -> SearchResult

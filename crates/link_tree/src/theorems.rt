@@ -2,13 +2,13 @@
 
 ghost use Rattle.link_tree.specs.Tree.{BoundsHeight, ReadsOff};
 
-/// A red-black tree of n nodes is no higher than twice the number of binary digits of n + 1.
+/// States that a red-black tree of n nodes is no higher than twice the number of binary digits of n + 1.
 pub fn law_of_height()
     ensures { BoundsHeight }
 {}
 
-/// A tree that is read off links is the tree there, a tree that is there and no deeper is read off, and the test of
-/// red-black trees is exact.
+/// States what a check of links finds. A tree read off links is the tree there, each tree that is not too deep is read
+/// off, and the test of red-black trees is exact.
 pub fn law_of_reading()
     ensures { ReadsOff }
 {}

@@ -10,7 +10,7 @@ use crate::checking::MAX_HEIGHT;
 use crate::cursor::NodeCursor;
 use crate::nodes::Nodes;
 
-/// Visits the nodes below the link in order, where they are at most so many levels.
+/// Visits the nodes below the link in order, if they are at most so many levels.
 fn walk_below<N: Nodes, F: FnMut(u64)>(
     visits: &mut NodeCursor<N>,
     link: Option<u64>,
@@ -49,7 +49,7 @@ fn walk_below<N: Nodes, F: FnMut(u64)>(
     walk_below(visits, right, visit, levels - 1);
 }
 
-/// Calls `visit` on each node of the tree, in order, and answers the steps that the walk took: as many as there are
+/// Calls `visit` on each node of the tree, in order, and returns the steps that the walk took: as many as there are
 /// nodes.
 ///
 /// A step is going to a node, with all that is read there before the walk goes to another.

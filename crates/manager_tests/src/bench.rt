@@ -1,5 +1,5 @@
 //! A segment under test: each call compares what a call of the segment answers under a name of one letter with what is
-//! wanted, and notes where that is something else. So a test is a line of calls without facts, and its last one asks.
+//! wanted, and notes if that is something else. So a test is a line of calls without facts, and its last one asks.
 ghost use Rattle.std.specs.Prelude.{◌≤◌};
 
 use crate::checks::holds;
@@ -27,7 +27,7 @@ pub struct Told {
 }
 
 impl Bench {
-    /// A segment of which nothing was asked yet.
+    /// Makes a segment of which nothing was asked yet.
     pub fn new(segment: Segment) -> Bench {
         Bench {
             segment,
@@ -35,18 +35,18 @@ impl Bench {
         }
     }
 
-    /// Fails where something was not as is wanted. It takes the segment, since to let go of one in each test is dear to
+    /// Fails if something was not as is wanted. It takes the segment, since to let go of one in each test is dear to
     /// prove.
     pub fn ends(self, rt: &impl Abort) {
         holds(rt, self.is_right);
     }
 
-    /// Whether all was as is wanted so far.
+    /// Tells whether all was as is wanted so far.
     pub fn is_right(&self) -> bool {
         self.is_right
     }
 
-    /// Notes where something is not so.
+    /// Notes if something is not so.
     pub fn holds(&mut self, so: bool) {
         if !so {
             self.is_right = false;
@@ -58,14 +58,14 @@ impl Bench {
         self.holds(got == want);
     }
 
-    /// The name of these bytes, which are one.
+    /// Returns the name of these bytes, which are one.
     pub fn name<'a>(&mut self, bytes: &'a [u8]) -> Option<Name<'a>> {
         let name = Name::new(bytes);
         self.holds(name.is_some());
         name
     }
 
-    /// The key of the object of this name.
+    /// Returns the key of the object of this name.
     fn key<'a>(&mut self, bytes: &'a [u8]) -> Key<'a> {
         match self.name(bytes) {
             Some(name) => Key::Name(name),
@@ -73,13 +73,13 @@ impl Bench {
         }
     }
 
-    /// So many bytes are free.
+    /// Checks that so many bytes are free.
     pub fn has_free(&mut self, free: u64) {
         let is_free = self.segment.free() == free;
         self.holds(is_free);
     }
 
-    /// `construct`: so many times the value, at this handle.
+    /// Checks `construct`: so many times the value, at this handle.
     pub fn makes<T: Scalar>(&mut self, name: u8, count: u32, value: T, handle: Handle)
         requires non_empty { 1 ≤ count }
         requires max_count { count ≤ 1048576 }
@@ -90,7 +90,7 @@ impl Bench {
         }
     }
 
-    /// `find_or_construct`: handle and count of what is there then.
+    /// Checks `find_or_construct`: handle and count of what is there then.
     pub fn finds_or_makes<T: Scalar>(
         &mut self,
         name: u8,
@@ -108,7 +108,7 @@ impl Bench {
         }
     }
 
-    /// `find`: handle and count, or nothing.
+    /// Checks `find`: handle and count, or nothing.
     pub fn finds<T: Scalar>(&mut self, name: u8, found: Found) {
         let name = [name];
         let key = self.key(&name);
@@ -116,12 +116,12 @@ impl Bench {
         self.same(got, found);
     }
 
-    /// `get`: the element at `i`.
+    /// Checks `get`: the element at `i`.
     pub fn has<T: Scalar + PartialEq>(&mut self, name: u8, i: u64, value: T) {
         self.gets(name, i, Ok(value));
     }
 
-    /// `get`: there is no such element, and why.
+    /// Checks `get`: there is no such element, and why.
     pub fn lacks<T: Scalar + PartialEq>(&mut self, name: u8, i: u64, why: Refusal) {
         self.gets::<T>(name, i, Err(why));
     }
@@ -133,7 +133,7 @@ impl Bench {
         self.same(got, wanted);
     }
 
-    /// `set`: the element at `i` is another value, or this is refused.
+    /// Checks `set`: the element at `i` is another value, or this is refused.
     pub fn sets<T: Scalar>(&mut self, name: u8, i: u64, value: T, done: Result<(), Refusal>) {
         let name = [name];
         let key = self.key(&name);
@@ -141,7 +141,7 @@ impl Bench {
         self.same(set, done);
     }
 
-    /// What an object tells of itself.
+    /// Checks what an object tells of itself.
     pub fn tells(&mut self, key: &Key, told: &Told) {
         let kind = self.segment.kind_of(key);
         self.same(kind, Ok(told.kind));

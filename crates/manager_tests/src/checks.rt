@@ -8,14 +8,14 @@ pub fn same<T: PartialEq + Drop>(rt: &impl Abort, got: T, want: T) {
     holds(rt, got == want);
 }
 
-/// Fails where something is not so. What a caller does behind it may rest on it.
+/// Fails if something is not so. What a caller does after it may rest on it.
 pub fn holds(rt: &impl Abort, so: bool)
     ensures { IsTrue so }
 {
     assert!(rt; so);
 }
 
-/// What a call answers, which is not refused.
+/// Returns what a call answers, which is not refused.
 pub fn done<T, E: Drop>(rt: &impl Abort, got: Result<T, E>) -> T
     ensures { got ≡ Ok result }
 {
@@ -25,7 +25,7 @@ pub fn done<T, E: Drop>(rt: &impl Abort, got: Result<T, E>) -> T
     }
 }
 
-/// What a call is refused with.
+/// Returns what a call is refused with.
 pub fn refusal<T: Drop, E>(rt: &impl Abort, got: Result<T, E>) -> E
     ensures { got ≡ Err result }
 {

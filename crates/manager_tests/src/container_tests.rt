@@ -12,7 +12,7 @@ fn sets(bench: &mut Bench, i: u64, value: i32, done: Result<(), Refusal>) {
     bench.same(set, done);
 }
 
-/// The vector has an element.
+/// Checks that the vector has an element.
 fn has(bench: &mut Bench, i: u64, value: i32) {
     let got = bench.segment.vec_get(&MADE, i);
     bench.same(got, Ok(value));

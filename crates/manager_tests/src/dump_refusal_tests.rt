@@ -4,7 +4,7 @@ use crate::dumps::{is_refused, loaded, refused_in};
 use segment_dump::{BadDump, Count, DumpFault, LoadError, Needs, count_dump};
 use std::process::Abort;
 
-/// Texts that are no dumps: in which line and column, and why. Counts that no lines stand behind are no reason to say
+/// Texts that are no dumps: in which line and column, and why. Counts that no lines stand after are no reason to say
 /// that there is too little space.
 const DAMAGED: [(&[u8], u64, u64, DumpFault); 14] = [
     (b"", 1, 1, DumpFault::Cut),
@@ -110,9 +110,8 @@ fn too_small(rt: HostRuntime) {
     }
 }
 
-/// A map of two pairs and a vector of strings with two texts, which need 144 bytes for the ends, 32 and 32 for the
-/// indexes, 64 for each object's own block, 48 for each pair, 48 for the array of the texts, and 32 and 48 for the
-/// texts.
+/// A map of two pairs and a vector of strings with two texts. They need 144 bytes for the ends, 32 and 32 for the
+/// indexes, and 64 for each object's own block. Each pair needs 48, the array of the texts 48, and the texts 32 and 48.
 const NEEDS_560: &[u8] =
     b"segment dump 1\nsize 4096\nindexes 1 1\nnamed \"b \\xc3\\xa4\" vec<string> 2\n  5 \"hello\"\n  20 \"12345678901234567890\"\nunique map<i32,bool> 2\n  -7 false\n  7 true\nend\n";
 
@@ -127,7 +126,7 @@ fn needs_are_counted(rt: HostRuntime) {
     same(&rt, count_dump(b"segment dump 1\nsize x\nindexes"), Err(14));
 }
 
-/// The dump is not loaded with this room for its longest text: the region comes back.
+/// Checks that the dump is not loaded with this room for its longest text: the region comes back.
 fn leaves_the_region<R: Abort + AllocGlobal>(rt: &R, room: &mut [u8], size: u64, cause: LoadError) {
     let refused = refused_in(rt, NEEDS_560, room, Some(size));
     same(rt, refused.cause, cause);

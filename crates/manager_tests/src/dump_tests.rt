@@ -1,4 +1,4 @@
-//! Segments that are dumped, and loaded again; dumps with notes behind them: those of capacities, and others; and
+//! Segments that are dumped, and loaded again; dumps with notes after them: those of capacities, and others; and
 //! segments as lines of JSON.
 use crate::checks::{done, holds, same};
 use crate::dumps::{empty, is_dumped, loaded, text_of, writer};
@@ -51,7 +51,7 @@ fn one_object_of_each_kind(rt: HostRuntime) {
     drop(segment);
 }
 
-/// A dump is loaded as a segment of 4096 bytes, which is dumped as this text.
+/// Checks that a dump is loaded as a segment of 4096 bytes, which is dumped as this text.
 fn loads_alike<R: Abort + AllocGlobal>(rt: &R, dump: &[u8], text: &[u8]) {
     let alike = loaded(rt, dump, Some(4096));
     is_dumped(rt, &alike, text);
@@ -102,11 +102,11 @@ fn a_long_text(rt: HostRuntime) {
 const DUMP: &[u8] =
     b"segment dump 1\nsize 4096\nindexes 1 0\nnamed a vec<i64> 1\n  7\nanonymous string 1\n  2 \"xy\"\nend\n";
 
-/// The same with their capacities.
+/// The dump with the capacities of its containers.
 const NOTED: &[u8] =
     b"segment dump 1\nsize 4096\nindexes 1 0\nnamed a vec<i64> 1\n  7\nanonymous string 1\n  2 \"xy\"\nend\n# capacity of names: 4\n# capacity of kinds: 0\n# capacity of named a vec<i64>: 10\n# capacity of anonymous string: 2\n";
 
-/// A writer with room for so many bytes of the dump with capacities takes these, and then fails.
+/// Checks that a writer with room for so many bytes of the dump with capacities takes these, and then fails.
 fn is_noted<R: Abort + AllocGlobal>(rt: &R, segment: &Segment, room: usize) {
     let mut out = writer(rt, room);
     let told = dump_with_capacities(segment, &mut out).is_ok();
@@ -158,7 +158,7 @@ const ONE_OF_EACH_IN_JSON: &[u8] =
 const TEXTS_IN_JSON: &[u8] =
     b"{\"class\":\"named\",\"name\":\"\xc3\xa4\\\"\",\"kind\":\"vec<string>\",\"value\":[\"\xc3\xa4\\u001f\\\\/\",{\"base64\":\"/w==\"},{\"base64\":\"+P4=\"},{\"base64\":\"TWHz\"},{\"base64\":\"AICAgA==\"},\"\"]}\n";
 
-/// A writer with room for so many bytes takes these of the lines of JSON, and then fails.
+/// Checks that a writer with room for so many bytes takes these of the lines of JSON, and then fails.
 fn is_in_json<R: Abort + AllocGlobal>(rt: &R, segment: &Segment, room: usize, lines: &[u8]) {
     let mut out = writer(rt, room);
     let told = dump_json(segment, &mut out).is_ok();

@@ -8,13 +8,13 @@ use segment_dump::{LoadError, LoadRefused, dump, load};
 use segment_manager::{Mode, Segment};
 use std::process::Abort;
 
-/// A segment of 4096 bytes with nothing in it.
+/// Makes a segment of 4096 bytes with nothing in it.
 pub fn empty<R: Abort + AllocGlobal>(rt: &R) -> Segment {
     let region = done(rt, RawRegion::new(rt.alloc(), 4096));
     done(rt, Segment::create(region, 0, 4096, Mode::Write))
 }
 
-/// A writer with room for so many bytes, which takes 7 at a time.
+/// Returns a writer with room for so many bytes, which takes 7 at a time.
 pub fn writer<R: Abort + AllocGlobal>(rt: &R, room: usize) -> MemorySink
     ensures { result.failures ≡ 0 }
 {
@@ -24,27 +24,27 @@ pub fn writer<R: Abort + AllocGlobal>(rt: &R, room: usize) -> MemorySink
     out
 }
 
-/// The text of a segment.
+/// Returns the text of a segment.
 pub fn text_of<R: Abort + AllocGlobal>(rt: &R, segment: &Segment) -> MemorySink {
     let mut out = writer(rt, 16384);
     holds(rt, dump(segment, &mut out).is_ok());
     out
 }
 
-/// A segment is dumped as this text.
+/// Checks that a segment is dumped as this text.
 pub fn is_dumped<R: Abort + AllocGlobal>(rt: &R, segment: &Segment, text: &[u8]) {
     let out = text_of(rt, segment);
     same(rt, out.taken(), text);
     drop(out);
 }
 
-/// The segment that a text is loaded as, in a region of 8192 bytes.
+/// Returns the segment that a text is loaded as, in a region of 8192 bytes.
 pub fn loaded<R: Abort + AllocGlobal>(rt: &R, text: &[u8], size: Option<u64>) -> Segment {
     let region = done(rt, RawRegion::new(rt.alloc(), 8192));
     done(rt, load(text, &mut [0; 4096], region, 16, size))
 }
 
-/// A text is not loaded, with this room for its longest text: why, and what comes back.
+/// Returns a text is not loaded, with this room for its longest text: why, and what comes back.
 pub fn refused_in<R: Abort + AllocGlobal>(
     rt: &R,
     text: &[u8],
@@ -55,7 +55,7 @@ pub fn refused_in<R: Abort + AllocGlobal>(
     refusal(rt, load(text, room, region, 16, size))
 }
 
-/// A text is not loaded as a segment of a size, and why.
+/// Checks that a text is not loaded as a segment of a size, and for which reason.
 pub fn is_refused<R: Abort + AllocGlobal>(rt: &R, text: &[u8], size: u64, cause: LoadError) {
     let refused = refused_in(rt, text, &mut [0; 100], Some(size));
     same(rt, refused.cause, cause);

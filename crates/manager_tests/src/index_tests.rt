@@ -6,7 +6,7 @@ use block_tags::Role;
 use seg_types::{Handle, Kind, NewKey, Scalar};
 use segment_manager::TileInfo;
 
-/// Five names, the last one first: the index is moved to 368, and where it stood is a gap.
+/// Makes five names, the last one first: the index is moved to 368 and leaves a gap.
 fn five_names(bench: &mut Bench) {
     bench.makes(b'e', 1, 1i64, 192);
     bench.makes(b'd', 1, 1i64, 240);

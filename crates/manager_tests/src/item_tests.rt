@@ -39,7 +39,7 @@ fn takes_for(
     bench.same(items.next().unwrap_or(end), next);
 }
 
-/// The same under a name.
+/// Checks what a construct call from an iterator answers under a name.
 fn takes(
     bench: &mut Bench,
     name: u8,

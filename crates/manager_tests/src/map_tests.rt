@@ -6,7 +6,7 @@ use seg_types::{IndexKey, Key, Kind, NewKey, Refusal, ScalarKind, ScalarValue};
 /// The kind of maps from i64 to u8.
 const BYTES: Kind = Kind::Map(ScalarKind::I64, ScalarKind::U8);
 
-/// The key of the map `m`.
+/// Returns the key of the map `m`.
 fn map<'a>(bench: &mut Bench) -> Key<'a> {
     match bench.name(b"m") {
         Some(name) => Key::Name(name),
@@ -38,7 +38,7 @@ fn leads(bench: &mut Bench, key: i64, value: Option<u8>) {
 /// A pair of a map, or nothing.
 type Pair = Option<(i64, u8)>;
 
-/// The pair of the map `m` from a key on, and the one above the key.
+/// Checks the pair of the map `m` from a key on, and the one above the key.
 fn stands(bench: &mut Bench, key: i64, from: Pair, above: Pair) {
     let map = map(bench);
     let got = bench.segment.map_first_from(&map, key);
@@ -47,7 +47,7 @@ fn stands(bench: &mut Bench, key: i64, from: Pair, above: Pair) {
     bench.same(got, Ok(above));
 }
 
-/// The pair of the map `m` up to a key, and the one below the key.
+/// Checks the pair of the map `m` up to a key, and the one below the key.
 fn stands_back(bench: &mut Bench, key: i64, up_to: Pair, below: Pair) {
     let map = map(bench);
     let got = bench.segment.map_last_up_to(&map, key);
@@ -56,14 +56,14 @@ fn stands_back(bench: &mut Bench, key: i64, up_to: Pair, below: Pair) {
     bench.same(got, Ok(below));
 }
 
-/// The last pair of the map `m`.
+/// Checks the last pair of the map `m`.
 fn ends(bench: &mut Bench, last: Pair) {
     let map = map(bench);
     let got = bench.segment.map_last(&map);
     bench.same(got, Ok(last));
 }
 
-/// A segment with the map `m`.
+/// Makes a segment with the map `m`.
 fn with_map(bench: &mut Bench) {
     if let Some(name) = bench.name(b"m") {
         let made = bench

@@ -14,20 +14,20 @@ use std::process::Abort;
 /// What came of a try for which the test had memory.
 #[derive(Clone, Copy, PartialEq)]
 enum Tried {
-    /// It succeeded.
+    /// The call succeeded.
     Done,
-    /// It was refused memory, and said so.
+    /// The call was refused memory, and said so.
     Refused,
 }
 
-/// A segment of 1024 bytes with nothing in it, at the front of its region.
+/// Makes a segment of 1024 bytes with nothing in it, at the front of its region.
 fn empty(rt: &impl Abort, alloc: Global) -> Option<Segment> {
     let region = RawRegion::new(alloc, 1024).ok()?;
     let segment = done(rt, Segment::create(region, 0, 1024, Mode::Write));
     Some(segment)
 }
 
-/// The same with a map of one pair.
+/// Makes a segment with a map of one pair, at the front of its region.
 fn map(rt: &impl Abort, alloc: Global) -> Option<Segment> {
     let mut segment = empty(rt, alloc)?;
     let made = segment.construct_map::<i64, i64, _>(&new_named(rt, b"m"));
@@ -43,7 +43,7 @@ fn write(rt: &impl Abort, image: &mut [u8], from: usize, bytes: &[u8]) {
     room.expect(rt, "no such bytes").copy_from_slice(bytes);
 }
 
-/// The image of a segment with the map.
+/// Returns the image of a segment with the map.
 fn image(rt: &impl Abort, alloc: Global) -> Option<Vec<u8>> {
     let segment = map(rt, alloc)?;
     let image = segment.as_bytes().to_vec(alloc).ok();
@@ -66,7 +66,7 @@ fn opens(
     open(alloc, &mut reader, region, 1024, Mode::Write, &mut steps)
 }
 
-/// The region that comes back where memory was refused.
+/// Returns the region that comes back if memory was refused.
 fn handed_back(rt: &impl Abort, refused: OpenRefused) -> RawRegion {
     let is_memory = matches!(&refused.cause, OpenError::OutOfMemory(_));
     same(rt, is_memory, true);
@@ -74,7 +74,7 @@ fn handed_back(rt: &impl Abort, refused: OpenRefused) -> RawRegion {
     refused.region
 }
 
-/// What was opened is the segment of the image, whose format stands in its first 16 bytes.
+/// Checks that what was opened is the segment of the image, whose format stands in its first 16 bytes.
 fn is_opened(rt: &impl Abort, image: &[u8], opened: Segment) -> Tried {
     same(rt, opened.as_bytes().get(16..), image.get(16..));
     same(rt, opened.map_get(&named(rt, b"m"), 1i64), Ok(Some(10i64)));
@@ -82,7 +82,7 @@ fn is_opened(rt: &impl Abort, image: &[u8], opened: Segment) -> Tried {
     Tried::Done
 }
 
-/// The region came back where memory was refused, and serves then.
+/// Returns the region came back if memory was refused, and serves then.
 fn serves(
     rt: &impl Abort,
     alloc: Global,
@@ -140,7 +140,7 @@ fn ask(rt: &impl Abort, alloc: Global, asked: Asked) -> Option<Tried> {
     }
 }
 
-/// Asks, and once more where memory was refused.
+/// Asks, and once more if memory was refused.
 fn is_served(rt: &impl Abort, alloc: Global, asked: Asked) {
     if ask(rt, alloc, asked) != Some(Tried::Done) {
         same(rt, ask(rt, alloc, asked), Some(Tried::Done));

@@ -95,7 +95,7 @@ const TOLD: [(Key<'static>, Told); 4] = [
     (Key::Handle(336), ANONYMOUS),
 ];
 
-/// An object of each class.
+/// Makes an object of each class.
 fn make_three(bench: &mut Bench) {
     bench.makes(b'a', 1, true, 192);
     let made = bench.segment.construct(&NewKey::Unique(U64), 2, 9u64);

@@ -14,7 +14,7 @@ use seg_types::Refusal;
 use segment_manager::{CreateError, Mode, Segment};
 use std::process::Abort;
 
-/// A segment of so many bytes at `base` of a region of 1024 sevens.
+/// Returns a segment of so many bytes at `base` of a region of 1024 sevens.
 fn made<R: Abort + AllocGlobal>(rt: &R, base: u64, size: u64, mode: Mode) -> Segment
     requires { base % 16 ≡ 0 }
 {
@@ -52,13 +52,13 @@ fn the_smallest_segment(rt: HostRuntime) {
     drop(segment);
 }
 
-/// A region of 1024 bytes is one of sevens still.
+/// Checks that a region of 1024 bytes still has only sevens.
 fn is_as_it_was(rt: &impl Abort, region: &RawRegion) {
     same(rt, region.capacity(), 1024);
     are_sevens(rt, region, 0, 1024);
 }
 
-/// No segment of so many bytes is made at `base` of 1024 bytes, and the region comes back as it was.
+/// Checks that no segment of so many bytes is made at `base` of 1024 bytes, and that the region comes back as it was.
 fn makes_none<R: Abort + AllocGlobal>(rt: &R, size: u64, cause: CreateError) {
     let region = region_of_sevens(rt, 1024);
     let refused = refusal(rt, Segment::create(region, 16, size, Mode::Write));
@@ -73,8 +73,8 @@ fn a_refused_region_comes_back(rt: HostRuntime) {
     makes_none(&rt, 1024, CreateError::RegionTooSmall);
 }
 
-/// An image of 176 bytes has no place in a region from `base` on. That is told behind its front, where the reader
-/// fails, and the region comes back as it was.
+/// Checks that an image of 176 bytes has no place in a region from `base` on. That is told after its front, if the
+/// reader fails, and the region comes back as it was.
 fn opens_none<R: Abort + AllocGlobal>(rt: &R, base: u64)
     requires { base % 16 ≡ 0 }
 {
@@ -104,7 +104,7 @@ fn a_region_that_is_too_small_comes_back(rt: HostRuntime) {
     opens_none(&rt, 18446744073709551600);
 }
 
-/// An image is opened where it lies in memory, for reading, at 16 of 2048 bytes.
+/// Checks that an image is opened where it lies in memory, for reading, at 16 of 2048 bytes.
 fn opens_bytes<R: Abort + AllocGlobal>(rt: &R, image: &[u8]) {
     let region = region_of_sevens(rt, 2048);
     let mut steps = Steps::new();
@@ -123,7 +123,7 @@ fn an_image_in_memory_is_opened(rt: HostRuntime) {
     made.ends(&rt);
 }
 
-/// The bytes have no place in a region of 1024 bytes from 864 on, and the region comes back as it was.
+/// Checks that the bytes have no place in a region of 1024 bytes from 864 on, and the region comes back as it was.
 fn opens_no_bytes<R: Abort + AllocGlobal>(rt: &R, image: &[u8], cause: OpenError) {
     let region = region_of_sevens(rt, 1024);
     let mut steps = Steps::new();
@@ -146,14 +146,14 @@ fn bytes_that_are_too_few_leave_the_region(rt: HostRuntime) {
     opens_no_bytes(&rt, of_176, OpenError::RegionTooSmall);
 }
 
-/// What the check of an image at 16 in a region of 2048 sevens answers.
+/// Returns what the check of an image at 16 in a region of 2048 sevens answers.
 fn verified<R: Abort + AllocGlobal>(rt: &R, image: &[u8]) -> Result<RawRegion, OpenRefused> {
     let mut reader = MemorySource::new(image, 7, Last::Ends);
     let region = region_of_sevens(rt, 2048);
     verify(rt.alloc(), &mut reader, region, 16, &mut Steps::new())
 }
 
-/// A region has sevens before and behind the place of an image of 1024 bytes at 16.
+/// Checks that a region has sevens before and after the place of an image of 1024 bytes at 16.
 fn has_sevens_beside(rt: &impl Abort, region: &RawRegion) {
     are_sevens(rt, region, 0, 16);
     are_sevens(rt, region, 1040, 1008);
@@ -179,14 +179,14 @@ fn a_wrong_image_is_told_and_writes_nothing_beside(rt: HostRuntime) {
     drop(refused);
 }
 
-/// What an examination of an image at 16 in a region of 2048 sevens answers.
+/// Returns what an examination of an image at 16 in a region of 2048 sevens answers.
 fn examined<R: Abort + AllocGlobal>(rt: &R, image: &[u8]) -> Result<RawRegion, ExamineRefused> {
     let mut reader = MemorySource::new(image, 7, Last::Ends);
     let region = region_of_sevens(rt, 2048);
     examine(rt.alloc(), &mut reader, region, 16, &mut Steps::new())
 }
 
-/// The same of an image that lies in memory.
+/// Examines an image that lies in memory, at 16 in a region of 2048 sevens.
 fn examined_there<R: Abort + AllocGlobal>(
     rt: &R,
     image: &[u8],

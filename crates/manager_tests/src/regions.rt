@@ -5,7 +5,7 @@ use crate::checks::holds;
 use raw_region::RawRegion;
 use std::process::Abort;
 
-/// A region of so many bytes, each of them 7.
+/// Returns a region of so many bytes, each of them 7.
 pub fn region_of_sevens<R: Abort + AllocGlobal>(rt: &R, capacity: u64) -> RawRegion
     requires { IsCapacity capacity }
 {
@@ -16,14 +16,14 @@ pub fn region_of_sevens<R: Abort + AllocGlobal>(rt: &R, capacity: u64) -> RawReg
     region
 }
 
-/// A region has `len` bytes from `from` on, at most 2048, and each of them is 7.
+/// Checks that a region has `len` bytes from `from` on, at most 2048, and each of them is 7.
 pub fn are_sevens(rt: &impl Abort, region: &RawRegion, from: u64, len: usize) {
     reads(rt, region, from, SEVENS.get(..len).unwrap_or(b"none"));
 }
 
 const SEVENS: [u8; 2048] = [7; 2048];
 
-/// A region has these bytes from an offset on.
+/// Checks that a region has these bytes from an offset on.
 pub fn reads(rt: &impl Abort, region: &RawRegion, from: u64, bytes: &[u8]) {
     let len = bytes.len() as u64;
     holds(rt, region.in_range(from, len));

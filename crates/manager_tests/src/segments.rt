@@ -15,13 +15,13 @@ use segment_manager::unchecked::{named_at, unique_at};
 use segment_manager::{Mode, Segment};
 use std::process::Abort;
 
-/// A segment of 1024 bytes with nothing in it.
+/// Returns a segment of 1024 bytes with nothing in it.
 pub fn fresh<R: Abort + AllocGlobal>(rt: &R) -> Bench {
     let region = done(rt, RawRegion::new(rt.alloc(), 1024));
     Bench::new(done(rt, Segment::create(region, 0, 1024, Mode::Write)))
 }
 
-/// The bytes of a segment, opened as one in another region, where all was as is wanted so far.
+/// Returns the bytes of a segment, opened as one in another region, if all was as is wanted so far.
 pub fn opened<R: Abort + AllocGlobal>(rt: &R, bench: Bench, mode: Mode) -> Bench {
     let mut reader = MemorySource::new(bench.segment.as_bytes(), 4096, Last::Ends);
     let region = done(rt, RawRegion::new(rt.alloc(), 2048));
@@ -35,26 +35,26 @@ fn name<'a>(rt: &impl Abort, bytes: &'a [u8]) -> Name<'a> {
     Name::new(bytes).expect(rt, "no name")
 }
 
-/// The key of the object of this name.
+/// Returns the key of the object of this name.
 pub fn named<'a>(rt: &impl Abort, bytes: &'a [u8]) -> Key<'a> {
     Key::Name(name(rt, bytes))
 }
 
-/// The key of an object that is to be made under this name.
+/// Returns the key of an object that is to be made under this name.
 pub fn new_named<'a>(rt: &impl Abort, bytes: &'a [u8]) -> NewKey<'a>
     ensures { (kind : Kind) → IsOfKind (new_key_seen result) kind }
 {
     NewKey::Name(name(rt, bytes))
 }
 
-/// The object whose name has `i` others before it has this handle.
+/// Checks that the object whose name has `i` others before it has this handle.
 pub fn named_is(rt: &impl Abort, bench: &Bench, i: u64, handle: Handle) {
     let segment = &bench.segment;
     holds(rt, i < segment.num_named());
     same(rt, named_at(segment, i), handle);
 }
 
-/// The unique object whose kind has `i` others before it has this handle.
+/// Checks that the unique object whose kind has `i` others before it has this handle.
 pub fn unique_is(rt: &impl Abort, bench: &Bench, i: u64, handle: Handle) {
     let segment = &bench.segment;
     holds(rt, i < segment.num_unique());

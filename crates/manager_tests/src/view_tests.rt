@@ -12,7 +12,7 @@ const MADE: Key<'static> = Key::Handle(144);
 
 const BEHIND: Refusal = Refusal::OutOfRange;
 
-/// A view of an array of three elements.
+/// Returns a view of an array of three elements.
 fn array<'a>(rt: &impl Abort, bench: &'a mut Bench) -> ArrayView<'a, i64> {
     let made = bench.segment.construct(&NewKey::Anonymous, 3, 7i64);
     same(rt, made, Ok(144));
@@ -32,7 +32,7 @@ fn elements_of_an_array(rt: HostRuntime) {
     bench.ends(&rt);
 }
 
-/// A view of a vector of the numbers 3, 5 and 8.
+/// Returns a view of a vector of the numbers 3, 5 and 8.
 fn vector<'a>(rt: &impl Abort, bench: &'a mut Bench) -> VectorView<'a, i32> {
     let numbers = [3i32, 5, 8];
     let made = bench.segment.construct_vec(&NewKey::Anonymous, &numbers);
@@ -55,7 +55,7 @@ fn elements_of_a_vector(rt: HostRuntime) {
     bench.ends(&rt);
 }
 
-/// A view of a vector of a text and an empty one.
+/// Returns a view of a vector of a text and an empty one.
 fn texts<'a>(rt: &impl Abort, bench: &'a mut Bench) -> StringsView<'a> {
     let texts: [&[u8]; 2] = [b"one", b""];
     let made = bench.segment.construct_texts(&NewKey::Anonymous, &texts);
@@ -73,7 +73,7 @@ fn texts_of_a_list(rt: HostRuntime) {
     bench.ends(&rt);
 }
 
-/// A view of a map with the keys -2, 4 and 6.
+/// Returns a view of a map with the keys -2, 4 and 6.
 fn pairs<'a>(rt: &impl Abort, bench: &'a mut Bench) -> MapView<'a, i64, u8> {
     let segment = &mut bench.segment;
     let made = segment.construct_map::<i64, u8, _>(&NewKey::Anonymous);
@@ -112,7 +112,7 @@ fn pairs_come_from_both_ends(rt: HostRuntime) {
     bench.ends(&rt);
 }
 
-/// The last pair of a range.
+/// Returns the last pair of a range.
 fn last_in<R: RangeBounds<i64>>(view: &MapView<'_, i64, u8>, range: R) -> Option<(i64, u8)> {
     view.range(range).next_back()
 }

@@ -1,4 +1,4 @@
-//! Readers and writers in memory: they give or take a few bytes at a time, and fail where they are told to.
+//! Readers and writers in memory: they give or take a few bytes at a time, and fail if they are told to.
 ghost use Rattle.std.specs.Prelude.{◌≡◌, ◌<◌, [], false, IfOk, vec_len};
 ghost use Rattle.raw_region.specs.Device.{ReaderHistory, WriterHistory};
 
@@ -40,6 +40,7 @@ impl<'a> Model for MemorySource<'a> {
 }
 
 impl<'a> MemorySource<'a> {
+    /// Makes a reader of the bytes, which gives at most `piece` of them a read.
     pub fn new(bytes: &'a [u8], piece: usize, last: Last) -> MemorySource<'a>
         ensures { result ≡ record { bytes = []; ended = false; ends = 0; failures = 0 } }
     {
@@ -99,6 +100,7 @@ impl Model for MemorySink {
 }
 
 impl MemorySink {
+    /// Makes a writer with room for `room` bytes, which takes at most `piece` of them a write, or `AllocError`.
     pub fn new(
         alloc: Global,
         room: usize,
@@ -118,7 +120,7 @@ impl MemorySink {
         })
     }
 
-    /// All that it took so far.
+    /// Returns all that it took so far.
     pub fn taken(&self) -> &[u8]
         ensures { result.now ≡ self.now.bytes }
     {

@@ -16,7 +16,7 @@ pub const NULL: u64 = 1;
 #[error("bad link")]
 pub struct BadLink;
 
-/// The target of the link at `at`, or `None` where it is null.
+/// Returns the target of the link at `at`, or `None` if it is null.
 pub fn load(w: &Window, at: u64) -> Option<u64>
     requires aligned { at % 8 ≡ 0 }
     requires in_bounds { at + 8 ≤ length w.now.bytes }
@@ -70,8 +70,8 @@ pub fn copy(w: &mut Window, from: u64, to: u64)
     }
 }
 
-/// The target of the link at `at` in a segment whose bytes may be anything. A target has to be a
-/// multiple of 16 from 144 to the window's size less 32.
+/// Returns the target of the link at `at` in a segment whose bytes may be anything. A target has to be a multiple of 16
+/// from 144 to the window's size less 32.
 pub fn checked(w: &Window, at: u64) -> Result<Option<u64>, BadLink>
     requires aligned { at % 8 ≡ 0 }
     requires in_bounds { at + 8 ≤ length w.now.bytes }

@@ -14,13 +14,13 @@ use raw_region::{Window, hold_bytes, set_word_in, word_in};
 /// How far links move.
 #[derive(Clone, Copy, Debug)]
 pub enum Places {
-    /// So many places of 8 bytes towards the end.
+    /// Places of 8 bytes towards the end.
     Up(u64),
-    /// So many places towards the start.
+    /// Places of 8 bytes towards the start.
     Down(u64),
 }
 
-/// Whether each of the `n` links from `at` on leads to a multiple of 16 or nowhere.
+/// Tells whether each of the `n` links from `at` on leads to a multiple of 16 or nowhere.
 pub fn are_links(w: &Window, at: u64, n: u64) -> bool
     requires aligned { at % 8 ≡ 0 }
     requires in_bounds { at + 8 * n ≤ length w.now.bytes }
@@ -38,7 +38,7 @@ pub fn are_links(w: &Window, at: u64, n: u64) -> bool
     true
 }
 
-/// Whether each of the `n` links from `at` on leads to a multiple of 16.
+/// Tells whether each of the `n` links from `at` on leads to a multiple of 16.
 pub fn all_lead(w: &Window, at: u64, n: u64) -> bool
     requires aligned { at % 8 ≡ 0 }
     requires in_bounds { at + 8 * n ≤ length w.now.bytes }
@@ -83,8 +83,7 @@ pub fn shift(w: &mut Window, at: u64, n: u64, by: Places)
     }
 }
 
-/// The same for links none of which is null, which need not be asked for it: the words of all of them change by the
-/// distance.
+/// Moves links as `shift`, if none of them is null: all their words change by the distance, and none is tested.
 pub fn shift_non_null(w: &mut Window, at: u64, n: u64, by: Places)
     requires aligned { at % 8 ≡ 0 }
     requires source { at + 8 * n ≤ length w.old.bytes }
@@ -127,7 +126,7 @@ struct Seen {
 }
 
 impl Seen {
-    /// Whether one of the words was odd, as that of a link that leads nowhere is.
+    /// Tells whether one of the words was odd, as that of a link that leads nowhere is.
     #[inline(always)]
     fn has_odd(self) -> bool
         ensures { result ≡ false → BothEven self.first self.second }
@@ -136,8 +135,8 @@ impl Seen {
     }
 }
 
-/// From the last run on, and then from the last link of the rest on, so that none is overwritten before it has moved.
-/// That none is null may be known.
+/// Moves links towards the end: the runs from the last on, then the rest from the last link on, so that none is
+/// overwritten before it has moved. `NON_NULL` says that none is null.
 #[inline(always)]
 fn move_up<const NON_NULL: bool>(bytes: &mut [u8], at: usize, n: usize, by: usize)
     requires in_bounds { at + by + 8 * n ≤ length bytes.old }
@@ -155,8 +154,8 @@ fn move_up<const NON_NULL: bool>(bytes: &mut [u8], at: usize, n: usize, by: usiz
     links_up(bytes, at, rest, by);
 }
 
-/// The runs, which are far where they are many. The words of all links change by the distance first, and where one was
-/// odd, those that led nowhere are put right.
+/// Moves the runs towards the end. It changes the words of all links by the distance, and then repairs the null links
+/// if a word was odd.
 #[inline(always)]
 fn runs_up<const NON_NULL: bool>(bytes: &mut [u8], at: usize, n: usize, by: usize)
     requires in_bounds { at + by + 64 * n ≤ length bytes.old }
@@ -171,7 +170,7 @@ fn runs_up<const NON_NULL: bool>(bytes: &mut [u8], at: usize, n: usize, by: usiz
     }
 }
 
-/// The turns of all runs; those that are far look ahead.
+/// Moves all runs towards the end, and returns what was seen of their words. Runs that are far look ahead.
 #[inline(always)]
 fn all_turns_up<const NON_NULL: bool>(bytes: &mut [u8], at: usize, n: usize, by: usize) -> Seen
     requires in_bounds { at + by + 64 * n ≤ length bytes.old }
@@ -196,8 +195,8 @@ fn all_turns_up<const NON_NULL: bool>(bytes: &mut [u8], at: usize, n: usize, by:
     turns_up::<NON_NULL>(bytes, at, AHEAD, by, 0, far)
 }
 
-/// The runs, the last of them first, two in a turn. Where they are far, words are looked at so many bytes `ahead`, so
-/// that a processor has them near in time.
+/// Moves the runs from the last on, two in a turn. If they are far, it reads words `ahead` bytes before their turn, so
+/// that a processor has them in its cache.
 #[inline(always)]
 fn turns_up<const NON_NULL: bool>(
     bytes: &mut [u8],
@@ -231,7 +230,7 @@ fn turns_up<const NON_NULL: bool>(
     seen
 }
 
-/// A word of each of two runs whose turn comes later, where they are far.
+/// Reads a word of each of two later runs, if they are far.
 #[inline(always)]
 fn look_ahead(bytes: &[u8], later: usize, far: bool, seen: Seen) -> Seen
     requires { later + 72 ≤ length bytes.now }
@@ -246,7 +245,7 @@ fn look_ahead(bytes: &[u8], later: usize, far: bool, seen: Seen) -> Seen
     }
 }
 
-/// Moves a run. Where it is known that none is null, what was seen before is all that counts, and a compiler leaves out
+/// Moves a run. If it is known that none is null, what was seen before is all that counts, and a compiler leaves out
 /// the rest.
 #[inline(always)]
 fn see_run<const NON_NULL: bool>(bytes: &mut [u8], from: usize, to: usize, seen: Seen) -> Seen
@@ -261,7 +260,7 @@ fn see_run<const NON_NULL: bool>(bytes: &mut [u8], from: usize, to: usize, seen:
     if NON_NULL { seen } else { now }
 }
 
-/// The links one by one, the last of them first.
+/// Moves the links one by one, the last of them first.
 fn links_up(bytes: &mut [u8], at: usize, n: usize, by: usize)
     requires { at + by + 8 * n ≤ length bytes.old }
     ensures { bytes.new ≡ patched bytes.old (at + by) (relinked (bytes_of bytes.old) at (at + by) n) }
@@ -274,7 +273,7 @@ fn links_up(bytes: &mut [u8], at: usize, n: usize, by: usize)
     }
 }
 
-/// From the first run on, and then from the first link of the rest on.
+/// Moves links towards the start: the runs from the first on, then the rest from the first link on.
 #[inline(always)]
 fn move_down<const NON_NULL: bool>(bytes: &mut [u8], at: usize, n: usize, by: usize)
     requires source { at + 8 * n ≤ length bytes.old }
@@ -294,7 +293,7 @@ fn move_down<const NON_NULL: bool>(bytes: &mut [u8], at: usize, n: usize, by: us
     links_down(bytes, from + 64 * runs, others % RUN, by);
 }
 
-/// The runs, as `runs_up` has them.
+/// Moves the runs towards the start, as `runs_up` does towards the end.
 #[inline(always)]
 fn runs_down<const NON_NULL: bool>(bytes: &mut [u8], at: usize, n: usize, by: usize)
     requires source { at + 64 * n ≤ length bytes.old }
@@ -310,7 +309,7 @@ fn runs_down<const NON_NULL: bool>(bytes: &mut [u8], at: usize, n: usize, by: us
     }
 }
 
-/// The turns of all runs; those that are far look ahead.
+/// Moves all runs towards the end, and returns what was seen of their words. Runs that are far look ahead.
 #[inline(always)]
 fn all_turns_down<const NON_NULL: bool>(bytes: &mut [u8], at: usize, n: usize, by: usize) -> Seen
     requires source { at + 64 * n ≤ length bytes.old }
@@ -330,7 +329,7 @@ fn all_turns_down<const NON_NULL: bool>(bytes: &mut [u8], at: usize, n: usize, b
     turns_down::<NON_NULL>(bytes, at + 64 * many, AHEAD, by, 0, far)
 }
 
-/// The runs, the first of them first, two in a turn. Where they are far, words are looked at so many bytes `ahead`, as
+/// Moves the runs from the first on, two in a turn. If they are far, it reads words `ahead` bytes before their turn, as
 /// `turns_up` does.
 #[inline(always)]
 fn turns_down<const NON_NULL: bool>(
@@ -364,7 +363,7 @@ fn turns_down<const NON_NULL: bool>(
     seen
 }
 
-/// The links one by one, the first of them first.
+/// Moves the links one by one, the first of them first.
 fn links_down(bytes: &mut [u8], at: usize, n: usize, by: usize)
     requires source { at + 8 * n ≤ length bytes.old }
     requires in_bounds { by ≤ at }
@@ -423,7 +422,7 @@ fn put_right(bytes: &mut [u8], from: usize, to: usize, n: usize)
     }
 }
 
-/// The null link where a word is what became of one, and else the word.
+/// Returns the null link if a word is what became of one, and otherwise the word.
 fn null_again(word: u64, null: u64) -> u64
     ensures { result ≡ (if word == null then 1 else word) }
 {
@@ -443,7 +442,7 @@ fn move_one(bytes: &mut [u8], from: usize, to: usize)
     set_word_in(bytes, to, word);
 }
 
-/// The word at `to` of a link that leads where the one at `from` leads.
+/// Returns the word at `to` of a link that leads where the one at `from` leads.
 fn moved(bytes: &[u8], from: usize, to: usize) -> u64
     requires { from + 8 ≤ length bytes.now }
     ensures { result ≡ link_word to (link_at (bytes_of bytes.now) from) }
@@ -454,7 +453,7 @@ fn moved(bytes: &[u8], from: usize, to: usize) -> u64
     moved_by_distance(bytes, from, to)
 }
 
-/// The word at `from`, less the distance: that of the same link, where it is not null.
+/// Returns the word at `from`, less the distance: that of the same link, if it is not null.
 #[inline(always)]
 fn moved_by_distance(bytes: &[u8], from: usize, to: usize) -> u64
     requires { from + 8 ≤ length bytes.now }
@@ -463,7 +462,7 @@ fn moved_by_distance(bytes: &[u8], from: usize, to: usize) -> u64
     less_distance(word_in(bytes, from), from, to)
 }
 
-/// A word at `from`, less the distance to `to`.
+/// Returns a word at `from`, less the distance to `to`.
 #[inline(always)]
 fn less_distance(word: u64, from: usize, to: usize) -> u64
     ensures { result ≡ word_by_distance from to word }

@@ -18,8 +18,8 @@ pub trait Source {
     // how many reads did, and how many failed.
     ghost history: { Self → ReaderHistory };
 
-    /// Reads into the front of the slice, and answers how many bytes. 0 for a slice that is not
-    /// empty is the end. An error gives no byte.
+    /// Reads into the front of the slice, and returns how many bytes. 0 for a slice that is not empty is the end. An
+    /// error gives no byte.
     fn read(&mut self, into: &mut [u8]) -> Result<usize, DeviceFault>
         requires { (history self.old).failures < 2 ^ 64 - 1 }
         ensures count { IfOk result (λ n. n ≤ length into.new) }
@@ -36,8 +36,8 @@ pub trait Sink {
     // What it did so far: all bytes that it took, and how many writes failed.
     ghost history: { Self → WriterHistory };
 
-    /// Takes the front of the slice, and answers how many bytes. To take none of a slice that is
-    /// not empty is a failure. An error takes no byte.
+    /// Takes the front of the slice, and returns how many bytes. To take none of a slice that is not empty is a
+    /// failure. An error takes no byte.
     fn write(&mut self, bytes: &[u8]) -> Result<usize, DeviceFault>
         requires { (history self.old).failures < 2 ^ 64 - 1 }
         ensures count { IfOk result (λ n. n ≤ length bytes.now) }
@@ -63,7 +63,7 @@ pub fn write_all<S: Sink>(sink: &mut S, bytes: &[u8]) -> Result<(), DeviceFault>
     Ok(())
 }
 
-/// Reads until the slice is full, the reader ends or fails, and answers how many bytes. It asks no more behind the end.
+/// Reads until the slice is full, the reader ends or fails, and returns how many bytes. It asks no more after the end.
 pub fn read_full<S: Source>(source: &mut S, into: &mut [u8]) -> Result<usize, DeviceFault>
     requires { (S.history source.old).failures < 2 ^ 64 - 1 }
     ensures count { IfOk result (λ n. n ≤ length into.new) }

@@ -16,14 +16,14 @@ impl Model for History {
 }
 
 impl History {
-    /// Nothing went by yet.
+    /// Makes a history of no bytes, whose count is 0.
     pub fn new() -> History
         ensures { (result.bytes ≡ []) × (result.count ≡ 0) }
     {
         History {}
     }
 
-    /// These bytes went by, and the count rises by as much.
+    /// Appends bytes to the history, and raises its count.
     pub fn record(&mut self, bytes: &[u8], count: u64)
         ensures { (self.new.bytes ≡ self.old.bytes ++ bytes.now) × (self.new.count ≡ self.old.count + count) }
     {}

@@ -17,7 +17,7 @@ pub struct OutOfMemory {
     _made: (),
 }
 
-/// `capacity` bytes, each 0.
+/// Returns `capacity` bytes, each 0.
 ///
 /// # Errors
 ///
@@ -37,7 +37,7 @@ pub(crate) fn allocated(alloc: Global, capacity: u64) -> Result<Allocation, OutO
     }
 }
 
-/// A copy of a text.
+/// Returns a copy of a text.
 ///
 /// # Errors
 ///
@@ -55,7 +55,7 @@ pub fn copy_text(alloc: Global, text: &str) -> Result<String, OutOfMemory>
     }
 }
 
-/// Puts bytes behind a text.
+/// Puts bytes after a text.
 ///
 /// # Errors
 ///

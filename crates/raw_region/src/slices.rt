@@ -4,7 +4,7 @@ ghost use Rattle.raw_region.specs.Memory.{AreBytes, are_bytes, bytes_of, word_at
 
 use byteorder::{ByteOrder, LittleEndian};
 
-/// The number in the 8 bytes at `at`.
+/// Returns the number in the 8 bytes at `at`.
 #[tactic(auto, using(crate::proofs::Patches::words))]
 pub fn word_in(bytes: &[u8], at: usize) -> u64
     requires { at + 8 ≤ length bytes.now }
@@ -22,8 +22,8 @@ pub fn set_word_in(bytes: &mut [u8], at: usize, value: u64)
     LittleEndian::write_u64(&mut bytes[at..at + 8], value);
 }
 
-/// The elements of a slice of type `u8` are below 256. Nothing is done: a contract knows it of a parameter's type
-/// alone.
+/// States that the elements of a slice of type `u8` are below 256. It does nothing: a contract knows this of a
+/// parameter's type alone.
 #[inline(always)]
 pub fn hold_bytes(bytes: &[u8])
     ensures each_element { AreBytes bytes.now }

@@ -15,7 +15,7 @@ pub trait ReadOnce {
     // What one read may answer, what stands in the slice then, and what the reader is then.
     ghost read_gives: { Self → Result ℕ Fault → List ℕ → Self → Type 0 };
 
-    /// One read of the reader into the front of the slice, and its answer.
+    /// Reads once into the front of the slice, and records what the reader answered.
     fn read_once(&mut self, into: &mut [u8]) -> Result<usize, DeviceFault>
         ensures count { IfOk result (λ n. n ≤ length into.new) }
         ensures uniqueness { read_gives self.old result into.new self.new };
@@ -37,7 +37,7 @@ pub trait WriteOnce {
     // What one write of these bytes may answer, and what the writer is then.
     ghost write_gives: { Self → Result ℕ Fault → List ℕ → Self → Type 0 };
 
-    /// One write of the bytes to the writer, and its answer.
+    /// Writes the bytes once, and records what the writer answered.
     fn write_once(&mut self, bytes: &[u8]) -> Result<usize, DeviceFault>
         ensures count { IfOk result (λ n. n ≤ length bytes.now) }
         ensures uniqueness { write_gives self.old result bytes.now self.new };
@@ -54,8 +54,8 @@ impl<W: Write> WriteOnce for W {
     }
 }
 
-/// A reader of std. Each of its errors is a failure, also where the reader may be asked again. Its history counts the
-/// ends that it answered.
+/// A reader of std. Each of its errors is a failure, also if the reader may be asked again. Its history counts the ends
+/// that it answered.
 #[derive(Drop)]
 pub struct StdSource<R> {
     inner: R,
@@ -78,6 +78,7 @@ impl<R> Model for StdSource<R> {
 }
 
 impl<R: ReadOnce> StdSource<R> {
+    /// Makes a source of a reader of std, from which nothing was read.
     pub fn new(inner: R) -> StdSource<R>
         ensures { result ≡ record {
           inner = inner;
@@ -96,7 +97,7 @@ impl<R: ReadOnce> StdSource<R> {
 impl<R: ReadOnce> Source for StdSource<R> {
     ghost history = { λ r. r.history };
 
-    /// Asks the inner reader once, and answers what it answers.
+    /// Asks the inner reader once, and returns what it answers.
     fn read(&mut self, into: &mut [u8]) -> Result<usize, DeviceFault>
         requires { self.old.history.failures < 2 ^ 64 - 1 }
         ensures inner { R.read_gives self.old.inner result into.new self.new.inner }
@@ -151,6 +152,7 @@ impl<W> Model for StdSink<W> {
 }
 
 impl<W: WriteOnce> StdSink<W> {
+    /// Makes a sink of a writer of std, which took nothing.
     pub fn new(inner: W) -> StdSink<W>
         ensures { result ≡ record { inner = inner; history = record { bytes = []; failures = 0 } } }
     {
@@ -165,7 +167,7 @@ impl<W: WriteOnce> StdSink<W> {
 impl<W: WriteOnce> Sink for StdSink<W> {
     ghost history = { λ w. w.history };
 
-    /// Gives the bytes to the inner writer once, and answers what it answers.
+    /// Gives the bytes to the inner writer once, and returns what it answers.
     fn write(&mut self, bytes: &[u8]) -> Result<usize, DeviceFault>
         requires { self.old.history.failures < 2 ^ 64 - 1 }
         ensures inner { W.write_gives self.old.inner result bytes.now self.new.inner }

@@ -23,7 +23,7 @@ impl Model for Steps {
 const _: () = prove!(size_of::<Steps>() == 0);
 
 impl Steps {
-    /// No step yet.
+    /// Makes a counter that stands at 0.
     pub fn new() -> Steps
         ensures { result ≡ 0 }
     {
@@ -32,7 +32,7 @@ impl Steps {
         }
     }
 
-    /// `n` steps more.
+    /// Raises the counter by `n` steps.
     pub fn add(&mut self, n: u64)
         ensures { self.new ≡ self.old + n }
     {

@@ -13,8 +13,8 @@ use std::alloc::Global;
 /// The byte round the segment.
 const MARK: u8 = 7;
 
-/// Makes the session of a call in a segment among other bytes, and moves the segment into another region: whether it
-/// prints and leaves what is wanted, and the other bytes as they were. It is not so where there is no memory.
+/// Makes the session of a call in a segment among other bytes, and moves the segment into another region. Tells whether
+/// it prints and leaves what is wanted, and keeps the other bytes. It is not so if there is no memory.
 pub fn runs_among(alloc: Global, case: &Case<'_>) -> bool {
     let saved = case.saved.unwrap_or(&[]);
     let [_, place] = Place::usual(saved.len() as u64);
@@ -24,7 +24,7 @@ pub fn runs_among(alloc: Global, case: &Case<'_>) -> bool {
     }
 }
 
-/// The segment that a session begins with, in a place of a region whose other bytes are marked.
+/// Returns the segment that a session begins with, in a place of a region whose other bytes are marked.
 fn begun(alloc: Global, case: &Case<'_>, place: Place) -> Option<Segment> {
     let mut region = region_of(alloc, place).ok()?;
     let capacity = region.capacity();
@@ -32,7 +32,7 @@ fn begun(alloc: Global, case: &Case<'_>, place: Place) -> Option<Segment> {
     begun_in(alloc, case, region, base_of(place))
 }
 
-/// The segment that a session begins with, in a region.
+/// Returns the segment that a session begins with, in a region.
 fn begun_in(alloc: Global, case: &Case<'_>, region: RawRegion, base: u64) -> Option<Segment>
     requires { base % 16 ≡ 0 }
 {
@@ -82,7 +82,7 @@ fn relocates_alike(segment: Segment, room: RawRegion, wanted: &[u8], place: Plac
     }
 }
 
-/// Whether a region has the bytes of a segment in a place, and all others are marked.
+/// Tells whether a region has the bytes of a segment in a place, and all others are marked.
 fn stands_among(region: &RawRegion, place: Place, segment: &[u8]) -> bool {
     let bytes = region.bytes(0, region.capacity());
     let base = place.base as usize;
@@ -92,7 +92,7 @@ fn stands_among(region: &RawRegion, place: Place, segment: &[u8]) -> bool {
         && is_marked(bytes.get(end..))
 }
 
-/// Whether all of these bytes are marked.
+/// Tells whether all of these bytes are marked.
 fn is_marked(bytes: Option<&[u8]>) -> bool {
     for byte in bytes.unwrap_or(&[]) {
         if *byte != MARK {

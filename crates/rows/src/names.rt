@@ -3,7 +3,7 @@
 use image_check::ImageClass;
 use segment_cli::SessionFault;
 
-/// Why a session or a migration fails.
+/// Returns why a session or a migration fails.
 pub fn fault_name(fault: SessionFault) -> &'static str {
     match fault {
         SessionFault::Image(class) => class_name(class),
@@ -16,7 +16,7 @@ pub fn fault_name(fault: SessionFault) -> &'static str {
     }
 }
 
-/// Why an image is refused.
+/// Returns why an image is refused.
 pub fn class_name(class: ImageClass) -> &'static str {
     match class {
         ImageClass::Truncated => "Truncated",

@@ -9,7 +9,7 @@ use segment_cli::{Answered, Machine, RunFault, Scratch, run};
 use segment_manager::{Mode, Segment};
 use std::alloc::{AllocError, Global};
 
-/// A machine that counts the lines, and answers the count and the length of each, as far as 4098. It refuses those that
+/// A machine that counts the lines, and returns the count and the length of each, as far as 4098. It refuses those that
 /// are so long.
 #[derive(Drop)]
 struct Lengths {
@@ -55,7 +55,7 @@ impl Machine for Lengths {
         ap (λ (len : ℕ). len == 4098) same };
 }
 
-/// What becomes of a line of so many bytes.
+/// Tells what becomes of a line of so many bytes.
 fn told_of(len: usize) -> Answered
     ensures { was_refused result ≡ (len == 4098) }
 {
@@ -127,7 +127,7 @@ impl Tally {
         Ok(())
     }
 
-    /// Runs a script on a segment with a writer that takes so many bytes: these go out, and the line whose answer is
+    /// Runs a script on a segment with a writer that takes so many bytes. These go out, and the line whose answer is
     /// cut is executed, so that so many bytes are free.
     fn stops(&mut self, alloc: Global, room: usize, free: u64) -> Result<(), AllocError> {
         let mut out = MemorySink::new(alloc, room, 3, Last::Fails)?;
@@ -157,7 +157,7 @@ impl Tally {
         self.reads(alloc, &long, 4096, Last::Ends, &[0, 16, 2, 1, 0, 2])
     }
 
-    /// Reads with a reader that fails behind each of the first bytes: the lines are answered that ended before.
+    /// Reads with a reader that fails after each of the first bytes: the lines are answered that ended before.
     fn fail_reading(&mut self, alloc: Global) -> Result<(), AllocError> {
         for (len, answered) in [0usize, 0, 0, 3, 6, 6, 6, 6, 9, 9].into_iter().enumerate() {
             let script = SCRIPT.get(..len).unwrap_or(SCRIPT);
@@ -185,7 +185,7 @@ impl Tally {
     }
 }
 
-/// A segment of 1024 bytes without an object.
+/// Returns a segment of 1024 bytes without an object.
 fn empty_segment(alloc: Global) -> Result<Segment, AllocError> {
     let Ok(region) = RawRegion::new(alloc, 1024) else {
         return Err(AllocError);

@@ -38,7 +38,8 @@ impl Runner for Segments {
     }
 }
 
-/// The class and the place for which an image of any format is refused, in a region that is longer than what it says.
+/// Returns the class and the place for which an image of any format is refused, in a region that is longer than what it
+/// says.
 fn verdict_on(alloc: Global, image: &[u8]) -> Option<(&'static str, u64)> {
     let Ok(region) = region_of(alloc, Place::new(65536, 0)) else {
         return None;
@@ -53,7 +54,7 @@ fn verdict_on(alloc: Global, image: &[u8]) -> Option<(&'static str, u64)> {
     }
 }
 
-/// A region of the capacity of a place.
+/// Returns a region of the capacity of a place.
 pub fn region_of(alloc: Global, place: Place) -> Result<RawRegion, AllocError> {
     let capacity = place.capacity;
     if capacity < 16 || 1 << 40 < capacity || capacity % 16 != 0 {
@@ -65,7 +66,7 @@ pub fn region_of(alloc: Global, place: Place) -> Result<RawRegion, AllocError> {
     }
 }
 
-/// The base of a place, which is a multiple of 16.
+/// Returns the base of a place, which is a multiple of 16.
 pub fn base_of(place: Place) -> u64
     ensures { result % 16 ≡ 0 }
 {
@@ -132,7 +133,7 @@ fn fault(
     }
 }
 
-/// What a session begins with.
+/// Returns what a session begins with.
 fn start_of(case: &Case<'_>) -> Start {
     match case.fresh {
         Some(size) => Start::Fresh(size),
@@ -140,7 +141,7 @@ fn start_of(case: &Case<'_>) -> Start {
     }
 }
 
-/// The mode of a session, or nothing for a migration.
+/// Returns the mode of a session, or nothing for a migration.
 fn mode_of(call: Call) -> Option<Mode> {
     match call {
         Call::Write => Some(Mode::Write),

@@ -12,11 +12,11 @@ pub trait Runner: Drop {
     /// Makes a call, and gives what comes of it.
     fn run(&self, case: &Case<'_>) -> Outcome;
 
-    /// Makes the session of a call in a segment among other bytes, and moves the segment into another region: whether
-    /// it prints and leaves what is wanted, and the other bytes as they were.
+    /// Makes the session of a call in a segment among other bytes, and moves the segment into another region. Tells
+    /// whether it prints and leaves what is wanted, and keeps the other bytes.
     fn runs_among(&self, case: &Case<'_>) -> bool;
 
-    /// The class for which an image of any format is refused, and the place that is told with it; or nothing where
+    /// Returns the class for which an image of any format is refused, and the place that is told with it; or nothing if
     /// there is none.
     fn verdict(&self, image: &[u8]) -> Option<(&'static str, u64)>;
 }
@@ -38,7 +38,7 @@ pub fn count(counted: &Cell<u64>, more: usize) {
 }
 
 impl<R: Runner> Bench<R> {
-    /// Makes a call, and gives what comes of it. It is noted where this is not what is wanted.
+    /// Makes a call, and gives what comes of it. It is noted if this is not what is wanted.
     pub fn outcome(&self, case: &Case<'_>) -> Outcome {
         let done = self.runner.run(case);
         let notes = &self.notes;

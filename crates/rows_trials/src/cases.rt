@@ -11,19 +11,19 @@ pub struct Place {
 }
 
 impl Place {
-    /// The least region of so many bytes, but of no more than 16777216.
+    /// Returns the least capacity of a region for so many bytes, but no more than 16777216.
     pub fn new(bytes: u64, base: u64) -> Place {
         let capacity = bytes.clamp(16, 1 << 24).next_multiple_of(16);
         Place { capacity, base }
     }
 
-    /// Whether there may be such a region, and a segment there.
+    /// Tells whether there may be such a region, and a segment there.
     pub fn is_right(&self) -> bool {
         let is_region = 16 <= self.capacity && self.capacity <= 1 << 40;
         is_region && self.capacity % 16 == 0 && self.base % 16 == 0
     }
 
-    /// Places where a segment of so many bytes lies usually: in a region that it fills, and among other bytes.
+    /// Returns places where a segment of so many bytes lies usually: in a region that it fills, and among other bytes.
     pub fn usual(size: u64) -> [Place; 2] {
         [
             Place::new(size, 0),
@@ -44,22 +44,22 @@ pub enum Call {
 /// A call: on what, where, and by which devices; and what must come of it.
 #[derive(Clone, Copy)]
 pub struct Case<'a> {
-    /// The line of the file where this is said.
+    /// The line of the file if this is said.
     pub line: usize,
     pub call: Call,
-    /// The bytes of the empty segment with which a session begins, or nothing where this is the image.
+    /// The bytes of the empty segment with which a session begins, or nothing if this is the image.
     pub fresh: Option<u64>,
     pub image: &'a [u8],
     pub script: &'a [u8],
-    /// All places where it is to lie, and the one where it lies now.
+    /// All places if it is to lie, and the one where it lies now.
     pub places: &'a [Place],
     pub place: Place,
     /// How many bytes readers and writers give and take at once.
     pub piece: usize,
-    /// What comes behind the last byte.
+    /// What comes after the last byte.
     pub image_last: Last,
     pub script_last: Last,
-    /// How many bytes writers have room for, and what comes where they are full.
+    /// How many bytes writers have room for, and what comes if they are full.
     pub answer_room: usize,
     pub image_room: usize,
     pub writers_last: Last,
@@ -67,15 +67,15 @@ pub struct Case<'a> {
     pub marks: &'a [Mark],
     /// The name of the fault, or nothing.
     pub fault: &'a str,
-    /// What is printed, where that is known.
+    /// What is printed, if that is known.
     pub answers: Option<&'a [u8]>,
-    /// What is saved, where that is known.
+    /// What is saved, if that is known.
     pub saved: Option<&'a [u8]>,
 }
 
 impl<'a> Case<'a> {
-    /// A session in mode `Write` that prints and saves nothing, by devices that do not fail, with room for what it
-    /// begins with.
+    /// Makes a session in mode `Write` that prints and saves nothing, by devices that do not fail, with room for what
+    /// it begins with.
     pub fn new(line: usize, fresh: Option<u64>, image: &'a [u8], places: &'a [Place]) -> Case<'a> {
         let size = fresh.unwrap_or(image.len() as u64);
         Case {
@@ -99,7 +99,7 @@ impl<'a> Case<'a> {
         }
     }
 
-    /// The same with another script, which prints this.
+    /// Returns the case with another script, which prints this.
     pub fn with_text(&self, script: &'a [u8], answers: &'a [u8]) -> Case<'a> {
         let mut case = *self;
         case.script = script;
@@ -108,14 +108,14 @@ impl<'a> Case<'a> {
         case
     }
 
-    /// The same with another script.
+    /// Returns the case with another script.
     pub fn with_script(&self, script: &'a Script) -> Case<'a> {
         let mut case = self.with_text(&script.text, &script.answers);
         case.marks = &script.marks;
         case
     }
 
-    /// The same, where this is saved.
+    /// Returns the case in which this is saved.
     pub fn saving(&self, saved: &'a [u8]) -> Case<'a> {
         let mut case = *self;
         case.saved = Some(saved);
@@ -123,7 +123,7 @@ impl<'a> Case<'a> {
         case
     }
 
-    /// The same session with an image.
+    /// Returns the case on an image.
     pub fn on(&self, image: &'a [u8]) -> Case<'a> {
         let mut case = *self;
         case.fresh = None;
@@ -131,7 +131,7 @@ impl<'a> Case<'a> {
         case
     }
 
-    /// A session on an image without a line, which is saved as it is.
+    /// Returns a session on an image without a line, which is saved as it is.
     pub fn kept(&self, image: &'a [u8]) -> Case<'a> {
         let mut case = *self;
         case.fresh = None;
@@ -144,14 +144,14 @@ impl<'a> Case<'a> {
         case
     }
 
-    /// The same, where this is the fault.
+    /// Returns the case in which this is the fault.
     pub fn failing(&self, fault: &'a str) -> Case<'a> {
         let mut case = *self;
         case.fault = fault;
         case
     }
 
-    /// The line of the file whose answer differs first, where another answer comes.
+    /// Returns the line of the file whose answer differs first, where another answer comes.
     pub fn differs_at(&self, wanted: &[u8], got: &[u8]) -> usize {
         let at = alike(wanted, got);
         let mut line = self.line;
@@ -164,7 +164,7 @@ impl<'a> Case<'a> {
     }
 }
 
-/// How many bytes are the same at the front of both.
+/// Returns how many bytes are the same at the front of both.
 fn alike(one: &[u8], other: &[u8]) -> usize {
     let mut count = 0usize;
     for (x, y) in one.iter().zip(other) {
@@ -177,7 +177,7 @@ fn alike(one: &[u8], other: &[u8]) -> usize {
 }
 
 /// What a call answered, printed and saved. Its fault has the name that row files have for it: that of a class of
-/// images, or `fault` and a name, or nothing where all is well.
+/// images, or `fault` and a name, or nothing if all is well.
 #[derive(Drop)]
 pub struct Outcome {
     pub fault: &'static str,

@@ -7,9 +7,9 @@ use crate::scripts::{Script, front_of};
 use memory_devices::Last;
 
 impl<R: Runner> Bench<R> {
-    /// The reader of the script fails behind each byte: the lines that ended before are answered, and nothing is saved.
-    /// Then the writer of the answers has room for each number of bytes, and one less than all: these go out, and
-    /// nothing is saved.
+    /// Runs the session with a reader of the script that fails after each byte: the lines that ended before are
+    /// answered, and nothing is saved. Then it runs it with a writer of answers for each number of bytes below all:
+    /// these go out, and nothing is saved.
     pub fn cut_session<'x>(&self, case: &Case<'x>, script: &'x Script) {
         let mut case = case.with_script(script);
         case.saved = Some(&[]);
@@ -35,7 +35,7 @@ impl<R: Runner> Bench<R> {
         }
     }
 
-    /// The writer of the image has room for each number of bytes, and one less than all: all answers and these bytes go
+    /// Runs the session with a writer of the image for each number of bytes below all: all answers and these bytes go
     /// out.
     fn cut_saving(&self, case: &Case<'_>) {
         let saved = case.saved.unwrap_or(&[]);
@@ -50,7 +50,7 @@ impl<R: Runner> Bench<R> {
         }
     }
 
-    /// A good image that is cut where it is saved, and where it is read: with a byte behind it, and for too small a
+    /// Cuts a good image when it is saved and when it is read, and tries it with a byte after it and in too small a
     /// region.
     pub fn cut_image(&self, case: &Case<'_>) {
         self.cut_saving(case);
@@ -62,8 +62,8 @@ impl<R: Runner> Bench<R> {
         self.cut_reading(&case, "fault RegionTooSmall");
     }
 
-    /// The reader of the image fails or ends behind each byte, though there may be a fault of the image that comes
-    /// first. Nothing is printed or saved.
+    /// Runs the session with a reader of the image that fails or ends after each byte, unless a fault of the image
+    /// comes first. Nothing is printed or saved.
     pub fn cut_reading<'x>(&self, case: &Case<'x>, fault: &'x str) {
         let image = case.image;
         let size = size_said(image);
@@ -86,7 +86,7 @@ impl<R: Runner> Bench<R> {
     }
 }
 
-/// What a full writer does, one after another.
+/// Returns what a full writer does at a step: it fails, and takes nothing, by turns.
 fn last_of(step: usize) -> Last {
     if step % 2 == 0 {
         Last::Fails
@@ -95,8 +95,8 @@ fn last_of(step: usize) -> Last {
     }
 }
 
-/// How many bytes decide that an image which says that it has so many is refused, whatever the reader does then. Most
-/// classes need all bytes, and that no more follow.
+/// Returns how many bytes decide that an image which says that it has so many is refused, whatever the reader does
+/// then. Most classes need all bytes, and that no more follow.
 fn bytes_of(size: u64, fault: &str) -> u64 {
     match fault {
         "fault RegionTooSmall" => 24,
@@ -107,7 +107,8 @@ fn bytes_of(size: u64, fault: &str) -> u64 {
     }
 }
 
-/// Whether a segment may have so many bytes. Where one that says so is of a wrong size, the first byte behind it tells.
+/// Tells whether a segment may have so many bytes. Where one that says so is of a wrong size, the first byte after it
+/// tells.
 fn is_size(size: u64) -> bool {
     size % 16 == 0 && (size == 144 || 176 <= size && size <= 1073741824)
 }

@@ -17,7 +17,7 @@ pub struct Desk<'a, R> {
 }
 
 impl<'a, R: Runner> Desk<'a, R> {
-    /// No images, and nothing counted.
+    /// Makes a run without images, which counted nothing.
     pub fn new(alloc: Global, runner: R) -> Desk<'a, R> {
         let notes = Notes::new(alloc);
         Desk {
@@ -98,7 +98,7 @@ impl<R: Runner> Bench<R> {
         count(&self.rows, 1);
     }
 
-    /// The places that a row says, or the usual ones.
+    /// Returns the places that a row says, or the usual ones.
     fn places(&self, lines: &[Line<'_>], size: u64) -> Vec<Place> {
         let mut places = Vec::new(self.notes.alloc);
         for line in lines {
@@ -114,7 +114,7 @@ impl<R: Runner> Bench<R> {
         places
     }
 
-    /// The place that a line says.
+    /// Returns the place that a line says.
     fn place(&self, line: &Line<'_>) -> Place {
         let (capacity, base) = self.notes.pair(line, line.rest, ' ');
         let place = Place { capacity, base };
@@ -123,7 +123,7 @@ impl<R: Runner> Bench<R> {
         place
     }
 
-    /// Sees that an image is refused with each of the changes that the lines say, by the class that stands before them.
+    /// Checks that an image is refused with each of the changes that the lines say, by the class before them.
     fn check_damaged(&self, images: &Images<'_>, first: &Line<'_>, lines: &[Line<'_>]) {
         for line in lines {
             let image = self.damaged(images, first, line, line.rest);
@@ -131,8 +131,8 @@ impl<R: Runner> Bench<R> {
         }
     }
 
-    /// Sees that an image is refused with each of the changes that the lines say, by the class that stands before them,
-    /// and that one of the places is told that stand behind the class.
+    /// Checks that an image is refused with each of the changes that the lines say, by the class before them. The
+    /// verdict must name one of the places after the class.
     fn check_verdicts(&self, images: &Images<'_>, first: &Line<'_>, lines: &[Line<'_>]) {
         for line in lines {
             let (places, changes) = line.rest.split_once(' ').unwrap_or((line.rest, ""));
@@ -147,7 +147,7 @@ impl<R: Runner> Bench<R> {
         }
     }
 
-    /// Whether a place is one of those that a text says.
+    /// Tells whether a place is one of those that a text says.
     fn is_among(&self, line: &Line<'_>, places: &str, place: u64) -> bool {
         let mut is_found = false;
         for one in places.split('|') {
@@ -156,7 +156,7 @@ impl<R: Runner> Bench<R> {
         is_found
     }
 
-    /// The image that the first line names, with the changes that a line says.
+    /// Returns the image that the first line names, with the changes that a line says.
     fn damaged(
         &self,
         images: &Images<'_>,
@@ -171,7 +171,7 @@ impl<R: Runner> Bench<R> {
         image
     }
 
-    /// Sees that an image is refused by the class that a line says.
+    /// Checks that an image is refused by the class that a line says.
     fn refuse_damaged(&self, line: &Line<'_>, image: &[u8]) {
         let places = Place::usual((image.len() as u64).max(4096));
         let case = Case::new(line.number, None, image, &places).saving(&[]);
@@ -181,7 +181,7 @@ impl<R: Runner> Bench<R> {
     }
 }
 
-/// The line that says what a row begins with, the first of these, or that of the row where there is none.
+/// Returns the line that says what a row begins with, the first of these, or that of the row if there is none.
 fn beginning_of<'x, 'a>(row: &'x Line<'a>, lines: &'x [Line<'a>]) -> &'x Line<'a> {
     for line in lines {
         if line.is_beginning() {
@@ -191,7 +191,7 @@ fn beginning_of<'x, 'a>(row: &'x Line<'a>, lines: &'x [Line<'a>]) -> &'x Line<'a
     row
 }
 
-/// Whether some line has this word.
+/// Tells whether some line has this word.
 fn is_said(lines: &[Line<'_>], word: &str) -> bool {
     for line in lines {
         if line.word == word {
@@ -201,7 +201,8 @@ fn is_said(lines: &[Line<'_>], word: &str) -> bool {
     false
 }
 
-/// The bytes of the segment of an image: those that it has, or says that it has, if these are more and not too many.
+/// Returns the bytes of the segment of an image: those that it has, or says that it has, if these are more and not too
+/// many.
 fn size_of(image: &[u8]) -> u64 {
     let said = size_said(image);
     let likely = if said <= 65536 { said } else { 0 };

@@ -18,14 +18,14 @@ pub struct Images<'a> {
 }
 
 impl<'a> Images<'a> {
-    /// None yet.
+    /// Makes a set of no images.
     pub fn new(notes: &Notes) -> Images<'a> {
         Images {
             named: Vec::new(notes.alloc),
         }
     }
 
-    /// The image of a name, which is said in a line: the last one that got it.
+    /// Returns the image of a name, which is said in a line: the last one that got it.
     pub fn get(&self, notes: &Notes, line: &Line<'_>, name: &str) -> &[u8] {
         let mut found: Option<&[u8]> = None;
         for it in &self.named {
@@ -71,7 +71,7 @@ impl<'a> Images<'a> {
 }
 
 impl Notes {
-    /// So many zeros.
+    /// Returns `len` zeros.
     fn zeros(&self, len: u64) -> Vec<u8> {
         let zeros = Vec::from_elem(self.alloc, 0u8, len as usize);
         self.has_memory(zeros.is_ok());
@@ -109,7 +109,7 @@ impl Notes {
     }
 }
 
-/// Puts the lowest bytes of a number. What is to stand behind the end is left out.
+/// Puts the lowest bytes of a number. What is to stand after the end is left out.
 fn put_number(image: &mut [u8], offset: u64, len: u64, number: u64) {
     let bytes = number.to_le_bytes();
     if let Some(rest) = image.get_mut(offset as usize..) {
@@ -118,7 +118,8 @@ fn put_number(image: &mut [u8], offset: u64, len: u64, number: u64) {
     }
 }
 
-/// How many bytes an image says that it has: the number in the 8 bytes from 16 on, or 0 where the image ends before.
+/// Returns how many bytes an image says that it has: the number in the 8 bytes from 16 on, or 0 if the image ends
+/// before.
 pub fn size_said(image: &[u8]) -> u64 {
     match image.as_chunks::<8>() {
         ([_, _, size, ..], _) => u64::from_le_bytes(*size),

@@ -7,7 +7,7 @@
 //! or a failing device that was left out would show as well: they are counted for each file, and `crates/rows/stdout`
 //! holds the counts.
 //!
-//! What goes wrong is noted, and the next steps are made all the same, from nothing where there is nothing: so only the
+//! What goes wrong is noted, and the next steps are made all the same, from nothing if there is nothing: so only the
 //! first note of an item is told.
 #![tactic(auto)]
 

@@ -2,7 +2,7 @@
 
 use std::alloc::{AllocError, Global};
 
-/// A line that is neither empty nor a remark: where it stands in the file, its first word, and what stands behind the
+/// A line that is neither empty nor a remark: where it stands in the file, its first word, and what stands after the
 /// blank.
 #[derive(Clone, Copy)]
 pub struct Line<'a> {
@@ -14,29 +14,29 @@ pub struct Line<'a> {
 }
 
 impl Line<'_> {
-    /// Whether it begins an image, a row, or a table of images, of places or of requests.
+    /// Tells whether it begins an image, a row, or a table of images, of places or of requests.
     pub fn begins_item(&self) -> bool {
         let is_image = self.word == "image" && self.rest.contains(' ');
         is_image || ["row", "damaged", "places", "requests"].contains(&self.word)
     }
 
-    /// Whether it begins a part of a row.
+    /// Tells whether it begins a part of a row.
     pub fn begins_part(&self) -> bool {
         ["again", "read", "alone", "migrate"].contains(&self.word)
     }
 
-    /// Whether it says what a row begins with.
+    /// Tells whether it says what a row begins with.
     pub fn is_beginning(&self) -> bool {
         ["size", "image"].contains(&self.word)
     }
 
-    /// Whether it says a change of an image.
+    /// Tells whether it says a change of an image.
     pub fn is_change(&self) -> bool {
         ["word", "at", "first", "more"].contains(&self.word)
     }
 }
 
-/// The lines of a file.
+/// Returns the lines of a file.
 pub fn lines_of(alloc: Global, text: &str) -> Result<Vec<Line<'_>>, AllocError> {
     let mut lines = Vec::new(alloc);
     for (index, text) in text.lines().enumerate() {

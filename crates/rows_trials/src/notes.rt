@@ -19,7 +19,7 @@ pub struct Notes {
 }
 
 impl Notes {
-    /// Nothing went wrong so far.
+    /// Makes notes that say that nothing went wrong so far.
     pub fn new(alloc: Global) -> Notes {
         Notes {
             alloc,
@@ -27,25 +27,25 @@ impl Notes {
         }
     }
 
-    /// What was noted first since it was asked last.
+    /// Returns what was noted first since it was asked last.
     pub fn take(&self) -> Option<Trouble> {
         self.first.replace(None)
     }
 
-    /// Notes where something is not so, if nothing was noted before.
+    /// Notes if something is not so, if nothing was noted before.
     pub fn holds(&self, so: bool, line: usize, what: &'static str) {
         if !so && self.first.get().is_none() {
             self.first.set(Some(Trouble { line, what }));
         }
     }
 
-    /// Notes that a line is no line of the form, or stands where there is none of its kind, where it is so.
+    /// Notes that a line is no line of the form, or stands where there is none of its kind, if it is so.
     pub fn is_placed(&self, so: bool, line: &Line<'_>) {
         let what = "this is no line of a row file, or misplaced";
         self.holds(so, line.number, what);
     }
 
-    /// Notes where there was no memory.
+    /// Notes if there was no memory.
     pub fn has_memory(&self, so: bool) {
         self.holds(so, 0, "out of memory");
     }
@@ -55,14 +55,14 @@ impl Notes {
         self.has_memory(out.extend_from_slice(bytes).is_ok());
     }
 
-    /// A copy of some bytes.
+    /// Returns a copy of some bytes.
     pub fn copy(&self, bytes: &[u8]) -> Vec<u8> {
         let mut copy = Vec::new(self.alloc);
         self.put(&mut copy, bytes);
         copy
     }
 
-    /// A number that stands in a line.
+    /// Returns a number that stands in a line.
     pub fn number(&self, line: &Line<'_>, text: &str) -> u64 {
         let number = text.parse::<u64>().ok();
         let what = "a number is missing, wrong, or one too many";
@@ -70,7 +70,7 @@ impl Notes {
         number.unwrap_or(0)
     }
 
-    /// Two numbers with something between them.
+    /// Returns two numbers with something between them.
     pub fn pair(&self, line: &Line<'_>, text: &str, between: char) -> (u64, u64) {
         let (one, other) = text.split_once(between).unwrap_or((text, ""));
         (self.number(line, one), self.number(line, other))
@@ -88,7 +88,7 @@ impl Notes {
         self.put(out, b"\n");
     }
 
-    /// Adds what stands in braces: a text in single quotes, or bytes by their digits behind an `x`, and perhaps how
+    /// Adds what stands in braces: a text in single quotes, or bytes by their digits after an `x`, and perhaps how
     /// often.
     fn spell_braced(&self, line: &Line<'_>, braced: &str, out: &mut Vec<u8>) {
         let (unit, times) = braced.rsplit_once('*').unwrap_or((braced, "1"));

@@ -7,7 +7,7 @@ use crate::scripts::Script;
 /// What a part of a row does.
 #[derive(Clone, Copy)]
 pub enum Deed {
-    /// It is none: only what stands before the parts.
+    /// The part runs nothing: it is only what stands before the parts.
     Nothing,
     /// Its lines are a script, in mode `Write`.
     Write,
@@ -19,8 +19,8 @@ pub enum Deed {
     Migrate,
 }
 
-/// What a part of a row says: its script, the name of its fault, the image that it saves, and the name that this gets,
-/// each nothing where it says none.
+/// What a part of a row says: its script, the name of its fault, the image that it saves, and the name of this image.
+/// Each is empty if the part says none.
 #[derive(Drop)]
 pub struct Part<'a> {
     pub deed: Deed,
@@ -34,7 +34,7 @@ pub struct Part<'a> {
 const OF_ROW: [&str; 5] = ["row", "size", "image", "place", "once"];
 
 impl<'a> Part<'a> {
-    /// Reads the lines of a part, or those before the parts with the first one, where no line begins it.
+    /// Reads the lines of a part, or those before the parts with the first one, if no line begins it.
     pub fn read(notes: &Notes, lines: &[Line<'a>]) -> Part<'a> {
         let mut part = Part {
             deed: Deed::Nothing,
@@ -81,7 +81,7 @@ impl<'a> Part<'a> {
     }
 }
 
-/// Whether a line says something of the whole row.
+/// Tells whether a line says something of the whole row.
 fn is_of_row(line: &Line<'_>) -> bool {
     line.is_change() || OF_ROW.contains(&line.word)
 }

@@ -30,7 +30,7 @@ const CHANGING: [&[u8]; 21] = [
 ];
 
 impl Script {
-    /// Whether a line may change a segment. One with an error before the fourth is refused whatever the mode is.
+    /// Tells whether a line may change a segment. One with an error before the fourth is refused whatever the mode is.
     fn is_changing(&self, mark: &Mark) -> bool {
         let first = first_word(self.text_of(mark));
         CHANGING.contains(&first) && !is_misspelled(self.answer_of(mark))
@@ -38,7 +38,7 @@ impl Script {
 }
 
 impl Script {
-    /// How many lines there are up to the last that may change a segment.
+    /// Returns how many lines there are up to the last that may change a segment.
     fn changing(&self) -> usize {
         let mut count = 0;
         for (index, mark) in self.marks.iter().enumerate() {
@@ -50,7 +50,7 @@ impl Script {
     }
 }
 
-/// The first word of a line, or nothing.
+/// Returns the first word of a line, or nothing.
 fn first_word(line: &[u8]) -> &[u8] {
     let line = line.trim_ascii_start();
     for (index, byte) in line.iter().enumerate() {
@@ -61,7 +61,7 @@ fn first_word(line: &[u8]) -> &[u8] {
     line
 }
 
-/// Whether an answer is an error that comes before all others.
+/// Tells whether an answer is an error that comes before all others.
 fn is_misspelled(answer: &[u8]) -> bool {
     matches!(
         answer.strip_prefix(b"error "),
@@ -70,8 +70,8 @@ fn is_misspelled(answer: &[u8]) -> bool {
 }
 
 impl<R: Runner> Bench<R> {
-    /// Runs each line in mode `ReadOnly` on the image that the lines leave, if it is known what it prints there: one
-    /// that may change it is refused; one behind the last of these, and one that is misspelled, answers as it did.
+    /// Runs each line in mode `ReadOnly` on the image that the lines leave, if its answer there is known. A line that
+    /// may change the image is refused. A line after the last of these, or a misspelled one, answers as before.
     pub fn check_read_only<'x>(&self, left: &Case<'x>, script: &'x Script) {
         let behind = script.changing();
         let mut case = left.saving(&[]);

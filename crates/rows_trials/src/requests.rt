@@ -1,4 +1,4 @@
-//! Requests that have no fit, and that all is as before where one has none.
+//! Requests that have no fit, and that all is as before if one has none.
 
 use crate::benches::{Bench, PIECES, Runner, count};
 use crate::cases::{Case, Place};
@@ -15,8 +15,8 @@ const LOOK: &[u8] = b"free\nblocks\nlist\nunique\nnum_named\nnum_unique\nsanity\
 const ROOM: usize = 4112;
 
 impl<R: Runner> Bench<R> {
-    /// Makes the requests that the lines say in each of the sizes: the lines before the command as a script, and the
-    /// command with what it answers where each request has a fit.
+    /// Makes the requests that the lines say, in each of the sizes. The lines before the command are a script; the
+    /// command has the answer that it gives if each request has a fit.
     pub fn check_requests(&self, lines: &[Line<'_>]) {
         let notes = &self.notes;
         let mut before = Script::new(notes.alloc);
@@ -99,7 +99,7 @@ impl<R: Runner> Bench<R> {
         drop(made);
     }
 
-    /// Makes requests of which one has no fit: behind it all is as before.
+    /// Makes requests of which one has no fit: after it all is as before.
     fn ask_in_vain(&self, case: &Case<'_>, free: &[u8], command: &Script) {
         let notes = &self.notes;
         let mut case = *case;

@@ -24,7 +24,7 @@ pub struct Script {
 }
 
 impl Script {
-    /// Without a line.
+    /// Makes a script without a line.
     pub fn new(alloc: Global) -> Script {
         Script {
             text: Vec::new(alloc),
@@ -63,19 +63,19 @@ impl Script {
         notes.has_memory(self.marks.push(mark).is_ok());
     }
 
-    /// A line without its end.
+    /// Returns a line without its end.
     pub fn text_of(&self, mark: &Mark) -> &[u8] {
         let text = mark.script_begin..mark.script_end.saturating_sub(1);
         self.text.get(text).unwrap_or(&[])
     }
 
-    /// What a line prints.
+    /// Returns what a line prints.
     pub fn answer_of(&self, mark: &Mark) -> &[u8] {
         let answer = mark.answers_begin..mark.answers_end;
         self.answers.get(answer).unwrap_or(&[])
     }
 
-    /// What the lines print that end within the first bytes of the script.
+    /// Returns what the lines print that end within the first bytes of the script.
     pub fn answers_within(&self, bytes: usize) -> &[u8] {
         let mut end = 0;
         for mark in &self.marks {
@@ -86,7 +86,7 @@ impl Script {
         front_of(&self.answers, end)
     }
 
-    /// The script with a CR more at the end of each line.
+    /// Returns the script with a CR more at the end of each line.
     pub fn with_returns(&self, notes: &Notes) -> Vec<u8> {
         let mut text = Vec::new(notes.alloc);
         for byte in &self.text {
@@ -99,12 +99,12 @@ impl Script {
     }
 }
 
-/// The first bytes, so many, or all.
+/// Returns the first bytes, so many, or all.
 pub fn front_of(bytes: &[u8], len: usize) -> &[u8] {
     bytes.get(..len).unwrap_or(bytes)
 }
 
-/// Whether some bytes stand one behind another among others.
+/// Tells whether some bytes stand one after another among others.
 pub fn has_piece(bytes: &[u8], piece: &[u8]) -> bool {
     for it in bytes.windows(piece.len().max(1)) {
         if it == piece {

@@ -6,8 +6,8 @@ use crate::parts::{Deed, Part};
 use crate::scripts::{Script, front_of, has_piece};
 
 impl<R: Runner> Bench<R> {
-    /// Runs a part, perhaps in one way only, and gives the image that it saves, if it saves another: nothing where it
-    /// ends with a fault.
+    /// Runs a part, perhaps in one way only, and gives the image that it saves, if it saves another: nothing if it ends
+    /// with a fault.
     pub fn saved_by<'x>(&self, case: &Case<'x>, part: &'x Part<'x>, once: bool) -> Option<Vec<u8>> {
         let script = &part.script;
         match part.deed {
@@ -39,8 +39,8 @@ impl<R: Runner> Bench<R> {
         saved
     }
 
-    /// Runs a script whose image is known in all places, in pieces, with other ends of lines, with devices that fail,
-    /// among other bytes, and as a copy, which saves nothing.
+    /// Runs a script whose image is known: in all places, in pieces, with other line ends, and with devices that fail.
+    /// It also runs it among other bytes, and as a copy, which saves nothing.
     fn vary<'x>(&self, case: &Case<'x>, script: &'x Script) {
         let mut case = *case;
         self.check_by_pieces(&case);

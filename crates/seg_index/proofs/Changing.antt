@@ -1,12 +1,9 @@
 -- Changes of a heap, one after another, and what stays beside the words of an index.
 use Rattle.seg_index.proofs.Common.{IsTrue, has_room, heap_touches, is_live_in, ◌≡◌, ap, subst, ◌∙◌, ℕ, ◌+◌, ◌-◌, ◌≤◌}
 use Rattle.seg_index.proofs.Common.{current, WindowState, bytes_of, SameSurroundings-trans, Role, LiveSet, added}
-use Rattle.seg_index.proofs.Common.{others, AllocatesOk}
-use Rattle.seg_index.proofs.Common.{ChangesBytes, IsHeap, EncodesLiveSet, live_of, allocated-live, laid-heap, inl, inr}
-use Rattle.seg_index.proofs.Common.{List}
-use Rattle.seg_index.proofs.Common.{arith, Option, Some, None, SameBytes-part, Extent, KeepsBlocks, SameBlock}
-use Rattle.seg_index.proofs.Common.{changed-keeps}
-use Rattle.seg_index.proofs.Common.{KeepsOutsideIndex, without_link}
+use Rattle.seg_index.proofs.Common.{others, AllocatesOk, ChangesBytes, IsHeap, EncodesLiveSet, live_of, allocated-live}
+use Rattle.seg_index.proofs.Common.{laid-heap, inl, inr, List, arith, Option, Some, None, SameBytes-part, Extent}
+use Rattle.seg_index.proofs.Common.{KeepsBlocks, SameBlock, changed-keeps, KeepsOutsideIndex, without_link}
 use Rattle.raw_region.proofs.Laws.{SameBytesExcept-trans, SameBytesExcept-wider, SameBytes-trans}
 use Rattle.raw_region.proofs.Laws.{SameBytesExcept-SameBytes}
 use Rattle.best_fit.specs.Fit.{insert}
@@ -18,8 +15,7 @@ pub same_live : {a b : WindowState} {from n : ℕ} → ChangesBytes current a b 
 same_live c = changed-live current _ _ _ _ c
 
 pub changed_used : (a b : WindowState) (from n h : ℕ) → ChangesBytes current a b from n
-    → IsTrue (is_live_in (live_of a.bytes) h)
-    → IsTrue (is_live_in (live_of b.bytes) h)
+    → IsTrue (is_live_in (live_of a.bytes) h) → IsTrue (is_live_in (live_of b.bytes) h)
 changed_used a b from n h c used = rw (same_live c) used
 
 pub changed_touches : (a b : WindowState) (from n : ℕ) → ChangesBytes current a b from n
@@ -70,9 +66,8 @@ rest_of {a} {b} {at} k h =
       blocks = k.blocks;
     }
 
-pub rest_trans : {a b c : WindowState} {at : ℕ} {xs : List Extent} → KeepsOutsideIndex a b at xs
-    → KeepsOutsideIndex b c at xs
-    → KeepsOutsideIndex a c at xs
+pub rest_trans : {a b c : WindowState} {at : ℕ} {xs : List Extent}
+    → KeepsOutsideIndex a b at xs → KeepsOutsideIndex b c at xs → KeepsOutsideIndex a c at xs
 rest_trans {a} {b} {c} {at} {xs} p q =
     let A = bytes_of a.bytes in let B = bytes_of b.bytes in let C = bytes_of c.bytes in
     record {
@@ -99,9 +94,8 @@ rest_without l None k = k
 rest_without l (Some h) k = rest_others h k
 
 -- a change of the three words
-pub keeps_words : {a b : WindowState} {f n : ℕ} (at : ℕ) → ChangesBytes current a b f n → InHeader at → at ≤ f
-    → f + n ≤ at + 24
-    → KeepsOutsideIndex a b at (live_of a.bytes).extents
+pub keeps_words : {a b : WindowState} {f n : ℕ} (at : ℕ) → ChangesBytes current a b f n
+    → InHeader at → at ≤ f → f + n ≤ at + 24 → KeepsOutsideIndex a b at (live_of a.bytes).extents
 keeps_words {a} {b} {f} {n} at c h low high =
     let A = bytes_of a.bytes in let B = bytes_of b.bytes in
     record {

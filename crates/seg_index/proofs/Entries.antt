@@ -1,28 +1,24 @@
 -- Blocks in use, their links, and the entries of an index.
 use Rattle.seg_index.proofs.Common as common
 use common.{◌≡◌, refl, ◌+◌, List, arith, ◌==◌, Some, among, zero, None, holds, BackingArray, Lookup, Found, Absent}
-use common.{order}
-use common.{subst, slice_get, cases_lt, unwrap_or, and_parts, same_role, room-less, IsIndexOf, FindsPositionIn}
-use common.{IndexRole, ℕ}
-use common.{◌≤◌, [], ◌∷◌, WindowState, sym, ap, ◌∙◌, suc, ◌-◌, ◌*◌, ◌%◌, ◌<◌, inl, inr, Entry, length, IsTrue, Option}
-use common.{Extent}
-use common.{handle, IsHeap, get_or, insert, remove, Memory, nat_lt, others, serves, AllByRecursion, none-some}
-use common.{length-insert, length-remove, slice_get-get_or, comparisons_in, beside_table, same_Some, extent_at}
-use common.{has_room, live-rises, room_block, KeepTargets, cases_Bool, found-room, is_live_in, current, live_of}
-use common.{link_at, AllLinksLead, AreLinksTo, leb-true, bytes_of, word_at, order_at, place_of, AreKeys, Less, ap₂}
+use common.{order, subst, slice_get, cases_lt, unwrap_or, and_parts, same_role, room-less, IsIndexOf, FindsPositionIn}
+use common.{IndexRole, ℕ, ◌≤◌, [], ◌∷◌, WindowState, sym, ap, ◌∙◌, suc, ◌-◌, ◌*◌, ◌%◌, ◌<◌, inl, inr, Entry, length}
+use common.{IsTrue, Option, Extent, handle, IsHeap, get_or, insert, remove, Memory, nat_lt, others, serves}
+use common.{AllByRecursion, none-some, length-insert, length-remove, slice_get-get_or, comparisons_in, beside_table}
+use common.{same_Some, extent_at, has_room, live-rises, room_block, KeepTargets, cases_Bool, found-room, is_live_in}
+use common.{current, live_of, link_at, AllLinksLead, AreLinksTo, leb-true, bytes_of, word_at, order_at, place_of}
+use common.{AreKeys, Less, ap₂}
 use Rattle.seg_index.proofs.Changing.{changed_used, changed_touches, InHeader}
-use Rattle.seg_index.proofs.Orders.{none_left, same_comparisons}
+use Rattle.seg_index.proofs.{Orders.none_left, Orders.same_comparisons, Common.Ordering}
 use Rattle.std.proofs.lemmas.List.Edits.{get_or-insert_above, get_or-insert_at, get_or-insert_below}
 use Rattle.std.proofs.lemmas.List.Edits.{get_or-remove_above, get_or-remove_below}
-use Rattle.std.proofs.{lemmas.Bool.eqb-true, lemmas.Option.slice_get_within}
-use Rattle.std.specs.{List.list_any, Prelude.find}
-use Rattle.seg_index.specs.{Lookups.IsKeyReadable, Lookups.FindsPosition, declared.index.Index.TheVariants.Named}
-use Rattle.seg_index.specs.{declared.index.Index.TheVariants.Unique, Comparing.comparisons, declared.index.Index.Index}
+use Rattle.std.proofs.{lemmas.Bool.eqb-true, lemmas.Option.slice_get_within, lemmas.Map.Keys.Less-from_sorted}
+use Rattle.std.specs.{List.list_any, Prelude.find, List.Sorted.IsStrictlySortedBy}
+use Rattle.seg_index.specs.Lookups.{IsKeyReadable, FindsPosition}
+use Rattle.seg_index.specs.declared.index.Index.TheVariants.{Named, Unique}
+use Rattle.seg_index.specs.{Comparing.comparisons, declared.index.Index.Index}
 use Rattle.seg_index.specs.Sorted.{HasSortKey, HasSortedIndex, index_of, sort_key_end, sort_order}
 use Rattle.block_tags.specs.declared.tile.Role.TheVariants.{Object as ObjectRole}
-use Rattle.std.proofs.lemmas.Map.Keys.{Less-from_sorted}
-use Rattle.std.specs.List.Sorted.{IsStrictlySortedBy}
-use Rattle.seg_index.proofs.Common.{Ordering}
 use Rattle.best_fit.proofs.Laws.{changed-room}
 
 -- the first extent of a handle
@@ -46,9 +42,8 @@ found_live h (y ∷ ys) x e = elim (cases_Bool (handle y == h)) [
   | inr other ↦ rw other (found_live h ys x (rw other at e))
 ]
 
-pub found_handle : (c : WindowState) (h : ℕ) (x : Extent) → IsHeap current c.bytes
-    → extent_at (live_of c.bytes) h ≡ Some x
-    → handle x ≡ h
+pub found_handle : (c : WindowState) (h : ℕ) (x : Extent)
+    → IsHeap current c.bytes → extent_at (live_of c.bytes) h ≡ Some x → handle x ≡ h
 found_handle c h x heap e = let l = live_of c.bytes in (among 128 h x l.extents (live-rises l heap.proper) e).at
 
 -- a block lies behind the header, and behind it are 16 bytes more
@@ -252,16 +247,14 @@ placed {c} {at} {t} {hs} block i leads = table_cases (λ u. IsIndexOf c at u hs 
     }) t i
 
 -- the blocks beside that of the index
-pub beside : {c : WindowState} {at : ℕ} {t : BackingArray} {hs : List ℕ} {block : ℕ} → Placed c at t hs block
-    → (xs : List Extent)
-    → others block xs ≡ beside_table t xs
+pub beside : {c : WindowState} {at : ℕ} {t : BackingArray} {hs : List ℕ} {block : ℕ}
+    → Placed c at t hs block → (xs : List Extent) → others block xs ≡ beside_table t xs
 beside {t = t} p xs = ap (λ k. others k xs) (sym p.begins) ∙ ap (λ (o : Option Extent).
     elim o [ None ↦ xs | Some x ↦ others (handle x) xs ]) (sym p.is)
 
 -- without a block there is no place
-pub bare : {c : WindowState} {at : ℕ} {t : BackingArray} {hs : List ℕ} → IsIndexOf c at t hs
-    → link_at (bytes_of c.bytes) at ≡ None
-    → t.capacity ≡ 0
+pub bare : {c : WindowState} {at : ℕ} {t : BackingArray} {hs : List ℕ}
+    → IsIndexOf c at t hs → link_at (bytes_of c.bytes) at ≡ None → t.capacity ≡ 0
 bare {c} {at} {t} {hs} i leads = table_cases (λ u. IsIndexOf c at u hs → u.capacity ≡ 0) (λ cap j. let p = j.places
     in eqb-true cap 0 p) (λ cap x j. absurd (none-some (handle x) (sym leads ∙ j.stands.link))) t i
 
@@ -283,9 +276,8 @@ leads_from c e f g = ap (λ k. link_at (bytes_of c.bytes) k) (sym e) ∙ sym f �
 
 -- where there are places there is a block, to which the link leads
 pub has_places : {c : WindowState} {at : ℕ} {t : BackingArray} {hs : List ℕ} {block place : ℕ} {o : Option ℕ}
-    → IsIndexOf c at t hs
-    → 0 < t.capacity → place ≡ at → o ≡ link_at (bytes_of c.bytes) place → block ≡ unwrap_or o 0
-    → Placed c at t hs block
+    → IsIndexOf c at t hs → 0 < t.capacity
+    → place ≡ at → o ≡ link_at (bytes_of c.bytes) place → block ≡ unwrap_or o 0 → Placed c at t hs block
 has_places {c} {at} {t} {hs} {block} {place} {o} i some e f b = by_case o refl
   where
     by_case : (p : Option ℕ) → o ≡ p → Placed c at t hs block
@@ -330,9 +322,8 @@ less_at o hs i j g h s l e f =
     (same_Some h (get_or hs j 0) (sym f ∙ slice_get-get_or hs j 0 within)) ∙ Less-from_sorted o hs i j 0 s l within
 
 -- the object of an entry has room for a key of the sort of its index
-key_given : {c : WindowState} {i : Index} (key : Entry) (h : ℕ) → index_of key ≡ i → IsHeap current c.bytes
-    → HasSortKey c i h
-    → IsKeyReadable c key h
+key_given : {c : WindowState} {i : Index} (key : Entry) (h : ℕ)
+    → index_of key ≡ i → IsHeap current c.bytes → HasSortKey c i h → IsKeyReadable c key h
 key_given {c} {i} key h e heap k =
     let m = bytes_of c.bytes in let l = live_of c.bytes in let x = k.extent in let n = sort_key_end i m h in
     let two = and_parts (same_role x.role ObjectRole) (holds x n) k.fits in
@@ -342,10 +333,9 @@ key_given {c} {i} key h e heap k =
           (found-room l h n x k.found (leb-true (n + 16) x.len two.1));
     }
 
-pub keys_given : (c : WindowState) (i : Index) (key : Entry) (block count : ℕ) → (k : HasSortedIndex c i)
-    → index_of key ≡ i
-    → Placed c (place_of i) k.table k.handles block → count ≡ word_at (bytes_of c.bytes) (place_of i + 8)
-    → AreKeys c block count key
+pub keys_given : (c : WindowState) (i : Index) (key : Entry) (block count : ℕ)
+    → (k : HasSortedIndex c i) → index_of key ≡ i → Placed c (place_of i) k.table k.handles block
+    → count ≡ word_at (bytes_of c.bytes) (place_of i + 8) → AreKeys c block count key
 keys_given c i key block count k sort p e =
     let m = bytes_of c.bytes in let hs = k.handles in
     record {

@@ -8,5 +8,4 @@ pub use Rattle.seg_index.proofs.Staying.{prepared}
 pub use Rattle.seg_index.proofs.Entries.{place_behind, place_small}
 -- entries stay sorted where the blocks of their objects stay, and an object whose key was not found belongs there
 pub use Rattle.seg_index.proofs.SortedEntries.{ObjectStays, belongs-at, keeps-sorted, stays-itself, stays-trans}
-pub use Rattle.seg_index.proofs.SortedEntries.{taken-stays}
-pub use Rattle.seg_index.proofs.Entries.{all_found}
+pub use Rattle.seg_index.proofs.{SortedEntries.taken-stays, Entries.all_found}

@@ -3,14 +3,13 @@ use Rattle.seg_index.proofs.Common.{◌≡◌, ap, ◌∙◌, ℕ, ◌+◌, ◌/
 use Rattle.seg_index.proofs.Common.{Greater, nat_list_cmp_total, bits, Memory, Entry, order, name_at, refl, sym, zero}
 use Rattle.seg_index.proofs.Common.{suc, ◌-◌, inl, inr, Bool, true, false, cases_lt, Equal, comparisons_among, middle}
 use Rattle.seg_index.proofs.Common.{◌*◌, subst, Option, unwrap_or, WindowState, bytes_of, live_of, room-less, Lookup}
-use Rattle.seg_index.proofs.Common.{Absent}
-use Rattle.seg_index.proofs.Common.{Found, IsKeyedEntry, comparisons_in, order_at, AreKeys, FindsPositionIn}
+use Rattle.seg_index.proofs.Common.{Absent, Found, IsKeyedEntry, comparisons_in, order_at, AreKeys, FindsPositionIn}
 use Rattle.std.proofs.{lemmas.Int.Digits.length-digits_of_step, lemmas.Cmp.nat_cmp_total, Common.lt-ltb, Common.le-ltb}
 use Rattle.std.specs.Cmp.{IsTotalOrder}
 use Rattle.best_fit.proofs.Laws.{bits-le}
 use Rattle.link_tree.proofs.Laws.{bits_most}
-use Rattle.seg_index.specs.{declared.keys.Entry.TheVariants.Name, declared.keys.Entry.TheVariants.Code, Keys.code_at}
-use Rattle.seg_index.specs.{Lookups.IsEntryLinkTo, Sorted.index_of, Sorted.sort_order}
+use Rattle.seg_index.specs.declared.keys.Entry.TheVariants.{Name, Code}
+use Rattle.seg_index.specs.{Keys.code_at, Lookups.IsEntryLinkTo, Sorted.index_of, Sorted.sort_order}
 
 greater_on : {K : Type 0} {R : K → K → Ordering} → IsTotalOrder R → (x y z : K) → R x y ≡ Less → R x z ≡ Greater
     → R y z ≡ Greater
@@ -219,9 +218,8 @@ pub record Answers (c : WindowState) (key : Entry) (block count made : ℕ) (r :
   pub exact : made ≡ comparisons_in (bytes_of c.bytes) key block count
 
 pub left_found : {c : WindowState} {key : Entry} {block count low high made : ℕ}
-    → IsLeft c key block count low high made
-    → low < high → order_at (bytes_of c.bytes) key block (middle low high) ≡ Equal
-    → Answers c key block count (made + 1) (Found (middle low high))
+    → IsLeft c key block count low high made → low < high → order_at (bytes_of c.bytes) key block (middle low high)
+    ≡ Equal → Answers c key block count (made + 1) (Found (middle low high))
 left_found {c} {key} {block} {low = low} {high} i l is =
     let half = bits_half (high - low) 0 (omega arith) (omega arith) in let few = i.few in
     let mid = middle low high in
@@ -255,8 +253,7 @@ entry_of {c} {block = block} {count} i keys l =
     }
 
 -- what holds of a heap, a key and a block holds of those that are equal to them
-pub same_search : {c v : WindowState} {key k : Entry} {block b : ℕ} (P : WindowState → Entry → ℕ → Type 0) → c ≡ v
-    → key ≡ k → block ≡ b
-    → P c key block → P v k b
+pub same_search : {c v : WindowState} {key k : Entry} {block b : ℕ} (P : WindowState → Entry → ℕ → Type 0)
+    → c ≡ v → key ≡ k → block ≡ b → P c key block → P v k b
 same_search {c} {key = key} {k} {b = b} P e f g h =
     subst (λ (v : WindowState). P v k b) e (subst (λ (q : Entry). P c q b) f (subst (λ (n : ℕ). P c key n) g h))

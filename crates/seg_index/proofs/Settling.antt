@@ -2,22 +2,19 @@
 use Rattle.seg_index.proofs.Common as common
 use common.{◌≡◌, sym, ap, subst, ◌∙◌, ℕ, ◌+◌, ◌-◌, ◌*◌, ◌%◌, ◌<◌, ◌≤◌, inl, inr, List, length, arith, Option, Some}
 use common.{IfSome, insert, remove, AllByRecursion, length-insert, length-remove, current, WindowState, bytes_of}
-use common.{word_at}
-use common.{SameBytesExcept-word, link_at, KeepTargets, SameBytesExcept-link, Extent, LiveSet, handle, ChangesBytes}
-use common.{extent_at, live_of}
-use common.{BackingArray, room-less, KeepsOutsideIndex, beside_table, IsIndexOf, AreIndexEntries, AreLinksTo, refl, ap₂}
-use common.{◌^◌, min, IsTrue}
-use common.{None, nat_lt, unwrap_or, and_from, and_parts, leb-true, same_Some, Memory, Role, holds, others, AllocatesOk}
-use common.{IsHeap, Deallocates, has_room, is_live_in, same_role, serves, found-room, room_block, IsBlockFor, unlinked}
-use common.{without_link, lt-ltb, IndexRole, ◌==◌, none-some, SameBytes-word, SameBytes-link, released, EncodesLiveSet}
-use common.{among, found-new}
-use common.{laid-heap, live-rises, rising-insert}
+use common.{word_at, SameBytesExcept-word, link_at, KeepTargets, SameBytesExcept-link, Extent, LiveSet, handle}
+use common.{ChangesBytes, extent_at, live_of, BackingArray, room-less, KeepsOutsideIndex, beside_table, IsIndexOf}
+use common.{AreIndexEntries, AreLinksTo, refl, ap₂, ◌^◌, min, IsTrue, None, nat_lt, unwrap_or, and_from, and_parts}
+use common.{leb-true, same_Some, Memory, Role, holds, others, AllocatesOk, IsHeap, Deallocates, has_room, is_live_in}
+use common.{same_role, serves, found-room, room_block, IsBlockFor, unlinked, without_link, lt-ltb, IndexRole, ◌==◌}
+use common.{none-some, SameBytes-word, SameBytes-link, released, EncodesLiveSet, among, found-new, laid-heap}
+use common.{live-rises, rising-insert}
 use Rattle.seg_index.proofs.Changing.{changed_heap, same_live, keeps_both, InHeader, keeps_words, keeps_written}
 use Rattle.seg_index.proofs.Changing.{others_without, rest_of, rest_others, rest_trans, rest_without, changed_trans}
+use Rattle.seg_index.proofs.{Changing.taken_others, Entries.insert_all, Entries.insert_links}
 use Rattle.seg_index.proofs.Entries.{links_moved, remove_all, Placed, beside, leads_from, no_entries, placed, bare}
 use Rattle.seg_index.proofs.Entries.{table_cases, remove_links, found_handle, found_live, inside, entry_here}
 use Rattle.seg_index.proofs.Staying.{still_released, still_taken, still_written, meant, not_its_own, taken_block}
-use Rattle.seg_index.proofs.{Changing.taken_others, Entries.insert_all, Entries.insert_links}
 use Rattle.seg_index.specs.{Capacities.ShrinksIndex, Capacities.with_cut, Held.IsIndexIn}
 use Rattle.best_fit.proofs.Laws.{block_aligned, gaps-header, gaps-payload, gaps-then, keeps-refl, resized-live, Rising}
 use Rattle.best_fit.proofs.Laws.{found-less, found-more, released-live, shorter-IsShorter}
@@ -58,9 +55,8 @@ counted {a} {b} {c} {at} {block} {f} {n} {place} {count} {t} gs p w one low link
     }
 
 pub inserted : {a b c : WindowState} {at block here place count h : ℕ} {t : BackingArray} {hs : List ℕ}
-    → Placed a at t hs block
-    → InHeader at → count ≡ length hs → here ≤ count → count < t.capacity → h % 16 ≡ 0
-    → ChangesBytes current a b (block + 8 * here) (8 * (count - here) + 8)
+    → Placed a at t hs block → InHeader at → count ≡ length hs → here ≤ count
+    → count < t.capacity → h % 16 ≡ 0 → ChangesBytes current a b (block + 8 * here) (8 * (count - here) + 8)
     → link_at (bytes_of b.bytes) (block + 8 * here) ≡ Some h → KeepTargets (bytes_of a.bytes) (bytes_of b.bytes)
     (block + 8 * here) (block + 8 * here + 8) (count - here) → place ≡ at → ChangesBytes current b c (place + 8) 8
     → word_at (bytes_of c.bytes) (place + 8) ≡ count + 1 → IsIndexOf c at t (insert hs here h)
@@ -76,12 +72,11 @@ inserted {a} {b} {block = block} {here} {count = count} {h} {hs = hs} p w long w
     (insert_all (λ k. k % 16 ≡ 0) hs here h (omega arith) p.index.whole even) e two word (omega arith)
 
 pub removed : {a b c : WindowState} {at block here place count : ℕ} {t : BackingArray} {hs : List ℕ}
-    → Placed a at t hs block
-    → InHeader at → count ≡ length hs → here < count
-    → ChangesBytes current a b (block + 8 * here) (8 * (count - here - 1))
+    → Placed a at t hs block → InHeader at
+    → count ≡ length hs → here < count → ChangesBytes current a b (block + 8 * here) (8 * (count - here - 1))
     → KeepTargets (bytes_of a.bytes) (bytes_of b.bytes) (block + (8 * here + 8)) (block + 8 * here) (count - here - 1)
-    → place ≡ at → ChangesBytes current b c (place + 8) 8 → word_at (bytes_of c.bytes) (place + 8) ≡ count - 1
-    → IsIndexOf c at t (remove hs here)
+    → place ≡ at → ChangesBytes current b c (place + 8) 8
+    → word_at (bytes_of c.bytes) (place + 8) ≡ count - 1 → IsIndexOf c at t (remove hs here)
 removed {a} {b} {block = block} {here} {count = count} {hs = hs} p w long within one tail e two word =
     let A = bytes_of a.bytes in let B = bytes_of b.bytes in
     let links : AreLinksTo B block (remove hs here) = remove_links block here hs p.links (omega arith)
@@ -106,9 +101,8 @@ block_and_count {a} {b} {c} {at} {block} {n} {t = t} p w k one few e two =
 
 -- no byte of a gap changes then
 pub gaps_kept : {a b c : WindowState} {at block n place : ℕ} {t : BackingArray} {hs : List ℕ}
-    → Placed a at t hs block → InHeader at
-    → (k : ℕ) → ChangesBytes current a b (block + k) n → k + n ≤ 8 * t.capacity → place ≡ at
-    → ChangesBytes current b c (place + 8) 8 → KeepsGaps a c
+    → Placed a at t hs block → InHeader at → (k : ℕ) → ChangesBytes current a b (block + k) n
+    → k + n ≤ 8 * t.capacity → place ≡ at → ChangesBytes current b c (place + 8) 8 → KeepsGaps a c
 gaps_kept {a} {b} {c} {at} {block} {n} {t = t} p w k one few e two =
     let room = room-less (live_of a.bytes) block (8 * t.capacity) (k + n) few p.room in
     let word : ChangesBytes current b c (at + 8) 8 = subst (λ j. ChangesBytes current b c (j + 8) 8) e two in
@@ -146,8 +140,7 @@ pub record Headed (a d : WindowState) (at : ℕ) (to : Option ℕ) (count capaci
   pub capacity_word : word_at (bytes_of d.bytes) (at + 16) ≡ capacity
 
 pub headed : {a b c d : WindowState} {place at count capacity : ℕ} {to : Option ℕ} → place ≡ at
-    → ChangesBytes current a b place 8
-    → link_at (bytes_of b.bytes) place ≡ to → ChangesBytes current b c (place + 8) 8
+    → ChangesBytes current a b place 8 → link_at (bytes_of b.bytes) place ≡ to → ChangesBytes current b c (place + 8) 8
     → word_at (bytes_of c.bytes) (place + 8) ≡ count → ChangesBytes current c d (place + 16) 8
     → word_at (bytes_of d.bytes) (place + 16) ≡ capacity → Headed a d at to count capacity
 headed {a} {b} {c} {d} {place} {at} {count} {capacity} {to} e one leads two is three word =
@@ -165,10 +158,9 @@ headed {a} {b} {c} {d} {place} {at} {count} {capacity} {to} e one leads two is t
 
 -- the words lead to a block whose first links are set
 pub settled : {a d : WindowState} {at block count capacity : ℕ} (hs : List ℕ)
-    → Headed a d at (Some block) count capacity
-    → InHeader at → IsHeap current a.bytes → (f : IsBlockFor a block capacity) → count ≤ capacity → 0 < capacity
-    → AreLinksTo (bytes_of a.bytes) block hs → count ≡ length hs → AllByRecursion (λ h. h % 16 ≡ 0) hs
-    → IsIndexIn a d at block capacity hs
+    → Headed a d at (Some block) count capacity → InHeader at → IsHeap current a.bytes
+    → (f : IsBlockFor a block capacity) → count ≤ capacity → 0 < capacity → AreLinksTo (bytes_of a.bytes) block hs
+    → count ≡ length hs → AllByRecursion (λ h. h % 16 ≡ 0) hs → IsIndexIn a d at block capacity hs
 settled {a} {d} {at} {block} {count} {capacity} hs h w heap f within some links long whole =
     let A = bytes_of a.bytes in let D = bytes_of d.bytes in let x = f.extent in
     let lies = inside a block (8 * capacity) heap (block_room a block capacity f) in
@@ -192,9 +184,8 @@ settled {a} {d} {at} {block} {count} {capacity} hs h w heap f within some links 
     subst (λ (o : Option Extent). IsIndexOf d at (record { capacity = capacity; extent = o }) hs) (sym f.found) index
 
 -- as many places as were meant, in a block that was in use before
-pub index_in : (b d e : WindowState) (h : ℕ) {at k places : ℕ} {hs : List ℕ} → live_of d.bytes ≡ live_of b.bytes
-    → k ≡ places
-    → IsIndexIn d e at h k hs → IsIndexIn b e at h places hs
+pub index_in : (b d e : WindowState) (h : ℕ) {at k places : ℕ} {hs : List ℕ}
+    → live_of d.bytes ≡ live_of b.bytes → k ≡ places → IsIndexIn d e at h k hs → IsIndexIn b e at h places hs
 index_in b d e h {at} {places = places} {hs} same is i = subst (λ (l : LiveSet). IsIndexOf e at
     (record { capacity = places; extent = extent_at l h }) hs) same (subst (λ n. IsIndexIn d e at h n hs) is i)
 
@@ -248,9 +239,8 @@ target {c} {m} n o few =
     room-less (live_of c.bytes) m.block (8 * m.places) n few (block_room c m.block m.places o.offered)
 
 pub offer : {c : WindowState} {at h places from place : ℕ} {link : Option ℕ} {t : BackingArray} {hs : List ℕ}
-    → InHeader at
-    → place ≡ at → link ≡ link_at (bytes_of c.bytes) place → from ≡ unwrap_or link h → IsBlockFor c h places
-    → (link_at (bytes_of c.bytes) at ≡ Some h → ⊥) → IsIndexOf c at t hs
+    → InHeader at → place ≡ at → link ≡ link_at (bytes_of c.bytes) place → from ≡ unwrap_or link h
+    → IsBlockFor c h places → (link_at (bytes_of c.bytes) at ≡ Some h → ⊥) → IsIndexOf c at t hs
     → Offer c (record { at = at; block = h; places = places; from = from; link = link; table = t; handles = hs })
 offer {c} w e f begins block apart i =
     let leads = leads_from c e f refl in record {
@@ -264,9 +254,8 @@ offer {c} w e f begins block apart i =
 
 -- such is a block that was taken
 pub taken_offer : {a b : WindowState} {at n k h from place : ℕ} {link : Option ℕ} {t : BackingArray} {hs : List ℕ}
-    → InHeader at
-    → AllocatesOk current a b k IndexRole h → k ≡ min (n * 8) (2 ^ 64 - 1) → place ≡ at
-    → link ≡ link_at (bytes_of b.bytes) place → from ≡ unwrap_or link h → IsIndexOf a at t hs
+    → InHeader at → AllocatesOk current a b k IndexRole h → k ≡ min (n * 8) (2 ^ 64 - 1)
+    → place ≡ at → link ≡ link_at (bytes_of b.bytes) place → from ≡ unwrap_or link h → IsIndexOf a at t hs
     → Offer b (record { at = at; block = h; places = n; from = from; link = link; table = t; handles = hs })
 taken_offer {a} {b} {at} {n} {k} {h} {t = t} {hs} w al much e f begins i =
     let j = still_taken w al i in let same = i.stands.link ∙ sym j.stands.link in
@@ -299,9 +288,8 @@ source {c} {m} o = subst (λ (p : Option ℕ). Source c m p) (sym o.leads) (by_c
         }
 
 -- where the block is written it is still offered
-pub written : {a b : WindowState} {m : Move} {n : ℕ} → Offer a m → ChangesBytes current a b (m.block + 0) n
-    → n ≤ 8 * m.places
-    → Offer b m
+pub written : {a b : WindowState} {m : Move} {n : ℕ}
+    → Offer a m → ChangesBytes current a b (m.block + 0) n → n ≤ 8 * m.places → Offer b m
 written {m = m} {n} o c few =
     let room = target (0 + n) o (omega arith) in
     let i = still_written m.block 0 o.header c room (λ e. o.apart (sym o.leads ∙ e)) o.index in record {
@@ -434,16 +422,14 @@ emptied {a} {b} {c} {place} {at} e one word two leads count zero =
     } in
     subst (λ k. Headed a c k None 0 0) e all
 
-cut_zero : {a : WindowState} {at : ℕ} {t : BackingArray} {hs : List ℕ} {block : ℕ} → Placed a at t hs block
-    → (l : LiveSet) (n : ℕ)
-    → n ≡ 0 → released l block ≡ with_cut l n t
+cut_zero : {a : WindowState} {at : ℕ} {t : BackingArray} {hs : List ℕ} {block : ℕ}
+    → Placed a at t hs block → (l : LiveSet) (n : ℕ) → n ≡ 0 → released l block ≡ with_cut l n t
 cut_zero {t = t} p l n z = ap (released l) (sym p.begins)
     ∙ sym (cond-true (n == 0) (released l (handle p.extent)) (resized l (shorter l p.extent (8 * n))) (eq-eqb n 0 z))
     ∙ ap (λ (o : Option Extent). with_cut l n (record { capacity = t.capacity; extent = o })) (sym p.is)
 
 pub shrunk_empty : {a c e : WindowState} {at block : ℕ} {t : BackingArray} {hs : List ℕ} → Placed a at t hs block
-    → length hs ≡ 0
-    → Headed a c at None 0 0 → Deallocates current c e block → InHeader at → ShrinksIndex a e at t hs
+    → length hs ≡ 0 → Headed a c at None 0 0 → Deallocates current c e block → InHeader at → ShrinksIndex a e at t hs
 shrunk_empty {a} {c} {e} {at} {block} {t} {hs} p zero w r h =
     let l = live_of a.bytes in
     let here = still_released h r (λ q. none-some block (sym w.link ∙ q)) (empty_index hs w zero p.index.whole) in
@@ -467,8 +453,7 @@ shrunk_empty {a} {c} {e} {at} {block} {t} {hs} p zero w r h =
 
 -- the block is the shorter one of its own
 resized_here : {b e : WindowState} {l : LiveSet} {x : Extent} {block n : ℕ} → live_of b.bytes ≡ l
-    → extent_at l block ≡ Some x
-    → ShrinksInPlace current b e block n → ResizesBlock current b e x (shorter l x n)
+    → extent_at l block ≡ Some x → ShrinksInPlace current b e block n → ResizesBlock current b e x (shorter l x n)
 resized_here {b} {e} {l} {x} {block} {n} live found s =
     let same : s.extent ≡ x =
     same_Some s.extent x (sym s.found ∙ ap (λ (k : LiveSet). extent_at k block) live ∙ found) in
@@ -523,9 +508,8 @@ shrunk_some a b e at cap x hs p some one word s w =
     let links : AreLinksTo E (handle y) hs = links_moved A E (handle x) (handle y) hs i.stands.entries (λ k f.
     let q : handle y + 8 * k ≡ handle x + 8 * k = omega arith in
     ap (λ j. link_at E j) q ∙ SameBytes-link B E (handle x) (x.offset + min x.len y.len) (handle x + 8 * k)
-    r.still.payload
-    (omega arith) (omega arith) ∙ SameBytesExcept-link A B (at + 16) 8 (handle x + 8 * k) one.rest
-    (inr (omega arith))) in
+    r.still.payload (omega arith) (omega arith)
+    ∙ SameBytesExcept-link A B (at + 16) 8 (handle x + 8 * k) one.rest (inr (omega arith))) in
     let index : IsIndexOf e at (record { capacity = n; extent = Some y }) hs = record {
       heap = laid-heap e.bytes (resized (live_of b.bytes) y) r.live;
       stands = record {
@@ -557,8 +541,7 @@ shrunk_some a b e at cap x hs p some one word s w =
       keeps = keeps;
       order = keeps-sorted (beside-stays i keeps (λ g z f other. ap (λ (k : LiveSet). extent_at k g) now
           ∙ found-more g y z (others (handle y) l.extents)
-          (λ same. other (i.stands.link ∙ ap (λ k. Some k) (sym begins ∙ same)))
-          (found-less g (handle y) z l.extents
+          (λ same. other (i.stands.link ∙ ap (λ k. Some k) (sym begins ∙ same))) (found-less g (handle y) z l.extents
           (λ same. other (i.stands.link ∙ ap (λ k. Some k) (sym begins ∙ sym same))) f)));
       gaps = λ z is more uncut.
           let own : x ≡ z = same_Some x z is in

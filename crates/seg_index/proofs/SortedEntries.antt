@@ -1,32 +1,27 @@
 -- Entries stay sorted where the blocks of their objects stay, and where one is put in or taken out.
 use Rattle.seg_index.proofs.Common as common
 use common.{◌≡◌, refl, sym, ap, ap₂, subst, ◌∙◌, ℕ, zero, suc, ◌+◌, ◌<◌, ◌≤◌, ◌==◌, List, [], ◌∷◌, length, get_or}
-use common.{arith}
-use common.{IsTrue, Option, Some, None, inl, inr, insert, remove, slice_get, AllByRecursion, none-some, same_Some, Less}
-use common.{Greater, Ordering, ordering_reverse, slice_cmp, nat_cmp, nat_list_cmp_total, cases_Bool, leb-true, holds}
-use common.{and_parts, slice_get-get_or, current, WindowState, Memory, bytes_of, SameBytes-word, Role, IndexRole}
-use common.{link_at}
-use common.{Extent, LiveSet, handle, others, AllocatesOk, Deallocates, EncodesLiveSet, KeepsBlocks, SameBlock}
-use common.{extent_at, live_of, BackingArray, same_role, serves, found-room, found-less, IsBlockFor, KeepsOutsideIndex}
-use common.{beside_table}
-use common.{unlinked, without_link, IsIndexOf, AreLinksTo, Entry, name_at, name_len_at, released-live, nat_lt, order}
-use common.{ChangesBytes, Absent, changed-keeps, has_room, read, ◌*◌, ◌%◌, Equal, Found, Lookup, cases_lt}
-use Rattle.std.specs.Cmp.{IsTotalOrder}
-use Rattle.seg_index.proofs.Entries.{all_at, all_found, first, insert_all, no_entries, placed}
-use Rattle.seg_index.proofs.Entries.{less_at, remove_all, table_cases}
-use Rattle.seg_index.proofs.Staying.{found_still}
-use Rattle.seg_index.specs.declared.index.Index.{Index, TheVariants.Named, TheVariants.Unique}
-use Rattle.seg_index.specs.{Held.place_of, Keys.code_at, Sorted.AreSortedHandles, Sorted.BelongsAt, Sorted.HasSortKey}
-use Rattle.seg_index.specs.Sorted.{CanAdd, IsKeyOf, KeepsSorted, index_of, sort_key_end, sort_order}
-use Rattle.seg_index.specs.{Lookups.FindsPosition, declared.keys.Entry.TheVariants.Code}
-use Rattle.seg_index.specs.{declared.keys.Entry.TheVariants.Name}
+use common.{arith, IsTrue, Option, Some, None, inl, inr, insert, remove, slice_get, AllByRecursion, none-some}
+use common.{same_Some, Less, Greater, Ordering, ordering_reverse, slice_cmp, nat_cmp, nat_list_cmp_total, cases_Bool}
+use common.{leb-true, holds, and_parts, slice_get-get_or, current, WindowState, Memory, bytes_of, SameBytes-word, Role}
+use common.{IndexRole, link_at, Extent, LiveSet, handle, others, AllocatesOk, Deallocates, EncodesLiveSet, KeepsBlocks}
+use common.{SameBlock, extent_at, live_of, BackingArray, same_role, serves, found-room, found-less, IsBlockFor}
+use common.{KeepsOutsideIndex, beside_table, unlinked, without_link, IsIndexOf, AreLinksTo, Entry, name_at, name_len_at}
+use common.{released-live, nat_lt, order, ChangesBytes, Absent, changed-keeps, has_room, read, ◌*◌, ◌%◌, Equal, Found}
+use common.{Lookup, cases_lt}
+use Rattle.std.specs.{Cmp.IsTotalOrder, List.Sorted.IsStrictlySortedBy}
+use Rattle.seg_index.proofs.Entries.{all_at, all_found, first, insert_all, no_entries, placed, less_at, remove_all}
+use Rattle.seg_index.proofs.{Entries.table_cases, Staying.found_still, Changing.same_live}
+use Rattle.seg_index.specs.{declared.index.Index.Index, Held.place_of, Keys.code_at, Lookups.FindsPosition}
+use Rattle.seg_index.specs.declared.index.Index.TheVariants.{Named, Unique}
+use Rattle.seg_index.specs.Sorted.{AreSortedHandles, BelongsAt, HasSortKey, CanAdd, IsKeyOf, KeepsSorted, index_of}
+use Rattle.seg_index.specs.Sorted.{sort_key_end, sort_order}
+use Rattle.seg_index.specs.declared.keys.Entry.TheVariants.{Code, Name}
 use Rattle.block_tags.specs.{Tiles.role_bits, declared.tile.Role.TheVariants.Object as ObjectRole}
 use Rattle.best_fit.proofs.Laws.{SameBlock-trans, block_aligned, lay_out_one, room_block}
-use Rattle.seg_index.proofs.Changing.{same_live}
-use Rattle.best_fit.specs.{Extents.end_of}
+use Rattle.best_fit.specs.Extents.{end_of}
 use Rattle.raw_region.proofs.Laws.{SameBytes-read}
-use Rattle.std.proofs.lemmas.{Bool.eqb-true, Cmp.nat_cmp_total, List.nil_from_length}
-use Rattle.std.specs.List.Sorted.{IsStrictlySortedBy}
+use Rattle.std.proofs.{lemmas.Bool.eqb-true, lemmas.Cmp.nat_cmp_total, lemmas.List.nil_from_length}
 
 -- ---- a sort key stays with the bytes of its object
 
@@ -183,9 +178,8 @@ module _ {a : WindowState} {at : ℕ} {t : BackingArray} {hs : List ℕ} (i : Is
       by_case (Some k) leads = found-less h k x ys.extents (link-apart k leads) f
 
 -- what is found in other blocks that stay is there with its bytes
-pub in-kept : {a b : WindowState} {at : ℕ} (zs : List Extent) (h : ℕ) (x : Extent) → KeepsOutsideIndex a b at zs
-    → first h zs ≡ Some x
-    → SameBlock (bytes_of a.bytes) (bytes_of b.bytes) x
+pub in-kept : {a b : WindowState} {at : ℕ} (zs : List Extent) (h : ℕ) (x : Extent)
+    → KeepsOutsideIndex a b at zs → first h zs ≡ Some x → SameBlock (bytes_of a.bytes) (bytes_of b.bytes) x
 in-kept {a} {b} zs h x k f = all_found (SameBlock (bytes_of a.bytes) (bytes_of b.bytes)) h zs x k.blocks f
 
 -- where a block is taken
@@ -246,8 +240,7 @@ stays-itself {a} h = record {
 
 -- where blocks stay and the live set too
 pub kept-stays : {a b : WindowState} → EncodesLiveSet current b.bytes (live_of a.bytes)
-    → KeepsBlocks a b (live_of a.bytes).extents → (h : ℕ)
-    → ObjectStays a b h
+    → KeepsBlocks a b (live_of a.bytes).extents → (h : ℕ) → ObjectStays a b h
 kept-stays {a} {b} laid k h = record {
   each = λ x e role. (
     ap (λ (l : LiveSet). extent_at l h) (lay_out_one current b.bytes (live_of a.bytes) laid) ∙ e,
@@ -268,10 +261,9 @@ beside-stays {a} {t = t} i k found h = record {
 }
 
 -- where an index moves into a block that was in use
-pub moved-stays : {a b : WindowState} {at : ℕ} {t : BackingArray} {hs : List ℕ} {g places : ℕ} → IsIndexOf a at t hs
-    → IsBlockFor a g places → live_of b.bytes ≡ unlinked a at
-    → KeepsOutsideIndex a b at (others g (unlinked a at).extents)
-    → (h : ℕ) → ObjectStays a b h
+pub moved-stays : {a b : WindowState} {at : ℕ} {t : BackingArray} {hs : List ℕ} {g places : ℕ}
+    → IsIndexOf a at t hs → IsBlockFor a g places → live_of b.bytes ≡ unlinked a at
+    → KeepsOutsideIndex a b at (others g (unlinked a at).extents) → (h : ℕ) → ObjectStays a b h
 moved-stays {a} {at = at} {g = g} {places} i block live k h = record {
   each = λ x e role.
       let f = unlinked-found i h x e role (live_of a.bytes) e in
@@ -314,9 +306,8 @@ sorted-remove c (x ∷ xs) zero l s = s.1
 sorted-remove c (x ∷ xs) (suc i) l s =
     (remove_all (λ g. c x g ≡ Less) xs i (omega arith) s.0, sorted-remove c xs i (omega arith) s.1)
 
-pub one-more : {c : WindowState} {i : Index} {hs : List ℕ} {place h : ℕ} → AreSortedHandles c i hs
-    → BelongsAt c i hs place h
-    → AreSortedHandles c i (insert hs place h)
+pub one-more : {c : WindowState} {i : Index} {hs : List ℕ} {place h : ℕ}
+    → AreSortedHandles c i hs → BelongsAt c i hs place h → AreSortedHandles c i (insert hs place h)
 one-more {c} {i} {hs} {place} {h} s b = record {
   keys = insert_all (HasSortKey c i) hs place h b.within s.keys b.key;
   rises = sorted-insert (sort_order i (bytes_of c.bytes)) hs place h b.within s.rises
@@ -337,8 +328,7 @@ order-by-key (Name s) m m' g h same is = ap₂ (λ xs ys. slice_cmp nat_cmp xs y
 order-by-key (Code n) m m' g h same is = ap₂ (λ x y. nat_cmp x y) same is
 
 pub belongs-at : {a b : WindowState} {i : Index} {hs : List ℕ} (key : Entry) (place h : ℕ) → index_of key ≡ i
-    → AreSortedHandles a i hs
-    → ((g : ℕ) → ObjectStays a b g) → HasSortKey b i h → IsKeyOf key (bytes_of b.bytes) h
+    → AreSortedHandles a i hs → ((g : ℕ) → ObjectStays a b g) → HasSortKey b i h → IsKeyOf key (bytes_of b.bytes) h
     → FindsPosition (bytes_of a.bytes) key hs (Absent place) → BelongsAt b i hs place h
 belongs-at {a} {b} {i} {hs} key place h sort s stays k is p =
     let m = bytes_of a.bytes in let m' = bytes_of b.bytes in

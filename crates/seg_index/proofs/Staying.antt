@@ -2,13 +2,11 @@
 use Rattle.seg_index.proofs.Common as common
 use common.{◌≡◌, refl, ap, subst, ◌∙◌, ℕ, ◌+◌, ◌*◌, ◌≤◌, List, [], ◌∷◌, arith, IsTrue, Option, Some, None, IfSome}
 use common.{AllByRecursion, none-some, same_Some, current, WindowState, SameBytes, bytes_of, SameBytes-part}
-use common.{SameBytes-word, Role, link_at}
-use common.{SameBytes-link, Extent, LiveSet, handle, added, others, AllocatesOk, ChangesBytes, IsHeap, Deallocates}
-use common.{SameBlock}
-use common.{extent_at, has_room, live_of, BackingArray, changed-keeps, found-less, laid-heap, released-live, IsIndexOf}
-use common.{AreIndexEntries, sym, ◌-◌, ◌^◌, inl, inr, min, cases_lt, place, serves, allocated-live, found-new}
-use common.{live-rises}
-use common.{rising-insert, IsBlockFor, IndexRole, ◌<◌, capacity_at, grown_capacity, EncodesLiveSet, KeepsBlocks}
+use common.{SameBytes-word, Role, link_at, SameBytes-link, Extent, LiveSet, handle, added, others, AllocatesOk}
+use common.{ChangesBytes, IsHeap, Deallocates, SameBlock, extent_at, has_room, live_of, BackingArray, changed-keeps}
+use common.{found-less, laid-heap, released-live, IsIndexOf, AreIndexEntries, sym, ◌-◌, ◌^◌, inl, inr, min, cases_lt}
+use common.{place, serves, allocated-live, found-new, live-rises, rising-insert, IsBlockFor, IndexRole, ◌<◌}
+use common.{capacity_at, grown_capacity, EncodesLiveSet, KeepsBlocks}
 use Rattle.seg_index.proofs.Entries.{all_found, first, links_moved, long_enough, table_cases, placed}
 use Rattle.seg_index.proofs.Changing.{InHeader, same_live}
 use Rattle.seg_index.specs.{Growth.CanGrow, Growth.IsGrowth, Held.entry_count}
@@ -65,9 +63,8 @@ pub record HasBlock (c : WindowState) (at : ℕ) (x : Extent) : Type 0 where
   pub leads : link_at (bytes_of c.bytes) at ≡ Some (handle x)
   pub found : extent_at (live_of c.bytes) (handle x) ≡ Some x
 
-pub block_of : {c : WindowState} {at : ℕ} {t : BackingArray} {hs : List ℕ} (x : Extent) → IsIndexOf c at t hs
-    → t.extent ≡ Some x
-    → HasBlock c at x
+pub block_of : {c : WindowState} {at : ℕ} {t : BackingArray} {hs : List ℕ} (x : Extent)
+    → IsIndexOf c at t hs → t.extent ≡ Some x → HasBlock c at x
 block_of {c} {at} {t} {hs} x i e = table_cases (λ u. IsIndexOf c at u hs → u.extent ≡ Some x → HasBlock c at x)
     (λ cap j f. absurd (none-some x f)) (λ cap y j f.
     subst (λ z. HasBlock c at z) (same_Some y x f) (record { leads = j.stands.link; found = j.held })) t i e
@@ -101,9 +98,8 @@ pub other_block : {g h : ℕ} (o : Option ℕ) → o ≡ Some h → (o ≡ Some 
 other_block o e n q = n (e ∙ ap (λ k. Some k) q)
 
 -- and it is found among the others
-among_others : {a : WindowState} {at h : ℕ} → (link_at (bytes_of a.bytes) at ≡ Some h → ⊥) → (x : Extent)
-    → HasBlock a at x
-    → first (handle x) (others h (live_of a.bytes).extents) ≡ Some x
+among_others : {a : WindowState} {at h : ℕ} → (link_at (bytes_of a.bytes) at ≡ Some h → ⊥)
+    → (x : Extent) → HasBlock a at x → first (handle x) (others h (live_of a.bytes).extents) ≡ Some x
 among_others {a} {at} {h} other x q = found-less (handle x) h x (live_of a.bytes).extents
     (other_block (link_at (bytes_of a.bytes) at) q.leads other) q.found
 
@@ -130,8 +126,7 @@ fresh {a} i =
 
 -- it is not the block of an index: nothing of its handle was in use before
 pub not_its_own : (a b : WindowState) (at n : ℕ) (role : Role) (h : ℕ) (t : BackingArray) (hs : List ℕ)
-    → IsIndexOf a at t hs
-    → AllocatesOk current a b n role h → link_at (bytes_of a.bytes) at ≡ Some h → ⊥
+    → IsIndexOf a at t hs → AllocatesOk current a b n role h → link_at (bytes_of a.bytes) at ≡ Some h → ⊥
 not_its_own a b at n role h t hs i al leads =
     let p = placed h i leads in let y = al.extent in let x = p.extent in let xs = (live_of a.bytes).extents in
     let f = fresh al in
@@ -164,9 +159,8 @@ asked c n k role heap e = elim (cases_lt 1073741824 k) [
 ]
 
 -- what has a fit is as much as was meant
-pub meant : {a b : WindowState} {k h : ℕ} {role : Role} (n : ℕ) → IsHeap current a.bytes
-    → AllocatesOk current a b k role h
-    → k ≡ min (n * 8) (2 ^ 64 - 1) → k ≡ 8 * n
+pub meant : {a b : WindowState} {k h : ℕ} {role : Role} (n : ℕ)
+    → IsHeap current a.bytes → AllocatesOk current a b k role h → k ≡ min (n * 8) (2 ^ 64 - 1) → k ≡ 8 * n
 meant {a} {k = k} {role = role} n heap i e = elim (cases_lt 1073741824 k) [
   | inl l ↦ absurd (none-some i.extent (sym (too_long a k role heap l) ∙ i.placed))
   | inr l ↦ omega arith
@@ -199,9 +193,8 @@ still_grows {b = b} {at} (Some h) w f can =
     (sym w.capacity)) (record { extent = k.extent; found = f h k.extent refl k.found; fits = k.fits }) in
     (block, λ e. can.1 (sym w.link ∙ e))
 
-pub prepared : (a b : WindowState) (at : ℕ) (g : Option ℕ) (t : BackingArray) (hs : List ℕ) → IsIndexOf a at t hs
-    → IsGrowth a b at g
-    → 32 ≤ at → at + 24 ≤ 128 → CanGrow b at g
+pub prepared : (a b : WindowState) (at : ℕ) (g : Option ℕ) (t : BackingArray) (hs : List ℕ)
+    → IsIndexOf a at t hs → IsGrowth a b at g → 32 ≤ at → at + 24 ≤ 128 → CanGrow b at g
 prepared a b at None t hs i k low head = subst (λ (c : WindowState). entry_count c at < capacity_at c at) (sym k.1) k.0
 prepared a b at (Some h) t hs i k low head =
     let places = grown_capacity (capacity_at a at) in
@@ -211,9 +204,8 @@ prepared a b at (Some h) t hs i k low head =
       λ e. not_its_own a b at (8 * places) IndexRole h t hs i k.1 (sym w.link ∙ e),
     )
 
-pub taken : {a b : WindowState} {at n h : ℕ} {role : Role} (g : Option ℕ) → CanGrow a at g
-    → AllocatesOk current a b n role h
-    → InHeader at → CanGrow b at g
+pub taken : {a b : WindowState} {at n h : ℕ} {role : Role} (g : Option ℕ)
+    → CanGrow a at g → AllocatesOk current a b n role h → InHeader at → CanGrow b at g
 taken {a} {b} g can d w = still_grows g (words_in a b d.keeps.behind w) (λ k x q e. found_still k x d e) can
 
 pub growth-released : {a b : WindowState} {at h : ℕ} (g : Option ℕ) → CanGrow a at g → Deallocates current a b h
@@ -223,8 +215,7 @@ growth-released {a} {b} {h = h} g can d other w = still_grows g (words_in a b d.
     ∙ found-less k h x (live_of a.bytes).extents (other_block g q other) e) can
 
 pub growth-written : {a b : WindowState} {at n : ℕ} (g : Option ℕ) (h k : ℕ) → CanGrow a at g
-    → ChangesBytes current a b (h + k) n
-    → IsTrue (has_room (live_of a.bytes) h (k + n)) → InHeader at → CanGrow b at g
+    → ChangesBytes current a b (h + k) n → IsTrue (has_room (live_of a.bytes) h (k + n)) → InHeader at → CanGrow b at g
 growth-written {a} {b} {n = n} g h k can d room w =
     let keeps = changed-keeps current a b h k n d room in
     still_grows g (words_in a b keeps.behind w) (λ j x q e. ap (λ (l : LiveSet). extent_at l j) (same_live d) ∙ e) can

@@ -4,10 +4,9 @@ use Rattle.std.specs.Prelude.{if◌then◌else◌}
 use Rattle.raw_region.specs.{Format.current, Memory.WindowState, Memory.bytes_of}
 use Rattle.block_tags.specs.declared.tile.Role.TheVariants.{Index as IndexRole}
 use Rattle.offset_link.specs.Link.{link_at}
-use Rattle.best_fit.specs.Extents.{Extent, LiveSet, handle}
+use Rattle.best_fit.specs.{Extents.Extent, Extents.LiveSet, Extents.handle, Table.BackingArray, Table.shrunk_backing}
 use Rattle.best_fit.specs.Fit.{added, place, released, resized, shorter}
 use Rattle.best_fit.specs.Heap.{AllocatesNoSpace, KeepsGaps, EncodesLiveSet, heap_touches, live_of}
-use Rattle.best_fit.specs.Table.{BackingArray, shrunk_backing}
 use Rattle.seg_index.specs.Growth.{KeepsOutsideIndex, beside_table, unlinked, without_link}
 use Rattle.seg_index.specs.{Held.IsIndexOf, Held.capacity_at, Sorted.KeepsSorted}
 

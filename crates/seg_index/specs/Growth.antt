@@ -1,17 +1,15 @@
 -- What the calls of an index leave in a heap.
 use Rattle.std.specs.Prelude.{◌≡◌, ℕ, ◌+◌, ◌*◌, ◌<◌, ◌≤◌, Option, Some, None, Result, MatchResult, IfSome, List, IsTrue}
 use Rattle.std.specs.List.{AllByRecursion}
-use Rattle.raw_region.specs.{Memory.WindowState, Memory.SameBytes, Memory.SameSurroundings, Memory.bytes_of}
-use Rattle.raw_region.specs.{Format.current}
+use Rattle.raw_region.specs.Memory.{WindowState, SameBytes, SameSurroundings, bytes_of}
+use Rattle.raw_region.specs.Format.{current}
 use Rattle.block_tags.specs.declared.tile.Role.TheVariants.{Index as IndexRole}
 use Rattle.best_fit.specs.Heap.{extent_at, AllocatesOk, AllocatesNoSpace, Deallocates, KeepsBlocks, EncodesLiveSet}
-use Rattle.best_fit.specs.Heap.{SameBlock, is_live_in}
-use Rattle.best_fit.specs.{Extents.Extent, Extents.LiveSet, Extents.handle, Heap.live_of, Table.BackingArray}
-use Rattle.best_fit.specs.{Table.serves}
-use Rattle.best_fit.specs.Fit.{others, released}
+use Rattle.best_fit.specs.{Heap.SameBlock, Heap.is_live_in, Heap.live_of, Extents.Extent, Extents.LiveSet}
+use Rattle.best_fit.specs.{Extents.handle, Table.BackingArray, Table.serves, Fit.others, Fit.released}
 use Rattle.offset_link.specs.Link.{link_at}
-use Rattle.seg_index.specs.{Held.IsIndexIn, Held.IsIndexOf, Held.capacity_at, Held.entry_count, Index.grown_capacity}
-use Rattle.seg_index.specs.declared.growing.Growth.{Growth}
+use Rattle.seg_index.specs.Held.{IsIndexIn, IsIndexOf, capacity_at, entry_count}
+use Rattle.seg_index.specs.{Index.grown_capacity, declared.growing.Growth.Growth}
 
 -- the bytes that a full index asks for
 abbrev pub grown_bytes : WindowState → ℕ → ℕ

@@ -1,6 +1,6 @@
 -- What holds of indexes beside other calls of their heap.
 use Rattle.std.specs.Prelude.{◌≡◌, ℕ, ◌+◌, ◌%◌, ◌<◌, ◌≤◌, ◌==◌, if◌then◌else◌, Option, Some, List, [], ◌∷◌, IsTrue}
-use Rattle.std.specs.declared.cmp.Ordering.{Ordering}
+use Rattle.std.specs.{declared.cmp.Ordering.Ordering, List.AllByRecursion}
 use Rattle.raw_region.specs.{Format.current, Memory.WindowState, Memory.Memory, Memory.bytes_of}
 use Rattle.block_tags.specs.declared.tile.Role.{Role}
 use Rattle.link_tree.specs.Tree.{bits}
@@ -8,11 +8,10 @@ use Rattle.offset_link.specs.Link.{link_at}
 use Rattle.best_fit.specs.Heap.{AllocatesOk, ChangesBytes, Deallocates, KeepsBlocks, EncodesLiveSet, has_room, live_of}
 use Rattle.best_fit.specs.Table.{BackingArray}
 use Rattle.seg_index.specs.{declared.index.Index.Index, Growth.CanGrow, Growth.IsGrowth, Held.IsIndexOf, Held.place_of}
-use Rattle.seg_index.specs.{declared.keys.Entry.TheVariants.Code, Comparing.comparisons, Comparing.comparisons_among}
-use Rattle.seg_index.specs.{declared.keys.Entry.Entry, declared.keys.Lookup.Lookup, Lookups.FindsPosition}
-use Rattle.seg_index.specs.declared.keys.Lookup.TheVariants.{Absent}
+use Rattle.seg_index.specs.{declared.keys.Entry.TheVariants.Code, declared.keys.Entry.Entry}
+use Rattle.seg_index.specs.{declared.keys.Lookup.Lookup, Lookups.FindsPosition, declared.keys.Lookup.TheVariants.Absent}
+use Rattle.seg_index.specs.Comparing.{comparisons, comparisons_among}
 use Rattle.seg_index.specs.Sorted.{AreSortedHandles, BelongsAt, HasSortKey, IsKeyOf, KeepsSorted, index_of}
-use Rattle.std.specs.List.{AllByRecursion}
 
 -- the link of an index leads to this block
 abbrev pub IsItsBlock : WindowState → Index → ℕ → Type 0
@@ -21,15 +20,12 @@ IsItsBlock c i h = link_at (bytes_of c.bytes) (place_of i) ≡ Some h
 -- the law: an index stays where a block is taken, and where a block that is not its own is released or written
 pub record IndexesStay : Type 0 where
   pub taken : (i : Index) (a b : WindowState) (n : ℕ) (role : Role) (h : ℕ) (t : BackingArray) (handles : List ℕ)
-      → IsIndexOf a (place_of i) t handles → AllocatesOk current a b n role h
-      → IsIndexOf b (place_of i) t handles
+      → IsIndexOf a (place_of i) t handles → AllocatesOk current a b n role h → IsIndexOf b (place_of i) t handles
   pub released : (i : Index) (a b : WindowState) (h : ℕ) (t : BackingArray) (handles : List ℕ)
       → IsIndexOf a (place_of i) t handles
-      → Deallocates current a b h → (IsItsBlock a i h → ⊥)
-      → IsIndexOf b (place_of i) t handles
+      → Deallocates current a b h → (IsItsBlock a i h → ⊥) → IsIndexOf b (place_of i) t handles
   pub written : (i : Index) (a b : WindowState) (h at n : ℕ) (t : BackingArray) (handles : List ℕ)
-      → IsIndexOf a (place_of i) t handles
-      → ChangesBytes current a b (h + at) n
+      → IsIndexOf a (place_of i) t handles → ChangesBytes current a b (h + at) n
       → IsTrue (has_room (live_of a.bytes) h (at + n)) → (IsItsBlock a i h → ⊥) → IsIndexOf b (place_of i) t handles
 
 -- the law: entries stay sorted where a block is taken, where one that is none of their objects' is released or written,
@@ -37,14 +33,12 @@ pub record IndexesStay : Type 0 where
 pub record EntriesStaySorted : Type 0 where
   pub taken : (a b : WindowState) (n : ℕ) (role : Role) (h : ℕ) → AllocatesOk current a b n role h → KeepsSorted a b
   pub released : (i : Index) (a b : WindowState) (h : ℕ) (handles : List ℕ) → AreSortedHandles a i handles
-      → Deallocates current a b h
-      → AllByRecursion (λ g. g ≡ h → ⊥) handles → AreSortedHandles b i handles
+      → Deallocates current a b h → AllByRecursion (λ g. g ≡ h → ⊥) handles → AreSortedHandles b i handles
   pub written : (i : Index) (a b : WindowState) (h at n : ℕ) (handles : List ℕ) → AreSortedHandles a i handles
       → ChangesBytes current a b (h + at) n → IsTrue (has_room (live_of a.bytes) h (at + n))
       → AllByRecursion (λ g. g ≡ h → ⊥) handles → AreSortedHandles b i handles
-  pub restored : (a b : WindowState) → EncodesLiveSet current b.bytes (live_of a.bytes)
-      → KeepsBlocks a b (live_of a.bytes).extents
-      → KeepsSorted a b
+  pub restored : (a b : WindowState)
+      → EncodesLiveSet current b.bytes (live_of a.bytes) → KeepsBlocks a b (live_of a.bytes).extents → KeepsSorted a b
 
 -- the law: an object whose key a look-up did not find belongs at the place that it answered
 abbrev pub AbsentKeysBelong : Type 0
@@ -66,12 +60,10 @@ pub record GrowthsStay : Type 0 where
       → IsIndexOf a (place_of i) t handles → IsGrowth a b (place_of i) g → CanGrow b (place_of i) g
   pub taken : (i : Index) (a b : WindowState) (g : Option ℕ) (n : ℕ) (role : Role) (h : ℕ) → CanGrow a (place_of i) g
       → AllocatesOk current a b n role h → CanGrow b (place_of i) g
-  pub released : (i : Index) (a b : WindowState) (g : Option ℕ) (h : ℕ) → CanGrow a (place_of i) g
-      → Deallocates current a b h
-      → (g ≡ Some h → ⊥) → CanGrow b (place_of i) g
+  pub released : (i : Index) (a b : WindowState) (g : Option ℕ) (h : ℕ)
+      → CanGrow a (place_of i) g → Deallocates current a b h → (g ≡ Some h → ⊥) → CanGrow b (place_of i) g
   pub written : (i : Index) (a b : WindowState) (g : Option ℕ) (h at n : ℕ) → CanGrow a (place_of i) g
-      → ChangesBytes current a b (h + at) n
-      → IsTrue (has_room (live_of a.bytes) h (at + n)) → CanGrow b (place_of i) g
+      → ChangesBytes current a b (h + at) n → IsTrue (has_room (live_of a.bytes) h (at + n)) → CanGrow b (place_of i) g
 
 -- objects whose kinds have the places of the objects as their codes, and an index of seven
 abbrev pub own_codes : Memory

@@ -56,8 +56,7 @@ pub record HasSortedIndex (c : WindowState) (i : Index) : Type 0 where
 pub record BelongsAt (c : WindowState) (i : Index) (handles : List ℕ) (place handle : ℕ) : Type 0 where
   pub key : HasSortKey c i handle
   pub within : place ≤ length handles
-  pub each : (j g : ℕ) → slice_get handles j ≡ Some g
-      → (j < place → sort_order i (bytes_of c.bytes) g handle ≡ Less)
+  pub each : (j g : ℕ) → slice_get handles j ≡ Some g → (j < place → sort_order i (bytes_of c.bytes) g handle ≡ Less)
       × (place ≤ j → sort_order i (bytes_of c.bytes) g handle ≡ Greater)
 
 -- the index is sorted, and with an entry for this handle at this place it still would be

@@ -54,7 +54,7 @@ impl Index {
         }
     }
 
-    /// Takes the entry at a place out. Those behind it stand one place before; the block stays.
+    /// Takes the entry at a place out. Those after it stand one place before; the block stays.
     pub fn remove(self, heap: &mut Heap, place: u64)
         requires index { HasIndex heap.old (place_of self) }
         requires subtree { place < entry_count heap.old (place_of self) }
@@ -76,7 +76,7 @@ impl Index {
     }
 }
 
-/// Puts a link at a place of a block, behind which come the links of a block from that place on: the same block, or
+/// Puts a link at a place of a block, after which come the links of a block from that place on: the same block, or
 /// another.
 fn spread(heap: &mut Heap, from: u64, to: u64, place: u64, count: u64, handle: u64)
     requires heap { IsHeap current heap.old.bytes }

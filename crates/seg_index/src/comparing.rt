@@ -21,14 +21,14 @@ const HALF: u64 = 4294967296;
 pub struct ComparisonCounter<'a> {
     heap: &'a Heap,
     key: Entry<'a>,
-    /// How the key begins, where it is a name.
+    /// How the key begins, if it is a name.
     front: u64,
     block: u64,
     count: u64,
 }
 
 impl<'a> ComparisonCounter<'a> {
-    /// None yet.
+    /// Makes a counter that stands at 0.
     pub fn new(heap: &'a Heap, key: Entry<'a>, block: u64) -> ComparisonCounter<'a>
         ensures heap { result.heap.now ≡ heap.now }
         ensures key { result.key ≡ key.entry }
@@ -45,14 +45,14 @@ impl<'a> ComparisonCounter<'a> {
         }
     }
 
-    /// How many there were.
+    /// Returns how many there were.
     pub fn count(&self) -> u64
         ensures { result ≡ self.now.count }
     {
         self.count
     }
 
-    /// How the key that the entry with `i` others before it leads to stands to the key that is looked up.
+    /// Compares the key that the entry with `i` others before it leads to with the key that is looked up.
     pub fn compare(&mut self, i: u64) -> Ordering
         requires entry { IsKeyedEntry self.old.heap.now self.old.key self.old.block i }
         requires front { self.old.front ≡ key_front self.old.key }
@@ -69,7 +69,7 @@ impl<'a> ComparisonCounter<'a> {
     }
 }
 
-/// How the name of an object stands to a name, of which it is known how it begins. Names of one length, of at most
+/// Compares the name of an object with a name, of which it is known how it begins. Names of one length, of at most
 /// eight bytes, that begin alike are equal; of others that begin alike all bytes are compared.
 fn order_of_name(heap: &Heap, name: &[u8], front: u64, handle: u64) -> Ordering
     requires heap { IsHeap current heap.now.bytes }
@@ -95,7 +95,7 @@ fn order_of_name(heap: &Heap, name: &[u8], front: u64, handle: u64) -> Ordering
 /// The bytes that a front is made of.
 const FRONT: usize = 8;
 
-/// The front of a name that is looked up. A code has none.
+/// Returns the front of a name that is looked up. A code has none.
 fn front_of(key: Entry<'_>) -> u64
     ensures { result ≡ key_front key.entry }
 {
@@ -108,8 +108,8 @@ fn front_of(key: Entry<'_>) -> u64
     BigEndian::read_u64(&bytes)
 }
 
-/// The front of the name of an object, of `len` bytes. Eight bytes are read also of a shorter name, for behind each
-/// block there are as many, and those that are not of the name count as zeros.
+/// Returns the front of the name of an object, of `len` bytes. Eight bytes are read also of a shorter name, for after
+/// each block there are as many, and those that are not of the name count as zeros.
 fn front_at(heap: &Heap, handle: u64, len: u64) -> u64
     requires heap { IsHeap current heap.now.bytes }
     requires room { IsTrue (has_room (live_of heap.now.bytes) handle (16 + len)) }

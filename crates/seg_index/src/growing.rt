@@ -17,7 +17,7 @@ use block_tags::Role;
 use raw_region::Steps;
 use std::cmp::max;
 
-/// A new block for the links of an index, or none where it has places left. It is taken in use before the command that
+/// A new block for the links of an index, or none if it has places left. It is taken in use before the command that
 /// needs it changes anything, and goes back to the heap or becomes the block of the index.
 #[derive(Drop)]
 pub struct Growth {
@@ -25,11 +25,11 @@ pub struct Growth {
 }
 
 impl Index {
-    /// Takes a new block into use where the index is full: for twice its places, and at least 4. The old one stays.
+    /// Takes a new block into use if the index is full: for twice its places, and at least 4. The old one stays.
     ///
     /// # Errors
     ///
-    /// `NoSpace` where the index is full and no gap is long enough. Nothing changes.
+    /// `NoSpace` if the index is full and no gap is long enough. Nothing changes.
     pub fn prepare(self, heap: &mut Heap, steps: &mut Steps) -> Result<Growth, NoSpace>
         requires index { HasIndex heap.old (place_of self) }
         ensures growth { Prepares heap.old heap.new (place_of self) result }
@@ -63,12 +63,12 @@ impl Index {
         }
     }
 
-    /// Moves the index into a new block for `n` places, where it has less, and releases the old one. The new block is
-    /// taken while the old one is in use. Where there are `n` places, nothing changes.
+    /// Moves the index into a new block for `n` places, if it has less, and releases the old one. The new block is
+    /// taken while the old one is in use. If there are `n` places, nothing changes.
     ///
     /// # Errors
     ///
-    /// `NoSpace` where no gap is long enough, as for each `n` above 134217728. Nothing changes.
+    /// `NoSpace` if no gap is long enough, as for each `n` above 134217728. Nothing changes.
     pub fn reserve(self, heap: &mut Heap, n: u64, steps: &mut Steps) -> Result<(), NoSpace>
         requires index { HasIndex heap.old (place_of self) }
         ensures capacity { ReservesIndex heap.old heap.new (place_of self) n result }
@@ -89,8 +89,8 @@ impl Index {
         Ok(())
     }
 
-    /// Makes the capacity the number of entries. Without entries the block is released; else it is shortened where it
-    /// stands, as far as what is cut off can be free, also where the capacity is that already.
+    /// Makes the capacity the number of entries. Without entries the block is released; otherwise it is shortened where
+    /// it stands, as far as what is cut off can be free, also if the capacity is that already.
     pub fn shrink(self, heap: &mut Heap, steps: &mut Steps)
         requires index { HasIndex heap.old (place_of self) }
         ensures shrinking { (t : ATable) (handles : List ℕ) → IsIndexOf heap.old (place_of self) t handles
@@ -148,7 +148,7 @@ impl Index {
 /// The bytes of a link.
 pub const LINK: u64 = 8;
 
-/// The capacity that a full index grows to.
+/// Returns the capacity that a full index grows to.
 pub fn grown(capacity: u64) -> u64
     requires { capacity < 2 ^ 40 }
     ensures { result ≡ grown_capacity capacity }

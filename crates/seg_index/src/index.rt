@@ -24,7 +24,7 @@ pub enum Index {
 }
 
 impl Index {
-    /// Where its three words begin: the link to its block, the number of its entries, and its capacity.
+    /// Returns where its three words begin: the link to its block, the number of its entries, and its capacity.
     pub(crate) fn header_offset(self) -> u64
         ensures { result ≡ place_of self }
     {
@@ -45,7 +45,7 @@ impl Index {
         heap.set_header_word(place + 16, 0);
     }
 
-    /// The number of its entries.
+    /// Returns the number of its entries.
     pub fn len(self, heap: &Heap) -> u64
         ensures word { result ≡ entry_count heap.now (place_of self) }
         ensures len { (t : ATable) (handles : List ℕ) → IsIndexOf heap.now (place_of self) t handles
@@ -54,7 +54,7 @@ impl Index {
         heap.header_word(self.header_offset() + 8)
     }
 
-    /// The number of its places. Without a block there are none.
+    /// Returns the number of its places. Without a block there are none.
     pub fn capacity(self, heap: &Heap) -> u64
         ensures word { result ≡ capacity_at heap.now (place_of self) }
         ensures capacity { (t : ATable) (handles : List ℕ) → IsIndexOf heap.now (place_of self) t handles
@@ -63,7 +63,7 @@ impl Index {
         heap.header_word(self.header_offset() + 16)
     }
 
-    /// The handle that the entry with `i` others before it leads to.
+    /// Returns the handle that the entry with `i` others before it leads to.
     pub fn at(self, heap: &Heap, i: u64) -> u64
         requires index { HasIndex heap.now (place_of self) }
         requires subtree { i < entry_count heap.now (place_of self) }
@@ -74,8 +74,8 @@ impl Index {
         heap.link(block, 8 * i).unwrap_or(0)
     }
 
-    /// Where a key stands among the keys of the objects that the entries lead to, by binary search: each step is a
-    /// comparison of two keys.
+    /// Returns where a key stands among the keys of the objects that the entries lead to, by binary search: each step
+    /// is a comparison of two keys.
     pub fn lookup(self, heap: &Heap, key: Entry<'_>, steps: &mut Steps) -> Lookup
         requires index { HasSortedIndex heap.now self }
         requires sort { index_of key ≡ self }

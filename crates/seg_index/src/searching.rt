@@ -9,7 +9,7 @@ use crate::comparing::ComparisonCounter;
 use crate::keys::Lookup;
 use std::cmp::Ordering;
 
-/// Where the key stands among those that the first entries lead to.
+/// Returns where the key stands among those that the first entries lead to.
 pub fn search(comparisons: &mut ComparisonCounter<'_>, count: u64) -> Lookup
     requires keys { AreKeys comparisons.old.heap.now comparisons.old.block count comparisons.old.key }
     requires max_count { count < 2 ^ 40 }

@@ -2,32 +2,33 @@
 ghost use Rattle.seg_index.specs.Laws.{AbsentKeysBelong, EntriesStaySorted, GrowthsStay, IndexesStay};
 ghost use Rattle.seg_index.specs.Laws.{KeysHaveOnePlace, SearchesHalve};
 
-/// An index stays where a block is taken, and where a block that is not its own is released or written.
+/// States that an index stays where a block is taken, and where a block that is not its own is released or written.
 pub fn indexes_stay()
     ensures { IndexesStay }
 {}
 
-/// Entries stay sorted where a block is taken, and where one that is none of their objects' is released or written.
+/// Entries stay sorted if a block is taken, and where one that is none of their objects' is released or written.
 pub fn entries_stay_sorted()
     ensures { EntriesStaySorted }
 {}
 
-/// An object whose key a look-up did not find belongs at the place that it answered.
+/// States that an object whose key a look-up did not find belongs at the place that it answered.
 pub fn absent_keys_belong()
     ensures { AbsentKeysBelong }
 {}
 
-/// Of a sorted index one place alone is what a look-up of a key may answer.
+/// States that a look-up of a key in a sorted index may answer one place alone.
 pub fn keys_have_one_place()
     ensures { KeysHaveOnePlace }
 {}
 
-/// What `prepare` answered may be given to `add` behind other calls of the heap that leave its block in use.
+/// States that `add` takes what `prepare` answered after other calls of the heap too, if they leave its block in use.
 pub fn growths_stay()
     ensures { GrowthsStay }
 {}
 
-/// The comparisons of a look-up depend on nothing but how each key stands to the one that is looked up, and are few.
+/// States that the comparisons of a look-up depend on nothing but how each key stands to the one that is looked up, and
+/// are few.
 pub fn searches_halve()
     ensures { SearchesHalve }
 {}

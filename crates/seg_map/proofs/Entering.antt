@@ -3,13 +3,12 @@ use Rattle.seg_map.proofs.Common as common
 use common.{◌≡◌, refl, sym, ap, ◌∙◌, ℕ, ◌+◌, ◌≤◌, ◌≢◌, inl, inr, Bool, true, ◌&&◌, not, List, ◌∷◌, length, map, arith}
 use common.{◌==◌, Option, Some, None, find, option_map, AllByRecursion, list_all, reverse, and_parts, cases_Bool}
 use common.{eq-eqb, le-leb, leb-true, Memory, HasBytesAt, bytes_of, read, WindowState, Node, link_at, Tree, IsTree}
-use common.{nodes_of, is_sorted}
-use common.{first_not_before, is_in, last_before, leads, all_from, root_in, tree_same, Extent, LiveSet, handle}
-use common.{cells_of}
-use common.{others, KeepsBlocks, SameBlock, extent_at, live_of, value_in, IsKeyTree, keys_in, Pair, IsPairAt, is_rising}
-use common.{HoldsMap, IsPairIn, first_pair, is_passed, last_pair, nodes_of_pairs, pair_node, before_key, comes_before}
-use common.{stands, is_pair_node, key_at, key_of, links_among, own_nodes, pair_cells, stands_before, Chains, IsStrict}
-use common.{IsGoodNodeSet, In, PairNode-is_pair_node, cells_at, node_block, Plain, [], length-map}
+use common.{nodes_of, is_sorted, first_not_before, is_in, last_before, leads, all_from, root_in, tree_same, Extent}
+use common.{LiveSet, handle, cells_of, others, KeepsBlocks, SameBlock, extent_at, live_of, value_in, IsKeyTree, keys_in}
+use common.{Pair, IsPairAt, is_rising, HoldsMap, IsPairIn, first_pair, is_passed, last_pair, nodes_of_pairs, pair_node}
+use common.{before_key, comes_before, stands, is_pair_node, key_at, key_of, links_among, own_nodes, pair_cells}
+use common.{stands_before, Chains, IsStrict, IsGoodNodeSet, In, PairNode-is_pair_node, cells_at, node_block, Plain, []}
+use common.{length-map}
 use Rattle.seg_map.proofs.PairLists.{HaveKeys, all_reversed, each, each_both, find_mapped, map_reversed}
 use Rattle.seg_map.proofs.{PairLists.nodes_in as pairs_in, PairSteps.all_in, PairSteps.any_at, PairSteps.in_others}
 use Rattle.std.proofs.Common.{◌^◌}
@@ -114,8 +113,7 @@ pairs_all P Q (p ∷ ps) f a = rw (f p a.0, pairs_all P Q ps f a.1) refl
 -- ---- the tree of a map
 
 module _ {K V : Type 0} {kp : Plain K} {vp : Plain V} (laws : Laws kp) (c : WindowState) {h at : ℕ}
-    {ps : List (Pair K V)}
-    (s : HoldsMap kp vp c.bytes h at ps) where
+    {ps : List (Pair K V)} (s : HoldsMap kp vp c.bytes h at ps) where
   pub pair_block : (p : Pair K V) → IsPairIn kp vp (live_of c.bytes) h p
       → is_block_in (16 + kp.SIZE) (live_of c.bytes) (pair_node p) ≡ true
   pair_block p i =
@@ -153,8 +151,7 @@ key_is {kp = kp} l own c {p = p} e i b =
 
 -- the nodes may be more than those of the tree
 module _ {K V : Type 0} {kp : Plain K} {vp : Plain V} (laws : Laws kp) {c : WindowState} {h at : ℕ}
-    {ps : List (Pair K V)}
-    (s : HoldsMap kp vp c.bytes h at ps) {own : List ℕ} (g : IsGoodNodeSet (16 + kp.SIZE) own c)
+    {ps : List (Pair K V)} (s : HoldsMap kp vp c.bytes h at ps) {own : List ℕ} (g : IsGoodNodeSet (16 + kp.SIZE) own c)
     (among : (m : ℕ) → is_in m (nodes_of s.map.tree.tree) ≡ true → is_in m own ≡ true) where
   node_in : (n : ℕ) → is_in n (nodes_of s.map.tree.tree) ≡ true → is_pair_node (16 + kp.SIZE) own c n ≡ true
   node_in n i = PairNode-is_pair_node (16 + kp.SIZE) own c n (record { good = g; listed = among n i })
@@ -183,8 +180,7 @@ module _ {K V : Type 0} {kp : Plain K} {vp : Plain V} (laws : Laws kp) {c : Wind
       }
 
 module _ {K V : Type 0} {kp : Plain K} {vp : Plain V} (laws : Laws kp) (c : WindowState) {h at : ℕ}
-    {ps : List (Pair K V)}
-    (s : HoldsMap kp vp c.bytes h at ps) where
+    {ps : List (Pair K V)} (s : HoldsMap kp vp c.bytes h at ps) where
   abbrev t : Tree
   t = s.map.tree.tree
 
@@ -219,6 +215,5 @@ module _ {K V : Type 0} {kp : Plain K} {vp : Plain V} (laws : Laws kp) (c : Wind
 
 -- a map has few pairs
 pub few_in_map : {K V : Type 0} {kp : Plain K} {vp : Plain V} (kl : Laws kp) (c : WindowState) {h at : ℕ}
-    {ps : List (Pair K V)}
-    (s : HoldsMap kp vp c.bytes h at ps) → length ps ≤ 1073741824
+    {ps : List (Pair K V)} (s : HoldsMap kp vp c.bytes h at ps) → length ps ≤ 1073741824
 few_in_map kl c {ps = ps} s = omega (arith, few_pairs kl c s, ap length s.map.tree.lists ∙ length-map ps pair_node)

@@ -2,23 +2,19 @@
 use Rattle.seg_map.proofs.Common as common
 use common.{◌≡◌, both_ways, is_live_in, found-less, found-room, laid-heap, pair_node, own_nodes, cases_Bool, live-rises}
 use common.{refl, bytes_of, nodes_of, released, HoldsMap, IsPairIn, Relinked, ErasesPair, is_proper, extent_at}
-use common.{is_rising}
-use common.{sym, current, link_at, without, LiveSet, EncodesLiveSet, live_of, WritesMapHeader, cases_eq, cells_of}
-use common.{IsStrict, or_right}
-use common.{ap, lay_out_one, remove_pair, nodes_of_pairs, AllByRecursion, SameBlockExcept, KeepsOutsideMap}
-use common.{false_from_ne_true}
-use common.{subst, length, IsTrue, Option, IfSome, eq-eqb, Extent, pair_at, keys_in, exit_in, word_at, root_of, root_in}
-use common.{◌∙◌, ℕ, ◌+◌, ◌≢◌, None, WindowState, Pair, ◌⊎◌, ◌<◌, inl, inr, Bool, true, ◌∷◌, map, Tree, fork, leaf, In}
-use common.{[], not}
-use common.{false≢true, comes_before, IsKeyTree}
-use common.{false, List, arith, ◌==◌, Some, is_in, handle, roomy, ne_eqb, IsTree, others, Chains, is_key, Rising, Plain}
+use common.{is_rising, sym, current, link_at, without, LiveSet, EncodesLiveSet, live_of, WritesMapHeader, cases_eq}
+use common.{cells_of, IsStrict, or_right, ap, lay_out_one, remove_pair, nodes_of_pairs, AllByRecursion, SameBlockExcept}
+use common.{KeepsOutsideMap, false_from_ne_true, subst, length, IsTrue, Option, IfSome, eq-eqb, Extent, pair_at}
+use common.{keys_in, exit_in, word_at, root_of, root_in, ◌∙◌, ℕ, ◌+◌, ◌≢◌, None, WindowState, Pair, ◌⊎◌, ◌<◌, inl, inr}
+use common.{Bool, true, ◌∷◌, map, Tree, fork, leaf, In, [], not, false≢true, comes_before, IsKeyTree, false, List}
+use common.{arith, ◌==◌, Some, is_in, handle, roomy, ne_eqb, IsTree, others, Chains, is_key, Rising, Plain}
 use Rattle.seg_map.proofs.PairLists.{without_nodes, in_from, nodes_in, Below, rising_below, rising_rest, each_both}
 use Rattle.seg_map.proofs.PairLists.{pair_of, in_nodes, none_left, other_nodes, removed_all, removed_length, apart_all}
+use Rattle.seg_map.proofs.{PairLists.known, PairLists.removed_rising, Searching.lent_own, Searching.lent_tree}
 use Rattle.seg_map.proofs.Entering.{Laws, found_in, good, keys, other_block}
 use Rattle.seg_map.proofs.Staying.{at_node, map_stays, AtNode, beside_then, keeps_beside, relaid}
 use Rattle.seg_map.proofs.PairSteps.{any_at, begins_behind, own_handle}
-use Rattle.seg_map.proofs.{PairLists.known, PairLists.removed_rising, Searching.lent_own, Searching.lent_tree}
-use Rattle.seg_map.specs.{Changing.UnlinksPair, Changing.FreesAllPairs}
+use Rattle.seg_map.specs.Changing.{UnlinksPair, FreesAllPairs}
 use Rattle.link_tree.specs.Ways.{remove_point_of}
 use Rattle.best_fit.proofs.Laws.{released-live, others-comm, rising-weak}
 use Rattle.best_fit.specs.{Exchange.exchanged, Exchange.without_all, Heap.Deallocates}
@@ -50,9 +46,8 @@ module _ {K V : Type 0} {kp : Plain K} {vp : Plain V} (kl : Laws kp) (c : Window
   }
 
   -- the map without the pair
-  pub taken : {d e : WindowState} {top : Option ℕ} {n steps : ℕ}
-      → Relinked kp lent c d root top (without node) steps → Laws vp
-      → n + 1 ≡ length ps → WritesMapHeader d e (h + at) top n → UnlinksPair kp vp c e h at ps key
+  pub taken : {d e : WindowState} {top : Option ℕ} {n steps : ℕ} → Relinked kp lent c d root top (without node) steps
+      → Laws vp → n + 1 ≡ length ps → WritesMapHeader d e (h + at) top n → UnlinksPair kp vp c e h at ps key
   taken u vl count head = relaid s (lent_tree kl c s is refl) u kl vl ps s.pairs s.map.pairs (ns_is ∙ s.map.tree.lists)
       (rw ns_is (good kl c s)) head ((λ i. without (sym here i) (s.map.tree.lists i)) ∙ without_nodes kp.order
       kl.irreflexive kl.transitive (keys_in kp (nodes_of s.map.tree.tree) c) p key ps (keys kl c s) s.rising has)
@@ -63,8 +58,7 @@ module _ {K V : Type 0} {kp : Plain K} {vp : Plain V} (kl : Laws kp) (c : Window
 module _ {K V : Type 0} {kp : Plain K} {vp : Plain V} (kl : Laws kp) (vl : Laws vp) {c e f : WindowState} {h at : ℕ}
     {ps : List (Pair K V)} (s : HoldsMap kp vp c.bytes h at ps) (key : K) {p : Pair K V}
     (has : pair_at kp.order ps key ≡ Some p) {node : ℕ} (here : pair_node p
-    ≡ node) (t : UnlinksPair kp vp c e h at ps key)
-    (r : Deallocates current e f node) where
+    ≡ node) (t : UnlinksPair kp vp c e h at ps key) (r : Deallocates current e f node) where
   live_is : live_of e.bytes ≡ live_of c.bytes
   live_is = lay_out_one _ _ _ t.live
 
@@ -202,8 +196,7 @@ exit_of_root less n leaf e = absurd (cc)
 exit_of_root less n (fork red left m right) e = let same : m ≡ n = cc in rw (eq-eqb m n same) refl
 
 module _ {K V : Type 0} {k : Plain K} {v : Plain V} (kl : Laws k) {old now : WindowState} {h at : ℕ}
-    {ps : List (Pair K V)}
-    (g : IsGoing k v old now h at ps) where
+    {ps : List (Pair K V)} (g : IsGoing k v old now h at ps) where
   -- the node at the root is that of a pair
   pub root_pair : {node : ℕ} → link_at (bytes_of now.bytes) (h + at) ≡ Some node
       → AtNode (λ (q : Pair K V). pair_at k.order g.pairs q.key ≡ Some q) node

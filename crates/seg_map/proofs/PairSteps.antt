@@ -4,16 +4,13 @@ use common.{Memory, List, length, IsTrue, eq-eqb, Extent, word_at, current, link
 use common.{refl, false≢true, cases_Bool, is_live_in, beside_cell, lay_out_one, is_pair_node, links_among, comes_before}
 use common.{suc, handle, ne_eqb, Rising, nat_lt, nat_le, Option, IfSome, le-leb, lt-ltb, end_of, others, key_at, key_of}
 use common.{◌≡◌, ap, ◌+◌, ◌==◌, Some, find, read, lies, subst, Bool, true, false, None, SameBytes, is_in, leads}
-use common.{IsGoodNodeSet, Plain}
-use common.{ℕ, ◌-◌, ◌≤◌, inl, inr, ◌∷◌, In, [], sym, ◌∙◌, ◌%◌, ◌<◌, ◌⊎◌, WindowState}
-use common.{◌&&◌, is_proper, room-less, both_ways, SameSurroundings, SameBytes-link, cell_stays, pair_cells, node_block}
-use common.{node_place}
-use common.{arith, eqb-true, leb-true, has_room, list_any, cases_eq, or_cases, or_right, ltb-true, ChangesBytes}
-use common.{SameBlock}
-use common.{and_parts, is_proper-IsProper, allocated-room, AllByRecursion, PairNode-is_pair_node, is_pair_node-PairNode}
-use common.{live_of, changed-room, if◌then◌else◌, SameBytesExcept-SameBytes, SameBytesExcept-word, SameBytesExcept-link}
-use common.{is_link_byte, stands_before}
-use common.{passing, or_left, bytes_of, all_from, cells_of, is_other, PairNode, cells_at, disjoint, value_in, not-true}
+use common.{IsGoodNodeSet, Plain, ℕ, ◌-◌, ◌≤◌, inl, inr, ◌∷◌, In, [], sym, ◌∙◌, ◌%◌, ◌<◌, ◌⊎◌, WindowState, ◌&&◌}
+use common.{is_proper, room-less, both_ways, SameSurroundings, SameBytes-link, cell_stays, pair_cells, node_block}
+use common.{node_place, arith, eqb-true, leb-true, has_room, list_any, cases_eq, or_cases, or_right, ltb-true}
+use common.{ChangesBytes, SameBlock, and_parts, is_proper-IsProper, allocated-room, AllByRecursion}
+use common.{PairNode-is_pair_node, is_pair_node-PairNode, live_of, changed-room, if◌then◌else◌}
+use common.{SameBytesExcept-SameBytes, SameBytesExcept-word, SameBytesExcept-link, is_link_byte, stands_before, passing}
+use common.{or_left, bytes_of, all_from, cells_of, is_other, PairNode, cells_at, disjoint, value_in, not-true}
 use Rattle.best_fit.proofs.Laws.{legal_size, others-here, others-past}
 use Rattle.best_fit.specs.{Heap.Recolours, Heap.is_node_in, Heap.is_node_role, FreeTree.is_red, Extents.holds}
 use Rattle.std.proofs.Math.Nat.{le_refl, le_trans, lt_of_lt_of_le}
@@ -217,9 +214,8 @@ block_apart {len} {ns} {c} {n} x g i o =
       | inr d ↦ grind (arith, d)
     ]
 
-pub nodes_apart : {len : ℕ} {ns : List ℕ} {c : WindowState} {n m : ℕ} → PairNode len ns c n → PairNode len ns c m
-    → (m ≡ n → ⊥)
-    → (m + len ≤ n - 16) ⊎ (n + len ≤ m - 16)
+pub nodes_apart : {len : ℕ} {ns : List ℕ} {c : WindowState} {n m : ℕ}
+    → PairNode len ns c n → PairNode len ns c m → (m ≡ n → ⊥) → (m + len ≤ n - 16) ⊎ (n + len ≤ m - 16)
 nodes_apart {len} {ns} {c} {n} {m} g h o =
     let p = node_place len ns c m h in let b = p.block in let at = b.at in
     grind (arith, block_apart b.extent g b.listed (λ e. o (sym at ∙ e)))

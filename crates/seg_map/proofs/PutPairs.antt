@@ -1,28 +1,23 @@
 -- What is written of a map, and pairs that are put.
 use Rattle.seg_map.proofs.Common as common
 use common.{◌≡◌, true, Node, Bool, ◌||◌, List, Some, roomy, Pair, ◌&&◌, leads, IsGoodNodeSet, SameBytes, KeepsBlocks}
-use common.{refl, AllocatesOk}
-use common.{comes_before, is_pair_node, links_among, beside_cell, changed-room, subst, entry_in, eqb-true, or_cases}
-use common.{or_right, all_from, cells_of, Relinked, cases_eq, ◌∙◌, ◌+◌, ◌%◌, inl, WindowState, ◌≤◌, HasBytesAt, sym, ap}
-use common.{◌≢◌, inr, not}
-use common.{◌∷◌, Tree, put, ◌⊎◌, ℕ, arith, Plain, false, ne_eqb, is_in, Extent, handle, stands, length, eq-eqb, others}
-use common.{IsTrue, Option, EncodesLiveSet, live_of, AllocatesNodeOk, IfSome, pair_at, keys_in, IsUnlinkedPair, or_left}
-use common.{None, ChangesBytes}
-use common.{laid-heap, entry_same, SameBlock, live-rises, found-room, node_place, current, word_at, link_at, IsPairAt}
-use common.{put_pair, IsPairIn, PairNode, or_parts, not-true, bytes_of, extent_at, IsPlanted, and_parts}
-use common.{is_ordered_with}
-use common.{pair_node, own_nodes, IsKeyTree, SameBytesExcept-word, SameBytesExcept-link, changed-live}
-use common.{SameBytesExcept-SameBytes, AllByRecursion}
+use common.{refl, AllocatesOk, comes_before, is_pair_node, links_among, beside_cell, changed-room, subst, entry_in}
+use common.{eqb-true, or_cases, or_right, all_from, cells_of, Relinked, cases_eq, ◌∙◌, ◌+◌, ◌%◌, inl, WindowState, ◌≤◌}
+use common.{HasBytesAt, sym, ap, ◌≢◌, inr, not, ◌∷◌, Tree, put, ◌⊎◌, ℕ, arith, Plain, false, ne_eqb, is_in, Extent}
+use common.{handle, stands, length, eq-eqb, others, IsTrue, Option, EncodesLiveSet, live_of, AllocatesNodeOk, IfSome}
+use common.{pair_at, keys_in, IsUnlinkedPair, or_left, None, ChangesBytes, laid-heap, entry_same, SameBlock, live-rises}
+use common.{found-room, node_place, current, word_at, link_at, IsPairAt, put_pair, IsPairIn, PairNode, or_parts}
+use common.{not-true, bytes_of, extent_at, IsPlanted, and_parts, is_ordered_with, pair_node, own_nodes, IsKeyTree}
+use common.{SameBytesExcept-word, SameBytesExcept-link, changed-live, SameBytesExcept-SameBytes, AllByRecursion}
 use common.{changed-keeps, SameSurroundings-trans, allocated-room, nodes_of_pairs, stands_before, PairNode-is_pair_node}
-use common.{leaf}
-use common.{has_room, WritesMapHeader, HasBytesAt-same, node_len, nodes_of, insert_point_of, HoldsMap, both_ways}
+use common.{leaf, has_room, WritesMapHeader, HasBytesAt-same, node_len, nodes_of, insert_point_of, HoldsMap, both_ways}
 use Rattle.seg_map.proofs.Entering.{other_block, Laws, found_in, keys, good, keys_among, key_is, pair_block, pair_parts}
 use Rattle.seg_map.proofs.Entering.{tree_among, with_bytes}
 use Rattle.seg_map.proofs.Staying.{at_node, block_cells, map_over, pair_stays, beside_then, keeps_beside, map_stays}
+use Rattle.seg_map.proofs.{Staying.relaid, Searching.lent_own, PairSteps.all_in}
 use Rattle.seg_map.proofs.PairLists.{replaced_nodes, replaced_rising, in_nodes, not_among, place_of, put_all}
 use Rattle.seg_map.proofs.PairLists.{put_length, put_nodes, put_rising, HaveKeys, keys_agree, known}
 use Rattle.seg_map.proofs.PairLists.{beside as not_beside, each, each_both, pair_of, replaced_all}
-use Rattle.seg_map.proofs.{Staying.relaid, Searching.lent_own, PairSteps.all_in}
 use Rattle.seg_map.specs.Changing.{InitsMap, PutsNewPair, OverwritesPair, CanLinkPair, LinksPair}
 use Rattle.raw_region.proofs.Laws.{SameBytesExcept-trans, SameBytesExcept-wider}
 use Rattle.best_fit.proofs.Laws.{still_allocated-block, Differs, allocated-live, allocated-room_before, found-more}
@@ -344,8 +339,7 @@ module _ {K V : Type 0} {kp : Plain K} {vp : Plain V} (c : WindowState) {h at : 
   module _ (kl : Laws kp) (vl : Laws vp)
       (total : (x y : K) → kp.is_value x ≡ true → kp.is_value y ≡ true → kp.order x y ≡ false → kp.order y x ≡ false
       → x ≡ y) {d : WindowState} (value : V) (is_key_value : kp.is_value key ≡ true) (is_value : vp.is_value value
-      ≡ true)
-      (change : ChangesBytes current c d (handle p.node + (16 + kp.SIZE)) vp.SIZE)
+      ≡ true) (change : ChangesBytes current c d (handle p.node + (16 + kp.SIZE)) vp.SIZE)
       (there : HasBytesAt (bytes_of d.bytes) (handle p.node + (16 + kp.SIZE)) (vp.spelling value)) where
     abbrev new : Pair K V
     new = record { key = key; value = value; node = p.node }
@@ -419,8 +413,7 @@ module _ {K V : Type 0} {kp : Plain K} {vp : Plain V} (c : WindowState) {h at : 
         let found = pair_of kp.order Was ps key p has were in let size = kl.spells p.key (pair_parts own).key in
         let old = HasBytesAt-same _ _ _ _ (handle p.node + 16) (kp.spelling p.key)
         (SameBytesExcept-SameBytes _ _ _ _ (handle p.node + 16) (handle p.node + 16 + kp.SIZE) change.rest
-        (inl (omega arith)))
-        (omega arith) (omega (arith, size)) found.0.bytes.0 in
+        (inl (omega arith))) (omega arith) (omega (arith, size)) found.0.bytes.0 in
         let behind : handle p.node + (16 + kp.SIZE) ≡ handle p.node + 16 + kp.SIZE = omega arith in
         (rw same_key_is old, subst (λ k. HasBytesAt (bytes_of d.bytes) k (vp.spelling value)) behind there)
 

@@ -2,25 +2,23 @@
 use Rattle.seg_map.proofs.Common.{◌≡◌, refl, sym, ap, subst, ◌∙◌, ℕ, ◌+◌, ◌*◌, ◌≤◌, Bool, List, ◌∷◌, length, true}
 use Rattle.seg_map.proofs.Common.{false, arith, not, IsTrue, reverse, Option, Some, None, IfSome, find, option_map}
 use Rattle.seg_map.proofs.Common.{if◌then◌else◌, AllByRecursion, last_or, WindowState, bytes_of, read, link_at}
-use Rattle.seg_map.proofs.Common.{IsSearchTree}
-use Rattle.seg_map.proofs.Common.{Tree, bits, nodes_of, first_not_before, last_before, insert_point_of, has_room}
-use Rattle.seg_map.proofs.Common.{live_of, found-room}
-use Rattle.seg_map.proofs.Common.{room-less, IsKeyTree, keys_in, Pair, IsPairAt, pair_at, Chains, comes_before}
-use Rattle.seg_map.proofs.Common.{own_nodes, pair_cells, stands_before, HoldsMap, IsPairIn, final_pair, first_pair}
-use Rattle.seg_map.proofs.Common.{is_passed, last_pair, pair_node, entry_in, exit_in, Plain, [], nodes_of_pairs}
-use Rattle.seg_map.proofs.{Entering.keys, Entering.last_node, PairLists.all_reversed, Common.length-map, Staying.AtNode}
-use Rattle.seg_map.proofs.Entering.{with_bytes, own, pair_parts, read_spelled, value_of, Laws, first_node, key_tree}
-use Rattle.seg_map.proofs.PairLists.{each, last_mapped, by_key, pair_by_key, HaveKeys, narrowed, each_both}
+use Rattle.seg_map.proofs.Common.{IsSearchTree, Tree, bits, nodes_of, first_not_before, last_before, insert_point_of}
+use Rattle.seg_map.proofs.Common.{has_room, live_of, found-room, room-less, IsKeyTree, keys_in, Pair, IsPairAt, pair_at}
+use Rattle.seg_map.proofs.Common.{Chains, comes_before, own_nodes, pair_cells, stands_before, HoldsMap, IsPairIn}
+use Rattle.seg_map.proofs.Common.{final_pair, first_pair, is_passed, last_pair, pair_node, entry_in, exit_in, Plain, []}
+use Rattle.seg_map.proofs.Common.{nodes_of_pairs, length-map}
+use Rattle.seg_map.proofs.Entering.{keys, last_node, with_bytes, own, pair_parts, read_spelled, value_of, Laws}
+use Rattle.seg_map.proofs.{Entering.first_node, Entering.key_tree, PairLists.each_both, Staying.AtNode}
+use Rattle.seg_map.proofs.PairLists.{all_reversed, each, last_mapped, by_key, pair_by_key, HaveKeys, narrowed}
 use Rattle.std.specs.Prelude.{option_and_then}
 use Rattle.link_tree.specs.{Searching.path_length, Ways.remove_point_of}
 use Rattle.seg_map.specs.Searches.{path_in, reading_steps, FindsExit, OpensPairTree, IsRead, LooksFor, LooksUp, item_at}
-use Rattle.best_fit.specs.declared.places.Place.{Place}
 use Rattle.seg_map.specs.{Searches.last_path, Searches.node_with, PairNodes.both}
+use Rattle.best_fit.specs.declared.places.Place.{Place}
 use Rattle.seg_map.specs.Places.{IsSomeMap, SearchSteps, item_of, value_of_pair, FindsItem}
 
 module _ {K V : Type 0} {kp : Plain K} {vp : Plain V} (laws : Laws kp) (c : WindowState) {h at : ℕ}
-    {ps : List (Pair K V)}
-    (s : HoldsMap kp vp c.bytes h at ps) {root : Option ℕ} {ms : List ℕ}
+    {ps : List (Pair K V)} (s : HoldsMap kp vp c.bytes h at ps) {root : Option ℕ} {ms : List ℕ}
     (is : root ≡ link_at (bytes_of c.bytes) (h + at)) (are : ms ≡ own_nodes c.bytes root None) where
   pub lent_own : ms ≡ nodes_of s.map.tree.tree
   lent_own = are ∙ ap (λ o. own_nodes c.bytes o None) is ∙ own laws c s

@@ -1,19 +1,15 @@
 -- What stays of a map and beside it, and the map whose tree is changed and whose three words are written.
 use Rattle.seg_map.proofs.Common as common
 use common.{Some, extent_at, is_proper, both_ways, false≢true, holds_same, cell_stays, length-map}
-use common.{SameSurroundings-trans}
-use common.{IsTrue, AllByRecursion, PairNode-is_pair_node, is_pair_node-PairNode, SameBytes-trans, KeepsOutsideMap}
-use common.{has_room}
-use common.{node_place, pair_cells, SameBlockExcept, changed-live, ◌≡◌, arith, is_in, KeepsBlocks, subst, Option, leads}
-use common.{Plain}
-use common.{Memory, IsHeap, others, IfSome, refl, bytes_of, is_other, PairNode, nodes_of, Relinked, or_cases, eqb-true}
-use common.{laid-heap, ap, ◌∙◌, ◌+◌, ◌||◌, List, ◌==◌, IsGoodNodeSet, Tree, bits, SameBytes, Pair, None, leaf, fork}
-use common.{roomy, ℕ, ◌-◌}
-use common.{◌%◌, ◌<◌, ◌≤◌, ◌⊎◌, inl, inr, not, ◌∷◌, WindowState, In, sym, ◌*◌, ◌≢◌, [], true, or_left, word_at, live_of}
-use common.{is_kept, kept_of, keys_in, current, LiveSet, root_of, false, HasBytesAt-same, cells_of, IsPairAt, HoldsMap}
-use common.{IsPairIn, cases_eq, cells_at, WritesMapHeader, ◌&&◌, nat_lt, nat_le, eq-eqb, le-leb, lt-ltb, Extent, handle}
-use common.{end_of, length, EncodesLiveSet, or_right, SameBlock, IsKeyTree, SameBytes-word, SameBytes-link, is_rising}
-use common.{pair_node}
+use common.{SameSurroundings-trans, IsTrue, AllByRecursion, PairNode-is_pair_node, is_pair_node-PairNode}
+use common.{SameBytes-trans, KeepsOutsideMap, has_room, node_place, pair_cells, SameBlockExcept, changed-live, ◌≡◌}
+use common.{arith, is_in, KeepsBlocks, subst, Option, leads, Plain, Memory, IsHeap, others, IfSome, refl, bytes_of}
+use common.{is_other, PairNode, nodes_of, Relinked, or_cases, eqb-true, laid-heap, ap, ◌∙◌, ◌+◌, ◌||◌, List, ◌==◌}
+use common.{IsGoodNodeSet, Tree, bits, SameBytes, Pair, None, leaf, fork, roomy, ℕ, ◌-◌, ◌%◌, ◌<◌, ◌≤◌, ◌⊎◌, inl, inr}
+use common.{not, ◌∷◌, WindowState, In, sym, ◌*◌, ◌≢◌, [], true, or_left, word_at, live_of, is_kept, kept_of, keys_in}
+use common.{current, LiveSet, root_of, false, HasBytesAt-same, cells_of, IsPairAt, HoldsMap, IsPairIn, cases_eq}
+use common.{cells_at, WritesMapHeader, ◌&&◌, nat_lt, nat_le, eq-eqb, le-leb, lt-ltb, Extent, handle, end_of, length}
+use common.{EncodesLiveSet, or_right, SameBlock, IsKeyTree, SameBytes-word, SameBytes-link, is_rising, pair_node}
 use common.{tree_same, is_link_byte, IsSearchTree, comes_before, is_pair_node, nodes_of_pairs, changed-keeps}
 use Rattle.seg_map.proofs.PairSteps.{any_at, block_apart, same_red, all_in, target_whole}
 use Rattle.seg_map.proofs.Entering.{Laws, pair_parts, found_in, other_block}
@@ -52,8 +48,7 @@ no_link (n ∷ ns) k off =
     here (inr l) = rw (le-leb n k (omega arith), le-ltb k (n + 16) l) refl
 
 module _ {len : ℕ} {ns : List ℕ} {c : WindowState} (d : WindowState) (good : IsGoodNodeSet len ns c)
-    (same : kept_of ns d ≡ kept_of ns c)
-    (long : 16 ≤ len) where
+    (same : kept_of ns d ≡ kept_of ns c) (long : 16 ≤ len) where
   kept_byte : (k : ℕ) → is_kept ns (live_of c.bytes) k ≡ true → bytes_of d.bytes k ≡ bytes_of c.bytes k
   unfolding kept_of
   kept_byte k t = let e = ap (λ (r : PairTreeFrame). r.byte k) same in rw (live_stays c d ns ns same, t) at e
@@ -189,8 +184,7 @@ pub block_cells : (m m' : Memory) (x : Extent) → SameBlock m m' x → 32 ≤ x
 block_cells m m' x s long =
     let e : x.offset + 8 ≡ handle x - 8 = omega arith in
     cell_stays m m' (handle x) (SameBytes-link _ _ _ _ (handle x) s.payload (omega arith) (omega arith))
-    (SameBytes-link _ _ _ _
-    (handle x + 8) s.payload (omega arith) (omega arith)) (same_red (word_at m (handle x - 8))
+    (SameBytes-link _ _ _ _ (handle x + 8) s.payload (omega arith) (omega arith)) (same_red (word_at m (handle x - 8))
     (word_at m' (handle x - 8)) (subst (λ a. word_at m' a % 16 ≡ word_at m a % 16) e s.colour))
 
 -- the pair of a node

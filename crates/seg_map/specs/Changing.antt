@@ -1,15 +1,14 @@
 -- What changes where pairs are put and erased.
 use Rattle.std.specs.Prelude.{◌≡◌, ℕ, ◌+◌, ◌*◌, ◌≤◌, Bool, true, false, Option, Some, None, Result, Ok, List, [], ◌∷◌}
-use Rattle.std.specs.Prelude.{IfSome, MatchOption, MatchResult, length, map}
+use Rattle.std.specs.Prelude.{MatchOption, MatchResult, length, map}
 use Rattle.raw_region.specs.Format.{current}
 use Rattle.raw_region.specs.Memory.{WindowState, HasBytesAt, SameBytes, SameSurroundings, bytes_of, word_at}
 use Rattle.block_tags.specs.declared.tile.Role.TheVariants.{Node}
 use Rattle.offset_link.specs.Link.{link_at}
 use Rattle.link_tree.specs.{Tree.bits, Nodes.is_in}
-use Rattle.best_fit.specs.{Exchange.ExchangesBlocks, Exchange.SameBlockExcept, Fit.added, Fit.place, Fit.released}
-use Rattle.best_fit.specs.Extents.{Extent, handle}
+use Rattle.best_fit.specs.Exchange.{ExchangesBlocks, SameBlockExcept}
+use Rattle.best_fit.specs.{Fit.added, Fit.place, Fit.released, Extents.Extent, Extents.handle, Heap.live_of}
 use Rattle.best_fit.specs.Heap.{AllocatesOk, ChangesBytes, AllocatesNoSpace, EncodesLiveSet, extent_at, heap_touches}
-use Rattle.best_fit.specs.Heap.{live_of}
 use Rattle.seg_types.specs.declared.plain.Plain.{Ghosts as Plain}
 use Rattle.seg_map.specs.Map.{Pair, IsPairAt, node_len, pair_at, put_pair, remove_pair}
 use Rattle.seg_map.specs.Places.{HoldsMap, IsPairIn, nodes_of_pairs, pair_node}
@@ -71,8 +70,7 @@ TreeSteps {K} {V} k v old h at more before after = (ps : List (Pair K V)) → Ho
 
 -- the pair of a key is gone, and its block
 pub record ErasesPair {K V : Type 0} (k : Plain K) (v : Plain V) (old new : WindowState) (h at : ℕ)
-    (ps : List (Pair K V))
-    (p : Pair K V) (key : K) : Type 0 where
+    (ps : List (Pair K V)) (p : Pair K V) (key : K) : Type 0 where
   pub live : EncodesLiveSet current new.bytes (released (live_of old.bytes) (handle p.node))
   pub beside : KeepsOutsideMap old new (h + at) (nodes_of_pairs ps)
   pub map : HoldsMap k v new.bytes h at (remove_pair k.order ps key)
@@ -157,8 +155,7 @@ LinksPair {K} {V} k v old new h at node =
 
 -- a pair more, in a new block
 pub record PutsNewPair {K V : Type 0} (k : Plain K) (v : Plain V) (old new : WindowState) (h at : ℕ)
-    (ps : List (Pair K V)) (key : K)
-    (value : V) : Type 0 where
+    (ps : List (Pair K V)) (key : K) (value : V) : Type 0 where
   pub extent : Extent
   pub placed : place (live_of old.bytes) (node_len k.SIZE v.SIZE) Node ≡ Some extent
   pub live : EncodesLiveSet current new.bytes (added (live_of old.bytes) extent)
@@ -167,8 +164,7 @@ pub record PutsNewPair {K V : Type 0} (k : Plain K) (v : Plain V) (old new : Win
 
 -- another value of a key, in the block that it had: no byte changes but those of the value
 pub record OverwritesPair {K V : Type 0} (k : Plain K) (v : Plain V) (old new : WindowState) (h at : ℕ)
-    (ps : List (Pair K V))
-    (p : Pair K V) (key : K) (value : V) : Type 0 where
+    (ps : List (Pair K V)) (p : Pair K V) (key : K) (value : V) : Type 0 where
   pub change : ChangesBytes current old new (handle p.node + 16 + k.SIZE) v.SIZE
   pub beside : KeepsOutsideMap old new (h + at) (nodes_of_pairs ps)
   pub map : HoldsMap k v new.bytes h at (put_pair k.order (record { key = key; value = value; node = p.node }) ps)
@@ -182,10 +178,9 @@ pub record PutsNoSpace {K V : Type 0} (k : Plain K) (v : Plain V) (old new : Win
 abbrev pub PutsPair : {K V E : Type 0} → Plain K → Plain V → WindowState → WindowState → ℕ → ℕ → K → V
     → Result Bool E → Type 0
 PutsPair {K} {V} k v old new h at key value result =
-    (ps : List (Pair K V)) → HoldsMap k v old.bytes h at ps
-    → MatchOption (pair_at k.order ps key) (MatchResult result (λ b. (b ≡ true)
-    × PutsNewPair k v old new h at ps key value)
-    (λ e. PutsNoSpace k v old new))
+    (ps : List (Pair K V))
+    → HoldsMap k v old.bytes h at ps → MatchOption (pair_at k.order ps key) (MatchResult result (λ b. (b ≡ true)
+    × PutsNewPair k v old new h at ps key value) (λ e. PutsNoSpace k v old new))
     (λ p. (result ≡ Ok false) × OverwritesPair k v old new h at ps p key value)
 
 -- the steps of the two tree calls of a change, the one in which what is found is read, and the touches of one call of

@@ -230,9 +230,8 @@ pub link_parts : {len : ℕ} {ns : List ℕ} {c : WindowState} {n : ℕ} → Pai
     × (leads (λ k. is_in k ns) (cells_of (bytes_of c.bytes) n).right ≡ true)
 link_parts {len} {ns} {c} {n} g = and_parts _ _ (links_at len ns c n g)
 
-leads_to_node : (len : ℕ) (ns : List ℕ) (c : WindowState) (o : Option ℕ) → IsGoodNodeSet len ns c
-    → leads (λ k. is_in k ns) o ≡ true
-    → leads (is_pair_node len ns c) o ≡ true
+leads_to_node : (len : ℕ) (ns : List ℕ) (c : WindowState) (o : Option ℕ)
+    → IsGoodNodeSet len ns c → leads (λ k. is_in k ns) o ≡ true → leads (is_pair_node len ns c) o ≡ true
 leads_to_node len ns c None g h = refl
 leads_to_node len ns c (Some n) g h = PairNode-is_pair_node len ns c n (record { good = g; listed = h })
 
@@ -293,8 +292,7 @@ pub comes_transitive : {K : Type 0} (less : K → K → Bool) → Chains less �
     → comes_before less keys a b ≡ true → comes_before less keys b c ≡ true → comes_before less keys a c ≡ true
 comes_transitive less on keys a b c h k = key_transitive less on (keys a) (keys b) (keys c) h k
 
-pub comes_agrees : {K : Type 0} (less : K → K → Bool) → Chains less
-    → (keys : ℕ → Option K) (past : Bool) (key : K) (a b : ℕ)
-    → comes_before less keys a b ≡ true → stands_before less keys past key b ≡ true
-    → stands_before less keys past key a ≡ true
+pub comes_agrees : {K : Type 0} (less : K → K → Bool)
+    → Chains less → (keys : ℕ → Option K) (past : Bool) (key : K) (a b : ℕ) → comes_before less keys a b ≡ true
+    → stands_before less keys past key b ≡ true → stands_before less keys past key a ≡ true
 comes_agrees less on keys past key a b h s = key_agrees less on past key (keys a) (keys b) h s

@@ -3,11 +3,10 @@ use Rattle.std.specs.Prelude.{◌≡◌, ℕ, ◌+◌, ◌≤◌, Bool, true, fa
 use Rattle.std.specs.{Prelude.if◌then◌else◌, Prelude.option_and_then, Prelude.option_map, List.AllByRecursion}
 use Rattle.raw_region.specs.Memory.{WindowState, Memory, bytes_of, read}
 use Rattle.link_tree.specs.{Searching.path_length, Tree.Tree, Tree.nodes_of, Ways.insert_point_of, Ways.remove_point_of}
-use Rattle.best_fit.specs.Heap.{has_room, live_of}
+use Rattle.best_fit.specs.{Heap.has_room, Heap.live_of, declared.places.Place.Place}
 use Rattle.seg_types.specs.{declared.plain.Plain.Ghosts as Plain, Plain.value_in}
-use Rattle.best_fit.specs.declared.places.Place.{Place}
-use Rattle.seg_map.specs.Linking.{IsKeyTree, keys_in}
-use Rattle.seg_map.specs.{Map.Pair, PairNodes.both, PairNodes.comes_before, PairNodes.stands_before}
+use Rattle.seg_map.specs.{Linking.IsKeyTree, Linking.keys_in, Map.Pair}
+use Rattle.seg_map.specs.PairNodes.{both, comes_before, stands_before}
 use Rattle.seg_map.specs.Places.{FindsKey, HoldsMap, SearchSteps, final_pair, first_pair, item_of, last_pair, pair_node}
 
 -- the nodes that a search goes to, for the first pair that is not below a key, or that is above it
@@ -90,8 +89,7 @@ pub record LooksUp {K V : Type 0} (k : Plain K) (v : Plain V) (c : WindowState) 
 
 -- the node of a key, with the steps of a look-up
 pub record LooksFor {K V : Type 0} (k : Plain K) (v : Plain V) (c : WindowState) (at : Place) (key : K)
-    (found : Option ℕ)
-    (before after : ℕ) : Type 0 where
+    (found : Option ℕ) (before after : ℕ) : Type 0 where
   pub node : FindsKey k v c.bytes at.handle at.at key found
   pub counted : before ≤ after
   pub steps : SearchSteps k v c.bytes at 1 before after

@@ -24,16 +24,16 @@ use std::marker::PhantomData;
 /// The root of a map's tree, the node of a key, and where a change of the tree begins, which a search has found.
 #[derive(Clone, Copy)]
 pub struct KeyCursor {
-    /// The root; none where there is no pair.
+    /// The root; none if there is no pair.
     pub root: Option<u64>,
-    /// The node; none where the key is not there.
+    /// The node; none if the key is not there.
     pub node: Option<u64>,
     /// Where the change begins; none where it begins at the root.
     pub start: Option<u64>,
 }
 
 impl<K: Plain, V: Plain> SegMap<K, V> {
-    /// The value of a key.
+    /// Returns the value of a key.
     pub fn get(self, heap: &Heap, key: K, steps: &mut Steps) -> Option<V>
         requires { IsSomeMap K.Plain V.Plain heap.now.bytes self.place.handle self.place.at }
         ensures value { FindsValue K.Plain V.Plain heap.now.bytes self.place.handle self.place.at key result }
@@ -45,7 +45,7 @@ impl<K: Plain, V: Plain> SegMap<K, V> {
         (!key.precedes(found)).then_some(value)
     }
 
-    /// The key and the value of the pair with the least key that is not below `key`.
+    /// Returns the key and the value of the pair with the least key that is not below `key`.
     pub fn first_from(self, heap: &Heap, key: K, steps: &mut Steps) -> Option<(K, V)>
         requires { IsSomeMap K.Plain V.Plain heap.now.bytes self.place.handle self.place.at }
         ensures item { FindsItem K.Plain V.Plain heap.now.bytes self.place.handle self.place.at false key result }
@@ -56,7 +56,7 @@ impl<K: Plain, V: Plain> SegMap<K, V> {
         self.find_from(heap, &KeyProbe { key, past: false }, steps)
     }
 
-    /// The key and the value of the pair with the least key above `key`.
+    /// Returns the key and the value of the pair with the least key above `key`.
     pub fn next_after(self, heap: &Heap, key: K, steps: &mut Steps) -> Option<(K, V)>
         requires { IsSomeMap K.Plain V.Plain heap.now.bytes self.place.handle self.place.at }
         ensures item { FindsItem K.Plain V.Plain heap.now.bytes self.place.handle self.place.at true key result }
@@ -67,7 +67,7 @@ impl<K: Plain, V: Plain> SegMap<K, V> {
         self.find_from(heap, &KeyProbe { key, past: true }, steps)
     }
 
-    /// The key and the value of the pair with the greatest key.
+    /// Returns the key and the value of the pair with the greatest key.
     pub fn last(self, heap: &Heap, steps: &mut Steps) -> Option<(K, V)>
         requires { IsSomeMap K.Plain V.Plain heap.now.bytes self.place.handle self.place.at }
         ensures item { FindsLastItem K.Plain V.Plain heap.now.bytes self.place.handle self.place.at result }
@@ -80,7 +80,7 @@ impl<K: Plain, V: Plain> SegMap<K, V> {
         read_found(heap, found, steps)
     }
 
-    /// The key and the value of the pair with the greatest key that is not above `key`.
+    /// Returns the key and the value of the pair with the greatest key that is not above `key`.
     pub fn last_up_to(self, heap: &Heap, key: K, steps: &mut Steps) -> Option<(K, V)>
         requires { IsSomeMap K.Plain V.Plain heap.now.bytes self.place.handle self.place.at }
         ensures item { FindsItemBefore K.Plain V.Plain heap.now.bytes self.place.handle self.place.at true key result }
@@ -91,7 +91,7 @@ impl<K: Plain, V: Plain> SegMap<K, V> {
         self.find_before(heap, &KeyProbe { key, past: true }, steps)
     }
 
-    /// The key and the value of the pair with the greatest key below `key`.
+    /// Returns the key and the value of the pair with the greatest key below `key`.
     pub fn previous_before(self, heap: &Heap, key: K, steps: &mut Steps) -> Option<(K, V)>
         requires { IsSomeMap K.Plain V.Plain heap.now.bytes self.place.handle self.place.at }
         ensures item { FindsItemBefore K.Plain V.Plain heap.now.bytes self.place.handle self.place.at false key result }
@@ -102,7 +102,7 @@ impl<K: Plain, V: Plain> SegMap<K, V> {
         self.find_before(heap, &KeyProbe { key, past: false }, steps)
     }
 
-    /// The pairs of the map, for a search.
+    /// Returns the pairs of the map, for a search.
     fn open(self, heap: &Heap) -> PairTree<&Heap, K>
         requires { IsSomeMap K.Plain V.Plain heap.now.bytes self.place.handle self.place.at }
         ensures root { result.root ≡ link_at (bytes_of heap.now.bytes) (self.place.handle + self.place.at) }
@@ -119,7 +119,7 @@ impl<K: Plain, V: Plain> SegMap<K, V> {
         }
     }
 
-    /// The key and the value of the first pair that does not stand before what is looked for.
+    /// Returns the key and the value of the first pair that does not stand before what is looked for.
     fn find_from(self, heap: &Heap, sought: &KeyProbe<K>, steps: &mut Steps) -> Option<(K, V)>
         requires { IsSomeMap K.Plain V.Plain heap.now.bytes self.place.handle self.place.at }
         ensures { LooksUp K.Plain V.Plain heap.now self.place (first_pair K.order sought.now.past sought.now.key)
@@ -130,7 +130,7 @@ impl<K: Plain, V: Plain> SegMap<K, V> {
         read_found(heap, found, steps)
     }
 
-    /// The key and the value of the last pair that stands before what is looked for.
+    /// Returns the key and the value of the last pair that stands before what is looked for.
     fn find_before(self, heap: &Heap, sought: &KeyProbe<K>, steps: &mut Steps) -> Option<(K, V)>
         requires { IsSomeMap K.Plain V.Plain heap.now.bytes self.place.handle self.place.at }
         ensures { LooksUp K.Plain V.Plain heap.now self.place (last_pair K.order sought.now.past sought.now.key)
@@ -141,7 +141,7 @@ impl<K: Plain, V: Plain> SegMap<K, V> {
         read_found(heap, found, steps)
     }
 
-    /// The node of a key, and where a node with that key would enter.
+    /// Returns the node of a key, and where a node with that key would enter.
     pub(crate) fn find_for_put(self, heap: &Heap, key: K, steps: &mut Steps) -> KeyCursor
         requires map { IsSomeMap K.Plain V.Plain heap.now.bytes self.place.handle self.place.at }
         ensures search { LooksFor K.Plain V.Plain heap.now self.place key result.node steps.old steps.new }
@@ -159,7 +159,7 @@ impl<K: Plain, V: Plain> SegMap<K, V> {
         }
     }
 
-    /// The node of a key, and where its removal begins.
+    /// Returns the node of a key, and where its removal begins.
     pub(crate) fn find_for_erase(self, heap: &Heap, key: K, steps: &mut Steps) -> KeyCursor
         requires map { IsSomeMap K.Plain V.Plain heap.now.bytes self.place.handle self.place.at }
         ensures search { LooksFor K.Plain V.Plain heap.now self.place key result.node steps.old steps.new }
@@ -178,7 +178,7 @@ impl<K: Plain, V: Plain> SegMap<K, V> {
     }
 }
 
-/// The key and the value of what a search has found. What it took is counted here.
+/// Returns the key and the value of what a search has found. What it took is counted here.
 fn read_found<K: Plain, V: Plain>(
     heap: &Heap,
     found: SearchResult,
@@ -196,7 +196,7 @@ fn read_found<K: Plain, V: Plain>(
     Some((key, value))
 }
 
-/// The node that a search for a key has found, where it has that key.
+/// Returns the node that a search for a key has found, if it has that key.
 fn with_key<K: Plain>(heap: &Heap, node: Option<u64>, key: K, steps: &mut Steps) -> Option<u64>
     requires { IfSome node (λ n. IsTrue (has_room (live_of heap.now.bytes) n (16 + K.SIZE))) }
     ensures node { result ≡ option_and_then (node_with K.Plain (bytes_of heap.now.bytes) key) node }

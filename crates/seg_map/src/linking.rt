@@ -13,7 +13,7 @@ use raw_region::Steps;
 use seg_types::Plain;
 use std::marker::PhantomData;
 
-/// Where the number of pairs stands behind the link, and the word that is 0.
+/// Where the number of pairs stands after the link, and the word that is 0.
 pub const COUNT: u64 = 8;
 
 const THIRD: u64 = 16;
@@ -74,7 +74,7 @@ impl<K: Plain, V: Plain> SegMap<K, V> {
     }
 }
 
-/// The pairs that a link leads to, and one node more, lent to a call of the tree.
+/// Returns the pairs that a link leads to, and one node more, lent to a call of the tree.
 fn lend<'a, K: Plain>(
     heap: &'a mut Heap,
     root: Option<u64>,

@@ -13,8 +13,8 @@ use raw_region::Steps;
 use seg_types::Plain;
 use std::marker::PhantomData;
 
-/// A map at a place in a heap: three words there (the link to the root of a red-black tree, the number of pairs, and
-/// 0), and a block for each pair, which it keeps until its key is erased.
+/// A map at a place in a heap. Three words stand there: the link to the root of a red-black tree, the number of pairs,
+/// and 0. Each pair has a block, which it keeps until its key is erased.
 ///
 /// It is the place alone. Each call takes the heap anew, so that nothing is borrowed between two calls.
 #[derive(Clone, Copy)]
@@ -25,7 +25,7 @@ pub struct SegMap<K: Plain, V: Plain> {
 }
 
 impl<K: Plain, V: Plain> SegMap<K, V> {
-    /// The map that stands at a place.
+    /// Returns the map that stands at a place.
     pub fn at(place: Place) -> SegMap<K, V>
         ensures { result.place ≡ place }
     {
@@ -47,7 +47,7 @@ impl<K: Plain, V: Plain> SegMap<K, V> {
         SegMap::at(place)
     }
 
-    /// The number of pairs.
+    /// Returns the number of pairs.
     pub fn len(self, heap: &Heap) -> u64
         requires { IsSomeMap K.Plain V.Plain heap.now.bytes self.place.handle self.place.at }
         ensures { CountsPairs K.Plain V.Plain heap.now.bytes self.place.handle self.place.at result }
@@ -55,12 +55,12 @@ impl<K: Plain, V: Plain> SegMap<K, V> {
         heap.word(self.place.handle, self.place.at + COUNT)
     }
 
-    /// Puts the value of a key, and answers whether the key is new. All other pairs keep their blocks, and so does this
-    /// one where the key is not new.
+    /// Puts the value of a key, and returns whether the key is new. All other pairs keep their blocks, and so does this
+    /// one if the key is not new.
     ///
     /// # Errors
     ///
-    /// `NoSpace` where the key is new and no gap is long enough for its block. Nothing changes.
+    /// `NoSpace` if the key is new and no gap is long enough for its block. Nothing changes.
     pub fn put(self, heap: &mut Heap, key: K, value: V, steps: &mut Steps) -> Result<bool, NoSpace>
         requires { IsSomeMap K.Plain V.Plain heap.old.bytes self.place.handle self.place.at }
         ensures effect { PutsPair K.Plain V.Plain heap.old heap.new self.place.handle self.place.at key value result }
@@ -82,7 +82,7 @@ impl<K: Plain, V: Plain> SegMap<K, V> {
         Ok(true)
     }
 
-    /// Erases a key, and answers whether it was there: else nothing changes. Its block is given back; all others keep
+    /// Erases a key, and returns whether it was there: else nothing changes. Its block is given back; all others keep
     /// theirs.
     pub fn erase(self, heap: &mut Heap, key: K, steps: &mut Steps) -> bool
         requires { IsSomeMap K.Plain V.Plain heap.old.bytes self.place.handle self.place.at }

@@ -22,7 +22,7 @@ pub trait HeapRef {
     // The name of the reference, where the heap is lent to be changed.
     ghost lender: { Self → ℕ } = { λ _. 0 };
 
-    /// The heap, to be read.
+    /// Returns the heap, to be read.
     fn heap(&self) -> &Heap
         ensures { result.now ≡ cut self.now };
 }
@@ -69,7 +69,7 @@ impl NodeSet {
     ghost use Rattle.std.specs.Prelude.{◌≡◌};
     ghost use Rattle.seg_map.specs.PairNodes.{own_nodes};
 
-    /// The nodes that are reached from `root`, and the one that is to join them.
+    /// Lends the nodes that are reached from `root`, and the one that is to join them.
     pub fn new(heap: &Heap, root: Option<u64>, spare: Option<u64>) -> NodeSet
         ensures { result ≡ own_nodes heap.now.bytes root spare }
     {

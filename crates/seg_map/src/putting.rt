@@ -24,7 +24,7 @@ pub fn write_value<T: Plain>(heap: &mut Heap, handle: u64, at: u64, value: T)
     }
 }
 
-/// The same by way of a buffer of `N` bytes.
+/// Writes the value by way of a buffer of `N` bytes.
 fn write_by<T: Plain, const N: usize>(heap: &mut Heap, handle: u64, at: u64, value: T)
     requires buffer { T.SIZE ≤ N }
     requires max_len { N ≤ 4096 }
@@ -43,7 +43,7 @@ fn write_by<T: Plain, const N: usize>(heap: &mut Heap, handle: u64, at: u64, val
 ///
 /// # Errors
 ///
-/// `NoSpace` where no gap is long enough. Nothing changes.
+/// `NoSpace` if no gap is long enough. Nothing changes.
 pub fn allocate_node<K: Plain, V: Plain>(
     heap: &mut Heap,
     key: K,

@@ -17,7 +17,7 @@ pub struct KeyProbe<K> {
     pub past: bool,
 }
 
-/// The value that the bytes at `at` in the block of a handle spell.
+/// Returns the value that the bytes at `at` in the block of a handle spell.
 pub fn value_at<T: Plain>(heap: &Heap, handle: u64, at: u64) -> Option<T>
     requires { IsTrue (has_room (live_of heap.now.bytes) handle (at + T.SIZE)) }
     ensures { result ≡ value_in T.reading T.is_value T.spelling (read (bytes_of heap.now.bytes) (handle + at) T.SIZE) }

@@ -1,7 +1,7 @@
 //! Where a kind or a value that is known only at run time leads to the same code for its type.
 
-/// The same code for the type of each kind: `work!(bool, Bool)`, with the type and with the name that it has in
-/// [`ScalarKind`](crate::ScalarKind) and [`ScalarValue`](crate::ScalarValue), and so on for each of the five.
+/// Makes one piece of code for the type of each kind: `work!(bool, Bool)`, with the type and with the name that it has
+/// in [`ScalarKind`](crate::ScalarKind) and [`ScalarValue`](crate::ScalarValue), and so on for each of the five.
 ///
 /// Example: `by_kind!(kind, size_of)`, where `size_of!` takes a type and a name.
 #[macro_export]
@@ -17,7 +17,7 @@ macro_rules! by_kind {
     };
 }
 
-/// The same code for what a value of each kind holds: a `bool`, a `u8`, and so on.
+/// Makes one piece of code for what a value of each kind holds: a `bool`, a `u8`, and so on.
 ///
 /// Example: `by_value!(value, it => segment.vec_push(&key, it))`.
 #[macro_export]

@@ -13,7 +13,7 @@ use crate::names::Name;
 use std::fmt;
 use std::fmt::Display;
 
-/// Whether a name may stand bare: a letter or `_`, then letters, digits, `_` and `.`.
+/// Tells whether a name may stand bare: a letter or `_`, then letters, digits, `_` and `.`.
 pub fn is_bare_name(name: &[u8]) -> bool
     ensures { result ≡ is_bare_name name.now }
 {
@@ -23,21 +23,21 @@ pub fn is_bare_name(name: &[u8]) -> bool
     (first.is_ascii_alphabetic() || *first == b'_') && are_name_bytes(rest)
 }
 
-/// Whether each byte may stand in a bare name behind its first.
+/// Tells whether each byte may stand in a bare name after its first.
 fn are_name_bytes(bytes: &[u8]) -> bool
     ensures { result ≡ list_all is_name_byte bytes.now }
 {
     bytes.iter().all(|byte| is_name_byte(*byte))
 }
 
-/// Whether a byte may stand in a bare name behind its first: a letter, a digit, `_` or `.`.
+/// Tells whether a byte may stand in a bare name after its first: a letter, a digit, `_` or `.`.
 fn is_name_byte(byte: u8) -> bool
     ensures { result ≡ is_name_byte byte }
 {
     byte.is_ascii_alphanumeric() || byte == b'_' || byte == b'.'
 }
 
-/// Bare where it can be spelled bare, else as a text in quotes.
+/// Bare where it can be spelled bare, otherwise as a text in quotes.
 impl fmt::Display for Name<'_> {
     ghost output = { λ n. Some (name_text (name_seen n)) };
 
@@ -83,7 +83,7 @@ fn write_item<W: fmt::Write>(byte: u8, f: &mut fmt::Formatter<W>) -> fmt::Result
     }
 }
 
-/// Writes a byte as two hexadecimal digits behind `\x`.
+/// Writes a byte as two hexadecimal digits after `\x`.
 #[tactic(auto, using(std::proofs::lemmas::Fmt::hex_byte))]
 fn write_escape<W: fmt::Write>(byte: u8, f: &mut fmt::Formatter<W>) -> fmt::Result
     ensures { DisplaysOnOk W.write_str_gives f.old result (Some (escape_text byte)) f.new }
@@ -91,14 +91,14 @@ fn write_escape<W: fmt::Write>(byte: u8, f: &mut fmt::Formatter<W>) -> fmt::Resu
     write!(f, "\\x{byte:02x}")
 }
 
-/// Writes a kind behind `@`.
+/// Writes a kind after `@`.
 fn write_unique<W: fmt::Write>(kind: Kind, f: &mut fmt::Formatter<W>) -> fmt::Result
     ensures { DisplaysOnOk W.write_str_gives f.old result (Some (key_text (ByKind kind))) f.new }
 {
     write!(f, "@{kind}")
 }
 
-/// A name as names are, a kind behind `@`, a handle behind `#`, and `-` for no key.
+/// A name as names are, a kind after `@`, a handle after `#`, and `-` for no key.
 impl fmt::Display for Key<'_> {
     ghost output = { λ key. Some (key_text (key_seen key)) };
 
@@ -112,7 +112,7 @@ impl fmt::Display for Key<'_> {
     }
 }
 
-/// As the key of the object that is found again.
+/// Writes the key of the object that is found again.
 impl fmt::Display for NewKey<'_> {
     ghost output = { λ key. Some (key_text (new_key_seen key)) };
 
@@ -125,7 +125,7 @@ impl fmt::Display for NewKey<'_> {
     }
 }
 
-/// As the key of the object that the entry leads to.
+/// Writes the key of the object that the entry leads to.
 impl fmt::Display for IndexKey<'_> {
     ghost output = { λ key. Some (key_text (index_key_seen key)) };
 

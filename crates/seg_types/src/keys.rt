@@ -28,7 +28,7 @@ pub enum Key<'a> {
 pub enum NewKey<'a> {
     /// Under a name.
     Name(Name<'a>),
-    /// As the only one of its kind in the unique index.
+    /// The only one of its kind in the unique index.
     Unique(Kind),
     /// Under none: it is found again by its handle alone.
     Anonymous,
@@ -44,7 +44,7 @@ pub enum IndexKey<'a> {
 }
 
 impl<'a> IndexKey<'a> {
-    /// The key of the object that the entry leads to.
+    /// Returns the key of the object that the entry leads to.
     pub fn into_key(self) -> Key<'a>
         ensures { key_seen result ≡ index_key_seen self.entry }
     {
@@ -54,7 +54,7 @@ impl<'a> IndexKey<'a> {
         }
     }
 
-    /// The key of an object that is to be made under this entry.
+    /// Returns the key of an object that is to be made under this entry.
     pub fn into_new_key(self) -> NewKey<'a>
         ensures { new_key_seen result ≡ index_key_seen self.entry }
     {

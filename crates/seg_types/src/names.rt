@@ -20,7 +20,7 @@ pub struct Name<'a> {
 impl<'a> Name<'a> {
     ghost use Rattle.seg_types.specs.Keys.{name_seen};
 
-    /// The name of these bytes, or `None` where they are none.
+    /// Makes the name of these bytes, or `None` if they are none.
     pub fn new(bytes: &'a [u8]) -> Option<Name<'a>>
         ensures { option_map name_seen result ≡ (if is_text_name bytes.now then Some bytes.now else None) }
     {
@@ -30,7 +30,7 @@ impl<'a> Name<'a> {
         Some(Name { bytes })
     }
 
-    /// The bytes of the name.
+    /// Returns the bytes of the name.
     pub fn as_bytes(&self) -> &'a [u8]
         ensures bytes { result.now ≡ name_seen self.now }
         ensures name { is_text_name result.now ≡ true }
@@ -38,7 +38,7 @@ impl<'a> Name<'a> {
         self.bytes
     }
 
-    /// The name as text.
+    /// Returns the name as text.
     pub fn as_str(&self) -> &'a str
         ensures { result.now ≡ name_seen self.now }
     {
@@ -46,8 +46,8 @@ impl<'a> Name<'a> {
     }
 }
 
-/// Whether these bytes are a name of the format: 1 to 63 bytes from 0x20 to 0x7E in 0 and 1, and from 2 on 1 to 255
-/// bytes of UTF-8 without control characters.
+/// Tells whether these bytes are a name of the format. In formats 0 and 1 a name has 1 to 63 bytes from 0x20 to 0x7E,
+/// and from 2 on 1 to 255 bytes of UTF-8 without control characters.
 pub fn is_name(format: u64, bytes: &[u8]) -> bool
     ensures { result ≡ is_name format bytes.now }
 {
@@ -57,21 +57,21 @@ pub fn is_name(format: u64, bytes: &[u8]) -> bool
     }
 }
 
-/// Whether these bytes are a name of the formats 0 and 1.
+/// Tells whether these bytes are a name of the formats 0 and 1.
 fn is_printable_name(bytes: &[u8]) -> bool
     ensures { result ≡ is_printable_name bytes.now }
 {
     !bytes.is_empty() && bytes.len() <= LONGEST_PRINTABLE_NAME && are_printable(bytes)
 }
 
-/// Whether each byte is from 0x20 to 0x7E.
+/// Tells whether each byte is from 0x20 to 0x7E.
 fn are_printable(bytes: &[u8]) -> bool
     ensures { result ≡ list_all (λ c. nat_le 0x20 c && nat_le c 0x7E) bytes.now }
 {
     bytes.iter().all(|byte| (0x20..=0x7E).contains(byte))
 }
 
-/// Whether these bytes are a name from format 2 on.
+/// Tells whether these bytes are a name from format 2 on.
 fn is_text_name(bytes: &[u8]) -> bool
     ensures { result ≡ is_text_name bytes.now }
 {
@@ -87,7 +87,7 @@ fn is_text_name(bytes: &[u8]) -> bool
     }
 }
 
-/// Whether no character of the text is a control character.
+/// Tells whether no character of the text is a control character.
 fn is_without_control(text: &str) -> bool
     ensures { result ≡ list_all (λ c. not (is_control c)) (chars text.now) }
 {

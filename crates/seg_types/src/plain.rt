@@ -41,12 +41,12 @@ pub trait Plain: Copy {
         ensures value { is_value self ≡ true }
         ensures bytes { to.new ≡ spelling self };
 
-    /// The value that the `SIZE` bytes of `from` spell, or `None` where they spell none.
+    /// Returns the value that the `SIZE` bytes of `from` spell, or `None` if they spell none.
     fn read(from: &[u8]) -> Option<Self>
         requires { length from.now ≡ SIZE }
         ensures { Decodes is_value spelling from.now result };
 
-    /// Whether the value stands before `other`.
+    /// Tells whether the value stands before `other`.
     fn precedes(self, other: Self) -> bool
         ensures values { (is_value self ≡ true) × (is_value other ≡ true) }
         ensures answer { result ≡ order self other };

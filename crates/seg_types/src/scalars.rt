@@ -14,16 +14,16 @@ use crate::plain::Plain;
 
 /// A type of a scalar kind: `bool`, `u8`, `i32`, `i64` or `u64`.
 ///
-/// Its values are the whole numbers of the kind, with the kind's code, size, spelling and order, so that what is said
-/// of whole numbers with their kind beside them is said of the type. That is proved where the trait is implemented: a
-/// type of a caller's own can have it only as one of the five under another name.
+/// Its values are the whole numbers of the kind, with the kind's code, size, spelling and order. What holds of whole
+/// numbers of a kind holds of the type. That is proved where the trait is implemented: a type of a caller's own can
+/// have it only as one of the five under another name.
 pub trait Scalar: Plain {
     ghost kind: { ScalarKind };
 
     // The whole number that a value is. Of the two truths, `false` is 0 and `true` is 1.
     ghost whole: { Self → ℤ };
 
-    /// The kind.
+    /// Returns the kind.
     fn kind() -> kinds::ScalarKind
         ensures { result ≡ kind };
 

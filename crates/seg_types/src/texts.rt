@@ -9,7 +9,7 @@ use crate::values::ScalarValue;
 use std::fmt;
 
 impl ScalarKind {
-    /// How the kind is printed.
+    /// Returns how the kind is printed.
     pub fn as_str(self) -> &'static str
         ensures { result.now ≡ scalar_text self }
     {
@@ -49,7 +49,7 @@ impl fmt::Display for Kind {
 }
 
 impl Class {
-    /// How the class is printed.
+    /// Returns how the class is printed.
     pub fn as_str(self) -> &'static str
         ensures { result.now ≡ class_text self }
     {

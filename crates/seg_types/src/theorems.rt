@@ -6,12 +6,12 @@ ghost use Rattle.seg_types.specs.Kinds.{AllSpellOne, is_spelling, size_of, value
 use crate::plain::Plain;
 use crate::scalars::Scalar;
 
-/// A value is spelled in one way, by as many bytes as its kind has, and no other bytes spell it.
+/// States that a value is spelled in one way, by as many bytes as its kind has, and no other bytes spell it.
 pub fn values_spell_one()
     ensures { AllSpellOne }
 {}
 
-/// What is written is read again: the `SIZE` bytes of `bytes` spell `value` then, and are read as it.
+/// Returns what is written is read again: the `SIZE` bytes of `bytes` spell `value` then, and are read as it.
 pub fn written_is_read<T: Plain>(value: T, bytes: &mut [u8]) -> Option<T>
     requires { length bytes.old ≡ T.SIZE }
     ensures output { bytes.new ≡ T.spelling value }
@@ -21,7 +21,8 @@ pub fn written_is_read<T: Plain>(value: T, bytes: &mut [u8]) -> Option<T>
     T::read(bytes)
 }
 
-/// The `SIZE` bytes of `from` are read as the whole number that they say, exactly where they spell one of the kind.
+/// Returns the `SIZE` bytes of `from` are read as the whole number that they say, exactly where they spell one of the
+/// kind.
 pub fn scalar_is_number<T: Scalar>(from: &[u8]) -> Option<T>
     requires { length from.now ≡ T.SIZE }
     ensures { MatchOption result (is_spelling T.kind from.now ≡ false) (λ x. (is_spelling T.kind from.now ≡ true)
@@ -30,14 +31,14 @@ pub fn scalar_is_number<T: Scalar>(from: &[u8]) -> Option<T>
     T::read(from)
 }
 
-/// A value is one, which no call says where it is refused. An order knows it of what it compares.
+/// States that a value is one of its kind, which no call says if it is refused.
 pub fn holds_value<T: Plain>(value: T)
     ensures { T.is_value value ≡ true }
 {
     let _ = value.precedes(value);
 }
 
-/// Whether neither value stands before the other, which is so of a value and itself alone.
+/// Tells whether neither value stands before the other, which is so of a value and itself alone.
 pub fn unordered_are_same<T: Plain>(one: T, other: T) -> bool
     ensures { IsTrue result ↔ (one ≡ other) }
 {

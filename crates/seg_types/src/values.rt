@@ -23,7 +23,7 @@ pub enum ScalarValue {
 }
 
 impl ScalarValue {
-    /// The kind.
+    /// Returns the kind.
     pub fn kind(self) -> ScalarKind
         ensures { result ≡ kind_of_scalar self }
     {
@@ -36,7 +36,7 @@ impl ScalarValue {
         }
     }
 
-    /// The whole number that the value is: of the two truths, `false` is 0 and `true` is 1.
+    /// Returns the whole number that the value is: of the two truths, `false` is 0 and `true` is 1.
     pub fn number(self) -> i128
         ensures number { result ≡ value_of_scalar self }
         ensures in_range { is_value (kind_of_scalar self) result ≡ true }
@@ -50,7 +50,7 @@ impl ScalarValue {
         }
     }
 
-    /// The value of the kind that this number is, or `None` where it is outside the range of the kind.
+    /// Returns the value of the kind that this number is, or `None` if it is outside the range of the kind.
     pub fn of_number(kind: ScalarKind, number: i128) -> Option<ScalarValue>
         ensures { result ≡ (if is_value kind number then Some (scalar_of kind number) else None) }
     {
@@ -67,7 +67,7 @@ impl ScalarValue {
         }
     }
 
-    /// The value of the kind that these bytes spell, as many as a value has, or `None` where they spell none.
+    /// Returns the value of the kind that these bytes spell, as many as a value has, or `None` if they spell none.
     pub fn read(kind: ScalarKind, bytes: &[u8]) -> Option<ScalarValue>
         requires { length bytes.now ≡ size_of kind }
         ensures { SpelledBy kind bytes.now result }

@@ -19,15 +19,15 @@ pub trait Written {
     // Whether the room is long enough for its text.
     ghost fits: { Self → Type 0 };
 
-    /// The value of a kind that it is.
+    /// Returns the value of a kind that it is.
     ///
     /// # Errors
     ///
-    /// `WrongKind` where it has another form, `OutOfRange` where it is a number outside the range of the kind.
+    /// `WrongKind` if it has another form, `OutOfRange` if it is a number outside the range of the kind.
     fn value_of(&self, kind: ScalarKind) -> Result<ScalarValue, Refusal>
         ensures { IsValueOf kind (value_of_literal kind (literal self.now)) result };
 
-    /// The text that it is, or `None` where it is none.
+    /// Returns the text that it is, or `None` if it is none.
     fn text<'r>(&'r self, room: &'r mut Self::Room) -> Option<&'r [u8]>
         requires { fits self.now }
         ensures { MatchOption result (NoText (literal self.now)) (λ text. literal self.now ≡ Quoted text.now) };
@@ -56,11 +56,11 @@ impl Written for ScalarValue {
     }
 }
 
-/// The value of a kind that a truth is: truths alone have one.
+/// Returns the value of a kind that a truth is: truths alone have one.
 ///
 /// # Errors
 ///
-/// `WrongKind` where the kind is another.
+/// `WrongKind` if the kind is another.
 pub fn truth_as(kind: ScalarKind, truth: bool) -> Result<ScalarValue, Refusal>
     ensures { IsValueOf kind (value_of_literal kind (Truth truth)) result }
 {
@@ -70,11 +70,11 @@ pub fn truth_as(kind: ScalarKind, truth: bool) -> Result<ScalarValue, Refusal>
     }
 }
 
-/// The value of a kind that a whole number is.
+/// Returns the value of a kind that a whole number is.
 ///
 /// # Errors
 ///
-/// `WrongKind` where the kind is that of truths, `OutOfRange` where the number is outside the range of the kind.
+/// `WrongKind` if the kind is that of truths, `OutOfRange` if the number is outside the range of the kind.
 pub fn whole_as(kind: ScalarKind, number: i128) -> Result<ScalarValue, Refusal>
     ensures { IsValueOf kind (value_of_literal kind (Whole number)) result }
 {
@@ -84,11 +84,11 @@ pub fn whole_as(kind: ScalarKind, number: i128) -> Result<ScalarValue, Refusal>
     }
 }
 
-/// The pair of two kinds that two written values are.
+/// Returns the pair of two kinds that two written values are.
 ///
 /// # Errors
 ///
-/// `WrongKind` where one has another form, and else `OutOfRange` where one is a number outside the range of its kind.
+/// `WrongKind` if one has another form; otherwise `OutOfRange` if one is a number outside the range of its kind.
 pub fn pair_of<A: Written, B: Written>(
     keys: ScalarKind,
     values: ScalarKind,

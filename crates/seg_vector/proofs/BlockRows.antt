@@ -1,15 +1,13 @@
 -- Bytes that are written into a block by way of its whole payload.
-use W.{◌≡◌, sym, ap, subst, ◌∙◌, refl, inl, inr, ℕ, ◌+◌, ◌-◌, ◌<◌, ◌≤◌, ◌⊎◌, List, Some, None, length, arith, IsTrue}
-use W.{WindowState}
-use W.{HasBytesAt, ChangesBytes, IsHeap, block_payload, bytes_of, current, has_room, live_of, part, patched, payload_at}
-use W.{read-part}
-use W.{room_block}
+use Rattle.seg_vector.proofs.Words as W
+use W.{◌≡◌, sym, ap, subst, ◌∙◌, inl, inr, ℕ, ◌+◌, ◌-◌, ◌<◌, ◌≤◌, ◌⊎◌, List, Some, None, length, arith, IsTrue}
+use W.{WindowState, HasBytesAt, ChangesBytes, IsHeap, block_payload, bytes_of, current, has_room, live_of, part}
+use W.{patched, payload_at, read-part, room_block}
 use Rattle.std.specs.Prelude.{slice_index}
 use Rattle.std.proofs.lemmas.Bool.{cases_lt}
 use Rattle.raw_region.proofs.Laws.{length-part, length-patched, part-at, part-part, patched-HasBytesAt, patched-outside}
 use Rattle.best_fit.specs.Heap.{LoansWriteOneBlock, payload_len, with_payload}
 use Rattle.seg_vector.proofs.Storage.{live-if}
-use Rattle.seg_vector.proofs.Words as W
 
 -- a part of some bytes of a window is written over, and no other byte of it
 module _ (c d : WindowState) (h at n : ℕ) (bs : List ℕ) (inside : h + n ≤ length c.bytes)

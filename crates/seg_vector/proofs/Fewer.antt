@@ -2,19 +2,16 @@
 use Rattle.seg_vector.proofs.Words.{◌≡◌, refl, sym, ap, subst, ◌∙◌, inl, ℕ, ◌+◌, ◌%◌, ◌≤◌, Option, Some, None, List}
 use Rattle.seg_vector.proofs.Words.{arith, ◌≢◌, ◌*◌, min, ◌∷◌, length, ◌==◌, IsTrue, option_map, option_to_list, nat_lt}
 use Rattle.seg_vector.proofs.Words.{and_from, cond-false, cond-true, eq-eqb, le-leb, leb-true, lt-ltb, ne_eqb}
-use Rattle.seg_vector.proofs.Words.{WindowState}
-use Rattle.seg_vector.proofs.Words.{bytes_of, word_at, HasBytesAt, current, SameBytesExcept-word, link_at}
-use Rattle.seg_vector.proofs.Words.{SameBytesExcept-link, ExchangesBlocks}
-use Rattle.seg_vector.proofs.Words.{Extent, LiveSet, handle, holds, shorter, ChangesBytes, Deallocates, extent_at}
-use Rattle.seg_vector.proofs.Words.{has_room}
-use Rattle.seg_vector.proofs.Words.{live_of, ResizesBlock, ShrinksInPlace, BackingArray, no_backing, same_role, serves}
-use Rattle.seg_vector.proofs.Words.{changed-live}
+use Rattle.seg_vector.proofs.Words.{WindowState, bytes_of, word_at, HasBytesAt, current, SameBytesExcept-word, link_at}
+use Rattle.seg_vector.proofs.Words.{SameBytesExcept-link, ExchangesBlocks, Extent, LiveSet, handle, holds, shorter}
+use Rattle.seg_vector.proofs.Words.{ChangesBytes, Deallocates, extent_at, has_room, live_of, ResizesBlock}
+use Rattle.seg_vector.proofs.Words.{ShrinksInPlace, BackingArray, no_backing, same_role, serves, changed-live}
 use Rattle.seg_vector.proofs.Words.{laid-heap, read-same, shorter-IsShorter, spread-refl, exchange-released}
 use Rattle.seg_vector.proofs.Words.{exchange-resized, Role, Storage, Place, FreesStorageOk, ShrinksStorageOk}
-use Rattle.seg_vector.proofs.Words.{IsContainer, place_at, []}
+use Rattle.seg_vector.proofs.Words.{IsContainer, place_at, [], nil_from_length, KeepsGaps}
 use Rattle.seg_vector.proofs.Runs.{AreHeadWords, IsRun, beside-head, head-gaps, head-wider, none-some, room-head}
 use Rattle.seg_vector.proofs.Runs.{run-headed, run-stands, run-swapped, same-some, stands-run, table, table-full}
-use Rattle.seg_vector.proofs.{Words.nil_from_length, Words.KeepsGaps, Storage.storage-role}
+use Rattle.seg_vector.proofs.Storage.{storage-role}
 use Rattle.raw_region.proofs.Bytes.{more-times}
 use Rattle.best_fit.specs.Table.{shrunk_backing}
 
@@ -60,8 +57,7 @@ emptied {old} s c1 e = run-headed {k = 0} {u = no_backing} (stands-run old s) c1
 pub given-back : {old mid new : WindowState} {p : Place} {each len c g : ℕ} {o : Option Extent} {bytes : List ℕ}
     → IsContainer old.bytes p each len (table c o) bytes → link_at (bytes_of old.bytes) (place_at p) ≡ Some g
     → ChangesBytes current old mid (place_at p) 24 → IsContainer mid.bytes p each 0 no_backing []
-    → Deallocates current mid new g
-    → FreesStorageOk old new p each (table c o)
+    → Deallocates current mid new g → FreesStorageOk old new p each (table c o)
 given-back {o = None} s link c1 e r = none-some s.words.link link
 given-back {old} {mid} {new} {o = Some x} s link c1 e r =
     let g_is = same-some (sym link ∙ s.words.link) in
@@ -152,11 +148,10 @@ short l x n role big =
           (subst (λ (r : Role). IsTrue (same_role r Storage)) (sym (ap (λ (z : Extent). z.role) sh.same)) role) enough;
     }
 
-pub fitted : {old mid new : WindowState} {p : Place} {each len c g : ℕ} {o : Option Extent} {bytes : List ℕ} → 1 ≤ len
-    → IsContainer old.bytes p each len (table c o) bytes → link_at (bytes_of old.bytes) (place_at p) ≡ Some g
-    → ChangesBytes current old mid (p.handle + (p.at + 16)) 8
-    → word_at (bytes_of mid.bytes) (p.handle + (p.at + 16)) ≡ len
-    → ShrinksInPlace current mid new g (each * len) → ShrinksStorageOk old new p each len (table c o) bytes
+pub fitted : {old mid new : WindowState} {p : Place} {each len c g : ℕ} {o : Option Extent} {bytes : List ℕ}
+    → 1 ≤ len → IsContainer old.bytes p each len (table c o) bytes → link_at (bytes_of old.bytes) (place_at p) ≡ Some g
+    → ChangesBytes current old mid (p.handle + (p.at + 16)) 8 → word_at (bytes_of mid.bytes) (p.handle + (p.at + 16))
+    ≡ len → ShrinksInPlace current mid new g (each * len) → ShrinksStorageOk old new p each len (table c o) bytes
 fitted {o = None} some s link c1 word sh = none-some s.words.link link
 fitted {old} {mid} {new} {p} {each} {len} {c} {g} {o = Some x} {bytes} some s link c1 word sh =
     let l = live_of old.bytes in let m = bytes_of old.bytes in let mi = bytes_of mid.bytes in

@@ -2,17 +2,14 @@
 use Rattle.seg_vector.proofs.Words as W
 use W.{◌≡◌, ◌≢◌, refl, sym, ap, subst, ◌∙◌, inl, inr, ℕ, ◌+◌, ◌*◌, ◌<◌, ◌≤◌, Option, Some, None, List, ◌∷◌, length}
 use W.{arith, ◌⊎◌, ◌++◌, append-nil, IsTrue, nat_lt, option_to_list, AllByRecursion, and_parts, leb-true, Memory}
-use W.{WindowState}
-use W.{SameBytesExcept, bytes_of, word_at, SameBytes, SameBytesExcept-wider, SameBytesExcept-word, link_at, target_of}
-use W.{Storage, current, exchanged}
-use W.{without_all, ExchangesBlocks, inserted, Extent, LiveSet, handle, holds, ChangesBytes, IsHeap, EncodesLiveSet}
-use W.{SameBlock}
-use W.{extent_at, has_room, live_of, BackingArray, has_backing, serves, same_role, table_link, found-room, in_use-alone}
-use W.{live-rises, written-keeps, word-same, laid-heap, roomy, changed-live, written-but, IsFound, IsNone, SameSpread}
-use W.{all-found-in, all-in-use, found-none, exchanged-live, found-without, IsRoomy, kept, kept-found, exchange-next}
-use W.{exchange-same, spread-refl, exchange-wide, exchange-written, kept-beside, Place, IsStorageBlock, IsContainer}
-use W.{place_at}
-use W.{IsStorage, SameBytesExcept-link, IsSwapped, AreDistinct, [], rising-others, KeepsGaps, gaps-payload}
+use W.{WindowState, SameBytesExcept, bytes_of, word_at, SameBytes, SameBytesExcept-wider, SameBytesExcept-word, link_at}
+use W.{target_of, Storage, current, exchanged, without_all, ExchangesBlocks, inserted, Extent, LiveSet, handle, holds}
+use W.{ChangesBytes, IsHeap, EncodesLiveSet, SameBlock, extent_at, has_room, live_of, BackingArray, has_backing, serves}
+use W.{same_role, table_link, found-room, in_use-alone, live-rises, written-keeps, word-same, laid-heap, roomy}
+use W.{changed-live, written-but, IsFound, IsNone, SameSpread, all-found-in, all-in-use, found-none, exchanged-live}
+use W.{found-without, IsRoomy, kept, kept-found, exchange-next, exchange-same, spread-refl, exchange-wide}
+use W.{exchange-written, kept-beside, Place, IsStorageBlock, IsContainer, place_at, IsStorage, SameBytesExcept-link}
+use W.{IsSwapped, AreDistinct, [], rising-others, KeepsGaps, gaps-payload}
 
 abbrev pub table : ℕ → Option Extent → BackingArray
 table c o = record { capacity = c; extent = o }
@@ -104,9 +101,8 @@ pub record AreHeadWords (m : Memory) (at n : ℕ) (t : BackingArray) : Type 0 wh
   pub len_word : word_at m (at + 8) ≡ n
   pub capacity : word_at m (at + 16) ≡ t.capacity
 
-pub words-same : {m m' : Memory} {from to at n : ℕ} {t : BackingArray} → SameBytes m m' from to → from ≤ at
-    → at + 24 ≤ to
-    → AreHeadWords m at n t → AreHeadWords m' at n t
+pub words-same : {m m' : Memory} {from to at n : ℕ} {t : BackingArray}
+    → SameBytes m m' from to → from ≤ at → at + 24 ≤ to → AreHeadWords m at n t → AreHeadWords m' at n t
 words-same {m} {m'} {from} {to} {at} s f g w = record {
   link = ap (target_of at) (word-same m m' from to at s f (omega arith)) ∙ w.link;
   len_word = word-same m m' from to (at + 8) s (omega arith) (omega arith) ∙ w.len_word;
@@ -114,17 +110,15 @@ words-same {m} {m'} {from} {to} {at} s f g w = record {
 }
 
 pub words-kept : {a b : WindowState} {p : Place} {n : ℕ} {t : BackingArray} {gone come : List Extent}
-    → IsHeap current a.bytes
-    → IsHead a p → IsSwapped a b gone come → IsNone p.handle gone
+    → IsHeap current a.bytes → IsHead a p → IsSwapped a b gone come → IsNone p.handle gone
     → AreHeadWords (bytes_of a.bytes) (place_at p) n t → AreHeadWords (bytes_of b.bytes) (place_at p) n t
 words-kept {a} {b} {p} {gone} {come} heap w x d h =
     let s = kept a b p.handle _ gone come _ heap x w.found d in
     words-same s.payload (omega (arith, w.here)) (omega (arith, w.here, w.big)) h
 
 -- another length is written
-pub len-written : {m m' : Memory} {at n q : ℕ} (k : ℕ) {t : BackingArray} → q ≡ at + 8 → SameBytesExcept m m' q 8
-    → word_at m' q ≡ k
-    → AreHeadWords m at n t → AreHeadWords m' at k t
+pub len-written : {m m' : Memory} {at n q : ℕ} (k : ℕ) {t : BackingArray}
+    → q ≡ at + 8 → SameBytesExcept m m' q 8 → word_at m' q ≡ k → AreHeadWords m at n t → AreHeadWords m' at k t
 len-written {m} {m'} {at} {q} k e s word w = record {
   link = SameBytesExcept-link m m' q 8 at s (inl (omega (arith, e))) ∙ w.link;
   len_word = ap (word_at m') (sym e) ∙ word;
@@ -156,10 +150,8 @@ pub record IsRun (old now : WindowState) (p : Place) (gone come : List Extent) (
 
 -- blocks are exchanged, not the head's
 pub run-swapped : {old a b : WindowState} {p : Place} {gone come again : List Extent} (left : List Extent)
-    {more : List Extent}
-    {n : ℕ} {t : BackingArray} → SameSpread come (again ++ left) → IsRun old a p gone come n t
-    → IsSwapped a b again more
-    → IsNone p.handle again → IsRun old b p gone (more ++ left) n t
+    {more : List Extent} {n : ℕ} {t : BackingArray} → SameSpread come (again ++ left) → IsRun old a p gone come n t
+    → IsSwapped a b again more → IsNone p.handle again → IsRun old b p gone (more ++ left) n t
 run-swapped {old} {a} {b} {p} {gone} {come} left {more} spread r x none = record {
   change = exchange-next _ old a b _ 24 gone come _ left more spread r.change
       (exchange-wide _ a b (place_at p) 24 _ more x);
@@ -188,8 +180,7 @@ all-as P Q f (x ∷ xs) a = (f x a.0, all-as P Q f xs a.1)
 
 -- the blocks that came are in use
 pub came-found : {a b : WindowState} {from n : ℕ} {gone come : List Extent}
-    → ExchangesBlocks current a b from n gone come
-    → AllByRecursion (IsFound (live_of b.bytes).extents) come
+    → ExchangesBlocks current a b from n gone come → AllByRecursion (IsFound (live_of b.bytes).extents) come
 came-found {a} {b} {from} {n} {gone} {come} x =
     let l = live_of a.bytes in let rest = without_all gone l.extents in
     let is : (live_of b.bytes).extents ≡ inserted come rest = ap (λ (k : LiveSet). k.extents)
@@ -199,8 +190,7 @@ came-found {a} {b} {from} {n} {gone} {come} x =
 
 -- no two of them are one
 pub came-others : {a b : WindowState} {from n : ℕ} {gone come : List Extent}
-    → ExchangesBlocks current a b from n gone come
-    → AreDistinct come
+    → ExchangesBlocks current a b from n gone come → AreDistinct come
 came-others {a} {gone = gone} {come} x = rising-others come (without_all gone (live_of a.bytes).extents)
     (live-rises (exchanged (live_of a.bytes) gone come) x.live.proper)
 
@@ -230,8 +220,7 @@ run-found r = came-found r.change
 
 -- none of the blocks that came is the head's
 pub run-none : {first now : WindowState} {p : Place} {gone come : List Extent} {n : ℕ} {t : BackingArray}
-    → IsHead first p
-    → IsNone p.handle gone → IsRun first now p gone come n t → IsNone p.handle come
+    → IsHead first p → IsNone p.handle gone → IsRun first now p gone come n t → IsNone p.handle come
 run-none {first} {p} {gone} {come} w d r =
     let l = live_of first.bytes in
     found-none p.handle _ come (without_all gone l.extents) (live-rises (exchanged l gone come) r.change.live.proper)
@@ -248,9 +237,8 @@ block-written {a} {b} {x} {from} {n} k heap found c low high fits =
 
 -- ---- the run of a call on a container
 
-pub own-facts : (l : LiveSet) (h : ℕ) (o : Option Extent) → IsStorageBlock l h o
-    → AreDistinct (option_to_list o) × AllByRecursion (IsFound l.extents) (option_to_list o)
-    × IsNone h (option_to_list o)
+pub own-facts : (l : LiveSet) (h : ℕ) (o : Option Extent) → IsStorageBlock l h o → AreDistinct (option_to_list o)
+    × AllByRecursion (IsFound l.extents) (option_to_list o) × IsNone h (option_to_list o)
 own-facts l h None own = (tt, tt, tt)
 own-facts l h (Some x) own = ((tt, tt), (own.0, tt), ((λ e. own.1 (sym e)), tt))
 
@@ -260,8 +248,7 @@ facts-own l h None f n = tt
 facts-own l h (Some x) f n = (f.0, λ e. n.0 (sym e))
 
 pub stands-run : (c : WindowState) {p : Place} {each len : ℕ} {t : BackingArray} {bytes : List ℕ}
-    → IsContainer c.bytes p each len t bytes
-    → IsRun c c p (option_to_list t.extent) (option_to_list t.extent) len t
+    → IsContainer c.bytes p each len t bytes → IsRun c c p (option_to_list t.extent) (option_to_list t.extent) len t
 stands-run c {p} {t} s =
     let l = live_of c.bytes in let own = option_to_list t.extent in let facts = own-facts l p.handle t.extent s.own in
     let used = all-in-use own l.extents (live-rises l s.heap.proper) facts.0 facts.1 in
@@ -274,9 +261,8 @@ stands-run c {p} {t} s =
 
 -- none of the blocks that came since is the one in which the container stands
 pub stands-none-of : {old now : WindowState} {p : Place} {each len k : ℕ} {t u : BackingArray} {bytes : List ℕ}
-    {come : List Extent}
-    → IsContainer old.bytes p each len t bytes → IsRun old now p (option_to_list t.extent) come k u
-    → IsNone p.handle come
+    {come : List Extent} → IsContainer old.bytes p each len t bytes
+    → IsRun old now p (option_to_list t.extent) come k u → IsNone p.handle come
 stands-none-of {old} {p} {t} s r = run-none (room-head old p s.heap s.room)
     (own-facts (live_of old.bytes) p.handle t.extent s.own).2 r
 

@@ -1,37 +1,28 @@
 -- The storage of a container that stands at a place: regrown, written in, and read.
+use Rattle.seg_vector.proofs.Words as W
 use W.{◌≡◌, list_any, read-same, laid-heap, room-less, IfSome_is, IsStorage, IsSwapped, gaps-refl, gaps-then}
-use W.{SetsStorage}
-use W.{refl, payload_at, table_link, found-room, live-sound, room_block, in_use-all, legal_size, IsStorageBlock}
-use W.{hole-order}
-use W.{sym, ◌∙◌, Bool, true, Some, None, List, arith, ◌==◌, ◌++◌, take, drop, ◌&&◌, read, holds, place, BackingArray}
-use W.{Place}
-use W.{ap, eqb-true, and_from, leb-true, ltb-true, or_cases, or_right, bytes_of, block_of, is_block, has_room}
-use W.{has_backing}
-use W.{subst, if◌then◌else◌, length-append, all_of-insert, regrow-serves, block_payload, LacksSpace, exchanged-live}
-use W.{inl, inr, ◌+◌, ◌*◌, ◌%◌, ◌<◌, ◌≤◌, ◌∷◌, ◌⊎◌, max, ◌-◌, WindowState, HasBytesAt, []}
-use W.{ℕ, length-take, length-drop, CarriesOver, changed-live, exchange-next, is_legal_size, changed-room, gaps-payload}
-use W.{false, le-leb, lt-leb, lt-ltb, eq-eqb, Memory, Extent, handle, end_of, others, longer, IsHeap, serves}
-use W.{IsContainer}
-use W.{Option, length, IsTrue, IfSome, nat_lt, nat_le, resized, EncodesLiveSet, live_of, IsSound, ReservesStorageOk}
-use W.{Refusal, NoSpace}
-use W.{append-nil, option_map, RegrowsOk, without_all, ExchangesBlocks, proper_from, is_live_in, spread-refl}
-use W.{RewritesElements}
-use W.{option_to_list, AllByRecursion, RegrowsNoSpace, all-same-but, all_keep_proper, capacity_for_one, nil_from_length}
-use W.{KeepsGaps, gaps-trans, and_parts, take-take, read-part, exchanged, ReplacesBlocks, ChangesBytes, extent_at}
-use W.{same_role}
-use W.{all-in-use, live-rises}
-use W.{◌≢◌, IsFound, Rising, found-none, found-without, or_left, SameBytesExcept, word_at, patched, link_at, Storage}
-use W.{current}
-use W.{LiveSet, is_hole, too_long, place_at, take-nil}
+use W.{SetsStorage, refl, payload_at, table_link, found-room, live-sound, room_block, in_use-all, legal_size}
+use W.{IsStorageBlock, hole-order, sym, ◌∙◌, Bool, true, Some, None, List, arith, ◌==◌, ◌++◌, take, drop, ◌&&◌, read}
+use W.{holds, place, BackingArray, Place, ap, eqb-true, and_from, leb-true, ltb-true, or_cases, or_right, bytes_of}
+use W.{block_of, is_block, has_room, has_backing, subst, if◌then◌else◌, length-append, all_of-insert, regrow-serves}
+use W.{block_payload, LacksSpace, exchanged-live, inl, inr, ◌+◌, ◌*◌, ◌%◌, ◌<◌, ◌≤◌, ◌∷◌, ◌⊎◌, max, ◌-◌, WindowState}
+use W.{HasBytesAt, [], ℕ, length-take, length-drop, CarriesOver, changed-live, exchange-next, is_legal_size}
+use W.{changed-room, gaps-payload, false, le-leb, lt-leb, lt-ltb, eq-eqb, Memory, Extent, handle, end_of, others}
+use W.{longer, IsHeap, serves, IsContainer, Option, length, IsTrue, IfSome, nat_lt, nat_le, resized, EncodesLiveSet}
+use W.{live_of, IsSound, ReservesStorageOk, Refusal, NoSpace, append-nil, option_map, RegrowsOk, without_all}
+use W.{ExchangesBlocks, proper_from, is_live_in, spread-refl, RewritesElements, option_to_list, AllByRecursion}
+use W.{RegrowsNoSpace, all-same-but, all_keep_proper, capacity_for_one, nil_from_length, KeepsGaps, gaps-trans}
+use W.{and_parts, take-take, read-part, exchanged, ReplacesBlocks, ChangesBytes, extent_at, same_role, all-in-use}
+use W.{live-rises, ◌≢◌, IsFound, Rising, found-none, found-without, or_left, SameBytesExcept, word_at, patched, link_at}
+use W.{Storage, current, LiveSet, is_hole, too_long, place_at, take-nil}
 use Rattle.seg_vector.proofs.Runs.{IsRun, beside-head, block-written, head-room, head-wider, len-written, head-gaps}
 use Rattle.seg_vector.proofs.Runs.{came-found, none-some, own-facts, room-head, run-found, run-headed, run-stands}
-use Rattle.seg_vector.proofs.Runs.{run-swapped}
-use Rattle.seg_vector.proofs.Runs.{same-some, serves-full, spread-nil, stands-none-of, stands-run, table, table-full}
+use Rattle.seg_vector.proofs.Runs.{run-swapped, same-some, serves-full, spread-nil, stands-none-of, stands-run, table}
+use Rattle.seg_vector.proofs.Runs.{table-full}
 use Rattle.raw_region.proofs.Bytes.{more-times, HasBytesAt-append, HasBytesAt-take, HasBytesAt-drop, HasBytesAt-beside}
 use Rattle.raw_region.proofs.Bytes.{HasBytesAt-patched, length-patch}
 use Rattle.best_fit.specs.{Extents.is_proper, Fit.regrow}
 use Rattle.seg_vector.specs.Vector.{grown_backing}
-use Rattle.seg_vector.proofs.Words as W
 
 -- ---- what stands
 
@@ -46,8 +37,7 @@ storage-room l h each len c (Some x) t f own =
     found-room l (handle x) (each * len) x own.0 (omega (arith, big, less))
 
 pub stands-room : {b : List ℕ} {p : Place} {each len : ℕ} {t : BackingArray} {bytes : List ℕ}
-    → IsContainer b p each len t bytes
-    → IfSome (table_link t) (λ g. IsTrue (has_room (live_of b) g (each * len)))
+    → IsContainer b p each len t bytes → IfSome (table_link t) (λ g. IsTrue (has_room (live_of b) g (each * len)))
 stands-room {b} {p} {each} {len} {t} s = storage-room (live_of b) p.handle each len t.capacity t.extent s.table s.fits
     s.own
 
@@ -57,8 +47,7 @@ own-block l h None own = refl
 own-block l h (Some x) own = own.0
 
 pub stands-block : {b : List ℕ} {p : Place} {each len : ℕ} {t : BackingArray} {bytes : List ℕ}
-    → IsContainer b p each len t bytes
-    → block_of (live_of b) (table_link t) ≡ t.extent
+    → IsContainer b p each len t bytes → block_of (live_of b) (table_link t) ≡ t.extent
 stands-block {b} {p} {t} s = own-block (live_of b) p.handle t.extent s.own
 
 -- ---- the table
@@ -75,8 +64,7 @@ grown-more l each n t f = ap (λ b. if b then Some t else option_map (λ x. tabl
     (each * n))) (lt-leb n t.capacity f)
 
 pub grows-not : (c : WindowState) {p : Place} {each : ℕ} (n : ℕ) {len : ℕ} {t : BackingArray} {bytes : List ℕ}
-    → n ≤ t.capacity
-    → IsContainer c.bytes p each len t bytes → ReservesStorageOk c c p each n len t bytes
+    → n ≤ t.capacity → IsContainer c.bytes p each len t bytes → ReservesStorageOk c c p each n len t bytes
 grows-not c {each} n {t} f s = record {
   table = t;
   grown = grown-same (live_of c.bytes) each n t f;
@@ -191,8 +179,7 @@ pub place-small : {b : List ℕ} (p : Place) → IsHeap current b → IsTrue (ha
 place-small {b} p heap room = room-small (record { before = []; bytes = b; after = [] }) p.handle (p.at + 24) heap room
 
 pub stands-small : {b : List ℕ} {p : Place} {each len : ℕ} {t : BackingArray} {bytes : List ℕ}
-    → IsContainer b p each len t bytes
-    → p.at + 24 < 1073741824
+    → IsContainer b p each len t bytes → p.at + 24 < 1073741824
 stands-small {p = p} s = place-small p s.heap s.room
 
 -- the word of the length is within its block
@@ -210,16 +197,14 @@ pub ruleset rooms = (room-less, changed-room)
 pub ruleset sizes = (room-small, place-small, stands-small, kept-heap, rooms)
 
 pub storage-read : {b : List ℕ} {p : Place} {each len : ℕ} (k : ℕ) {t : BackingArray} {bytes : List ℕ}
-    (storage : Option ℕ)
-    → IsContainer b p each len t bytes → storage ≡ link_at (bytes_of b) (p.handle + p.at)
+    (storage : Option ℕ) → IsContainer b p each len t bytes → storage ≡ link_at (bytes_of b) (p.handle + p.at)
     → k ≡ word_at (bytes_of b) (place_at p + 8) → IfSome storage (λ g. IsTrue (has_room (live_of b) g (each * k)))
 storage-read {b} {each} k {t} storage s e f = subst (λ o. IfSome o (λ g. IsTrue (has_room (live_of b) g (each * k))))
     (sym (e ∙ s.words.link)) (subst (λ k. IfSome (table_link t) (λ g. IsTrue (has_room (live_of b) g (each * k))))
     (sym (f ∙ s.words.len_word)) (stands-room s))
 
 pub given-of : {old mid : WindowState} {p : Place} {each : ℕ} (n : ℕ) {len : ℕ} (k : ℕ) {g : ℕ} {t : BackingArray}
-    {bytes : List ℕ}
-    (storage : Option ℕ) → IsContainer old.bytes p each len t bytes
+    {bytes : List ℕ} (storage : Option ℕ) → IsContainer old.bytes p each len t bytes
     → storage ≡ link_at (bytes_of old.bytes) (p.handle + p.at) → k ≡ word_at (bytes_of old.bytes) (place_at p + 8)
     → RegrowsOk current old mid (block_of (live_of old.bytes) storage) (each * n) (each * k) g
     → RegrowsOk current old mid t.extent (each * n) (each * len) g
@@ -239,10 +224,9 @@ not_given-of {old} {mid} {each} n storage s e r = subst (λ o. RegrowsNoSpace ol
 
 -- bytes of the storage are written
 written-run : {old new : WindowState} {p : Place} {each len c g : ℕ} (from : ℕ) {n : ℕ} {o : Option Extent}
-    {bytes : List ℕ}
-    → IsContainer old.bytes p each len (table c o) bytes → link_at (bytes_of old.bytes) (place_at p) ≡ Some g
-    → ChangesBytes current old new (g + from) n → from + n ≤ each * c
-    → IsRun old new p (option_to_list o) (option_to_list o) len (table c o)
+    {bytes : List ℕ} → IsContainer old.bytes p each len (table c o) bytes
+    → link_at (bytes_of old.bytes) (place_at p) ≡ Some g → ChangesBytes current old new (g + from) n
+    → from + n ≤ each * c → IsRun old new p (option_to_list o) (option_to_list o) len (table c o)
 written-run from {o = None} s link c1 within = none-some s.words.link link
 written-run {old} {p} {each} {c} from {o = Some x} s link c1 within =
     let g_is = same-some (sym s.words.link ∙ link) in
@@ -251,14 +235,11 @@ written-run {old} {p} {each} {c} from {o = Some x} s link c1 within =
     run-swapped [] (spread-refl (x ∷ [])) (stands-run old s) swap ((λ e. s.own.1 (sym e)), tt)
 
 pub rewritten : {old s1 new : WindowState} {p : Place} {each len c g : ℕ} (from : ℕ) {n : ℕ} (len2 : ℕ)
-    {o : Option Extent}
-    {bytes : List ℕ} (bytes2 : List ℕ) → IsContainer old.bytes p each len (table c o) bytes
-    → link_at (bytes_of old.bytes)
-    (place_at p) ≡ Some g → ChangesBytes current old s1 (g + from) n → from + n ≤ each * c → len2 ≤ c
-    → length bytes2 ≡ each * len2 → HasBytesAt (bytes_of s1.bytes) g bytes2
-    → ChangesBytes current s1 new (p.handle + (p.at + 8))
-    8 → word_at (bytes_of new.bytes) (p.handle + (p.at + 8)) ≡ len2
-    → RewritesElements old new p each len2 (table c o) bytes2
+    {o : Option Extent} {bytes : List ℕ} (bytes2 : List ℕ) → IsContainer old.bytes p each len (table c o) bytes
+    → link_at (bytes_of old.bytes) (place_at p) ≡ Some g → ChangesBytes current old s1 (g + from) n
+    → from + n ≤ each * c → len2 ≤ c → length bytes2 ≡ each * len2 → HasBytesAt (bytes_of s1.bytes) g bytes2
+    → ChangesBytes current s1 new (p.handle + (p.at + 8)) 8 → word_at (bytes_of new.bytes) (p.handle + (p.at + 8))
+    ≡ len2 → RewritesElements old new p each len2 (table c o) bytes2
 rewritten from len2 {o = None} bytes2 s link c1 within fits long content c2 word = none-some s.words.link link
 rewritten {old} {s1} {new} {p} {each} {c} {g} from {n} len2 {o = Some x} bytes2 s link c1 within fits long content c2
     word =
@@ -268,8 +249,7 @@ rewritten {old} {s1} {new} {p} {each} {c} {g} from {n} len2 {o = Some x} bytes2 
     let two = run-headed one wide (len-written len2 (omega arith) c2.rest word one.words) in
     let stays = beside-head (handle x) one.heap one.head wide (run-found one).0 (λ e. s.own.1 (sym e)) in
     let whole : HasBytesAt (bytes_of s1.bytes) (handle x) bytes2 =
-    subst (λ k. HasBytesAt (bytes_of s1.bytes) k bytes2) (sym g_is)
-    content in
+    subst (λ k. HasBytesAt (bytes_of s1.bytes) k bytes2) (sym g_is) content in
     let own = found-room (live_of old.bytes) (handle x) (each * c) x s.own.0 full in
     record {
       change = two.change;
@@ -358,8 +338,7 @@ pub wanted-is : {w len capacity n k : ℕ} → w ≡ capacity_for_one len capaci
 wanted-is e f g = e ∙ (λ i. capacity_for_one (f i) (g i))
 
 table-if : (l : LiveSet) (n : ℕ) (t : BackingArray) {u : BackingArray} (b : Bool) (r : Option Extent)
-    → nat_le n t.capacity ≡ b
-    → (if b then Some t else option_map (λ x. table n (Some x)) r) ≡ Some u → n ≤ u.capacity
+    → nat_le n t.capacity ≡ b → (if b then Some t else option_map (λ x. table n (Some x)) r) ≡ Some u → n ≤ u.capacity
 table-if l n t {u} true r e f = let same : t ≡ u = cc in subst (λ (v : BackingArray). n ≤ v.capacity) same
     (leb-true n t.capacity e)
 table-if l n t false None e f = absurd (cc)
@@ -375,12 +354,10 @@ table-places l each n t e = table-if l n t (nat_le n t.capacity) (regrow l t.ext
 -- gaps that stay after its growth, in the block that there was
 pub grown-gaps : {old mid new : WindowState} {p : Place} {each n len : ℕ} {t : BackingArray} {bytes : List ℕ}
     → IsContainer old.bytes p each len t bytes → (g : ReservesStorageOk old mid p each n len t bytes)
-    → t.extent ≡ g.table.extent
-    → KeepsGaps mid new → KeepsGaps old new
+    → t.extent ≡ g.table.extent → KeepsGaps mid new → KeepsGaps old new
 grown-gaps {old} {mid} {new} {p} {t} s g same k =
     let change = subst (λ o. ExchangesBlocks current old mid (place_at p) 24 (option_to_list t.extent)
-    (option_to_list o))
-    (sym same) g.change in gaps-trans old mid new (same-storage s change) (g.gaps same) k
+    (option_to_list o)) (sym same) g.change in gaps-trans old mid new (same-storage s change) (g.gaps same) k
 
 -- the place for it
 pub has-place : {old mid : WindowState} {p : Place} {each len n : ℕ} {t : BackingArray} {bytes : List ℕ} → len < n
@@ -427,10 +404,9 @@ overwritten-all {new} {p} {each} {len} {g} i n {t} {bytes} more s f e link c1 co
 
 -- one is
 pub overwritten : {old new : WindowState} {p : Place} {each len g : ℕ} (i : ℕ) {t : BackingArray} {bytes : List ℕ}
-    (more : List ℕ)
-    → IsContainer old.bytes p each len t bytes → i < len → length more ≡ each
-    → link_at (bytes_of old.bytes) (place_at p) ≡ Some g → ChangesBytes current old new (g + each * i) (length more)
-    → HasBytesAt (bytes_of new.bytes) (g + each * i) more
+    (more : List ℕ) → IsContainer old.bytes p each len t bytes
+    → i < len → length more ≡ each → link_at (bytes_of old.bytes) (place_at p) ≡ Some g
+    → ChangesBytes current old new (g + each * i) (length more) → HasBytesAt (bytes_of new.bytes) (g + each * i) more
     → RewritesElements old new p each len t (patched bytes (each * i) more)
 overwritten {each = each} i more s f e = overwritten-all i 1 more s (omega (arith, f)) (omega (arith, e))
 
@@ -438,8 +414,7 @@ overwritten {each = each} i more s f e = overwritten-all i 1 more s (omega (arit
 
 cut-storage : {old new : WindowState} {p : Place} {each len c : ℕ} (k : ℕ) {o : Option Extent} {bytes : List ℕ}
     → IsContainer old.bytes p each len (table c o) bytes → k ≤ length bytes
-    → ChangesBytes current old new (place_at p) 24
-    → IsStorage (bytes_of new.bytes) (table c o) (take k bytes)
+    → ChangesBytes current old new (place_at p) 24 → IsStorage (bytes_of new.bytes) (table c o) (take k bytes)
 cut-storage k {o = None} {bytes} s f c2 = ap (take k) s.words.storage ∙ take-nil k
 cut-storage {old} {new} {p} {each} {len} {c} k {o = Some x} {bytes} s f c2 =
     let full = table-full each c x s.table in let less = more-times each len c s.fits in let total = s.long in
@@ -492,8 +467,7 @@ live-if h n (x ∷ xs) t =
     ]
 
 pub storage-live : {b : List ℕ} {p : Place} {each len g : ℕ} {t : BackingArray} {bytes : List ℕ}
-    → IsContainer b p each len t bytes
-    → link_at (bytes_of b) (place_at p) ≡ Some g → IsTrue (is_live_in (live_of b) g)
+    → IsContainer b p each len t bytes → link_at (bytes_of b) (place_at p) ≡ Some g → IsTrue (is_live_in (live_of b) g)
 storage-live {b} {each} {g} {t} s link = live-if g (each * t.capacity) (live_of b).extents (storage-room_in s link)
 
 pub elements-fit : {b : List ℕ} {p : Place} {each len : ℕ} (n : ℕ) {t : BackingArray} {bytes : List ℕ}
@@ -510,8 +484,7 @@ element-fits {each} i {t} s f =
 -- ---- the bytes of all elements
 
 pub read-all : (c : WindowState) {p : Place} {each len : ℕ} (k : ℕ) {g : ℕ} {t : BackingArray} {bytes : List ℕ}
-    (out : List ℕ)
-    → IsContainer c.bytes p each len t bytes → k ≡ len → link_at (bytes_of c.bytes) (place_at p) ≡ Some g
+    (out : List ℕ) → IsContainer c.bytes p each len t bytes → k ≡ len → link_at (bytes_of c.bytes) (place_at p) ≡ Some g
     → out ≡ payload_at c.bytes (live_of c.bytes) g → take (each * k) out ≡ bytes
 read-all c {each} {len} k {g} out s is link e =
     let n : ℕ = each * len in let r = room_block c g n s.heap (some-room n s link (elements-fit len s (omega arith))) in
@@ -587,12 +560,11 @@ too-many c {p} {each} n {t} s some f =
 -- ---- elements more
 
 pub extended : {old s1 new : WindowState} {p : Place} {each len g : ℕ} (n : ℕ) {t : BackingArray} {bytes : List ℕ}
-    (more : List ℕ)
-    → IsContainer old.bytes p each len t bytes → len + n ≤ t.capacity → length more ≡ each * n
-    → link_at (bytes_of old.bytes)
-    (place_at p) ≡ Some g → ChangesBytes current old s1 (g + each * len) (length more) → HasBytesAt (bytes_of s1.bytes)
-    (g + each * len) more → ChangesBytes current s1 new (p.handle + (p.at + 8)) 8 → word_at (bytes_of new.bytes)
-    (p.handle + (p.at + 8)) ≡ len + n → RewritesElements old new p each (len + n) t (bytes ++ more)
+    (more : List ℕ) → IsContainer old.bytes p each len t bytes → len + n ≤ t.capacity → length more ≡ each * n
+    → link_at (bytes_of old.bytes) (place_at p) ≡ Some g → ChangesBytes current old s1 (g + each * len) (length more)
+    → HasBytesAt (bytes_of s1.bytes) (g + each * len) more → ChangesBytes current s1 new (p.handle + (p.at + 8)) 8
+    → word_at (bytes_of new.bytes) (p.handle + (p.at + 8)) ≡ len + n
+    → RewritesElements old new p each (len + n) t (bytes ++ more)
 extended {old} {s1} {each} {len} {g} n {t} {bytes} more s f long link c1 content c2 word =
     let m = bytes_of old.bytes in let ms = bytes_of s1.bytes in let total = s.long in
     let sum = length-append bytes more in let less = more-times each (len + n) t.capacity f in
@@ -605,20 +577,31 @@ extended {old} {s1} {each} {len} {g} n {t} {bytes} more s f long link c1 content
     rewritten (each * len) (len + n) (bytes ++ more) s link c1 (omega (arith, long, less, step)) f
     (omega (arith, sum, total, long, step)) (HasBytesAt-append ms g bytes more front behind) c2 word
 
+-- without storage there are none
+pub none-more : (c : WindowState) {p : Place} {each len k : ℕ} (n : ℕ) {o : Option Extent} {bytes : List ℕ}
+    → IsContainer c.bytes p each len (table k o) bytes → len + n ≤ k → link_at (bytes_of c.bytes) (place_at p) ≡ None
+    → n ≡ 0
+none-more c {k = k} n {o = None} s f link = let none = eqb-true k 0 s.table in omega (arith, f, none)
+none-more c n {o = Some x} s f link = absurd (none-some link s.words.link)
+
 pub extended-not : (c : WindowState) {p : Place} {each len k : ℕ} (n : ℕ) {o : Option Extent} {bytes : List ℕ}
-    (more : List ℕ)
-    → IsContainer c.bytes p each len (table k o) bytes → len + n ≤ k → length more ≡ each * n
+    (more : List ℕ) → IsContainer c.bytes p each len (table k o) bytes → len + n ≤ k → length more ≡ each * n
     → link_at (bytes_of c.bytes) (place_at p) ≡ None → RewritesElements c c p each (len + n) (table k o) (bytes ++ more)
-extended-not c {p} {each} {len} {k} n {o = None} {bytes} more s f long link =
-    let none = eqb-true k 0 s.table in let no : n ≡ 0 = omega (arith, f, none) in
+extended-not c {p} {each} {len} {k} n {o} {bytes} more s f long link =
+    let no = none-more c n s f link in
     let nothing : each * 0 ≡ 0 = omega arith in
     let empty = nil_from_length more (long ∙ ap (λ j. each * j) no ∙ nothing) in
-    subst (λ (ws : List ℕ). RewritesElements c c p each (len + n) (table k None) (bytes ++ ws)) (sym empty)
-    (subst (λ j. RewritesElements c c p each j (table k None) (bytes ++ [])) (let e : len ≡ len + n =
+    subst (λ (ws : List ℕ). RewritesElements c c p each (len + n) (table k o) (bytes ++ ws)) (sym empty)
+    (subst (λ j. RewritesElements c c p each j (table k o) (bytes ++ [])) (let e : len ≡ len + n =
     omega (arith, no) in e)
-    (subst (λ (ws : List ℕ). RewritesElements c c p each len (table k None) ws) (sym (append-nil bytes))
+    (subst (λ (ws : List ℕ). RewritesElements c c p each len (table k o) ws) (sym (append-nil bytes))
     (unchanged-rewritten c s)))
-extended-not c n {o = Some x} more s f long link = none-some link s.words.link
+
+-- without storage there is no place
+pub none-free : {b : List ℕ} {p : Place} {each len k : ℕ} (n : ℕ) {o : Option Extent} {bytes : List ℕ}
+    → IsContainer b p each len (table k o) bytes → len + n ≤ k → link_at (bytes_of b) (place_at p) ≡ None → n ≡ 0
+none-free {k = k} n {o = None} s f link = let none = eqb-true k 0 s.table in omega (arith, f, none)
+none-free n {o = Some x} s f link = none-some link s.words.link
 
 -- ---- how many bytes there are before and behind an element
 
@@ -644,9 +627,8 @@ pub erased : {old s1 new : WindowState} {p : Place} {each len g : ℕ} (i : ℕ)
     → IsContainer old.bytes p each len t bytes → i < len → link_at (bytes_of old.bytes) (place_at p) ≡ Some g
     → ChangesBytes current old s1 (g + each * i) (each * (len - i - 1)) → read (bytes_of s1.bytes) (g + each * i)
     (each * (len - i - 1)) ≡ read (bytes_of old.bytes) (g + (each * i + each)) (each * (len - i - 1))
-    → ChangesBytes current s1 new (p.handle + (p.at + 8)) 8
-    → word_at (bytes_of new.bytes) (p.handle + (p.at + 8)) ≡ len -
-    1 → RewritesElements old new p each (len - 1) t (take (each * i) bytes ++ drop (each * i + each) bytes)
+    → ChangesBytes current s1 new (p.handle + (p.at + 8)) 8 → word_at (bytes_of new.bytes) (p.handle + (p.at + 8))
+    ≡ len - 1 → RewritesElements old new p each (len - 1) t (take (each * i) bytes ++ drop (each * i + each) bytes)
 erased {old} {s1} {each} {len} {g} i {t} {bytes} s f link c1 moved c2 word =
     let m = bytes_of old.bytes in let ms = bytes_of s1.bytes in let k : ℕ = each * i + each in
     let n : ℕ = each * (len - i - 1) in
@@ -670,9 +652,8 @@ erased {old} {s1} {each} {len} {g} i {t} {bytes} s f link c1 moved c2 word =
 
 -- ---- an element is put in
 
-both-within : {a b c : Memory} {from one n at : ℕ} → at ≡ from + one → SameBytesExcept a b at n
-    → SameBytesExcept b c from one
-    → SameBytesExcept a c from (one + n)
+both-within : {a b c : Memory} {from one n at : ℕ}
+    → at ≡ from + one → SameBytesExcept a b at n → SameBytesExcept b c from one → SameBytesExcept a c from (one + n)
 both-within {from} {one} {n} {at} e p q = record { at = λ k f. q.at k (outer k f) ∙ p.at k (inner k f) }
   where
     outer : (k : ℕ) → (k < from) ⊎ (from + (one + n) ≤ k) → (k < from) ⊎ (from + one ≤ k)
@@ -684,15 +665,14 @@ both-within {from} {one} {n} {at} e p q = record { at = λ k f. q.at k (outer k 
     inner k (inr f) = inr (omega (arith, f, e))
 
 pub put_in : {old s1 s2 new : WindowState} {p : Place} {each len g : ℕ} (i : ℕ) {t : BackingArray} {bytes : List ℕ}
-    (more : List ℕ)
-    → IsContainer old.bytes p each len t bytes → i ≤ len → len < t.capacity → length more ≡ each
-    → link_at (bytes_of old.bytes) (place_at p) ≡ Some g
+    (more : List ℕ) → IsContainer old.bytes p each len t bytes
+    → i ≤ len → len < t.capacity → length more ≡ each → link_at (bytes_of old.bytes) (place_at p) ≡ Some g
     → ChangesBytes current old s1 (g + (each * i + each)) (each * (len - i))
-    → read (bytes_of s1.bytes) (g + (each * i + each)) (each * (len - i)) ≡ read (bytes_of old.bytes) (g + each * i)
-    (each * (len - i)) → ChangesBytes current s1 s2 (g + each * i) each
-    → HasBytesAt (bytes_of s2.bytes) (g + each * i) more
-    → ChangesBytes current s2 new (p.handle + (p.at + 8)) 8 → word_at (bytes_of new.bytes) (p.handle + (p.at + 8)) ≡ len
-    + 1 → RewritesElements old new p each (len + 1) t (take (each * i) bytes ++ (more ++ drop (each * i) bytes))
+    → read (bytes_of s1.bytes) (g + (each * i + each)) (each * (len - i))
+    ≡ read (bytes_of old.bytes) (g + each * i) (each * (len - i)) → ChangesBytes current s1 s2 (g + each * i) each
+    → HasBytesAt (bytes_of s2.bytes) (g + each * i) more → ChangesBytes current s2 new (p.handle + (p.at + 8)) 8
+    → word_at (bytes_of new.bytes) (p.handle + (p.at + 8)) ≡ len + 1
+    → RewritesElements old new p each (len + 1) t (take (each * i) bytes ++ (more ++ drop (each * i) bytes))
 put_in {old} {s1} {s2} {each} {len} {g} i {t} {bytes} more s f room e link c1 moved c2 content c3 word =
     let m = bytes_of old.bytes in let m1 = bytes_of s1.bytes in let ms = bytes_of s2.bytes in
     let n : ℕ = each * (len - i) in
@@ -739,10 +719,9 @@ pub part-room : {l : LiveSet} {each i n g : ℕ} (k : ℕ) → k ≤ each * i + 
 part-room {l} {each} {i} {n} {g} k f q = room-less l g (each * i + each + n) k f q.room
 
 pub erase-fits : (c : WindowState) {p : Place} {each len : ℕ} (k : ℕ) {g : ℕ} (i : ℕ) {t : BackingArray}
-    {bytes : List ℕ}
-    → IsContainer c.bytes p each len t bytes → k ≡ word_at (bytes_of c.bytes) (place_at p + 8)
-    → i < word_at (bytes_of c.bytes) (p.handle + p.at + 8) → link_at (bytes_of c.bytes) (place_at p) ≡ Some g
-    → Fitting (live_of c.bytes) each i (each * (k - i - 1)) g
+    {bytes : List ℕ} → IsContainer c.bytes p each len t bytes
+    → k ≡ word_at (bytes_of c.bytes) (place_at p + 8) → i < word_at (bytes_of c.bytes) (p.handle + p.at + 8)
+    → link_at (bytes_of c.bytes) (place_at p) ≡ Some g → Fitting (live_of c.bytes) each i (each * (k - i - 1)) g
 erase-fits c {each} {len} k i s e inside link =
     let is = e ∙ s.words.len_word in let below : i < len = omega (arith, inside, s.words.len_word) in
     let whole : (i + 1) + (k - i - 1) ≡ len = omega (arith, below, is) in
@@ -750,10 +729,9 @@ erase-fits c {each} {len} k i s e inside link =
     fitting c i (each * (k - i - 1)) len s link s.fits (sym split ∙ ap (λ j. each * j) whole)
 
 pub insert-fits : (c : WindowState) {p : Place} {each len : ℕ} (k : ℕ) {g : ℕ} (i : ℕ) {t : BackingArray}
-    {bytes : List ℕ}
-    → IsContainer c.bytes p each len t bytes → k ≡ word_at (bytes_of c.bytes) (place_at p + 8)
-    → i ≤ word_at (bytes_of c.bytes) (p.handle + p.at + 8) → word_at (bytes_of c.bytes) (p.handle + p.at + 8) < word_at
-    (bytes_of c.bytes) (p.handle + p.at + 16)
+    {bytes : List ℕ} → IsContainer c.bytes p each len t bytes
+    → k ≡ word_at (bytes_of c.bytes) (place_at p + 8) → i ≤ word_at (bytes_of c.bytes) (p.handle + p.at + 8)
+    → word_at (bytes_of c.bytes) (p.handle + p.at + 8) < word_at (bytes_of c.bytes) (p.handle + p.at + 16)
     → link_at (bytes_of c.bytes) (place_at p) ≡ Some g → Fitting (live_of c.bytes) each i (each * (k - i)) g
 insert-fits c {each} {len} k i {t} s e inside space link =
     let is = e ∙ s.words.len_word in let below : i ≤ len = omega (arith, inside, s.words.len_word) in

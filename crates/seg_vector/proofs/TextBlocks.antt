@@ -5,23 +5,19 @@ use W.{in_use-all, take-append-drop, length-take, length-drop, ◌≡◌, ◌≢
 use W.{Some, None, List, ◌∷◌, ◌++◌, ◌==◌, append_assoc, length, arith, inl, inr, refl, zero, suc, ◌-◌, ◌*◌, ◌<◌, take}
 use W.{drop, Bool, true, false, cond, ◌⊎◌, IsTrue, find, option_to_list, option_map, slice_get, IfSome, AllByRecursion}
 use W.{list_any, flat_map-append, take-take, slice_get_within, or_left, or_right, Memory, WindowState, bytes_of}
-use W.{word_at}
-use W.{SameBytesExcept, HasBytesAt, current, Storage, link_at, target_of, inserted, without_all, ExchangesBlocks}
-use W.{SameBlockExcept, Extent}
-use W.{LiveSet, handle, end_of, IsHeap, extent_at, live_of, SameBlock, ChangesBytes, has_room, is_live_in, payload_at}
-use W.{Deallocates, BackingArray, has_backing, no_backing, IsFound, IsNone, Rising, SameSpread, all-found-in}
-use W.{all-in-use}
-use W.{found-inserted, found-none, found-room, live-rises, middle-first, rising-others, roomy, spread-behind}
-use W.{all_of-inserted, but-apart, exchanged-live, found-without, inserted-append, laid-heap, without-inserted, kept}
-use W.{kept-found, word-same, block_payload, room_block, exchange-next, exchange-released, exchange-same, spread-refl}
-use W.{IsSound, live-sound, HasBytesAt-same, SameBytesExcept-word, read-part, SameBytesExcept-link, Place, place_at}
-use W.{IsContainer, IsServed}
-use W.{FreesBlocks, KeepsGaps, IsSwapped, AreHeldElements, IsHeldElement, SameElements, IsSameElement, AreEvenLinks}
-use W.{IsHeldText, IsTexts}
-use W.{text_blocks, ReplacesTexts, IsTextElement, AreInArray, IsOwnedText, OwnedText, AreTextLinks, []}
+use W.{word_at, SameBytesExcept, HasBytesAt, current, Storage, link_at, target_of, inserted, without_all}
+use W.{ExchangesBlocks, SameBlockExcept, Extent, LiveSet, handle, end_of, IsHeap, extent_at, live_of, SameBlock}
+use W.{ChangesBytes, has_room, is_live_in, payload_at, Deallocates, BackingArray, has_backing, no_backing, IsFound}
+use W.{IsNone, Rising, SameSpread, all-found-in, all-in-use, found-inserted, found-none, found-room, live-rises}
+use W.{middle-first, rising-others, roomy, spread-behind, all_of-inserted, but-apart, exchanged-live, found-without}
+use W.{inserted-append, laid-heap, without-inserted, kept, kept-found, word-same, block_payload, room_block}
+use W.{exchange-next, exchange-released, exchange-same, spread-refl, IsSound, live-sound, HasBytesAt-same}
+use W.{SameBytesExcept-word, read-part, SameBytesExcept-link, Place, place_at, IsContainer, IsServed, FreesBlocks}
+use W.{KeepsGaps, IsSwapped, AreHeldElements, IsHeldElement, SameElements, IsSameElement, AreEvenLinks, IsHeldText}
+use W.{IsTexts, text_blocks, ReplacesTexts, IsTextElement, AreInArray, IsOwnedText, OwnedText, AreTextLinks, []}
 use Rattle.seg_vector.proofs.Runs.{AreHeadWords, IsHead, IsRun, changed-both, none-some, same-some, came-found}
-use Rattle.seg_vector.proofs.Runs.{room-head, own-facts, facts-own}
-use Rattle.seg_vector.proofs.{Runs.serves-full, Runs.table, Runs.table-full, Storage.live-if, Typed.has-element}
+use Rattle.seg_vector.proofs.Runs.{room-head, own-facts, facts-own, serves-full, table, table-full}
+use Rattle.seg_vector.proofs.{Storage.live-if, Typed.has-element}
 use Rattle.best_fit.specs.Extents.{is_proper}
 
 -- ---- the blocks of a vector of texts, its array and those of its texts, among the other blocks of a heap
@@ -225,8 +221,7 @@ own-parts c {p} a m b {t} s =
 -- ---- the vector afterwards: the change that all steps come to
 
 pub texts-between : {old new : WindowState} {p : Place} {ps : List OwnedText} (qs a m m' b : List OwnedText)
-    {t u : BackingArray}
-    {gone come : List Extent} → ps ≡ a ++ (m ++ b) → qs ≡ a ++ (m' ++ b)
+    {t u : BackingArray} {gone come : List Extent} → ps ≡ a ++ (m ++ b) → qs ≡ a ++ (m' ++ b)
     → gone ≡ option_to_list t.extent ++ text_blocks m → come ≡ option_to_list u.extent ++ text_blocks m'
     → IsTexts old.bytes p ps t → ExchangesBlocks current old new (place_at p) 24 gone come
     → IsTrue (has_backing Storage 16 u) → length qs ≤ u.capacity → AreHeadWords (bytes_of new.bytes) (place_at p)
@@ -477,8 +472,7 @@ releases-next {old} {now} {new} i ps {q} e x y =
 
 -- so far none of them has a block, and nothing has changed
 pub released-nothing-next : {old now new : WindowState} (ps : List OwnedText) (i : ℕ) {q : OwnedText}
-    → slice_get ps i ≡ Some q
-    → text_blocks ps ≡ [] → now ≡ old → (option_to_list q.extent ≡ [] → new ≡ now) → new ≡ old
+    → slice_get ps i ≡ Some q → text_blocks ps ≡ [] → now ≡ old → (option_to_list q.extent ≡ [] → new ≡ now) → new ≡ old
 released-nothing-next ps i {q} e none so_far next =
     let all = subst (AllByRecursion (λ (x : Extent). ⊥)) (sym none) tt in
     next (nothing-of q.extent (one-of (λ (x : Extent). ⊥) ps i all e)) ∙ so_far
@@ -537,8 +531,7 @@ links-edited {m} {m'} g {at} {to} {n} ps i j zs f h a b c l front mid back =
 -- ---- it begins
 
 pub run-begin : (c : WindowState) {p : Place} {ps : List OwnedText} (a m b : List OwnedText) {t : BackingArray}
-    → ps ≡ a ++ (m ++ b)
-    → IsTexts c.bytes p ps t
+    → ps ≡ a ++ (m ++ b) → IsTexts c.bytes p ps t
     → IsRun c c p (option_to_list t.extent ++ text_blocks m) (option_to_list t.extent ++ text_blocks m) (length ps) t
 run-begin c {p} a m b {t} e s =
     let v : IsTexts c.bytes p (a ++ (m ++ b)) t = subst (λ (xs : List OwnedText). IsTexts c.bytes p xs t) e s in
@@ -608,9 +601,8 @@ array-left {old} {new} {array} {n} {gone} {come} s x none =
 -- ---- elements of the array of a vector of texts, put elsewhere one after another
 
 -- an element beside what is written
-pub element-beside : {m m' : Memory} {from n : ℕ} (at : ℕ) → SameBytesExcept m m' from n
-    → (at + 16 ≤ from) ⊎ (from + n ≤ at)
-    → IsSameElement m m' at at
+pub element-beside : {m m' : Memory} {from n : ℕ} (at : ℕ)
+    → SameBytesExcept m m' from n → (at + 16 ≤ from) ⊎ (from + n ≤ at) → IsSameElement m m' at at
 element-beside {m} {m'} {from} {n} at s (inl f) = record {
   link = SameBytesExcept-link m m' from n at s (inl (omega arith));
   len_word = SameBytesExcept-word m m' from n (at + 8) s (inl (omega arith));

@@ -1,32 +1,29 @@
 -- A vector of texts without texts, with one less or another one, or cut; and a text in a block of its own.
+use Rattle.seg_vector.proofs.Words as W
 use W.{◌≡◌, bytes_of, target_of, ChangesBytes, SameBlock, laid-heap, word-same, IsSwapped, AreDistinct, IsStorage}
-use W.{OwnedText}
-use W.{◌≢◌, refl, sym, Some, None, List, ◌++◌, arith, take, drop, zero, SameBytes, read, BackingArray, kept, place}
-use W.{Place, IsContainer}
-use W.{ap, ◌∙◌, ℕ, ◌+◌, ◌*◌, ◌∷◌, inl, inr, ◌⊎◌, suc, ◌-◌, ◌<◌, ◌≤◌, ◌%◌, ⊤, WindowState, HasBytesAt, [], subst}
-use W.{option_map, slice_set}
-use W.{SameSpread, found-room, last-first, kept-found, IsStorageBlock, ReplacesTexts, AreInArray, Option}
-use W.{take-append-drop}
-use W.{slice_get_within, shorter-IsShorter, still_allocated, SameBlock-trans, AreHeldElements, append-nil, slice_get}
-use W.{length-take, AllocatesOk, spread-refl, FreesStorageOk, text_blocks, placed_text, IsOwnedText, length, IsTrue}
-use W.{remove, IfSome, eq-eqb, ne_eqb, Memory, Extent, handle, end_of, IsHeap, IsNone, shorter, IsTexts, length-append}
-use W.{option_to_list, AllByRecursion, allocated-room, exchange-taken, SameElements, nil_from_length, if◌then◌else◌}
-use W.{append_assoc, length-drop, exchange-next, place-serves, IsHeldElement, PlacesTextOk, AreTextLinks, word_at}
-use W.{FreesBlocks, KeepsGaps, ExchangesBlocks, exchanged-live, gaps-payload, gaps-then, gaps-trans, current, link_at}
-use W.{LiveSet, live_of, no_backing, has_backing, IsFound, Storage, ShrinksStorageOk, place_at, IsServed}
+use W.{OwnedText, ◌≢◌, refl, sym, Some, None, List, ◌++◌, arith, take, drop, zero, SameBytes, read, BackingArray, kept}
+use W.{place, Place, IsContainer, ap, ◌∙◌, ℕ, ◌+◌, ◌*◌, ◌∷◌, inl, inr, ◌⊎◌, suc, ◌-◌, ◌<◌, ◌≤◌, ◌%◌, ⊤, WindowState}
+use W.{HasBytesAt, [], subst, option_map, slice_set, SameSpread, found-room, last-first, kept-found, IsStorageBlock}
+use W.{ReplacesTexts, AreInArray, Option, take-append-drop, slice_get_within, shorter-IsShorter, still_allocated}
+use W.{SameBlock-trans, AreHeldElements, append-nil, slice_get, length-take, AllocatesOk, spread-refl, FreesStorageOk}
+use W.{text_blocks, placed_text, IsOwnedText, length, IsTrue, remove, IfSome, eq-eqb, ne_eqb, Memory, Extent, handle}
+use W.{end_of, IsHeap, IsNone, shorter, IsTexts, length-append, option_to_list, AllByRecursion, allocated-room}
+use W.{exchange-taken, SameElements, nil_from_length, if◌then◌else◌, append_assoc, length-drop, exchange-next}
+use W.{place-serves, IsHeldElement, PlacesTextOk, AreTextLinks, word_at, FreesBlocks, KeepsGaps, ExchangesBlocks}
+use W.{exchanged-live, gaps-payload, gaps-then, gaps-trans, current, link_at, LiveSet, live_of, no_backing, has_backing}
+use W.{IsFound, Storage, ShrinksStorageOk, place_at, IsServed}
 use Rattle.seg_vector.proofs.Runs.{AreHeadWords, IsHead, IsRun, beside-head, block-written, head-kept, head-room}
 use Rattle.seg_vector.proofs.Runs.{head-wider, len-written, none-some, room-head, run-found, run-headed, run-swapped}
 use Rattle.seg_vector.proofs.Runs.{head-gaps, same-some, table, table-full, words-kept, all-as, came-found, came-others}
-use Rattle.seg_vector.proofs.Runs.{all-kept}
+use Rattle.seg_vector.proofs.Runs.{all-kept, all-found-kept, none-of-none, spread-nil}
 use Rattle.seg_vector.proofs.TextBlocks.{none-stands, IsArrayLeft, all-split, array-left, drop-at, element-beside}
 use Rattle.seg_vector.proofs.TextBlocks.{element-in, element-trans, even-block, found-texts, held-element, links-edited}
 use Rattle.seg_vector.proofs.TextBlocks.{links-moved, no-array, none-of, of-none, one-of, run-begin, swapped-none}
 use Rattle.seg_vector.proofs.TextBlocks.{behind-array, fresh-none, no-extent, same-extent, texts-between, held-texts}
 use Rattle.seg_vector.proofs.TextBlocks.{served-texts, owned-same, same-loose}
-use Rattle.seg_vector.proofs.{Runs.all-found-kept, Runs.none-of-none, Runs.spread-nil, Fewer.cut-some, Typed.set-pieces}
+use Rattle.seg_vector.proofs.{Fewer.cut-some, Typed.set-pieces}
 use Rattle.raw_region.proofs.Bytes.{length-read}
 use Rattle.best_fit.specs.Table.{shrunk_backing}
-use Rattle.seg_vector.proofs.Words as W
 
 -- ---- the elements of the array
 
@@ -59,17 +56,15 @@ no-links m c None = refl
 no-links m c (Some x) = tt
 
 pub cleared : {old mid new : WindowState} {p : Place} {ps : List OwnedText} {t : BackingArray}
-    → IsTexts old.bytes p ps t
-    → FreesBlocks old mid (text_blocks ps) → ChangesBytes current mid new (p.handle + (p.at + 8)) 8
-    → word_at (bytes_of new.bytes) (p.handle + (p.at + 8)) ≡ 0
+    → IsTexts old.bytes p ps t → FreesBlocks old mid (text_blocks ps)
+    → ChangesBytes current mid new (p.handle + (p.at + 8)) 8 → word_at (bytes_of new.bytes) (p.handle + (p.at + 8)) ≡ 0
     → ReplacesTexts old new p (option_to_list t.extent ++ text_blocks ps) (option_to_list t.extent) [] t
 cleared {old} {mid} {new} {p} {ps} {t} s r c word =
     let x = r.change in let wide = head-wider p c (omega arith) (omega arith) in let arr = option_to_list t.extent
     in let tb = text_blocks ps in
     let r0 = run-begin old [] ps [] (sym (append-nil ps)) s in
     let r1 = run-swapped arr (last-first arr tb) r0 x (none-of p.handle tb s.apart) in
-    let r2 = run-headed r1 wide
-    (len-written 0 (omega arith) c.rest word r1.words) in
+    let r2 = run-headed r1 wide (len-written 0 (omega arith) c.rest word r1.words) in
     texts-between [] [] ps [] [] (sym (append-nil ps)) refl refl (sym (append-nil arr)) s r2.change s.table
     (omega arith) r2.words (no-links (bytes_of new.bytes) t.capacity t.extent) tt tt (λ e. subst (λ (c : WindowState).
     KeepsGaps c new) (r.same (behind-array t.extent (e ∙ sym (append-nil arr)))) (head-gaps p (head-room r1.head) wide))
@@ -441,10 +436,9 @@ others-front (Some y) xs d = (d.0, tt)
 -- ---- the vector afterwards
 
 pub text-set : {s0 s1 mid s3 : WindowState} {p : Place} {ps : List OwnedText} {c len g : ℕ} {o : Option Extent}
-    {q : OwnedText}
-    {bytes : List ℕ} {block : Option ℕ} (i : ℕ) → IsTexts s0.bytes p ps (table c o) → slice_get ps i ≡ Some q
-    → (pl : PlacesTextOk s0 s1 bytes block) → link_at (bytes_of s1.bytes) (place_at p) ≡ Some g
-    → FreesBlocks s1 mid (option_to_list q.extent) → ChangesBytes current mid s3 (g + 16 * i) 16
+    {q : OwnedText} {bytes : List ℕ} {block : Option ℕ} (i : ℕ) → IsTexts s0.bytes p ps (table c o)
+    → slice_get ps i ≡ Some q → (pl : PlacesTextOk s0 s1 bytes block) → link_at (bytes_of s1.bytes) (place_at p)
+    ≡ Some g → FreesBlocks s1 mid (option_to_list q.extent) → ChangesBytes current mid s3 (g + 16 * i) 16
     → link_at (bytes_of s3.bytes) (g + 16 * i) ≡ block → word_at (bytes_of s3.bytes) (g + 16 * i + 8) ≡ len
     → len ≡ length bytes → ReplacesTexts s0 s3 p (option_to_list o ++ option_to_list q.extent)
     (option_to_list o ++ option_to_list pl.text.extent) (slice_set ps i pl.text) (table c o)
@@ -507,7 +501,6 @@ text-set {s0} {s1} {mid} {s3} {p} {ps} {c} {len} {o = Some x} {q} {block = block
     let fresh = subst (λ (xs : List Extent). AllByRecursion (λ (y : Extent). IsNone (handle y) xs) ez) same from_text in
     let none = fresh-none ez fresh in let is = r.same (same ∙ none) ∙ pl.nothing (no-extent none) in
     subst (λ (c : WindowState). KeepsGaps c s3) is (gaps-payload mid s3 (handle x) (16 * c) (handle x + 16 * i) 16 c3
-    (found-room (live_of mid.bytes) (handle x) (16 * c) x found2.1.0 full) (omega arith)
-    (omega (arith, below, fits))))
+    (found-room (live_of mid.bytes) (handle x) (16 * c) x found2.1.0 full) (omega arith) (omega (arith, below, fits))))
 
 -- ---- the element is written once the old text is released

@@ -1,16 +1,15 @@
 -- The array of a vector of texts with more places, one text more in it, and what was asked for given up.
+use Rattle.seg_vector.proofs.Words as W
 use W.{◌≡◌, ◌≢◌, refl, sym, ap, subst, ◌∙◌, ℕ, ◌+◌, ◌*◌, ◌<◌, ◌≤◌, Option, Some, None, List, ◌∷◌, ◌++◌, arith, length}
 use W.{inl, inr, ◌⊎◌, ◌%◌, append-nil, IsTrue, Result, Ok, Err, MatchResult, option_map, option_to_list, IfSome, nat_lt}
 use W.{AllByRecursion, and_from, lt-ltb, WindowState, bytes_of, current, Storage, link_at, CannotWiden, WidensBlock}
-use W.{exchanged}
-use W.{Extent, LiveSet, handle, end_of, place, Refusal, AllocatesOk, ChangesBytes, IsHeap, Deallocates, ResizesBlock}
-use W.{SameBlock, extent_at, live_of, has_room, BackingArray, serves, has_backing, IsFound, IsNone, SameBlock-trans}
-use W.{exchange-order, exchange-released, exchange-resized, exchange-taken, found-none, kept, kept-found, last-first}
-use W.{live-rises, middle-first, place-serves, regrow-serves, spread-refl, found-room, two-apart, laid-heap, Place}
-use W.{place_at, SameElements, IsAdopted, ReservesArray, LacksFit, IsSwapped, taken, widened, AreEvenLinks}
-use W.{IsArrayReserved}
-use W.{gaps-refl, TakesStorage, AreDistinct, IsTexts, ReplacesTexts, AreTextLinks, OwnedText, [], SetsStorage}
-use W.{blocks-trans}
+use W.{exchanged, Extent, LiveSet, handle, end_of, place, Refusal, AllocatesOk, ChangesBytes, IsHeap, Deallocates}
+use W.{ResizesBlock, SameBlock, extent_at, live_of, has_room, BackingArray, serves, has_backing, IsFound, IsNone}
+use W.{SameBlock-trans, exchange-order, exchange-released, exchange-resized, exchange-taken, found-none, kept}
+use W.{kept-found, last-first, live-rises, middle-first, place-serves, regrow-serves, spread-refl, found-room}
+use W.{two-apart, laid-heap, Place, place_at, SameElements, IsAdopted, ReservesArray, LacksFit, IsSwapped, taken}
+use W.{widened, AreEvenLinks, IsArrayReserved, gaps-refl, TakesStorage, AreDistinct, IsTexts, ReplacesTexts}
+use W.{AreTextLinks, OwnedText, [], SetsStorage, blocks-trans}
 use Rattle.seg_vector.proofs.Runs.{AreHeadWords, IsHead, IsRun, beside-head, block-written, none-some, run-found}
 use Rattle.seg_vector.proofs.Runs.{run-headed, run-swapped, same-some, serves-full, table, all-kept, stands-none-of}
 use Rattle.seg_vector.proofs.Runs.{head-gaps, stands-run, table-full}
@@ -20,7 +19,6 @@ use Rattle.seg_vector.proofs.Storage.{grown-more, grown-same, regrow-new, storag
 use Rattle.seg_vector.proofs.TextCalls.{held-elements, run-others, texts-stand}
 use Rattle.best_fit.specs.Fit.{regrow}
 use Rattle.seg_vector.specs.Vector.{grown_backing}
-use Rattle.seg_vector.proofs.Words as W
 
 -- ---- it is asked for
 
@@ -46,15 +44,13 @@ array-of {b} {o = Some x} s link e =
     let g_is = same-some (sym s.words.link ∙ link) in sym s.own.0 ∙ ap (λ k. extent_at (live_of b) k) g_is ∙ e
 
 pub asked-wide : {old new : WindowState} {p : Place} {ps : List OwnedText} {t : BackingArray} {g n : ℕ}
-    → IsTexts old.bytes p ps t
-    → link_at (bytes_of old.bytes) (place_at p) ≡ Some g → WidensBlock current old new g n
-    → ReservesArray old new t.extent n g
+    → IsTexts old.bytes p ps t → link_at (bytes_of old.bytes) (place_at p) ≡ Some g
+    → WidensBlock current old new g n → ReservesArray old new t.extent n g
 asked-wide s link w = widened w (array-of s link w.found)
 
 pub asked-beside : {old mid : WindowState} (new : WindowState) {p : Place} {ps : List OwnedText} {t : BackingArray}
-    {g n : ℕ}
-    (r : Result ℕ Refusal) → IsTexts old.bytes p ps t → link_at (bytes_of old.bytes) (place_at p) ≡ Some g
-    → CannotWiden old mid g n → TakesStorage mid new n r
+    {g n : ℕ} (r : Result ℕ Refusal) → IsTexts old.bytes p ps t
+    → link_at (bytes_of old.bytes) (place_at p) ≡ Some g → CannotWiden old mid g n → TakesStorage mid new n r
     → MatchResult r (ReservesArray old new t.extent n) (LacksFit old new (regrow (live_of old.bytes) t.extent n))
 asked-beside {old} new {t} {n} r s link w a = asked-new old new t.extent n r (ap (λ o. regrow (live_of old.bytes) o n)
     (array-of s link w.found) ∙ w.regrown) (subst (λ (k : WindowState). TakesStorage k new n r) w.same a)
@@ -72,16 +68,14 @@ not-grown l n t f e = grown-more l 16 n t f ∙ ap (option_map (λ x. table n (S
 
 -- ---- what stays
 
-pub all-beside-head : {a b : WindowState} {p : Place} (xs : List Extent) → IsHeap current a.bytes → IsHead a p
-    → ChangesBytes current a b (place_at p) 24 → AllByRecursion (IsFound (live_of a.bytes).extents) xs
-    → IsNone p.handle xs
-    → AllByRecursion (SameBlock (bytes_of a.bytes) (bytes_of b.bytes)) xs
+pub all-beside-head : {a b : WindowState} {p : Place} (xs : List Extent) → IsHeap current a.bytes
+    → IsHead a p → ChangesBytes current a b (place_at p) 24 → AllByRecursion (IsFound (live_of a.bytes).extents) xs
+    → IsNone p.handle xs → AllByRecursion (SameBlock (bytes_of a.bytes) (bytes_of b.bytes)) xs
 all-beside-head [] heap w c f n = tt
 all-beside-head (x ∷ xs) heap w c f n = (beside-head (handle x) heap w c f.0 n.0, all-beside-head xs heap w c f.1 n.1)
 
 pub new-other : {first mid : WindowState} {n g : ℕ} (h : ℕ) {x : Extent}
-    → (a : AllocatesOk current first mid n Storage g)
-    → extent_at (live_of first.bytes) h ≡ Some x → h ≢ handle a.extent
+    → (a : AllocatesOk current first mid n Storage g) → extent_at (live_of first.bytes) h ≡ Some x → h ≢ handle a.extent
 new-other {first} h {x} a e =
     let l = live_of first.bytes in
     (found-none h x (a.extent ∷ []) l.extents (live-rises (exchanged l [] (a.extent ∷ [])) a.live.proper) e).0
@@ -150,9 +144,8 @@ first-place {first} {mid} {now} {ps} {g} n s a since =
     }
 
 adopt-place : {first old new : WindowState} {p : Place} {ps : List OwnedText} {t : BackingArray} {g n : ℕ}
-    {loose : List Extent}
-    → IsTexts first.bytes p ps t → t.capacity < n → IsInPlace first old p ps t g n loose
-    → SetsStorage old new p g n → IsAdopted first old new p ps t g n loose
+    {loose : List Extent} → IsTexts first.bytes p ps t → t.capacity < n
+    → IsInPlace first old p ps t g n loose → SetsStorage old new p g n → IsAdopted first old new p ps t g n loose
 adopt-place {first} {old} {new} {p} {ps} {t} {g} {n} {loose} s more q d =
     let y = q.array in let r = q.run in let fits = s.fits in let c = d.change in
     let words : AreHeadWords (bytes_of new.bytes) (place_at p) (length ps) (table n (Some y)) =
@@ -180,10 +173,9 @@ adopt-place {first} {old} {new} {p} {ps} {t} {g} {n} {loose} s more q d =
 
 -- without another array
 pub adopt-none : {first mid old new : WindowState} {p : Place} {ps : List OwnedText} {c g : ℕ} (n : ℕ)
-    {o : Option Extent}
-    {loose : List Extent} → IsTexts first.bytes p ps (table c o) → c < n → ReservesArray first mid o (16 * n) g
-    → IsSwapped mid old [] loose → link_at (bytes_of first.bytes) (place_at p) ≡ None → SetsStorage old new p g n
-    → IsAdopted first old new p ps (table c o) g n loose
+    {o : Option Extent} {loose : List Extent} → IsTexts first.bytes p ps (table c o) → c < n
+    → ReservesArray first mid o (16 * n) g → IsSwapped mid old [] loose → link_at (bytes_of first.bytes) (place_at p)
+    ≡ None → SetsStorage old new p g n → IsAdopted first old new p ps (table c o) g n loose
 adopt-none n {o = Some x} s more a since was d = none-some was s.words.link
 adopt-none n {o = None} s more (widened w is) since was d = absurd (cc)
 adopt-none n {o = None} s more (taken a e) since was d = adopt-place s more (first-place n s a since) d
@@ -297,9 +289,8 @@ adopt-beside {first} {old} {a1} {a2} {new} {p} {ps} {c} {g} n {x} {loose} s more
 
 pub adopt-other : {first mid old a1 a2 new : WindowState} {p : Place} {ps : List OwnedText} {c g h : ℕ} (n : ℕ)
     {o : Option Extent} {loose : List Extent} → IsTexts first.bytes p ps (table c o) → c < n
-    → ReservesArray first mid o (16 * n) g → IsSwapped mid old [] loose
-    → link_at (bytes_of first.bytes) (place_at p) ≡ Some h → h ≢ g
-    → ChangesBytes current old a1 (g + 0) (16 * length ps)
+    → ReservesArray first mid o (16 * n) g → IsSwapped mid old [] loose → link_at (bytes_of first.bytes) (place_at p)
+    ≡ Some h → h ≢ g → ChangesBytes current old a1 (g + 0) (16 * length ps)
     → SameElements (bytes_of old.bytes) (bytes_of a1.bytes) (h + 0) (g + 0) (length ps)
     → SetsStorage a1 a2 p g n → Deallocates current a2 new h → IsAdopted first old new p ps (table c o) g n loose
 adopt-other n {o = None} s more a since was differ c1 carried d rel = none-some s.words.link was
@@ -324,8 +315,7 @@ pub record IsReadyRun (first now : WindowState) (p : Place) (ps : List OwnedText
   pub big : 16 * n + 16 ≤ array.len
 
 ready-place : {first now : WindowState} {p : Place} {ps : List OwnedText} {t : BackingArray} {g n : ℕ}
-    {loose : List Extent}
-    → IsInPlace first now p ps t g n loose → IsReadyRun first now p ps t g n
+    {loose : List Extent} → IsInPlace first now p ps t g n loose → IsReadyRun first now p ps t g n
 ready-place {now} {n} {loose} q = record {
   come = loose ++ (q.array ∷ []);
   array = q.array;
@@ -442,10 +432,9 @@ pub new-table : (n : ℕ) (y : Extent) → 0 < n → IsTrue (serves y Storage (1
 new-table n y f s = and_from (nat_lt 0 n) (serves y Storage (16 * n)) (lt-ltb 0 n f) s
 
 pub reserved : {first mid new : WindowState} {p : Place} {ps : List OwnedText} {t : BackingArray} {g n : ℕ}
-    → IsTexts first.bytes p ps
-    t → t.capacity < n → IsAdopted first mid new p ps t g n []
-    → (w : BackingArray) × (grown_backing (live_of first.bytes) 16 n t
-    ≡ Some w) × ReplacesTexts first new p (option_to_list t.extent) (option_to_list w.extent) ps w
+    → IsTexts first.bytes p ps t → t.capacity < n
+    → IsAdopted first mid new p ps t g n [] → (w : BackingArray) × (grown_backing (live_of first.bytes) 16 n t ≡ Some w)
+    × ReplacesTexts first new p (option_to_list t.extent) (option_to_list w.extent) ps w
 reserved {new} {p} {ps} {t} {n} s more a =
     let u = table n (Some a.array) in let arr = option_to_list t.extent in
     let words : AreHeadWords (bytes_of new.bytes) (place_at p) (length ps) u =
@@ -458,8 +447,7 @@ reserved {new} {p} {ps} {t} {n} s more a =
     )
 
 pub reserved-same : (c : WindowState) {p : Place} {ps : List OwnedText} {t : BackingArray} (n : ℕ)
-    → IsTexts c.bytes p ps t
-    → n ≤ t.capacity → (w : BackingArray) × (grown_backing (live_of c.bytes) 16 n t ≡ Some w)
+    → IsTexts c.bytes p ps t → n ≤ t.capacity → (w : BackingArray) × (grown_backing (live_of c.bytes) 16 n t ≡ Some w)
     × ReplacesTexts c c p (option_to_list t.extent) (option_to_list w.extent) ps w
 reserved-same c {p} {ps} {t} n s f =
     let same : ReplacesTexts c c p (option_to_list t.extent) (option_to_list t.extent) ps t =
@@ -467,6 +455,5 @@ reserved-same c {p} {ps} {t} n s f =
     (t, grown-same (live_of c.bytes) 16 n t f, same)
 
 pub too-many-texts : (c : WindowState) {p : Place} {ps : List OwnedText} {t : BackingArray} (n : ℕ)
-    → IsTexts c.bytes p ps t
-    → 1073741824 < n → grown_backing (live_of c.bytes) 16 n t ≡ None
+    → IsTexts c.bytes p ps t → 1073741824 < n → grown_backing (live_of c.bytes) 16 n t ≡ None
 too-many-texts c n s f = (too-many c n (texts-stand s) (omega arith) f).none

@@ -1,20 +1,16 @@
 -- A text put into a vector of texts, with a place for it or in an array with more places; and an array given up.
+use Rattle.seg_vector.proofs.Words as W
+use Rattle.best_fit.specs.Fit as fit
 use W.{◌≡◌, length-take, ShrinksInPlace, spread-refl, LacksFit, AreEvenLinks, RefusesPut, PlacesTextOk, AreTextLinks}
 use W.{◌≢◌, sym, None, List, arith, take, drop, Bool, true, false, handle, others, IsHeap, BackingArray, IsNone, Place}
-use W.{taken}
-use W.{refl, last-first, live-rises, found-room, taken-back, keeps-refl, IsPutAsked, IsPutReady, ReplacesTexts}
-use W.{with_array}
-use W.{ap, word_at, current, link_at, LiveSet, resized, Refusal, live_of, IsFound, Differs, ReservesArray, PutsInto}
-use W.{one_more}
-use W.{subst, if◌then◌else◌, length-append, exchange-taken, widened-back, rising-insert, RefusesFirstBlock}
-use W.{exchanged-live}
-use W.{◌∙◌, ℕ, ◌+◌, ◌*◌, ◌<◌, ◌≤◌, ◌∷◌, inl, inr, ◌%◌, ◌-◌, max, Ok, Err, WindowState, []}
-use W.{Option, eqb-true, bytes_of, exchanged, ChangesBytes, has_room, laid-heap, place_at, IsAdopted, IsSwapped}
-use W.{OwnedText}
-use W.{ExchangesBlocks, KeepsGaps, gaps-payload, gaps-refl, gaps-then, gaps-trans, Some, length, IsTrue, Result, IfSome}
-use W.{nat_lt, insert, lt-ltb, le-ltb, Extent, widened, room_of, IsTexts, NoSpace}
-use W.{append-nil, option_map, KeepsLiveSet, Deallocates, is_live_in, lay_out_one, others-past, InsertsTextOk}
-use W.{placed_text}
+use W.{taken, refl, last-first, live-rises, found-room, taken-back, keeps-refl, IsPutAsked, IsPutReady, ReplacesTexts}
+use W.{with_array, ap, word_at, current, link_at, LiveSet, resized, Refusal, live_of, IsFound, Differs, ReservesArray}
+use W.{PutsInto, one_more, subst, if◌then◌else◌, length-append, exchange-taken, widened-back, rising-insert}
+use W.{RefusesFirstBlock, exchanged-live, ◌∙◌, ℕ, ◌+◌, ◌*◌, ◌<◌, ◌≤◌, ◌∷◌, inl, inr, ◌%◌, ◌-◌, max, Ok, Err}
+use W.{WindowState, [], Option, eqb-true, bytes_of, exchanged, ChangesBytes, has_room, laid-heap, place_at, IsAdopted}
+use W.{IsSwapped, OwnedText, ExchangesBlocks, KeepsGaps, gaps-payload, gaps-refl, gaps-then, gaps-trans, Some, length}
+use W.{IsTrue, Result, IfSome, nat_lt, insert, lt-ltb, le-ltb, Extent, widened, room_of, IsTexts, NoSpace, append-nil}
+use W.{option_map, KeepsLiveSet, Deallocates, is_live_in, lay_out_one, others-past, InsertsTextOk, placed_text}
 use W.{option_to_list, AllByRecursion, length-drop, take-append-drop, exchange-order, SameElements, capacity_for_one}
 use Rattle.seg_vector.proofs.Runs.{AreHeadWords, IsHead, IsRun, beside-head, block-written, head-kept, head-wider}
 use Rattle.seg_vector.proofs.Runs.{len-written, none-some, own-facts, run-found, run-headed, run-swapped, room-head}
@@ -23,13 +19,11 @@ use Rattle.seg_vector.proofs.TextBlocks.{element-beside, element-in, element-tra
 use Rattle.seg_vector.proofs.TextBlocks.{behind-array, no-extent, links-at, links-edited, one-of, run-begin}
 use Rattle.seg_vector.proofs.TextBlocks.{texts-between, same-loose}
 use Rattle.seg_vector.proofs.TextGrowth.{grown-to, not-grown, all-beside-head, new-other, IsReadyRun, ready-in}
+use Rattle.seg_vector.proofs.{TextGrowth.asked-alone, TextGrowth.new-table, Typed.has-element}
 use Rattle.seg_vector.proofs.TextCalls.{loose-kept, run-others, texts-stand, texts-still}
 use Rattle.seg_vector.proofs.Storage.{capacity-bytes, room-small, grown-same, same-storage}
-use Rattle.seg_vector.proofs.{TextGrowth.asked-alone, TextGrowth.new-table, Typed.has-element}
 use Rattle.best_fit.specs.Fit.{regrow}
 use Rattle.seg_vector.specs.Vector.{grown_backing}
-use Rattle.seg_vector.proofs.Words as W
-use Rattle.best_fit.specs.Fit as fit
 
 -- ---- before it is put
 
@@ -38,8 +32,7 @@ pub none-array : (b : WindowState) {p : Place} {ps : List OwnedText} {t : Backin
 none-array b {p} {t} s = (own-facts (live_of b.bytes) p.handle t.extent s.own).2
 
 pub put-run : {first now : WindowState} {p : Place} {ps : List OwnedText} {t : BackingArray} {y : Extent} {m : ℕ}
-    {z : OwnedText}
-    → IsPutReady first now p ps t y m z
+    {z : OwnedText} → IsPutReady first now p ps t y m z
     → IsRun first now p (option_to_list t.extent) (y ∷ option_to_list z.extent) (length ps) (table m (Some y))
 put-run {first} {t} {y} {z} r = record {
   change = r.change;
@@ -49,8 +42,7 @@ put-run {first} {t} {y} {z} r = record {
 }
 
 pub put-big : {first now : WindowState} {p : Place} {ps : List OwnedText} {t : BackingArray} {y : Extent} {m : ℕ}
-    {z : OwnedText}
-    → IsPutReady first now p ps t y m z → 16 * m + 16 ≤ y.len
+    {z : OwnedText} → IsPutReady first now p ps t y m z → 16 * m + 16 ≤ y.len
 put-big {y} {m} r = table-full 16 m y r.table
 
 -- ---- the text
@@ -64,21 +56,19 @@ flip-each y (x ∷ xs) d = (((λ f. d.0 (sym f)), tt), flip-each y xs d.1)
 
 -- with its own blocks in use
 same-blocks : {old mid : WindowState} {p : Place} {ps : List OwnedText} {t : BackingArray} {from n : ℕ}
-    {come : List Extent}
-    → IsTexts old.bytes p ps t → option_to_list t.extent ≡ come
+    {come : List Extent} → IsTexts old.bytes p ps t → option_to_list t.extent ≡ come
     → ExchangesBlocks current old mid from n (option_to_list t.extent) come → live_of mid.bytes ≡ live_of old.bytes
 same-blocks {old} {mid} {t} {from} {n} s e x = same-storage (texts-stand s)
     (subst (ExchangesBlocks current old mid from n (option_to_list t.extent)) (sym e) x)
 
 pub put-by : {first now b1 b2 new : WindowState} {p : Place} {ps : List OwnedText} {t : BackingArray} {y : Extent}
-    {m : ℕ}
-    {z : OwnedText} (i : ℕ) {g : ℕ} (n len : ℕ) (block : Option ℕ) → IsPutReady first now p ps t y m z → i ≤ length ps
+    {m : ℕ} {z : OwnedText} (i : ℕ) {g : ℕ} (n len : ℕ) (block : Option ℕ)
+    → IsPutReady first now p ps t y m z → i ≤ length ps
     → block ≡ option_map handle z.extent → len ≡ length z.bytes → link_at (bytes_of now.bytes) (place_at p) ≡ Some g
     → n ≡ word_at (bytes_of now.bytes) (place_at p + 8) → ChangesBytes current now b1 (g + 16 * i + 16) (16 * (n - i))
     → SameElements (bytes_of now.bytes) (bytes_of b1.bytes) (g + 16 * i) (g + 16 * i + 16) (n - i)
     → ChangesBytes current b1 b2 (g + 16 * i) 16 → link_at (bytes_of b2.bytes) (g + 16 * i) ≡ block
-    → word_at (bytes_of b2.bytes) (g + 16 * i + 8) ≡ len
-    → ChangesBytes current b2 new (p.handle + (p.at + 8)) 8
+    → word_at (bytes_of b2.bytes) (g + 16 * i + 8) ≡ len → ChangesBytes current b2 new (p.handle + (p.at + 8)) 8
     → word_at (bytes_of new.bytes) (p.handle + (p.at + 8)) ≡ n + 1
     → ReplacesTexts first new p (option_to_list t.extent) (y ∷ option_to_list z.extent) (insert ps i z)
     (table m (Some y))
@@ -185,9 +175,8 @@ module _ {first mid : WindowState} {p : Place} {ps : List OwnedText} {t : Backin
       (found-live (handle asked-run.array) (live_of mid.bytes).extents asked-run.found)
 
 pub undone-none : {first mid new : WindowState} {p : Place} {ps : List OwnedText} {c g n : ℕ} {o : Option Extent}
-    → IsTexts first.bytes p ps (table c o) → ReservesArray first mid o n g
-    → link_at (bytes_of first.bytes) (place_at p) ≡ None → Deallocates current mid new g
-    → KeepsLiveSet current first new
+    → IsTexts first.bytes p ps (table c o) → ReservesArray first mid o n g → link_at (bytes_of first.bytes) (place_at p)
+    ≡ None → Deallocates current mid new g → KeepsLiveSet current first new
 undone-none {o = Some x} s a was r = none-some was s.words.link
 undone-none {o = None} s (widened w is) was r = absurd (cc)
 undone-none {mid} {new} {g} {n} {o = None} s (taken a e) was r = taken-back _ mid new n g _ a r
@@ -288,9 +277,8 @@ refused-same {s0} heap refusal none same = record {
 }
 
 pub within-err : {s0 s1 : WindowState} {p : Place} {ps : List OwnedText} {t : BackingArray} {bytes : List ℕ}
-    {e : Refusal}
-    → IsTexts s0.bytes p ps t → length ps < t.capacity
-    → LacksFit s0 s1 (placed_text (live_of s0.bytes) bytes) e → RefusesPut s0 s1 ps t bytes e
+    {e : Refusal} → IsTexts s0.bytes p ps t
+    → length ps < t.capacity → LacksFit s0 s1 (placed_text (live_of s0.bytes) bytes) e → RefusesPut s0 s1 ps t bytes e
 within-err {s0} {ps = ps} {t} {bytes} s space r = refused-same s.heap r.refusal
     (ap (after (live_of s0.bytes) t bytes) (same-grown-one (live_of s0.bytes) ps t space)
     ∙ ap (λ l. placed_text l bytes) (array-is (live_of s0.bytes) t) ∙ r.none) r.same
@@ -402,9 +390,8 @@ growing-none {s0} {t = t} n bytes s more wanted r = refused-same s.heap r.refusa
     ∙ not-grown (live_of s0.bytes) n t more r.none)) r.same
 
 pub growing-err : {s0 s1 s2 new : WindowState} (ps : List OwnedText) (t : BackingArray) {g : ℕ} (n : ℕ)
-    {bytes : List ℕ} {e : Refusal}
-    → t.capacity < n → n ≡ capacity_for_one (length ps) t.capacity → t.capacity ≤ length ps
-    → ReservesArray s0 s1 t.extent (16 * n) g → LacksFit s1 s2 (placed_text (live_of s1.bytes) bytes) e
+    {bytes : List ℕ} {e : Refusal} → t.capacity < n → n ≡ capacity_for_one (length ps) t.capacity → t.capacity
+    ≤ length ps → ReservesArray s0 s1 t.extent (16 * n) g → LacksFit s1 s2 (placed_text (live_of s1.bytes) bytes) e
     → KeepsLiveSet current s0 new → RefusesPut s0 new ps t bytes e
 growing-err {s0} {s1} ps t n {bytes} more wanted full a r back =
     let l = live_of s0.bytes in let x = asked-extent a in

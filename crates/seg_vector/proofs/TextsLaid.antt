@@ -1,27 +1,25 @@
 -- Other texts for a vector, laid out beside those that it has.
+use Rattle.seg_vector.proofs.Words as W
 use W.{◌≡◌, ◌≢◌, refl, sym, ap, subst, ◌∙◌, inl, ℕ, zero, suc, ◌+◌, ◌*◌, ◌<◌, ◌≤◌, Option, Some, None, List, ◌∷◌, ◌++◌}
 use W.{append-nil, append_assoc, arith, length, length-append, drop, map, slice_index_or, Bor, ◌%◌, inr, if◌then◌else◌}
 use W.{false, ◌==◌, Ok, IfSome, IsTrue, option_map, option_to_list, AllByRecursion, flat_map-append, ne_eqb, drop_all}
 use W.{WindowState, bytes_of, word_at, current, link_at, without_all, KeepsLiveSet, SameBlockExcept, ExchangesBlocks}
-use W.{Extent, LiveSet}
-use W.{handle, resized, place, ChangesBytes, IsHeap, SameBlock, extent_at, has_room, live_of, AllocatesOk, NoSpace}
-use W.{Refusal, Deallocates, is_live_in, IsFound, IsNone, all-in-use, changed-live, exchange-next, exchange-order}
-use W.{exchange-same, exchanged-live, found-room, kept, laid-heap, last-first, live-rises, roomy, spread-refl}
-use W.{exchange-released, exchange-taken, keeps-refl, place-serves, too_long, kept-beside, Storage, BackingArray}
-use W.{no_backing}
-use W.{AreLaid, StoresArrayUpTo, StoresArrayOk, StoresArrayErr, SameElements, IsServed, IsSwapped, LacksFit}
-use W.{PlacesTextOk, AreHeldElements, AreDistinct, placed_text, placed_texts, text_blocks, with_text, all_texts}
-use W.{new_array, AssignsTextsOk, AssignsTexts, IsTexts, ReplacesTexts, ReleasesTexts, AreTextLinks, IsOwnedText}
-use W.{OwnedText, Place, place_at, [], SetsStorage, all-same-but, drop-map, drop-cons}
+use W.{Extent, LiveSet, handle, resized, place, ChangesBytes, IsHeap, SameBlock, extent_at, has_room, live_of}
+use W.{AllocatesOk, NoSpace, Refusal, Deallocates, is_live_in, IsFound, IsNone, all-in-use, changed-live, exchange-next}
+use W.{exchange-order, exchange-same, exchanged-live, found-room, kept, laid-heap, last-first, live-rises, roomy}
+use W.{spread-refl, exchange-released, exchange-taken, keeps-refl, place-serves, too_long, kept-beside, Storage}
+use W.{BackingArray, no_backing, AreLaid, StoresArrayUpTo, StoresArrayOk, StoresArrayErr, SameElements, IsServed}
+use W.{IsSwapped, LacksFit, PlacesTextOk, AreHeldElements, AreDistinct, placed_text, placed_texts, text_blocks}
+use W.{with_text, all_texts, new_array, AssignsTextsOk, AssignsTexts, IsTexts, ReplacesTexts, ReleasesTexts}
+use W.{AreTextLinks, IsOwnedText, OwnedText, Place, place_at, [], SetsStorage, all-same-but, drop-map, drop-cons}
 use Rattle.seg_vector.proofs.Runs.{AreHeadWords, IsHead, block-written, changed-both, head-exchanged, len-written}
 use Rattle.seg_vector.proofs.Runs.{run-none, run-swapped, same-some, serves-full, table, all-as, came-found}
+use Rattle.seg_vector.proofs.Runs.{came-others, all-kept, none-of-none}
 use Rattle.seg_vector.proofs.TextBlocks.{all-join, all-split, element-beside, element-in, element-trans, even-block}
 use Rattle.seg_vector.proofs.TextBlocks.{fresh-none, found-live, links-join, links-moved, of-none, own_blocks}
-use Rattle.seg_vector.proofs.TextBlocks.{run-begin}
-use Rattle.seg_vector.proofs.{Runs.came-others, Runs.all-kept, Runs.none-of-none, TextBlocks.owned-same}
-use Rattle.seg_vector.proofs.{TextBlocks.texts-between, TextBlocks.texts-own, TextGrowth.new-table, TextCalls.come-even}
-use Rattle.seg_vector.proofs.{TextCalls.run-others, TextCalls.texts-still, TextPuts.came-alone, TextPuts.flip-each}
-use Rattle.seg_vector.proofs.Words as W
+use Rattle.seg_vector.proofs.TextBlocks.{run-begin, owned-same, texts-between, texts-own}
+use Rattle.seg_vector.proofs.{TextGrowth.new-table, TextPuts.came-alone, TextPuts.flip-each}
+use Rattle.seg_vector.proofs.TextCalls.{come-even, run-others, texts-still}
 
 -- ---- blocks that came
 
@@ -61,9 +59,8 @@ abbrev placed_after : LiveSet → List (List ℕ) → Option OwnedText → Optio
 placed_after l more o =
     elim o [ None ↦ None | Some q ↦ option_map (λ (qs : List OwnedText). q ∷ qs) (placed_texts (with_text l q) more) ]
 
-placed-one : (l k : LiveSet) (bytes : List ℕ) (more : List (List ℕ)) {q : OwnedText} → placed_text l bytes ≡ Some q
-    → k ≡ with_text l q
-    → placed_texts l (bytes ∷ more) ≡ option_map (λ (qs : List OwnedText). q ∷ qs) (placed_texts k more)
+placed-one : (l k : LiveSet) (bytes : List ℕ) (more : List (List ℕ)) {q : OwnedText} → placed_text l bytes ≡ Some q → k
+    ≡ with_text l q → placed_texts l (bytes ∷ more) ≡ option_map (λ (qs : List OwnedText). q ∷ qs) (placed_texts k more)
 placed-one l k bytes more {q} e f = ap (placed_after l more) e
     ∙ ap (λ s. option_map (λ (qs : List OwnedText). q ∷ qs) (placed_texts s more)) (sym f)
 
@@ -95,9 +92,8 @@ beside-text {old} {now} {mid} {y} {tb} {oq} p q = exchange-order _ old mid 0 0 _
     (exchange-next _ old now mid 0 0 _ _ [] (y ∷ tb) oq (spread-refl (y ∷ tb)) p q)
 
 laid-links : (now : WindowState) {mid new : WindowState} {y : Extent} {g : ℕ} (i n : ℕ) (ps : List OwnedText)
-    (q : OwnedText)
-    → handle y ≡ g → length ps ≡ i → i < n → 16 * n + 16 ≤ y.len → SameBlock (bytes_of now.bytes) (bytes_of mid.bytes) y
-    → ChangesBytes current mid new (g + 16 * i) 16
+    (q : OwnedText) → handle y ≡ g → length ps ≡ i → i < n → 16 * n + 16 ≤ y.len
+    → SameBlock (bytes_of now.bytes) (bytes_of mid.bytes) y → ChangesBytes current mid new (g + 16 * i) 16
     → link_at (bytes_of new.bytes) (g + 16 * i) ≡ option_map handle q.extent
     → word_at (bytes_of new.bytes) (g + 16 * i + 8) ≡ length q.bytes
     → AreTextLinks (bytes_of now.bytes) (handle y) ps → AreTextLinks (bytes_of new.bytes) (handle y) (ps ++ (q ∷ []))
@@ -111,11 +107,10 @@ laid-links now {new} {y} {g} i n ps q at long below big stays c link len l =
     (subst (λ k. AreTextLinks (bytes_of new.bytes) k (q ∷ [])) behind (link, len, tt))
 
 pub laid-put : {old now mid new : WindowState} {y : Extent} {i : ℕ} (n array : ℕ) {bytes : List ℕ}
-    {more : List (List ℕ)}
-    {block : Option ℕ} → handle y ≡ array → AreLaid old now y i more → drop i more ≡ bytes ∷ drop (i + 1) more → i < n
-    → 16 * n + 16 ≤ y.len → PlacesTextOk now mid bytes block → ChangesBytes current mid new (array + 16 * i) 16
-    → link_at (bytes_of new.bytes) (array + 16 * i) ≡ block → word_at (bytes_of new.bytes) (array + 16 * i + 8)
-    ≡ length bytes → AreLaid old new y (i + 1) more
+    {more : List (List ℕ)} {block : Option ℕ} → handle y ≡ array → AreLaid old now y i more
+    → drop i more ≡ bytes ∷ drop (i + 1) more → i < n → 16 * n + 16 ≤ y.len → PlacesTextOk now mid bytes block
+    → ChangesBytes current mid new (array + 16 * i) 16 → link_at (bytes_of new.bytes) (array + 16 * i) ≡ block
+    → word_at (bytes_of new.bytes) (array + 16 * i + 8) ≡ length bytes → AreLaid old new y (i + 1) more
 laid-put {old} {now} {mid} {new} {y} {i} n array {bytes} {more} at a split below big pl c link len =
     let q = pl.text in let oq = option_to_list q.extent in let tb = text_blocks a.texts in
     let rest = drop (i + 1) more in let here = are-come a.change in let x1 = beside-text a.change pl.change in
@@ -158,8 +153,7 @@ laid-stops {old} {now} {y} {i} {bytes} {more} a split within r =
     })
 
 pub laid-all : {old now : WindowState} {y : Extent} {i : ℕ} (n : ℕ) {more : List (List ℕ)}
-    → AreLaid old now y i more → i ≡ n
-    → n ≡ length more → StoresArrayUpTo old now y n more
+    → AreLaid old now y i more → i ≡ n → n ≡ length more → StoresArrayUpTo old now y n more
 laid-all {old} {now} {y} n {more} a e f = record {
   laid = subst (λ k. AreLaid old now y k more) e a;
   within = omega (arith, f);
@@ -233,15 +227,13 @@ unchanged c more heap e = record {
   first = λ none. refl;
 }
 
-pub out-of-reach : (c : WindowState) (n : ℕ) (more : List (List ℕ)) → IsHeap current c.bytes → n ≡ length more
-    → 1073741824 < n
-    → StoresArrayErr c c more NoSpace
+pub out-of-reach : (c : WindowState) (n : ℕ) (more : List (List ℕ))
+    → IsHeap current c.bytes → n ≡ length more → 1073741824 < n → StoresArrayErr c c more NoSpace
 out-of-reach c n more heap e f = unchanged c more heap (in-array (live_of c.bytes) more None (omega (arith, e, f))
     (too_long c (16 * length more) Storage heap (omega (arith, e, f))))
 
 pub no-space : {old new : WindowState} (n : ℕ) (more : List (List ℕ)) {f : Refusal} → IsHeap current old.bytes → 0 < n
-    → n ≡ length more → LacksFit old new (place (live_of old.bytes) (16 * n) Storage) f
-    → StoresArrayErr old new more f
+    → n ≡ length more → LacksFit old new (place (live_of old.bytes) (16 * n) Storage) f → StoresArrayErr old new more f
 no-space {old} {new} n more heap some e r = subst (StoresArrayErr old new more) (sym r.refusal)
     (subst (λ (c : WindowState). StoresArrayErr old c more NoSpace) (sym r.same)
     (unchanged old more heap (in-array (live_of old.bytes) more None (omega (arith, e, some))

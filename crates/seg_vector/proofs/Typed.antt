@@ -1,24 +1,19 @@
 -- Vectors of values and texts, from what is known of their bytes.
-use W.{◌≡◌, sym, ◌∙◌, ℕ, suc, ◌+◌, ◌*◌, ◌<◌, ◌∷◌, ◌-◌, ◌≤◌, max, part, WindowState, Ok, Err, ShrinksStorage, []}
-use W.{refl, zero, Bool, true, List, ◌++◌, take, drop, arith, false, Some, BackingArray, Place, Result, ReservesStorage}
-use W.{IsContainer, IsText}
-use W.{ap, if◌then◌else◌, length-append, take-append-add, drop-append-add, length-insert, length-remove, LacksSpace}
-use W.{subst, list_all-append, take-append-drop, flat_map-append, take-append_seam, capacity_for_one, capacity_for_text}
-use W.{length, append_assoc, append-nil, length-take, length-drop, MatchResult, RewritesElements, GrowsTextOk}
-use W.{GrowsVectorOk}
-use W.{ReplacesVector}
-use W.{IsTrue, insert, remove, nat_le, patched, word_at, live_of, Refusal, ErasesElement, Extends, Inserts}
-use W.{ReservesStorageOk, drop-nil}
-use W.{flat_map, list_all, and_from, leb-true, bytes_of, no_backing, ReadsOne, IsVector, take-nil, KeepsGaps, gaps-refl}
-use W.{slice_get, slice_set, and_parts, length-set, FreesStorage, Overwrites, Truncates, IsStanding, ReplacesText}
-use W.{gaps-trans}
+use Rattle.seg_vector.proofs.Words as W
+use W.{◌≡◌, sym, ◌∙◌, ℕ, suc, ◌+◌, ◌*◌, ◌<◌, ◌∷◌, ◌-◌, ◌≤◌, max, part, WindowState, Ok, Err, ShrinksStorage, [], refl}
+use W.{zero, Bool, true, List, ◌++◌, take, drop, arith, false, Some, BackingArray, Place, Result, ReservesStorage}
+use W.{IsContainer, IsText, ap, if◌then◌else◌, length-append, take-append-add, drop-append-add, length-insert}
+use W.{length-remove, LacksSpace, subst, list_all-append, take-append-drop, flat_map-append, take-append_seam}
+use W.{capacity_for_one, capacity_for_text, length, append_assoc, append-nil, length-take, length-drop, MatchResult}
+use W.{RewritesElements, GrowsTextOk, GrowsVectorOk, ReplacesVector, IsTrue, insert, remove, nat_le, patched, word_at}
+use W.{live_of, Refusal, ErasesElement, Extends, Inserts, ReservesStorageOk, drop-nil, flat_map, list_all, and_from}
+use W.{leb-true, bytes_of, no_backing, ReadsOne, IsVector, take-nil, gaps-refl, slice_get, slice_set, and_parts}
+use W.{length-set, FreesStorage, Overwrites, Truncates, IsStanding, ReplacesText, gaps-trans}
 use Rattle.seg_vector.proofs.Storage.{at-least, capacity-bytes, exchange-then, grown-gaps, has-place, not-refused}
-use Rattle.seg_vector.proofs.Storage.{same-storage}
-use Rattle.seg_vector.proofs.{Storage.unchanged-rewritten, Storage.wanted-places, Runs.same-some}
+use Rattle.seg_vector.proofs.{Storage.same-storage, Storage.unchanged-rewritten, Storage.wanted-places, Runs.same-some}
 use Rattle.best_fit.specs.Table.{shrunk_backing}
 use Rattle.raw_region.proofs.Laws.{patched-append}
 use Rattle.seg_vector.specs.{Vector.capacity_for_more, VectorCalls.replaced}
-use Rattle.seg_vector.proofs.Words as W
 
 -- ---- what holds of each
 
@@ -30,6 +25,11 @@ all-parts test n xs v = and_parts (list_all test (take n xs)) (list_all test (dr
 pub all-both : {T : Type 0} → (test : T → Bool) (xs ys : List T) → IsTrue (list_all test xs)
     → IsTrue (list_all test ys) → IsTrue (list_all test (xs ++ ys))
 all-both test xs ys v w = list_all-append test xs ys ∙ and_from (list_all test xs) (list_all test ys) v w
+
+-- there is none
+pub all-none : {T : Type 0} → (test : T → Bool) (xs : List T) → length xs ≡ 0 → IsTrue (list_all test xs)
+all-none test [] e = refl
+all-none test (x ∷ xs) e = absurd (omega (arith, e))
 
 -- other elements in the place of those between the first i and those from j on
 all-edit : {T : Type 0} → (test : T → Bool) (xs : List T) (i j : ℕ) (ys : List T) → IsTrue (list_all test xs)
@@ -208,9 +208,8 @@ module _ {T : Type 0} {size : ℕ} {test : T → Bool} {sp : T → List ℕ} whe
 
   -- the storage is grown, and the values stay
   pub vector-grown : {old new : WindowState} {p : Place} {n : ℕ} {t : BackingArray} {xs : List T}
-      → IsVector size test sp old.bytes p
-      xs t → ReservesStorageOk old new p size n (length xs) t (flat_map sp xs)
-      → GrowsVectorOk size test sp old new p t n xs
+      → IsVector size test sp old.bytes p xs t
+      → ReservesStorageOk old new p size n (length xs) t (flat_map sp xs) → GrowsVectorOk size test sp old new p t n xs
   vector-grown v g = record {
     table = g.table;
     grown = g.grown;
@@ -242,9 +241,8 @@ module _ {T : Type 0} {size : ℕ} {test : T → Bool} {sp : T → List ℕ} whe
       (record { change = (unchanged-rewritten c v.stands).change; gaps = λ same. gaps-refl c; vector = v })
 
   -- a place that is free
-  pub has-space : {b : List ℕ} {p : Place} {xs : List T} {t : BackingArray} → IsVector size test sp b p xs t
-      → length xs < t.capacity
-      → word_at (bytes_of b) (p.handle + p.at + 8) < word_at (bytes_of b) (p.handle + p.at + 16)
+  pub has-space : {b : List ℕ} {p : Place} {xs : List T} {t : BackingArray} → IsVector size test sp b p xs t → length xs
+      < t.capacity → word_at (bytes_of b) (p.handle + p.at + 8) < word_at (bytes_of b) (p.handle + p.at + 16)
   has-space v f = omega (arith, f, v.stands.words.len_word, v.stands.words.capacity)
 
 -- ---- the same of texts
@@ -268,8 +266,7 @@ text-then {old} {mid} {new} s c w = record {
 
 pub text-grown-then : {old mid new : WindowState} {p : Place} {n : ℕ} {t : BackingArray} {bytes ys : List ℕ}
     → IsText old.bytes p bytes t → (g : ReservesStorageOk old mid p 1 n (length bytes) t bytes)
-    → ReplacesText mid new p g.table ys g.table
-    → GrowsTextOk old new p t n ys
+    → ReplacesText mid new p g.table ys g.table → GrowsTextOk old new p t n ys
 text-grown-then s g w = record {
   table = g.table;
   grown = g.grown;
@@ -368,6 +365,14 @@ module _ {T : Type 0} {size : ℕ} {test : T → Bool} {sp : T
       (ap (λ bs. flat_map sp xs ++ bs) (sym (append-nil (sp y))) ∙ sym (flat_map-append sp xs (y ∷ [])))
       (all-both test xs (y ∷ []) v.values (all-one test y good))
 
+  pub extended-now : (ys : List T) → IsTrue (list_all test ys) → Extends old mid p k (length ys) (flat_map sp ys)
+      → ReplacesVector size test sp old mid p t (xs ++ ys) t
+  extended-now ys good h =
+      let r = subst (λ j. Extends old mid p j (length ys) (flat_map sp ys)) e h (length xs) t (flat_map sp xs)
+      v.stands in
+      vector-now test sp (xs ++ ys) r (sym (length-append xs ys)) (sym (flat_map-append sp xs ys))
+      (all-both test xs ys v.values good)
+
   pub inserted-now : (i : ℕ) (y : T) → ((x : T) → test x ≡ true → length (sp x) ≡ size) → i ≤ length xs → test y ≡ true
       → Inserts old mid p k i (sp y) → ReplacesVector size test sp old mid p t (insert xs i y) t
   inserted-now i y spells f good h =
@@ -375,9 +380,8 @@ module _ {T : Type 0} {size : ℕ} {test : T → Bool} {sp : T
       vector-now test sp (insert xs i y) r (sym (length-insert xs i y f))
       (flat-insert size test sp spells xs i y v.values) (all-edit test xs i i (y ∷ []) v.values (all-one test y good))
 
-  pub erased-now : (i : ℕ) → ((x : T) → test x ≡ true → length (sp x) ≡ size) → i < length xs
-      → ErasesElement old mid p k i
-      → ReplacesVector size test sp old mid p t (remove xs i) t
+  pub erased-now : (i : ℕ) → ((x : T) → test x ≡ true → length (sp x) ≡ size)
+      → i < length xs → ErasesElement old mid p k i → ReplacesVector size test sp old mid p t (remove xs i) t
   erased-now i spells f h =
       let r = subst (λ j. ErasesElement old mid p j i) e h (length xs) t (flat_map sp xs) v.stands in
       vector-now test sp (remove xs i) r (omega (arith, length-remove xs i f))

@@ -4,10 +4,9 @@ use Rattle.std.specs.Prelude.{length, option_to_list}
 use Rattle.raw_region.specs.{Memory.WindowState, Memory.bytes_of, Memory.word_at, Format.current}
 use Rattle.block_tags.specs.declared.tile.Role.TheVariants.{Storage}
 use Rattle.best_fit.specs.{Exchange.ExchangesBlocks, Extents.Extent, Extents.LiveSet, Extents.handle}
+use Rattle.best_fit.specs.{Table.BackingArray, Table.has_backing, declared.places.Place.Place}
 use Rattle.best_fit.specs.Heap.{IsHeap, KeepsGaps, extent_at, has_room, live_of}
-use Rattle.best_fit.specs.Table.{BackingArray, has_backing}
 use Rattle.seg_types.specs.{declared.refusals.Refusal.Refusal, declared.refusals.Refusal.TheVariants.NoSpace}
-use Rattle.best_fit.specs.declared.places.Place.{Place}
 use Rattle.seg_vector.specs.Vector.{IsContainerAt, capacity_for_one, grown_backing}
 
 -- where the three words stand

@@ -2,13 +2,11 @@
 -- there are.
 use Rattle.std.specs.Prelude.{◌≡◌, ℕ, ◌+◌, ◌-◌, ◌*◌, ◌<◌, ◌≤◌, None, List, [], ◌++◌, take, drop, option_to_list}
 use Rattle.raw_region.specs.{Memory.WindowState, Memory.part, Memory.patched, Format.current}
-use Rattle.best_fit.specs.{Exchange.ExchangesBlocks, Heap.KeepsGaps, Heap.live_of}
+use Rattle.best_fit.specs.{Exchange.ExchangesBlocks, Heap.KeepsGaps, Heap.live_of, declared.places.Place.Place}
 use Rattle.best_fit.specs.Table.{BackingArray, shrunk_backing, no_backing}
-use Rattle.seg_vector.specs.{declared.elements.WritePos.WritePos, Containers.IsContainer, Containers.capacity_at}
-use Rattle.seg_vector.specs.{Containers.len_at}
-use Rattle.seg_vector.specs.{Containers.place_at}
+use Rattle.seg_vector.specs.declared.elements.WritePos.{WritePos}
+use Rattle.seg_vector.specs.Containers.{IsContainer, capacity_at, len_at, place_at}
 use Rattle.seg_vector.specs.declared.elements.WritePos.TheVariants.{End, Over, Before}
-use Rattle.best_fit.specs.declared.places.Place.{Place}
 
 -- the container has other elements in the places that there were; of all other blocks no byte changes but its own 24,
 -- and of gaps none

@@ -2,13 +2,11 @@
 use Rattle.std.specs.Prelude.{◌≡◌, ℕ, ◌<◌, ◌≤◌, Some, Result, Ok, MatchResult, List, [], ◌++◌, length, slice_get}
 use Rattle.std.specs.Prelude.{slice_set, option_to_list}
 use Rattle.raw_region.specs.{Memory.WindowState, Format.current}
-use Rattle.best_fit.specs.{Exchange.ExchangesBlocks, Heap.KeepsGaps, Heap.live_of}
+use Rattle.best_fit.specs.{Exchange.ExchangesBlocks, Heap.KeepsGaps, Heap.live_of, declared.places.Place.Place}
 use Rattle.best_fit.specs.Table.{BackingArray, shrunk_backing, no_backing}
 use Rattle.seg_types.specs.declared.refusals.Refusal.{Refusal}
-use Rattle.best_fit.specs.declared.places.Place.{Place}
-use Rattle.seg_vector.specs.{Vector.capacity_for_text, Vector.grown_backing}
-use Rattle.seg_vector.specs.{Containers.IsContainer, Containers.place_at, VectorCalls.RefusesIndex}
-use Rattle.seg_vector.specs.{VectorCalls.LacksSpace}
+use Rattle.seg_vector.specs.{Vector.capacity_for_text, Vector.grown_backing, Containers.IsContainer}
+use Rattle.seg_vector.specs.{Containers.place_at, VectorCalls.RefusesIndex, VectorCalls.LacksSpace}
 
 -- the text at a place has these bytes
 abbrev pub IsText : List ℕ → Place → List ℕ → BackingArray → Type 0

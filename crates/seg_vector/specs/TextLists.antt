@@ -1,11 +1,10 @@
 -- An array with texts, laid out beside all that a heap holds.
 use Rattle.std.specs.Prelude.{◌≡◌, ℕ, ◌*◌, ◌<◌, ◌≤◌, Some, None, Result, MatchResult, List, [], ◌∷◌, ◌++◌, drop, length}
-use Rattle.std.specs.Prelude.{option_map}
-use Rattle.std.specs.List.{AllByRecursion}
+use Rattle.std.specs.{Prelude.option_map, List.AllByRecursion}
 use Rattle.raw_region.specs.{Memory.WindowState, Memory.bytes_of, Format.current}
 use Rattle.block_tags.specs.declared.tile.Role.TheVariants.{Storage}
-use Rattle.best_fit.specs.Exchange.{KeepsLiveSet}
-use Rattle.best_fit.specs.{Extents.Extent, Extents.handle, Fit.place, Fit.resized, Heap.extent_at, Heap.live_of}
+use Rattle.best_fit.specs.{Exchange.KeepsLiveSet, Extents.Extent, Extents.handle, Fit.place, Fit.resized}
+use Rattle.best_fit.specs.Heap.{extent_at, live_of}
 use Rattle.seg_types.specs.{declared.refusals.Refusal.Refusal, declared.refusals.Refusal.TheVariants.NoSpace}
 use Rattle.seg_vector.specs.TextParts.{IsServed, IsSwapped}
 use Rattle.seg_vector.specs.TextsCalls.{all_texts, new_array, placed_texts, text_blocks}

@@ -4,16 +4,15 @@ use Rattle.std.specs.Prelude.{[], ◌∷◌, insert, length, option_map, option_
 use Rattle.std.specs.List.{AllByRecursion}
 use Rattle.raw_region.specs.{Memory.Memory, Memory.WindowState, Memory.bytes_of, Memory.word_at, Format.current}
 use Rattle.offset_link.specs.Link.{link_at}
-use Rattle.best_fit.specs.{Exchange.ExchangesBlocks, Exchange.KeepsLiveSet, Exchange.WidensBlock, Fit.place, Fit.regrow}
-use Rattle.best_fit.specs.{Extents.Extent, Extents.handle, Table.BackingArray, Table.has_backing, Table.serves}
+use Rattle.best_fit.specs.Exchange.{ExchangesBlocks, KeepsLiveSet, WidensBlock}
+use Rattle.best_fit.specs.{Fit.place, Fit.regrow, Extents.Extent, Extents.handle, declared.places.Place.Place}
+use Rattle.best_fit.specs.Table.{BackingArray, has_backing, serves}
 use Rattle.best_fit.specs.Heap.{AllocatesOk, ChangesBytes, IsHeap, KeepsGaps, SameBlock, extent_at, has_room, live_of}
 use Rattle.block_tags.specs.declared.tile.Role.TheVariants.{Storage}
 use Rattle.seg_types.specs.{declared.refusals.Refusal.Refusal, declared.refusals.Refusal.TheVariants.NoSpace}
-use Rattle.best_fit.specs.declared.places.Place.{Place}
-use Rattle.seg_vector.specs.{Containers.place_at}
+use Rattle.seg_vector.specs.{Containers.place_at, TextsCalls.one_more, TextsCalls.placed_text, TextsCalls.text_blocks}
 use Rattle.seg_vector.specs.Vector.{AreTextLinks, IsOwnedText, OwnedText, capacity_for_one, grown_backing}
 use Rattle.seg_vector.specs.TextsCalls.{AreDistinct, RefusesFirstBlock, LacksFit, InsertsTextOk, IsTexts, ReplacesTexts}
-use Rattle.seg_vector.specs.TextsCalls.{one_more, placed_text, text_blocks}
 
 -- blocks are gone and others came, and nothing in those that stay changes
 abbrev pub IsSwapped : WindowState → WindowState → List Extent → List Extent → Type 0
@@ -186,8 +185,7 @@ Adopts old new p g n = (r : IsArrayReserved old p g n) → IsAdopted r.first old
 -- Since the first call blocks were exchanged: the array y, with m places, came, and the block of a text that is not in
 -- the vector yet.
 pub record IsPutReady (first now : WindowState) (p : Place) (ps : List OwnedText) (t : BackingArray) (y : Extent)
-    (m : ℕ)
-    (z : OwnedText) : Type 0 where
+    (m : ℕ) (z : OwnedText) : Type 0 where
   pub texts : IsTexts first.bytes p ps t
   pub table : IsTrue (has_backing Storage 16 (record { capacity = m; extent = Some y }))
   pub space : length ps < m
@@ -266,9 +264,8 @@ pub record HasSpareCapacity (b : List ℕ) (p : Place) (i : ℕ) : Type 0 where
   pub space : length ps < t.capacity
 
 abbrev pub InsertsWithin : WindowState → WindowState → Place → ℕ → List ℕ → Result (Unit {0}) Refusal → Type 0
-InsertsWithin old new p i bytes result = (ps : List OwnedText) (t : BackingArray) → IsTexts old.bytes p ps t
-    → i ≤ length ps
-    → length ps < t.capacity → PutsInto old new p ps t i bytes result
+InsertsWithin old new p i bytes result = (ps : List OwnedText) (t : BackingArray)
+    → IsTexts old.bytes p ps t → i ≤ length ps → length ps < t.capacity → PutsInto old new p ps t i bytes result
 
 -- there is none, and n places are asked for
 pub record IsFullVector (b : List ℕ) (p : Place) (i n : ℕ) : Type 0 where

@@ -9,12 +9,10 @@ use Rattle.raw_region.specs.{Memory.WindowState, Memory.bytes_of, Memory.word_at
 use Rattle.block_tags.specs.declared.tile.Role.TheVariants.{Storage}
 use Rattle.offset_link.specs.Link.{link_at}
 use Rattle.best_fit.specs.{Exchange.ExchangesBlocks, Exchange.KeepsLiveSet, Extents.Extent, Extents.LiveSet}
-use Rattle.best_fit.specs.{Extents.handle}
-use Rattle.best_fit.specs.{Fit.place, Fit.resized}
+use Rattle.best_fit.specs.{Extents.handle, Fit.place, Fit.resized, declared.places.Place.Place}
 use Rattle.best_fit.specs.Heap.{IsHeap, KeepsGaps, extent_at, has_room, live_of}
 use Rattle.best_fit.specs.Table.{BackingArray, shrunk_backing, has_backing, no_backing, serves}
 use Rattle.seg_types.specs.{declared.refusals.Refusal.Refusal, declared.refusals.Refusal.TheVariants.NoSpace}
-use Rattle.best_fit.specs.declared.places.Place.{Place}
 use Rattle.seg_vector.specs.{Containers.IsStorageBlock, Containers.place_at, VectorCalls.RefusesIndex}
 use Rattle.seg_vector.specs.Vector.{IsOwnedText, IsTextsAt, OwnedText, capacity_for_one, grown_backing}
 
@@ -140,8 +138,7 @@ pub record InsertsTextOk (old new : WindowState) (p : Place) (ps : List OwnedTex
   pub text : OwnedText
   pub placed : placed_text (with_array (live_of old.bytes) t table) bytes ≡ Some text
   pub now : ReplacesTexts old new p (option_to_list t.extent) (option_to_list table.extent
-      ++ option_to_list text.extent)
-      (insert ps i text) table
+      ++ option_to_list text.extent) (insert ps i text) table
 
 abbrev pub one_more : LiveSet → List OwnedText → BackingArray → List ℕ → Option OwnedText
 one_more live ps t bytes = elim (grown_backing live 16 (capacity_for_one (length ps) t.capacity) t) [
@@ -186,8 +183,7 @@ pub record SetsTextOk (old new : WindowState) (p : Place) (ps : List OwnedText) 
 abbrev pub SetsText : WindowState → WindowState → Place → ℕ → List ℕ → Result (Unit {0}) Refusal → Type 0
 SetsText old new p i bytes result =
     (ps : List OwnedText) (t : BackingArray) → IsTexts old.bytes p ps t
-    → MatchResult result (λ u. SetsTextOk old new p ps t i bytes)
-    (λ e. RefusesIndex old new (length ps) i e ⊎
+    → MatchResult result (λ u. SetsTextOk old new p ps t i bytes) (λ e. RefusesIndex old new (length ps) i e ⊎
     ((i < length ps) × LacksFit old new (placed_text (live_of old.bytes) bytes) e))
 
 -- one less, and its block is released; the array stays
@@ -211,16 +207,14 @@ PopsText old new p result =
 abbrev pub ReservesTexts : WindowState → WindowState → Place → ℕ → Result (Unit {0}) Refusal → Type 0
 ReservesTexts old new p n result =
     (ps : List OwnedText) (t : BackingArray) → IsTexts old.bytes p ps t
-    → MatchResult result
-    (λ u. (w : BackingArray) × (grown_backing (live_of old.bytes) 16 n t ≡ Some w)
+    → MatchResult result (λ u. (w : BackingArray) × (grown_backing (live_of old.bytes) 16 n t ≡ Some w)
     × ReplacesTexts old new p (option_to_list t.extent) (option_to_list w.extent) ps w)
     (LacksFit old new (grown_backing (live_of old.bytes) 16 n t))
 
 -- where there are n places already, nothing changes
 abbrev pub ReservesNoTexts : WindowState → WindowState → Place → ℕ → Result (Unit {0}) Refusal → Type 0
-ReservesNoTexts old new p n result = (ps : List OwnedText) (t : BackingArray) → IsTexts old.bytes p ps t
-    → n ≤ t.capacity
-    → (result ≡ Ok tt) × (new ≡ old)
+ReservesNoTexts old new p n result = (ps : List OwnedText) (t : BackingArray)
+    → IsTexts old.bytes p ps t → n ≤ t.capacity → (result ≡ Ok tt) × (new ≡ old)
 
 abbrev pub ShrinksTexts : WindowState → WindowState → Place → Type 0
 ShrinksTexts old new p =

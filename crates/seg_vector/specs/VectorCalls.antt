@@ -1,15 +1,13 @@
 -- A vector at a place, of any type whose values are spelled by `size` bytes, and what its calls answer and do.
 use Rattle.std.specs.Prelude.{◌≡◌, ℕ, ◌+◌, ◌-◌, ◌<◌, ◌≤◌, ◌⊎◌, Bool, IsTrue, Some, Result, Ok, MatchResult, List, []}
 use Rattle.std.specs.Prelude.{◌∷◌, ◌++◌, drop, length, take, insert, remove, slice_get, slice_set, flat_map}
-use Rattle.std.specs.Prelude.{option_to_list}
-use Rattle.std.specs.List.{list_all}
+use Rattle.std.specs.{Prelude.option_to_list, List.list_all}
 use Rattle.raw_region.specs.{Memory.WindowState, Format.current}
-use Rattle.best_fit.specs.{Exchange.ExchangesBlocks, Heap.KeepsGaps, Heap.live_of}
+use Rattle.best_fit.specs.{Exchange.ExchangesBlocks, Heap.KeepsGaps, Heap.live_of, declared.places.Place.Place}
 use Rattle.best_fit.specs.Table.{BackingArray, shrunk_backing, no_backing}
 use Rattle.seg_types.specs.{declared.refusals.Refusal.Refusal, declared.refusals.Refusal.TheVariants.OutOfRange}
-use Rattle.best_fit.specs.declared.places.Place.{Place}
-use Rattle.seg_vector.specs.{Containers.IsContainer, Containers.place_at, Vector.capacity_for_more}
-use Rattle.seg_vector.specs.{Vector.capacity_for_one, Vector.grown_backing}
+use Rattle.seg_vector.specs.Containers.{IsContainer, place_at}
+use Rattle.seg_vector.specs.Vector.{capacity_for_more, capacity_for_one, grown_backing}
 pub use Rattle.seg_vector.specs.Containers.{LacksSpace}
 
 -- the vector at a place has these elements
@@ -25,8 +23,7 @@ IsSomeVector {T} size is_value spelling b p =
 -- The vector with these elements and this storage is in the place of the one with that storage. Of all blocks that stay
 -- no byte changes but its own 24, and of gaps none where the storage is the block that it was.
 pub record ReplacesVector {T : Type 0} (size : ℕ) (is_value : T → Bool) (spelling : T
-    → List ℕ) (old new : WindowState) (p : Place)
-    (t : BackingArray) (ys : List T) (u : BackingArray) : Type 0 where
+    → List ℕ) (old new : WindowState) (p : Place) (t : BackingArray) (ys : List T) (u : BackingArray) : Type 0 where
   pub change : ExchangesBlocks current old new (place_at p) 24 (option_to_list t.extent) (option_to_list u.extent)
   pub gaps : t.extent ≡ u.extent → KeepsGaps old new
   pub vector : IsVector size is_value spelling new.bytes p ys u
@@ -50,13 +47,11 @@ pub record RefusesIndex (old new : WindowState) (end i : ℕ) (e : Refusal) : Ty
 
 abbrev pub ReadsVectorLen : {T : Type 0} → ℕ → (T → Bool) → (T → List ℕ) → List ℕ → Place → ℕ → Type 0
 ReadsVectorLen {T} size is_value spelling b p n = (xs : List T) (t : BackingArray)
-    → IsVector size is_value spelling b p xs t
-    → n ≡ length xs
+    → IsVector size is_value spelling b p xs t → n ≡ length xs
 
 abbrev pub CountsPlaces : {T : Type 0} → ℕ → (T → Bool) → (T → List ℕ) → List ℕ → Place → ℕ → Type 0
 CountsPlaces {T} size is_value spelling b p n = (xs : List T) (t : BackingArray)
-    → IsVector size is_value spelling b p xs t
-    → n ≡ t.capacity
+    → IsVector size is_value spelling b p xs t → n ≡ t.capacity
 
 -- the element with i others before it, or a refusal where there are no more
 abbrev pub Gets : {T : Type 0} → ℕ → (T → Bool) → (T → List ℕ) → WindowState → Place → ℕ → Result T Refusal → Type 0
@@ -71,9 +66,8 @@ abbrev pub InitsVector : {T : Type 0} → ℕ → (T → Bool) → (T → List �
 InitsVector {T} size is_value spelling old new p =
     let none : List T = [] in ReplacesVector size is_value spelling old new p no_backing none no_backing
 
-abbrev pub Sets : {T : Type 0} → ℕ → (T → Bool) → (T → List ℕ) → WindowState → WindowState → Place → ℕ → T
-    → Result (Unit {0}) Refusal
-    → Type 0
+abbrev pub Sets : {T : Type 0}
+    → ℕ → (T → Bool) → (T → List ℕ) → WindowState → WindowState → Place → ℕ → T → Result (Unit {0}) Refusal → Type 0
 Sets {T} size is_value spelling old new p i x result =
     (xs : List T) (t : BackingArray) → IsVector size is_value spelling old.bytes p xs t
     → MatchResult result (λ u. (i < length xs) × ReplacesVector size is_value spelling old new p t (slice_set xs i x) t)
@@ -100,9 +94,8 @@ Pops {T} size is_value spelling old new p result =
     × ReplacesVector size is_value spelling old new p t (take (length xs - 1) xs) t)
     (RefusesIndex old new (length xs) 0)
 
-abbrev pub ErasesFrom : {T : Type 0} → ℕ → (T → Bool) → (T → List ℕ) → WindowState → WindowState → Place → ℕ
-    → Result (Unit {0}) Refusal
-    → Type 0
+abbrev pub ErasesFrom : {T : Type 0}
+    → ℕ → (T → Bool) → (T → List ℕ) → WindowState → WindowState → Place → ℕ → Result (Unit {0}) Refusal → Type 0
 ErasesFrom {T} size is_value spelling old new p i result =
     (xs : List T) (t : BackingArray) → IsVector size is_value spelling old.bytes p xs t
     → MatchResult result (λ u. (i < length xs) × ReplacesVector size is_value spelling old new p t (remove xs i) t)
@@ -115,9 +108,8 @@ Clears {T} size is_value spelling old new p =
 
 -- ---- what needs places, or has fewer
 
-abbrev pub Pushes : {T : Type 0} → ℕ → (T → Bool) → (T → List ℕ) → WindowState → WindowState → Place → T
-    → Result (Unit {0}) Refusal
-    → Type 0
+abbrev pub Pushes : {T : Type 0}
+    → ℕ → (T → Bool) → (T → List ℕ) → WindowState → WindowState → Place → T → Result (Unit {0}) Refusal → Type 0
 Pushes {T} size is_value spelling old new p x result =
     (xs : List T) (t : BackingArray) → IsVector size is_value spelling old.bytes p xs t
     → let n = capacity_for_one (length xs) t.capacity in
@@ -133,9 +125,8 @@ InsertsInto {T} size is_value spelling old new p i x result =
     MatchResult result (λ u. (i ≤ length xs) × GrowsVectorOk size is_value spelling old new p t n (insert xs i x))
     (λ e. RefusesIndex old new (length xs + 1) i e ⊎ ((i ≤ length xs) × LacksSpace old new size n t e))
 
-abbrev pub ReservesVector : {T : Type 0} → ℕ → (T → Bool) → (T → List ℕ) → WindowState → WindowState → Place → ℕ
-    → Result (Unit {0}) Refusal
-    → Type 0
+abbrev pub ReservesVector : {T : Type 0}
+    → ℕ → (T → Bool) → (T → List ℕ) → WindowState → WindowState → Place → ℕ → Result (Unit {0}) Refusal → Type 0
 ReservesVector {T} size is_value spelling old new p n result =
     (xs : List T) (t : BackingArray) → IsVector size is_value spelling old.bytes p xs t
     → MatchResult result (λ u. GrowsVectorOk size is_value spelling old new p t n xs) (LacksSpace old new size n t)
@@ -172,10 +163,3 @@ abbrev pub ReleasesVector : {T : Type 0} → ℕ → (T → Bool) → (T → Lis
 ReleasesVector {T} size is_value spelling old new p =
     (xs : List T) (t : BackingArray) → IsVector size is_value spelling old.bytes p xs t
     → let none : List T = [] in ReplacesVector size is_value spelling old new p t none no_backing
-
--- values put behind the last one, where there are places for all of them
-abbrev pub PutsAll : {T : Type 0} → ℕ → (T → Bool) → (T → List ℕ) → WindowState → WindowState → Place → List T → Type 0
-PutsAll {T} size is_value spelling old new p ys =
-    (xs : List T) (t : BackingArray) → IsVector size is_value spelling old.bytes p xs t
-    → length xs + length ys ≤ t.capacity
-    → ReplacesVector size is_value spelling old new p t (xs ++ ys) t

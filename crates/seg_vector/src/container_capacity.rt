@@ -41,7 +41,7 @@ pub fn free_storage(heap: &mut Heap, place: Place, each: u64)
 }
 
 /// Makes the capacity of the container at a place its length. The storage is shortened to it, as far as a block can be,
-/// and given back where there is no element.
+/// and given back if there is no element.
 pub fn shrink_storage(heap: &mut Heap, place: Place, each: u64)
     requires container { IsStanding heap.old.bytes place each }
     requires non_empty { 1 ≤ each }
@@ -70,12 +70,12 @@ pub fn set_storage(heap: &mut Heap, place: Place, array: u64, n: u64)
     heap.set_word(place.handle, place.at + CAPACITY, n);
 }
 
-/// Makes room for `n` elements of `each` bytes, 1 to 4096, in the container at a place: nothing is done where its
-/// capacity is `n` or more, and else its storage is regrown to hold just so many.
+/// Makes room for `n` elements of `each` bytes, 1 to 4096, in the container at a place. It does nothing if the capacity
+/// is `n` or more; otherwise it regrows the storage to hold just `n`.
 ///
 /// # Errors
 ///
-/// `NoSpace` where a new block is needed and has no gap that is long enough. Nothing changes.
+/// `NoSpace` if a new block is needed and has no gap that is long enough. Nothing changes.
 #[inline(always)]
 pub fn reserve(heap: &mut Heap, place: Place, each: u64, n: u64) -> Result<(), Refusal>
     requires container { IsStanding heap.old.bytes place each }
@@ -100,7 +100,7 @@ pub fn reserve(heap: &mut Heap, place: Place, each: u64, n: u64) -> Result<(), R
     }
 }
 
-/// The capacity that a container has for one element more.
+/// Returns the capacity that a container has for one element more.
 pub fn capacity_for_one(len: u64, capacity: u64) -> u64
     requires { 2 * capacity < 18446744073709551616 }
     ensures { result ≡ places_for_one len capacity }
@@ -112,7 +112,7 @@ pub fn capacity_for_one(len: u64, capacity: u64) -> u64
     }
 }
 
-/// The capacity that a container has for so many elements more.
+/// Returns the capacity that a container has for so many elements more.
 pub fn capacity_for_more(len: u64, more: u64, capacity: u64) -> u64
     requires need { len + more < 18446744073709551616 }
     requires repeat { 2 * capacity < 18446744073709551616 }
@@ -125,8 +125,8 @@ pub fn capacity_for_more(len: u64, more: u64, capacity: u64) -> u64
     }
 }
 
-/// Makes room for one element more, of 1 to 4096 bytes, behind the `len` that there are. A full container gets twice
-/// its places, and at least 4; or it answers `NoSpace` where its storage cannot be regrown, and nothing changes.
+/// Makes room for one element more, of 1 to 4096 bytes, after the `len` that there are. A full container gets twice its
+/// places, and at least 4; or it answers `NoSpace` if its storage cannot be regrown, and nothing changes.
 pub fn grow_for_one(heap: &mut Heap, place: Place, each: u64, len: u64) -> Result<(), Refusal>
     requires container { IsStanding heap.old.bytes place each }
     requires non_empty { 1 ≤ each }

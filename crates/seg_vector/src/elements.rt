@@ -1,4 +1,4 @@
-//! The elements of a container at a place: read, written over, left out, and put in where there is a place.
+//! The elements of a container at a place: read, written over, left out, and put in if there is a place.
 ghost use Rattle.std.specs.{Prelude.◌≡◌, Prelude.◌+◌, Prelude.◌*◌, Prelude.◌<◌, Prelude.◌≤◌, Prelude.IsTrue};
 ghost use Rattle.std.specs.{Prelude.flat_map, Prelude.length, Prelude.true, List.list_all};
 ghost use Rattle.raw_region.specs.{Format.current, Memory.HasBytesAt, Memory.bytes_of, Memory.patched};
@@ -12,7 +12,7 @@ use best_fit::theorems::loans_write_one_block;
 use best_fit::{Heap, Place};
 use seg_types::{MAX_SPELLING_LEN, Plain, SHORT_SPELLING_LEN};
 
-/// The bytes of all elements, of `each` bytes each.
+/// Returns the bytes of all elements, of `each` bytes each.
 pub fn elements(heap: &Heap, place: Place, each: u64) -> &[u8]
     requires { IsStanding heap.now.bytes place each }
     ensures { ReadsAll heap.now.bytes place each result.now }
@@ -24,7 +24,7 @@ pub fn elements(heap: &Heap, place: Place, each: u64) -> &[u8]
     }
 }
 
-/// The bytes of the element with `index` others before it.
+/// Returns the bytes of the element with `index` others before it.
 pub fn element(heap: &Heap, place: Place, each: u64, index: u64) -> &[u8]
     requires container { IsStanding heap.now.bytes place each }
     requires in_bounds { index < len_at heap.now.bytes place }
@@ -44,7 +44,7 @@ pub fn truncate(heap: &mut Heap, place: Place, each: u64, n: u64)
     heap.set_word(place.handle, place.at + LEN, n);
 }
 
-/// Writes `n` elements of `each` bytes behind the last one, where the capacity allows.
+/// Writes `n` elements of `each` bytes after the last one, where the capacity allows.
 pub fn extend(heap: &mut Heap, place: Place, each: u64, n: u64, bytes: &[u8])
     requires container { IsStanding heap.old.bytes place each }
     requires space { len_at heap.old.bytes place + n ≤ capacity_at heap.old.bytes place }
@@ -59,7 +59,7 @@ pub fn extend(heap: &mut Heap, place: Place, each: u64, n: u64, bytes: &[u8])
     }
 }
 
-/// Leaves out the element with `index` others before it. Those behind it move down.
+/// Leaves out the element with `index` others before it. Those after it move down.
 pub fn erase_element(heap: &mut Heap, place: Place, each: u64, index: u64)
     requires container { IsStanding heap.old.bytes place each }
     requires in_bounds { index < len_at heap.old.bytes place }
@@ -77,7 +77,7 @@ pub fn erase_element(heap: &mut Heap, place: Place, each: u64, index: u64)
 /// Where an element is put.
 #[derive(Clone, Copy)]
 pub enum WritePos {
-    /// Behind the last one.
+    /// After the last one.
     End,
     /// Over the one with so many others before it.
     Over(u64),
@@ -127,7 +127,7 @@ pub fn put_value<T: Plain>(heap: &mut Heap, place: Place, spot: WritePos, value:
     }
 }
 
-/// The same by way of a buffer of `N` bytes.
+/// Writes the value by way of a buffer of `N` bytes.
 fn put_by<T: Plain, const N: usize>(heap: &mut Heap, place: Place, spot: WritePos, value: T)
     requires buffer { T.SIZE ≤ N }
     requires max_len { N ≤ 4096 }
@@ -185,5 +185,20 @@ pub fn put_over<T: Plain>(heap: &mut Heap, place: Place, first: u64, values: &[T
 {
     if let Some(storage) = link_of(heap, place) {
         spell(heap, storage, T::SIZE * first, values);
+    }
+}
+
+/// Spells values behind the last element, one after another, where the capacity allows.
+pub fn put_behind<T: Plain>(heap: &mut Heap, place: Place, values: &[T])
+    requires container { IsStanding heap.old.bytes place T.SIZE }
+    requires space { len_at heap.old.bytes place + length values.now ≤ capacity_at heap.old.bytes place }
+    ensures values { IsTrue (list_all T.is_value values.now) }
+    ensures effect { Extends heap.old heap.new place T.SIZE (length values.now) (flat_map T.spelling values.now) }
+{
+    let len = len_of(heap, place);
+    let more = values.len() as u64;
+    if let Some(storage) = link_of(heap, place) {
+        spell(heap, storage, T::SIZE * len, values);
+        heap.set_word(place.handle, place.at + LEN, len + more);
     }
 }

@@ -14,8 +14,8 @@ use block_tags::{MAX_SEGMENT_LEN, Role};
 use raw_region::Steps;
 use seg_types::Refusal;
 
-/// Takes a block of storage for `n` bytes into use, and answers its handle, or `NoSpace` where no gap is long enough:
-/// then nothing changes.
+/// Takes a block of storage for `n` bytes into use, and returns its handle, or `NoSpace` if no gap is long enough: then
+/// nothing changes.
 pub fn take(heap: &mut Heap, n: u64) -> Result<u64, Refusal>
     requires { IsHeap current heap.old.bytes }
     ensures { TakesStorage heap.old heap.new n result }
@@ -24,8 +24,8 @@ pub fn take(heap: &mut Heap, n: u64) -> Result<u64, Refusal>
     block.ok().ok_or(Refusal::NoSpace)
 }
 
-/// Takes a block for the bytes of a text into use, and writes them in it. It answers the block's handle, or `NoSpace`
-/// where no gap is long enough: then nothing changes. An empty text needs no block.
+/// Takes a block for the bytes of a text into use, and writes them in it. It returns the block's handle, or `NoSpace`
+/// if no gap is long enough: then nothing changes. An empty text needs no block.
 pub fn place_text(heap: &mut Heap, text: &[u8]) -> Result<Option<u64>, Refusal>
     requires { IsHeap current heap.old.bytes }
     ensures { PlacesText heap.old heap.new text.now result }
@@ -62,7 +62,7 @@ pub fn release_texts(heap: &mut Heap, array: u64, n: u64)
 }
 
 /// Takes a block into use for each text that is not empty, one after another, and writes their elements from the
-/// beginning of an array on. It stops at the first text for which no gap is long enough, and answers how many there are
+/// beginning of an array on. It stops at the first text for which no gap is long enough, and returns how many there are
 /// before it.
 pub fn place_texts(heap: &mut Heap, array: u64, texts: &[&[u8]]) -> u64
     requires heap { IsHeap current heap.old.bytes }
@@ -80,9 +80,9 @@ pub fn place_texts(heap: &mut Heap, array: u64, texts: &[&[u8]]) -> u64
     n
 }
 
-/// Takes an array of as many places as there are texts into use, and then a block for each text that is not empty, and
-/// writes the elements and the texts. It answers the array's handle, or `NoSpace` where one of them has no gap that is
-/// long enough: then the same blocks are in use as before, with the same bytes.
+/// Allocates an array with a place for each text, and then a block for each text that is not empty, and writes the
+/// elements and the texts. Returns the array's handle, or `NoSpace` if one of them has no gap that is long enough. Then
+/// the same blocks are in use as before, with the same bytes.
 pub fn store_array(heap: &mut Heap, texts: &[&[u8]]) -> Result<u64, Refusal>
     requires heap { IsHeap current heap.old.bytes }
     requires non_empty { 0 < length texts.now }

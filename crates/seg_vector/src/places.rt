@@ -7,7 +7,7 @@ ghost use Rattle.seg_vector.specs.Containers.{capacity_at, len_at, place_at};
 
 use best_fit::{Heap, Place};
 
-/// Where the length and the capacity of a container stand behind its link.
+/// Where the length and the capacity of a container stand after its link.
 pub const LEN: u64 = 8;
 
 pub const CAPACITY: u64 = 16;
@@ -15,7 +15,7 @@ pub const CAPACITY: u64 = 16;
 /// The bytes of an element of a vector of texts: the link to the block of its text, and the text's length.
 pub const ELEMENT: u64 = 16;
 
-/// Where the link of the container at a place leads.
+/// Returns where the link of the container at a place leads.
 pub fn link_of(heap: &Heap, place: Place) -> Option<u64>
     requires aligned { place.at % 8 ≡ 0 }
     requires room { IsTrue (has_room (live_of heap.now.bytes) place.handle (place.at + 24)) }
@@ -24,7 +24,7 @@ pub fn link_of(heap: &Heap, place: Place) -> Option<u64>
     heap.link(place.handle, place.at)
 }
 
-/// The length of the container at a place.
+/// Returns the length of the container at a place.
 pub fn len_of(heap: &Heap, place: Place) -> u64
     requires heap { IsHeap current heap.now.bytes }
     requires room { IsTrue (has_room (live_of heap.now.bytes) place.handle (place.at + 24)) }
@@ -33,7 +33,7 @@ pub fn len_of(heap: &Heap, place: Place) -> u64
     heap.word(place.handle, place.at + LEN)
 }
 
-/// The capacity of the container at a place.
+/// Returns the capacity of the container at a place.
 pub fn capacity_of(heap: &Heap, place: Place) -> u64
     requires heap { IsHeap current heap.now.bytes }
     requires room { IsTrue (has_room (live_of heap.now.bytes) place.handle (place.at + 24)) }

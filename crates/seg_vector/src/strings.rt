@@ -14,15 +14,15 @@ use best_fit::{Heap, Place};
 use block_tags::MAX_SEGMENT_LEN;
 use seg_types::Refusal;
 
-/// A text at a place in a heap: three words there (the link to its storage, its length and its capacity), and a block
-/// of storage for as many bytes as its capacity says. Without a place for a byte it has no block.
+/// A text at a place in a heap. Three words stand there: the link to its storage, its length and its capacity. The
+/// storage is a block for as many bytes as the capacity. Without a place for a byte it has no block.
 #[derive(Clone, Copy, Debug)]
 pub struct SegString {
     /// Where the three words stand.
     pub place: Place,
 }
 
-/// The capacity that a text has for `len` bytes.
+/// Returns the capacity that a text has for `len` bytes.
 fn capacity_for_text(len: u64, capacity: u64) -> u64
     requires { 2 * capacity < 18446744073709551616 }
     ensures { result ≡ places_for_text len capacity }
@@ -48,7 +48,7 @@ impl SegString {
         SegString { place }
     }
 
-    /// The number of bytes.
+    /// Returns the number of bytes.
     pub fn len(self, heap: &Heap) -> u64
         requires { IsSomeText heap.now.bytes self.place }
         ensures { CountsBytes heap.now.bytes self.place result }
@@ -56,7 +56,7 @@ impl SegString {
         len_of(heap, self.place)
     }
 
-    /// The number of bytes that the storage has places for.
+    /// Returns the number of bytes that the storage has places for.
     pub fn capacity(self, heap: &Heap) -> u64
         requires { IsSomeText heap.now.bytes self.place }
         ensures { CountsBytePlaces heap.now.bytes self.place result }
@@ -64,7 +64,7 @@ impl SegString {
         capacity_of(heap, self.place)
     }
 
-    /// All bytes.
+    /// Returns all bytes.
     pub fn as_bytes(self, heap: &Heap) -> &[u8]
         requires { IsSomeText heap.now.bytes self.place }
         ensures { ReadsText heap.now.bytes self.place result.now }
@@ -72,11 +72,11 @@ impl SegString {
         elements(heap, self.place, 1)
     }
 
-    /// The byte with `index` others before it.
+    /// Returns the byte with `index` others before it.
     ///
     /// # Errors
     ///
-    /// `OutOfRange` where there are not so many.
+    /// `OutOfRange` if there are not so many.
     pub fn get(self, heap: &Heap, index: u64) -> Result<u8, Refusal>
         requires { IsSomeText heap.now.bytes self.place }
         ensures { GetsByte heap.now self.place index result }
@@ -89,7 +89,7 @@ impl SegString {
     ///
     /// # Errors
     ///
-    /// `OutOfRange` where there are not so many. Nothing changes.
+    /// `OutOfRange` if there are not so many. Nothing changes.
     pub fn set(self, heap: &mut Heap, index: u64, byte: u8) -> Result<(), Refusal>
         requires { IsSomeText heap.old.bytes self.place }
         ensures { SetsByte heap.old heap.new self.place index byte result }
@@ -101,11 +101,11 @@ impl SegString {
         Ok(())
     }
 
-    /// Makes places for `n` bytes, where there are fewer, and else changes nothing. The bytes stay.
+    /// Makes places for `n` bytes, if there are fewer, and otherwise changes nothing. The bytes stay.
     ///
     /// # Errors
     ///
-    /// `NoSpace` where there are fewer and the storage cannot be regrown. Nothing changes.
+    /// `NoSpace` if there are fewer and the storage cannot be regrown. Nothing changes.
     pub fn reserve(self, heap: &mut Heap, n: u64) -> Result<(), Refusal>
         requires { IsSomeText heap.old.bytes self.place }
         ensures capacity { ReservesBytes heap.old heap.new self.place n result }
@@ -114,11 +114,11 @@ impl SegString {
         container_capacity::reserve(heap, self.place, 1, n)
     }
 
-    /// Leaves these bytes in place of those that there are. There are places for just so many, where there were fewer.
+    /// Leaves these bytes in place of those that there are. There are places for just so many, if there were fewer.
     ///
     /// # Errors
     ///
-    /// `NoSpace` where there are fewer places and the storage cannot be regrown. Nothing changes.
+    /// `NoSpace` if there are fewer places and the storage cannot be regrown. Nothing changes.
     pub fn assign(self, heap: &mut Heap, bytes: &[u8]) -> Result<(), Refusal>
         requires { IsSomeText heap.old.bytes self.place }
         ensures { AssignsText heap.old heap.new self.place bytes.now result }
@@ -130,12 +130,12 @@ impl SegString {
         Ok(())
     }
 
-    /// Puts bytes behind the last one. Where there are not places for all of them, there are twice as many as before,
-    /// and at least 16, and as many as are needed.
+    /// Puts bytes after the last one. If there are not places for all of them, there are twice as many as before, and
+    /// at least 16, and as many as are needed.
     ///
     /// # Errors
     ///
-    /// `NoSpace` where there are fewer places and the storage cannot be regrown. Nothing changes.
+    /// `NoSpace` if there are fewer places and the storage cannot be regrown. Nothing changes.
     pub fn append(self, heap: &mut Heap, bytes: &[u8]) -> Result<(), Refusal>
         requires { IsSomeText heap.old.bytes self.place }
         ensures { AppendsText heap.old heap.new self.place bytes.now result }
@@ -152,7 +152,7 @@ impl SegString {
     }
 
     /// Makes the capacity the number of bytes. The storage is shortened to it, as far as a block can be, and given back
-    /// where there is no byte.
+    /// if there is no byte.
     pub fn shrink(self, heap: &mut Heap)
         requires { IsSomeText heap.old.bytes self.place }
         ensures { ShrinksText heap.old heap.new self.place }

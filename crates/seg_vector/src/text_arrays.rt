@@ -28,8 +28,8 @@ pub fn put_element(heap: &mut Heap, array: u64, at: u64, text: Option<u64>, len:
     heap.set_word(array, at + LEN, len);
 }
 
-/// Makes the element at an offset in one block that at an offset in another, or in the same one: a link that leads
-/// where its link leads, and its length.
+/// Copies an element, a link and a length, from an offset in one block to an offset in another or the same. The new
+/// link leads where the old one does.
 pub fn carry_element(heap: &mut Heap, from: u64, from_at: u64, to: u64, to_at: u64)
     requires element { HasElement heap.old.bytes from from_at }
     requires room { HasElementRoom heap.old.bytes to to_at (link_at (bytes_of heap.old.bytes) (from + from_at)) }
@@ -63,10 +63,10 @@ pub fn move_elements_up(heap: &mut Heap, array: u64, at: u64, n: u64)
     }
 }
 
-/// Asks for an array of `n` places for the vector of texts at a place, which has fewer, and answers the array's handle:
-/// that of the old one where it is long enough or can be lengthened where it stands, and else that of a new block,
-/// beside the old one. The vector's words stay. Where a new block is needed and no gap is long enough, it answers
-/// `NoSpace`, and nothing changes.
+/// Asks for an array of `n` places for the vector of texts at a place, which has fewer, and returns the array's handle.
+/// It is the old one if that is long enough or can be lengthened in place, and otherwise a new block beside the old
+/// one. The vector's words stay. Where a new block is needed and no gap is long enough, it answers `NoSpace`, and
+/// nothing changes.
 pub fn reserve_array(heap: &mut Heap, place: Place, n: u64) -> Result<u64, Refusal>
     requires texts { IsTextsContainer heap.old.bytes place }
     requires max_size { 16 * n < 2 ^ 64 }
@@ -83,8 +83,8 @@ pub fn reserve_array(heap: &mut Heap, place: Place, n: u64) -> Result<u64, Refus
     take(heap, ELEMENT * n)
 }
 
-/// Makes the block that was asked for the array of the vector of texts at a place, with `n` places. Where it is a new
-/// one, the elements are carried over, and the old block is given back.
+/// Makes the block that was asked for the array of the vector of texts at a place, with `n` places. If it is a new one,
+/// the elements are carried over, and the old block is given back.
 pub fn install_array(heap: &mut Heap, place: Place, array: u64, n: u64)
     requires { IsArrayReserved heap.old place array n }
     ensures { Adopts heap.old heap.new place array n }
@@ -115,7 +115,7 @@ pub fn insert_element(heap: &mut Heap, place: Place, index: u64, text: Option<u6
     }
 }
 
-/// The number of bytes that the array of the vector of texts at a place has room for, or 0 where it has no block.
+/// Returns the number of bytes that the array of the vector of texts at a place has room for, or 0 if it has no block.
 pub fn array_room(heap: &Heap, place: Place) -> u64
     requires { IsTextsContainer heap.now.bytes place }
     ensures { HasArrayRoom heap.now.bytes place result }
@@ -141,8 +141,8 @@ pub fn undo_reserve(heap: &mut Heap, place: Place, array: u64, room: u64)
     heap.deallocate(array, &mut Steps::new());
 }
 
-/// Puts a text where `index` others stand before it. There is a place for it. Where no gap is long enough for the text,
-/// it answers `NoSpace`, and nothing changes.
+/// Puts a text where `index` others stand before it. There is a place for it. If no gap is long enough for the text, it
+/// answers `NoSpace`, and nothing changes.
 pub fn insert_within(heap: &mut Heap, place: Place, index: u64, text: &[u8]) -> Result<(), Refusal>
     requires { HasSpareCapacity heap.old.bytes place index }
     ensures { InsertsWithin heap.old heap.new place index text.now result }

@@ -20,8 +20,8 @@ use best_fit::{Heap, Place};
 use block_tags::MAX_SEGMENT_LEN;
 use seg_types::Refusal;
 
-/// A vector of texts at a place in a heap: three words there (the link to its array, its length and its capacity), an
-/// array with as many places as its capacity says, and a block for each text that is not empty.
+/// A vector of texts at a place in a heap. Three words stand there: the link to its array, its length and its capacity.
+/// Each text that is not empty has a block of its own.
 #[derive(Clone, Copy, Debug)]
 pub struct SegTexts {
     /// Where the three words stand.
@@ -42,7 +42,7 @@ impl SegTexts {
         SegTexts { place }
     }
 
-    /// The number of texts.
+    /// Returns the number of texts.
     pub fn len(self, heap: &Heap) -> u64
         requires { IsTextsContainer heap.now.bytes self.place }
         ensures { ReadsTextsLen heap.now.bytes self.place result }
@@ -50,7 +50,7 @@ impl SegTexts {
         len_of(heap, self.place)
     }
 
-    /// The number of texts that the array has places for.
+    /// Returns the number of texts that the array has places for.
     pub fn capacity(self, heap: &Heap) -> u64
         requires { IsTextsContainer heap.now.bytes self.place }
         ensures { ReadsTextsCapacity heap.now.bytes self.place result }
@@ -58,11 +58,11 @@ impl SegTexts {
         capacity_of(heap, self.place)
     }
 
-    /// The text with `index` others before it.
+    /// Returns the text with `index` others before it.
     ///
     /// # Errors
     ///
-    /// `OutOfRange` where there are not so many.
+    /// `OutOfRange` if there are not so many.
     #[tactic(auto, using(crate::proofs::Storage::sizes, crate::proofs::TextPuts::few_places))]
     pub fn get(self, heap: &Heap, index: u64) -> Result<&[u8], Refusal>
         requires { IsTextsContainer heap.now.bytes self.place }
@@ -89,7 +89,7 @@ impl SegTexts {
     ///
     /// # Errors
     ///
-    /// `OutOfRange` where there are not so many, and else `NoSpace` where no gap is long enough for the text. Nothing
+    /// `OutOfRange` if there are not so many; otherwise `NoSpace` if no gap is long enough for the text. Nothing
     /// changes.
     #[tactic(auto, using(crate::proofs::Storage::sizes, crate::proofs::TextPuts::few_places))]
     pub fn set(self, heap: &mut Heap, index: u64, text: &[u8]) -> Result<(), Refusal>
@@ -112,9 +112,9 @@ impl SegTexts {
     ///
     /// # Errors
     ///
-    /// `OutOfRange` where there are not so many others: nothing changes. Else `NoSpace` where the array or the text has
-    /// no gap that is long enough: the same blocks are in use as before, with the same bytes. Nothing changes where it
-    /// is the block that is asked for first: the text's, or the array's where the vector is full.
+    /// `OutOfRange` if there are not so many others: nothing changes. Otherwise `NoSpace` if the array or the text has
+    /// no gap that is long enough: the same blocks are in use as before, with the same bytes. Nothing changes if it is
+    /// the block that is asked for first: the text's, or the array's if the vector is full.
     pub fn insert(self, heap: &mut Heap, index: u64, text: &[u8]) -> Result<(), Refusal>
         requires { IsTextsContainer heap.old.bytes self.place }
         ensures changes { InsertsText heap.old heap.new self.place index text.now result }
@@ -133,13 +133,13 @@ impl SegTexts {
         }
     }
 
-    /// Puts a text behind the last one. A full vector gets twice its places first, and at least 4.
+    /// Puts a text after the last one. A full vector gets twice its places first, and at least 4.
     ///
     /// # Errors
     ///
-    /// `NoSpace` where the array or the text has no gap that is long enough: the same blocks are in use as before, with
-    /// the same bytes. Nothing changes where it is the block that is asked for first: the text's, or the array's where
-    /// the vector is full.
+    /// `NoSpace` if the array or the text has no gap that is long enough: the same blocks are in use as before, with
+    /// the same bytes. Nothing changes if it is the block that is asked for first: the text's, or the array's if the
+    /// vector is full.
     pub fn push(self, heap: &mut Heap, text: &[u8]) -> Result<(), Refusal>
         requires { IsTextsContainer heap.old.bytes self.place }
         ensures changes { PushesText heap.old heap.new self.place text.now result }
@@ -149,12 +149,12 @@ impl SegTexts {
         self.insert(heap, len, text)
     }
 
-    /// Leaves out the text with `index` others before it, and gives back its block. Those behind it move down, and the
+    /// Leaves out the text with `index` others before it, and gives back its block. Those after it move down, and the
     /// array stays.
     ///
     /// # Errors
     ///
-    /// `OutOfRange` where there are not so many. Nothing changes.
+    /// `OutOfRange` if there are not so many. Nothing changes.
     #[tactic(auto, using(crate::proofs::Storage::sizes, crate::proofs::TextPuts::few_places))]
     pub fn erase(self, heap: &mut Heap, index: u64) -> Result<(), Refusal>
         requires { IsTextsContainer heap.old.bytes self.place }
@@ -177,7 +177,7 @@ impl SegTexts {
     ///
     /// # Errors
     ///
-    /// `OutOfRange` where there is none. Nothing changes.
+    /// `OutOfRange` if there is none. Nothing changes.
     pub fn pop(self, heap: &mut Heap) -> Result<(), Refusal>
         requires { IsTextsContainer heap.old.bytes self.place }
         ensures { PopsText heap.old heap.new self.place result }
@@ -186,11 +186,11 @@ impl SegTexts {
         self.erase(heap, last)
     }
 
-    /// Makes places for `n` texts, where there are fewer, and else changes nothing. The texts stay.
+    /// Makes places for `n` texts, if there are fewer, and otherwise changes nothing. The texts stay.
     ///
     /// # Errors
     ///
-    /// `NoSpace` where there are fewer and the array cannot be lengthened and has no gap that is long enough. Nothing
+    /// `NoSpace` if there are fewer and the array cannot be lengthened and has no gap that is long enough. Nothing
     /// changes.
     pub fn reserve(self, heap: &mut Heap, n: u64) -> Result<(), Refusal>
         requires { IsTextsContainer heap.old.bytes self.place }
@@ -209,13 +209,13 @@ impl SegTexts {
     }
 
     /// Leaves these texts in place of those that there are. One or more get a new array of just so many places, and
-    /// then their blocks, all while the old ones are in use, which are given back then. Where there are none, the array
+    /// then their blocks, all while the old ones are in use, which are given back then. If there are none, the array
     /// stays.
     ///
     /// # Errors
     ///
-    /// `NoSpace` where the array or a text has no gap that is long enough: the same blocks are in use as before, with
-    /// the same bytes. Nothing changes where it is the array.
+    /// `NoSpace` if the array or a text has no gap that is long enough: the same blocks are in use as before, with the
+    /// same bytes. Nothing changes if it is the array.
     pub fn assign(self, heap: &mut Heap, texts: &[&[u8]]) -> Result<(), Refusal>
         requires { IsTextsContainer heap.old.bytes self.place }
         ensures changes { AssignsTexts heap.old heap.new self.place (map (λ text. text.now) texts.now) result }
@@ -234,7 +234,7 @@ impl SegTexts {
     }
 
     /// Makes the capacity the number of texts. The array is shortened to it, as far as a block can be, and given back
-    /// where there is no text.
+    /// if there is no text.
     pub fn shrink(self, heap: &mut Heap)
         requires { IsTextsContainer heap.old.bytes self.place }
         ensures { ShrinksTexts heap.old heap.new self.place }

@@ -1,12 +1,11 @@
 //! Vectors of values of a fixed number of bytes.
-ghost use Rattle.std.specs.Prelude.{◌≡◌, ◌+◌, ◌%◌, ◌≤◌, ◌++◌, IsTrue, List, length};
+ghost use Rattle.std.specs.Prelude.{◌≡◌, ◌+◌, ◌%◌, IsTrue, length};
 ghost use Rattle.raw_region.specs.Format.{current};
 ghost use Rattle.best_fit.specs.{Heap.ChangesBytes, Heap.IsHeap, Heap.has_room, Heap.live_of};
-ghost use Rattle.best_fit.specs.{Table.BackingArray as ATable};
 ghost use Rattle.seg_vector.specs.Containers.{place_at};
 ghost use Rattle.seg_vector.specs.VectorCalls.{Assigns, Clears, ReadsVectorLen, CountsPlaces, ErasesFrom, ExtendsBy};
 ghost use Rattle.seg_vector.specs.VectorCalls.{Gets};
-ghost use Rattle.seg_vector.specs.VectorCalls.{InsertsInto, IsSomeVector, IsVector, Pops, Pushes, PutsAll};
+ghost use Rattle.seg_vector.specs.VectorCalls.{InsertsInto, IsSomeVector, IsVector, Pops, Pushes};
 ghost use Rattle.seg_vector.specs.VectorCalls.{ReleasesVector};
 ghost use Rattle.seg_vector.specs.VectorCalls.{ReservesVector, ReservesNothing, Sets, SetsAll, ShrinksVector};
 ghost use Rattle.seg_vector.specs.VectorCalls.{InitsVector};
@@ -14,15 +13,17 @@ ghost use Rattle.seg_vector.specs.VectorCalls.{InitsVector};
 use crate::container_capacity::{
     self, capacity_for_more, free_storage, grow_for_one, init_container, shrink_storage,
 };
-use crate::elements::{WritePos, element, erase_element, put_over, put_value, truncate};
+use crate::elements::{
+    WritePos, element, erase_element, put_behind, put_over, put_value, truncate,
+};
 use crate::places::{capacity_of, len_of};
 use best_fit::{Heap, Place};
 use block_tags::MAX_SEGMENT_LEN;
 use seg_types::{Plain, Refusal};
 use std::marker::PhantomData;
 
-/// A vector at a place in a heap: three words there (the link to its storage, its length and its capacity), and a block
-/// of storage, in which it has as many places as its capacity says. Without a place it has no block.
+/// A vector at a place in a heap. Three words stand there: the link to its storage, its length and its capacity. The
+/// storage is a block with as many places as the capacity. Without a place it has no block.
 #[derive(Clone, Copy)]
 pub struct SegVec<T: Plain> {
     /// Where the three words stand.
@@ -31,7 +32,7 @@ pub struct SegVec<T: Plain> {
 }
 
 impl<T: Plain> SegVec<T> {
-    /// The vector that stands at a place.
+    /// Returns the vector that stands at a place.
     pub fn at(place: Place) -> SegVec<T>
         ensures { result.place ≡ place }
     {
@@ -55,7 +56,7 @@ impl<T: Plain> SegVec<T> {
         SegVec::at(place)
     }
 
-    /// The number of values.
+    /// Returns the number of values.
     pub fn len(self, heap: &Heap) -> u64
         requires { IsSomeVector T.SIZE T.is_value T.spelling heap.now.bytes self.place }
         ensures { ReadsVectorLen T.SIZE T.is_value T.spelling heap.now.bytes self.place result }
@@ -63,7 +64,7 @@ impl<T: Plain> SegVec<T> {
         len_of(heap, self.place)
     }
 
-    /// The number of values that the storage has places for.
+    /// Returns the number of values that the storage has places for.
     pub fn capacity(self, heap: &Heap) -> u64
         requires { IsSomeVector T.SIZE T.is_value T.spelling heap.now.bytes self.place }
         ensures { CountsPlaces T.SIZE T.is_value T.spelling heap.now.bytes self.place result }
@@ -71,11 +72,11 @@ impl<T: Plain> SegVec<T> {
         capacity_of(heap, self.place)
     }
 
-    /// The value with `index` others before it.
+    /// Returns the value with `index` others before it.
     ///
     /// # Errors
     ///
-    /// `OutOfRange` where there are not so many.
+    /// `OutOfRange` if there are not so many.
     pub fn get(self, heap: &Heap, index: u64) -> Result<T, Refusal>
         requires { IsSomeVector T.SIZE T.is_value T.spelling heap.now.bytes self.place }
         ensures { Gets T.SIZE T.is_value T.spelling heap.now self.place index result }
@@ -93,7 +94,7 @@ impl<T: Plain> SegVec<T> {
     ///
     /// # Errors
     ///
-    /// `OutOfRange` where there are not so many. Nothing changes.
+    /// `OutOfRange` if there are not so many. Nothing changes.
     pub fn set(self, heap: &mut Heap, index: u64, value: T) -> Result<(), Refusal>
         requires { IsSomeVector T.SIZE T.is_value T.spelling heap.old.bytes self.place }
         ensures { Sets T.SIZE T.is_value T.spelling heap.old heap.new self.place index value result }
@@ -109,7 +110,7 @@ impl<T: Plain> SegVec<T> {
     ///
     /// # Errors
     ///
-    /// `OutOfRange` where there are not so many. Nothing changes.
+    /// `OutOfRange` if there are not so many. Nothing changes.
     pub fn overwrite(self, heap: &mut Heap, first: u64, values: &[T]) -> Result<(), Refusal>
         requires { IsSomeVector T.SIZE T.is_value T.spelling heap.old.bytes self.place }
         ensures sets { SetsAll T.SIZE T.is_value T.spelling heap.old heap.new self.place first values.now result }
@@ -130,7 +131,7 @@ impl<T: Plain> SegVec<T> {
     ///
     /// # Errors
     ///
-    /// `OutOfRange` where there is none. Nothing changes.
+    /// `OutOfRange` if there is none. Nothing changes.
     pub fn pop(self, heap: &mut Heap) -> Result<T, Refusal>
         requires { IsSomeVector T.SIZE T.is_value T.spelling heap.old.bytes self.place }
         ensures { Pops T.SIZE T.is_value T.spelling heap.old heap.new self.place result }
@@ -141,11 +142,11 @@ impl<T: Plain> SegVec<T> {
         Ok(value)
     }
 
-    /// Leaves out the value with `index` others before it. Those behind it move down, and the places stay.
+    /// Leaves out the value with `index` others before it. Those after it move down, and the places stay.
     ///
     /// # Errors
     ///
-    /// `OutOfRange` where there are not so many. Nothing changes.
+    /// `OutOfRange` if there are not so many. Nothing changes.
     pub fn erase(self, heap: &mut Heap, index: u64) -> Result<(), Refusal>
         requires { IsSomeVector T.SIZE T.is_value T.spelling heap.old.bytes self.place }
         ensures { ErasesFrom T.SIZE T.is_value T.spelling heap.old heap.new self.place index result }
@@ -157,11 +158,11 @@ impl<T: Plain> SegVec<T> {
         Ok(())
     }
 
-    /// Puts a value behind the last one. A full vector gets twice its places first, and at least 4.
+    /// Puts a value after the last one. A full vector gets twice its places first, and at least 4.
     ///
     /// # Errors
     ///
-    /// `NoSpace` where it is full and its storage cannot be regrown. Nothing changes.
+    /// `NoSpace` if it is full and its storage cannot be regrown. Nothing changes.
     pub fn push(self, heap: &mut Heap, value: T) -> Result<(), Refusal>
         requires { IsSomeVector T.SIZE T.is_value T.spelling heap.old.bytes self.place }
         ensures { Pushes T.SIZE T.is_value T.spelling heap.old heap.new self.place value result }
@@ -177,8 +178,8 @@ impl<T: Plain> SegVec<T> {
     ///
     /// # Errors
     ///
-    /// `OutOfRange` where there are not so many others, and else `NoSpace` where the vector is full and its storage
-    /// cannot be regrown. Nothing changes.
+    /// `OutOfRange` if there are not so many others; otherwise `NoSpace` if the vector is full and its storage cannot
+    /// be regrown. Nothing changes.
     pub fn insert(self, heap: &mut Heap, index: u64, value: T) -> Result<(), Refusal>
         requires { IsSomeVector T.SIZE T.is_value T.spelling heap.old.bytes self.place }
         ensures { InsertsInto T.SIZE T.is_value T.spelling heap.old heap.new self.place index value result }
@@ -192,12 +193,12 @@ impl<T: Plain> SegVec<T> {
         Ok(())
     }
 
-    /// Puts values behind the last one, one after another. Where there are not places for all of them, there are twice
-    /// as many as before, and at least 4, and as many as are needed.
+    /// Puts values after the last one, one after another. If there are not places for all of them, there are twice as
+    /// many as before, and at least 4, and as many as are needed.
     ///
     /// # Errors
     ///
-    /// `NoSpace` where there are fewer places and the storage cannot be regrown. Nothing changes.
+    /// `NoSpace` if there are fewer places and the storage cannot be regrown. Nothing changes.
     pub fn extend(self, heap: &mut Heap, values: &[T]) -> Result<(), Refusal>
         requires { IsSomeVector T.SIZE T.is_value T.spelling heap.old.bytes self.place }
         ensures { ExtendsBy T.SIZE T.is_value T.spelling heap.old heap.new self.place values.now result }
@@ -208,15 +209,15 @@ impl<T: Plain> SegVec<T> {
         }
         let wanted = capacity_for_more(self.len(heap), more, self.capacity(heap));
         container_capacity::reserve(heap, self.place, T::SIZE, wanted)?;
-        put_all(heap, self.place, values);
+        put_behind(heap, self.place, values);
         Ok(())
     }
 
-    /// Makes places for `n` values, where there are fewer, and else changes nothing. The values stay.
+    /// Makes places for `n` values, if there are fewer, and otherwise changes nothing. The values stay.
     ///
     /// # Errors
     ///
-    /// `NoSpace` where there are fewer and the storage cannot be regrown. Nothing changes.
+    /// `NoSpace` if there are fewer and the storage cannot be regrown. Nothing changes.
     pub fn reserve(self, heap: &mut Heap, n: u64) -> Result<(), Refusal>
         requires { IsSomeVector T.SIZE T.is_value T.spelling heap.old.bytes self.place }
         ensures capacity { ReservesVector T.SIZE T.is_value T.spelling heap.old heap.new self.place n result }
@@ -225,23 +226,23 @@ impl<T: Plain> SegVec<T> {
         container_capacity::reserve(heap, self.place, T::SIZE, n)
     }
 
-    /// Leaves these values in place of those that there are. There are places for just so many, where there were fewer.
+    /// Leaves these values in place of those that there are. There are places for just so many, if there were fewer.
     ///
     /// # Errors
     ///
-    /// `NoSpace` where there are fewer places and the storage cannot be regrown. Nothing changes.
+    /// `NoSpace` if there are fewer places and the storage cannot be regrown. Nothing changes.
     pub fn assign(self, heap: &mut Heap, values: &[T]) -> Result<(), Refusal>
         requires { IsSomeVector T.SIZE T.is_value T.spelling heap.old.bytes self.place }
         ensures { Assigns T.SIZE T.is_value T.spelling heap.old heap.new self.place values.now result }
     {
         container_capacity::reserve(heap, self.place, T::SIZE, values.len() as u64)?;
         self.clear(heap);
-        put_all(heap, self.place, values);
+        put_behind(heap, self.place, values);
         Ok(())
     }
 
     /// Makes the capacity the number of values. The storage is shortened to it, as far as a block can be, and given
-    /// back where there is no value.
+    /// back if there is no value.
     pub fn shrink(self, heap: &mut Heap)
         requires { IsSomeVector T.SIZE T.is_value T.spelling heap.old.bytes self.place }
         ensures { ShrinksVector T.SIZE T.is_value T.spelling heap.old heap.new self.place }
@@ -263,16 +264,5 @@ impl<T: Plain> SegVec<T> {
         ensures { ReleasesVector T.SIZE T.is_value T.spelling heap.old heap.new self.place }
     {
         free_storage(heap, self.place, T::SIZE);
-    }
-}
-
-/// Puts values behind the last one, one after another, where there are places for all of them.
-fn put_all<T: Plain>(heap: &mut Heap, place: Place, values: &[T])
-    requires { (xs : List T) × ((t : ATable) × (IsVector T.SIZE T.is_value T.spelling heap.old.bytes place xs t
-        × (length xs + length values.now ≤ t.capacity))) }
-    ensures { PutsAll T.SIZE T.is_value T.spelling heap.old heap.new place values.now }
-{
-    for value in values {
-        put_value(heap, place, WritePos::End, *value);
     }
 }

@@ -12,8 +12,8 @@ use requests::{NoAnswerMemory, asked, borrowed, buffered, words};
 use segment_answers::{Lined, Numbered};
 use segment_cli::{ProgramFault, SessionFault};
 use segment_commands::{
-    CommandFault, check, check_all, create, explain, grow, lint, load, load_over, migrate, names,
-    print, print_language, put_trouble, report, report_no_memory, shrink, tell_segment,
+    CommandFault, change, check, check_all, create, explain, lint, load, load_over, names, print,
+    print_language, put_trouble, report, report_no_memory, tell_segment,
 };
 use segment_disk::{Disk, FileProblem, HostDisk, OpenedFile, StdOutput};
 use segment_invocation::{
@@ -30,7 +30,7 @@ const USAGE: CommandFault = CommandFault::Program(ProgramFault::Usage);
 /// The status where the reader of standard output ended first, as of a program that SIGPIPE ends.
 const CLOSED_PIPE: u8 = 141;
 
-/// Ends with the status of what came of the command line; where that is a fault, its line goes to standard error.
+/// Ends with the status of what came of the command line; if that is a fault, its line goes to standard error.
 fn main(rt: HostRuntime) -> ExitCode {
     let status = match obey(&rt) {
         Ok(status) => status,
@@ -39,14 +39,13 @@ fn main(rt: HostRuntime) -> ExitCode {
     ExitCode::from(status)
 }
 
-/// Says what a fault is, and answers its status.
+/// Says what a fault is, and returns its status.
 fn tell(rt: &HostRuntime, fault: CommandFault) -> u8 {
     report(fault, &mut StdSink::new(rt.stderr()))
 }
 
 /// Does what the program's own command line asks for, and answers the status. Words that are no text are a wrong
-/// command
-/// line.
+/// command line.
 fn obey(rt: &HostRuntime) -> Result<u8, NoAnswerMemory> {
     let Some(owned) = words(rt)? else {
         let _ = eprintln!(rt; "error: the command line is no UTF-8");
@@ -63,132 +62,207 @@ fn obey(rt: &HostRuntime) -> Result<u8, NoAnswerMemory> {
 }
 
 /// Does what the command line asks for, with the files of the system, standard input and standard output, and answers
-/// the status. Where a person reads standard error, or more is asked for, it is told behind the line of a fault why the
+/// the status. If a person reads standard error, or more is asked for, the line of a fault is followed by why the
 /// system did not open or make the file, as far as it said so.
 fn perform(
     rt: &HostRuntime,
     asked: &Invocation<'_>,
     is_verbose: bool,
 ) -> Result<u8, NoAnswerMemory> {
-    let buffer = buffered(rt.alloc(), io::writer(rt))?;
-    let mut disk = HostDisk::patient(rt, keeping_of(asked).wait);
-    let mut scripts = HostDisk::new(rt);
-    let out = StdOutput::new(buffer);
-    let is_verbose = is_verbose || rt.stderr().is_terminal();
-    let fault = match command(rt, &mut disk, &mut scripts, asked, is_verbose, out) {
+    let out = StdOutput::new(buffered(rt.alloc(), io::writer(rt))?);
+    let mut host = Host {
+        rt,
+        disk: HostDisk::patient(rt, keeping_of(asked).wait),
+        scripts: HostDisk::new(rt),
+        is_verbose: is_verbose || rt.stderr().is_terminal(),
+    };
+    let fault = match host.command(asked, out) {
         Ok(status) => return Ok(status),
         Err(fault) => fault,
     };
     let status = tell(rt, fault);
-    if is_of_file(fault) && is_verbose {
-        if let Some((path, trouble)) = trouble_of(asked, &disk, &scripts) {
+    if is_of_file(fault) && host.is_verbose {
+        if let Some((path, trouble)) = host.trouble_of(asked) {
             let _ = put_trouble(path, Some(trouble), &mut StdSink::new(rt.stderr()));
         }
     }
     Ok(status)
 }
 
-/// What the system said of the script that was to be opened, or else of the file, and its path.
-fn trouble_of<'a>(
-    asked: &Invocation<'a>,
-    disk: &HostDisk<'_, HostRuntime>,
-    scripts: &HostDisk<'_, HostRuntime>,
-) -> Option<(&'a str, FileProblem)> {
-    match (script_of(asked), scripts.trouble()) {
-        (Some(path), Some(trouble)) => Some((path, trouble)),
-        _ => Some((file_of(asked)?, disk.trouble()?)),
+/// The file of a run, its mode, and the size of a segment that it makes.
+type Run<'a> = (&'a str, ModeName, Option<u64>);
+
+/// The system, as a command uses it.
+#[derive(Drop)]
+struct Host<'a> {
+    rt: &'a HostRuntime,
+    /// The files of segments.
+    disk: HostDisk<'a, HostRuntime>,
+    /// Those of scripts.
+    scripts: HostDisk<'a, HostRuntime>,
+    /// Whether a fault of a file is followed by why it came.
+    is_verbose: bool,
+}
+
+impl<'a> Host<'a> {
+    /// What the system said of the script that was to be opened, or else of the file, and its path.
+    fn trouble_of<'b>(&self, asked: &Invocation<'b>) -> Option<(&'b str, FileProblem)> {
+        match (script_of(asked), self.scripts.trouble()) {
+            (Some(path), Some(trouble)) => Some((path, trouble)),
+            _ => Some((file_of(asked)?, self.disk.trouble()?)),
+        }
+    }
+
+    /// Does what the command line asks for, and answers the status.
+    fn command<W: Write + Drop>(
+        &mut self,
+        asked: &Invocation<'_>,
+        out: StdOutput<W>,
+    ) -> Result<u8, CommandFault>
+        requires { out.history ≡ nothing_taken }
+    {
+        let alloc = self.rt.alloc();
+        let disk = &mut self.disk;
+        let mut out = out;
+        let answer = match asked {
+            Invocation::Create(file, size) => create(alloc, disk, file, *size),
+            Invocation::Run(file, mode, size) => {
+                return self.answer((file, *mode, *size), &Running::PLAIN, out);
+            }
+            Invocation::RunWith(file, mode, size, how) => {
+                return self.answer((file, *mode, *size), how, out);
+            }
+            Invocation::Check(file) => check(alloc, disk, file, &mut out),
+            Invocation::CheckAll(files, is_quiet) => {
+                let is_verbose = self.is_verbose;
+                let trouble_of = |disk: &HostDisk<'_, HostRuntime>| {
+                    if is_verbose { disk.trouble() } else { None }
+                };
+                let mut err = StdSink::new(self.rt.stderr());
+                let files = files.as_slice();
+                return check_all(
+                    alloc, disk, files, *is_quiet, trouble_of, &mut out, &mut err,
+                );
+            }
+            Invocation::Explain(file) => explain(alloc, disk, file, &mut out),
+            Invocation::Grow(file, bytes) => {
+                let by = FileChange::Grow(*bytes);
+                change(alloc, disk, file, by, SaveMode::InPlace, &mut out)
+            }
+            Invocation::Shrink(file) => {
+                let by = FileChange::Shrink;
+                change(alloc, disk, file, by, SaveMode::InPlace, &mut out)
+            }
+            Invocation::Migrate(file) => {
+                let by = FileChange::Migrate;
+                change(alloc, disk, file, by, SaveMode::InPlace, &mut out)
+            }
+            Invocation::ChangeWith(file, by, keeping) => {
+                change(alloc, disk, file, *by, keeping.saving, &mut out)
+            }
+            Invocation::Tell(file, what) => tell_segment(alloc, disk, file, &mut out, *what),
+            Invocation::Names(file, prefix, most) => {
+                let most = most.unwrap_or(u64::MAX);
+                names(alloc, disk, file, prefix, most, &mut out)
+            }
+            Invocation::Load(file, size, keeping) => {
+                let mut text = StdSource::new(self.rt.reader());
+                match keeping.saving {
+                    SaveMode::InPlace => load(alloc, disk, file, *size, &mut text),
+                    SaveMode::Replacing => load_over(alloc, disk, file, *size, &mut text),
+                }
+            }
+            Invocation::Lint => {
+                let mut script = StdSource::new(self.rt.reader());
+                lint(command_rows(), &mut script, &mut out)
+            }
+            Invocation::Language => print_language(&mut out, command_rows()),
+            Invocation::Version => print(&mut out, VERSION),
+        };
+        match answer {
+            Ok(()) => Ok(0),
+            Err(_) if ends_quietly(asked) && out.is_closed_pipe() => Ok(CLOSED_PIPE),
+            Err(fault) => Err(fault),
+        }
+    }
+
+    /// Runs the script that the command line asks for, and answers the status. Its answers go out as they are, or
+    /// numbered.
+    fn answer<O: Lined + Drop>(
+        &mut self,
+        run: Run<'_>,
+        how: &Running<'_>,
+        out: O,
+    ) -> Result<u8, CommandFault>
+        requires { O.history out ≡ nothing_taken }
+    {
+        if how.answering.numbered {
+            return self.answer_to(run, how, &mut Numbered::new(out));
+        }
+        let mut plain = out;
+        self.answer_to(run, how, &mut plain)
+    }
+
+    /// Runs the script that the command line asks for, which it reads from where that says, and answers the status.
+    fn answer_to<O: Lined>(
+        &mut self,
+        run: Run<'_>,
+        how: &Running<'_>,
+        out: &mut O,
+    ) -> Result<u8, CommandFault>
+        requires { O.history out.old ≡ nothing_taken }
+    {
+        match &how.script {
+            Script::Input => {
+                let mut script = StdSource::new(Prompted::new(self.rt, self.rt.reader()));
+                self.run(run, how, &mut script, out)
+            }
+            Script::File(path) => {
+                let Ok(opened) = self.scripts.open(path) else {
+                    return Err(CommandFault::from(SessionFault::ReadFault));
+                };
+                let OpenedFile { reader, len: _ } = opened;
+                let mut script = reader;
+                self.run(run, how, &mut script, out)
+            }
+            Script::Lines(lines) => {
+                let text = script_text(self.rt.alloc(), lines.as_slice())?;
+                let mut script = StdSource::new(text.as_slice());
+                self.run(run, how, &mut script, out)
+            }
+        }
+    }
+
+    /// Runs a script, to its end or to the first line that is refused, and answers the status.
+    fn run<S: Source, O: Lined>(
+        &mut self,
+        run: Run<'_>,
+        how: &Running<'_>,
+        script: &mut S,
+        out: &mut O,
+    ) -> Result<u8, CommandFault>
+        requires script { (S.history script.old).failures ≡ 0 }
+        requires out { O.history out.old ≡ nothing_taken }
+    {
+        let (file, mode, size) = run;
+        let saving = how.keeping.saving;
+        let until = if how.answering.strict {
+            Until::Refusal
+        } else {
+            Until::End
+        };
+        let (alloc, disk) = (self.rt.alloc(), &mut self.disk);
+        segment_commands::run(alloc, disk, file, mode, size, saving, until, script, out)?;
+        Ok(0)
     }
 }
 
-/// How the file that the command line names is taken and saved.
+/// Returns how the file that the command line names is taken and saved.
 fn keeping_of(asked: &Invocation<'_>) -> Keeping {
     match asked {
         Invocation::ChangeWith(_, _, keeping) | Invocation::Load(_, _, keeping) => *keeping,
         Invocation::RunWith(_, _, _, how) => how.keeping,
         _ => Keeping::PLAIN,
-    }
-}
-
-/// Does what the command line asks for, and answers the status.
-fn command<W: Write + Drop>(
-    rt: &HostRuntime,
-    disk: &mut HostDisk<'_, HostRuntime>,
-    scripts: &mut HostDisk<'_, HostRuntime>,
-    asked: &Invocation<'_>,
-    is_verbose: bool,
-    out: StdOutput<W>,
-) -> Result<u8, CommandFault>
-    requires { out.history ≡ nothing_taken }
-{
-    let alloc = rt.alloc();
-    let mut out = out;
-    let answer = match asked {
-        Invocation::Create(file, size) => create(alloc, disk, file, *size),
-        Invocation::Run(file, mode, size) => {
-            let run = Run {
-                file,
-                mode: *mode,
-                size: *size,
-            };
-            answer(rt, disk, scripts, run, &Running::PLAIN, out)?;
-            return Ok(0);
-        }
-        Invocation::RunWith(file, mode, size, how) => {
-            let run = Run {
-                file,
-                mode: *mode,
-                size: *size,
-            };
-            answer(rt, disk, scripts, run, how, out)?;
-            return Ok(0);
-        }
-        Invocation::Check(file) => check(alloc, disk, file, &mut out),
-        Invocation::CheckAll(files, is_quiet) => {
-            let trouble_of = |disk: &HostDisk<'_, HostRuntime>| {
-                if is_verbose { disk.trouble() } else { None }
-            };
-            let mut err = StdSink::new(rt.stderr());
-            let files = files.as_slice();
-            return check_all(
-                alloc, disk, files, *is_quiet, trouble_of, &mut out, &mut err,
-            );
-        }
-        Invocation::Explain(file) => explain(alloc, disk, file, &mut out),
-        Invocation::Grow(file, bytes) => grow(
-            alloc,
-            disk,
-            file,
-            *bytes,
-            SaveMode::InPlace,
-            &mut out,
-        ),
-        Invocation::Shrink(file) => shrink(alloc, disk, file, SaveMode::InPlace, &mut out),
-        Invocation::Migrate(file) => migrate(alloc, disk, file, SaveMode::InPlace, &mut out),
-        Invocation::ChangeWith(file, change, Keeping { saving, .. }) => match change {
-            FileChange::Grow(bytes) => grow(alloc, disk, file, *bytes, *saving, &mut out),
-            FileChange::Shrink => shrink(alloc, disk, file, *saving, &mut out),
-            FileChange::Migrate => migrate(alloc, disk, file, *saving, &mut out),
-        },
-        Invocation::Tell(file, what) => tell_segment(alloc, disk, file, &mut out, *what),
-        Invocation::Names(file, prefix, most) => {
-            let most = most.unwrap_or(u64::MAX);
-            names(alloc, disk, file, prefix, most, &mut out)
-        }
-        Invocation::Load(file, size, keeping) => {
-            let mut text = StdSource::new(rt.reader());
-            match keeping.saving {
-                SaveMode::InPlace => load(alloc, disk, file, *size, &mut text),
-                SaveMode::Replacing => load_over(alloc, disk, file, *size, &mut text),
-            }
-        }
-        Invocation::Lint => lint(command_rows(), &mut StdSource::new(rt.reader()), &mut out),
-        Invocation::Language => print_language(&mut out, command_rows()),
-        Invocation::Version => print(&mut out, VERSION),
-    };
-    match answer {
-        Ok(()) => Ok(0),
-        Err(_) if ends_quietly(asked) && out.is_closed_pipe() => Ok(CLOSED_PIPE),
-        Err(fault) => Err(fault),
     }
 }
 
@@ -201,102 +275,6 @@ fn ends_quietly(asked: &Invocation<'_>) -> bool {
             | Invocation::Names(_, _, _)
             | Invocation::Lint
             | Invocation::Language
-    )
-}
-
-/// The run that is asked for.
-#[derive(Clone, Copy)]
-struct Run<'a> {
-    file: &'a str,
-    mode: ModeName,
-    size: Option<u64>,
-}
-
-/// Runs the script that is asked for, and gives its answers to an output that makes of them what is wanted.
-fn answer<O: Lined + Drop>(
-    rt: &HostRuntime,
-    disk: &mut HostDisk<'_, HostRuntime>,
-    scripts: &mut HostDisk<'_, HostRuntime>,
-    run: Run<'_>,
-    how: &Running<'_>,
-    out: O,
-) -> Result<(), CommandFault>
-    requires { O.history out ≡ nothing_taken }
-{
-    if how.answering.numbered {
-        return answer_to(rt, disk, scripts, run, how, &mut Numbered::new(out));
-    }
-    let mut plain = out;
-    answer_to(rt, disk, scripts, run, how, &mut plain)
-}
-
-/// The same to an output as it is.
-fn answer_to<O: Lined>(
-    rt: &HostRuntime,
-    disk: &mut HostDisk<'_, HostRuntime>,
-    scripts: &mut HostDisk<'_, HostRuntime>,
-    run: Run<'_>,
-    how: &Running<'_>,
-    out: &mut O,
-) -> Result<(), CommandFault>
-    requires { O.history out.old ≡ nothing_taken }
-{
-    match &how.script {
-        Script::Input => {
-            let mut script = StdSource::new(Prompted::new(rt, rt.reader()));
-            run_script(rt, disk, run, how, &mut script, out)
-        }
-        Script::File(path) => {
-            let Ok(opened) = scripts.open(path) else {
-                return Err(CommandFault::Program(ProgramFault::Session(SessionFault::ReadFault)));
-            };
-            let OpenedFile { reader, len: _ } = opened;
-            let mut script = reader;
-            run_script(rt, disk, run, how, &mut script, out)
-        }
-        Script::Lines(lines) => {
-            let text = script_text(rt.alloc(), lines.as_slice())?;
-            run_script(
-                rt,
-                disk,
-                run,
-                how,
-                &mut StdSource::new(text.as_slice()),
-                out,
-            )
-        }
-    }
-}
-
-/// Runs a script, to its end or to the first line that is refused.
-fn run_script<S: Source, O: Lined>(
-    rt: &HostRuntime,
-    disk: &mut HostDisk<'_, HostRuntime>,
-    run: Run<'_>,
-    how: &Running<'_>,
-    script: &mut S,
-    out: &mut O,
-) -> Result<(), CommandFault>
-    requires script { (S.history script.old).failures ≡ 0 }
-    requires out { O.history out.old ≡ nothing_taken }
-{
-    let Run { file, mode, size } = run;
-    let saving = how.keeping.saving;
-    let until = if how.answering.strict {
-        Until::Refusal
-    } else {
-        Until::End
-    };
-    segment_commands::run(
-        rt.alloc(),
-        disk,
-        file,
-        mode,
-        size,
-        saving,
-        until,
-        script,
-        out,
     )
 }
 
@@ -329,23 +307,18 @@ impl<'a, R: Read> ReadOnce for Prompted<'a, R> {
     }
 }
 
-/// The file with the script that the command line names, if there is one.
+/// Returns the file with the script that the command line names, if there is one.
 fn script_of<'a>(asked: &Invocation<'a>) -> Option<&'a str> {
-    match asked {
-        Invocation::RunWith(
-            _,
-            _,
-            _,
-            Running {
-                script: Script::File(path),
-                ..
-            },
-        ) => Some(*path),
+    let Invocation::RunWith(_, _, _, how) = asked else {
+        return None;
+    };
+    match how.script {
+        Script::File(path) => Some(path),
         _ => None,
     }
 }
 
-/// The file that the command line names, if there is one alone.
+/// Returns the file that the command line names, if there is one alone.
 fn file_of<'a>(asked: &Invocation<'a>) -> Option<&'a str> {
     match asked {
         Invocation::Create(file, _)
@@ -360,14 +333,11 @@ fn file_of<'a>(asked: &Invocation<'a>) -> Option<&'a str> {
         | Invocation::Tell(file, _)
         | Invocation::Names(file, _, _)
         | Invocation::Load(file, _, _) => Some(*file),
-        Invocation::CheckAll(_, _)
-        | Invocation::Lint
-        | Invocation::Language
-        | Invocation::Version => None,
+        _ => None,
     }
 }
 
-/// Whether a fault can be one of the file.
+/// Tells whether a fault can be one of the file.
 fn is_of_file(fault: CommandFault) -> bool {
     matches!(
         fault,

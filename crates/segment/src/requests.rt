@@ -18,7 +18,7 @@ pub struct NoAnswerMemory {
 /// What the token of a refusal is.
 const REFUSED: NoAnswerMemory = NoAnswerMemory { _made: () };
 
-/// The words of the command line, the program's name first, where they are texts.
+/// Returns the words of the command line, the program's name first, if they are texts.
 pub fn words(rt: &HostRuntime) -> Result<Option<Vec<String>>, NoAnswerMemory> {
     match std::env::args(rt) {
         Ok(words) => match words.collect(rt.alloc()) {
@@ -30,7 +30,7 @@ pub fn words(rt: &HostRuntime) -> Result<Option<Vec<String>>, NoAnswerMemory> {
     }
 }
 
-/// The words as texts that are lent.
+/// Returns the words as texts that are lent.
 pub fn borrowed<'a>(alloc: Global, words: &'a [String]) -> Result<Vec<&'a str>, NoAnswerMemory> {
     words
         .iter()
@@ -39,7 +39,7 @@ pub fn borrowed<'a>(alloc: Global, words: &'a [String]) -> Result<Vec<&'a str>, 
         .map_err(|_| REFUSED)
 }
 
-/// What the words ask for, or what is wrong with them.
+/// Returns what the words ask for, or what is wrong with them.
 pub fn asked<'a>(
     alloc: Global,
     words: &'a [&'a str],
@@ -51,7 +51,7 @@ pub fn asked<'a>(
     }
 }
 
-/// A writer that puts its bytes out in pieces.
+/// Returns a writer that puts its bytes out in pieces.
 pub fn buffered<W: Write + Drop>(alloc: Global, writer: W) -> Result<BufWriter<W>, NoAnswerMemory> {
     match BufWriter::with_capacity(alloc, PIECE, writer) {
         Ok(buffer) => Ok(buffer),

@@ -9,8 +9,7 @@ pub trait Lined: Output {
     // What the output is when the next line is answered.
     ghost turns: { Self → Self → Type 0 };
 
-    /// The next line of a script is answered from here on, if it has an answer. Nothing is written; an output that
-    /// tells lines apart takes note of it.
+    /// Notes that answers belong to the next line of the script from here on. It writes nothing.
     fn next_line(&mut self)
         ensures unchanged { Self.history self.new ≡ Self.history self.old }
         ensures rotation { turns self.old self.new };

@@ -1,4 +1,4 @@
-//! An output whose lines stand behind the number of the line of the script that they answer.
+//! An output whose lines stand after the number of the line of the script that they answer.
 ghost use Rattle.std.specs.Prelude.{◌≡◌, ◌≢◌, ◌≤◌, ◌<◌, ◌-◌, ◌^◌, ◌+◌, ◌++◌, ℕ, true, false, codes, decimal, length};
 ghost use Rattle.std.specs.Prelude.{min, take, IfOk, OnOk, OnErr};
 ghost use Rattle.raw_region.specs.Answers.{failures_in, write_failures_in};
@@ -15,17 +15,17 @@ use segment_lang::{Piece, put_pieces};
 /// Where the next byte stands.
 #[derive(Clone, Copy, Debug, PartialEq, Eq)]
 pub enum LineSpot {
-    /// It begins a line, whose number is to be written first.
+    /// The byte begins a line, whose number is to be written first.
     Front,
-    /// It begins a line, whose number is written.
+    /// The byte begins a line, whose number is written.
     Ahead,
-    /// It is within a line.
+    /// The byte is within a line.
     Inside,
-    /// Nothing more goes out: the output failed within the number of its line.
+    /// The output failed within the number of a line: nothing more goes out.
     Broken,
 }
 
-/// How many of the bytes stand up to the end of their first line.
+/// Returns how many of the bytes stand up to the end of their first line.
 fn line_length(bytes: &[u8]) -> usize
     ensures count { result ≤ length bytes.now }
     ensures non_empty { 0 < length bytes.now → 0 < result }
@@ -40,7 +40,7 @@ fn line_length(bytes: &[u8]) -> usize
     count
 }
 
-/// Where the next byte stands behind this one of a line's text.
+/// Returns where the next byte stands after this one of a line's text.
 fn spot_behind(byte: u8) -> LineSpot
     ensures text { has_number result ≡ in_text true byte }
     ensures contents { result ≢ IsBroken }
@@ -53,7 +53,7 @@ fn spot_behind(byte: u8) -> LineSpot
 }
 
 /// An output that writes `N: ` before each line that it takes, where N is how often it was told of a next line of the
-/// script. It fails only where the output behind it did.
+/// script. It fails only if the output that it writes to did.
 #[derive(Drop)]
 pub struct Numbered<O: Output> {
     inner: O,
@@ -70,7 +70,7 @@ pub struct Numbered<O: Output> {
 }
 
 impl<O: Output> Numbered<O> {
-    /// One that took nothing yet.
+    /// Makes one that took nothing yet.
     pub fn new(inner: O) -> Numbered<O>
         requires { O.history inner ≡ nothing_taken }
         ensures transfer { result.plain.history ≡ nothing_taken }
@@ -85,7 +85,7 @@ impl<O: Output> Numbered<O> {
         }
     }
 
-    /// Writes the number of a line that begins here.
+    /// Writes the number of a line if one begins here.
     fn begin(&mut self) -> Result<(), DeviceFault>
         requires { self.old.failures < 2 ^ 64 - 1 }
         ensures on_ok { OnOk result (has_number self.new.spot ≡ true) }

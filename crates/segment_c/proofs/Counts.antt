@@ -3,10 +3,8 @@ use Rattle.std.proofs.Common.{◌≡◌, ℕ, refl, ap, ◌∙◌, length, false
 use Rattle.seg_types.specs.Commands.{Command, NumNamed, NumUnique, is_changing}
 use Rattle.segment_manager.specs.declared.modes.Mode.{Mode}
 use Rattle.segment_manager.specs.declared.modes.Mode.TheVariants.{Write, ReadOnly, CopyOnWrite}
-use Rattle.segment_manager.specs.Answers.{Answer, Number}
+use Rattle.segment_manager.specs.{Answers.Answer, Answers.Number, Plan.perform, Step.effect, Step.step}
 use Rattle.segment_manager.specs.Directory.{Directory, live, named_objects, unique_objects}
-use Rattle.segment_manager.specs.Plan.{perform}
-use Rattle.segment_manager.specs.Step.{effect, step}
 
 -- a command that changes nothing is refused in no mode
 performed-reads : (mode : Mode) (d : Directory) (c : Command) → is_changing c ≡ false

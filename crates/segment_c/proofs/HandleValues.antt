@@ -1,4 +1,7 @@
 -- The machine values of a `HeldSegment`. Assumes `Logic`.
+use Rattle.std.specs.contracts.alloc.Global as heap
+use Rattle.std.proofs.alloc.Global.TheLaws as heap_laws
+use Rattle.segment_c.specs.contracts.segment_slot.HeldSegment as handle
 use Rattle.std.proofs.Common.{◌≡◌, ℕ, List, [], ◌∷◌, ◌++◌, refl, subst, lit<}
 use lib.Dec.{T}
 use mathlib.Core.Bool.{true, ◌&&◌}
@@ -21,20 +24,13 @@ use denote.Param.Laws.{Laws}
 use denote.Struct.Struct.{within}
 use denote.Struct.Owning.{shape}
 use base.Fraction.{full_share}
-use Rattle.std.proofs.alloc.Calls.{Al, handle_tells}
-use Rattle.std.proofs.cell.Inside.{Good}
-use Rattle.std.proofs.ResultValues.{and_tt}
+use Rattle.std.proofs.{alloc.Calls.Al, alloc.Calls.handle_tells, cell.Inside.Good, ResultValues.and_tt}
 use Rattle.std.proofs.GlobalToken.{dealloc_token-Testable}
-use Rattle.std.specs.Box.Ownership.{box_owns}
-use Rattle.std.specs.declared.option.Option.{Option}
+use Rattle.std.specs.{Box.Ownership.box_owns, declared.option.Option.Option, declared.alloc.Global.Global}
 use Rattle.std.specs.declared.option.Option.TheVariants.{None, Some}
-use Rattle.std.specs.declared.alloc.Global.{Global}
-use Rattle.std.specs.contracts.alloc.Global as heap
-use Rattle.std.proofs.alloc.Global.TheLaws as heap_laws
 use Rattle.std.specs.contracts.impls.GlobalAllocator.TheImpl.{ghosts}
 use Rattle.boxed.proofs.Values.{both}
 use Rattle.segment_c.specs.Held.{held}
-use Rattle.segment_c.specs.contracts.segment_slot.HeldSegment as handle
 use Rattle.segment_manager.specs.contracts.Segment.{the_row as R}
 
 abbrev pub Z : RattleType
@@ -50,8 +46,7 @@ pub null_good : (h : Val) → Good (layout Z) h → T (has_ty (layout Z) h && tr
 null_good h fits = (and_tt (has_ty (layout Z) h) fits.0, (record { fits = lit< tt }, (fits.1, tt)))
 
 module _ {M : Type 1} {𝓤 : Ura M} (𝓛 : Logic 𝓤) (a : Global) where
-  pub tested : (p : Ptr) (x : R.Denot)
-      → ent 𝓤 (sem 𝓛 (box_owns (ghosts.dealloc_token a) R p x))
+  pub tested : (p : Ptr) (x : R.Denot) → ent 𝓤 (sem 𝓛 (box_owns (ghosts.dealloc_token a) R p x))
       (guard 𝓤 (Testable p) (sem 𝓛 (box_owns (ghosts.dealloc_token a) R p x)))
   tested p x = fact_use 𝓤 (Testable p)
       (via 𝓤 _ (snd∗ 𝓤 (sem 𝓛 (lies_at R full_share p x)) (sem 𝓛 (ghosts.dealloc_token a (bare (lone R.mir)) p)))
@@ -60,11 +55,9 @@ module _ {M : Type 1} {𝓤 : Ura M} (𝓛 : Logic 𝓤) (a : Global) where
 
 module _ {M : Type 1} {𝓤 : Ura M} {𝓛 : Logic 𝓤} {K : Type 0} {Γ : List (Item 𝓤)} {G : Goal 𝓤 𝓛.H} where
   -- null, or a box
-  pub either : K → (p : Ptr) (a : Global) (v : Option R.Denot)
-      → (p ≡ null_ptr → v ≡ None → Seq K 𝓛 Γ G)
+  pub either : K → (p : Ptr) (a : Global) (v : Option R.Denot) → (p ≡ null_ptr → v ≡ None → Seq K 𝓛 Γ G)
       → ((b o : ℕ) (x : R.Denot) → p ≡ block_ptr b o → v ≡ Some x → Testable (block_ptr b o)
-      → Seq K 𝓛 (‵ (box_owns (ghosts.dealloc_token a) R (block_ptr b o) x) ∷ Γ) G)
-      → Seq K 𝓛 (‵ (held p a v) ∷ Γ) G
+      → Seq K 𝓛 (‵ (box_owns (ghosts.dealloc_token a) R (block_ptr b o) x) ∷ Γ) G) → Seq K 𝓛 (‵ (held p a v) ∷ Γ) G
   either t p a None none one = feq_l t (λ e. none e refl)
   either t p a (Some x) none one =
       in_a_block t p (λ r. box_owns (ghosts.dealloc_token a) R r x)

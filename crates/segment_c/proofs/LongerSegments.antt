@@ -1,19 +1,15 @@
 -- The code of a segment that grows, or moves.
-use Rattle.std.proofs.Common.{◌≡◌, ◌≤◌, ℕ, List, length, refl, sym, ap, ◌∙◌, inl, inr, Some, None, arith}
-use Rattle.segment_manager.specs.Directory.{Directory}
-use Rattle.segment_manager.specs.State.{SegmentState, DenotesCurrent}
+use Rattle.std.proofs.Common.{◌≡◌, ◌≤◌, ℕ, List, length, refl, sym, ap, ◌∙◌, inl, inr, Some, arith}
+use Rattle.segment_manager.specs.{Directory.Directory, State.SegmentState, State.DenotesCurrent}
 use Rattle.segment_manager.proofs.Laws.{live-size}
-use Rattle.grow_shrink.specs.declared.larger_region.GrowOrMoveError.{GrowOrMoveError}
+use Rattle.grow_shrink.specs.{declared.refusals.GrowError.GrowError, LargerRegion.GrowsOrMovesErr}
+use Rattle.grow_shrink.specs.{LargerRegion.GrowsOrMovesOk, declared.larger_region.GrowOrMoveError.GrowOrMoveError}
 use Rattle.grow_shrink.specs.declared.larger_region.GrowOrMoveError.TheVariants.{Growth, OutOfMemory}
-use Rattle.grow_shrink.specs.declared.refusals.GrowError.{GrowError}
 use Rattle.grow_shrink.specs.declared.refusals.GrowError.TheVariants.{ReadOnly, BadGrow, TooLarge, RegionTooSmall}
-use Rattle.grow_shrink.specs.LargerRegion.{GrowsOrMovesErr, GrowsOrMovesOk}
-use Rattle.segment_c.specs.Growing.{IsGrowthCode, GrowsSegment, growing_code}
-use Rattle.segment_c.specs.Resizing.{size_code}
+use Rattle.segment_c.specs.{Growing.IsGrowthCode, Growing.growing_code, Resizing.size_code}
 
-pub grown_code : (old new : SegmentState) (extra : ℕ) → GrowsOrMovesOk old new extra → (d : Directory)
-    → DenotesCurrent old.cut.bytes d
-    → IsGrowthCode old.mode extra 0 d
+pub grown_code : (old new : SegmentState) (extra : ℕ)
+    → GrowsOrMovesOk old new extra → (d : Directory) → DenotesCurrent old.cut.bytes d → IsGrowthCode old.mode extra 0 d
 grown_code old new extra g d h = inl (sym (ap size_code (g.may.may d h)))
 
 pub refused_code : (old new : SegmentState) (extra : ℕ) (why : GrowOrMoveError) → GrowsOrMovesErr old new extra why

@@ -1,20 +1,14 @@
 -- Neighbours in the map of a key: what the directory says of them, by the kind of the object.
 use Rattle.std.proofs.Common.{◌≡◌, ◌∙◌, refl, sym, ap, subst, ℕ, ℤ, List, Option, None, Some, Result, Ok, Err}
 use Rattle.std.proofs.Common.{option_map}
-use Rattle.seg_types.specs.declared.kinds.Kind.{Kind}
+use Rattle.seg_types.specs.{declared.kinds.Kind.Kind, declared.refusals.Refusal.Refusal, Commands.Literal}
+use Rattle.seg_types.specs.{Commands.value_of_literal, Names.Key, Refusals.refusal_number}
 use Rattle.seg_types.specs.declared.kinds.Kind.TheVariants.{Map, Scalar, String, Strings, Vector}
 use Rattle.seg_types.specs.declared.kinds.ScalarKind.{ScalarKind}
-use Rattle.seg_types.specs.declared.refusals.Refusal.{Refusal}
 use Rattle.seg_types.specs.declared.refusals.Refusal.TheVariants.{NotFound, WrongKind}
-use Rattle.seg_types.specs.Commands.{Literal, value_of_literal}
-use Rattle.seg_types.specs.Names.{Key}
-use Rattle.seg_types.specs.Refusals.{refusal_number}
-use Rattle.seg_map.specs.Numbers.{NumberPair}
-use Rattle.seg_map.specs.Places.{item_of}
-use Rattle.segment_manager.specs.Calls.{kind_at}
+use Rattle.seg_map.specs.{Numbers.NumberPair, Places.item_of}
+use Rattle.segment_manager.specs.{Calls.kind_at, objects.Instances.IsMissing, containers.Maps.pair_above}
 use Rattle.segment_manager.specs.Directory.{Directory, Object, kind_of}
-use Rattle.segment_manager.specs.objects.Instances.{IsMissing}
-use Rattle.segment_manager.specs.containers.Maps.{pair_above}
 use Rattle.segment_manager.specs.State.{AnswersWith, DenotesCurrent, SegmentState}
 use Rattle.segment_manager.specs.containers.Walks.{KindedPair, first_of, pairs_at}
 use Rattle.segment_c.specs.declared.values.CScalar.{CScalar}
@@ -85,8 +79,7 @@ module _ (s : SegmentState) (key : Key) (at value : CScalar) where
         → AnswersWith s (λ d. item_in k v (pair_above z (pairs_at d key))) p → TellsPair at value code (Ok p)
         → (d : Directory) → DenotesCurrent s.cut.bytes d → TellsPair at value code (next_at d key l)
     next-told l z p e r told d st =
-        subst (TellsPair at value code)
-        (ap (λ (q : Option KindedPair). let it : Pair = Ok q in it) (r.answers d st)
+        subst (TellsPair at value code) (ap (λ (q : Option KindedPair). let it : Pair = Ok q in it) (r.answers d st)
         ∙ ap (above_in (pairs_at d key) k v) (sym e) ∙ ap (next_told (pairs_at d key) l) (a.answers d st)) told
 
     pub next-refused : (l : Literal) (why : Refusal) → value_of_literal k l ≡ Err why → code ≡ refusal_number why

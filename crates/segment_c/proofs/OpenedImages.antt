@@ -5,21 +5,16 @@ use Rattle.std.specs.Prelude.{nat_le, nat_lt, find, min, if◌then◌else◌}
 use Rattle.std.proofs.lemmas.Bool.{and_from, and_parts, cond-true, le-leb, lt-ltb, or_right}
 use Rattle.raw_region.specs.Format.{current}
 use Rattle.block_tags.specs.Format.{is_legal_size}
-use Rattle.image_check.specs.declared.classes.ImageClass.{ImageClass}
+use Rattle.image_check.specs.{declared.classes.ImageClass.ImageClass, declared.errors.OpenError.OpenError}
+use Rattle.image_check.specs.{declared.errors.ExamineError.ExamineError, declared.verdict.Verdict.Verdict}
+use Rattle.image_check.specs.{Causes.IsShown, Causes.error_for, Classes.class_of, Classes.holds, Classes.number_of}
+use Rattle.image_check.specs.{Opening.IsTooSmallFor, OpeningBytes.IsWhyNotOf, OpeningBytes.as_given}
 use Rattle.image_check.specs.declared.classes.ImageClass.TheVariants.{Truncated, BadMagic, UnsupportedVersion, BadSize}
 use Rattle.image_check.specs.declared.classes.ImageClass.TheVariants.{BadReserved, BadTag, BadFreeTree, BadIndex}
 use Rattle.image_check.specs.declared.classes.ImageClass.TheVariants.{BadObject, SharedBlock, BadContainer, OrphanBlock}
-use Rattle.image_check.specs.declared.errors.OpenError.{OpenError}
 use Rattle.image_check.specs.declared.errors.OpenError.TheVariants.{Image, RegionTooSmall, ReadFault}
-use Rattle.image_check.specs.declared.errors.ExamineError.{ExamineError}
 use Rattle.image_check.specs.declared.errors.ExamineError.TheVariants.{Image as Examined, RegionTooSmall as TooSmall}
-use Rattle.image_check.specs.declared.errors.ExamineError.TheVariants.{ReadFault as Fault}
-use Rattle.image_check.specs.declared.verdict.Verdict.{Verdict}
-use Rattle.image_check.specs.Causes.{IsShown, error_for}
 use Rattle.image_check.specs.EarlyTests.{has_front, has_magic, has_version, size_word}
-use Rattle.image_check.specs.Classes.{class_of, holds, number_of}
-use Rattle.image_check.specs.Opening.{IsTooSmallFor}
-use Rattle.image_check.specs.OpeningBytes.{IsWhyNotOf, as_given}
 use Rattle.segment_c.specs.Opening.{IsExplained, IsNoImage, IsTooLongForRegion, IsWhyNotOpened, size_said}
 
 -- ---- the size
@@ -117,6 +112,3 @@ module _ (image : List ℕ) (capacity : ℕ) (cause : ExamineError)
   pub not_small : min (size_said image) 1073741824 ≤ capacity → cause ≡ TooSmall → ⊥
   not_small room e = has_room image capacity room
       (subst (λ (c : ExamineError). IsWhyNotOf current image 0 capacity (error_for c)) e why)
-
-  pub not_faulty : cause ≡ Fault → ⊥
-  not_faulty e = subst (λ (c : ExamineError). IsWhyNotOf current image 0 capacity (error_for c)) e why

@@ -1,20 +1,16 @@
 -- A value that is put into a vector of its own kind.
+use Rattle.segment_manager.specs.Step as plans
 use Rattle.std.proofs.Common.{◌≡◌, refl, sym, ap, subst, ◌∙◌, Bool, true, false, ◌&&◌, Option, Some, None, Result, Ok}
 use Rattle.std.proofs.Common.{Err}
 use Rattle.std.specs.Prelude.{if◌then◌else◌}
-use Rattle.seg_types.specs.Commands.{Literal, Push}
-use Rattle.seg_types.specs.Kinds.{same_kind}
-use Rattle.seg_types.specs.Names.{Key}
-use Rattle.seg_types.specs.declared.kinds.Kind.{Kind}
+use Rattle.seg_types.specs.{Commands.Literal, Commands.Push, Kinds.same_kind, Names.Key, declared.kinds.Kind.Kind}
 use Rattle.seg_types.specs.declared.refusals.Refusal.{Refusal}
 use Rattle.seg_types.specs.declared.refusals.Refusal.TheVariants.{ReadOnly, WrongKind}
-use Rattle.segment_manager.specs.Answers.{Answer, Refused}
+use Rattle.segment_manager.specs.{Answers.Answer, Answers.Refused, declared.modes.Mode.Mode}
 use Rattle.segment_manager.specs.Directory.{Directory, Object, kind_of, live, object_at}
 use Rattle.segment_manager.specs.Plan.{Plan, Refuse, perform, with}
 use Rattle.segment_manager.specs.State.{TakesStep, TakesStepOfKind, SegmentState, DenotesCurrent, done_answer}
-use Rattle.segment_manager.specs.Step as plans
 use Rattle.segment_manager.specs.Step.{effect, found_at, is_read_only, step, step_of_kind}
-use Rattle.segment_manager.specs.declared.modes.Mode.{Mode}
 use Rattle.segment_manager.proofs.ElementLaws.{step_of_kind-step, with-found, with-not_found}
 
 -- what is refused by another kind is answered so

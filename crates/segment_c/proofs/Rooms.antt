@@ -1,18 +1,15 @@
 -- The room of a region, and whether a copy is put into it.
 use Rattle.std.proofs.Common.{◌≡◌, refl, sym, ap, ◌∙◌, ℕ, ◌+◌, ◌-◌, ◌<◌, ◌≤◌, ◌++◌, Bool, true, false, IsTrue, List}
-use Rattle.std.proofs.Common.{length, length-append, nat_le}
-use Rattle.std.proofs.Common.{arith, if◌then◌else◌}
+use Rattle.std.proofs.Common.{length, length-append, nat_le, arith, if◌then◌else◌}
 use Rattle.std.proofs.lemmas.Bool.{le-leb, leb-false, leb-true, lt-leb}
 use Rattle.raw_region.specs.Memory.{WindowState, whole}
 use Rattle.raw_region.proofs.Facts.{first}
 use Rattle.block_tags.specs.Format.{is_legal_size}
 use Rattle.best_fit.specs.Extents.{is_proper, proper_from}
-use Rattle.segment_manager.specs.Directory.{live}
-use Rattle.segment_manager.specs.State.{IsSegment}
+use Rattle.segment_manager.specs.{Directory.live, State.IsSegment}
 use Rattle.segment_manager.proofs.Laws.{live-size}
 use Rattle.grow_shrink.specs.Resized.{room_of}
-use Rattle.segment_c.proofs.LongerSegments.{stands-size}
-use Rattle.segment_c.proofs.OpenedImages.{legal_most}
+use Rattle.segment_c.proofs.{LongerSegments.stands-size, OpenedImages.legal_most}
 
 region-len : (c : WindowState) → length (whole c) ≡ length c.before + length c.bytes + length c.after
 region-len c =

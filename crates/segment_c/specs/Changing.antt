@@ -1,17 +1,14 @@
 -- What the calls do that change the object of a key, and answer a code alone.
 use Rattle.std.specs.Prelude.{◌≡◌, ◌≤◌, ℕ, ◌∷◌, [], map, OnErr, Option, Result}
-use Rattle.seg_types.specs.Commands.{Append as AppendTo, Assign, Clear as ClearAll, Erase as EraseAt, Insert}
-use Rattle.seg_types.specs.Commands.{Pop, Push, Quoted, Set, Shrink}
-use Rattle.seg_types.specs.Names.{Key}
+use Rattle.seg_types.specs.Commands.{Append as AppendTo, Assign, Clear as ClearAll, Erase as EraseAt, Insert, Pop, Push}
+use Rattle.seg_types.specs.{Commands.Quoted, Commands.Set, Commands.Shrink, Names.Key}
 use Rattle.seg_types.specs.declared.kinds.Kind.TheVariants.{String as StringKind, Strings as StringsKind}
 use Rattle.seg_types.specs.declared.refusals.Refusal.{Refusal}
-use Rattle.segment_c.specs.Calls.{UnchangedOnCode as KeepsHandle}
-use Rattle.segment_c.specs.declared.changes.ObjectChange.{ObjectChange}
+use Rattle.segment_c.specs.{Calls.UnchangedOnCode as KeepsHandle, declared.changes.ObjectChange.ObjectChange}
 use Rattle.segment_c.specs.declared.changes.ObjectChange.TheVariants.{Append, AssignText, AssignTexts, Clear, Erase}
 use Rattle.segment_c.specs.declared.changes.ObjectChange.TheVariants.{InsertText, PopText, PushText, SetText, Trim}
-use Rattle.segment_manager.specs.Answers.{Answer, refusal_of}
+use Rattle.segment_manager.specs.{Answers.Answer, Answers.refusal_of, containers.TextLists.LeadsOnOfKind}
 use Rattle.segment_manager.specs.State.{TakesStep, TakesStepOfKind, UnchangedIfRefused, SegmentState}
-use Rattle.segment_manager.specs.containers.TextLists.{LeadsOnOfKind}
 
 -- which step of the machine it is
 abbrev pub IsChange : ObjectChange → Key → SegmentState → SegmentState → Answer → Type 0

@@ -1,12 +1,9 @@
 -- Segments that become longer, in a larger region where their own has no room: what the call owes.
 use Rattle.std.specs.Prelude.{◌≡◌, ◌⊎◌, ℕ, ◌+◌, None, Some}
-use Rattle.segment_manager.specs.declared.modes.Mode.{Mode}
-use Rattle.segment_manager.specs.Directory.{Directory}
-use Rattle.segment_manager.specs.blocks.Resized.{grown}
+use Rattle.segment_manager.specs.{declared.modes.Mode.Mode, Directory.Directory, blocks.Resized.grown}
 use Rattle.segment_manager.specs.State.{SegmentState, DenotesCurrent}
-use Rattle.grow_shrink.specs.declared.larger_region.GrowOrMoveError.{GrowOrMoveError}
+use Rattle.grow_shrink.specs.{declared.larger_region.GrowOrMoveError.GrowOrMoveError, Resized.growth_refusal}
 use Rattle.grow_shrink.specs.declared.larger_region.GrowOrMoveError.TheVariants.{Growth, OutOfMemory}
-use Rattle.grow_shrink.specs.Resized.{growth_refusal}
 use Rattle.segment_c.specs.Resizing.{size_code}
 
 -- open as it was, and each directory has so many bytes more; the segment may lie in another region then

@@ -1,11 +1,9 @@
 -- What a handle owns: nothing where it is null, and else the box of a segment.
 use base.Fml.{Fml, feq}
 use denote.RawPtr.{Ptr, null_ptr}
-use Rattle.std.specs.declared.option.Option.{Option}
+use Rattle.std.specs.{declared.option.Option.Option, declared.alloc.Global.Global, Box.Ownership.box_owns}
 use Rattle.std.specs.declared.option.Option.TheVariants.{None, Some}
-use Rattle.std.specs.declared.alloc.Global.{Global}
 use Rattle.std.specs.contracts.impls.GlobalAllocator.TheImpl.{ghosts}
-use Rattle.std.specs.Box.Ownership.{box_owns}
 use Rattle.segment_manager.specs.contracts.Segment.{the_row}
 
 abbrev pub held : Ptr → Global → Option the_row.Denot → Fml

@@ -1,10 +1,8 @@
 -- Segments in memory that C lends: what the calls owe.
 use Rattle.std.specs.Prelude.{◌≡◌, ℕ, nat_le, List, if◌then◌else◌}
 use Rattle.raw_region.specs.Memory.{part, whole}
-use Rattle.segment_manager.specs.declared.modes.Mode.{Mode}
-use Rattle.segment_manager.specs.State.{IsSegment, SegmentState}
-use Rattle.segment_c.specs.Opening.{capacity_wrong}
-use Rattle.segment_c.specs.Passed.{or_else}
+use Rattle.segment_manager.specs.{declared.modes.Mode.Mode, State.IsSegment, State.SegmentState}
+use Rattle.segment_c.specs.{Opening.capacity_wrong, Passed.or_else}
 
 -- the memory may be a region, and an image of so many bytes fits into it
 abbrev pub memory_wrong : ℕ → ℕ → ℕ

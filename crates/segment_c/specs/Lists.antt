@@ -6,8 +6,7 @@ use Rattle.best_fit.specs.Extents.{Span, handle}
 use Rattle.seg_types.specs.Kinds.{class_code, code_of}
 use Rattle.segment_manager.specs.Directory.{Directory, Object, count_of, kind_of}
 use Rattle.segment_manager.specs.State.{DenotesCurrent, SegmentState}
-use Rattle.segment_c.specs.declared.lists.Info.{Info}
-use Rattle.segment_c.specs.declared.lists.CBlock.{CBlock}
+use Rattle.segment_c.specs.{declared.lists.Info.Info, declared.lists.CBlock.CBlock}
 
 -- ---- objects
 

@@ -1,14 +1,10 @@
 -- Images that are opened: what the calls owe.
 use Rattle.std.specs.Prelude.{◌≡◌, ◌<◌, ◌≤◌, ◌⊎◌, ℕ, ◌+◌, ◌%◌, ◌&&◌, ◌==◌, nat_le, List, length, Some, IsTrue}
 use Rattle.std.specs.Prelude.{if◌then◌else◌}
-use Rattle.raw_region.specs.Format.{current}
-use Rattle.raw_region.specs.Memory.{SameSurroundings, cut_at, zeros}
-use Rattle.segment_manager.specs.declared.modes.Mode.{Mode}
-use Rattle.segment_manager.specs.State.{IsSegment, SegmentState}
-use Rattle.image_check.specs.declared.classes.ImageClass.{ImageClass}
-use Rattle.image_check.specs.Classes.{class_of, number_of}
-use Rattle.image_check.specs.EarlyTests.{has_front, size_word}
-use Rattle.image_check.specs.Verdicts.{Shows}
+use Rattle.raw_region.specs.{Format.current, Memory.SameSurroundings, Memory.cut_at, Memory.zeros}
+use Rattle.segment_manager.specs.{declared.modes.Mode.Mode, State.IsSegment, State.SegmentState}
+use Rattle.image_check.specs.{declared.classes.ImageClass.ImageClass, Classes.class_of, Classes.number_of}
+use Rattle.image_check.specs.{EarlyTests.has_front, EarlyTests.size_word, Verdicts.Shows}
 
 -- a region has a multiple of 16 bytes, from 16 to 2 ^ 40
 abbrev pub capacity_wrong : ℕ → ℕ

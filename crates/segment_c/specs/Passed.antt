@@ -1,16 +1,13 @@
 -- What the keys and the values that C passes stand for, and by which code they are refused that stand for nothing.
 use Rattle.std.specs.Prelude.{ℕ, ℤ, pos, ◌&&◌, ◌==◌, nat_le, List, length, map, Option, Some, None, if◌then◌else◌}
-use Rattle.seg_types.specs.declared.kinds.Kind.{Kind}
-use Rattle.seg_types.specs.declared.kinds.Kind.TheVariants.{String}
-use Rattle.seg_types.specs.declared.kinds.ScalarKind.{ScalarKind}
+use Rattle.seg_types.specs.{declared.kinds.Kind.Kind, declared.kinds.Kind.TheVariants.String}
+use Rattle.seg_types.specs.{declared.kinds.ScalarKind.ScalarKind, Commands.Literal, Commands.Whole, Commands.literal_of}
 use Rattle.seg_types.specs.declared.kinds.ScalarKind.TheVariants.{Bool as BoolKind, U8, I32, I64, U64}
-use Rattle.seg_types.specs.Commands.{Literal, Whole, literal_of}
 use Rattle.segment_manager.specs.Answers.{Answer, Done, Element}
 use Rattle.seg_types.specs.Kinds.{code_of, is_value, kind_of_code, truth_number}
 use Rattle.seg_types.specs.Names.{Key, ByName, ByKind, ByHandle, NoKey, is_text_name}
 use Rattle.segment_c.specs.declared.keys.ObjectKey.{ObjectKey}
-use Rattle.segment_c.specs.declared.values.CScalar.{CScalar}
-use Rattle.segment_c.specs.declared.rows.CScalars.{CScalars}
+use Rattle.segment_c.specs.{declared.values.CScalar.CScalar, declared.rows.CScalars.CScalars}
 
 -- ---- the first code of some that is not 0
 

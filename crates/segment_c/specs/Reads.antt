@@ -1,28 +1,17 @@
 -- What the calls read of containers.
 use Rattle.std.specs.Prelude.{◌≡◌, ℕ, ◌≤◌, ℤ, List, length, map, Option, Some, None, Result, Ok, Err, option_map}
-use Rattle.seg_types.specs.declared.kinds.Kind.{Kind}
+use Rattle.seg_types.specs.{declared.kinds.Kind.Kind, declared.kinds.ScalarKind.ScalarKind}
+use Rattle.seg_types.specs.{declared.kinds.ScalarKind.TheVariants.U8, declared.refusals.Refusal.Refusal}
+use Rattle.seg_types.specs.{declared.refusals.Refusal.TheVariants.WrongKind, declared.values.ScalarValue.ScalarValue}
+use Rattle.seg_types.specs.{Commands.Literal, Commands.value_of_literal, Names.Key, Refusals.refusal_number}
 use Rattle.seg_types.specs.declared.kinds.Kind.TheVariants.{Map, Scalar, String, Strings, Vector}
-use Rattle.seg_types.specs.declared.kinds.ScalarKind.{ScalarKind}
-use Rattle.seg_types.specs.declared.kinds.ScalarKind.TheVariants.{U8}
-use Rattle.seg_types.specs.declared.refusals.Refusal.{Refusal}
-use Rattle.seg_types.specs.declared.refusals.Refusal.TheVariants.{WrongKind}
-use Rattle.seg_types.specs.declared.values.ScalarValue.{ScalarValue}
-use Rattle.seg_types.specs.Commands.{Literal, value_of_literal}
-use Rattle.seg_types.specs.Names.{Key}
-use Rattle.seg_types.specs.Refusals.{refusal_number}
-use Rattle.seg_map.specs.Numbers.{NumberPair}
-use Rattle.seg_map.specs.Places.{item_of}
-use Rattle.segment_manager.specs.Answers.{Answer, TextElement, Refused}
-use Rattle.segment_manager.specs.Calls.{kind_at}
-use Rattle.segment_manager.specs.Directory.{Directory}
-use Rattle.segment_manager.specs.containers.Maps.{pair_above}
-use Rattle.segment_manager.specs.State.{DenotesCurrent, SegmentState}
+use Rattle.seg_map.specs.{Numbers.NumberPair, Places.item_of}
+use Rattle.segment_manager.specs.{Calls.kind_at, Directory.Directory, containers.Maps.pair_above, State.DenotesCurrent}
+use Rattle.segment_manager.specs.{State.SegmentState, Answers.Answer, Answers.TextElement, Answers.Refused}
 use Rattle.segment_manager.specs.containers.Walks.{KindedPair, first_of, item_of_kinds, item_seen, pairs_at}
 use Rattle.segment_values.specs.Ranges.{range_at}
-use Rattle.segment_c.specs.declared.keys.ObjectKey.{ObjectKey}
-use Rattle.segment_c.specs.declared.values.CScalar.{CScalar}
+use Rattle.segment_c.specs.{declared.keys.ObjectKey.ObjectKey, declared.values.CScalar.CScalar, Images.CopiesOut}
 use Rattle.segment_c.specs.Calls.{RefusesClosed, RefusesArgument}
-use Rattle.segment_c.specs.Images.{CopiesOut}
 use Rattle.segment_c.specs.Passed.{key_of, key_wrong, scalar_in}
 
 -- the code is 0 and this holds, or it is that of the refusal
@@ -58,8 +47,7 @@ pub record ReadsRange {X : Type 0} (seen : X
     (before after : Option SegmentState) : Type 0 where
   pub stopped : RefusesArgument (key_wrong key) code before after
   pub closed : RefusesClosed (key_wrong key) code before after
-  pub told : (s : SegmentState) → key_wrong key ≡ 0 → before ≡ Some s → (d : Directory)
-      → DenotesCurrent s.cut.bytes d
+  pub told : (s : SegmentState) → key_wrong key ≡ 0 → before ≡ Some s → (d : Directory) → DenotesCurrent s.cut.bytes d
       → IsCoded (λ zs. map seen new ≡ zs) code (range_at d (key_of key) kind first (length old))
   pub same : after ≡ before
   pub results : 1 ≤ code → new ≡ old

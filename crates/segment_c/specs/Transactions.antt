@@ -1,9 +1,7 @@
 -- Several calls as one: what is copied before them, and what is put back.
 use Rattle.std.specs.Prelude.{◌≡◌, ◌≤◌, ℕ, nat_le, length, false, true, if◌then◌else◌}
 use Rattle.raw_region.specs.Memory.{SameSurroundings, cut_at, whole}
-use Rattle.segment_manager.specs.declared.modes.Mode.{Mode}
-use Rattle.segment_manager.specs.State.{SegmentState}
-use Rattle.segment_manager.specs.Step.{is_read_only}
+use Rattle.segment_manager.specs.{declared.modes.Mode.Mode, State.SegmentState, Step.is_read_only}
 use Rattle.grow_shrink.specs.Resized.{room_of}
 
 -- the segment with its bytes and its mode, wherever it lies

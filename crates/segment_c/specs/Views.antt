@@ -1,18 +1,12 @@
 -- What is said of elements that stand in the image.
 use Rattle.std.specs.Prelude.{◌≡◌, ◌+◌, ◌*◌, ◌%◌, ◌≤◌, length, Result, Err, if◌then◌else◌}
 use Rattle.raw_region.specs.Memory.{HasBytesAt, bytes_of}
-use Rattle.seg_types.specs.declared.refusals.Refusal.{Refusal}
+use Rattle.seg_types.specs.{declared.refusals.Refusal.Refusal, Kinds.scalar_code, Kinds.size_of, Names.Key}
 use Rattle.seg_types.specs.declared.refusals.Refusal.TheVariants.{ReadOnly}
-use Rattle.seg_types.specs.Kinds.{scalar_code, size_of}
-use Rattle.seg_types.specs.Names.{Key}
-use Rattle.segment_manager.specs.containers.ElementRuns.{spelled_at}
+use Rattle.segment_manager.specs.{containers.ElementRuns.spelled_at, declared.modes.Mode.Mode, Directory.Directory}
+use Rattle.segment_manager.specs.{State.DenotesCurrent, State.SegmentState, Step.is_read_only}
 use Rattle.segment_manager.specs.declared.containers.element_runs.ElementRun.{ElementRun}
-use Rattle.segment_manager.specs.declared.modes.Mode.{Mode}
-use Rattle.segment_manager.specs.Directory.{Directory}
-use Rattle.segment_manager.specs.State.{DenotesCurrent, SegmentState}
-use Rattle.segment_manager.specs.Step.{is_read_only}
-use Rattle.segment_c.specs.declared.views.CView.{CView}
-use Rattle.segment_c.specs.Passed.{scalar_kind_in}
+use Rattle.segment_c.specs.{declared.views.CView.CView, Passed.scalar_kind_in}
 
 -- where the run begins, how many elements it has, and of which kind
 abbrev pub IsView : CView → ElementRun → Type 0

@@ -1,8 +1,7 @@
 -- The version, and the words for the codes.
 use Rattle.std.specs.Prelude.{ℕ, List, [], codes, ◌==◌, if◌then◌else◌}
-use Rattle.seg_types.specs.Refusals.{refusal_words}
+use Rattle.seg_types.specs.{Refusals.refusal_words, declared.refusals.Refusal.TheVariants.NoSpace}
 use Rattle.seg_types.specs.declared.refusals.Refusal.TheVariants.{ReadOnly, Exists, NotFound, WrongKind, OutOfRange}
-use Rattle.seg_types.specs.declared.refusals.Refusal.TheVariants.{NoSpace}
 
 -- 10000 for each major version, 100 for each minor one, and 1 for each patch: 0.9.0
 abbrev pub version : ℕ

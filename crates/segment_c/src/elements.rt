@@ -2,7 +2,6 @@
 ghost use Rattle.std.specs.Prelude.{◌≡◌, ◌≤◌, OnErr};
 ghost use Rattle.seg_types.specs.Commands.{Erase, Get, Insert, Pop, Push, Set};
 ghost use Rattle.seg_types.specs.{Keys.key_seen, Written.literal_seen};
-ghost use Rattle.seg_types.specs.Values.{kind_of_scalar};
 ghost use Rattle.seg_types.specs.declared.kinds.Kind.TheVariants.{Strings as StringsKind, Vector as VectorOf};
 ghost use Rattle.segment_c.specs.Calls.{PerformsCall};
 ghost use Rattle.segment_c.specs.Codes.{answer_for};
@@ -23,7 +22,7 @@ use crate::codes::{done, element};
 use crate::keys::ObjectKey;
 use crate::segment_slot::SegmentSlot;
 use crate::values::CScalar;
-use seg_types::{Key, Kind, Refusal, ScalarKind, ScalarValue, by_kind, by_value};
+use seg_types::{Key, Kind, Refusal, ScalarKind, ScalarValue, by_kind};
 use segment_manager::{Segment, locate};
 use segment_values::InsertSpot;
 use std::alloc::Global;
@@ -92,22 +91,13 @@ fn push(segment: &mut Segment, key: &Key, value: ScalarValue) -> Result<(), Refu
         (done_answer result) }
     ensures refused { OnErr result (segment.new ≡ segment.old) }
 {
-    match push_of_kind(segment, key, value) {
+    match segment.vec_push_value(key, value) {
         Ok(()) => Ok(()),
         Err(why) => match why {
             Refusal::WrongKind => add(segment, key, InsertSpot::End, value),
             _ => Err(why),
         },
     }
-}
-
-/// The same of a vector of the value's own kind.
-fn push_of_kind(segment: &mut Segment, key: &Key, value: ScalarValue) -> Result<(), Refusal>
-    ensures step { TakesStepOfKind segment.old segment.new (key_seen key.now) (VectorOf (kind_of_scalar value))
-        (Push (key_seen key.now) (literal_seen value)) (done_answer result) }
-    ensures refused { OnErr result (segment.new ≡ segment.old) }
-{
-    by_value!(value, it => segment.vec_push(key, it))
 }
 
 /// Puts a value where `index` others stand before it in the vector of a key.

@@ -4,7 +4,7 @@ use Rattle.image_check.specs.declared.classes.ImageClass.TheVariants.{BadTag}
 use Rattle.image_check.specs.declared.errors.MemoryFault.{MemoryFault}
 use Rattle.grow_shrink.specs.declared.refusals.GrowError.TheVariants.{BadGrow}
 use Rattle.segment_cli.specs.declared.faults.SessionFault.TheVariants.{Image, RegionTooSmall, OutOfMemory}
-use Rattle.segment_cli.specs.declared.program_faults.ProgramFault.TheVariants.{Usage, Exists, Growth, Session}
+use Rattle.segment_cli.specs.declared.faults.ProgramFault.TheVariants.{Usage, Exists, Growth, Session}
 use Rattle.segment_cli.specs.Reports.{fault_text, status_of}
 
 image : fault_text (Session (Image BadTag)) ≡ codes "segment: image refused: 6 BadTag\n"

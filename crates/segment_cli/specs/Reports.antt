@@ -8,8 +8,8 @@ use Rattle.grow_shrink.specs.declared.refusals.GrowError.{GrowError}
 use Rattle.grow_shrink.specs.declared.refusals.GrowError.TheVariants as growth
 use Rattle.segment_cli.specs.declared.faults.SessionFault.{SessionFault}
 use Rattle.segment_cli.specs.declared.faults.SessionFault.TheVariants as session
-use Rattle.segment_cli.specs.declared.program_faults.ProgramFault.{ProgramFault}
-use Rattle.segment_cli.specs.declared.program_faults.ProgramFault.TheVariants.{Usage, Exists, Growth, Session}
+use Rattle.segment_cli.specs.declared.faults.ProgramFault.{ProgramFault}
+use Rattle.segment_cli.specs.declared.faults.ProgramFault.TheVariants.{Usage, Exists, Growth, Session}
 
 -- ---- the line of a fault
 

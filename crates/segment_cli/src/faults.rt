@@ -1,9 +1,11 @@
-//! How a session begins, and why it may fail.
+//! How a session begins, and why it or the program may fail.
 ghost use Rattle.std.specs.Prelude.{◌≡◌};
 ghost use Rattle.image_check.specs.declared.errors.MemoryFault.TheVariants.{Bytes};
 ghost use Rattle.segment_cli.specs.Beginning.{created_fault, opened_fault, run_fault};
+ghost use Rattle.segment_cli.specs.declared.faults.ProgramFault.TheVariants.{Growth, Session};
 ghost use Rattle.segment_cli.specs.declared.faults.SessionFault.TheVariants.{OutOfMemory as NoMemory};
 
+use grow_shrink::GrowError;
 use image_check::{ImageClass, MemoryFault, OpenError, OpenRefused};
 use raw_region::OutOfMemory;
 use segment_manager::{CreateError, CreateRefused};
@@ -88,5 +90,38 @@ impl From<RunFault> for SessionFault {
             RunFault::WriteFault => SessionFault::WriteFault,
             RunFault::ScriptTooLong => SessionFault::ScriptTooLong,
         }
+    }
+}
+
+/// Why the program fails.
+#[derive(Clone, Copy, Debug, PartialEq, Eq, Error)]
+pub enum ProgramFault {
+    /// The command line is wrong or asks for help. Whoever read it says so.
+    #[error("usage")]
+    Usage,
+    /// A file that is to be made is there already.
+    #[error("file exists")]
+    Exists,
+    /// The segment does not grow.
+    #[error("growth refused: {0}")]
+    Growth(GrowError),
+    /// A session fails.
+    #[error("{0}")]
+    Session(SessionFault),
+}
+
+impl From<GrowError> for ProgramFault {
+    ghost from_gives = { λ error fault. fault ≡ Growth error };
+
+    fn from(error: GrowError) -> ProgramFault {
+        ProgramFault::Growth(error)
+    }
+}
+
+impl From<SessionFault> for ProgramFault {
+    ghost from_gives = { λ failed fault. fault ≡ Session failed };
+
+    fn from(failed: SessionFault) -> ProgramFault {
+        ProgramFault::Session(failed)
     }
 }

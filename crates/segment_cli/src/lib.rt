@@ -3,16 +3,13 @@
 
 mod faults;
 mod migrations;
-mod program_faults;
 mod reports;
-mod serving;
 mod sessions;
 
-pub use faults::{SessionFault, Start};
+pub use faults::{ProgramFault, SessionFault, Start};
 pub use grow_shrink::GrowError;
 pub use image_check::{ImageClass, MemoryFault, save};
 pub use migrations::migrate;
-pub use program_faults::ProgramFault;
 pub use reports::{report, session_line, session_status};
 pub use segment_invocation::{
     Answering, FileChange, Invocation, InvocationFault, Keeping, ModeName, Report, Running,
@@ -21,5 +18,4 @@ pub use segment_invocation::{
 pub use segment_scripts::{
     Answered, End, Machine, NoObserver, RunFault, RunObserver, Scratch, Until, run, run_until,
 };
-pub use serving::serve;
-pub use sessions::{begin, session};
+pub use sessions::{begin, serve, session};

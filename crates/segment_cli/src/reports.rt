@@ -1,11 +1,9 @@
 //! What the program says of a fault, and the status that it ends with.
 ghost use Rattle.std.specs.Prelude.{◌≡◌, ◌++◌, ◌-◌, ◌^◌, ◌<◌, codes};
 ghost use Rattle.segment_cli.specs.Reports.{Puts, fault_text, growth_name, line, session_status, session_words};
-ghost use Rattle.segment_cli.specs.Reports.{status_of};
-ghost use Rattle.segment_cli.specs.declared.faults.SessionFault.TheVariants.{Image};
+ghost use Rattle.segment_cli.specs.{Reports.status_of, declared.faults.SessionFault.TheVariants.Image};
 
-use crate::faults::SessionFault;
-use crate::program_faults::ProgramFault;
+use crate::faults::{ProgramFault, SessionFault};
 use grow_shrink::GrowError;
 use image_check::ImageClass;
 use raw_region::{Sink, write_all};
@@ -80,8 +78,7 @@ pub fn session_status(fault: SessionFault) -> u8
 }
 
 /// The status that the program ends with: 1 where an image, a size or a growth is refused, 2 for a wrong command line,
-/// 3
-/// for a file that exists and for faults, 4 for want of memory.
+/// 3 for a file that exists and for faults, 4 for want of memory.
 fn status_of(fault: ProgramFault) -> u8
     ensures { result ≡ status_of fault }
 {

@@ -4,15 +4,14 @@ ghost use Rattle.raw_region.specs.Device.{read_delta, write_delta, EndsAtMostOnc
 ghost use Rattle.raw_region.specs.Answers.{failures_in};
 ghost use Rattle.segment_manager.specs.{declared.modes.Mode.TheVariants.Write, Directory.Directory};
 ghost use Rattle.segment_manager.specs.{State.DenotesCurrent};
-ghost use Rattle.segment_cli.specs.{Session.RunsSession, Session.SavesImage, Beginning.BeginsSession};
-ghost use Rattle.segment_scripts.specs.Lines.{script_limit};
+ghost use Rattle.segment_cli.specs.{Session.RunsSession, Session.SavesImage, Beginning.BeginsSession, Serving.Serves};
+ghost use Rattle.segment_scripts.specs.{Lines.script_limit, Segments.IsMachineAt, Segments.MachineState};
 
 use crate::faults::{SessionFault, Start};
-use crate::serving::serve;
 use image_check::{open, save};
 use raw_region::{DeviceFault, RawRegion, Sink, Source, Steps};
 use segment_manager::{Mode, Segment};
-use segment_scripts::{NoObserver, Until};
+use segment_scripts::{End, NoObserver, RunObserver, Until, run_until};
 use std::alloc::Global;
 
 /// The segment that a session runs its script on: an empty one of the fresh size, or the one of the image, whose reader
@@ -38,14 +37,41 @@ pub fn begin<I: Source>(
     ensures image_end { EndsAtMostOnce (I.history image.old) (I.history image.new) }
 {
     match start {
-        Start::Fresh(size) => {
-            let segment = Segment::create(region, base, size, mode)?;
-            Ok(segment)
-        }
-        Start::Image => {
-            let opened = open(alloc, image, region, base, mode, &mut Steps::new());
-            Ok(opened?)
-        }
+        Start::Fresh(size) => Ok(Segment::create(region, base, size, mode)?),
+        Start::Image => Ok(open(alloc, image, region, base, mode, &mut Steps::new())?),
+    }
+}
+
+/// Executes a script on a segment, and writes the answers: to its end, or to the first line that is refused. The
+/// follower is asked before each read of the script, and before each line. It takes no memory.
+///
+/// # Errors
+///
+/// `ReadFault` where the script's reader failed, `WriteFault` where the writer failed in an answer, `ScriptTooLong`
+/// where the script has more than 16777216 bytes. The segment is left as the lines that were executed leave it.
+pub fn serve<S: Source, O: Sink, F: RunObserver<O>>(
+    segment: &mut Segment,
+    script: &mut S,
+    out: &mut O,
+    follower: &mut F,
+    until: Until,
+) -> Result<End, SessionFault>
+    requires script_reader { (S.history script.old).failures < 2 ^ 64 - 1 }
+    requires answer_writer { (O.history out.old).failures < 2 ^ 64 - 1 }
+    ensures service { Serves until segment.old segment.new
+        (read_delta (S.history script.old) (S.history script.new))
+        (write_delta (O.history out.old) (O.history out.new))
+        result }
+    ensures script_history { AppendsBytes (S.history script.old).bytes (S.history script.new).bytes }
+    ensures script_end { EndsAtMostOnce (S.history script.old) (S.history script.new) }
+    ensures read_limit { length (S.history script.new).bytes
+        ≤ length (S.history script.old).bytes + script_limit + 1 }
+    ensures output_history { (at : MachineState) → IsMachineAt segment.old at
+        → AppendsBytes (O.history out.old).bytes (O.history out.new).bytes }
+{
+    match run_until(segment, script, out, follower, until) {
+        Ok(end) => Ok(end),
+        Err(fault) => Err(SessionFault::from(fault)),
     }
 }
 
@@ -71,18 +97,16 @@ fn save_segment<W: Sink>(segment: &Segment, image_out: &mut W) -> Result<(), Dev
     Ok(())
 }
 
-/// Makes an empty segment in the region, from `base` on, which is a multiple of 16 bytes, or opens
-/// the one of the image there; executes the script, and writes the answers to `out`; and then, if
-/// the mode is `Write`, writes the segment's image to `image_out`. The check of an image alone takes
-/// memory.
+/// Makes an empty segment in the region, from `base` on, which is a multiple of 16 bytes, or opens the one of the image
+/// there; executes the script, and writes the answers to `out`; and then, if the mode is `Write`, writes the segment's
+/// image to `image_out`. The check of an image alone takes memory.
 ///
 /// # Errors
 ///
-/// `BadSize` and `RegionTooSmall` wherever they apply. A class of the image where it denotes no
-/// directory. `ReadFault` and `WriteFault` where a reader or a writer failed, and `ScriptTooLong`
-/// where the script has more than 16777216 bytes. `OutOfMemory` where memory for the check of the
-/// image was refused, which has a tile in use; never for a fresh segment. Nothing is saved after a
-/// fault, but for a proper prefix of the image where writing it failed.
+/// `BadSize` and `RegionTooSmall` wherever they apply. A class of the image where it denotes no directory. `ReadFault`
+/// and `WriteFault` where a reader or a writer failed, and `ScriptTooLong` where the script has more than 16777216
+/// bytes. `OutOfMemory` where memory for the check of the image was refused, which has a tile in use; never for a fresh
+/// segment. Nothing is saved after a fault, but for a proper prefix of the image where writing it failed.
 pub fn session<I: Source, S: Source, O: Sink, W: Sink>(
     alloc: Global,
     start: Start,

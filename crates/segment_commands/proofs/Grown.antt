@@ -17,8 +17,8 @@ use Rattle.segment_file.specs.declared.file_errors.FileError.TheVariants.{ReadFa
 use Rattle.segment_file.specs.Opening.{OpensImageOk, OpensImage}
 use Rattle.segment_file.specs.Opening.{OpensFile as ReadsFile}
 use Rattle.segment_file.proofs.Laws.{grows-in-place, segment-of}
-use Rattle.segment_commands.specs.declared.resizing.Resize.{Resize}
-use Rattle.segment_commands.specs.declared.resizing.Resize.TheVariants.{Grow, Shrink}
+use Rattle.segment_commands.specs.declared.changing.Resize.{Resize}
+use Rattle.segment_commands.specs.declared.changing.Resize.TheVariants.{Grow, Shrink}
 use Rattle.segment_commands.specs.Opening.{OpensWith}
 use Rattle.segment_commands.specs.Resizing.{more_by, refusal_by}
 use Rattle.segment_commands.proofs.Opened.{no_error, was_read}

@@ -8,8 +8,8 @@ use Rattle.image_check.specs.declared.classes.ImageClass.TheVariants.{BadObject,
 use Rattle.image_check.specs.declared.verdict.Verdict.{Verdict}
 use Rattle.segment_cli.specs.declared.faults.SessionFault.TheVariants.{Image as Refused, WriteFault}
 use Rattle.segment_disk.specs.Events.{Event}
-use Rattle.segment_file.specs.declared.unfit.Unfit.{Unfit}
-use Rattle.segment_file.specs.declared.unfit.Unfit.TheVariants.{Image}
+use Rattle.segment_file.specs.declared.file_errors.Unfit.{Unfit}
+use Rattle.segment_file.specs.declared.file_errors.Unfit.TheVariants.{Image}
 use Rattle.segment_file.specs.Opening.{ExaminesFile, unfit_error}
 use Rattle.segment_commands.specs.declared.command_faults.CommandFault.{CommandFault}
 use Rattle.segment_commands.specs.Commands.{IsFit}

@@ -6,7 +6,7 @@ use Rattle.grow_shrink.specs.LargerRegion.{region_len}
 use Rattle.grow_shrink.specs.declared.refusals.GrowError.{GrowError}
 use Rattle.segment_cli.specs.declared.faults.SessionFault.{SessionFault}
 use Rattle.segment_cli.specs.declared.faults.SessionFault.TheVariants.{OutOfMemory}
-use Rattle.segment_cli.specs.declared.program_faults.ProgramFault.TheVariants as program
+use Rattle.segment_cli.specs.declared.faults.ProgramFault.TheVariants as program
 use Rattle.segment_commands.specs.declared.command_faults.CommandFault.{CommandFault}
 use Rattle.segment_commands.specs.declared.command_faults.CommandFault.TheVariants.{Program}
 

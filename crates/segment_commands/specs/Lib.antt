@@ -7,6 +7,7 @@ pub mod Checking
 pub mod Running
 pub mod Resizing
 pub mod Migrating
+pub mod Changing
 pub mod Modes
 pub mod Linting
 pub mod Reporting

@@ -9,7 +9,7 @@ use Rattle.segment_cli.specs.declared.faults.SessionFault.TheVariants.{Image as 
 use Rattle.segment_disk.specs.Events.{Event}
 use Rattle.segment_file.specs.declared.file_errors.FileError.{FileError}
 use Rattle.segment_file.specs.declared.file_errors.FileError.TheVariants.{Image, OutOfMemory as NoMemory}
-use Rattle.segment_file.specs.declared.unfit.Unfit.{Unfit}
+use Rattle.segment_file.specs.declared.file_errors.Unfit.{Unfit}
 use Rattle.segment_file.specs.Opening.{ExaminesFile, OpensFile as ReadsFile, unfit_error}
 
 -- why a file has no segment

@@ -14,8 +14,8 @@ use Rattle.segment_cli.specs.declared.faults.SessionFault.{SessionFault}
 use Rattle.segment_cli.specs.declared.faults.SessionFault.TheVariants.{WriteFault}
 use Rattle.segment_commands.specs.declared.command_faults.CommandFault.{CommandFault}
 use Rattle.segment_commands.specs.Faults.{GrowthFault, Session}
-use Rattle.segment_commands.specs.declared.resizing.Resize.{Resize}
-use Rattle.segment_commands.specs.declared.resizing.Resize.TheVariants.{Grow, Shrink}
+use Rattle.segment_commands.specs.declared.changing.Resize.{Resize}
+use Rattle.segment_commands.specs.declared.changing.Resize.TheVariants.{Grow, Shrink}
 use Rattle.segment_disk.specs.declared.presence.CreateMode.{CreateMode}
 use Rattle.segment_disk.specs.Events.{Event}
 use Rattle.segment_file.specs.Files.{WritesImage}

@@ -2,8 +2,7 @@
 ghost use Rattle.std.specs.Prelude.{◌^◌, ◌-◌, ◌<◌, ℕ, Ok};
 ghost use Rattle.raw_region.specs.Device.{ReadDelta, read_delta, write_delta};
 ghost use Rattle.segment_manager.specs.declared.modes.Mode.{Mode as OpenMode};
-ghost use Rattle.segment_cli.specs.declared.faults.Start.{Start};
-ghost use Rattle.segment_cli.specs.Beginning.{BeginsSession};
+ghost use Rattle.segment_cli.specs.{declared.faults.Start.Start, Beginning.BeginsSession};
 ghost use Rattle.segment_disk.specs.Events.{IsFlushed};
 ghost use Rattle.segment_commands.specs.Running.{EndsRun, RunsScript};
 

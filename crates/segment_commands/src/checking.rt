@@ -5,7 +5,7 @@ ghost use Rattle.segment_commands.specs.Checking.{ChecksAll, TellsFit, reason_li
 ghost use Rattle.segment_commands.specs.Commands.{IsCheck};
 
 use crate::command_faults::{CommandFault, WRITE_FAULT};
-use crate::examining::verify_segment;
+use crate::opening::verify_segment;
 use crate::reports::put_trouble;
 use crate::telling::write_and_flush;
 use raw_region::{DeviceFault, Sink};
@@ -30,10 +30,7 @@ pub fn check<D: Disk, O: Output>(
     ensures { IsCheck D.step disk.old disk.new path.now O.history O.flushes out.old out.new result }
 {
     verify_segment(alloc, disk, path)?;
-    match write_and_flush(out, b"ok\n") {
-        Ok(()) => Ok(()),
-        Err(_) => Err(WRITE_FAULT),
-    }
+    Ok(write_and_flush(out, b"ok\n")?)
 }
 
 /// Says on standard output, behind its path, that a file holds a segment, unless it holds none or nothing is to be

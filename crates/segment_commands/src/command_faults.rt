@@ -2,11 +2,14 @@
 ghost use Rattle.std.specs.Prelude.{◌≡◌};
 ghost use Rattle.image_check.specs.declared.errors.MemoryFault.TheVariants.{Bytes};
 ghost use Rattle.segment_cli.specs.declared.faults.SessionFault.TheVariants.{OutOfMemory as NoMemory};
+ghost use Rattle.segment_cli.specs.declared.faults.SessionFault.TheVariants.{WriteFault as NotWritten};
+ghost use Rattle.segment_commands.specs.declared.command_faults.CommandFault.TheVariants.{InUse as HeldByAnother};
 ghost use Rattle.segment_commands.specs.Faults.{GrowthFault, Session};
 
 use grow_shrink::GrowError;
-use raw_region::OutOfMemory;
+use raw_region::{DeviceFault, OutOfMemory};
 use segment_cli::{ProgramFault, SessionFault};
+use segment_disk::AlreadyLocked;
 use segment_dump::BadDump;
 use thiserror::Error;
 
@@ -34,7 +37,7 @@ pub enum CommandFault {
 }
 
 /// A file or standard output can't be written.
-pub const WRITE_FAULT: CommandFault = CommandFault::Program(ProgramFault::Session(
+pub(crate) const WRITE_FAULT: CommandFault = CommandFault::Program(ProgramFault::Session(
     SessionFault::WriteFault,
 ));
 
@@ -51,6 +54,23 @@ impl From<SessionFault> for CommandFault {
 
     fn from(failed: SessionFault) -> CommandFault {
         CommandFault::Program(ProgramFault::Session(failed))
+    }
+}
+
+impl From<DeviceFault> for CommandFault {
+    ghost from_gives = { λ _ fault. fault ≡ Session NotWritten };
+
+    /// Says that a file or standard output can't be written: no command tells a failed read this way.
+    fn from(_refused: DeviceFault) -> CommandFault {
+        WRITE_FAULT
+    }
+}
+
+impl From<AlreadyLocked> for CommandFault {
+    ghost from_gives = { λ _ fault. fault ≡ HeldByAnother };
+
+    fn from(_refused: AlreadyLocked) -> CommandFault {
+        CommandFault::InUse
     }
 }
 

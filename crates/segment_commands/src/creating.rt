@@ -1,7 +1,7 @@
 //! The command that makes an empty segment in a file.
 ghost use Rattle.segment_commands.specs.Commands.{IsCreate, MakesSegment};
 
-use crate::command_faults::{CommandFault, WRITE_FAULT};
+use crate::command_faults::CommandFault;
 use block_tags::is_legal_size;
 use grow_shrink::region_for;
 use raw_region::std_io::StdSource;
@@ -21,14 +21,8 @@ pub(crate) fn new_segment(alloc: Global, size: u64) -> Result<Segment, SessionFa
     }
     let region = region_for(alloc, size)?;
     let mut nothing = StdSource::new(io::empty());
-    begin(
-        alloc,
-        Start::Fresh(size),
-        Mode::Write,
-        &mut nothing,
-        region,
-        0,
-    )
+    let start = Start::Fresh(size);
+    begin(alloc, start, Mode::Write, &mut nothing, region, 0)
 }
 
 /// Makes an empty segment of `size` bytes in a file that is not there.
@@ -50,8 +44,6 @@ pub fn create<D: Disk>(
         return Err(CommandFault::Program(ProgramFault::Exists));
     }
     let segment = new_segment(alloc, size)?;
-    match write_image(disk, path, CreateMode::New, &mut D::hold_none(), &segment) {
-        Ok(()) => Ok(()),
-        Err(_) => Err(WRITE_FAULT),
-    }
+    let mut hold = D::hold_none();
+    Ok(write_image(disk, path, CreateMode::New, &mut hold, &segment)?)
 }

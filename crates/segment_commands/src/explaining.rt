@@ -4,11 +4,11 @@ ghost use Rattle.raw_region.specs.Device.{Writes};
 ghost use Rattle.segment_commands.specs.Explaining.{IsExplain, verdict_text, words_of as words_for};
 ghost use Rattle.segment_commands.specs.Telling.{WritesAndFlushes};
 
-use crate::command_faults::{CommandFault, WRITE_FAULT};
+use crate::command_faults::CommandFault;
 use crate::telling::write_and_flush;
 use image_check::{ImageClass, Verdict};
 use raw_region::{DeviceFault, Sink};
-use segment_cli::{ProgramFault, SessionFault};
+use segment_cli::SessionFault;
 use segment_disk::{Disk, Output};
 use segment_file::{Unfit, examine_file};
 use segment_lang::{Piece, put_pieces};
@@ -79,16 +79,11 @@ pub fn explain<D: Disk, O: Output>(
     ensures { IsExplain D.step disk.old disk.new path.now O.history O.flushes out.old out.new result }
 {
     match examine_file(alloc, disk, path) {
-        Ok(()) => match write_and_flush(out, b"ok\n") {
-            Ok(()) => Ok(()),
-            Err(_) => Err(WRITE_FAULT),
-        },
-        Err(Unfit::Image(verdict)) => match tell_verdict(out, verdict) {
-            Ok(()) => Err(CommandFault::Program(ProgramFault::Session(SessionFault::Image(
-                verdict.class,
-            )))),
-            Err(_) => Err(WRITE_FAULT),
-        },
+        Ok(()) => Ok(write_and_flush(out, b"ok\n")?),
+        Err(Unfit::Image(verdict)) => {
+            tell_verdict(out, verdict)?;
+            Err(CommandFault::from(SessionFault::Image(verdict.class)))
+        }
         Err(Unfit::OutOfMemory(refusal)) => {
             Err(CommandFault::from(SessionFault::OutOfMemory(refusal)))
         }

@@ -1,11 +1,12 @@
-//! The command that makes a segment of a dump, in a new file.
+//! The commands that make a segment of a dump: in a new file, or in the place of one that is there.
 ghost use Rattle.std.specs.Prelude.{◌≡◌, ◌^◌, ◌-◌, ◌<◌, ℕ, true, false, Some};
 ghost use Rattle.block_tags.specs.Format.{is_legal_size};
 ghost use Rattle.segment_dump.specs.Loading.{IsRequestedSize};
+ghost use Rattle.segment_commands.specs.LoadOver.{IsLoadOver, LoadsOver};
 ghost use Rattle.segment_commands.specs.Loading.{IsFitting, IsLoad, IsMadeIfGiven, IsSizeFit, IsWantedSize, LoadsDump};
 ghost use Rattle.segment_commands.specs.Loading.{LoadsSegment, LoadsWhatFits, NeedsRoom, load_fault};
 
-use crate::command_faults::{CommandFault, WRITE_FAULT};
+use crate::command_faults::CommandFault;
 use crate::read_all::read_text;
 use block_tags::is_legal_size;
 use grow_shrink::region_for;
@@ -34,10 +35,8 @@ fn fault_of(error: LoadError, needed: u64) -> CommandFault
 {
     match error {
         LoadError::BadDump(bad) => CommandFault::BadDump(bad),
-        LoadError::BadSize => CommandFault::Program(ProgramFault::Session(SessionFault::BadSize)),
-        LoadError::RegionTooSmall => CommandFault::Program(ProgramFault::Session(
-            SessionFault::RegionTooSmall,
-        )),
+        LoadError::BadSize => CommandFault::from(SessionFault::BadSize),
+        LoadError::RegionTooSmall => CommandFault::from(SessionFault::RegionTooSmall),
         LoadError::NoSpace | LoadError::LongText => CommandFault::NoSpace(needed),
     }
 }
@@ -79,7 +78,7 @@ fn is_unfit(size: Option<u64>) -> bool
 }
 
 /// A segment of the dump that a reader gives. A size that no segment has is refused before the dump is read.
-pub(crate) fn load_dump<S: Source>(
+fn load_dump<S: Source>(
     alloc: Global,
     size: Option<u64>,
     script: &mut S,
@@ -88,12 +87,10 @@ pub(crate) fn load_dump<S: Source>(
     ensures { LoadsDump size (S.history script.old) (S.history script.new) result }
 {
     if is_unfit(size) {
-        return Err(CommandFault::Program(ProgramFault::Session(SessionFault::BadSize)));
+        return Err(CommandFault::from(SessionFault::BadSize));
     }
-    match read_text(alloc, script) {
-        Ok(text) => segment_of(alloc, text.as_slice(), size),
-        Err(fault) => Err(CommandFault::Program(ProgramFault::Session(fault))),
-    }
+    let text = read_text(alloc, script)?;
+    segment_of(alloc, text.as_slice(), size)
 }
 
 /// Makes a segment of the dump that a reader gives, in a file that is not there: of `size` bytes, or without a size
@@ -122,17 +119,49 @@ pub fn load<D: Disk, S: Source>(
     if disk.path_status(path) == Presence::There {
         return Err(CommandFault::Program(ProgramFault::Exists));
     }
-    match load_dump(alloc, size, script) {
-        Ok(segment) => match write_image(
-            disk,
-            path,
-            CreateMode::New,
-            &mut D::hold_none(),
-            &segment,
-        ) {
-            Ok(()) => Ok(()),
-            Err(_) => Err(WRITE_FAULT),
-        },
-        Err(fault) => Err(fault),
+    let segment = load_dump(alloc, size, script)?;
+    let mut hold = D::hold_none();
+    Ok(write_image(disk, path, CreateMode::New, &mut hold, &segment)?)
+}
+
+/// What [`load_over`] does with the right to write the file.
+fn load_held<D: Disk, S: Source>(
+    alloc: Global,
+    disk: &mut D,
+    path: &str,
+    size: Option<u64>,
+    hold: &mut D::Hold,
+    script: &mut S,
+) -> Result<(), CommandFault>
+    requires { (S.history script.old).failures < 2 ^ 64 - 1 }
+    ensures { LoadsOver D.step disk.old disk.new path.now size (S.history script.old) (S.history script.new) result }
+{
+    let segment = load_dump(alloc, size, script)?;
+    Ok(write_image(disk, path, CreateMode::Replacement, hold, &segment)?)
+}
+
+/// Makes a segment of the dump that a reader gives, as [`load`] does, in a file that is not there, or in the place of
+/// one that is: the old file is whole until the new one is, and takes its place.
+///
+/// # Errors
+///
+/// Those of [`load`], but for `Exists`, and `InUse` where another has the right to write the file; the dump is not read
+/// then.
+pub fn load_over<D: Disk, S: Source>(
+    alloc: Global,
+    disk: &mut D,
+    path: &str,
+    size: Option<u64>,
+    script: &mut S,
+) -> Result<(), CommandFault>
+    requires { (S.history script.old).failures < 2 ^ 64 - 1 }
+    ensures { IsLoadOver D.step disk.old disk.new path.now size (S.history script.old) (S.history script.new) result }
+{
+    if disk.path_status(path) != Presence::There {
+        return load(alloc, disk, path, size, script);
     }
+    let mut hold = disk.lock(path)?;
+    let answer = load_held(alloc, disk, path, size, &mut hold, script);
+    disk.unlock(hold);
+    answer
 }

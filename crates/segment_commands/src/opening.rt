@@ -1,12 +1,12 @@
-//! The opening of the segment in a file, as a session answers it.
+//! The opening of the segment in a file, or the check of its image alone, as a session answers it.
 ghost use Rattle.std.specs.Prelude.{◌≡◌};
 ghost use Rattle.image_check.specs.declared.versions.AcceptedVersions.TheVariants.{Current};
-ghost use Rattle.segment_commands.specs.Opening.{OpensWith, session_fault};
+ghost use Rattle.segment_commands.specs.Opening.{OpensWith, VerifiesFile, session_fault};
 
 use image_check::AcceptedVersions;
 use segment_cli::SessionFault;
 use segment_disk::Disk;
-use segment_file::{FileError, open_file};
+use segment_file::{FileError, examine_file, open_file};
 use segment_manager::{Mode, Segment};
 use std::alloc::Global;
 
@@ -49,4 +49,18 @@ pub(crate) fn open_segment<D: Disk>(
     ensures { OpensWith D.step disk.old disk.new path.now Current mode more result }
 {
     open_any_segment(alloc, disk, path, AcceptedVersions::Current, mode, more)
+}
+
+/// Whether the image in a file has a segment, as a session answers it. None is made, and the file is closed.
+pub(crate) fn verify_segment<D: Disk>(
+    alloc: Global,
+    disk: &mut D,
+    path: &str,
+) -> Result<(), SessionFault>
+    ensures { VerifiesFile D.step disk.old disk.new path.now result }
+{
+    match examine_file(alloc, disk, path) {
+        Ok(()) => Ok(()),
+        Err(unfit) => Err(session_fault(FileError::from(unfit))),
+    }
 }

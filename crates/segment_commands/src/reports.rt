@@ -129,8 +129,7 @@ fn trouble_words(trouble: FileProblem) -> &'static [u8]
 
 /// Writes a line that says why the file of a path can't be read or written, behind the line of the fault, where that is
 /// known. The path stands there as a text of the language, so that none of its bytes ends the line or means something
-/// to
-/// a terminal.
+/// to a terminal.
 ///
 /// # Errors
 ///

@@ -1,8 +1,8 @@
 //! The command that runs a script on the segment in a file.
 ghost use Rattle.std.specs.Prelude.{◌≡◌, ◌+◌, ◌^◌, ◌-◌, ◌<◌, true, false};
 ghost use Rattle.segment_disk.specs.Events.{IsFlushed};
+ghost use Rattle.segment_commands.specs.{Modes.RunsInMode, Modes.making_of, Running.as_program};
 ghost use Rattle.segment_commands.specs.Running.{MakesRun, RunsAnyFile, RunsFile, RunsHeld, RunsNewFile, RunsOpened};
-ghost use Rattle.segment_commands.specs.Running.{as_program};
 
 use crate::answering::answer_and_save;
 use crate::command_faults::CommandFault;
@@ -12,9 +12,66 @@ use raw_region::Source;
 use segment_answers::Lined;
 use segment_cli::{ProgramFault, SessionFault};
 use segment_disk::{CreateMode, Disk, Presence};
+use segment_invocation::{ModeName, SaveMode};
 use segment_manager::Mode;
 use segment_scripts::{End, Until};
 use std::alloc::Global;
+
+/// How a file that is there comes to take the image that is saved.
+pub(crate) fn making_for(saving: SaveMode) -> CreateMode
+    ensures { result ≡ making_of saving }
+{
+    match saving {
+        SaveMode::InPlace => CreateMode::Truncate,
+        SaveMode::Replacing => CreateMode::Replacement,
+    }
+}
+
+/// Runs a script on the segment in a file, which is opened or made as the mode says, and gives out its answers.
+/// `create_only` and `open_or_create` need a size for a segment that is made; the other modes ignore it. When all
+/// answers went out, a mode that writes saves the segment: a file that is there is emptied or replaced as `saving`
+/// says. The script is run to its end, or until a line is refused.
+///
+/// # Errors
+///
+/// Those of a session. `UsageFault` if a size is needed and missing. `Exists` if `create_only` finds something there,
+/// whatever the size. `ReadFault` if the script or the file can't be read; `OutOfMemory`. `WriteFault` if answers don't
+/// go out, or if the file can't be made, emptied or replaced, takes not the whole image, or need not last. `Stopped` if
+/// the run ends at a line that is refused: its answer and all before went out, no line after it was executed, and
+/// nothing is saved. `InUse` if another has the right to write a file that is to be saved; the script is not read then.
+pub fn run<D: Disk, S: Source, O: Lined>(
+    alloc: Global,
+    disk: &mut D,
+    path: &str,
+    mode: ModeName,
+    size: Option<u64>,
+    saving: SaveMode,
+    until: Until,
+    script: &mut S,
+    out: &mut O,
+) -> Result<(), CommandFault>
+    requires script { (S.history script.old).failures < 2 ^ 64 - 1 }
+    requires out { (O.history out.old).failures < 2 ^ 64 - 1 }
+    ensures { RunsInMode D.step disk.old disk.new path.now until (S.history script.old) (S.history script.new)
+        O.history (IsFlushed O.history O.flushes out.new) out.old out.new result mode size saving }
+{
+    let how = making_for(saving);
+    let mode = match (mode, size) {
+        (ModeName::CreateOnly, Some(size)) => {
+            return run_in_new_file(alloc, disk, path, size, until, script, out);
+        }
+        (ModeName::OpenOrCreate, Some(size)) => {
+            return run_on_file_or_new(alloc, disk, path, size, how, until, script, out);
+        }
+        (ModeName::CreateOnly | ModeName::OpenOrCreate, None) => {
+            return Err(CommandFault::Program(ProgramFault::Usage));
+        }
+        (ModeName::OpenOnly, _) => Mode::Write,
+        (ModeName::OpenReadOnly, _) => Mode::ReadOnly,
+        (ModeName::OpenCopyOnWrite, _) => Mode::CopyOnWrite,
+    };
+    run_on_file(alloc, disk, path, mode, how, until, script, out)
+}
 
 /// Whether a script can be read at all. A closed standard input can't, and a file that is opened then would take its
 /// place.
@@ -44,10 +101,8 @@ fn run_opened<D: Disk, S: Source, O: Lined>(
     ensures { RunsOpened D.step disk.old disk.new path.now mode how until (S.history script.old) (S.history script.new)
         O.history (IsFlushed O.history O.flushes out.new) out.old out.new result }
 {
-    match open_segment(alloc, disk, path, mode, 0) {
-        Ok(mut segment) => answer_and_save(disk, path, how, hold, &mut segment, until, script, out),
-        Err(fault) => Err(fault),
-    }
+    let mut segment = open_segment(alloc, disk, path, mode, 0)?;
+    answer_and_save(disk, path, how, hold, &mut segment, until, script, out)
 }
 
 /// The same in mode `Write`, with the right to write the file.
@@ -65,35 +120,16 @@ fn run_held<D: Disk, S: Source, O: Lined>(
     ensures { RunsHeld D.step disk.old disk.new path.now how until (S.history script.old) (S.history script.new)
         O.history (IsFlushed O.history O.flushes out.new) out.old out.new result }
 {
-    let Ok(mut hold) = disk.lock(path) else {
-        return Err(CommandFault::InUse);
-    };
-    let answer = run_opened(
-        alloc,
-        disk,
-        path,
-        Mode::Write,
-        how,
-        &mut hold,
-        until,
-        script,
-        out,
-    );
+    let mut hold = disk.lock(path)?;
+    let mode = Mode::Write;
+    let answer = run_opened(alloc, disk, path, mode, how, &mut hold, until, script, out);
     disk.unlock(hold);
     answered(answer)
 }
 
 /// Runs a script on the segment in a file, which is opened in a mode, and gives out its answers. In mode `Write` the
-/// file is then emptied, or replaced, and takes the image; in the other modes nothing is opened for writing.
-///
-/// # Errors
-///
-/// Those of a session. `ReadFault` where the script or the file can't be read, `OutOfMemory`, and `WriteFault` where
-/// answers don't go out, or the file can't be emptied or replaced, takes not the whole image, or need not last. It is
-/// neither emptied nor changed before all answers went out. `Stopped` where the run is to end with the first line that
-/// is refused, and did: its answer and all before went out, no line behind it was executed, and nothing is saved.
-/// `InUse` where another has the right to write the file, in mode `Write` alone; the script is not read then.
-pub fn run_on_file<D: Disk, S: Source, O: Lined>(
+/// file then takes the image; in the other modes nothing is opened for writing.
+fn run_on_file<D: Disk, S: Source, O: Lined>(
     alloc: Global,
     disk: &mut D,
     path: &str,
@@ -109,7 +145,7 @@ pub fn run_on_file<D: Disk, S: Source, O: Lined>(
         O.history (IsFlushed O.history O.flushes out.new) out.old out.new result mode }
 {
     if !can_be_read(script) {
-        return Err(CommandFault::Program(ProgramFault::Session(SessionFault::ReadFault)));
+        return Err(CommandFault::from(SessionFault::ReadFault));
     }
     if mode == Mode::Write {
         run_held(alloc, disk, path, how, until, script, out)
@@ -134,29 +170,14 @@ fn run_made<D: Disk, S: Source, O: Lined>(
     ensures { MakesRun D.step disk.old disk.new path.now size until (S.history script.old) (S.history script.new)
         O.history (IsFlushed O.history O.flushes out.new) out.old out.new result }
 {
-    match new_segment(alloc, size) {
-        Ok(mut segment) => answer_and_save(
-            disk,
-            path,
-            CreateMode::New,
-            &mut D::hold_none(),
-            &mut segment,
-            until,
-            script,
-            out,
-        ),
-        Err(fault) => Err(fault),
-    }
+    let mut segment = new_segment(alloc, size)?;
+    let mut hold = D::hold_none();
+    let how = CreateMode::New;
+    answer_and_save(disk, path, how, &mut hold, &mut segment, until, script, out)
 }
 
-/// Runs a script on a segment that is made, in a file that is not there: an empty one of `size` bytes. The file is made
-/// when all answers went out.
-///
-/// # Errors
-///
-/// `Exists` where something is there, whatever the size. `BadSize` where no segment has it, and else those of
-/// [`run_on_file`].
-pub fn run_in_new_file<D: Disk, S: Source, O: Lined>(
+/// Runs a script on an empty segment of `size` bytes, in a file that must not be there.
+fn run_in_new_file<D: Disk, S: Source, O: Lined>(
     alloc: Global,
     disk: &mut D,
     path: &str,
@@ -176,13 +197,8 @@ pub fn run_in_new_file<D: Disk, S: Source, O: Lined>(
     answered(run_made(alloc, disk, path, size, until, script, out))
 }
 
-/// Runs a script on the segment in a file, as [`run_on_file`] in mode `Write`, and where nothing is there as
-/// [`run_in_new_file`].
-///
-/// # Errors
-///
-/// Those of the two, but for `Exists`.
-pub fn run_on_file_or_new<D: Disk, S: Source, O: Lined>(
+/// Runs a script on the segment in a file, and on an empty one of `size` bytes if no file is there.
+fn run_on_file_or_new<D: Disk, S: Source, O: Lined>(
     alloc: Global,
     disk: &mut D,
     path: &str,
@@ -204,7 +220,7 @@ pub fn run_on_file_or_new<D: Disk, S: Source, O: Lined>(
 }
 
 /// What a run answered, as the program answers it.
-pub(crate) fn answered(answer: Result<End, SessionFault>) -> Result<(), CommandFault>
+fn answered(answer: Result<End, SessionFault>) -> Result<(), CommandFault>
     ensures { result ≡ as_program answer }
 {
     match answer {

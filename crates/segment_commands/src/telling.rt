@@ -1,10 +1,9 @@
 //! What a command says, and that it went out.
 ghost use Rattle.std.specs.Prelude.{◌≡◌, ◌^◌, ◌-◌, ◌<◌, flat_map};
 ghost use Rattle.segment_scripts.specs.CommandRows.{row_text};
-ghost use Rattle.segment_commands.specs.Commands.{Prints};
-ghost use Rattle.segment_commands.specs.Telling.{WritesAndFlushes};
+ghost use Rattle.segment_commands.specs.{Commands.Prints, Telling.WritesAndFlushes};
 
-use crate::command_faults::{CommandFault, WRITE_FAULT};
+use crate::command_faults::CommandFault;
 use raw_region::{DeviceFault, write_all};
 use segment_disk::Output;
 use segment_scripts::{CommandRow, put_language};
@@ -27,10 +26,7 @@ pub fn print<O: Output>(out: &mut O, text: &str) -> Result<(), CommandFault>
     requires { (O.history out.old).failures < 2 ^ 64 - 1 }
     ensures { Prints O.history O.flushes out.old out.new text.now result }
 {
-    match write_and_flush(out, text.as_bytes()) {
-        Ok(()) => Ok(()),
-        Err(_) => Err(WRITE_FAULT),
-    }
+    Ok(write_and_flush(out, text.as_bytes())?)
 }
 
 /// Writes the commands of the language, and gives out all that was written.
@@ -51,8 +47,5 @@ pub fn print_language<O: Output>(out: &mut O, rows: &[CommandRow]) -> Result<(),
     requires { (O.history out.old).failures < 2 ^ 64 - 1 }
     ensures { Prints O.history O.flushes out.old out.new (flat_map row_text rows.now) result }
 {
-    match tell_language(out, rows) {
-        Ok(()) => Ok(()),
-        Err(_) => Err(WRITE_FAULT),
-    }
+    Ok(tell_language(out, rows)?)
 }

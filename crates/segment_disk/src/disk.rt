@@ -34,8 +34,7 @@ pub trait Disk {
 
     /// Takes the right to write a file, which no other has until it is given back. Where another has it, the answer is
     /// `AlreadyLocked`, at once or after a wait that ends. A file that can't be held, or is not there, is nobody's, and
-    /// the
-    /// answer is Ok.
+    /// the answer is Ok.
     fn lock(&mut self, path: &str) -> Result<Self::Hold, AlreadyLocked>
         ensures { step self.old (Held path.now (is_ok result)) self.new };
 
@@ -44,8 +43,7 @@ pub trait Disk {
         ensures { step self.old Released self.new };
 
     /// What is passed in place of the right to write a file that is not there yet. The file that is made with it is
-    /// held
-    /// by it.
+    /// held by it.
     fn hold_none() -> Self::Hold;
 
     /// Opens a file for reading.
@@ -83,8 +81,7 @@ pub trait Disk {
 
     /// Puts the file that was made beside this one, and is closed, in its place. At each moment the name leads to one
     /// of the two. Ok says that it leads to the new one, which is held from then on, and that this lasts. An error
-    /// where
-    /// another file has taken the name of the one that is held.
+    /// where another file has taken the name of the one that is held.
     fn commit_replacement(&mut self, path: &str, hold: &mut Self::Hold) -> Result<(), DeviceFault>
         ensures { step self.old (Placed path.now (is_ok result)) self.new };
 

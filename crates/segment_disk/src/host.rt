@@ -2,17 +2,15 @@
 ghost use Rattle.std.specs.Prelude.{⊤};
 
 use crate::disk::{Disk, OpenedFile};
-use crate::durable::sync_file;
-use crate::limits::longest_file;
-use crate::locks::{Identity, PAUSE, lock, lock_made};
+use crate::locks::{Identity, PAUSE, lock, lock_made, open_to_write, sync_file};
 use crate::presence::{AlreadyLocked, CreateMode, FileProblem, Presence};
 use crate::replacement_file::ReplacementFile;
-use crate::sparse::SparseFile;
+use crate::sparse::{SparseFile, longest_file};
 use crate::std_output::StdOutput;
 use crate::troubles::{making_trouble, trouble_of};
 use raw_region::DeviceFault;
 use raw_region::std_io::StdSource;
-use std::fs::{self, File, OpenFile, OpenOptions};
+use std::fs::{self, File, Metadata};
 use std::io::{self, ErrorKind};
 use std::rt::Files;
 use std::thread::sleep;
@@ -41,11 +39,6 @@ pub struct HostLock {
 }
 
 impl HostLock {
-    /// With a lock, if there is one.
-    fn new(lock: Option<File>) -> HostLock {
-        HostLock { lock, beside: None }
-    }
-
     /// The file that is locked, if one is.
     fn identity(&self) -> Option<Identity> {
         self.lock.as_ref().and_then(Identity::of)
@@ -78,13 +71,38 @@ impl<'a, R: Files<File = File> + AllocGlobal + Clock> HostDisk<'a, R> {
     /// Makes a file, as it is wanted.
     fn file_for(&mut self, path: &str, how: CreateMode, hold: &mut HostLock) -> io::Result<File> {
         match how {
-            CreateMode::New => made(self.files, path, hold),
-            CreateMode::Truncate => emptied(self.files, path, hold),
+            CreateMode::New => self.made(path, hold),
+            CreateMode::Truncate => self.emptied(path, hold),
             CreateMode::Replacement => {
                 let (file, beside) = ReplacementFile::make(self.files, path, hold.identity())?;
                 hold.beside = Some(beside);
                 Ok(file)
             }
+        }
+    }
+
+    /// Makes a file that is not there, and locks it.
+    fn made(&self, path: &str, hold: &mut HostLock) -> io::Result<File> {
+        let file = File::create_new(self.files, path)?;
+        hold.lock = lock_made(self.files, &file)?;
+        Ok(file)
+    }
+
+    /// Opens a file for writing, and empties it, or makes it if it is not there. If a file is locked, no other is
+    /// emptied that has taken its name: they are compared when the file is open.
+    fn emptied(&self, path: &str, hold: &mut HostLock) -> io::Result<File> {
+        let held = hold.identity();
+        if held.is_none() {
+            return fs::create(self.files, path);
+        }
+        match open_to_write(self.files, path) {
+            Ok(file) if Identity::of(&file) == held => {
+                file.set_len(0)?;
+                Ok(file)
+            }
+            Ok(_) => Err(io::Error::from(ErrorKind::AlreadyExists)),
+            Err(error) if error.kind() == ErrorKind::NotFound => self.made(path, hold),
+            Err(error) => Err(error),
         }
     }
 
@@ -97,58 +115,12 @@ impl<'a, R: Files<File = File> + AllocGlobal + Clock> HostDisk<'a, R> {
     }
 }
 
-/// Makes a file that is not there, and locks it.
-fn made<R: Files<File = File> + Clock>(
-    files: &R,
-    path: &str,
-    hold: &mut HostLock,
-) -> io::Result<File> {
-    let file = File::create_new(files, path)?;
-    hold.lock = lock_made(files, &file)?;
-    Ok(file)
-}
-
-/// Opens a file for writing, and empties it. One that is not there is made. Where a file is locked, no other is emptied
-/// that has taken its name: they are compared when the file is open.
-fn emptied<R: Files<File = File> + Clock>(
-    files: &R,
-    path: &str,
-    hold: &mut HostLock,
-) -> io::Result<File> {
-    let held = hold.identity();
-    if held.is_none() {
-        return fs::create(files, path);
-    }
-    let mut options = OpenOptions::new();
-    options.write(true);
-    match options.open(files, path) {
-        Ok(file) if Identity::of(&file) == held => {
-            file.set_len(0)?;
-            Ok(file)
-        }
-        Ok(_) => Err(io::Error::from(ErrorKind::AlreadyExists)),
-        Err(error) if error.kind() == ErrorKind::NotFound => made(files, path, hold),
-        Err(error) => Err(error),
-    }
-}
-
-/// A file that was opened for reading, how many bytes it has, and whether it is a folder, which can be opened and not
-/// read.
-struct Found<F> {
-    file: F,
-    len: u64,
-    is_folder: bool,
-}
-
-/// Opens a file for reading. Nothing is read of it, and what cannot seek can be opened too, as a pipe.
-fn open_file<R: Files>(files: &R, path: &str) -> io::Result<Found<R::File>> {
+/// Opens a file for reading. Nothing is read of it, and what cannot seek can be opened too, as a pipe. A folder can be
+/// opened and not read.
+fn open_file<R: Files<File = File>>(files: &R, path: &str) -> io::Result<(File, Metadata)> {
     let file = fs::open(files, path)?;
-    let metadata = file.metadata()?;
-    Ok(Found {
-        file,
-        len: metadata.len(),
-        is_folder: metadata.is_dir(),
-    })
+    let found = file.metadata()?;
+    Ok((file, found))
 }
 
 impl<'a, R: Files<File = File> + AllocGlobal + Clock> Disk for HostDisk<'a, R> {
@@ -177,26 +149,25 @@ impl<'a, R: Files<File = File> + AllocGlobal + Clock> Disk for HostDisk<'a, R> {
             sleep(self.files, Duration::from_millis(PAUSE));
             found = lock(self.files, path);
         }
-        Ok(HostLock::new(found?))
+        let lock = found?;
+        Ok(HostLock { lock, beside: None })
     }
 
     fn unlock(&mut self, _hold: HostLock) {}
 
     fn hold_none() -> HostLock {
-        HostLock::new(None)
+        HostLock {
+            lock: None,
+            beside: None,
+        }
     }
 
     fn open(&mut self, path: &str) -> Result<OpenedFile<StdSource<File>>, DeviceFault> {
         match open_file(self.files, path) {
-            Ok(
-                Found {
-                    file,
-                    len,
-                    is_folder,
-                },
-            ) => {
-                self.trouble = is_folder.then_some(FileProblem::Folder);
+            Ok((file, found)) => {
+                self.trouble = found.is_dir().then_some(FileProblem::Folder);
                 let reader = StdSource::new(file);
+                let len = found.len();
                 Ok(OpenedFile { reader, len })
             }
             Err(error) => {

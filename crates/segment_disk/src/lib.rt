@@ -3,9 +3,7 @@
 #![tactic(auto)]
 
 mod disk;
-mod durable;
 mod host;
-mod limits;
 mod locks;
 mod presence;
 mod replacement_file;

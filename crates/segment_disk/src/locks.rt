@@ -1,7 +1,7 @@
 //! The right to write a file of the system: a lock on it, which the system takes away where its holder ends.
 
 use crate::presence::AlreadyLocked;
-use std::fs::{self, File, TryLockError};
+use std::fs::{self, File, Metadata, OpenOptions, TryLockError};
 use std::io::{self, ErrorKind};
 use std::os::unix::fs::MetadataExt;
 use std::rt::Files;
@@ -22,32 +22,45 @@ pub(crate) struct Identity {
 }
 
 impl Identity {
-    /// That of a file that is open, if the system tells.
+    /// Returns the identity of a file by its metadata.
+    fn new(found: &Metadata) -> Identity {
+        Identity {
+            device: found.dev(),
+            number: found.ino(),
+        }
+    }
+
+    /// Returns the identity of an open file, if the system tells.
     pub(crate) fn of(file: &File) -> Option<Identity> {
         match file.metadata() {
-            Ok(found) => Some(Identity {
-                device: found.dev(),
-                number: found.ino(),
-            }),
+            Ok(found) => Some(Identity::new(&found)),
             Err(_) => None,
         }
     }
 
-    /// That of the file that a path leads to.
+    /// Returns the identity of the file that a path leads to.
     pub(crate) fn at<R: Files<File = File>>(files: &R, path: &str) -> io::Result<Identity> {
-        let found = fs::metadata(files, path)?;
-        Ok(Identity {
-            device: found.dev(),
-            number: found.ino(),
-        })
+        Ok(Identity::new(&fs::metadata(files, path)?))
     }
 }
 
 /// Whether a path still leads to a file that was opened by it.
 fn leads_to<R: Files<File = File>>(files: &R, path: &str, file: &File) -> bool {
-    match Identity::at(files, path) {
-        Ok(named) => Identity::of(file) == Some(named),
-        Err(_) => false,
+    Identity::at(files, path).is_ok_and(|named| Identity::of(file) == Some(named))
+}
+
+/// Opens a file for writing, and changes nothing of it.
+pub(crate) fn open_to_write<R: Files<File = File>>(files: &R, path: &str) -> io::Result<File> {
+    let mut options = OpenOptions::new();
+    options.write(true);
+    options.open(files, path)
+}
+
+/// Asks the system to write a file through. What is no file on a disk, as a pipe, can't be asked that.
+pub(crate) fn sync_file(file: &File) -> bool {
+    match file.sync_all() {
+        Ok(()) => true,
+        Err(error) => error.kind() == ErrorKind::InvalidInput,
     }
 }
 

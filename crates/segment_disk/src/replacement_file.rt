@@ -1,7 +1,6 @@
 //! Files of the system that are made beside others, to take their place.
 
-use crate::durable::sync_file;
-use crate::locks::{Identity, lock_made};
+use crate::locks::{Identity, lock_made, open_to_write, sync_file};
 use std::fs::{self, File, OpenFile, OpenOptions, Permissions};
 use std::io::{self, ErrorKind};
 use std::os::unix::fs::OpenOptionsExt;
@@ -20,14 +19,6 @@ pub(crate) struct ReplacementFile {
     lock: Option<File>,
 }
 
-/// Whether what a path leads to is a file that may be written. It is not changed.
-fn may_be_written<R: Files<File = File>>(files: &R, path: &str) -> io::Result<()> {
-    let mut options = OpenOptions::new();
-    options.write(true);
-    options.open(files, path)?;
-    Ok(())
-}
-
 impl ReplacementFile {
     /// Makes an empty file beside the one of a path, with its rights. Where a file is locked, the path leads to it, and
     /// what an earlier run left there is removed before; else nothing may be there.
@@ -41,7 +32,7 @@ impl ReplacementFile {
         if !described.is_file() {
             return Err(io::Error::from(ErrorKind::InvalidInput));
         }
-        may_be_written(rt, old.as_str())?;
+        open_to_write(rt, old.as_str())?;
         if held.is_some() && Identity::at(rt, old.as_str()).ok() != held {
             return Err(io::Error::from(ErrorKind::AlreadyExists));
         }

@@ -2,11 +2,15 @@
 ghost use Rattle.std.specs.Prelude.{◌≡◌, ◌<◌, ◌≤◌, length, take, true, false};
 ghost use Rattle.raw_region.specs.Memory.{AreZero, bytes_of};
 
-use std::fs::{File, OpenFile};
+use std::fs::{self, File, OpenFile};
 use std::io::{self, ErrorKind, Seek, SeekFrom, Write};
+use std::rt::Files;
 
 /// The most bytes that are passed over or written together as one piece.
 const PIECE: usize = 65_536;
+
+/// Where the system tells what this program may take.
+const LIMITS: &str = "/proc/self/limits";
 
 /// A file that is written from its first byte on. Where it is a file of a disk that was empty, pieces of zeros are
 /// passed over: what was never written reads as zeros, and takes no place.
@@ -90,4 +94,20 @@ impl Write for SparseFile {
     fn flush(&mut self) -> io::Result<()> {
         self.file.flush()
     }
+}
+
+/// How many bytes a file may have that this program writes, as far as the system tells. One that writes behind them is
+/// ended by a signal.
+pub(crate) fn longest_file<R: Files + AllocGlobal>(rt: &R) -> u64 {
+    match fs::read_to_string(rt, LIMITS) {
+        Ok(text) => soft_limit(text.as_str()).unwrap_or(u64::MAX),
+        Err(_) => u64::MAX,
+    }
+}
+
+/// The limit that stands in a text of limits, if it is a number.
+fn soft_limit(text: &str) -> Option<u64> {
+    let (_, behind) = text.split_once("Max file size")?;
+    let word = behind.split_whitespace().next()?;
+    word.parse::<u64>().ok()
 }

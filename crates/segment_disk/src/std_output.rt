@@ -5,7 +5,7 @@ ghost use Rattle.segment_disk.specs.Events.{nothing_taken};
 use crate::disk::Output;
 use raw_region::std_io::{StdSink, WriteOnce};
 use raw_region::{DeviceFault, Sink};
-use std::io::{ErrorKind, Write};
+use std::io::{self, ErrorKind, Write};
 use std::marker::Model;
 
 /// Takes all bytes, and does nothing with them: what went to a writer is counted by what came by here.
@@ -65,19 +65,27 @@ impl<W> StdOutput<W> {
     pub(crate) fn inner(&self) -> &W {
         &self.inner
     }
+
+    /// Notes why an answer failed. An error is long: what looks at one is kept out of the way of lines that go out.
+    #[inline(never)]
+    fn note_failure<T>(&mut self, answer: &io::Result<T>)
+        ensures { self.new ≡ self.old }
+    {
+        if let Err(error) = answer {
+            self.is_closed_pipe = error.kind() == ErrorKind::BrokenPipe;
+        }
+    }
 }
 
 impl<W: Write> Sink for StdOutput<W> {
     ghost history = { λ o. o.history };
 
     fn write(&mut self, bytes: &[u8]) -> Result<usize, DeviceFault> {
-        let count = match self.inner.write(bytes) {
-            Ok(count) => count,
-            Err(error) => {
-                self.is_closed_pipe = error.kind() == ErrorKind::BrokenPipe;
-                self.failures += 1;
-                return Err(DeviceFault);
-            }
+        let answer = self.inner.write(bytes);
+        let Ok(count) = answer else {
+            self.note_failure(&answer);
+            self.failures += 1;
+            return Err(DeviceFault);
         };
         if count == 0 && !bytes.is_empty() {
             self.failures += 1;
@@ -90,12 +98,11 @@ impl<W: Write> Output for StdOutput<W> {
     ghost flushes = { λ old ok new. ⊤ };
 
     fn flush(&mut self) -> Result<(), DeviceFault> {
-        match self.inner.flush() {
-            Ok(()) => Ok(()),
-            Err(error) => {
-                self.is_closed_pipe = error.kind() == ErrorKind::BrokenPipe;
-                Err(DeviceFault)
-            }
+        let answer = self.inner.flush();
+        if answer.is_ok() {
+            return Ok(());
         }
+        self.note_failure(&answer);
+        Err(DeviceFault)
     }
 }

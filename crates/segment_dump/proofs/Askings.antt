@@ -1,17 +1,12 @@
 -- What the lines of a text ask for, put together from part to part.
 use Rattle.segment_dump.proofs.Common.{◌≡◌, ℕ, ◌+◌, ◌-◌, ◌≤◌, List, [], ◌∷◌, ◌++◌, length, take, drop, get_or, refl}
-use Rattle.segment_dump.proofs.Common.{sym, ap}
-use Rattle.segment_dump.proofs.Common.{◌∙◌, arith, append_assoc, append-nil, length-append, flat_map-append}
-use Rattle.segment_dump.proofs.Common.{length-drop, length-take, take-append-drop, take_all}
-use Rattle.segment_dump.proofs.Common.{AllByRecursion, flat_map, Kind, Needs, number_text, all_needs, both, nothing}
-use Rattle.segment_dump.proofs.Common.{object_room, only_room, subst, ◌≢◌}
-use Rattle.segment_dump.proofs.Common.{HasNoEnd, Skips, Some, ended, lines_text}
+use Rattle.segment_dump.proofs.Common.{sym, ap, ◌∙◌, arith, append_assoc, append-nil, length-append, flat_map-append}
+use Rattle.segment_dump.proofs.Common.{length-drop, length-take, take-append-drop, take_all, flat_map, Kind, Needs}
+use Rattle.segment_dump.proofs.Common.{number_text, both, nothing, object_room, only_room, subst, ◌≢◌, HasNoEnd, Skips}
+use Rattle.segment_dump.proofs.{Common.Some, Common.ended, Common.lines_text, Lists.AllByRecursion-append}
+use Rattle.segment_dump.proofs.{Readers.InLine, Readers.line-ends, Readers.line-goes, Sums.all-append}
 use Rattle.segment_dump.specs.Asked.{AreAtMost, AskTogether, Asking, AsksContent, AsksObject, Begins, CanName, IsLined}
-use Rattle.segment_dump.specs.Asked.{IsMeasured, IsDumpText, NamesKind}
-use Rattle.segment_dump.specs.Texts.{length_text, pieces_in}
-use Rattle.segment_dump.proofs.Lists.{AllByRecursion-append}
-use Rattle.segment_dump.proofs.Readers.{InLine, line-ends, line-goes}
-use Rattle.segment_dump.proofs.Sums.{all-append}
+use Rattle.segment_dump.specs.{Asked.IsMeasured, Asked.IsDumpText, Asked.NamesKind, Texts.length_text, Texts.pieces_in}
 
 -- ---- bytes in front, one behind another
 
@@ -133,8 +128,7 @@ first-ends text rest l e h =
 -- ---- a kind and a count
 
 pub measured-by : (text r0 r1 r2 rest : List ℕ) (kind : Kind) (count : ℕ) → Begins NamesKind text kind r0
-    → r0 ≡ 0x20 ∷ r1 → r1 ≡ number_text count ++ r2 → r2 ≡ 0x0A ∷ rest
-    → Begins IsMeasured text (kind, count) rest
+    → r0 ≡ 0x20 ∷ r1 → r1 ≡ number_text count ++ r2 → r2 ≡ 0x0A ∷ rest → Begins IsMeasured text (kind, count) rest
 measured-by text r0 r1 r2 rest kind count k e f g = record {
   bytes = k.bytes ++ 0x20 ∷ (number_text count ++ 0x0A ∷ []);
   is = joined text k.bytes (0x20 ∷ (number_text count ++ 0x0A ∷ [])) r0 rest k.is
@@ -170,8 +164,7 @@ module _ (Asks : List ℕ → Needs → Type 0) where
   }
 
   more-together : (count : ℕ) (bytes one : List ℕ) (needs more sum : Needs) → AskTogether Asks count bytes needs
-      → Asks one more → AreAtMost sum (both needs more)
-      → AskTogether Asks (count + 1) (bytes ++ one) sum
+      → Asks one more → AreAtMost sum (both needs more) → AskTogether Asks (count + 1) (bytes ++ one) sum
   more-together count bytes one needs more sum t a s =
       let p : Asking = record { bytes = one; needs = more } in
       let spelled : Asking → List ℕ = λ q. q.bytes in

@@ -1,9 +1,8 @@
 -- Base64 that is written a group after another.
-use Rattle.segment_dump.proofs.Common.{◌≡◌, ℕ, List, [], ◌∷◌, ◌++◌, Result, Ok, Err, IsErr, sym, ap, subst, ◌∙◌}
-use Rattle.segment_dump.proofs.Common.{◌≤◌, ◌-◌, arith, drop, get_or, length, take, take_all, append_assoc}
-use Rattle.segment_dump.proofs.Common.{WriterHistory, Writes, writes-cut, writes-then}
+use Rattle.segment_dump.proofs.Common.{◌≡◌, ℕ, List, [], ◌∷◌, ◌++◌, Result, Ok, Err, IsErr, sym, ap, subst, ◌∙◌, ◌≤◌}
+use Rattle.segment_dump.proofs.Common.{◌-◌, arith, drop, get_or, length, take, take_all, append_assoc, WriterHistory}
+use Rattle.segment_dump.proofs.{Common.Writes, Common.writes-cut, Common.writes-then, PartLines.well}
 use Rattle.segment_dump.specs.Json.{base64_text}
-use Rattle.segment_dump.proofs.PartLines.{well}
 
 -- the first three bytes
 pub group-front : (bs : List ℕ) → 3 ≤ length bs

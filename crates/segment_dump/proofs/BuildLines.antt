@@ -1,26 +1,19 @@
 -- All objects of a text are built, one after another.
+use Rattle.segment_dump.proofs.Quotes as said
 use Rattle.segment_dump.proofs.Common.{◌≡◌, ◌≢◌, ℕ, suc, ◌+◌, ◌<◌, ◌≤◌, ◌==◌, Bool, true, false, cond, List, [], ◌∷◌}
 use Rattle.segment_dump.proofs.Common.{◌++◌, length, get_or, Result, Ok, Err, refl, sym, ap, subst, ◌∙◌, arith}
 use Rattle.segment_dump.proofs.Common.{append-nil, append_assoc, codes, eq-eqb, length-append, Class, Anonymous, Named}
 use Rattle.segment_dump.proofs.Common.{Unique, Kind, class_code, name_text, bare, SegmentState, ObjectLine, AreLeft}
-use Rattle.segment_dump.proofs.Common.{BuildsAllObjects}
-use Rattle.segment_dump.proofs.Common.{FillsNew, HasIndexSlot, IsEmptyObject, IsFillable, CanBuildItem, StartsNext}
-use Rattle.segment_dump.proofs.Common.{content_need}
-use Rattle.segment_dump.proofs.Common.{first_content, Site, class_words, count_class, measure_words, of_class}
-use Rattle.segment_dump.proofs.Common.{FillState}
-use Rattle.segment_dump.proofs.Common.{IsNameIn, StandsBuilt, StandsFilling, DumpItem, count_of_content}
-use Rattle.segment_dump.proofs.Common.{kind_of_content}
-use Rattle.segment_dump.proofs.Common.{IsShortLine, ReadsLine, all_needs, item_needs, HasNoEnd, ended, content_text}
-use Rattle.segment_dump.proofs.Common.{end_text, head_line, item_text, items_text}
-use Rattle.segment_dump.specs.Builders.{BuildsObject, IsAtItems, IsGone}
-use Rattle.segment_dump.specs.Building.{head_words}
+use Rattle.segment_dump.proofs.Common.{BuildsAllObjects, FillsNew, HasIndexSlot, IsEmptyObject, IsFillable}
+use Rattle.segment_dump.proofs.Common.{CanBuildItem, StartsNext, content_need, first_content, Site, class_words}
+use Rattle.segment_dump.proofs.Common.{count_class, measure_words, of_class, FillState, IsNameIn, StandsBuilt}
+use Rattle.segment_dump.proofs.Common.{StandsFilling, DumpItem, count_of_content, kind_of_content, IsShortLine}
+use Rattle.segment_dump.proofs.Common.{ReadsLine, all_needs, item_needs, HasNoEnd, ended, content_text, end_text}
+use Rattle.segment_dump.proofs.{Common.head_line, Common.item_text, Common.items_text, Found.never-ok, Found.ok-same}
+use Rattle.segment_dump.proofs.{Quotes.IsName, Quotes.name-is, Makes.items-rest, Orders.of-both}
+use Rattle.segment_dump.specs.{Builders.BuildsObject, Builders.IsAtItems, Builders.IsGone, Building.head_words}
 use Rattle.segment_dump.proofs.ContentLines.{no_end-both, quoted-no_end, word-no_end, no_end-test}
-use Rattle.segment_dump.proofs.Found.{never-ok, ok-same}
 use Rattle.segment_dump.proofs.LineTexts.{measure-no_end, measure-short, name-short}
-use Rattle.segment_dump.proofs.Quotes.{IsName, name-is}
-use Rattle.segment_dump.proofs.Makes.{items-rest}
-use Rattle.segment_dump.proofs.Orders.{of-both}
-use Rattle.segment_dump.proofs.Quotes as said
 
 -- ---- one object
 
@@ -86,8 +79,7 @@ pub class-no_end : (c : Class) (name : List ℕ) → HasNoEnd (class_words c nam
 class-no_end Named name =
     no_end-both (codes "named " ++ name_text name) (0x20 ∷ [])
     (no_end-both (codes "named ") (name_text name) (no_end-test (codes "named ") refl)
-    (name-no_end name (name_text name) (name-is name)))
-    (no_end-test (0x20 ∷ []) refl)
+    (name-no_end name (name_text name) (name-is name))) (no_end-test (0x20 ∷ []) refl)
 class-no_end Unique name = no_end-test (codes "unique ") refl
 class-no_end Anonymous name = no_end-test (codes "anonymous ") refl
 
@@ -117,9 +109,6 @@ head-short i h =
       length-append (class_words i.class i.name) m,
     )
 
-measure-ended : (kind n : List ℕ) → kind ++ 0x20 ∷ n ++ 0x0A ∷ [] ≡ (kind ++ 0x20 ∷ n) ++ 0x0A ∷ []
-measure-ended kind n = refl
-
 head-by : (c : Class) (name : List ℕ) (kind : Kind) (n : ℕ)
     → head_line c name kind n ≡ ended (class_words c name ++ measure_words kind n)
 head-by Named name kind n =
@@ -132,8 +121,7 @@ head-by Anonymous name kind n = sym (append_assoc (codes "anonymous ") (measure_
 item-apart : (i : DumpItem) (a : List ℕ) → item_text i ++ a ≡ ended (head_words i) ++ (content_text i.content ++ a)
 item-apart i a =
     append_assoc (head_line i.class i.name (kind_of_content i.content) (count_of_content i.content))
-    (content_text i.content) a
-    ∙ ap (λ l. l ++ (content_text i.content ++ a))
+    (content_text i.content) a ∙ ap (λ l. l ++ (content_text i.content ++ a))
     (head-by i.class i.name (kind_of_content i.content) (count_of_content i.content))
 
 -- ---- places in the indexes
@@ -167,9 +155,8 @@ one-behind done i more = append_assoc done (i ∷ []) more
 
 pub record InBuild (old now : SegmentState) (text rest : List ℕ) (most room counter : ℕ) : Type 0 where
   pub at : (site : Site) (items : List DumpItem) → IsAtItems old text site [] items → AreLeft site room [] items
-      → length text ≤ most
-      → (done : List DumpItem) × (left : List DumpItem) × (done ++ left ≡ items) × IsAtItems now rest site done left
-      × AreLeft site room done left × (length rest + counter ≤ most)
+      → length text ≤ most → (done : List DumpItem) × (left : List DumpItem) × (done ++ left ≡ items)
+      × IsAtItems now rest site done left × AreLeft site room done left × (length rest + counter ≤ most)
 
 pub build-start : (s : SegmentState) (text : List ℕ) (most room : ℕ) → InBuild s s text text most room 0
 build-start s text most room = record { at = λ site items a l m. ([], items, refl, a, l, omega arith) }
@@ -191,9 +178,8 @@ end-line : {E : Type 0} (rest after : List ℕ) (r : Result (List ℕ) E) → re
 end-line rest after r e h = h.reads end_words [] (no_end-test end_words refl) (omega arith)
     (e ∙ sym (append-nil end_text))
 
-item-behind : (i : DumpItem) (more : List DumpItem)
-    → items_text (i ∷ more) ++ end_text
-    ≡ ended (head_words i) ++ (content_text i.content ++ (items_text more ++ end_text))
+item-behind : (i : DumpItem) (more : List DumpItem) → items_text (i ∷ more)
+    ++ end_text ≡ ended (head_words i) ++ (content_text i.content ++ (items_text more ++ end_text))
 item-behind i more = append_assoc (item_text i) (items_text more) end_text ∙ item-apart i (items_text more ++ end_text)
 
 item-line : {E : Type 0} (rest after : List ℕ) (r : Result (List ℕ) E) (i : DumpItem) (more : List DumpItem)
@@ -260,10 +246,9 @@ module _ (old now : SegmentState) (text rest : List ℕ) (most room counter : �
       absurd (head-other i (sym is ∙ w))
 
   object-by : {E F : Type 0} (site : Site) (done left : List DumpItem) (after words last : List ℕ)
-      (new : SegmentState) (r : Result (Unit {0}) F) → IsAtItems now rest site done left
-      → AreLeft site room done left → ReadsLine {E = E} rest after (Ok words) → words ≢ end_words
-      → BuildsObject now new words after last room r → length rest + counter ≤ most
-      → (r ≡ Ok tt) × ((i : DumpItem) × (more : List DumpItem) × (left ≡ i ∷ more)
+      (new : SegmentState) (r : Result (Unit {0}) F) → IsAtItems now rest site done left → AreLeft site room done left
+      → ReadsLine {E = E} rest after (Ok words) → words ≢ end_words → BuildsObject now new words after last room r
+      → length rest + counter ≤ most → (r ≡ Ok tt) × ((i : DumpItem) × (more : List DumpItem) × (left ≡ i ∷ more)
       × IsAtItems new last site (done ++ i ∷ []) more × AreLeft site room (done ++ i ∷ []) more
       × (length last + (counter + 1) ≤ most))
   object-by {E} {F} site done [] after words last new r a l h n o m =

@@ -5,20 +5,15 @@ use Rattle.segment_dump.proofs.Common.{append-nil, length-append, max, AllByRecu
 use Rattle.segment_dump.proofs.Common.{nat_tests, Node, Class, Anonymous, Named, Unique, U8, class_code, code_of}
 use Rattle.segment_dump.proofs.Common.{same_kind, Kind, Directory, Numbers, Object, by_kind, by_name, named_objects}
 use Rattle.segment_dump.proofs.Common.{unique_objects, DenotesCurrent, IsStrict, by_kind-strict, by_name-strict}
-use Rattle.segment_dump.proofs.Common.{index-parts}
-use Rattle.segment_dump.proofs.Common.{Needs, AreLeft, AreSortedItems, count_class, has_item_key, item_key, key_in}
-use Rattle.segment_dump.proofs.Common.{kind_less, name_less, of_class, DumpItem, Items, item_of_object, kind_of_content}
-use Rattle.segment_dump.proofs.Common.{portable, all_items, all_needs, both, front_room, item_needs, items_needs, AreOf}
-use Rattle.std.specs.Cmp.Lexicographic.{slice_cmp}
-use Rattle.std.specs.Ordering.{nat_cmp, is_lt}
+use Rattle.segment_dump.proofs.Common.{index-parts, Needs, AreLeft, AreSortedItems, count_class, has_item_key, item_key}
+use Rattle.segment_dump.proofs.Common.{key_in, kind_less, name_less, of_class, DumpItem, Items, item_of_object}
+use Rattle.segment_dump.proofs.Common.{kind_of_content, portable, all_items, all_needs, both, front_room, item_needs}
+use Rattle.segment_dump.proofs.{Common.items_needs, Common.AreOf, ItemLines.IsGoodItem, Sums.all-append, Told.each-of}
+use Rattle.segment_dump.proofs.{Told.portable-told, Lists.AllByRecursion-append, Lists.all-any, Lists.all-by}
+use Rattle.std.specs.{Cmp.Lexicographic.slice_cmp, Ordering.nat_cmp, Ordering.is_lt}
 use Rattle.segment_manager.specs.Directory.{rises, same_bytes}
-use Rattle.segment_dump.specs.Building.{AreNew}
-use Rattle.segment_dump.specs.Filling.{IsBuildable}
-use Rattle.segment_dump.proofs.ItemLines.{IsGoodItem}
+use Rattle.segment_dump.specs.{Building.AreNew, Filling.IsBuildable}
 use Rattle.segment_dump.proofs.Orders.{Tells, kinds-tell, LessThan, heads-less, none-of, of-both, tails-less}
-use Rattle.segment_dump.proofs.Sums.{all-append}
-use Rattle.segment_dump.proofs.Told.{each-of, portable-told}
-use Rattle.segment_dump.proofs.Lists.{AllByRecursion-append, all-any, all-by}
 
 -- ---- in order
 
@@ -128,8 +123,7 @@ new-unique names done [] rest m a o c n = subst (λ l. AreNew (names ++ l) rest)
 new-unique names done (i ∷ is) rest m a o c n = (
   AllByRecursion-append (λ j. has_item_key (item_key i) j ≡ false) names done
       (all-by (λ j. j.class ≡ Named) (λ j. has_item_key (item_key i) j ≡ false) names m
-      (λ j h. unique-no_name i j c.0 h))
-      (all-by (λ j. kind_less j i ≡ true) (λ j.
+      (λ j h. unique-no_name i j c.0 h)) (all-by (λ j. kind_less j i ≡ true) (λ j.
       has_item_key (item_key i) j ≡ false) done (heads-less kind_less i is done a) (λ j h. unique-key i j c.0 h)),
   subst (λ l. AreNew l (is ++ rest)) (sym (append_assoc names done (i ∷ [])))
       (new-unique names (done ++ i ∷ []) is rest m (tails-less kind_less i is done a o.0) o.1 c.1
@@ -201,8 +195,7 @@ portable-unique b d s =
 
 -- ---- all of it
 
-all-rooms : (items : Items) → (all_needs item_needs (all_items items)).room
-    ≡ (all_needs item_needs items.named).room
+all-rooms : (items : Items) → (all_needs item_needs (all_items items)).room ≡ (all_needs item_needs items.named).room
     + ((all_needs item_needs items.unique).room + (all_needs item_needs items.anonymous).room)
 all-rooms items =
     ap (λ (n : Needs). n.room) (all-append item_needs items.named (items.unique ++ items.anonymous)
@@ -215,9 +208,8 @@ all-longest items =
     ap (λ (n : Needs). n.longest) (all-append item_needs items.named (items.unique ++ items.anonymous)
     ∙ ap (both (all_needs item_needs items.named)) (all-append item_needs items.unique items.anonymous))
 
-pub needs-all : (items : Items)
-    → (items_needs items).room ≡ front_room (length items.named) (length items.unique)
-    + (all_needs item_needs (all_items items)).room
+pub needs-all : (items : Items) → (items_needs items).room
+    ≡ front_room (length items.named) (length items.unique) + (all_needs item_needs (all_items items)).room
 needs-all items = omega (arith, all-rooms items)
 
 buildables : (c : Class) (is : List DumpItem) → AllByRecursion (IsGoodItem c) is → AllByRecursion IsBuildable is

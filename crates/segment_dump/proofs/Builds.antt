@@ -1,27 +1,23 @@
 -- What the steps lead to by which an object comes to be, and how the objects of a segment are those of a dump in the
 -- end.
+use Rattle.seg_types.specs.Commands as asked
 use Rattle.segment_dump.proofs.Common.{◌≡◌, ℕ, ◌+◌, ◌*◌, ◌<◌, ◌≤◌, ◌==◌, ℤ, Bool, true, false, nat_lt, List, [], ◌∷◌}
 use Rattle.segment_dump.proofs.Common.{◌++◌, length, map, Option, Some, None, if◌then◌else◌, refl, sym, ap, subst, ◌∙◌}
 use Rattle.segment_dump.proofs.Common.{arith, append_assoc, flat_map, ⊤, AllByRecursion, nat_tests, flat_map-append}
 use Rattle.segment_dump.proofs.Common.{append-nil, map-append, Index, Extent, end_of, handle, room, BackingArray}
-use Rattle.segment_dump.proofs.Common.{no_backing}
-use Rattle.segment_dump.proofs.Common.{current, Class, Anonymous, Named, Unique, ScalarKind, Key, Write, Answer, Done}
-use Rattle.segment_dump.proofs.Common.{Made, Directory, IsDirectory, Object, Value, empty, extents_of, live}
-use Rattle.segment_dump.proofs.Common.{named_objects, object_at, object_len, table_extents, unique_objects}
-use Rattle.segment_dump.proofs.Common.{value_extents, Plan, Reply, Request, New, bare, class_of, name_of, perform}
-use Rattle.segment_dump.proofs.Common.{effect, step, AllByRecursion-behind, AllByRecursion-front, EndBy, HasExactRoom}
-use Rattle.segment_dump.proofs.Common.{Head}
-use Rattle.segment_dump.proofs.Common.{HasBuiltItems, IsFilling, Site, all_extents, total, DumpItem, content_of}
-use Rattle.segment_dump.proofs.Common.{item_of_object}
-use Rattle.segment_dump.proofs.Common.{block_room, le-leb, lt-leb, lt-ltb}
+use Rattle.segment_dump.proofs.Common.{no_backing, nat_le, Command, current, Class, Anonymous, Named, Unique}
+use Rattle.segment_dump.proofs.Common.{ScalarKind, Key, Write, Answer, Done, Made, Directory, IsDirectory, Object}
+use Rattle.segment_dump.proofs.Common.{Value, empty, extents_of, live, named_objects, object_at, object_len}
+use Rattle.segment_dump.proofs.Common.{table_extents, unique_objects, value_extents, Plan, Reply, Request, New, bare}
+use Rattle.segment_dump.proofs.Common.{class_of, name_of, perform, effect, step, AllByRecursion-behind}
+use Rattle.segment_dump.proofs.Common.{AllByRecursion-front, EndBy, HasExactRoom, Head, HasBuiltItems, IsFilling, Site}
+use Rattle.segment_dump.proofs.Common.{all_extents, total, DumpItem, content_of, item_of_object, block_room, le-leb}
+use Rattle.segment_dump.proofs.{Common.lt-leb, Common.lt-ltb, Steps.put-last, Steps.writes}
 use Rattle.block_tags.specs.declared.tile.Role.TheVariants.{Object as ObjectRole}
 use Rattle.seg_types.specs.declared.refusals.Refusal.TheVariants.{Exists}
-use Rattle.segment_manager.specs.Directory.{with_object}
-use Rattle.segment_manager.specs.Plan.{with_entry, with_new_object, with_value}
+use Rattle.segment_manager.specs.{Directory.with_object, Plan.with_entry, Plan.with_new_object, Plan.with_value}
 use Rattle.segment_dump.proofs.Fills.{StepsTo, met-perform, no-bytes}
 use Rattle.segment_dump.proofs.Spaces.{IsRest, block-some, room-taken, room-with}
-use Rattle.segment_dump.proofs.Steps.{put-last, writes}
-use Rattle.seg_types.specs.Commands as asked
 
 -- ---- an object is made
 
@@ -86,20 +82,17 @@ module _ (d : Directory) (site : Site) (done : List DumpItem) (key : Key) (conte
   abbrev len : ℕ
   len = object_len (name_of key) (bare content)
 
-  abbrev object_in : Extent → Object
-  object_in x = record { class = class_of key; name = name_of key; value = bare content; extent = x }
+  abbrev object_of : Extent → Value → Object
+  object_of x v = record { class = class_of key; name = name_of key; value = v; extent = x }
 
   abbrev reply_with : Object → Directory → Plan
   reply_with o e = Reply (Made (handle o.extent)) e
 
+  abbrev with_object_in : Directory → Extent → Value → Plan
+  with_object_in e x v = reply_with (object_of x v) (with_object e (object_of x v))
+
   abbrev object_plan : Directory → Plan
-  object_plan e = Request (New ObjectRole len) (λ x.
-      with_value content (λ v. let o : Object = record {
-        class = class_of key;
-        name = name_of key;
-        value = v;
-        extent = x;
-      } in reply_with o (with_object e o)))
+  object_plan e = Request (New ObjectRole len) (λ x. with_value content (with_object_in e x))
 
   asks : effect d (asked.Construct key content) ≡ object_plan d
   asks =
@@ -123,7 +116,7 @@ module _ (d : Directory) (site : Site) (done : List DumpItem) (key : Key) (conte
       } in
       let taken = room-taken d len ObjectRole rest i.proper h' r in
       let x = taken.extent in
-      let o : Object = object_in x in
+      let o : Object = object_of x (bare content) in
       let fronts : List Extent = flat_map extents_of d.objects in
       let tables : List Extent = table_extents d.named ++ table_extents d.unique in
       let before : AllByRecursion (λ (p : Object). p.extent.offset ≤ o.extent.offset) d.objects =
@@ -139,19 +132,8 @@ module _ (d : Directory) (site : Site) (done : List DumpItem) (key : Key) (conte
         handle = handle x;
         next = with_object d o;
         is = writes d (asked.Construct key content) ∙ ap (perform d (live d)) asks
-            ∙ met-perform d len ObjectRole x (λ x.
-            with_value content (λ v. let o : Object = record {
-              class = class_of key;
-              name = name_of key;
-              value = v;
-              extent = x;
-            } in reply_with o (with_object d o))) (Made (handle x)) (with_object d o) taken.is
-            (p.plain (λ v. let o : Object = record {
-              class = class_of key;
-              name = name_of key;
-              value = v;
-              extent = x;
-            } in reply_with o (with_object d o)));
+            ∙ met-perform d len ObjectRole x (λ x. with_value content (with_object_in d x)) (Made (handle x))
+            (with_object d o) taken.is (p.plain (with_object_in d x));
         filling = record {
           size_is = b.size_is;
           named = b.named;
@@ -221,111 +203,66 @@ room_for d n rest l h = record {
   room = subst (λ m. h.end + 16 + (m + rest) ≤ d.size) (block-some (8 * n) (omega arith)) h.room;
 }
 
-module _ (size n rest : ℕ) (i : IsDirectory current (empty size))
-    (b : HasBuiltItems (empty size) (record { named = 0; unique = 0; size = size }) [] (block_room (8 * n) + rest))
-    (r : IsRest rest) where
-  abbrev NamedReserved : Type 0
-  NamedReserved = StepsTo (step Write (empty size) (asked.ReserveNamed n)) Done (IsFronted size n rest)
+-- an index has room in what is left
+module _ (d : Directory) (n rest : ℕ) (i : IsDirectory current d)
+    (b : HasExactRoom (all_extents d) d.size (block_room (8 * n) + rest)) (r : IsRest rest)
+    (made : BackingArray → Directory) (c : Command) (Next : Directory → Type 0)
+    (asks : effect d c ≡ (if nat_le n 0 then Reply Done d else Request (New Index (8 * n)) (λ x.
+    Reply Done (made (table_of n x))))) (none : n ≡ 0 → HasExactRoom (all_extents d) d.size rest → Next d)
+    (some : (x : Extent) (h : HasExactRoom (all_extents d) d.size (room (8 * n) + rest)) → x.offset ≡ h.end
+    → end_of x + 16 + rest ≤ d.size → Next (made (table_of n x))) where
+  index-asks : (x : Bool) → nat_le n 0 ≡ x → step Write d c ≡ perform d (live d) (if x then Reply Done d else Request
+      (New Index (8 * n)) (λ x. Reply Done (made (table_of n x))))
+  index-asks x e = writes d c ∙ ap (perform d (live d)) asks
+      ∙ ap (λ y. perform d (live d) (if y then Reply Done d else Request (New Index (8 * n)) (λ x.
+      Reply Done (made (table_of n x))))) e
 
-  abbrev named_plan : Bool → Plan
-  named_plan x = if x then Reply Done (empty size) else Request (New Index (8 * n)) (λ x.
-      Reply Done (fronted size (table_of n x)))
-
-  named-by : (x : Bool) → (n == 0) ≡ x → NamedReserved
-  named-by true e =
+  index-by : (x : Bool) → (n == 0) ≡ x → StepsTo (step Write d c) Done Next
+  index-by true e =
       let z : n ≡ 0 = grind (arith, nat_tests) in
       record {
-        next = empty size;
-        is = writes (empty size) (asked.ReserveNamed n) ∙ ap
-            (λ x. perform (empty size) (live (empty size)) (named_plan x)) (le-leb n 0 (omega (arith, z)));
-        holds = record {
-          table = no_backing;
-          is = refl;
-          built = record {
-            size_is = refl;
-            named = omega (arith, z);
-            unique = omega arith;
-            items = refl;
-            room = subst
-                (λ m. HasExactRoom [] size m) (no-bytes (8 * n) rest (omega (arith, z))) b.room;
-          };
-        };
+        next = d;
+        is = index-asks true (le-leb n 0 (omega (arith, z)));
+        holds = none z
+            (subst (λ m. HasExactRoom (all_extents d) d.size m) (no-bytes (8 * n) rest (omega (arith, z))) b);
       }
-  named-by false e =
+  index-by false e =
       let l : 0 < n = grind (arith, nat_tests) in
-      let h = room_for (empty size) n rest l b.room in
-      let taken = room-taken (empty size) (8 * n) Index rest i.proper h r in
+      let h = room_for d n rest l b in
+      let taken = room-taken d (8 * n) Index rest i.proper h r in
       record {
-        next = fronted size (table_of n taken.extent);
-        is = writes (empty size) (asked.ReserveNamed n) ∙ ap
-            (λ x. perform (empty size) (live (empty size)) (named_plan x)) (lt-leb n 0 l)
-            ∙ met-perform (empty size) (8 * n) Index taken.extent (λ x.
-            Reply Done (fronted size (table_of n x))) Done (fronted size (table_of n taken.extent)) taken.is refl;
-        holds = record {
-          table = table_of n taken.extent;
-          is = refl;
-          built = record {
-            size_is = refl;
-            named = omega arith;
-            unique = omega arith;
-            items = refl;
-            room = room-with [] [] taken.extent size (room (8 * n) + rest) rest h taken.front taken.fits;
-          };
-        };
+        next = made (table_of n taken.extent);
+        is = index-asks false (lt-leb n 0 l) ∙ met-perform d (8 * n) Index taken.extent (λ x.
+            Reply Done (made (table_of n x))) Done (made (table_of n taken.extent)) taken.is refl;
+        holds = some taken.extent h taken.front taken.fits;
       }
 
-  pub named-reserved : NamedReserved
-  named-reserved = named-by (n == 0) refl
+pub named-reserved : (size n rest : ℕ) → IsDirectory current (empty size)
+    → HasBuiltItems (empty size) (record { named = 0; unique = 0; size = size }) [] (block_room (8 * n) + rest)
+    → IsRest rest → StepsTo (step Write (empty size) (asked.ReserveNamed n)) Done (IsFronted size n rest)
+named-reserved size n rest i b r =
+    let fronted-so : (t : BackingArray) → n ≤ t.capacity → HasExactRoom (all_extents (fronted size t)) size rest
+    → IsFronted size n rest (fronted size t) = λ t l room. record {
+      table = t;
+      is = refl;
+      built = record { size_is = refl; named = l; unique = omega arith; items = refl; room = room };
+    } in
+    index-by (empty size) n rest i b.room r (fronted size) (asked.ReserveNamed n) (IsFronted size n rest) refl
+    (λ z room. fronted-so no_backing (omega (arith, z)) room) (λ x h front fits. fronted-so (table_of n x) (omega arith)
+    (room-with [] [] x size (room (8 * n) + rest) rest h front fits)) (n == 0) refl
 
-module _ (size named n rest : ℕ) (t : BackingArray) (i : IsDirectory current (fronted size t))
-    (b : HasBuiltItems (fronted size t) (record { named = named; unique = 0; size = size }) []
-    (block_room (8 * n) + rest)) (r : IsRest rest) where
-  abbrev UniqueReserved : Type 0
-  UniqueReserved = StepsTo (step Write (fronted size t) (asked.ReserveUnique n)) Done (λ e.
-      HasBuiltItems e (record { named = named; unique = n; size = size }) [] rest)
-
-  abbrev with_unique : BackingArray → Directory
-  with_unique u = record { size = size; objects = []; named = t; unique = u }
-
-  abbrev unique_plan : Bool → Plan
-  unique_plan x = if x then Reply Done (fronted size t) else Request (New Index (8 * n)) (λ x.
-      Reply Done (with_unique (table_of n x)))
-
-  unique-by : (x : Bool) → (n == 0) ≡ x → UniqueReserved
-  unique-by true e =
-      let z : n ≡ 0 = grind (arith, nat_tests) in
-      record {
-        next = fronted size t;
-        is = writes (fronted size t) (asked.ReserveUnique n) ∙ ap
-            (λ x. perform (fronted size t) (live (fronted size t)) (unique_plan x)) (le-leb n 0 (omega (arith, z)));
-        holds = record {
-          size_is = refl;
-          named = b.named;
-          unique = omega (arith, z);
-          items = refl;
-          room = subst
-              (λ m. HasExactRoom (all_extents (fronted size t)) size m) (no-bytes (8 * n) rest (omega (arith, z)))
-              b.room;
-        };
-      }
-  unique-by false e =
-      let l : 0 < n = grind (arith, nat_tests) in
-      let h = room_for (fronted size t) n rest l b.room in
-      let taken = room-taken (fronted size t) (8 * n) Index rest i.proper h r in
-      record {
-        next = with_unique (table_of n taken.extent);
-        is = writes (fronted size t) (asked.ReserveUnique n) ∙ ap
-            (λ x. perform (fronted size t) (live (fronted size t)) (unique_plan x)) (lt-leb n 0 l)
-            ∙ met-perform (fronted size t) (8 * n) Index taken.extent (λ x.
-            Reply Done (with_unique (table_of n x))) Done (with_unique (table_of n taken.extent)) taken.is refl;
-        holds = record {
-          size_is = refl;
-          named = b.named;
-          unique = omega arith;
-          items = refl;
-          room = room-with (table_extents t) [] taken.extent size (room (8 * n) + rest) rest h taken.front taken.fits;
-        };
-      }
-
-  pub unique-reserved : UniqueReserved
-  unique-reserved = unique-by (n == 0) refl
+pub unique-reserved : (size named n rest : ℕ) (t : BackingArray) → IsDirectory current (fronted size t)
+    → HasBuiltItems (fronted size t) (record { named = named; unique = 0; size = size }) [] (block_room (8 * n) + rest)
+    → IsRest rest → StepsTo (step Write (fronted size t) (asked.ReserveUnique n)) Done (λ e.
+    HasBuiltItems e (record { named = named; unique = n; size = size }) [] rest)
+unique-reserved size named n rest t i b r =
+    index-by (fronted size t) n rest i b.room r (λ u. record { size = size; objects = []; named = t; unique = u })
+    (asked.ReserveUnique n) (λ e. HasBuiltItems e (record { named = named; unique = n; size = size }) [] rest) refl
+    (λ z room. record { size_is = refl; named = b.named; unique = omega (arith, z); items = refl; room = room })
+    (λ x h front fits. record {
+      size_is = refl;
+      named = b.named;
+      unique = omega arith;
+      items = refl;
+      room = room-with (table_extents t) [] x size (room (8 * n) + rest) rest h front fits;
+    }) (n == 0) refl

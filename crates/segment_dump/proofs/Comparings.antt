@@ -57,8 +57,7 @@ module _ (old : Compared) (t bytes behind : List ℕ) (a k f : ℕ) (o : Option 
       ≡ record { bytes = (compared x).bytes ++ take (k + 1) bytes; failures = x.failures } in
       subst P (sym view) (λ i. record { bytes = length t ∷ text i; failures = f })
 
-  pub other-compares : k < length bytes → k ≤ length behind → a ≤ length t
-      → IsOther (drop k behind) (slice_get bytes k)
+  pub other-compares : k < length bytes → k ≤ length behind → a ≤ length t → IsOther (drop k behind) (slice_get bytes k)
       → IsComparing (record { text = t; at = a + k; other = Some (get_or bytes k 0); failures = f })
   other-compares l m h d = record {
     inside = omega (arith, ap length split, length-drop a t);

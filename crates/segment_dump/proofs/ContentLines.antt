@@ -5,9 +5,8 @@ use Rattle.segment_dump.proofs.Common.{length-append, ◌<◌, nat_lt, flat_map,
 use Rattle.segment_dump.proofs.Common.{flat_map-append, length-map, ScalarKind, between, digit_text, escape_text}
 use Rattle.segment_dump.proofs.Common.{quoted_text, value_text, parts_until, AreLines, HasNoEnd, IsWord, lines_text}
 use Rattle.segment_dump.proofs.Common.{element_line, pair_line, piece_lead, piece_line, piece_of, pieces_in}
-use Rattle.segment_dump.proofs.Common.{pieces_text, ltb-true}
+use Rattle.segment_dump.proofs.{Common.pieces_text, Common.ltb-true, Words.value-word}
 use Rattle.seg_types.specs.Texts.{item_text}
-use Rattle.segment_dump.proofs.Words.{value-word}
 use Rattle.segment_dump.proofs.Lists.{AllByRecursion-append, all-any, all-by, all-mapped, all-tested}
 
 -- ---- no end
@@ -127,8 +126,7 @@ last-line l = append-nil (l ++ 0x0A ∷ [])
 fronts-whole : (bs : List ℕ) (n : ℕ) → parts_until (piece_line bs) n ≡ lines_text (piece_fronts bs n)
 fronts-whole bs zero = refl
 fronts-whole bs (suc n) =
-    ap (λ l. l ++ piece_line bs n) (fronts-whole bs n)
-    ∙ ap (λ l. lines_text (piece_fronts bs n) ++ l)
+    ap (λ l. l ++ piece_line bs n) (fronts-whole bs n) ∙ ap (λ l. lines_text (piece_fronts bs n) ++ l)
     (sym (append_assoc (piece_lead n) (quoted_text (piece_of bs n)) (0x0A ∷ [])) ∙ sym (last-line (piece_front bs n)))
     ∙ sym (flat_map-append (λ l. l ++ 0x0A ∷ []) (piece_fronts bs n) (piece_front bs n ∷ []))
 

@@ -1,18 +1,15 @@
 -- What is counted of texts, contents and objects.
+use Rattle.seg_types.specs.declared.kinds.Kind.TheVariants as kinds
 use Rattle.segment_dump.proofs.Common.{◌≡◌, ℕ, suc, ◌+◌, ◌-◌, ◌<◌, ◌≤◌, List, [], ◌∷◌, ◌++◌, length, Option, Some, None}
 use Rattle.segment_dump.proofs.Common.{refl, sym, ap, subst, ◌∙◌, arith, append_assoc, ⊤, flat_map, option_map, Kind}
 use Rattle.segment_dump.proofs.Common.{number_text, Needs, AreTexts, HasContentShape, ValueContent, Scalars, Vector}
-use Rattle.segment_dump.proofs.Common.{String, Map}
-use Rattle.segment_dump.proofs.Common.{Strings, kind_of_content, count_of_content, IsSmall, all_needs, block_room, both}
-use Rattle.segment_dump.proofs.Common.{nothing, only_room, text_needs, texts_needs, Any, AreLines, Breaks, ParsesPrefix}
-use Rattle.segment_dump.proofs.Common.{Skips}
-use Rattle.segment_dump.proofs.Common.{itself, lines_text, content_text, pieces_in, pieces_text, text_lines}
-use Rattle.segment_dump.proofs.Codes.{tails}
+use Rattle.segment_dump.proofs.Common.{String, Map, Strings, kind_of_content, count_of_content, IsSmall, all_needs}
+use Rattle.segment_dump.proofs.Common.{block_room, both, nothing, only_room, text_needs, texts_needs, Any, AreLines}
+use Rattle.segment_dump.proofs.Common.{Breaks, ParsesPrefix, Skips, itself, lines_text, content_text, pieces_in}
+use Rattle.segment_dump.proofs.Common.{pieces_text, text_lines}
+use Rattle.segment_dump.proofs.{Codes.tails, Found.none-some, Found.some-pair, TextPieces.pieces-break}
 use Rattle.segment_dump.proofs.ContentLines.{IsLines, element-lines, pair-lines, piece-lines}
 use Rattle.segment_dump.proofs.Sums.{IsPart, block-least, part-end, part-more, part-small, part-start}
-use Rattle.segment_dump.proofs.Found.{none-some, some-pair}
-use Rattle.segment_dump.proofs.TextPieces.{pieces-break}
-use Rattle.seg_types.specs.declared.kinds.Kind.TheVariants as kinds
 
 -- ---- a text
 

@@ -5,15 +5,12 @@ use Rattle.segment_dump.proofs.Common.{append-nil, length-append, AllByRecursion
 use Rattle.segment_dump.proofs.Common.{Class, Anonymous, Named, Unique, Count, Front, Needs, AreCountable, CountsDump}
 use Rattle.segment_dump.proofs.Common.{IsFront, IsNameless, DumpItem, Items, IsSmall, all_needs, both, front_room}
 use Rattle.segment_dump.proofs.Common.{item_needs, items_needs, nothing, only_room, all_items, dump_text, end_text}
-use Rattle.segment_dump.proofs.Common.{item_text, items_text}
+use Rattle.segment_dump.proofs.{Common.item_text, Common.items_text, Codes.heads, FrontLines.FrontReads}
+use Rattle.segment_dump.proofs.{ObjectCounts.ObjectReads, Lists.AllByRecursion-append}
 use Rattle.segment_dump.specs.Counting.{CountsObjects}
-use Rattle.segment_dump.proofs.Codes.{heads}
-use Rattle.segment_dump.proofs.FrontLines.{FrontReads}
 use Rattle.segment_dump.proofs.ItemLines.{IsFirst, item-first, letter}
-use Rattle.segment_dump.proofs.ObjectCounts.{ObjectReads}
 use Rattle.segment_dump.proofs.Sums.{IsPart, all-append, block-least, part-end, part-more, part-small, part-start}
 use Rattle.segment_dump.proofs.Found.{none-some, some-pair, never-ok, ok-same}
-use Rattle.segment_dump.proofs.Lists.{AllByRecursion-append}
 
 -- ---- all objects
 
@@ -80,9 +77,8 @@ first-small counted whole i is p s = let q = part-small counted (all_needs item_
 
 first-object : (rest : List ℕ) (counted whole : Needs) (counter n : ℕ) (o : Option (Needs × List ℕ))
     (is : List DumpItem) → ((x : List ℕ) → rest ≡ end_text ++ x → ⊥) → AllByRecursion IsNameless is
-    → counter + length is ≡ n
-    → IsPart counted (all_needs item_needs is) whole → IsSmall whole.room → rest ≡ items_text is ++ end_text
-    → ObjectReads rest o → FirstObject rest counted whole counter n o
+    → counter + length is ≡ n → IsPart counted (all_needs item_needs is) whole → IsSmall whole.room
+    → rest ≡ items_text is ++ end_text → ObjectReads rest o → FirstObject rest counted whole counter n o
 first-object rest counted whole counter n o [] z a m p s e h = absurd (z [] (e ∙ sym (append-nil end_text)))
 first-object rest counted whole counter n o (i ∷ is) z a m p s e h = record {
   one = i;
@@ -153,15 +149,13 @@ items-apart : (xs ys : List DumpItem) (a : List ℕ) → items_text (xs ++ ys) +
 items-apart xs ys a = ap (λ l. l ++ a) (flat_map-append item_text xs ys)
     ∙ append_assoc (items_text xs) (items_text ys) a
 
-pub all-text : (items : Items)
-    → items_text items.named ++ (items_text items.unique ++ (items_text items.anonymous ++ end_text))
-    ≡ items_text (all_items items) ++ end_text
+pub all-text : (items : Items) → items_text items.named
+    ++ (items_text items.unique ++ (items_text items.anonymous ++ end_text)) ≡ items_text (all_items items) ++ end_text
 all-text items =
     ap (λ l. items_text items.named ++ l) (sym (items-apart items.unique items.anonymous end_text))
     ∙ sym (items-apart items.named (items.unique ++ items.anonymous) end_text)
 
-all-needed : (items : Items) → all_needs item_needs (all_items items)
-    ≡ both (all_needs item_needs items.named)
+all-needed : (items : Items) → all_needs item_needs (all_items items) ≡ both (all_needs item_needs items.named)
     (both (all_needs item_needs items.unique) (all_needs item_needs items.anonymous))
 all-needed items =
     all-append item_needs items.named (items.unique ++ items.anonymous)
@@ -196,8 +190,7 @@ dump-no_front text m h = record {
 
 objects-found : (text : List ℕ) (front : Front) (rest : List ℕ) (r : Result Needs ℕ) (n : ℕ) (items : Items)
     → FrontReads text (Some (front, rest)) → CountsObjects rest r → n < 2 ^ 64 → AreCountable items
-    → text ≡ dump_text n items
-    → (front ≡ front_of n items) × (r ≡ Ok (all_needs item_needs (all_items items)))
+    → text ≡ dump_text n items → (front ≡ front_of n items) × (r ≡ Ok (all_needs item_needs (all_items items)))
 objects-found text front rest r n items h k l g e =
     let p = some-pair front (front_of n items) rest (behind_front items)
     (front-found text (Some (front, rest)) n items h l g e) in

@@ -2,12 +2,10 @@
 use Rattle.segment_dump.proofs.Common.{◌≡◌, ℕ, ℤ, true, List, [], ◌∷◌, ◌++◌, Some, Result, Ok, Err, refl, sym, ap, ◌∙◌}
 use Rattle.segment_dump.proofs.Common.{append-nil, option_map, ScalarKind, ScalarValue, is_value, value_text, scalar_of}
 use Rattle.segment_dump.proofs.Common.{WholesAreDecimals, next_word, Bare, ReadsElement, ReadsPair, IsTypedPair}
-use Rattle.segment_dump.proofs.Common.{ReadsEnd}
-use Rattle.segment_dump.proofs.Common.{ReadsLine, ReadsWord, value_word, element_line, pair_line}
-use Rattle.segment_dump.proofs.ContentLines.{pair-no_end, pair_front}
+use Rattle.segment_dump.proofs.Common.{ReadsEnd, ReadsLine, ReadsWord, value_word, element_line, pair_line}
+use Rattle.segment_dump.proofs.{ContentLines.pair-no_end, ContentLines.pair_front, Found.never-ok, Found.ok-same}
 use Rattle.segment_dump.proofs.LineTexts.{element-no_end, element-short, element_front, pair-short}
 use Rattle.segment_dump.proofs.NextWords.{blank-next, value-next, value-said}
-use Rattle.segment_dump.proofs.Found.{never-ok, ok-same}
 
 value-is : WholesAreDecimals → (k : ScalarKind) (z : ℤ) → is_value k z ≡ true
     → value_word k (Bare (value_text k z)) ≡ Some (scalar_of k z)
@@ -24,8 +22,7 @@ element-word kind z = blank-next (0x20 ∷ value_text kind z) ∙ blank-next (va
 module _ {E : Type 0} (wholes : WholesAreDecimals) (kind : ScalarKind) (text rest : List ℕ) where
   element-there : (line left : List ℕ) (r : Result ScalarValue E) → ReadsLine {E = E} text rest (Ok line)
       → ReadsWord (value_word kind) line left r → (z : ℤ) (a : List ℕ) → is_value kind z ≡ true
-      → text ≡ element_line kind z ++ a
-      → (r ≡ Ok (scalar_of kind z)) × (left ≡ []) × (rest ≡ a)
+      → text ≡ element_line kind z ++ a → (r ≡ Ok (scalar_of kind z)) × (left ≡ []) × (rest ≡ a)
   element-there line left r h w z a g e =
       let l = h.reads (element_front kind z) a (element-no_end kind z) (element-short kind z) e in
       let is : line ≡ element_front kind z = ok-same {E = E} line (element_front kind z) l.0 in
@@ -79,8 +76,7 @@ second-word w p = blank-next (value_text w p.1) ∙ last-value w p.1
 module _ {E : Type 0} (wholes : WholesAreDecimals) (k w : ScalarKind) (text rest : List ℕ) where
   key-there : (line left : List ℕ) (r : Result ScalarValue E) → ReadsLine {E = E} text rest (Ok line)
       → ReadsWord (value_word k) line left r → (p : ℤ × ℤ) (a : List ℕ) → IsTypedPair k w p
-      → text ≡ pair_line k w p ++ a
-      → (r ≡ Ok (scalar_of k p.0)) × (left ≡ 0x20 ∷ value_text w p.1) × (rest ≡ a)
+      → text ≡ pair_line k w p ++ a → (r ≡ Ok (scalar_of k p.0)) × (left ≡ 0x20 ∷ value_text w p.1) × (rest ≡ a)
   key-there line left r h f p a g e =
       let l = h.reads (pair_front k w p) a (pair-no_end k w p) (pair-short k w p) e in
       let is : line ≡ pair_front k w p = ok-same {E = E} line (pair_front k w p) l.0 in

@@ -1,12 +1,10 @@
 -- What the calls answer of a segment, and what an object says of itself.
-use Rattle.segment_dump.proofs.Common.{◌≡◌, ℕ, List, [], ◌∷◌, ◌++◌, length, map, Some, refl, sym, ap, ◌∙◌, option_map}
-use Rattle.segment_dump.proofs.Common.{flat_map, free_bytes, Instance, Number, Directory, live, named_objects, ByHandle}
-use Rattle.segment_dump.proofs.Common.{unique_objects, SaysOf, SegmentState, DenotesCurrent, step, true}
-use Rattle.std.specs.Prelude.{is_some}
-use Rattle.segment_manager.specs.declared.modes.Mode.{Mode}
-use Rattle.segment_manager.specs.objects.Found.{is_object_at}
-use Rattle.segment_manager.specs.State.{AnswersWith}
 use Rattle.seg_types.specs.Commands as asked
+use Rattle.segment_dump.proofs.Common.{◌≡◌, ℕ, List, [], ◌∷◌, ◌++◌, length, map, refl, sym, ap, ◌∙◌, flat_map}
+use Rattle.segment_dump.proofs.Common.{free_bytes, Instance, Number, Directory, live, named_objects, ByHandle}
+use Rattle.segment_dump.proofs.Common.{unique_objects, SaysOf, SegmentState, step, true}
+use Rattle.std.specs.Prelude.{is_some}
+use Rattle.segment_manager.specs.{declared.modes.Mode.Mode, objects.Found.is_object_at, State.AnswersWith}
 pub use Rattle.segment_manager.proofs.CommandLaws.{answered-reads}
 pub use Rattle.segment_values.proofs.LaidElements.{count_of_object, length-made, sizes_of_object}
 

@@ -1,15 +1,13 @@
 -- Worked examples: elements and texts, as a dump has them.
+use Rattle.segment_manager.specs.Directory as directory
 use Rattle.segment_dump.proofs.Common.{◌≡◌, [], ◌∷◌, ◌++◌, List, ℕ, map, None, refl, digits, pos, negsuc, codes}
 use Rattle.segment_dump.proofs.Common.{replicate, BackingArray, no_backing, I32, I64, Anonymous, Named, Unique}
-use Rattle.segment_dump.proofs.Common.{Directory}
-use Rattle.segment_dump.proofs.Common.{Object, Value, Class, capacities, capacities_text, Items, Scalars, Vector, Map}
-use Rattle.segment_dump.proofs.Common.{Strings}
-use Rattle.segment_dump.proofs.Common.{block_room, front_room, items_needs, object_room, without_notes, place_behind}
-use Rattle.segment_dump.proofs.Common.{content_text, pieces_text}
+use Rattle.segment_dump.proofs.Common.{Directory, Object, Value, Class, capacities, capacities_text, Items, Scalars}
+use Rattle.segment_dump.proofs.Common.{Vector, Map, Strings, block_room, front_room, items_needs, object_room}
+use Rattle.segment_dump.proofs.Common.{without_notes, place_behind, content_text, pieces_text}
 use Rattle.segment_dump.specs.Json.{base64_text, json_dump, json_string}
 use Rattle.block_tags.specs.declared.tile.Role.TheVariants.{Object as ObjectRole}
 use Rattle.seg_types.specs.declared.kinds.ScalarKind.TheVariants.{Bool}
-use Rattle.segment_manager.specs.Directory as directory
 
 abbrev line : List ℕ → List ℕ
 line l = l ++ 0x0A ∷ []

@@ -1,26 +1,24 @@
 -- An element more of an object that is being filled.
+use Rattle.seg_types.specs.declared.kinds.Kind.TheVariants as kinds
+use Rattle.seg_types.specs.Commands as asked
 use Rattle.segment_dump.proofs.Common.{◌≡◌, inl, ℕ, zero, suc, ◌+◌, ◌*◌, ◌<◌, ◌≤◌, ℤ, pos, true, false, List, [], ◌∷◌}
 use Rattle.segment_dump.proofs.Common.{◌++◌, length, map, replicate, refl, sym, ap, subst, ◌∙◌, arith, append_assoc}
 use Rattle.segment_dump.proofs.Common.{append-nil, ◌^◌, flat_map, int_lt, slice_set, AllByRecursion, suc-mul, zero-mul}
 use Rattle.segment_dump.proofs.Common.{ints, length-append, length-map, map-append, Kind, ScalarKind, Command}
-use Rattle.segment_dump.proofs.Common.{literal_of, is_value, size_of, ByHandle, node_len, NumberPair, item_of}
-use Rattle.segment_dump.proofs.Common.{OwnedText, Write, Answer, Done, Truth, Directory, Elements, Numbers, Pairs}
-use Rattle.segment_dump.proofs.Common.{Texts, Value, TakesStep, TakesStepOfKind, SegmentState, DenotesCurrent, step}
-use Rattle.segment_dump.proofs.Common.{step_of_kind}
-use Rattle.segment_dump.proofs.Common.{HasBuiltItems, IsFilling, IsByteList, AreRising, AreValues, FillState, FillsAt}
-use Rattle.segment_dump.proofs.Common.{IsTypedPair}
-use Rattle.segment_dump.proofs.Common.{IsPartialValue, StandsFilling, StringsPart, VectorPart, head_of, ValueContent}
-use Rattle.segment_dump.proofs.Common.{Map, Scalars}
-use Rattle.segment_dump.proofs.Common.{String, Strings, Vector, bytes_in, content_of, count_of_content, all_needs}
-use Rattle.segment_dump.proofs.Common.{block_room, text_needs, element_line, pair_line, text_lines}
+use Rattle.segment_dump.proofs.Common.{literal_of, is_value, size_of, ByHandle, node_len, NumberPair, item_of, Write}
+use Rattle.segment_dump.proofs.Common.{Answer, Done, Truth, Directory, IsDirectory, current, Numbers, Pairs, Texts}
+use Rattle.segment_dump.proofs.Common.{Value, TakesStep, TakesStepOfKind, SegmentState, DenotesCurrent, step}
+use Rattle.segment_dump.proofs.Common.{step_of_kind, IsFilling, IsByteList, AreRising, AreValues, FillState, FillsAt}
+use Rattle.segment_dump.proofs.Common.{Site, DumpItem, Head, StandsFilling, IsTypedPair, IsPartialValue, head_of}
+use Rattle.segment_dump.proofs.Common.{ValueContent, Map, Scalars, String, Strings, Vector, bytes_in, content_of}
+use Rattle.segment_dump.proofs.Common.{count_of_content, all_needs, block_room, text_needs, element_line, pair_line}
+use Rattle.segment_dump.proofs.{Common.text_lines, Builds.built}
 use Rattle.segment_manager.specs.State.{Transitions}
 use Rattle.segment_dump.specs.Builders.{IsFilled}
-use Rattle.segment_dump.specs.Filling.{MapPart, ScalarsPart, filled_item}
-use Rattle.segment_dump.proofs.Builds.{built}
+use Rattle.segment_dump.specs.Filling.{map_course, strings_course, vector_course, FillCourse, HasFirstElements}
+use Rattle.segment_dump.specs.Filling.{HasReservedPlaces, StandsBuilt, array_course, filled_item}
 use Rattle.segment_dump.proofs.Fills.{AreLess, StepsTo, pushed, text-pushed, was-put, was-set}
 use Rattle.segment_dump.proofs.Spaces.{IsRest, block-rest, rest-both, needs-rest}
-use Rattle.seg_types.specs.declared.kinds.Kind.TheVariants as kinds
-use Rattle.seg_types.specs.Commands as asked
 
 -- ---- a call that is a step
 
@@ -53,6 +51,12 @@ module _ {old new : SegmentState} {d : Directory} {answer given : Answer} {Next 
       led-by (λ d. step_of_kind Write d (ByHandle h) kind c)
       (subst (λ mode. Transitions old new answer (λ d. step_of_kind mode d (ByHandle h) kind c)) w m) t
 
+-- it is filled so far
+pub stands-filling : {s : SegmentState} {d : Directory} {site : Site} {done : List DumpItem} {head : Head} {v : Value}
+    {rest : ℕ} → DenotesCurrent s.cut.bytes d → s.mode ≡ Write → IsFilling d site done head v rest
+    → StandsFilling s site done head v rest
+stands-filling {d = d} st mode filling = record { directory = d; stands = st; mode = mode; filling = filling }
+
 -- ---- lists
 
 one-behind : {X : Type 0} (xs : List X) (x : X) (ys : List X) → xs ++ x ∷ ys ≡ (xs ++ x ∷ []) ++ ys
@@ -69,156 +73,132 @@ all-last : {X : Type 0} (P : X → Type 0) (xs : List X) (x : X) (ys : List X) �
 all-last P [] x ys a = a.0
 all-last P (y ∷ xs) x ys a = all-last P xs x ys a.1
 
--- ---- a scalar more
+-- ---- an element more
 
--- what the next line has, and what the call leads to that does it
-pub record NextScalar (s : SegmentState) (text : List ℕ) (p : FillState) (h n : ℕ) (k : ScalarKind) (kind : Kind)
-    (c : ℤ → Command) : Type 0 where
-  pub value : ℤ
+-- what the next lines have, and what the call leads to that does it
+pub record NextElement {Y : Type 0} (s : SegmentState) (text : List ℕ) (p : FillState) (h n : ℕ) (line : Y → List ℕ)
+    (Good : Y → Type 0) (kind : Kind) (c : Y → Command) (answer : Answer) : Type 0 where
+  pub value : Y
   pub after : List ℕ
-  pub text_is : text ≡ element_line k value ++ after
-  pub good : is_value k value ≡ true
-  pub leads : (new : SegmentState) (answer : Answer) → TakesStepOfKind s new (ByHandle h) kind (c value) answer
-      → (answer ≡ Done) × FillsAt new after p h (n + 1)
+  pub text_is : text ≡ line value ++ after
+  pub good : Good value
+  pub leads : (new : SegmentState) (given : Answer) → TakesStepOfKind s new (ByHandle h) kind (c value) given
+      → (given ≡ answer) × FillsAt new after p h (n + 1)
+
+-- the directory has it behind those before it
+record HasNext {X Y : Type 0} (way : FillCourse X Y) (p : FillState) (h : ℕ) (front : List X) (y : Y) (back : List Y)
+    (e : Directory) : Type 0 where
+  one : X
+  items : way.items (front ++ one ∷ []) ≡ way.items front ++ y ∷ []
+  filling : IsFilling e p.site p.done (head_of p h) (way.value (front ++ one ∷ []) back) (way.need back + p.more)
 
 -- what is left of a text
 next-text : (text left after one rest : List ℕ) → text ≡ left ++ after → left ≡ one ++ rest
     → text ≡ one ++ (rest ++ after)
 next-text text left after one rest e f = e ∙ ap (λ l. l ++ after) f ∙ append_assoc one rest after
 
-module _ (s : SegmentState) (text : List ℕ) (p : FillState) (h n : ℕ) (k : ScalarKind) (zs : List ℤ) (e : p.content
-    ≡ Scalars k zs) (l : n < length zs) (g : AreValues k zs) where
-  scalar-part : (v : Value) (left : List ℕ) (need : ℕ)
-      → StandsFilling s p.site p.done (head_of p h) v (need + p.more) → text ≡ left ++ p.after
-      → (front back : List ℤ) → zs ≡ front ++ back → n ≡ length front
-      → v ≡ Numbers k (front ++ replicate (length back) (pos 0)) → left ≡ flat_map (element_line k) back → need ≡ 0
-      → NextScalar s text p h n k (kinds.Scalar k) (λ z. asked.Set (ByHandle h) n (literal_of k z))
-  scalar-part v left need st te front [] a m ve le ne = absurd (omega (arith, l, m, ap length (a ∙ append-nil front)))
-  scalar-part v left need st te front (z ∷ back) a m ve le ne =
-      let zeros : List ℤ = replicate (length back) (pos 0) in
-      let is : is_value k z ≡ true = all-last (λ z. is_value k z ≡ true) front z back (subst (AreValues k) a g) in
-      let filling : IsFilling st.directory p.site p.done (head_of p h) (Numbers k (front ++ pos 0 ∷ zeros))
-      (need + p.more) = subst (λ w. IsFilling st.directory p.site p.done (head_of p h) w (need + p.more)) ve
-      st.filling in
-      let inside : n < length (front ++ pos 0 ∷ zeros) = omega (arith, m, length-append front (pos 0 ∷ zeros)) in
-      let steps = was-set st.directory p.site p.done (head_of p h) k (front ++ pos 0 ∷ zeros) (need + p.more) n z
-      st.stands.denotes.directory filling is inside in
-      let set : slice_set (front ++ pos 0 ∷ zeros) n z ≡ (front ++ z ∷ []) ++ zeros =
-      ap (λ i. slice_set (front ++ pos 0 ∷ zeros) i z) m ∙ set-behind front (pos 0) z zeros in
-      record {
-        value = z;
-        after = flat_map (element_line k) back ++ p.after;
-        text_is = next-text text left p.after (element_line k z) (flat_map (element_line k) back) te le;
-        good = is;
-        leads = λ new answer r.
-            let t = led-of_kind st.stands st.mode _ _ _ r steps in (
-              t.given_is,
-              record {
-                value = Numbers k ((front ++ z ∷ []) ++ zeros);
-                left = flat_map (element_line k) back;
-                need = need;
-                part = subst (λ (c : ValueContent).
-                    IsPartialValue c (n + 1) (Numbers k ((front ++ z ∷ []) ++ zeros))
-                    (flat_map (element_line k) back) need) (sym e)
-                    (record {
-                      front = front ++ z ∷ [];
-                      back = back;
-                      all_are = a ∙ one-behind front z back;
-                      many = omega (arith, m, one-longer front z);
-                      value_is = refl;
-                      text_is = refl;
-                      need_is = ne;
-                    });
-                stands = record {
-                  directory = t.directory;
-                  stands = t.stands;
-                  mode = t.mode;
-                  filling = subst (λ ys. IsFilling t.directory p.site p.done (head_of p h) (Numbers k ys)
-                      (need + p.more)) set t.holds;
-                };
-                text_is = refl;
-              },
-            );
-      }
+steps-so : {o : Answer × Directory} {a : Answer} {P Q : Directory → Type 0} → StepsTo o a P
+    → ((e : Directory) → P e → Q e) → StepsTo o a Q
+steps-so t f = record { next = t.next; is = t.is; holds = f t.next t.holds }
 
-  pub next-scalar : FillsAt s text p h n
-      → NextScalar s text p h n k (kinds.Scalar k) (λ z. asked.Set (ByHandle h) n (literal_of k z))
-  next-scalar f =
-      let q : ScalarsPart k zs n f.value f.left f.need =
-      subst (λ (c : ValueContent). IsPartialValue c n f.value f.left f.need) e f.part in
-      scalar-part f.value f.left f.need f.stands f.text_is q.front q.back q.all_are q.many q.value_is q.text_is
-      q.need_is
-
-module _ (s : SegmentState) (text : List ℕ) (p : FillState) (h n : ℕ) (k : ScalarKind) (zs : List ℤ) (e : p.content
-    ≡ Vector k zs) (l : n < length zs) (g : AreValues k zs) where
-  vector-part : (v : Value) (left : List ℕ) (need : ℕ)
-      → StandsFilling s p.site p.done (head_of p h) v (need + p.more) → text ≡ left ++ p.after
-      → (q : VectorPart k zs n v left need) → (back : List ℤ) → q.back ≡ back
-      → NextScalar s text p h n k (kinds.Vector k) (λ z. asked.Push (ByHandle h) (literal_of k z))
-  vector-part v left need st te q [] b =
-      absurd (omega (arith, l, q.many, ap length (q.all_are ∙ ap (λ y. q.front ++ y) b ∙ append-nil q.front)))
-  vector-part v left need st te q (z ∷ back) b =
+module _ {X Y : Type 0} (way : FillCourse X Y) (s : SegmentState) (text : List ℕ) (p : FillState) (h n : ℕ)
+    (all : List Y) (kind : Kind) (c : Y → Command) (answer : Answer) (Good : Y → Type 0) (l : n < length all)
+    (g : AllByRecursion Good all) (count : (front : List X) → length (way.items front) ≡ length front)
+    (part : (v : Value) (left : List ℕ) (need : ℕ) → HasFirstElements way all (n + 1) v left need
+    → IsPartialValue p.content (n + 1) v left need)
+    (steps : (front : List X) (y : Y) (back : List Y) → all ≡ way.items front ++ y ∷ back → n ≡ length front → Good y
+    → (d : Directory) → IsDirectory current d
+    → IsFilling d p.site p.done (head_of p h) (way.value front (y ∷ back)) (way.need (y ∷ back) + p.more)
+    → StepsTo (step_of_kind Write d (ByHandle h) kind (c y)) answer (HasNext way p h front y back)) where
+  next-behind : (f : FillsAt s text p h n) (q : HasFirstElements way all n f.value f.left f.need) (back : List Y)
+      → q.back ≡ back → NextElement s text p h n way.line Good kind c answer
+  next-behind f q [] b = absurd (omega (
+    arith,
+    l,
+    q.many,
+    count q.front,
+    ap length (q.all_are ∙ ap (λ ys. way.items q.front ++ ys) b ∙ append-nil (way.items q.front)),
+  ))
+  next-behind f q (y ∷ back) b =
       let front = q.front in
-      let t = q.table in
-      let a : zs ≡ front ++ z ∷ back = q.all_are ∙ ap (λ y. front ++ y) b in
-      let is : is_value k z ≡ true = all-last (λ z. is_value k z ≡ true) front z back (subst (AreValues k) a g) in
-      let filling : IsFilling st.directory p.site p.done (head_of p h) (Elements k front t) (need + p.more) =
-      subst (λ w. IsFilling st.directory p.site p.done (head_of p h) w (need + p.more)) q.value_is st.filling in
-      let inside : length front < t.capacity = omega (arith, q.many, q.places, l) in
-      let steps = pushed st.directory p.site p.done (head_of p h) k front t (need + p.more) z
-      st.stands.denotes.directory filling is inside in
+      let st = f.stands in
+      let a : all ≡ way.items front ++ y ∷ back = q.all_are ∙ ap (λ ys. way.items front ++ ys) b in
+      let is : Good y = all-last Good (way.items front) y back (subst (AllByRecursion Good) a g) in
+      let filling : IsFilling st.directory p.site p.done (head_of p h) (way.value front (y ∷ back))
+      (way.need (y ∷ back) + p.more) =
+      subst (λ m. IsFilling st.directory p.site p.done (head_of p h) (way.value front (y ∷ back)) (m + p.more))
+      (q.need_is ∙ ap way.need b) (subst (λ v. IsFilling st.directory p.site p.done (head_of p h) v (f.need + p.more))
+      (q.value_is ∙ ap (way.value front) b) st.filling) in
+      let made = steps front y back a q.many is st.directory st.stands.denotes.directory filling in
       record {
-        value = z;
-        after = flat_map (element_line k) back ++ p.after;
-        text_is = next-text text left p.after (element_line k z) (flat_map (element_line k) back) te (q.text_is
-            ∙ ap (flat_map (element_line k)) b);
+        value = y;
+        after = flat_map way.line back ++ p.after;
+        text_is = next-text text f.left p.after (way.line y) (flat_map way.line back) f.text_is (q.text_is
+            ∙ ap (flat_map way.line) b);
         good = is;
-        leads = λ new answer r.
-            let u = led-of_kind st.stands st.mode _ _ _ r steps in (
+        leads = λ new given r.
+            let u = led-of_kind st.stands st.mode _ _ _ r made in
+            let front' : List X = front ++ u.holds.one ∷ [] in (
               u.given_is,
               record {
-                value = Elements k (front ++ z ∷ []) t;
-                left = flat_map (element_line k) back;
-                need = need;
-                part = subst (λ (c : ValueContent).
-                    IsPartialValue c (n + 1) (Elements k (front ++ z ∷ []) t) (flat_map (element_line k) back) need)
-                    (sym e)
-                    (record {
-                      front = front ++ z ∷ [];
-                      back = back;
-                      table = t;
-                      all_are = a ∙ one-behind front z back;
-                      many = omega (arith, q.many, one-longer front z);
-                      places = q.places;
-                      value_is = refl;
-                      text_is = refl;
-                      need_is = q.need_is;
-                    });
-                stands = record { directory = u.directory; stands = u.stands; mode = u.mode; filling = u.holds };
+                value = way.value front' back;
+                left = flat_map way.line back;
+                need = way.need back;
+                part = part (way.value front' back) (flat_map way.line back) (way.need back) (record {
+                  front = front';
+                  back = back;
+                  all_are = a ∙ one-behind (way.items front) y back ∙ ap (λ ys. ys ++ back) (sym u.holds.items);
+                  many = omega (arith, q.many, one-longer front u.holds.one);
+                  value_is = refl;
+                  text_is = refl;
+                  need_is = refl;
+                });
+                stands = stands-filling u.stands u.mode u.holds.filling;
                 text_is = refl;
               },
             );
       }
 
-  pub next-element : FillsAt s text p h n
-      → NextScalar s text p h n k (kinds.Vector k) (λ z. asked.Push (ByHandle h) (literal_of k z))
-  next-element f =
-      let q : VectorPart k zs n f.value f.left f.need =
-      subst (λ (c : ValueContent). IsPartialValue c n f.value f.left f.need) e f.part in
-      vector-part f.value f.left f.need f.stands f.text_is q q.back refl
+module _ (s : SegmentState) (text : List ℕ) (p : FillState) (h n : ℕ) (f : FillsAt s text p h n) where
+  its-part : {c : ValueContent} → p.content ≡ c → IsPartialValue c n f.value f.left f.need
+  its-part e = subst (λ (c : ValueContent). IsPartialValue c n f.value f.left f.need) e f.part
 
--- ---- a pair more
+  as-part : {c : ValueContent} → p.content ≡ c → (v : Value) (left : List ℕ) (need : ℕ)
+      → IsPartialValue c (n + 1) v left need → IsPartialValue p.content (n + 1) v left need
+  as-part e v left need q = subst (λ (c : ValueContent). IsPartialValue c (n + 1) v left need) (sym e) q
 
-pub record NextPair (s : SegmentState) (text : List ℕ) (p : FillState) (h n : ℕ) (k w : ScalarKind) : Type 0 where
-  pub key : ℤ
-  pub value : ℤ
-  pub after : List ℕ
-  pub text_is : text ≡ pair_line k w (key, value) ++ after
-  pub good : IsTypedPair k w (key, value)
-  pub leads : (new : SegmentState) (answer : Answer)
-      → TakesStepOfKind s new (ByHandle h) (kinds.Map k w)
-      (asked.Put (ByHandle h) (literal_of k key) (literal_of w value)) answer
-      → (answer ≡ Truth true) × FillsAt new after p h (n + 1)
+  -- ---- a scalar of an array or a vector
+
+  pub next-scalar : (k : ScalarKind) (zs : List ℤ) → p.content ≡ Scalars k zs → n < length zs → AreValues k zs
+      → NextElement s text p h n (element_line k) (λ z. is_value k z ≡ true) (kinds.Scalar k)
+      (λ z. asked.Set (ByHandle h) n (literal_of k z)) Done
+  next-scalar k zs e l g = next-behind (array_course k) s text p h n zs (kinds.Scalar k)
+      (λ z. asked.Set (ByHandle h) n (literal_of k z)) Done (λ z. is_value k z ≡ true) l g (λ front. refl) (as-part e)
+      (λ front z back a m is d i filling.
+      let zeros : List ℤ = replicate (length back) (pos 0) in
+      let set : slice_set (front ++ pos 0 ∷ zeros) n z ≡ (front ++ z ∷ []) ++ zeros =
+      ap (λ i. slice_set (front ++ pos 0 ∷ zeros) i z) m ∙ set-behind front (pos 0) z zeros in
+      steps-so (was-set d p.site p.done (head_of p h) k (front ++ pos 0 ∷ zeros) (0 + p.more) n z i filling is
+      (omega (arith, m, length-append front (pos 0 ∷ zeros)))) (λ e t. record {
+        one = z;
+        items = refl;
+        filling = subst (λ ys. IsFilling e p.site p.done (head_of p h) (Numbers k ys) (0 + p.more)) set t;
+      })) f (its-part e) _ refl
+
+  pub next-pushed : (k : ScalarKind) (zs : List ℤ) → p.content ≡ Vector k zs → n < length zs → AreValues k zs
+      → NextElement s text p h n (element_line k) (λ z. is_value k z ≡ true) (kinds.Vector k)
+      (λ z. asked.Push (ByHandle h) (literal_of k z)) Done
+  next-pushed k zs e l g =
+      let q : HasReservedPlaces (vector_course k) zs n f.value f.left f.need = its-part e in
+      next-behind (vector_course k q.table) s text p h n zs (kinds.Vector k)
+      (λ z. asked.Push (ByHandle h) (literal_of k z)) Done (λ z. is_value k z ≡ true) l g (λ front. refl)
+      (λ v left need r. as-part e v left need (record { table = q.table; places = q.places; part = r }))
+      (λ front z back a m is d i filling.
+      let places = q.places in
+      steps-so (pushed d p.site p.done (head_of p h) k front q.table (0 + p.more) z i filling is
+      (omega (arith, m, places, l))) (λ e t. record { one = z; items = refl; filling = t })) f q.part _ refl
+
+-- ---- a pair
 
 int-asym : (x y : ℤ) → int_lt x y ≡ true → int_lt y x ≡ false
 int-asym x y e = grind (arith, ints)
@@ -233,190 +213,75 @@ less-all [] x y back a = tt
 less-all (q ∷ front) x y back a =
     (all-last (λ (r : ℤ × ℤ). int_lt q.key r.0 ≡ true) (map item_of front) (x, y) back a.0, less-all front x y back a.1)
 
-module _ (s : SegmentState) (text : List ℕ) (p : FillState) (h n : ℕ) (k w : ScalarKind) (ps : List (ℤ × ℤ))
-    (e : p.content ≡ Map k w ps) (l : n < length ps) (g : AllByRecursion (IsTypedPair k w) ps) (r : AreRising ps)
-    (m : IsRest p.more) where
+module _ (p : FillState) (h n : ℕ) (k w : ScalarKind) (ps : List (ℤ × ℤ)) (r : AreRising ps) (m : IsRest p.more) where
   abbrev node_room : ℕ
   node_room = block_room (node_len (size_of k) (size_of w))
 
-  map-part : (v : Value) (left : List ℕ) (need : ℕ) → StandsFilling s p.site p.done (head_of p h) v (need + p.more)
-      → text ≡ left ++ p.after → (q : MapPart k w ps n v left need) → (back : List (ℤ × ℤ)) → q.back ≡ back
-      → NextPair s text p h n k w
-  map-part v left need st te q [] b =
-      absurd (omega (
-        arith,
-        l,
-        q.many,
-        length-map q.front item_of,
-        ap length (q.all_are ∙ ap (λ y. map item_of q.front ++ y) b ∙ append-nil (map item_of q.front)),
-      ))
-  map-part v left need st te q ((x, y) ∷ back) b =
-      let front = q.front in
-      let a : ps ≡ map item_of front ++ (x, y) ∷ back = q.all_are ∙ ap (λ z. map item_of front ++ z) b in
-      let is : IsTypedPair k w (x, y) =
-      all-last (IsTypedPair k w) (map item_of front) (x, y) back (subst (AllByRecursion (IsTypedPair k w)) a g) in
-      let less : AreLess x front = less-all front x y back (subst AreRising a r) in
+  pair-put : (front : List NumberPair) (y : ℤ × ℤ) (back : List (ℤ × ℤ)) → ps ≡ map item_of front ++ y ∷ back
+      → n ≡ length front → IsTypedPair k w y → (d : Directory) → IsDirectory current d
+      → IsFilling d p.site p.done (head_of p h) (Pairs k w front) (length (y ∷ back) * node_room + p.more)
+      → StepsTo (step_of_kind Write d (ByHandle h) (kinds.Map k w)
+      (asked.Put (ByHandle h) (literal_of k y.0) (literal_of w y.1))) (Truth true)
+      (HasNext (map_course k w) p h front y back)
+  pair-put front (x, y) back a _ is d i filling =
       let rest : ℕ = length back * node_room + p.more in
-      let needs : need + p.more ≡ node_room + rest =
-      omega (arith, q.need_is ∙ ap (λ z. length z * node_room) b, suc-mul (length back) node_room) in
-      let filling : IsFilling st.directory p.site p.done (head_of p h) (Pairs k w front) (node_room + rest) =
-      subst (IsFilling st.directory p.site p.done (head_of p h) (Pairs k w front)) needs
-      (subst (λ u. IsFilling st.directory p.site p.done (head_of p h) u (need + p.more)) q.value_is st.filling) in
-      let steps = was-put st.directory p.site p.done (head_of p h) k w front x y rest st.stands.denotes.directory
-      is.0 is.1 less int-asym filling
+      let needs : length ((x, y) ∷ back) * node_room + p.more ≡ node_room + rest =
+      omega (arith, suc-mul (length back) node_room) in
+      steps-so (was-put d p.site p.done (head_of p h) k w front x y rest i is.0 is.1
+      (less-all front x y back (subst AreRising a r)) int-asym
+      (subst (IsFilling d p.site p.done (head_of p h) (Pairs k w front)) needs filling)
       (rest-both (length back * node_room) p.more
-      (times-rest node_room (length back) (block-rest (node_len (size_of k) (size_of w)))) m) in
-      let c = asked.Put (ByHandle h) (literal_of k x) (literal_of w y) in
-      record {
-        key = x;
-        value = y;
-        after = flat_map (pair_line k w) back ++ p.after;
-        text_is = next-text text left p.after (pair_line k w (x, y)) (flat_map (pair_line k w) back) te (q.text_is
-            ∙ ap (flat_map (pair_line k w)) b);
-        good = is;
-        leads = λ new answer r.
-            let u = led-of_kind st.stands st.mode _ _ _ r steps in
-            let one : NumberPair = record { key = x; value = y; node = u.holds.node } in
-            let front' : List NumberPair = front ++ one ∷ [] in (
-              u.given_is,
-              record {
-                value = Pairs k w front';
-                left = flat_map (pair_line k w) back;
-                need = length back * node_room;
-                part = subst (λ (c : ValueContent).
-                    IsPartialValue c (n + 1) (Pairs k w front') (flat_map (pair_line k w) back)
-                    (length back * node_room)) (sym e)
-                    (record {
-                      front = front';
-                      back = back;
-                      all_are = a ∙ one-behind (map item_of front) (x, y) back
-                          ∙ ap (λ z. z ++ back) (sym (map-append item_of front (one ∷ [])));
-                      many = omega (arith, q.many, one-longer front one);
-                      value_is = refl;
-                      text_is = refl;
-                      need_is = refl;
-                    });
-                stands = record {
-                  directory = u.directory;
-                  stands = u.stands;
-                  mode = u.mode;
-                  filling = u.holds.filling;
-                };
-                text_is = refl;
-              },
-            );
-      }
+      (times-rest node_room (length back) (block-rest (node_len (size_of k) (size_of w)))) m)) (λ e t. record {
+        one = record { key = x; value = y; node = t.node };
+        items = map-append item_of front (record { key = x; value = y; node = t.node } ∷ []);
+        filling = t.filling;
+      })
 
-  pub next-pair : FillsAt s text p h n → NextPair s text p h n k w
-  next-pair f =
-      let q : MapPart k w ps n f.value f.left f.need =
-      subst (λ (c : ValueContent). IsPartialValue c n f.value f.left f.need) e f.part in
-      map-part f.value f.left f.need f.stands f.text_is q q.back refl
+pub next-pair : (s : SegmentState) (text : List ℕ) (p : FillState) (h n : ℕ) (k w : ScalarKind) (ps : List (ℤ × ℤ))
+    → p.content ≡ Map k w ps → n < length ps → AllByRecursion (IsTypedPair k w) ps → AreRising ps → IsRest p.more
+    → FillsAt s text p h n → NextElement s text p h n (pair_line k w) (IsTypedPair k w) (kinds.Map k w)
+    (λ y. asked.Put (ByHandle h) (literal_of k y.0) (literal_of w y.1)) (Truth true)
+next-pair s text p h n k w ps e l g r m f = next-behind (map_course k w) s text p h n ps (kinds.Map k w)
+    (λ y. asked.Put (ByHandle h) (literal_of k y.0) (literal_of w y.1)) (Truth true) (IsTypedPair k w) l g
+    (λ front. length-map front item_of) (as-part s text p h n f e) (pair-put p h n k w ps r m) f
+    (its-part s text p h n f e) _ refl
 
--- ---- a text more
-
-pub record NextText (s : SegmentState) (text : List ℕ) (p : FillState) (h n : ℕ) (longest : ℕ) : Type 0 where
-  pub bytes : List ℕ
-  pub after : List ℕ
-  pub text_is : text ≡ text_lines bytes ++ after
-  pub good : IsByteList bytes
-  pub counted : length bytes < 2 ^ 64
-  pub fits : length bytes ≤ longest
-  pub leads : (new : SegmentState) (answer : Answer)
-      → TakesStepOfKind s new (ByHandle h) kinds.Strings (asked.Push (ByHandle h) (asked.Quoted bytes)) answer
-      → (answer ≡ Done) × FillsAt new after p h (n + 1)
+-- ---- a text
 
 pub texts-rest : (ts : List (List ℕ)) → IsRest (all_needs text_needs ts).room
 texts-rest ts = needs-rest text_needs (λ t. block-rest (length t)) ts
 
-longest-last : (front : List (List ℕ)) (t : List ℕ) (back : List (List ℕ)) (longest : ℕ)
-    → (all_needs text_needs (front ++ t ∷ back)).longest ≤ longest → length t ≤ longest
-longest-last [] t back longest h = omega (arith, h)
-longest-last (x ∷ front) t back longest h = longest-last front t back longest (omega (arith, h))
+-- bytes that can be collected
+abbrev pub IsShortText : ℕ → List ℕ → Type 0
+IsShortText longest bs = (length bs ≤ longest) × ((length bs < 2 ^ 64) × IsByteList bs)
 
-abbrev AreTexts : List (List ℕ) → Type 0
-AreTexts = AllByRecursion (λ (bs : List ℕ). (length bs < 2 ^ 64) × IsByteList bs)
+all-short : (longest : ℕ) (ts : List (List ℕ)) → AllByRecursion (λ (bs : List ℕ). (length bs < 2 ^ 64)
+    × IsByteList bs) ts → (all_needs text_needs ts).longest ≤ longest → AllByRecursion (IsShortText longest) ts
+all-short longest [] g h = tt
+all-short longest (t ∷ ts) g h = ((omega (arith, h), g.0), all-short longest ts g.1 (omega (arith, h)))
 
-module _ (s : SegmentState) (text : List ℕ) (p : FillState) (h n longest : ℕ) (ts : List (List ℕ)) (e : p.content
-    ≡ Strings ts) (l : n < length ts) (g : AreTexts ts) (long : (all_needs text_needs ts).longest ≤ longest)
-    (m : IsRest p.more) where
-  strings-part : (v : Value) (left : List ℕ) (need : ℕ)
-      → StandsFilling s p.site p.done (head_of p h) v (need + p.more) → text ≡ left ++ p.after
-      → (q : StringsPart ts n v left need) → (back : List (List ℕ)) → q.back ≡ back → NextText s text p h n longest
-  strings-part v left need st te q [] b =
-      absurd (omega (
-        arith,
-        l,
-        q.many,
-        length-map q.front bytes_in,
-        ap length (q.all_are ∙ ap (λ y. map bytes_in q.front ++ y) b ∙ append-nil (map bytes_in q.front)),
-      ))
-  strings-part v left need st te q (bs ∷ back) b =
-      let front = q.front in
-      let t = q.table in
-      let a : ts ≡ map bytes_in front ++ bs ∷ back = q.all_are ∙ ap (λ z. map bytes_in front ++ z) b in
-      let is : (length bs < 2 ^ 64) × IsByteList bs =
-      all-last (λ (bs : List ℕ). (length bs < 2 ^ 64)
-      × IsByteList bs) (map bytes_in front) bs back (subst AreTexts a g) in
-      let rest : ℕ = (all_needs text_needs back).room + p.more in
-      let needs : need + p.more ≡ block_room (length bs) + rest =
-      omega (arith, q.need_is ∙ ap (λ z. (all_needs text_needs z).room) b) in
-      let filling : IsFilling st.directory p.site p.done (head_of p h) (Texts front t) (block_room (length bs) + rest) =
-      subst (IsFilling st.directory p.site p.done (head_of p h) (Texts front t)) needs
-      (subst (λ u. IsFilling st.directory p.site p.done (head_of p h) u (need + p.more)) q.value_is st.filling) in
-      let inside : length front < t.capacity = omega (arith, q.many, q.places, l) in
-      let steps = text-pushed st.directory p.site p.done (head_of p h) front t bs rest st.stands.denotes.directory
-      inside filling (rest-both (all_needs text_needs back).room p.more (texts-rest back) m) in
-      let c = asked.Push (ByHandle h) (asked.Quoted bs) in
-      record {
-        bytes = bs;
-        after = flat_map text_lines back ++ p.after;
-        text_is = next-text text left p.after (text_lines bs) (flat_map text_lines back) te (q.text_is
-            ∙ ap (flat_map text_lines) b);
-        good = is.1;
-        counted = is.0;
-        fits = longest-last (map bytes_in front) bs back longest
-            (subst (λ z. (all_needs text_needs z).longest ≤ longest) a long);
-        leads = λ new answer r.
-            let u = led-of_kind st.stands st.mode _ _ _ r steps in
-            let one : OwnedText = record { bytes = bs; extent = u.holds.block } in
-            let front' : List OwnedText = front ++ one ∷ [] in (
-              u.given_is,
-              record {
-                value = Texts front' t;
-                left = flat_map text_lines back;
-                need = (all_needs text_needs back).room;
-                part = subst (λ (c : ValueContent).
-                    IsPartialValue c (n + 1) (Texts front' t) (flat_map text_lines back)
-                    (all_needs text_needs back).room) (sym e)
-                    (record {
-                      front = front';
-                      back = back;
-                      table = t;
-                      all_are = a ∙ one-behind (map bytes_in front) bs back
-                          ∙ ap (λ z. z ++ back) (sym (map-append bytes_in front (one ∷ [])));
-                      many = omega (arith, q.many, one-longer front one);
-                      places = q.places;
-                      value_is = refl;
-                      text_is = refl;
-                      need_is = refl;
-                    });
-                stands = record {
-                  directory = u.directory;
-                  stands = u.stands;
-                  mode = u.mode;
-                  filling = u.holds.filling;
-                };
-                text_is = refl;
-              },
-            );
-      }
-
-  pub next-own : FillsAt s text p h n → NextText s text p h n longest
-  next-own f =
-      let q : StringsPart ts n f.value f.left f.need =
-      subst (λ (c : ValueContent). IsPartialValue c n f.value f.left f.need) e f.part in
-      strings-part f.value f.left f.need f.stands f.text_is q q.back refl
+pub next-text_of : (s : SegmentState) (text : List ℕ) (p : FillState) (h n longest : ℕ) (ts : List (List ℕ))
+    → p.content ≡ Strings ts → n < length ts → AllByRecursion (λ (bs : List ℕ). (length bs < 2 ^ 64) × IsByteList bs) ts
+    → (all_needs text_needs ts).longest ≤ longest
+    → IsRest p.more → FillsAt s text p h n → NextElement s text p h n text_lines (IsShortText longest) kinds.Strings
+    (λ bs. asked.Push (ByHandle h) (asked.Quoted bs)) Done
+next-text_of s text p h n longest ts e l g long m f =
+    let q : HasReservedPlaces strings_course ts n f.value f.left f.need = its-part s text p h n f e in
+    next-behind (strings_course q.table) s text p h n ts kinds.Strings
+    (λ bs. asked.Push (ByHandle h) (asked.Quoted bs)) Done (IsShortText longest) l (all-short longest ts g long)
+    (λ front. length-map front bytes_in) (λ v left need r. as-part s text p h n f e v left need
+    (record { table = q.table; places = q.places; part = r }))
+    (λ front bs back a many is d i filling.
+    let places = q.places in
+    let rest : ℕ = (all_needs text_needs back).room + p.more in
+    let needs : (all_needs text_needs (bs ∷ back)).room + p.more ≡ block_room (length bs) + rest = omega arith in
+    steps-so (text-pushed d p.site p.done (head_of p h) front q.table bs rest i (omega (arith, many, places, l))
+    (subst (IsFilling d p.site p.done (head_of p h) (Texts front q.table)) needs filling)
+    (rest-both (all_needs text_needs back).room p.more (texts-rest back) m)) (λ e t. record {
+      one = record { bytes = bs; extent = t.block };
+      items = map-append bytes_in front (record { bytes = bs; extent = t.block } ∷ []);
+      filling = t.filling;
+    })) f q.part _ refl
 
 -- ---- all elements are there
 
@@ -430,67 +295,53 @@ no-more : {X : Type 0} (all front back : List X) → all ≡ front ++ back → l
 no-more all front [] a l = refl
 no-more all front (x ∷ back) a l = absurd (omega (arith, l, ap length a, length-append front (x ∷ back)))
 
+module _ {X Y : Type 0} (way : FillCourse X Y) (all : List Y) (n : ℕ) (v : Value) (left : List ℕ) (need : ℕ)
+    (c : List Y → ValueContent) (has : (front : List X) → content_of (way.value front []) ≡ c (way.items front))
+    (none : way.need [] ≡ 0) (count : (front : List X) → length (way.items front) ≡ length front)
+    (l : length all ≤ n) (q : HasFirstElements way all n v left need) where
+  whole-front : IsWhole (c all) v left need
+  whole-front =
+      let end : q.back ≡ [] = no-more all (way.items q.front) q.back q.all_are (omega (arith, l, q.many, count q.front))
+      in
+      let same : all ≡ way.items q.front =
+      q.all_are ∙ ap (λ b. way.items q.front ++ b) end ∙ append-nil (way.items q.front) in
+      record {
+        value_is = ap content_of q.value_is ∙ ap (λ b. content_of (way.value q.front b)) end ∙ has q.front
+            ∙ ap c (sym same);
+        left_is = q.text_is ∙ ap (flat_map way.line) end;
+        need_is = q.need_is ∙ ap way.need end ∙ none;
+      }
+
 whole-by : (c : ValueContent) (n : ℕ) (v : Value) (left : List ℕ) (need : ℕ) → count_of_content c ≤ n
     → IsPartialValue c n v left need → IsWhole c v left need
-whole-by (Scalars k zs) n v left need l q =
-    let none : q.back ≡ [] = no-more zs q.front q.back q.all_are (omega (arith, l, q.many)) in
-    record {
-      value_is = ap content_of q.value_is ∙ ap (λ b. Scalars k (q.front ++ replicate (length b) (pos 0))) none
-          ∙ ap (Scalars k) (append-nil q.front ∙ sym (q.all_are ∙ ap (λ b. q.front ++ b) none ∙ append-nil q.front));
-      left_is = q.text_is ∙ ap (flat_map (element_line k)) none;
-      need_is = q.need_is;
-    }
+whole-by (Scalars k zs) n v left need l q = whole-front (array_course k) zs n v left need (Scalars k)
+    (λ front. ap (Scalars k) (append-nil front)) refl (λ front. refl) l q
 whole-by (Vector k zs) n v left need l q =
-    let none : q.back ≡ [] = no-more zs q.front q.back q.all_are (omega (arith, l, q.many)) in
-    record {
-      value_is = ap content_of q.value_is
-          ∙ ap (Vector k) (sym (q.all_are ∙ ap (λ b. q.front ++ b) none ∙ append-nil q.front));
-      left_is = q.text_is ∙ ap (flat_map (element_line k)) none;
-      need_is = q.need_is;
-    }
+    whole-front (vector_course k q.table) zs n v left need (Vector k) (λ front. refl) refl (λ front. refl) l q.part
 whole-by (String bs) n v left need l q = absurd q
-whole-by (Map k w ps) n v left need l q =
-    let none : q.back ≡ [] = no-more ps (map item_of q.front) q.back q.all_are (omega (
-      arith,
-      l,
-      q.many,
-      length-map q.front item_of,
-    )) in
-    record {
-      value_is = ap content_of q.value_is
-          ∙ ap (Map k w) (sym (q.all_are ∙ ap (λ b. map item_of q.front ++ b) none ∙ append-nil (map item_of q.front)));
-      left_is = q.text_is ∙ ap (flat_map (pair_line k w)) none;
-      need_is = q.need_is ∙ ap (λ b. length b * block_room (node_len (size_of k) (size_of w))) none
-          ∙ zero-mul (block_room (node_len (size_of k) (size_of w)));
-    }
-whole-by (Strings ts) n v left need l q =
-    let none : q.back ≡ [] = no-more ts (map bytes_in q.front) q.back q.all_are (omega (
-      arith,
-      l,
-      q.many,
-      length-map q.front bytes_in,
-    )) in
-    record {
-      value_is = ap content_of q.value_is
-          ∙ ap Strings (sym (q.all_are ∙ ap (λ b. map bytes_in q.front ++ b) none ∙ append-nil (map bytes_in q.front)));
-      left_is = q.text_is ∙ ap (flat_map text_lines) none;
-      need_is = q.need_is ∙ ap (λ b. (all_needs text_needs b).room) none;
-    }
+whole-by (Map k w ps) n v left need l q = whole-front (map_course k w) ps n v left need (Map k w) (λ front. refl)
+    (zero-mul (block_room (node_len (size_of k) (size_of w)))) (λ front. length-map front item_of) l q
+whole-by (Strings ts) n v left need l q = whole-front (strings_course q.table) ts n v left need Strings (λ front. refl)
+    refl (λ front. length-map front bytes_in) l q.part
+
+-- with all of its content it is built
+pub filled-so : {s : SegmentState} (p : FillState) (h : ℕ) (v : Value) (rest : ℕ) → content_of v ≡ p.content
+    → StandsFilling s p.site p.done (head_of p h) v rest → StandsBuilt s p.site (p.done ++ filled_item p ∷ []) rest
+filled-so {s} p h v rest e f = subst (λ (c : ValueContent).
+    StandsBuilt s p.site (p.done ++ record { class = p.class; name = p.name; content = c } ∷ []) rest) e (record {
+      directory = f.directory;
+      stands = f.stands;
+      mode = f.mode;
+      built = built f.directory p.site p.done (head_of p h) v rest f.filling;
+    })
 
 pub filled : (s : SegmentState) (text : List ℕ) (p : FillState) (h n : ℕ) → count_of_content p.content ≤ n
     → FillsAt s text p h n → IsFilled s text p
 filled s text p h n l f =
     let w = whole-by p.content n f.value f.left f.need l f.part in
     let rest : f.need + p.more ≡ p.more = omega (arith, w.need_is) in
-    let done = built f.stands.directory p.site p.done (head_of p h) f.value (f.need + p.more) f.stands.filling in
     record {
-      stands = record {
-        directory = f.stands.directory;
-        stands = f.stands.stands;
-        mode = f.stands.mode;
-        built = subst (HasBuiltItems f.stands.directory p.site (p.done ++ filled_item p ∷ [])) rest
-            (subst (λ (c : ValueContent). HasBuiltItems f.stands.directory p.site (p.done
-            ++ record { class = p.class; name = p.name; content = c } ∷ []) (f.need + p.more)) w.value_is done);
-      };
+      stands = subst (StandsBuilt s p.site (p.done ++ filled_item p ∷ [])) rest
+          (filled-so p h f.value (f.need + p.more) w.value_is f.stands);
       text_is = f.text_is ∙ ap (λ l. l ++ p.after) w.left_is;
     }

@@ -1,33 +1,28 @@
 -- What the steps lead to by which an object is filled.
-use Rattle.segment_dump.proofs.Common.{◌≡◌, ◌⊎◌, inl, inr, ℕ, ◌+◌, ◌*◌, ◌<◌, ◌≤◌, ◌==◌, ◌||◌, ℤ, pos, Bool, true}
-use Rattle.segment_dump.proofs.Common.{false, not, cond, List, [], ◌∷◌, ◌++◌, length, Option, Some, None, Result, Ok}
-use Rattle.segment_dump.proofs.Common.{Err, if◌then◌else◌, refl, sym, ap, subst, ◌∙◌, arith, append_assoc, zero-add}
-use Rattle.segment_dump.proofs.Common.{find, flat_map, max, option_to_list, slice_get, slice_set, int_lt}
-use Rattle.segment_dump.proofs.Common.{AllByRecursion, mul-le-mul_left, mul-zero, nat_tests, flat_map-append}
-use Rattle.segment_dump.proofs.Common.{append-nil, map-append, slice_get-get_or, Node, Storage, Extent, place}
-use Rattle.segment_dump.proofs.Common.{BackingArray}
-use Rattle.segment_dump.proofs.Common.{no_backing, current, Kind, ScalarKind, Refusal, OutOfRange, Command, literal_of}
-use Rattle.segment_dump.proofs.Common.{is_value, size_of, ByHandle, node_len, NumberPair, OwnedText, Write, Answer}
-use Rattle.segment_dump.proofs.Common.{Done, Truth, Bytes, Directory, Elements, IsDirectory, Numbers, Object, Pairs}
-use Rattle.segment_dump.proofs.Common.{Texts, Value, live, object_at, value_extents, kind_of, Plan, Reply, Request, New}
-use Rattle.segment_dump.proofs.Common.{perform, with, changed, step, step_of_kind, effect, found_at, Head, IsFilling}
-use Rattle.segment_dump.proofs.Common.{Site, DumpItem, block_room, eq-eqb, le-leb, lt-leb, lt-ltb, ne_eqb}
+use Rattle.seg_types.specs.declared.kinds.Kind.TheVariants as kinds
+use Rattle.seg_types.specs.Commands as asked
+use Rattle.segment_dump.proofs.Common.{◌≡◌, ◌⊎◌, inl, inr, ℕ, ◌+◌, ◌*◌, ◌<◌, ◌≤◌, ◌==◌, ◌||◌, ℤ, pos, Bool, true, false}
+use Rattle.segment_dump.proofs.Common.{not, cond, List, [], ◌∷◌, ◌++◌, length, Option, Some, None, Result, Ok, Err}
+use Rattle.segment_dump.proofs.Common.{if◌then◌else◌, refl, sym, ap, subst, ◌∙◌, arith, append_assoc, zero-add, find}
+use Rattle.segment_dump.proofs.Common.{flat_map, max, option_to_list, slice_get, slice_set, int_lt, AllByRecursion}
+use Rattle.segment_dump.proofs.Common.{mul-le-mul_left, mul-zero, nat_tests, flat_map-append, append-nil, map-append}
+use Rattle.segment_dump.proofs.Common.{slice_get-get_or, Node, Storage, Extent, place, BackingArray, no_backing}
+use Rattle.segment_dump.proofs.Common.{current, Kind, ScalarKind, Refusal, OutOfRange, Command, literal_of, is_value}
+use Rattle.segment_dump.proofs.Common.{size_of, ByHandle, node_len, NumberPair, OwnedText, Write, Answer, Done, Truth}
+use Rattle.segment_dump.proofs.Common.{Bytes, Directory, Elements, IsDirectory, Numbers, Object, Pairs, Texts, Value}
+use Rattle.segment_dump.proofs.Common.{live, object_at, value_extents, kind_of, Plan, Reply, Request, New, perform}
+use Rattle.segment_dump.proofs.Common.{with, changed, step, step_of_kind, effect, found_at, Head, IsFilling, Site}
+use Rattle.segment_dump.proofs.Common.{DumpItem, block_room, eq-eqb, le-leb, lt-leb, lt-ltb, ne_eqb}
 use Rattle.best_fit.specs.Fit.{regrow, resized}
 use Rattle.seg_types.specs.declared.kinds.ScalarKind.TheVariants.{Bool as BoolKind}
 use Rattle.seg_types.specs.declared.refusals.Refusal.TheVariants.{NoSpace}
-use Rattle.seg_types.specs.Commands.{value_of_literal}
+use Rattle.seg_types.specs.{Commands.value_of_literal, Literals.cons_values, Literals.pair_values}
 use Rattle.seg_map.specs.Map.{is_key, pair_at, put_pair}
 use Rattle.seg_vector.specs.Vector.{capacity_for_one, capacity_for_text}
-use Rattle.segment_manager.specs.Answers.{Refused}
-use Rattle.segment_manager.specs.Plan.{Regrown, with_capacity, with_owned_text}
+use Rattle.segment_manager.specs.{Answers.Refused, Plan.Regrown, Plan.with_capacity, Plan.with_owned_text}
 use Rattle.segment_manager.specs.Step.{map_of, push, put, set, storage_of, text_of, with_table}
-use Rattle.seg_types.specs.Literals.{cons_values, pair_values}
-use Rattle.segment_dump.proofs.Spaces.{IsRest, block-some}
+use Rattle.segment_dump.proofs.{Spaces.IsRest, Spaces.block-some, Steps.writes, Words.bool-near}
 use Rattle.segment_dump.proofs.Steps.{at-object, block-more, filled-at, filled-kind, of-kind, requested, same-blocks}
-use Rattle.segment_dump.proofs.Steps.{writes}
-use Rattle.segment_dump.proofs.Words.{bool-near}
-use Rattle.seg_types.specs.declared.kinds.Kind.TheVariants as kinds
-use Rattle.seg_types.specs.Commands as asked
 
 -- it is answered, and leads to such a directory
 pub record StepsTo (outcome : Answer × Directory) (answer : Answer) (Next : Directory → Type 0) : Type 0 where
@@ -111,9 +106,8 @@ pushed d site done head k zs t rest z i f g h =
     (λ o v. push d o v (literal_of k z)) (Elements k (zs ++ z ∷ []) t) refl refl
     (push-reply d f.object k zs t z g h) refl
 
-set-reply : (d : Directory) (o : Object) (k : ScalarKind) (zs : List ℤ) (n : ℕ) (z : ℤ) → is_value k z ≡ true
-    → n < length zs → set d o (Numbers k zs) n (literal_of k z)
-    ≡ Reply Done (changed d o (Numbers k (slice_set zs n z)))
+set-reply : (d : Directory) (o : Object) (k : ScalarKind) (zs : List ℤ) (n : ℕ) (z : ℤ) → is_value k z ≡ true → n
+    < length zs → set d o (Numbers k zs) n (literal_of k z) ≡ Reply Done (changed d o (Numbers k (slice_set zs n z)))
 set-reply d o k zs n z g h =
     ap (λ r. with r (λ z. with (elim (slice_get zs n) as (λ _. Result ℤ Refusal) [
       | None ↦ Err OutOfRange
@@ -124,8 +118,7 @@ set-reply d o k zs n z g h =
 
 pub was-set : (d : Directory) (site : Site) (done : List DumpItem) (head : Head) (k : ScalarKind) (zs : List ℤ)
     (rest n : ℕ) (z : ℤ) → IsDirectory current d → IsFilling d site done head (Numbers k zs) rest
-    → is_value k z ≡ true → n < length zs
-    → StepsTo (step_of_kind Write d (ByHandle head.handle) (kinds.Scalar k)
+    → is_value k z ≡ true → n < length zs → StepsTo (step_of_kind Write d (ByHandle head.handle) (kinds.Scalar k)
     (asked.Set (ByHandle head.handle) n (literal_of k z))) Done (λ e.
     IsFilling e site done head (Numbers k (slice_set zs n z)) rest)
 was-set d site done head k zs rest n z i f g h =
@@ -145,8 +138,7 @@ pub appended : (d : Directory) (site : Site) (done : List DumpItem) (head : Head
     Done (λ e. IsFilling e site done head (Bytes (bs ++ more) t) rest)
 appended d site done head bs t rest more i f h =
     stepped i f kinds.String (asked.Append (ByHandle head.handle) more) (append_plan d more) (Bytes (bs ++ more) t) refl
-    refl
-    (text-there (length (bs ++ more)) t (λ u. Reply Done (changed d f.object (Bytes (bs ++ more) u))) h) refl
+    refl (text-there (length (bs ++ more)) t (λ u. Reply Done (changed d f.object (Bytes (bs ++ more) u))) h) refl
 
 -- ---- the calls that ask for a block
 
@@ -229,8 +221,7 @@ module _ (d : Directory) (site : Site) (done : List DumpItem) (head : Head) (v :
       let here : object_at d key ≡ Some f.object = filled-at d site done head v more i f in
       writes d (asked.Reserve key n)
       ∙ ap (perform d (live d)) (at-object d key f.object (λ o. reserve_plan d n o o.value) here
-      ∙ ap (reserve_plan d n f.object) f.value_is
-      ∙ ap (λ r. with r (λ (each, len, t).
+      ∙ ap (reserve_plan d n f.object) f.value_is ∙ ap (λ r. with r (λ (each, len, t).
       with_capacity each n t (λ u. Reply Done (changed d f.object (with_table v u))))) s.storage)
 
   reserve-none : n ≡ 0 → IsFilling d site done head v rest → Reserved
@@ -259,12 +250,10 @@ module _ (d : Directory) (site : Site) (done : List DumpItem) (head : Head) (v :
       let grows : grow_plan d n each f.object v
       ≡ Request (Regrown None (each * n)) (λ x. Reply Done (changed d f.object (with_table v (table_of n x)))) =
       ap (λ b. if b then Reply Done (changed d f.object (with_table v no_backing)) else Request
-      (Regrown None (each * n))
-      (λ x. Reply Done (changed d f.object (with_table v (table_of n x))))) (lt-leb n 0 p) in
+      (Regrown None (each * n)) (λ x. Reply Done (changed d f.object (with_table v (table_of n x))))) (lt-leb n 0 p) in
       record {
         next = changed d f.object w;
-        is = reserve-plan all f ∙ ap (perform d (live d)) grows
-            ∙ grown-perform d (each * n) taken.extent (λ x.
+        is = reserve-plan all f ∙ ap (perform d (live d)) grows ∙ grown-perform d (each * n) taken.extent (λ x.
             Reply Done (changed d f.object (with_table v (table_of n x)))) Done (changed d f.object w) taken.is refl;
         holds = record {
           value = w;
@@ -315,16 +304,14 @@ module _ (d : Directory) (site : Site) (done : List DumpItem) (head : Head) (ps 
       (asked.Push (ByHandle head.handle) (asked.Quoted bs))) Done (IsPushed site done head ps t bs rest)
 
   push-plan : (more : ℕ) (f : IsFilling d site done head (Texts ps t) more)
-      → step_of_kind Write d (ByHandle head.handle) kinds.Strings
-      (asked.Push (ByHandle head.handle) (asked.Quoted bs))
+      → step_of_kind Write d (ByHandle head.handle) kinds.Strings (asked.Push (ByHandle head.handle) (asked.Quoted bs))
       ≡ perform d (live d) (with_owned_text bs (λ p. Reply Done (changed d f.object (Texts (ps ++ p ∷ []) t))))
   push-plan more f =
       let key = ByHandle head.handle in
       let c = asked.Push key (asked.Quoted bs) in
       let here : object_at d key ≡ Some f.object = filled-at d site done head (Texts ps t) more i f in
       of-kind d key kinds.Strings c f.object here
-      (filled-kind d site done head (Texts ps t) more i f kinds.Strings refl)
-      ∙ ap (perform d (live d))
+      (filled-kind d site done head (Texts ps t) more i f kinds.Strings refl) ∙ ap (perform d (live d))
       (at-object d key f.object (λ o. push d o o.value (asked.Quoted bs)) here ∙ ap (text_plan d f.object bs) f.value_is
       ∙ place-there 16 (length ps) t (λ u.
       with_owned_text bs (λ p. Reply Done (changed d f.object (Texts (ps ++ p ∷ []) u)))) h)
@@ -359,8 +346,7 @@ module _ (d : Directory) (site : Site) (done : List DumpItem) (head : Head) (ps 
         next = changed d f.object w;
         is = push-plan all f ∙ ap (λ b.
             perform d (live d) (if b then next (own bs None) else Request (New Storage (length bs)) (λ x.
-            next (own bs (Some x))))) some
-            ∙ met-perform d (length bs) Storage taken.extent (λ x.
+            next (own bs (Some x))))) some ∙ met-perform d (length bs) Storage taken.extent (λ x.
             next (own bs (Some x))) Done (changed d f.object w) taken.is refl;
         holds = record {
           block = Some taken.extent;
@@ -447,8 +433,7 @@ module _ (d : Directory) (site : Site) (done : List DumpItem) (head : Head) (k v
       ap (λ l. Reply (Truth true) (changed d f.object (Pairs k v l))) (put-behind p ps a (λ q e. order q.key x e)) in
       let asks : put_plan d f.object k v x y f.object.value ≡ Request (New Node node_bytes) next =
       ap (put_plan d f.object k v x y) f.value_is
-      ∙ ap (λ r. with r (λ new. put d f.object k v ps new)) (pair-read k v x y g h)
-      ∙ ap (λ (o : Option NumberPair).
+      ∙ ap (λ r. with r (λ new. put d f.object k v ps new)) (pair-read k v x y g h) ∙ ap (λ (o : Option NumberPair).
       elim o as (λ _. Plan) [
         | Some q ↦ Reply (Truth false)
             (changed d f.object (Pairs k v (put_pair int_lt (record q { value = y }) ps)))

@@ -5,19 +5,15 @@ use Rattle.segment_dump.proofs.Common.{is_legal_size, last_end, Gap, end_of, fre
 use Rattle.segment_dump.proofs.Common.{proper_from, Class, Anonymous, Named, Unique, class_code, Directory, by_kind}
 use Rattle.segment_dump.proofs.Common.{by_name, is_class, live, named_objects, sorted, unique_objects, shrunk}
 use Rattle.segment_dump.proofs.Common.{DenotesCurrent, all-sorted, by_kind-strict, by_name-strict, live-extents}
-use Rattle.segment_dump.proofs.Common.{live-size}
-use Rattle.segment_dump.proofs.Common.{EndBy, HasExactRoom, all_extents, kind_less, name_less, of_class, total}
-use Rattle.segment_dump.proofs.Common.{DumpItem, Items}
-use Rattle.segment_dump.proofs.Common.{item_of_object, portable, all_items, AreOf, dump_text, end_text, front_text}
-use Rattle.segment_dump.proofs.Common.{items_text}
+use Rattle.segment_dump.proofs.Common.{live-size, EndBy, HasExactRoom, all_extents, kind_less, name_less, of_class}
+use Rattle.segment_dump.proofs.Common.{total, DumpItem, Items, item_of_object, portable, all_items, AreOf, dump_text}
+use Rattle.segment_dump.proofs.Common.{end_text, front_text, items_text}
 use Rattle.std.specs.Prelude.{sum_by}
 use Rattle.segment_dump.specs.Succeeding.{AreOrderedItems}
 use Rattle.segment_dump.proofs.Buildables.{named-in_order, unique-in_order}
-use Rattle.segment_dump.proofs.DumpCounts.{all-text}
+use Rattle.segment_dump.proofs.{DumpCounts.all-text, Rooms.total-sorted, Told.each-of, Told.portable-told}
 use Rattle.segment_dump.proofs.Orders.{class-items, class-ordered, kinds-tell, none-of, of-both}
-use Rattle.segment_dump.proofs.Rooms.{total-sorted}
 use Rattle.segment_dump.proofs.Spaces.{room-gaps, last-long, last-most}
-use Rattle.segment_dump.proofs.Told.{each-of, portable-told}
 
 -- ---- the items of a class
 
@@ -48,11 +44,10 @@ built-portable e items s same =
     (none-of Named Unique items.unique refl s.unique) (none-of Named Anonymous items.anonymous refl s.anonymous)
     ∙ append-nil items.named in
     let unique : map item_of_object (filter (is_class Unique) e.objects) ≡ items.unique =
-    class-items Unique e.objects ∙ ap (of_class Unique) same
-    ∙ of-three Unique items.named items.unique items.anonymous [] items.unique []
+    class-items Unique e.objects
+    ∙ ap (of_class Unique) same ∙ of-three Unique items.named items.unique items.anonymous [] items.unique []
     (none-of Unique Named items.named refl s.named) (of-here Unique items.unique s.unique)
-    (none-of Unique Anonymous items.anonymous refl s.anonymous)
-    ∙ append-nil items.unique in
+    (none-of Unique Anonymous items.anonymous refl s.anonymous) ∙ append-nil items.unique in
     let anonymous : map item_of_object (filter (is_class Anonymous) e.objects) ≡ items.anonymous =
     class-items Anonymous e.objects ∙ ap (of_class Anonymous) same
     ∙ of-three Anonymous items.named items.unique items.anonymous [] [] items.anonymous
@@ -79,9 +74,8 @@ portable-sorted b d s =
 
 -- ---- the text behind its first lines
 
-pub text-behind : (n : ℕ) (items : Items)
-    → dump_text n items ≡ front_text n (length items.named) (length items.unique)
-    ++ (items_text (all_items items) ++ end_text)
+pub text-behind : (n : ℕ) (items : Items) → dump_text n items
+    ≡ front_text n (length items.named) (length items.unique) ++ (items_text (all_items items) ++ end_text)
 text-behind n items = ap (λ l. front_text n (length items.named) (length items.unique) ++ l) (all-text items)
 
 -- ---- nothing is free

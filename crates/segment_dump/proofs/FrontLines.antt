@@ -3,8 +3,7 @@ use Rattle.segment_dump.proofs.Common.{◌≡◌, ℕ, ◌<◌, ◌^◌, List, [
 use Rattle.segment_dump.proofs.Common.{append_assoc, codes, decimal, drop, number_text, Front, IsFront, fronted}
 use Rattle.segment_dump.proofs.Common.{entries_text, Any, Breaks, ParsesPrefix, itself, front_text}
 use Rattle.segment_dump.specs.Leads.{AreEntryCounts}
-use Rattle.segment_dump.proofs.ItemLines.{ends-line}
-use Rattle.segment_dump.proofs.Found.{none-some, some-pair}
+use Rattle.segment_dump.proofs.{ItemLines.ends-line, Found.none-some, Found.some-pair}
 
 abbrev pub before_size : List ℕ
 before_size = codes "segment dump 1" ++ 0x0A ∷ codes "size "
@@ -14,9 +13,6 @@ before_entries = 0x0A ∷ codes "indexes "
 
 front-apart : (s i p q l x : List ℕ) → s ++ i ++ p ++ q ++ l ++ x ≡ s ++ (i ++ (p ++ q ++ l ++ x))
 front-apart s i p q l x = simp append_assoc
-
-entries-apart : (p q x : List ℕ) → p ++ 0x20 ∷ (q ++ 0x0A ∷ x) ≡ (p ++ 0x20 ∷ q ++ 0x0A ∷ []) ++ x
-entries-apart p q x = simp append_assoc
 
 front-behind : (text x : List ℕ) (s n u : ℕ) (a : List ℕ) → text ≡ before_size ++ x → text ≡ front_text s n u ++ a
     → x ≡ number_text s ++ (before_entries ++ (entries_text (n, u) ++ a))
@@ -48,9 +44,8 @@ pub front-none : (text : List ℕ) → ((y : List ℕ) → text ≡ before_size 
 front-none text n = record { reads = λ f a g w k. absurd (n (drop 20 (fronted f ++ a)) k) }
 
 front-entries : (text x : List ℕ) (n : ℕ) (rest y : List ℕ) (o : Option ((ℕ × ℕ) × List ℕ)) (f : Front) (a : List ℕ)
-    → text ≡ before_size ++ x → NumberReads x (Some (n, rest)) → rest ≡ before_entries ++ y → EntriesRead y o
-    → IsFront f
-    → text ≡ fronted f ++ a → (n ≡ f.size) × (o ≡ Some ((f.named, f.unique), a))
+    → text ≡ before_size ++ x → NumberReads x (Some (n, rest)) → rest ≡ before_entries ++ y
+    → EntriesRead y o → IsFront f → text ≡ fronted f ++ a → (n ≡ f.size) × (o ≡ Some ((f.named, f.unique), a))
 front-entries text x n rest y o f a e h z k g w =
     let r = some-pair n f.size rest (before_entries ++ (entries_text (f.named, f.unique) ++ a))
     (number-front text x (Some (n, rest)) f a e h g w) in
@@ -63,9 +58,8 @@ front-no_entries text x n rest y e h z k = record {
       (front-entries text x n rest y None f a e h z k g m).1);
 }
 
-pub front-some : (text x : List ℕ) (n : ℕ) (rest y : List ℕ) (named unique : ℕ) (last : List ℕ)
-    → text ≡ before_size ++ x → NumberReads x (Some (n, rest)) → rest ≡ before_entries ++ y
-    → EntriesRead y (Some ((named, unique), last))
+pub front-some : (text x : List ℕ) (n : ℕ) (rest y : List ℕ) (named unique : ℕ) (last : List ℕ) → text ≡ before_size
+    ++ x → NumberReads x (Some (n, rest)) → rest ≡ before_entries ++ y → EntriesRead y (Some ((named, unique), last))
     → FrontReads text (Some (record { size = n; named = named; unique = unique }, last))
 front-some text x n rest y named unique last e h z k = record {
   reads = λ f a g w m.
@@ -74,16 +68,8 @@ front-some text x n rest y named unique last e h z k = record {
       λ i. Some (record { size = r.0 i; named = (s.0 i).0; unique = (s.0 i).1 }, s.1 i);
 }
 
--- what was read is what the text begins with
-pub entries-whole : (text : List ℕ) (n u : ℕ) (r0 r1 r2 r3 : List ℕ) → text ≡ number_text n ++ r0 → r0 ≡ 0x20 ∷ r1
-    → r1 ≡ number_text u ++ r2 → r2 ≡ 0x0A ∷ r3 → text ≡ entries_text (n, u) ++ r3
-entries-whole text n u r0 r1 r2 r3 e f g h =
-    e ∙ ap (λ l. number_text n ++ l) (f ∙ ap (λ l. 0x20 ∷ l) (g ∙ ap (λ l. number_text u ++ l) h))
-    ∙ entries-apart (number_text n) (number_text u) r3
-
-pub front-whole : (text x : List ℕ) (n : ℕ) (rest y : List ℕ) (named unique : ℕ) (last : List ℕ)
-    → text ≡ before_size ++ x → x ≡ number_text n ++ rest → rest ≡ before_entries ++ y
-    → y ≡ entries_text (named, unique) ++ last
+pub front-whole : (text x : List ℕ) (n : ℕ) (rest y : List ℕ) (named unique : ℕ) (last : List ℕ) → text ≡ before_size
+    ++ x → x ≡ number_text n ++ rest → rest ≡ before_entries ++ y → y ≡ entries_text (named, unique) ++ last
     → text ≡ fronted (record { size = n; named = named; unique = unique }) ++ last
 front-whole text x n rest y named unique last e f g h =
     let apart =

@@ -1,12 +1,9 @@
 -- Which of the first lines of a dump is wrong.
-use Rattle.segment_dump.proofs.Common.{◌≡◌, ◌≢◌, ℕ, List, [], ◌∷◌, ◌++◌, Option, Some, None, sym, ap, ◌∙◌}
-use Rattle.segment_dump.proofs.Common.{append_assoc, codes, decimal, drop, length, number_text, Skips, seen_rest}
-use Rattle.std.specs.Borrow.{Bor}
-use Rattle.std.specs.Prelude.{MatchOption}
+use Rattle.segment_dump.proofs.Common.{◌≡◌, ◌≢◌, ℕ, List, [], ◌∷◌, ◌++◌, Option, Some, None, sym, ap, ◌∙◌, append_assoc}
+use Rattle.segment_dump.proofs.Common.{codes, decimal, drop, length, number_text, Skips, seen_rest}
+use Rattle.std.specs.{Borrow.Bor, Prelude.MatchOption}
 use Rattle.segment_dump.specs.Succeeding.{IsNumber, LeavesThird, size_said}
-use Rattle.segment_dump.proofs.FrontLines.{NumberReads}
-use Rattle.segment_dump.proofs.ItemLines.{ends-line}
-use Rattle.segment_dump.proofs.Found.{none-some, some-pair}
+use Rattle.segment_dump.proofs.{FrontLines.NumberReads, ItemLines.ends-line, Found.none-some, Found.some-pair}
 
 size-behind : (text x : List ℕ) (n : ℕ) (a : List ℕ) → text ≡ codes "size " ++ x → text ≡ size_said n ++ a
     → x ≡ number_text n ++ 0x0A ∷ a

@@ -6,8 +6,7 @@ use Rattle.segment_dump.proofs.Common.{IsShortLine, ReadsEnd, ReadsLine, ReadsTh
 use Rattle.segment_dump.specs.Succeeding.{AreNumbers, IsNumber, ReadsLead, entries_line, entries_said, size_line}
 use Rattle.segment_dump.specs.Succeeding.{size_said, version_line, version_said}
 use Rattle.segment_dump.proofs.ContentLines.{no_end-both, word-no_end, no_end-test}
-use Rattle.segment_dump.proofs.Found.{never-ok, ok-same}
-use Rattle.segment_dump.proofs.LineTexts.{decimal-short}
+use Rattle.segment_dump.proofs.{Found.never-ok, Found.ok-same, LineTexts.decimal-short}
 use Rattle.segment_dump.proofs.Words.{decimal-word, bare-test}
 use Rattle.segment_dump.proofs.NextWords.{bare-long, blank-next, decimal-number, number-next}
 
@@ -213,16 +212,14 @@ module _ {E : Type 0} (law : NumbersAreDecimals) (text left : List ℕ) where
 
   entries-unique : (words mid last : List ℕ) (n : ℕ) (r : Result ℕ E) → EntriesLead (Ok words)
       → ReadsWord {E = E} number words mid (Ok n) → ReadsWord number mid last r → (p : ℕ × ℕ) (a : List ℕ)
-      → AreNumbers p → text ≡ entries_said p ++ a
-      → (n ≡ p.0) × (r ≡ Ok p.1) × (last ≡ []) × (left ≡ a)
+      → AreNumbers p → text ≡ entries_said p ++ a → (n ≡ p.0) × (r ≡ Ok p.1) × (last ≡ []) × (left ≡ a)
   entries-unique words mid last n r h f g p a l t =
       let q = entries-named words mid (Ok n) h f p a l t in
       let u = g.reads (Bare (decimal p.1)) [] p.1 (ap next_word q.1 ∙ number-there p.1) (decimal-number law p.1 l.1) in
       (ok-same {E = E} n p.0 q.0, u.0, u.1, q.2)
 
-  pub entries-no_unique : (words mid last : List ℕ) (n : ℕ) (e : E) (result : Result (ℕ × ℕ) E)
-      → EntriesLead (Ok words) → ReadsWord {E = E} number words mid (Ok n) → ReadsWord number mid last (Err e)
-      → Entries result
+  pub entries-no_unique : (words mid last : List ℕ) (n : ℕ) (e : E) (result : Result (ℕ × ℕ) E) → EntriesLead (Ok words)
+      → ReadsWord {E = E} number words mid (Ok n) → ReadsWord number mid last (Err e) → Entries result
   entries-no_unique words mid last n e result h f g =
       record { takes = λ p a l t. absurd (never-ok e p.1 (entries-unique words mid last n (Err e) h f g p a l t).1) }
 

@@ -1,22 +1,18 @@
 -- The line of an object is read.
+use Rattle.segment_lang.specs.declared.words.Word.TheVariants as held
 use Rattle.segment_dump.proofs.Common.{◌≡◌, ◌≢◌, ℕ, ◌^◌, ◌<◌, true, List, [], ◌∷◌, ◌++◌, get_or, Option, Some, None}
 use Rattle.segment_dump.proofs.Common.{Result, Ok, Err, if◌then◌else◌, refl, sym, ap, subst, ◌∙◌, arith, append-nil}
 use Rattle.segment_dump.proofs.Common.{append_assoc, codes, decimal, current, Class, Anonymous, Named, Unique, Kind}
 use Rattle.segment_dump.proofs.Common.{Key, ByName, is_name, kind_text, name_text, whole, NumbersAreDecimals}
 use Rattle.segment_dump.proofs.Common.{TextsAreSpelled, kind_of_word, number, bytes_said, word_of, next_word, Word}
 use Rattle.segment_dump.proofs.Common.{Bare, SegmentState, ObjectLine, ReadsShape, StartsNext, StartsUnder, class_words}
-use Rattle.segment_dump.proofs.Common.{key_in}
-use Rattle.segment_dump.proofs.Common.{measure_words, IsNameIn, DumpItem, count_of_content, kind_of_content, IsWordOf}
-use Rattle.segment_dump.proofs.Common.{ReadsEnd, ReadsWord, any_word, bare_word, text}
+use Rattle.segment_dump.proofs.Common.{key_in, measure_words, IsNameIn, DumpItem, count_of_content, kind_of_content}
+use Rattle.segment_dump.proofs.Common.{IsWordOf, ReadsEnd, ReadsWord, any_word, bare_word, text}
 use Rattle.seg_types.specs.Texts.{class_text}
 use Rattle.segment_lang.specs.declared.words.Word.{Word as Held}
-use Rattle.segment_dump.specs.Builders.{ReadsClass, StartsNamed}
-use Rattle.segment_dump.specs.Lines.{bare}
-use Rattle.segment_dump.proofs.Found.{never-ok, ok-same}
-use Rattle.segment_dump.proofs.KindWords.{kind-named}
+use Rattle.segment_dump.specs.{Builders.ReadsClass, Builders.StartsNamed, Lines.bare}
+use Rattle.segment_dump.proofs.{Found.never-ok, Found.ok-same, KindWords.kind-named, Words.bare-test}
 use Rattle.segment_dump.proofs.NextWords.{bare-long, blank-next, decimal-number, kind-next, name-next, number-next}
-use Rattle.segment_dump.proofs.Words.{bare-test}
-use Rattle.segment_lang.specs.declared.words.Word.TheVariants as held
 
 -- ---- kind and count
 
@@ -39,8 +35,7 @@ module _ {E : Type 0} (law : NumbersAreDecimals) (words : List ℕ) where
 
   count-read : (left last : List ℕ) (k : Kind) (r : Result ℕ E)
       → ReadsWord {E = E} (kind_of_word (whole current)) words left (Ok k) → ReadsWord number left last r
-      → (kind : Kind) (n : ℕ) → n < 2 ^ 64 → words ≡ 0x20 ∷ measure_words kind n
-      → (k ≡ kind) × (r ≡ Ok n) × (last ≡ [])
+      → (kind : Kind) (n : ℕ) → n < 2 ^ 64 → words ≡ 0x20 ∷ measure_words kind n → (k ≡ kind) × (r ≡ Ok n) × (last ≡ [])
   count-read left last k r h f kind n c t =
       let q = h.reads (Bare (kind_text kind)) (0x20 ∷ decimal n) kind (ap next_word t
       ∙ kind-there kind n) (kind-named kind) in
@@ -63,8 +58,7 @@ module _ {E : Type 0} (law : NumbersAreDecimals) (words : List ℕ) where
       }
 
   pub shape-some : (left last : List ℕ) (k : Kind) (m at : ℕ)
-      → ReadsWord {E = E} (kind_of_word (whole current)) words left (Ok k)
-      → ReadsWord {E = E} number left last (Ok m)
+      → ReadsWord {E = E} (kind_of_word (whole current)) words left (Ok k) → ReadsWord {E = E} number left last (Ok m)
       → ReadsShape {E = E} words (Ok (record { kind = k; count = m; at = at }))
   shape-some left last k m at h f = record {
     reads = λ kind n c t.
@@ -133,9 +127,8 @@ class-next Unique name m = bare-long (codes "unique") (behind_class Unique name 
 class-next Anonymous name m = bare-long (codes "anonymous") (behind_class Anonymous name m) (omega arith)
     (bare-test (codes "anonymous") refl) refl
 
-class-there : (i : DumpItem) (words : List ℕ)
-    → words ≡ class_words i.class i.name ++ measure_words (kind_of_content i.content) (count_of_content i.content)
-    → next_word words ≡ Some (
+class-there : (i : DumpItem) (words : List ℕ) → words ≡ class_words i.class i.name
+    ++ measure_words (kind_of_content i.content) (count_of_content i.content) → next_word words ≡ Some (
       Bare (class_text i.class),
       behind_class i.class i.name (measure_words (kind_of_content i.content) (count_of_content i.content)),
     )
@@ -198,9 +191,8 @@ name-there o bytes name e f g =
     e ∙ ap (λ l. if is_name current l then Some l else None) f ∙ ap (λ b. if b then Some name else None) g
 
 module _ {E : Type 0} (law : TextsAreSpelled) (words left : List ℕ) where
-  said : (w : Held) → ReadsWord {E = E} any_word words left (Ok (word_of w)) → (i : DumpItem)
-      → IsNameIn i.class i.name → i.class ≡ Named
-      → words ≡ 0x20 ∷ (name_text i.name
+  said : (w : Held) → ReadsWord {E = E} any_word words left (Ok (word_of w))
+      → (i : DumpItem) → IsNameIn i.class i.name → i.class ≡ Named → words ≡ 0x20 ∷ (name_text i.name
       ++ 0x20 ∷ measure_words (kind_of_content i.content) (count_of_content i.content)) → Said left i (bytes_said w)
   said w h i g c t =
       let m = measure_words (kind_of_content i.content) (count_of_content i.content) in

@@ -5,12 +5,9 @@ use Rattle.segment_dump.proofs.Common.{Anonymous, Named, Unique, Kind, ScalarKin
 use Rattle.segment_dump.proofs.Common.{value_text, ValueContent, Scalars, Vector, String, Map, Strings, DumpItem}
 use Rattle.segment_dump.proofs.Common.{count_of_content, kind_of_content, content_text, element_line, head_line}
 use Rattle.segment_dump.proofs.Common.{item_text, measure_text, pair_line, text_lines, IsByteList, IsBuildableContent}
-use Rattle.segment_dump.proofs.Common.{IsNameIn, IsTypedPair}
+use Rattle.segment_dump.proofs.{Common.IsNameIn, Common.IsTypedPair, Quotes.Any, Quotes.names-read}
+use Rattle.segment_dump.proofs.{TextPieces.texts-read, Words.decimal-word, Words.values-read, KindWords.kinds-read}
 use Rattle.segment_dump.proofs.Codes.{Breaks, IsRow, Stops, heads, row-reads, tails, words-read}
-use Rattle.segment_dump.proofs.Quotes.{Any, names-read}
-use Rattle.segment_dump.proofs.TextPieces.{texts-read}
-use Rattle.segment_dump.proofs.Words.{decimal-word, values-read}
-use Rattle.segment_dump.proofs.KindWords.{kinds-read}
 
 -- ---- what a text begins with
 
@@ -108,15 +105,13 @@ maps-read k l v w ps qs a b h i p q f g e =
     (line-stops a f) (line-stops b g)
     (ap (λ k. flat_map (pair_line k w) ps ++ a) (sym h) ∙ ap (λ v. flat_map (pair_line k v) ps ++ a) (sym i) ∙ e)
 
-strings-read : (ss ts : List (List ℕ)) (a b : List ℕ) → AllByRecursion IsText ss → AllByRecursion IsText ts → IsNoLine a
-    → IsNoLine b
-    → flat_map text_lines ss ++ a ≡ flat_map text_lines ts ++ b → (ss ≡ ts) × (a ≡ b)
+strings-read : (ss ts : List (List ℕ)) (a b : List ℕ) → AllByRecursion IsText ss → AllByRecursion IsText ts
+    → IsNoLine a → IsNoLine b → flat_map text_lines ss ++ a ≡ flat_map text_lines ts ++ b → (ss ≡ ts) × (a ≡ b)
 strings-read ss ts a b p q f g e = row-reads text_lines IsText Any (IsFirst 0x20) texts-row ss ts a b p q
     (line-stops a f) (line-stops b g) e
 
-contents-read : (c d : ValueContent) (a b : List ℕ) → IsBuildableContent c → IsBuildableContent d
-    → kind_of_content c ≡ kind_of_content d → IsNoLine a → IsNoLine b
-    → content_text c ++ a ≡ content_text d ++ b → (c ≡ d) × (a ≡ b)
+contents-read : (c d : ValueContent) (a b : List ℕ) → IsBuildableContent c → IsBuildableContent d → kind_of_content c
+    ≡ kind_of_content d → IsNoLine a → IsNoLine b → content_text c ++ a ≡ content_text d ++ b → (c ≡ d) × (a ≡ b)
 contents-read (Scalars k ys) (Scalars l zs) a b p q h f g e =
     let same : k ≡ l = cc in let r = elements-read k l ys zs a b same p.2 q.2 f g e in
     (λ i. Scalars (same i) (r.0 i), r.1)
@@ -169,8 +164,7 @@ abbrev measure_in : ValueContent → List ℕ
 measure_in c = measure_text (kind_of_content c) (count_of_content c)
 
 bodies-read : (c d : ValueContent) (a b : List ℕ) → IsBuildableContent c → IsBuildableContent d → IsNoLine a
-    → IsNoLine b
-    → measure_in c ++ content_text c ++ a ≡ measure_in d ++ content_text d ++ b → (c ≡ d) × (a ≡ b)
+    → IsNoLine b → measure_in c ++ content_text c ++ a ≡ measure_in d ++ content_text d ++ b → (c ≡ d) × (a ≡ b)
 bodies-read c d a b p q f g e =
     let r = measures-read (kind_of_content c) (kind_of_content d) (count_of_content c) (count_of_content d)
     (content_text c ++ a) (content_text d ++ b)

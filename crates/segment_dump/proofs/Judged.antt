@@ -1,27 +1,21 @@
 -- The size that was asked for, and the objects that a text is the dump of.
+use Rattle.seg_types.specs.Commands as asked
 use Rattle.segment_dump.proofs.Common.{◌≡◌, ◌<◌, ◌^◌, ℕ, Bool, true, false, nat_eq, List, Option, None, Some, Result}
 use Rattle.segment_dump.proofs.Common.{Ok, Err, refl, sym, ap, subst, ◌∙◌, arith, ◌+◌, nat_lt, length, if◌then◌else◌}
-use Rattle.segment_dump.proofs.Common.{IfOk, MatchResult, not, OnTrue, AllByRecursion, eqb-true}
-use Rattle.segment_dump.proofs.Common.{ltb-true, is_legal_size, Class, Anonymous, Named, Unique, Number}
-use Rattle.segment_dump.proofs.Common.{CreateRefused, Directory, SegmentState, DenotesCurrent, step, Count, LoadError}
-use Rattle.segment_dump.proofs.Common.{BadSize, RegionTooSmall, NoSpace, LongText, LoadRefused, AreCountable}
-use Rattle.segment_dump.proofs.Common.{CountsDump, IsNameless, DumpItem, portable, items_needs, dump_text}
-use Rattle.segment_dump.proofs.Common.{IsRequestedSize, IsExact}
-use Rattle.segment_dump.proofs.Common.{IsLoaded, IsNotLoaded, IsRefusalOf, IsWrong, asked_of, cause_in, refusal_for}
+use Rattle.segment_dump.proofs.Common.{IfOk, MatchResult, not, OnTrue, AllByRecursion, eqb-true, ltb-true}
+use Rattle.segment_dump.proofs.Common.{is_legal_size, Class, Anonymous, Named, Unique, Number, Directory, SegmentState}
+use Rattle.segment_dump.proofs.Common.{DenotesCurrent, step, Count, LoadError, BadSize, RegionTooSmall, NoSpace}
+use Rattle.segment_dump.proofs.Common.{LongText, LoadRefused, AreCountable, CountsDump, IsNameless, DumpItem, portable}
+use Rattle.segment_dump.proofs.Common.{items_needs, dump_text, IsRequestedSize, IsExact, IsLoaded, IsNotLoaded}
+use Rattle.segment_dump.proofs.Common.{IsRefusalOf, IsWrong, asked_of, refusal_for}
 use Rattle.std.specs.Prelude.{IfSome}
-use Rattle.segment_manager.specs.Calls.{CreatesErr}
 use Rattle.segment_dump.specs.declared.faults.LoadError.TheVariants.{BadDump as Bad}
-use Rattle.segment_dump.specs.Comparing.{IsDumpOf}
+use Rattle.segment_dump.specs.{Comparing.IsDumpOf, Counting.IsCounted}
 use Rattle.segment_dump.specs.Loading.{HasLongText, HasNoSpace, HasObjectsOf, HasSize, IsBack, IsJudged, IsLetGo}
-use Rattle.segment_dump.specs.Counting.{IsCounted}
 use Rattle.segment_dump.specs.Loading.{IsLacking, LoadsUnlessLacking, IsLoadCause, cause_but_bad}
-use Rattle.segment_dump.proofs.Elements.{free-is, size-is}
-use Rattle.segment_dump.proofs.ItemLines.{IsGoodItem}
-use Rattle.segment_dump.proofs.ObjectRooms.{segments-have-room}
-use Rattle.segment_dump.proofs.Found.{none-some, same_Some, ok-same}
+use Rattle.segment_dump.proofs.{Lists.all-by, ItemLines.IsGoodItem, Elements.free-is, Elements.size-is}
+use Rattle.segment_dump.proofs.{ObjectRooms.segments-have-room, Found.none-some, Found.same_Some, Found.ok-same}
 use Rattle.segment_dump.proofs.Told.{dumps-tell-objects, portable-told, size-most}
-use Rattle.segment_dump.proofs.Lists.{all-by}
-use Rattle.seg_types.specs.Commands as asked
 
 module _ (s : SegmentState) (n m : ℕ) (says : (d : Directory) → DenotesCurrent s.cut.bytes d
     → Number n ≡ (step s.mode d asked.Size).0) where
@@ -85,15 +79,6 @@ pub judged : (text region : List ℕ) (base : ℕ) (size : Option ℕ) (room : �
 judged text region base size room (Ok s) h = loaded text size s h
 judged text region base size room (Err refused) h = let-go text region base size room refused h
 
--- no segment was created: the region is handed back
-pub not-created : (text region : List ℕ) (base : ℕ) (size : Option ℕ) (room n : ℕ) (refused : CreateRefused)
-    (said : LoadRefused) → CreatesErr region base n refused → said.region ≡ Some refused.region
-    → IsWrong text said.cause → IsNotLoaded text region base size room said
-not-created text region base size room n refused said h e w = record {
-  why = wrong-why text region base size room said.cause w;
-  back = subst (IsBack said.cause region) (sym (e ∙ ap Some h.region_same)) (back-some region said.cause);
-}
-
 -- ---- too little of something for the objects of a segment
 
 nameless-items : (c : Class) (is : List DumpItem) → AllByRecursion (IsGoodItem c) is → AllByRecursion IsNameless is
@@ -147,11 +132,9 @@ Lacks text region base size room count legal short full long cause =
 
 lacks-by : (text region : List ℕ) (base : ℕ) (size : Option ℕ) (room : ℕ) (count : Count)
     (legal short full long : Bool) (cause : LoadError) → CountsDump text (Ok count)
-    → is_legal_size (asked_of size count.size) ≡ legal
-    → nat_lt (length region) (base + asked_of size count.size) ≡ short
-    → nat_lt (asked_of size count.size) count.needs.room ≡ full → nat_lt room count.needs.longest ≡ long
-    → Lacks text region base size room count legal short full long cause
-    → IsLoadCause text region base size room cause
+    → is_legal_size (asked_of size count.size) ≡ legal → nat_lt (length region) (base + asked_of size count.size)
+    ≡ short → nat_lt (asked_of size count.size) count.needs.room ≡ full → nat_lt room count.needs.longest ≡ long
+    → Lacks text region base size room count legal short full long cause → IsLoadCause text region base size room cause
 lacks-by text region base size room count false short full long cause h e f g k l =
     subst (IsLoadCause text region base size room) (same_Some BadSize cause l)
     (asked_of size count.size, asked-is size count.size, e)
@@ -188,24 +171,6 @@ lacks text region base size room (Ok count) o cause h r e =
 lacks text region base size room (Err left) o cause h r e = absurd (none-some cause (sym r ∙ e))
 
 -- ---- exactly
-
--- the text is wrong: that is no other reason
-pub wrong-bad : (text : List ℕ) (cause : LoadError) → IsWrong text cause → cause_but_bad cause ≡ None
-wrong-bad text (Bad bad) h = refl
-wrong-bad text cause h = absurd h
-
-pub made-wrong : (text : List ℕ) (capacity base : ℕ) (size : Option ℕ) (room : ℕ) (counted : Result Count ℕ)
-    (cause : LoadError) → IsWrong text cause → LoadsUnlessLacking capacity base size room counted (cause_but_bad cause)
-made-wrong text capacity base size room (Ok count) cause h = λ e. wrong-bad text cause h
-made-wrong text capacity base size room (Err left) cause h = wrong-bad text cause h
-
-pub made-judged : (text : List ℕ) (capacity base : ℕ) (size : Option ℕ) (room : ℕ) (counted : Result Count ℕ)
-    (r : Result SegmentState LoadRefused) → MatchResult r (IsJudged text size) (IsLetGo text)
-    → LoadsUnlessLacking capacity base size room counted (cause_in r)
-made-judged text capacity base size room (Ok count) (Ok s) h = λ e. refl
-made-judged text capacity base size room (Ok count) (Err refused) h = λ e. wrong-bad text refused.cause h.why
-made-judged text capacity base size room (Err left) (Ok s) h = refl
-made-judged text capacity base size room (Err left) (Err refused) h = wrong-bad text refused.cause h.why
 
 -- a reason that is none of the text
 but-bad : (legal short full long : Bool) (cause : LoadError)
@@ -250,9 +215,8 @@ exact-made text capacity base size room counted cause h z m =
     record { exact = exact-counted text capacity base size room counted cause h z m }
 
 pub exact-refused : (text : List ℕ) (capacity base : ℕ) (size : Option ℕ) (room : ℕ) (counted : Result Count ℕ)
-    (o : Option LoadError) (cause : LoadError) → CountsDump text counted
-    → IsRefusalOf capacity base size room counted o → o ≡ Some cause
-    → IsExact text capacity base size room (cause_but_bad cause)
+    (o : Option LoadError) (cause : LoadError) → CountsDump text counted → IsRefusalOf capacity base size room counted o
+    → o ≡ Some cause → IsExact text capacity base size room (cause_but_bad cause)
 exact-refused text capacity base size room (Ok count) o cause h r e =
     exact-count text capacity base size room count cause h (sym r ∙ e)
 exact-refused text capacity base size room (Err left) o cause h r e = absurd (none-some cause (sym r ∙ e))
@@ -292,8 +256,7 @@ module _ (text : List ℕ) (capacity base : ℕ) (size : Option ℕ) (room : ℕ
 
   pub lacking-made : (counted : Result Count ℕ) (o cause : Option LoadError)
       → IsRefusalOf capacity base size room counted o → o ≡ None
-      → LoadsUnlessLacking capacity base size room counted cause
-      → IfSome cause (IsLacking text capacity base size room)
+      → LoadsUnlessLacking capacity base size room counted cause → IfSome cause (IsLacking text capacity base size room)
   lacking-made counted o cause r e m =
       let none = made-none counted cause (none-lacking capacity base size room counted o r e) m in
       subst (λ p. IfSome p (IsLacking text capacity base size room)) (sym none) tt

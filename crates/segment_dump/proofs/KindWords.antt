@@ -4,10 +4,8 @@ use Rattle.segment_dump.proofs.Common.{list_all, current, Kind, Scalar, ScalarKi
 use Rattle.segment_dump.proofs.Common.{scalar_text, whole, kind_named, is_bare}
 use Rattle.seg_types.specs.declared.kinds.Kind.TheVariants.{String, Vector, Map, Strings}
 use Rattle.seg_types.specs.declared.kinds.ScalarKind.TheVariants.{Bool as BoolKind}
-use Rattle.segment_dump.proofs.Codes.{IsWord, Breaks, words-read}
-use Rattle.segment_dump.proofs.Lists.{AllByRecursion-append}
-use Rattle.segment_dump.proofs.Words.{AreBare, bare-test, bare-word}
-use Rattle.segment_dump.proofs.Found.{same_Some}
+use Rattle.segment_dump.proofs.{Codes.IsWord, Codes.Breaks, Codes.words-read, Lists.AllByRecursion-append}
+use Rattle.segment_dump.proofs.{Words.AreBare, Words.bare-test, Words.bare-word, Found.same_Some}
 
 -- ---- words
 

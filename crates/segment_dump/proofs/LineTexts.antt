@@ -1,4 +1,5 @@
 -- The lines of a dump: none has an end in it, none is long, and each is read word by word.
+use Rattle.seg_types.specs.declared.kinds.Kind.TheVariants as kinds
 use Rattle.segment_dump.proofs.Common.{◌≡◌, ℕ, zero, suc, ◌+◌, ◌*◌, ◌/◌, ◌%◌, ◌≤◌, ◌==◌, ◌||◌, ℤ, pos, negsuc, Bool}
 use Rattle.segment_dump.proofs.Common.{true, false, nat_lt, List, [], ◌∷◌, ◌++◌, length, drop, if◌then◌else◌, sym, ap}
 use Rattle.segment_dump.proofs.Common.{arith, append_assoc, codes, decimal, flat_map, nat_abs, digit_glyph, digits}
@@ -6,13 +7,10 @@ use Rattle.segment_dump.proofs.Common.{digits_onto, signed_decimal, length-appen
 use Rattle.segment_dump.proofs.Common.{between, escape_text, is_bare_name, kind_text, name_text, quoted_text}
 use Rattle.segment_dump.proofs.Common.{scalar_text, value_text, measure_words, IsShortLine, HasNoEnd, ended}
 use Rattle.segment_dump.proofs.Common.{length_text, piece_lead, piece_line, piece_of}
-use Rattle.seg_types.specs.declared.kinds.ScalarKind.TheVariants.{Bool as BoolKind}
-use Rattle.seg_types.specs.Texts.{item_text}
+use Rattle.seg_types.specs.{declared.kinds.ScalarKind.TheVariants.Bool as BoolKind, Texts.item_text}
 use Rattle.segment_dump.proofs.ContentLines.{blanks-no_end, lead-no_end, no_end-both, pair_front, piece_front}
 use Rattle.segment_dump.proofs.ContentLines.{quoted-no_end, word-no_end}
-use Rattle.segment_dump.proofs.KindWords.{kind-word}
-use Rattle.segment_dump.proofs.Words.{decimal-word, value-word}
-use Rattle.seg_types.specs.declared.kinds.Kind.TheVariants as kinds
+use Rattle.segment_dump.proofs.{KindWords.kind-word, Words.decimal-word, Words.value-word}
 
 -- ---- how long
 

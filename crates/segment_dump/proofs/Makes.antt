@@ -1,29 +1,23 @@
 -- An object of a line is made, with nothing in it.
-use Rattle.segment_dump.proofs.Common.{◌≡◌, inl, ℕ, ◌+◌, ◌*◌, ◌^◌, ◌<◌, pos, List, length, replicate, Result, Ok, Err}
-use Rattle.segment_dump.proofs.Common.{refl, sym, ap, subst, ◌∙◌, arith, Class, Anonymous, Named, Unique, Kind}
-use Rattle.segment_dump.proofs.Common.{Refusal, size_of, Key, node_len, Made, Directory, object_len, padded, value_len}
-use Rattle.segment_dump.proofs.Common.{head_len, bare, class_of, name_of, TakesStep, SegmentState, ObjectLine}
-use Rattle.segment_dump.proofs.Common.{HasIndexSlot, CanBuildItem}
-use Rattle.segment_dump.proofs.Common.{ReadsShape, StartsUnder, content_need, first_content, HasBuiltItems, IsFilling}
-use Rattle.segment_dump.proofs.Common.{Site}
-use Rattle.segment_dump.proofs.Common.{item_key, key_in, IsBuildableContent, IsNameIn, StandsFilling, ValueContent}
-use Rattle.segment_dump.proofs.Common.{DumpItem}
-use Rattle.segment_dump.proofs.Common.{Map, Scalars, String, Strings, Vector, count_of_content, kind_of_content}
-use Rattle.segment_dump.proofs.Common.{block_room, body_len, elements_room, item_needs, object_room, texts_needs}
-use Rattle.segment_dump.proofs.Common.{all_needs, Write, step}
-use Rattle.std.proofs.lemmas.List.{length-replicate}
-use Rattle.segment_manager.specs.State.{handle_answer}
-use Rattle.segment_dump.specs.Builders.{IsCountOf}
-use Rattle.segment_dump.specs.Building.{IsRest}
-use Rattle.segment_dump.proofs.Builds.{HasEntry, IsPlain, made, map-plain, numbers-plain, string-plain, texts-plain}
-use Rattle.segment_dump.proofs.Builds.{vector-plain}
-use Rattle.segment_dump.proofs.Found.{never-ok, ok-same}
-use Rattle.segment_dump.proofs.Fillings.{led, times-rest, texts-rest}
-use Rattle.segment_dump.proofs.Orders.{named-len, new-none, unique-len}
-use Rattle.segment_dump.proofs.Spaces.{block-rest, rest-both, needs-rest}
-use Rattle.segment_dump.proofs.Fills.{StepsTo}
 use Rattle.seg_types.specs.declared.kinds.Kind.TheVariants as kinds
 use Rattle.seg_types.specs.Commands as asked
+use Rattle.segment_dump.proofs.Common.{◌≡◌, inl, ℕ, ◌+◌, ◌*◌, ◌^◌, ◌<◌, pos, List, length, replicate, Result, Ok, Err}
+use Rattle.segment_dump.proofs.Common.{refl, sym, ap, subst, ◌∙◌, arith, Class, Anonymous, Named, Unique, Kind, Refusal}
+use Rattle.segment_dump.proofs.Common.{size_of, Key, node_len, Made, Directory, object_len, padded, value_len, head_len}
+use Rattle.segment_dump.proofs.Common.{bare, class_of, name_of, TakesStep, SegmentState, ObjectLine, HasIndexSlot}
+use Rattle.segment_dump.proofs.Common.{CanBuildItem, ReadsShape, StartsUnder, content_need, first_content}
+use Rattle.segment_dump.proofs.Common.{HasBuiltItems, IsFilling, Site, item_key, key_in, IsBuildableContent, IsNameIn}
+use Rattle.segment_dump.proofs.Common.{StandsFilling, ValueContent, DumpItem, Map, Scalars, String, Strings, Vector}
+use Rattle.segment_dump.proofs.Common.{count_of_content, kind_of_content, block_room, body_len, elements_room}
+use Rattle.segment_dump.proofs.Common.{item_needs, object_room, texts_needs, all_needs, Write, step}
+use Rattle.std.proofs.lemmas.List.{length-replicate}
+use Rattle.segment_manager.specs.State.{handle_answer}
+use Rattle.segment_dump.specs.{Builders.IsCountOf, Building.IsRest}
+use Rattle.segment_dump.proofs.Builds.{HasEntry, IsPlain, made, map-plain, numbers-plain, string-plain, texts-plain}
+use Rattle.segment_dump.proofs.{Builds.vector-plain, Found.never-ok, Found.ok-same, Fills.StepsTo}
+use Rattle.segment_dump.proofs.Fillings.{led, times-rest, texts-rest, stands-filling}
+use Rattle.segment_dump.proofs.Orders.{named-len, new-none, unique-len}
+use Rattle.segment_dump.proofs.Spaces.{block-rest, rest-both, needs-rest}
 
 -- ---- the key of an item
 
@@ -77,9 +71,8 @@ count-good (Map k v ps) h = (tt, h.0)
 count-good (Strings ts) h = (tt, h.0)
 
 -- the bytes of its own block, and those of its elements
-needs-apart : (i : DumpItem) (name : List ℕ) → name ≡ i.name
-    → (item_needs i).room ≡ block_room
-    (object_len name (bare (first_content (kind_of_content i.content) (count_of_content i.content))))
+needs-apart : (i : DumpItem) (name : List ℕ) → name ≡ i.name → (item_needs i).room
+    ≡ block_room (object_len name (bare (first_content (kind_of_content i.content) (count_of_content i.content))))
     + content_need i.content
 unfolding object_room
 needs-apart i name e =
@@ -95,8 +88,7 @@ item-rest i =
     let n = count_of_content i.content in
     let content = first_content kind n in
     let own : ℕ = object_len i.name (bare content) in
-    subst IsRest (sym (needs-apart i i.name refl))
-    (rest-both (block_room own) (content_need i.content) (block-rest own)
+    subst IsRest (sym (needs-apart i i.name refl)) (rest-both (block_room own) (content_need i.content) (block-rest own)
     (rest-both (elements_room kind n) (texts_needs i.content).room (elements-rest kind n) (content-rest i.content)))
 
 pub items-rest : (is : List DumpItem) → IsRest (all_needs item_needs is).room
@@ -157,15 +149,10 @@ new-object old new site done i more room called next moved =
     record {
       handle = m.handle;
       is = made-handle called m.handle u.given_is;
-      stands = record {
-        directory = u.directory;
-        stands = u.stands;
-        mode = u.mode;
-        filling = subst (λ l. IsFilling u.directory site done (record { class = i.class; name = l; handle = m.handle })
-            (bare content) rest) name
-            (subst (λ c. IsFilling u.directory site done (record { class = c; name = name_of key; handle = m.handle })
-            (bare content) rest) class u.holds);
-      };
+      stands = subst (λ l. StandsFilling new site done (record { class = i.class; name = l; handle = m.handle })
+          (bare content) rest) name
+          (subst (λ c. StandsFilling new site done (record { class = c; name = name_of key; handle = m.handle })
+          (bare content) rest) class (stands-filling u.stands u.mode u.holds));
     }
 
 -- ---- behind its kind and its count
@@ -185,11 +172,10 @@ module _ {E F : Type 0} (old new : SegmentState) (key : Kind → Key) (words : L
   }
 
   pub started : (shape : ObjectLine) (called : Result ℕ Refusal) (result : Result (ℕ × ObjectLine) F)
-      → ReadsShape {E = E} words (Ok shape)
-      → (IsCountOf shape.kind shape.count
+      → ReadsShape {E = E} words (Ok shape) → (IsCountOf shape.kind shape.count
       → TakesStep old new (asked.Construct (key shape.kind) (first_content shape.kind shape.count))
-      (handle_answer called)) → ((h : ℕ) → called ≡ Ok h → result ≡ Ok (h, shape))
-      → StartsUnder old new key words result
+      (handle_answer called))
+      → ((h : ℕ) → called ≡ Ok h → result ≡ Ok (h, shape)) → StartsUnder old new key words result
   started shape called result r moved ok = record {
     starts = λ site done i more room next k w.
         let kind = kind_of_content i.content in

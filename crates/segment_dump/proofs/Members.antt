@@ -4,12 +4,10 @@ use Rattle.segment_dump.proofs.Common.{[], ◌∷◌, cond, arith, IsTrue, filte
 use Rattle.segment_dump.proofs.Common.{and_parts, eq-eqb, leb-true, ne_eqb, handle, Class, Named, Unique, ByHandle}
 use Rattle.segment_dump.proofs.Common.{Instance, Object, Directory, by_kind, by_name, has_key, is_class, named_objects}
 use Rattle.segment_dump.proofs.Common.{object_at, rises_from, unique_objects, SaysAt, SaysOf, SegmentState}
-use Rattle.segment_dump.proofs.Common.{DenotesCurrent}
-use Rattle.segment_dump.proofs.Common.{all-ordered, part_of}
+use Rattle.segment_dump.proofs.Common.{DenotesCurrent, all-ordered, part_of}
 use Rattle.std.proofs.lemmas.Option.{same_Some}
 use Rattle.segment_manager.specs.objects.Instances.{IsInstance}
-use Rattle.segment_dump.proofs.Lists.{all-kept}
-use Rattle.segment_dump.proofs.Found.{none-some}
+use Rattle.segment_dump.proofs.{Lists.all-kept, Found.none-some}
 
 -- ---- a list that rises by offset has each handle once
 

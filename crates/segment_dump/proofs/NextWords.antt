@@ -1,4 +1,5 @@
 -- The next word of a line is what was written there.
+use Rattle.seg_types.specs.Commands as asked
 use Rattle.segment_dump.proofs.Common.{◌≡◌, ◌⊎◌, inl, inr, ℕ, ◌+◌, ◌-◌, ◌*◌, ◌/◌, ◌%◌, ◌^◌, ◌<◌, ◌≤◌, ℤ, pos, Bool}
 use Rattle.segment_dump.proofs.Common.{true, false, ◌&&◌, ◌||◌, ◌==◌, not, List, [], ◌∷◌, ◌++◌, length, if◌then◌else◌}
 use Rattle.segment_dump.proofs.Common.{Option, Some, None, refl, sym, ap, subst, ◌∙◌, arith, append_assoc, drop, take}
@@ -9,21 +10,14 @@ use Rattle.segment_dump.proofs.Common.{is_value, between, digit_text, escape_tex
 use Rattle.segment_dump.proofs.Common.{is_name_byte, kind_text, name_text, quoted_text, value_text, IsWordOf, text}
 use Rattle.segment_dump.proofs.Common.{NumbersAreDecimals, TextsAreSpelled, WholesAreDecimals, Word, Bare, Text}
 use Rattle.segment_dump.proofs.Common.{is_bare, number_of, next_word}
-use Rattle.std.specs.Prelude.{option_and_then}
-use Rattle.std.specs.Result.{result_ok}
-use Rattle.std.specs.List.{prefix_len}
-use Rattle.seg_types.specs.declared.kinds.ScalarKind.TheVariants.{Bool as BoolKind}
-use Rattle.seg_types.specs.Texts.{item_text}
+use Rattle.std.specs.{Prelude.option_and_then, Result.result_ok, List.prefix_len}
+use Rattle.seg_types.specs.{declared.kinds.ScalarKind.TheVariants.Bool as BoolKind, Texts.item_text}
 use Rattle.segment_dump.specs.Lines.{bare}
-use Rattle.segment_lang.specs.Laws.{IsItem, Spells}
+use Rattle.segment_lang.specs.{Laws.IsItem, Laws.Spells, Reading.skip_blanks, Reading.value_for}
 use Rattle.segment_lang.specs.Words.{byte_of_digits, digit_of, is, is_blank, is_plain, literal_of_word, whole_of}
-use Rattle.segment_lang.specs.Reading.{skip_blanks, value_for}
 use Rattle.segment_lang.specs.Tokens.{bare_at, behind_word, ends_word, text_at, up_to_blank, word_at}
 use Rattle.segment_dump.proofs.Words.{decimal-some, AreBare, IsWhole, bool-near, decimal-bare, in-range, value-bare}
-use Rattle.segment_dump.proofs.Lists.{all-tested}
-use Rattle.segment_dump.proofs.KindWords.{kind-bare, kind-long}
-use Rattle.segment_dump.proofs.Found.{none-some}
-use Rattle.seg_types.specs.Commands as asked
+use Rattle.segment_dump.proofs.{Lists.all-tested, KindWords.kind-bare, KindWords.kind-long, Found.none-some}
 
 -- ---- a bare word
 
@@ -70,11 +64,9 @@ unfolding next_word word_at
 bare-next c w a h e =
     let skip : skip_blanks ((c ∷ w) ++ a) ≡ (c ∷ w) ++ a =
     ap (λ b. if b then skip_blanks (w ++ a) else c ∷ (w ++ a)) (bare-no_blank c h.0) in
-    ap word_at skip
-    ∙ ap (λ b. if b then option_map (λ (bs, rest).
+    ap word_at skip ∙ ap (λ b. if b then option_map (λ (bs, rest).
     (Text bs, rest)) (text_at (w ++ a)) else option_map (λ (bs, rest). (Bare bs, rest)) (bare_at (c ∷ (w ++ a))))
-    (bare-no_quote c h.0)
-    ∙ ap (option_map (λ (bs, rest). (Bare bs, rest))) (bare-here (c ∷ w) a h e)
+    (bare-no_quote c h.0) ∙ ap (option_map (λ (bs, rest). (Bare bs, rest))) (bare-here (c ∷ w) a h e)
 
 pub bare-long : (w a : List ℕ) → 0 < length w → AreBare w → ends_word a ≡ true → next_word (w ++ a) ≡ Some (Bare w, a)
 bare-long [] a l h e = absurd (omega arith)
@@ -230,9 +222,8 @@ name-byte-bare c e = grind (arith, nat_tests)
 letter-bare : (c : ℕ) → (is_letter c || (c == 0x5F)) ≡ true → is_bare c ≡ true
 letter-bare c e = grind (arith, nat_tests)
 
-name-by : TextsAreSpelled → (name a : List ℕ) (b : Bool) → is_bare_name name ≡ b
-    → AllByRecursion (λ b. b < 256) name → ends_word a ≡ true
-    → NamesWord name ((if b then name else quoted_text name) ++ a) a
+name-by : TextsAreSpelled → (name a : List ℕ) (b : Bool) → is_bare_name name ≡ b → AllByRecursion (λ b. b < 256) name
+    → ends_word a ≡ true → NamesWord name ((if b then name else quoted_text name) ++ a) a
 name-by law [] a true f h e = absurd (cc)
 name-by law (c ∷ cs) a true f h e =
     let p = and_parts (is_letter c || (c == 0x5F)) (list_all is_name_byte cs) f in

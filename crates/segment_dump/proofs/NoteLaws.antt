@@ -4,19 +4,16 @@ use Rattle.segment_dump.proofs.Common.{length, refl, sym, ap, subst, ◌∙◌, 
 use Rattle.segment_dump.proofs.Common.{AllByRecursion, flat_map, ne_eqb, Class, Anonymous, Named, Unique, Kind}
 use Rattle.segment_dump.proofs.Common.{kind_text, name_text, quoted_text, value_text, class_words, Capacity, Holds}
 use Rattle.segment_dump.proofs.Common.{Kinds, Names, capacities, capacities_text, ValueContent, DumpItem, Items, Map}
-use Rattle.segment_dump.proofs.Common.{Scalars}
-use Rattle.segment_dump.proofs.Common.{String, Strings, Vector, count_of_content, kind_of_content, portable, are_notes}
-use Rattle.segment_dump.proofs.Common.{before_notes, ends_line, without_notes, parts_until, HasNoEnd, ended, lines_text}
-use Rattle.segment_dump.proofs.Common.{content_text, dump_text, element_line, end_text, front_text, head_line}
-use Rattle.segment_dump.proofs.Common.{item_text, items_text, length_text, pair_line, piece_lead, piece_line, piece_of}
-use Rattle.segment_dump.proofs.Common.{pieces_in, pieces_text, text_lines}
+use Rattle.segment_dump.proofs.Common.{Scalars, String, Strings, Vector, count_of_content, kind_of_content, portable}
+use Rattle.segment_dump.proofs.Common.{are_notes, before_notes, ends_line, without_notes, parts_until, HasNoEnd, ended}
+use Rattle.segment_dump.proofs.Common.{lines_text, content_text, dump_text, element_line, end_text, front_text}
+use Rattle.segment_dump.proofs.Common.{head_line, item_text, items_text, length_text, pair_line, piece_lead, piece_line}
+use Rattle.segment_dump.proofs.Common.{piece_of, pieces_in, pieces_text, text_lines}
 use Rattle.segment_dump.specs.Capacities.{CapacityHolder, capacity_words, holder_text}
 use Rattle.segment_dump.specs.Laws.{CapacitiesAreLeftOut, DumpsHaveNoNotes, IsNote, NotesAreCut, NotesAreLeftOut}
-use Rattle.segment_dump.proofs.BuildLines.{class-no_end}
+use Rattle.segment_dump.proofs.{BuildLines.class-no_end, KindWords.kind-word, Words.decimal-word}
 use Rattle.segment_dump.proofs.ContentLines.{no_end-both, word-no_end, no_end-test}
-use Rattle.segment_dump.proofs.KindWords.{kind-word}
 use Rattle.segment_dump.proofs.NoteLines.{cut-notes, ends-behind, ends-last, kept}
-use Rattle.segment_dump.proofs.Words.{decimal-word}
 
 -- ---- a dump is whole lines
 

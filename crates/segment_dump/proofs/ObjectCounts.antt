@@ -1,15 +1,13 @@
 -- What is counted of an object, of all objects, and of a dump.
-use Rattle.segment_dump.proofs.Common.{◌≡◌, ℕ, ◌+◌, ◌*◌, ◌<◌, ◌≤◌, List, [], ◌∷◌, ◌++◌, length, Option, Some, None}
-use Rattle.segment_dump.proofs.Common.{refl, sym, ap, ◌∙◌, arith, append_assoc, codes, Class, Anonymous, Named, Unique}
-use Rattle.segment_dump.proofs.Common.{Kind, size_of, name_text, head_len, padded, Needs, HasContentShape, IsCountable}
+use Rattle.segment_dump.proofs.Common.{◌≡◌, ℕ, ◌+◌, ◌*◌, ◌<◌, ◌≤◌, List, [], ◌∷◌, ◌++◌, length, Option, Some, None, sym}
+use Rattle.segment_dump.proofs.Common.{ap, ◌∙◌, arith, append_assoc, codes, Class, Anonymous, Named, Unique, Kind}
+use Rattle.segment_dump.proofs.Common.{size_of, name_text, head_len, padded, Needs, HasContentShape, IsCountable}
 use Rattle.segment_dump.proofs.Common.{ValueContent, Scalars, Vector, String, Map, Strings, DumpItem, kind_of_content}
 use Rattle.segment_dump.proofs.Common.{count_of_content, IsSmall, body_len, both, item_needs, object_room, only_room}
 use Rattle.segment_dump.proofs.Common.{texts_needs, Any, ParsesPrefix, itself, content_text, head_line, item_text}
-use Rattle.segment_dump.proofs.Common.{measure_text}
+use Rattle.segment_dump.proofs.{Common.measure_text, Counts.ContentReads, Found.none-some, Found.some-pair}
 use Rattle.segment_dump.specs.Leads.{IsLead, IsMeasure, lead_text, measured}
-use Rattle.segment_dump.proofs.Counts.{ContentReads}
 use Rattle.segment_dump.proofs.Sums.{block-least, node-least, size-least}
-use Rattle.segment_dump.proofs.Found.{none-some, some-pair}
 
 -- ---- the lines of an object, part by part
 
@@ -31,9 +29,8 @@ parts-by Named name k n t a = named-apart (codes "named " ++ name_text name) (me
 parts-by Unique name k n t a = lead-apart (codes "unique ") (measure_text k n) t a
 parts-by Anonymous name k n t a = lead-apart (codes "anonymous ") (measure_text k n) t a
 
-item-parts : (i : DumpItem) (a : List ℕ)
-    → item_text i ++ a ≡ lead_text (i.class, i.name)
-    ++ (measured (kind_in i, count_in i) ++ (content_text i.content ++ a))
+item-parts : (i : DumpItem) (a : List ℕ) → item_text i
+    ++ a ≡ lead_text (i.class, i.name) ++ (measured (kind_in i, count_in i) ++ (content_text i.content ++ a))
 item-parts i a = parts-by i.class i.name (kind_in i) (count_in i) (content_text i.content) a
 
 -- ---- what is small where the object is
@@ -66,9 +63,6 @@ is-lead i h = (h.nameless, omega (arith, name-least (length i.name) (kind_in i) 
 
 is-measure : (i : DumpItem) → IsCountable i → IsMeasure (kind_in i, count_in i)
 is-measure i h = count-small i.content (length i.name) (own-small i h).0
-
-is-content : (i : DumpItem) → IsCountable i → HasContentShape (kind_in i) (count_in i) i.content
-is-content i h = record { kind_is = refl; many = refl; small = (own-small i h).1 }
 
 -- ---- an object
 
@@ -117,8 +111,7 @@ record IsFound (n : ℕ) (k : Kind) (m : ℕ) (o : Option (Needs × List ℕ)) (
 
 content-found : (text : List ℕ) (n : ℕ) (r : List ℕ) (k : Kind) (m : ℕ) (s : List ℕ) (o : Option (Needs × List ℕ))
     (i : DumpItem) (a : List ℕ) → LeadReads text (Some (n, r)) → MeasureReads r (Some ((k, m), s))
-    → ContentReads k m s o → IsCountable i
-    → text ≡ item_text i ++ a → IsFound n k m o i a
+    → ContentReads k m s o → IsCountable i → text ≡ item_text i ++ a → IsFound n k m o i a
 content-found text n r k m s o i a h j c g e =
     let p = measure-found text n r (Some ((k, m), s)) i a h j g e in
     let q = some-pair (k, m) (kind_in i, count_in i) s (content_text i.content ++ a) p.1 in
@@ -141,8 +134,7 @@ own-is n k m i e f g = λ x. object_room (e x) (f x) (g x)
 
 needs-found : (n : ℕ) (k : Kind) (m : ℕ) (own texts sum : Needs) (i : DumpItem)
     → own ≡ only_room (object_room n k m) → object_room n k m ≡ own_room i → texts ≡ texts_needs i.content
-    → IsCountable i
-    → (own.room + texts.room < 18446744073709551616 → sum ≡ both own texts) → sum ≡ item_needs i
+    → IsCountable i → (own.room + texts.room < 18446744073709551616 → sum ≡ both own texts) → sum ≡ item_needs i
 needs-found n k m own texts sum i e f t g h =
     let own_is : own ≡ only_room (own_room i) = e ∙ ap only_room f in
     let s = g.small in
@@ -151,10 +143,9 @@ needs-found n k m own texts sum i e f t g h =
     h small ∙ ap (λ x. both x texts) own_is ∙ ap (both (only_room (own_room i))) t
 
 pub object-some : (text : List ℕ) (n : ℕ) (r : List ℕ) (k : Kind) (m : ℕ) (s : List ℕ) (own texts sum : Needs)
-    (last : List ℕ) → LeadReads text (Some (n, r)) → MeasureReads r (Some ((k, m), s))
-    → ContentReads k m s (Some (texts, last))
-    → own ≡ only_room (object_room n k m) → (own.room + texts.room < 18446744073709551616 → sum ≡ both own texts)
-    → ObjectReads text (Some (sum, last))
+    (last : List ℕ) → LeadReads text (Some (n, r))
+    → MeasureReads r (Some ((k, m), s)) → ContentReads k m s (Some (texts, last)) → own ≡ only_room (object_room n k m)
+    → (own.room + texts.room < 18446744073709551616 → sum ≡ both own texts) → ObjectReads text (Some (sum, last))
 object-some text n r k m s own texts sum last h j c e f = record {
   reads = λ i a g w t.
       let p = content-found text n r k m s (Some (texts, last)) i a h j c g t in

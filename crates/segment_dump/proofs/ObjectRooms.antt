@@ -5,17 +5,16 @@ use Rattle.segment_dump.proofs.Common.{ap, subst, ◌∙◌, arith, flat_map, fi
 use Rattle.segment_dump.proofs.Common.{AllByRecursion, list_all, mul-le-mul_left, mul-zero, suc-mul, zero-mul}
 use Rattle.segment_dump.proofs.Common.{and_parts, leb-true, length-map, nat_tests, Role, Index, Node, Storage}
 use Rattle.segment_dump.proofs.Common.{is_legal_size, Extent, holds, is_proper, proper_from, room, BackingArray}
-use Rattle.segment_dump.proofs.Common.{has_backing}
-use Rattle.segment_dump.proofs.Common.{serves, current, Class, Anonymous, Named, Unique, ScalarKind, class_code}
-use Rattle.segment_dump.proofs.Common.{is_kind_of, is_value, size_of, is_rising, node_len, NumberPair, is_number_pair}
-use Rattle.segment_dump.proofs.Common.{item_of, OwnedText, Bytes, Directory, Elements, Numbers, Object, Pairs, Texts}
-use Rattle.segment_dump.proofs.Common.{Value, by_kind, by_name, extents_of, has_good_name, has_own_block, insert_by}
-use Rattle.segment_dump.proofs.Common.{is_class, is_good_value, is_object, is_owned_text, kind_of, live, named_objects}
-use Rattle.segment_dump.proofs.Common.{object_len, padded, sorted, table_extents, unique_objects, value_extents}
-use Rattle.segment_dump.proofs.Common.{value_len, head_len, AllByRecursion-behind, AllByRecursion-front, index-parts}
-use Rattle.segment_dump.proofs.Common.{live-extents, live-size, bytes_in, content_of, count_of_content, item_of_object}
-use Rattle.segment_dump.proofs.Common.{kind_of_content, all_needs, block_room, body_len, elements_room, front_room}
-use Rattle.segment_dump.proofs.Common.{item_needs, object_room, text_needs, texts_needs}
+use Rattle.segment_dump.proofs.Common.{has_backing, serves, current, Class, Anonymous, Named, Unique, ScalarKind}
+use Rattle.segment_dump.proofs.Common.{class_code, is_kind_of, is_value, size_of, is_rising, node_len, NumberPair}
+use Rattle.segment_dump.proofs.Common.{is_number_pair, item_of, OwnedText, Bytes, Directory, Elements, Numbers, Object}
+use Rattle.segment_dump.proofs.Common.{Pairs, Texts, Value, by_kind, by_name, extents_of, has_good_name, has_own_block}
+use Rattle.segment_dump.proofs.Common.{insert_by, is_class, is_good_value, is_object, is_owned_text, kind_of, live}
+use Rattle.segment_dump.proofs.Common.{named_objects, object_len, padded, sorted, table_extents, unique_objects}
+use Rattle.segment_dump.proofs.Common.{value_extents, value_len, head_len, AllByRecursion-behind, AllByRecursion-front}
+use Rattle.segment_dump.proofs.Common.{index-parts, live-extents, live-size, bytes_in, content_of, count_of_content}
+use Rattle.segment_dump.proofs.Common.{item_of_object, kind_of_content, all_needs, block_room, body_len, elements_room}
+use Rattle.segment_dump.proofs.Common.{front_room, item_needs, object_room, text_needs, texts_needs}
 use Rattle.std.proofs.Math.Nat.{one-mul}
 use Rattle.block_tags.specs.declared.tile.Role.TheVariants.{Object as ObjectRole}
 use Rattle.best_fit.specs.Table.{same_role}
@@ -56,9 +55,8 @@ no-places each n capacity h e = let z : n ≡ 0 = grind (arith, nat_tests) in ap
 abbrev of_places : ℕ → Option Extent → BackingArray
 of_places n o = record { capacity = n; extent = o }
 
-places-room : (role : Role) (each n capacity : ℕ) (o : Option Extent)
-    → has_backing role each (of_places capacity o) ≡ true → n ≤ capacity → AreLong (option_to_list o)
-    → block_room (each * n) ≤ total (option_to_list o)
+places-room : (role : Role) (each n capacity : ℕ) (o : Option Extent) → has_backing role each (of_places capacity o)
+    ≡ true → n ≤ capacity → AreLong (option_to_list o) → block_room (each * n) ≤ total (option_to_list o)
 unfolding total
 places-room role each n capacity None e h l = omega (arith, ap block_room (no-places each n capacity h e), none-needed)
 places-room role each n capacity (Some x) e h l =
@@ -231,9 +229,8 @@ class-room Named o xs ys zs = omega arith
 class-room Unique o xs ys zs = omega arith
 class-room Anonymous o xs ys zs = omega arith
 
-classes-room : (os : List Object)
-    → room_of (filter (is_class Named) os) + room_of (filter (is_class Unique) os)
-    + room_of (filter (is_class Anonymous) os) ≡ room_of os
+classes-room : (os : List Object) → room_of (filter (is_class Named) os)
+    + room_of (filter (is_class Unique) os) + room_of (filter (is_class Anonymous) os) ≡ room_of os
 classes-room [] = refl
 classes-room (o ∷ os) =
     class-room o.class o (filter (is_class Named) os) (filter (is_class Unique) os) (filter (is_class Anonymous) os)

@@ -6,8 +6,7 @@ use Rattle.segment_dump.proofs.Common.{Class, Anonymous, Named, Unique, class_co
 use Rattle.segment_dump.proofs.Common.{ByKind, ByName, NoKey, Directory, Numbers, Object, Value, by_kind, by_name}
 use Rattle.segment_dump.proofs.Common.{has_key, insert_by, is_class, kind_of, named_objects, object_at, unique_objects}
 use Rattle.segment_dump.proofs.Common.{IsStrict, AreSortedItems, count_class, has_item_key, item_key, kind_less}
-use Rattle.segment_dump.proofs.Common.{of_class}
-use Rattle.segment_dump.proofs.Common.{DumpItem, content_of, item_of_object, kind_of_content, AreOf}
+use Rattle.segment_dump.proofs.Common.{of_class, DumpItem, content_of, item_of_object, kind_of_content, AreOf}
 use Rattle.segment_dump.proofs.Lists.{AllByRecursion-append, all-by}
 
 -- ---- what items say of objects
@@ -138,13 +137,11 @@ abbrev pub LessThan : (DumpItem → DumpItem → Bool) → List DumpItem → Dum
 LessThan lt is j = AllByRecursion (λ k. lt j k ≡ true) is
 
 pub heads-less : (lt : DumpItem → DumpItem → Bool) (i : DumpItem) (is acc : List DumpItem)
-    → AllByRecursion (LessThan lt (i ∷ is)) acc
-    → LessAll lt i acc
+    → AllByRecursion (LessThan lt (i ∷ is)) acc → LessAll lt i acc
 heads-less lt i is acc a = all-by (LessThan lt (i ∷ is)) (λ j. lt j i ≡ true) acc a (λ j h. h.0)
 
 pub tails-less : (lt : DumpItem → DumpItem → Bool) (i : DumpItem) (is acc : List DumpItem)
-    → AllByRecursion (LessThan lt (i ∷ is)) acc
-    → LessThan lt is i → AllByRecursion (LessThan lt is) (acc ++ i ∷ [])
+    → AllByRecursion (LessThan lt (i ∷ is)) acc → LessThan lt is i → AllByRecursion (LessThan lt is) (acc ++ i ∷ [])
 tails-less lt i is acc a h = AllByRecursion-append (LessThan lt is) acc (i ∷ [])
     (all-by (LessThan lt (i ∷ is)) (LessThan lt is) acc a (λ j h. h.1)) (h, tt)
 

@@ -1,4 +1,3 @@
 -- What a call writes of a segment, one text behind another.
 pub use Rattle.segment_values.proofs.Owed.{failures_in-err, of-all, of-cut, of-cut_in, of-more, of-none, of-one}
-pub use Rattle.segment_values.proofs.Owed.{of-same}
-pub use Rattle.segment_values.proofs.Owed.{of-start, of-then, writes_none}
+pub use Rattle.segment_values.proofs.Owed.{of-same, of-start, of-then, writes_none}

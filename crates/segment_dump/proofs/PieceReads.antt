@@ -9,11 +9,9 @@ use Rattle.segment_dump.proofs.Common.{piece_line, piece_of, pieces_in, pieces_t
 use Rattle.std.proofs.lemmas.List.{append_cancel_left}
 use Rattle.segment_dump.specs.Builders.{CopiesPiece}
 use Rattle.segment_dump.proofs.ContentLines.{piece_front}
-use Rattle.segment_dump.proofs.Found.{never-ok, ok-same}
+use Rattle.segment_dump.proofs.{Found.never-ok, Found.ok-same, LineTexts.piece-short, PartLines.split}
 use Rattle.segment_dump.proofs.LineTexts.{first-no_end, first-short, first_front, piece-ended, piece-no_end}
-use Rattle.segment_dump.proofs.LineTexts.{piece-short}
 use Rattle.segment_dump.proofs.NextWords.{blank-next, decimal-number, number-next, text-next}
-use Rattle.segment_dump.proofs.PartLines.{split}
 
 -- ---- the bytes of a piece
 
@@ -197,11 +195,10 @@ module _ {E F : Type 0} (text rest old : List ℕ) where
       }
 
   first-copied : (words : List ℕ) (len : ℕ) (new : List ℕ) (r : Result ℕ F)
-      → ReadsLength {E = E} text rest (Ok (words, len)) → CopiesPiece words old new 0 r → (bs a : List ℕ)
-      → IsByteList bs → length bs < 2 ^ 64 → length bs ≤ length old
-      → text ≡ text_lines bs ++ a → (r ≡ Ok (0 + length (piece_of bs 0)))
-      × (take (0 + length (piece_of bs 0)) new ≡ take 0 old ++ piece_of bs 0) × (len ≡ length bs)
-      × PiecesLeft bs a 1 rest
+      → ReadsLength {E = E} text rest (Ok (words, len)) → CopiesPiece words old new 0 r
+      → (bs a : List ℕ) → IsByteList bs → length bs < 2 ^ 64 → length bs ≤ length old → text ≡ text_lines bs ++ a
+      → (r ≡ Ok (0 + length (piece_of bs 0))) × (take (0 + length (piece_of bs 0)) new ≡ take 0 old ++ piece_of bs 0)
+      × (len ≡ length bs) × PiecesLeft bs a 1 rest
   first-copied words len new r h k bs a g c l t =
       let q = h.reads bs a c t in
       let both : ◌≡◌ {A = List ℕ × ℕ} (words, len) (piece_lead 0 ++ quoted_text (piece_of bs 0), length bs) =

@@ -5,15 +5,12 @@ use Rattle.segment_dump.proofs.Common.{nat_tests, and_parts, flat_map-append, is
 use Rattle.segment_dump.proofs.Common.{bytes_of, word_at, Scalar, ScalarKind, ByHandle, Instance, sizes_at, sizes_of}
 use Rattle.segment_dump.proofs.Common.{Value, Numbers, Elements, Bytes, Pairs, Texts, Directory, Object, kind_of, live}
 use Rattle.segment_dump.proofs.Common.{named_objects, unique_objects, SaysOf, IsLocated, AnswersWith, SegmentState}
-use Rattle.segment_dump.proofs.Common.{DenotesCurrent}
-use Rattle.segment_dump.proofs.Common.{said-at, Capacity, Holds, Kinds, Names, all_notes, capacities, capacities_text}
-use Rattle.segment_dump.proofs.Common.{capacity_note, index_notes, measured_places, places_at, anonymous_objects}
-use Rattle.segment_dump.proofs.Common.{part_of}
+use Rattle.segment_dump.proofs.Common.{DenotesCurrent, said-at, Capacity, Holds, Kinds, Names, all_notes, capacities}
+use Rattle.segment_dump.proofs.Common.{capacities_text, capacity_note, index_notes, measured_places, places_at}
+use Rattle.segment_dump.proofs.{Common.anonymous_objects, Common.part_of, Elements.sizes_of_object}
 use Rattle.seg_types.specs.declared.kinds.Kind.TheVariants.{Map}
-use Rattle.segment_manager.specs.declared.objects.object_ref.Object.{Object as Located}
-use Rattle.segment_manager.specs.State.{IsSegment}
+use Rattle.segment_manager.specs.{declared.objects.object_ref.Object.Object as Located, State.IsSegment}
 use Rattle.segment_dump.specs.Capacities.{notes_at, notes_of, object_capacities, object_notes, places_in, places_of}
-use Rattle.segment_dump.proofs.Elements.{sizes_of_object}
 
 -- ---- the places of the two indexes
 

@@ -3,15 +3,13 @@ use Rattle.segment_dump.proofs.Common.{◌≡◌, ◌≢◌, ℕ, suc, ◌+◌, 
 use Rattle.segment_dump.proofs.Common.{get_or, refl, sym, ap, subst, ◌∙◌, arith, append_assoc, ◌^◌, Option, Some, None}
 use Rattle.segment_dump.proofs.Common.{decimal, flat_map, option_map, take_all, AllByRecursion, kind_text, name_text}
 use Rattle.segment_dump.proofs.Common.{IsSmall, closed_text, Any, AreLines, Breaks, HasNoEnd, IsWord, ParsesPrefix}
-use Rattle.segment_dump.proofs.Common.{Skips}
-use Rattle.segment_dump.proofs.Common.{ended, itself, lines_text, seen, seen_rest, current, Kind, whole}
+use Rattle.segment_dump.proofs.Common.{Skips, ended, itself, lines_text, seen, seen_rest, current, Kind, whole}
 use Rattle.segment_dump.proofs.Common.{NumbersAreDecimals, kind_named, number_text, number_of}
 use Rattle.std.specs.Borrow.{Bor}
 use Rattle.seg_types.specs.Texts.{item_text}
-use Rattle.segment_dump.proofs.Codes.{heads, tails, words-read}
+use Rattle.segment_dump.proofs.{Codes.heads, Codes.tails, Codes.words-read, Words.decimal-word}
 use Rattle.segment_dump.proofs.KindWords.{kind-named, kind-word}
 use Rattle.segment_dump.proofs.Quotes.{IsName, bare, item-is, item-opens, name-is, quoted}
-use Rattle.segment_dump.proofs.Words.{decimal-word}
 
 -- ---- where nothing is found
 
@@ -50,9 +48,6 @@ pub record InWord (text rest : List ℕ) : Type 0 where
 word-append : (w : List ℕ) (c : ℕ) → IsWord w → 0x20 < c → IsWord (w ++ c ∷ [])
 word-append [] c h l = (l, tt)
 word-append (d ∷ w) c h l = (h.0, word-append w c h.1 l)
-
-pub word-starts : (text : List ℕ) → InWord text text
-word-starts text = record { word = []; high = tt; whole = refl }
 
 -- all behind the first
 pub tail-all : (c : ℕ) (tail : List ℕ) → take (length (c ∷ tail) - 1) tail ≡ tail

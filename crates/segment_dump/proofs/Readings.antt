@@ -3,10 +3,9 @@ use Rattle.segment_dump.proofs.Common.{◌≡◌, ◌≢◌, ◌⊎◌, inl, inr
 use Rattle.segment_dump.proofs.Common.{sym, ap, subst, ◌∙◌, arith, append_assoc, codes, decimal, AllByRecursion}
 use Rattle.segment_dump.proofs.Common.{decimal_injective, Class, Anonymous, Named, Unique, DumpItem, Items, dump_text}
 use Rattle.segment_dump.proofs.Common.{end_text, front_text, item_text, items_text}
-use Rattle.segment_dump.proofs.Codes.{Stops, row-reads, tails, words-read}
+use Rattle.segment_dump.proofs.{Codes.Stops, Codes.row-reads, Codes.tails, Codes.words-read, Words.decimal-word}
 use Rattle.segment_dump.proofs.ItemLines.{IsFirst, IsGoodItem, IsNoLine, ends-line, first-no_line, item-first}
 use Rattle.segment_dump.proofs.ItemLines.{items-row, letter, never-first, parts-word}
-use Rattle.segment_dump.proofs.Words.{decimal-word}
 
 -- ---- the first lines
 
@@ -146,8 +145,7 @@ dumps-read m n is js p q e =
     ≡ items_text js.named ++ (items_text js.unique ++ y) =
     (fronts-read m n (length is.named) (length js.named) (length is.unique) (length js.unique) _ _ e).1 in
     let named = class-read Named is.named js.named (items_text is.unique ++ x) (items_text js.unique ++ y) p.named
-    q.named
-    (named-behind (items_text is.unique ++ x) (unique-late is.unique is.anonymous p.unique p.anonymous))
+    q.named (named-behind (items_text is.unique ++ x) (unique-late is.unique is.anonymous p.unique p.anonymous))
     (named-behind (items_text js.unique ++ y) (unique-late js.unique js.anonymous q.unique q.anonymous)) front in
     let unique = class-read Unique is.unique js.unique x y p.unique q.unique
     (unique-behind x (anonymous-late 1 is.anonymous p.anonymous))

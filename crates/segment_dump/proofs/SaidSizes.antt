@@ -4,8 +4,7 @@ use Rattle.segment_dump.proofs.Common.{append_assoc, drop, Items, entries_text, 
 use Rattle.segment_dump.proofs.Common.{front_text, items_text}
 use Rattle.segment_dump.specs.Counting.{SaysSize}
 use Rattle.segment_dump.proofs.FrontLines.{NumberReads, before_entries, before_size, number-said}
-use Rattle.segment_dump.proofs.NoteLaws.{notes-are-cut}
-use Rattle.segment_dump.proofs.Found.{none-some, some-pair}
+use Rattle.segment_dump.proofs.{NoteLaws.notes-are-cut, Found.none-some, Found.some-pair}
 
 -- what stands behind the first lines
 abbrev objects_of : Items → List ℕ
@@ -28,9 +27,8 @@ no-lead text o h = record {
 }
 
 module _ (text x : List ℕ) (lead : text ≡ before_size ++ x) where
-  read : (o : Option (ℕ × List ℕ)) → NumberReads x o → (n : ℕ) (items : Items) → n < 2 ^ 64
-      → without_notes text ≡ dump_text n items
-      → o ≡ Some (
+  read : (o : Option (ℕ × List ℕ))
+      → NumberReads x o → (n : ℕ) (items : Items) → n < 2 ^ 64 → without_notes text ≡ dump_text n items → o ≡ Some (
         n,
         before_entries ++ (entries_text (length items.named, length items.unique)
             ++ (objects_of items ++ (notes-are-cut text).notes)),

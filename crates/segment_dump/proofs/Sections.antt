@@ -4,18 +4,15 @@ use Rattle.segment_dump.proofs.Common.{refl, sym, ap, ◌∙◌, cond, ◌==◌,
 use Rattle.segment_dump.proofs.Common.{flat_map, AllByRecursion, take_all, Class, Anonymous, Named, Unique, class_code}
 use Rattle.segment_dump.proofs.Common.{ByHandle, Instance, Directory, Object, is_class, named_objects, object_at}
 use Rattle.segment_dump.proofs.Common.{unique_objects, SaysOf, SaysAt, AnswersWith, SegmentState, DenotesCurrent}
-use Rattle.segment_dump.proofs.Common.{anonymous_objects}
-use Rattle.segment_dump.proofs.Common.{content_of, item_of_object, kind_of_content, portable, all_text, count_at}
-use Rattle.segment_dump.proofs.Common.{object_count, where_anonymous, WritesOf, part_of, in_lines, laid_at, laid_object}
-use Rattle.segment_dump.proofs.Common.{parts_until, dump_text, end_text, front_text, head_line, item_text, items_text}
-use Rattle.segment_dump.proofs.Common.{IsErr, WriterHistory}
+use Rattle.segment_dump.proofs.Common.{anonymous_objects, content_of, item_of_object, kind_of_content, portable}
+use Rattle.segment_dump.proofs.Common.{all_text, count_at, object_count, where_anonymous, WritesOf, part_of, in_lines}
+use Rattle.segment_dump.proofs.Common.{laid_at, laid_object, parts_until, dump_text, end_text, front_text, head_line}
+use Rattle.segment_dump.proofs.Common.{item_text, items_text, IsErr, WriterHistory}
 use Rattle.segment_dump.specs.DumpWrites.{object_text, objects_text, text_at}
 use Rattle.std.proofs.lemmas.Option.{slice_get_within}
 use Rattle.segment_dump.proofs.Elements.{flat_map-made, length-made, count_of_object}
-use Rattle.segment_dump.proofs.Laid.{laid-lines}
+use Rattle.segment_dump.proofs.{Laid.laid-lines, Orders.kind-made, Members.IsFoundIn, Members.text-of}
 use Rattle.segment_dump.proofs.PartLines.{parts-all, parts-taken, well}
-use Rattle.segment_dump.proofs.Orders.{kind-made}
-use Rattle.segment_dump.proofs.Members.{IsFoundIn, text-of}
 use Rattle.segment_dump.proofs.Owed.{of-all, of-cut_in, of-more, of-same}
 
 abbrev made : List Object → List ℕ
@@ -28,8 +25,7 @@ pub dump-parts : (size : ℕ) (d : Directory)
     → front_text size (length (named_objects d)) (length (unique_objects d)) ++ all_text d ≡ dump_text size (portable d)
 dump-parts size d =
     (λ i. front_text size (sym (length-made item_of_object (named_objects d)) i)
-    (sym (length-made item_of_object (unique_objects d)) i)
-    ++ (objects-made (named_objects d) i
+    (sym (length-made item_of_object (unique_objects d)) i) ++ (objects-made (named_objects d) i
     ++ (objects-made (unique_objects d) i ++ (objects-made (anonymous_objects d) i ++ end_text))))
 
 -- ---- the objects of a list, one after another
@@ -83,8 +79,7 @@ entry-text s said n h a d st =
     let kind : said.kind ≡ kind_of_content (content_of f.0.value) = f.2.kind ∙ sym (kind-made f.0.value) in
     (λ i. head_line (f.2.class i) (f.2.name i) (kind i) (count i) ++ part_of (laid_object in_lines) (f.1 i))
     ∙ ap (λ l. head_line f.0.class f.0.name (kind_of_content (content_of f.0.value)) (object_count f.0) ++ l)
-    (laid-lines (content_of f.0.value))
-    ∙ sym (ap (part_of object_text) f.1)
+    (laid-lines (content_of f.0.value)) ∙ sym (ap (part_of object_text) f.1)
 
 -- ---- the anonymous objects among all, in a text of each
 
@@ -106,9 +101,8 @@ module _ (text : Object → List ℕ) where
   class-if o Unique e n = ap (λ x. if class_code Anonymous == class_code x then text o else []) (sym e)
   class-if o Anonymous e n = absurd (n refl)
 
-  pub anonymous-said : (s : SegmentState) (said : Instance) → SaysOf s (ByHandle said.handle) said
-      → said.class ≡ Anonymous → (d : Directory) → DenotesCurrent s.cut.bytes d
-      → part_of text (object_at d (ByHandle said.handle))
+  pub anonymous-said : (s : SegmentState) (said : Instance) → SaysOf s (ByHandle said.handle) said → said.class
+      ≡ Anonymous → (d : Directory) → DenotesCurrent s.cut.bytes d → part_of text (object_at d (ByHandle said.handle))
       ≡ part_of (where_anonymous text) (object_at d (ByHandle said.handle))
   anonymous-said s said h e d st =
       let f = h.says d st in

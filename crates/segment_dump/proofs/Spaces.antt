@@ -5,12 +5,8 @@ use Rattle.segment_dump.proofs.Common.{◌∙◌, arith, IsTrue, filter, option_
 use Rattle.segment_dump.proofs.Common.{Role, is_legal_size, Extent, Gap, end_of, gap_between, is_block, is_hole}
 use Rattle.segment_dump.proofs.Common.{is_proper, proper_from, place, room, Directory, live, all-sorted, live-extents}
 use Rattle.segment_dump.proofs.Common.{live-size, EndBy, HasExactRoom, all_extents, total, block_room, all_needs}
-use Rattle.segment_dump.proofs.Common.{last_end}
-use Rattle.segment_dump.proofs.Common.{Needs}
-use Rattle.best_fit.specs.Extents.{LiveSet, gaps, gaps_from}
-use Rattle.best_fit.specs.Fit.{fit, least, share}
-use Rattle.segment_dump.proofs.Rooms.{hole-rises, total-sorted}
-use Rattle.segment_dump.proofs.Lists.{all-by}
+use Rattle.segment_dump.proofs.{Common.last_end, Common.Needs, Rooms.hole-rises, Rooms.total-sorted, Lists.all-by}
+use Rattle.best_fit.specs.{Extents.LiveSet, Extents.gaps, Extents.gaps_from, Fit.fit, Fit.least, Fit.share}
 pub use Rattle.segment_dump.specs.Building.{IsRest}
 
 -- ---- no gap but the one behind all blocks
@@ -62,9 +58,6 @@ share-if false available wanted rest e h r = h
 share-fits : (available wanted rest : ℕ) → wanted + rest ≤ available → IsRest rest
     → share available wanted + rest ≤ available
 share-fits available wanted rest h r = share-if (nat_lt available (wanted + 32)) available wanted rest refl h r
-
-share-least : (available wanted : ℕ) → wanted ≤ available → wanted ≤ share available wanted
-share-least available wanted h = grind (arith, nat_tests)
 
 one-fit : (g : Gap) (n : ℕ) → room n ≤ g.len → least (filter (λ (g : Gap). nat_le (room n) g.len) (g ∷ [])) ≡ Some g
 one-fit g n h = let e : nat_le (room n) g.len ≡ true = grind (arith, nat_tests)

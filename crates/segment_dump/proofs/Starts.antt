@@ -1,23 +1,21 @@
 -- An object with nothing in it is ready to be filled, and is filled element by element.
-use Rattle.segment_dump.proofs.Common.{◌≡◌, ℕ, ◌+◌, ◌*◌, ◌<◌, ◌≤◌, ℤ, pos, List, [], ◌++◌, length, replicate, Result}
-use Rattle.segment_dump.proofs.Common.{Ok, Err, refl, sym, ap, subst, ◌∙◌, arith, zero-add, flat_map, no_backing, Kind}
-use Rattle.segment_dump.proofs.Common.{ScalarKind, Refusal, size_of, ByHandle, Done, Elements, Numbers, Pairs, Texts}
-use Rattle.segment_dump.proofs.Common.{Value, bare, TakesStep, SegmentState, done_answer, AddsElement, FillsNew}
-use Rattle.segment_dump.proofs.Common.{IsEmptyObject}
-use Rattle.segment_dump.proofs.Common.{IsFillable, IsVectorKind, content_need, first_content, IsFilling, FillState}
-use Rattle.segment_dump.proofs.Common.{FillsAt}
-use Rattle.segment_dump.proofs.Common.{IsPartialValue, StandsFilling, StringsPart, VectorPart, head_of, ValueContent}
-use Rattle.segment_dump.proofs.Common.{Map, Scalars}
-use Rattle.segment_dump.proofs.Common.{String, Strings, Vector, count_of_content, kind_of_content, all_needs}
-use Rattle.segment_dump.proofs.Common.{block_room, text_needs, content_text, element_line, text_lines}
-use Rattle.seg_types.specs.declared.kinds.ScalarKind.TheVariants.{Bool as BoolKind}
-use Rattle.segment_dump.specs.Builders.{FillsElements}
-use Rattle.segment_dump.proofs.Adds.{string-of, was-done}
-use Rattle.segment_dump.proofs.Fillings.{filled, led, texts-rest}
-use Rattle.segment_dump.proofs.Fills.{HasTable, none, reserved, some, table_of, texts-stored, vector-stored}
-use Rattle.segment_dump.proofs.Spaces.{IsRest, rest-both}
 use Rattle.seg_types.specs.declared.kinds.Kind.TheVariants as kinds
 use Rattle.seg_types.specs.Commands as asked
+use Rattle.segment_dump.proofs.Common.{◌≡◌, ℕ, ◌+◌, ◌*◌, ◌<◌, ◌≤◌, pos, List, [], ◌++◌, length, replicate, Result, Ok}
+use Rattle.segment_dump.proofs.Common.{Err, refl, sym, ap, subst, ◌∙◌, arith, zero-add, flat_map, no_backing, Kind}
+use Rattle.segment_dump.proofs.Common.{ScalarKind, Refusal, size_of, ByHandle, Done, Elements, Numbers, Pairs, Texts}
+use Rattle.segment_dump.proofs.Common.{Value, bare, TakesStep, SegmentState, done_answer, AddsElement, FillsNew}
+use Rattle.segment_dump.proofs.Common.{IsEmptyObject, IsFillable, IsVectorKind, content_need, first_content, IsFilling}
+use Rattle.segment_dump.proofs.Common.{FillState, FillsAt, IsPartialValue, StandsFilling, head_of, ValueContent, Map}
+use Rattle.segment_dump.proofs.Common.{Scalars, String, Strings, Vector, count_of_content, kind_of_content, all_needs}
+use Rattle.segment_dump.proofs.Common.{block_room, text_needs, content_text, BackingArray}
+use Rattle.seg_types.specs.declared.kinds.ScalarKind.TheVariants.{Bool as BoolKind}
+use Rattle.segment_manager.specs.Step.{with_table}
+use Rattle.segment_dump.specs.{Builders.FillsElements, Filling.map_course, Filling.strings_course}
+use Rattle.segment_dump.specs.Filling.{vector_course, FillCourse, HasFirstElements, HasReservedPlaces, array_course}
+use Rattle.segment_dump.proofs.{Adds.string-of, Adds.was-done, Spaces.IsRest, Spaces.rest-both}
+use Rattle.segment_dump.proofs.Fillings.{filled, led, stands-filling, texts-rest}
+use Rattle.segment_dump.proofs.Fills.{HasTable, IsStored, none, reserved, some, table_of, texts-stored, vector-stored}
 
 -- ---- one element after another
 
@@ -39,8 +37,7 @@ elements-more old now new h kind text rest rest' room counter u i a =
 
 pub elements-cut : {E F : Type 0} (old now new last : SegmentState) (h : ℕ) (kind : Kind) (count : ℕ)
     (text rest rest' final : List ℕ) (room counter : ℕ) (e : E) (result : Result (Unit {0}) F) → counter < count
-    → InElements old now h kind text rest room counter
-    → AddsElement now new h kind counter rest rest' room (Err e)
+    → InElements old now h kind text rest room counter → AddsElement now new h kind counter rest rest' room (Err e)
     → FillsElements old last h kind count text final room result
 elements-cut old now new last h kind count text rest rest' final room counter e result l i a = record {
   fills = λ p f c s.
@@ -57,47 +54,49 @@ elements-end old now h kind count text rest room counter e i = record {
 
 -- ---- without places to reserve
 
+-- nothing is there yet
+first-part : {X Y : Type 0} (way : FillCourse X Y) (all : List Y) (v : Value) (need : ℕ) → way.items [] ≡ []
+    → v ≡ way.value [] all → need ≡ way.need all → HasFirstElements way all 0 v (flat_map way.line all) need
+first-part way all v need none e f = record {
+  front = [];
+  back = all;
+  all_are = ap (λ l. l ++ all) (sym none);
+  many = refl;
+  value_is = e;
+  text_is = refl;
+  need_is = f;
+}
+
+at-front : (s : SegmentState) (text : List ℕ) (p : FillState) (h : ℕ) (c : ValueContent) → c ≡ p.content → (v : Value)
+    {need : ℕ} → IsPartialValue c 0 v (content_text c) need
+    → StandsFilling s p.site p.done (head_of p h) v (need + p.more) → text ≡ content_text c ++ p.after
+    → FillsAt s text p h 0
+at-front s text p h c e v {need} part st t = record {
+  value = v;
+  left = content_text c;
+  need = need;
+  part = subst (λ (b : ValueContent). IsPartialValue b 0 v (content_text c) need) e part;
+  stands = st;
+  text_is = t;
+}
+
 begun-by : (c : ValueContent) (p : FillState) (kind : Kind) → c ≡ p.content → kind_of_content c ≡ kind
     → (kind ≡ kinds.String → ⊥) → (IsVectorKind kind → ⊥) → (s : SegmentState) (text : List ℕ) (h : ℕ)
     → StandsFilling s p.site p.done (head_of p h) (bare (first_content (kind_of_content c) (count_of_content c)))
     (content_need c + p.more) → text ≡ content_text c ++ p.after → FillsAt s text p h 0
-begun-by (Scalars k zs) p kind e q n v s text h st t = record {
-  value = Numbers k (replicate (length zs) (pos 0));
-  left = flat_map (element_line k) zs;
-  need = content_need (Scalars k zs);
-  part = subst (λ (c : ValueContent).
-      IsPartialValue c 0 (Numbers k (replicate (length zs) (pos 0))) (flat_map (element_line k) zs)
-      (content_need (Scalars k zs))) e
-      (record { front = []; back = zs; all_are = refl; many = refl; value_is = refl; text_is = refl; need_is = refl });
-  stands = st;
-  text_is = t;
-}
+begun-by (Scalars k zs) p kind e q n v s text h st t =
+    at-front s text p h (Scalars k zs) e (Numbers k (replicate (length zs) (pos 0)))
+    (first-part (array_course k) zs (Numbers k (replicate (length zs) (pos 0))) (content_need (Scalars k zs)) refl refl
+    refl) st t
 begun-by (Vector k zs) p kind e q n v s text h st t = absurd (v (subst IsVectorKind q tt))
 begun-by (String bs) p kind e q n v s text h st t = absurd (n (sym q))
-begun-by (Map k w ps) p kind e q n v s text h st t = record {
-  value = Pairs k w [];
-  left = content_text (Map k w ps);
-  need = content_need (Map k w ps);
-  part = subst (λ (c : ValueContent).
-      IsPartialValue c 0 (Pairs k w []) (content_text (Map k w ps)) (content_need (Map k w ps))) e
-      (record {
-        front = [];
-        back = ps;
-        all_are = refl;
-        many = refl;
-        value_is = refl;
-        text_is = refl;
-        need_is = omega arith;
-      });
-  stands = st;
-  text_is = t;
-}
+begun-by (Map k w ps) p kind e q n v s text h st t = at-front s text p h (Map k w ps) e (Pairs k w [])
+    (first-part (map_course k w) ps (Pairs k w []) (content_need (Map k w ps)) refl refl (omega arith)) st t
 begun-by (Strings ts) p kind e q n v s text h st t = absurd (v (subst IsVectorKind q tt))
 
 pub fills-plain : {E : Type 0} (old new : SegmentState) (h : ℕ) (kind : Kind) (count : ℕ) (text rest : List ℕ)
     (room : ℕ) (result : Result (Unit {0}) E) → (kind ≡ kinds.String → ⊥) → (IsVectorKind kind → ⊥)
-    → FillsElements old new h kind count text rest room result
-    → FillsNew old new h kind count text rest room result
+    → FillsElements old new h kind count text rest room result → FillsNew old new h kind count text rest room result
 fills-plain old new h kind count text rest room result n v f = record {
   fills = λ p g c b. f.fills p g c (begun-by p.content p kind refl g.kind_is n v old text h b.stands b.text_is);
 }
@@ -108,57 +107,30 @@ size-long : (k : ScalarKind) → 0 < size_of k
 size-long BoolKind = omega arith
 size-long k = omega arith
 
-vector-table : (k : ScalarKind) (zs : List ℤ) (w : Value) → HasTable (Elements k [] no_backing) (length zs) w
-    → VectorPart k zs 0 w (flat_map (element_line k) zs) 0
-vector-table k zs w (none e) =
-    record {
-      front = [];
-      back = zs;
-      table = no_backing;
-      all_are = refl;
-      many = refl;
-      places = omega (arith, e);
-      value_is = refl;
-      text_is = refl;
-      need_is = refl;
-    }
-vector-table k zs w (some x) =
-    record {
-      front = [];
-      back = zs;
-      table = table_of (length zs) x;
-      all_are = refl;
-      many = refl;
-      places = omega arith;
-      value_is = refl;
-      text_is = refl;
-      need_is = refl;
-    }
+with-places : {X Y : Type 0} (way : BackingArray → FillCourse X Y) (first : Value) (all : List Y) (text : List ℕ)
+    (need : ℕ) → ((t : BackingArray) → HasFirstElements (way t) all 0 (with_table first t) text need) → (w : Value)
+    → HasTable first (length all) w → HasReservedPlaces way all 0 w text need
+with-places way first all text need part w (none e) =
+    record { table = no_backing; places = omega (arith, e); part = part no_backing }
+with-places way first all text need part w (some x) =
+    let t = table_of (length all) x in record { table = t; places = omega arith; part = part t }
 
-strings-table : (ts : List (List ℕ)) (w : Value) → HasTable (Texts [] no_backing) (length ts) w
-    → StringsPart ts 0 w (flat_map text_lines ts) (all_needs text_needs ts).room
-strings-table ts w (none e) = record {
-  front = [];
-  back = ts;
-  table = no_backing;
-  all_are = refl;
-  many = refl;
-  places = omega (arith, e);
-  value_is = refl;
-  text_is = refl;
-  need_is = refl;
-}
-strings-table ts w (some x) = record {
-  front = [];
-  back = ts;
-  table = table_of (length ts) x;
-  all_are = refl;
-  many = refl;
-  places = omega arith;
-  value_is = refl;
-  text_is = refl;
-  need_is = refl;
-}
+reserved-for : (c : ValueContent) (p : FillState) → c ≡ p.content → (first : Value) (each n more : ℕ)
+    → IsStored first each → 0 < each → content_need c + p.more ≡ block_room (each * n) + (more + p.more)
+    → IsRest (more + p.more) → ((w : Value) → HasTable first n w → IsPartialValue c 0 w (content_text c) more)
+    → (s new : SegmentState) (text : List ℕ) (h : ℕ) (called : Result (Unit {0}) Refusal)
+    → StandsFilling s p.site p.done (head_of p h) first (content_need c + p.more) → text ≡ content_text c ++ p.after
+    → TakesStep s new (asked.Reserve (ByHandle h) n) (done_answer called)
+    → (done_answer called ≡ Done) × FillsAt new text p h 0
+reserved-for c p e first each n more stored long needs rest part s new text h called st t moved =
+    let f = subst (IsFilling st.directory p.site p.done (head_of p h) first) needs st.filling in
+    let done = reserved st.directory p.site p.done (head_of p h) first each n (more + p.more)
+    st.stands.denotes.directory stored long f rest in
+    let u = led st.stands st.mode _ moved done in (
+      u.given_is,
+      at-front new text p h c e u.holds.value (part u.holds.value u.holds.table)
+          (stands-filling u.stands u.mode u.holds.filling) t,
+    )
 
 reserved-by : (c : ValueContent) (p : FillState) (kind : Kind) → c ≡ p.content → kind_of_content c ≡ kind
     → IsVectorKind kind → IsRest p.more
@@ -168,47 +140,16 @@ reserved-by : (c : ValueContent) (p : FillState) (kind : Kind) → c ≡ p.conte
     → TakesStep s new (asked.Reserve (ByHandle h) (count_of_content c)) (done_answer called)
     → (done_answer called ≡ Done) × FillsAt new text p h 0
 reserved-by (Vector k zs) p kind e q v r s new text h called st t moved =
-    let n = length zs in
-    let needs : content_need (Vector k zs) + p.more ≡ block_room (size_of k * n) + (0 + p.more) = omega arith in
-    let f : IsFilling st.directory p.site p.done (head_of p h) (Elements k [] no_backing)
-    (block_room (size_of k * n) + (0 + p.more)) =
-    subst (IsFilling st.directory p.site p.done (head_of p h) (Elements k [] no_backing)) needs st.filling in
-    let done = reserved st.directory p.site p.done (head_of p h) (Elements k [] no_backing) (size_of k) n
-    (0 + p.more) st.stands.denotes.directory (vector-stored k) (size-long k) f
-    (subst IsRest (sym (zero-add p.more)) r) in
-    let u = led st.stands st.mode _ moved done in (
-      u.given_is,
-      record {
-        value = u.holds.value;
-        left = flat_map (element_line k) zs;
-        need = 0;
-        part = subst (λ (c : ValueContent). IsPartialValue c 0 u.holds.value (flat_map (element_line k) zs) 0) e
-            (vector-table k zs u.holds.value u.holds.table);
-        stands = record { directory = u.directory; stands = u.stands; mode = u.mode; filling = u.holds.filling };
-        text_is = t;
-      },
-    )
+    reserved-for (Vector k zs) p e (Elements k [] no_backing) (size_of k) (length zs) 0 (vector-stored k) (size-long k)
+    (omega arith) (subst IsRest (sym (zero-add p.more)) r)
+    (with-places (vector_course k) (Elements k [] no_backing) zs (content_text (Vector k zs)) 0
+    (λ t. first-part (vector_course k t) zs (Elements k [] t) 0 refl refl refl)) s new text h called st t moved
 reserved-by (Strings ts) p kind e q v r s new text h called st t moved =
-    let n = length ts in
     let texts : ℕ = (all_needs text_needs ts).room in
-    let needs : content_need (Strings ts) + p.more ≡ block_room (16 * n) + (texts + p.more) = omega arith in
-    let f : IsFilling st.directory p.site p.done (head_of p h) (Texts [] no_backing)
-    (block_room (16 * n) + (texts + p.more)) =
-    subst (IsFilling st.directory p.site p.done (head_of p h) (Texts [] no_backing)) needs st.filling in
-    let done = reserved st.directory p.site p.done (head_of p h) (Texts [] no_backing) 16 n (texts + p.more)
-    st.stands.denotes.directory texts-stored (omega arith) f (rest-both texts p.more (texts-rest ts) r) in
-    let u = led st.stands st.mode _ moved done in (
-      u.given_is,
-      record {
-        value = u.holds.value;
-        left = flat_map text_lines ts;
-        need = texts;
-        part = subst (λ (c : ValueContent). IsPartialValue c 0 u.holds.value (flat_map text_lines ts) texts) e
-            (strings-table ts u.holds.value u.holds.table);
-        stands = record { directory = u.directory; stands = u.stands; mode = u.mode; filling = u.holds.filling };
-        text_is = t;
-      },
-    )
+    reserved-for (Strings ts) p e (Texts [] no_backing) 16 (length ts) texts texts-stored (omega arith) (omega arith)
+    (rest-both texts p.more (texts-rest ts) r)
+    (with-places strings_course (Texts [] no_backing) ts (content_text (Strings ts)) texts
+    (λ t. first-part (strings_course t) ts (Texts [] t) texts refl refl refl)) s new text h called st t moved
 reserved-by (Scalars k zs) p kind e q v r s new text h called st t moved = absurd (subst IsVectorKind (sym q) v)
 reserved-by (String bs) p kind e q v r s new text h called st t moved = absurd (subst IsVectorKind (sym q) v)
 reserved-by (Map k w ps) p kind e q v r s new text h called st t moved = absurd (subst IsVectorKind (sym q) v)
@@ -256,8 +197,7 @@ as-room {E} old new h kind n text rest room room' result e a =
 
 pub fills-text : {E : Type 0} (old new : SegmentState) (h : ℕ) (kind : Kind) (count : ℕ) (text rest : List ℕ)
     (room : ℕ) (result : Result (Unit {0}) E) → kind ≡ kinds.String
-    → FillsNew old new h kinds.String 1 text rest room result
-    → FillsNew old new h kind count text rest room result
+    → FillsNew old new h kinds.String 1 text rest room result → FillsNew old new h kind count text rest room result
 fills-text old new h kind count text rest room result e f = record {
   fills = λ p g c b.
       let q = string-of p.content (g.kind_is ∙ e) in

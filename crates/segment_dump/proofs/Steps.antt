@@ -7,8 +7,7 @@ use Rattle.segment_dump.proofs.Common.{room, current, Kind, Refusal, NotFound, W
 use Rattle.segment_dump.proofs.Common.{Key, ByHandle, Write, Directory, IsDirectory, Object, Value, extents_of, has_key}
 use Rattle.segment_dump.proofs.Common.{kind_of, live, object_at, rises_from, table_extents, value_extents, Plan}
 use Rattle.segment_dump.proofs.Common.{perform, with, changed, effect, found_at, step, step_of_kind, EndBy}
-use Rattle.segment_dump.proofs.Common.{HasExactRoom}
-use Rattle.segment_dump.proofs.Common.{Head, IsFilling, Site, all_extents, total, DumpItem}
+use Rattle.segment_dump.proofs.Common.{HasExactRoom, Head, IsFilling, Site, all_extents, total, DumpItem}
 use Rattle.segment_manager.specs.Directory.{put_object, replace_object}
 use Rattle.segment_dump.proofs.Spaces.{IsRest, IsTaken, room-taken, room-with}
 

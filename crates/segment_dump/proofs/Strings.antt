@@ -1,27 +1,19 @@
 -- A string is filled, piece by piece.
-use Rattle.segment_dump.proofs.Common.{◌≡◌, ℕ, suc, ◌+◌, ◌-◌, ◌*◌, ◌/◌, ◌^◌, ◌<◌, ◌≤◌, List, [], ◌∷◌, ◌++◌, length}
-use Rattle.segment_dump.proofs.Common.{Result, Ok, Err, refl, sym, ap, subst, ◌∙◌, arith, BackingArray, no_backing}
-use Rattle.segment_dump.proofs.Common.{Refusal}
-use Rattle.segment_dump.proofs.Common.{ByHandle, Done, Bytes, Value, bare, TakesStep, TakesStepOfKind, SegmentState}
-use Rattle.segment_dump.proofs.Common.{done_answer}
-use Rattle.segment_dump.proofs.Common.{step, FillsNew, IsEmptyObject, IsFillable, PiecesLeft, ReadsLength, ReadsPiece}
-use Rattle.segment_dump.proofs.Common.{content_need, first_content, Head, HasBuiltItems, IsFilling, IsByteList}
-use Rattle.segment_dump.proofs.Common.{FillState}
-use Rattle.segment_dump.proofs.Common.{IsBuildableContent, StandsFilling, head_of, ValueContent, String}
-use Rattle.segment_dump.proofs.Common.{count_of_content}
-use Rattle.segment_dump.proofs.Common.{kind_of_content, ReadsLine, block_room, content_text, piece_of, pieces_in}
-use Rattle.segment_dump.proofs.Common.{text_lines}
-use Rattle.segment_dump.specs.Builders.{AppendsPiece}
-use Rattle.segment_dump.proofs.Adds.{string-of, was-done}
-use Rattle.segment_dump.proofs.Builds.{built}
-use Rattle.segment_dump.proofs.ContentLines.{piece_front}
-use Rattle.segment_dump.proofs.Found.{never-ok, ok-same}
-use Rattle.segment_dump.proofs.Fillings.{led, led-of_kind}
-use Rattle.segment_dump.proofs.Fills.{HasTable, appended, none, reserved, some, string-stored, table_of}
-use Rattle.segment_dump.proofs.PieceReads.{first-fits, front-all, front-few, front-more, front_bytes, none-left}
-use Rattle.segment_dump.proofs.PieceReads.{piece-bytes, piece-line}
 use Rattle.seg_types.specs.declared.kinds.Kind.TheVariants as kinds
 use Rattle.seg_types.specs.Commands as asked
+use Rattle.segment_dump.proofs.Common.{◌≡◌, ℕ, suc, ◌+◌, ◌-◌, ◌*◌, ◌/◌, ◌^◌, ◌<◌, ◌≤◌, List, [], ◌++◌, length, Result}
+use Rattle.segment_dump.proofs.Common.{Ok, Err, refl, sym, ap, subst, ◌∙◌, arith, BackingArray, no_backing, Refusal}
+use Rattle.segment_dump.proofs.Common.{ByHandle, Done, Bytes, Value, bare, TakesStep, TakesStepOfKind, SegmentState}
+use Rattle.segment_dump.proofs.Common.{done_answer, step, FillsNew, IsEmptyObject, IsFillable, PiecesLeft, ReadsLength}
+use Rattle.segment_dump.proofs.Common.{ReadsPiece, content_need, first_content, Head, IsByteList, FillState}
+use Rattle.segment_dump.proofs.Common.{IsBuildableContent, StandsFilling, head_of, ValueContent, String}
+use Rattle.segment_dump.proofs.Common.{count_of_content, kind_of_content, ReadsLine, block_room, content_text, piece_of}
+use Rattle.segment_dump.proofs.{Found.never-ok, Found.ok-same, Adds.string-of, Adds.was-done, ContentLines.piece_front}
+use Rattle.segment_dump.proofs.{Common.pieces_in, Common.text_lines, PieceReads.piece-bytes, PieceReads.piece-line}
+use Rattle.segment_dump.specs.Builders.{AppendsPiece}
+use Rattle.segment_dump.proofs.Fillings.{filled-so, led, led-of_kind, stands-filling}
+use Rattle.segment_dump.proofs.Fills.{HasTable, appended, none, reserved, some, string-stored, table_of}
+use Rattle.segment_dump.proofs.PieceReads.{first-fits, front-all, front-few, front-more, front_bytes, none-left}
 
 -- ---- one piece
 
@@ -44,7 +36,7 @@ piece-appended {E} {F} old new h words p bytes called result r e step ok = recor
       let done' = appended s.directory site done head front t rest bs s.stands.denotes.directory s.filling l in
       let u = led-of_kind s.stands s.mode _ _ _ step' done' in (
         ok (was-done called u.given_is),
-        record { directory = u.directory; stands = u.stands; mode = u.mode; filling = u.holds },
+        stands-filling u.stands u.mode u.holds,
       );
 }
 
@@ -59,12 +51,8 @@ pub record StringAt (s : SegmentState) (text : List ℕ) (p : FillState) (h n : 
   pub inside : n ≤ pieces_in (length bs)
 
 pub record InString (old now : SegmentState) (h : ℕ) (text rest : List ℕ) (room len counter : ℕ) : Type 0 where
-  pub at : (p : FillState) → IsFillable p kinds.String room → IsEmptyObject old text p h
-      → (bs : List ℕ) × (p.content ≡ String bs) × (len ≡ length bs) × IsByteList bs
-      × StringAt now rest p h (suc counter) bs
-
-no-front : (bs : List ℕ) → front_bytes bs 0 ≡ []
-no-front bs = refl
+  pub at : (p : FillState) → IsFillable p kinds.String room → IsEmptyObject old text p h → (bs : List ℕ)
+      × (p.content ≡ String bs) × (len ≡ length bs) × IsByteList bs × StringAt now rest p h (suc counter) bs
 
 table-string : (bs : List ℕ) (w : Value) → HasTable (Bytes [] no_backing) (length bs) w
     → (t : BackingArray) × (w ≡ Bytes [] t) × (length bs ≤ t.capacity)
@@ -96,17 +84,11 @@ begun old text p h room f b =
       is = q.1;
       counted = good.0;
       good = good.1;
-      stands = record {
-        directory = s.directory;
-        stands = s.stands;
-        mode = s.mode;
-        filling = subst (IsFilling s.directory p.site p.done (head_of p h) (Bytes [] no_backing)) needs s.filling;
-      };
+      stands = subst (StandsFilling old p.site p.done (head_of p h) (Bytes [] no_backing)) needs s;
       lines = b.text_is ∙ ap (λ (c : ValueContent). content_text c ++ p.after) q.1;
     }
 
-module _ (old mid : SegmentState) (h room : ℕ) (text rest words : List ℕ) (len : ℕ)
-    (called : Result (Unit {0}) Refusal)
+module _ (old mid : SegmentState) (h room : ℕ) (text rest words : List ℕ) (len : ℕ) (called : Result (Unit {0}) Refusal)
     (moved : TakesStep old mid (asked.Reserve (ByHandle h) len) (done_answer called)) where
   -- the places are there
   record Placed (p : FillState) : Type 0 where
@@ -144,12 +126,8 @@ module _ (old mid : SegmentState) (h room : ℕ) (text rest words : List ℕ) (l
         was = u.given_is;
         table = t.0;
         places = t.2;
-        stands = record {
-          directory = u.directory;
-          stands = u.stands;
-          mode = u.mode;
-          filling = subst (λ w. IsFilling u.directory p.site p.done (head_of p h) w p.more) t.1 u.holds.filling;
-        };
+        stands = subst (λ w. StandsFilling mid p.site p.done (head_of p h) w p.more) t.1
+            (stands-filling u.stands u.mode u.holds.filling);
         words_are = ap (λ (b : List ℕ × ℕ). b.0) both;
         left = q.1;
       }
@@ -162,9 +140,8 @@ module _ (old mid : SegmentState) (h room : ℕ) (text rest words : List ℕ) (l
 
   first-appended : {E F : Type 0} (new : SegmentState) (r' : Result (Unit {0}) F)
       → ReadsLength {E = E} text rest (Ok (words, len)) → AppendsPiece mid new h words r'
-      → (p : FillState) (f : IsFillable p kinds.String room) (b : IsEmptyObject old text p h)
-      → (r' ≡ Ok tt) × ((bs : List ℕ) × (p.content ≡ String bs) × (len ≡ length bs) × IsByteList bs
-      × StringAt new rest p h 1 bs)
+      → (p : FillState) (f : IsFillable p kinds.String room) (b : IsEmptyObject old text p h) → (r' ≡ Ok tt)
+      × ((bs : List ℕ) × (p.content ≡ String bs) × (len ≡ length bs) × IsByteList bs × StringAt new rest p h 1 bs)
   first-appended {E} {F} new r' r a p f b =
       let g = placed r p f b in
       let bs = g.bytes in
@@ -180,13 +157,7 @@ module _ (old mid : SegmentState) (h room : ℕ) (text rest words : List ℕ) (l
           record {
             table = g.table;
             places = g.places;
-            stands = record {
-              directory = one.1.directory;
-              stands = one.1.stands;
-              mode = one.1.mode;
-              filling = subst (λ w. IsFilling one.1.directory p.site p.done (head_of p h) (Bytes w g.table) p.more)
-                  front one.1.filling;
-            };
+            stands = subst (λ w. StandsFilling new p.site p.done (head_of p h) (Bytes w g.table) p.more) front one.1;
             left = g.left;
             inside = omega arith;
           },
@@ -225,9 +196,8 @@ module _ (old now : SegmentState) (h room : ℕ) (text rest : List ℕ) (len cou
   line-there rest' r k p f b = let q = i.at p f b
       in piece-line q.0 p.after (suc counter) rest rest' r (omega (arith, l, q.2)) q.4.left k
 
-  pub string-no_line : {E F : Type 0} (new : SegmentState) (rest' final : List ℕ) (e : E)
-      (result : Result (Unit {0}) F) → ReadsLine rest rest' (Err e)
-      → FillsNew old new h kinds.String 1 text final room result
+  pub string-no_line : {E F : Type 0} (new : SegmentState) (rest' final : List ℕ) (e : E) (result : Result (Unit {0}) F)
+      → ReadsLine rest rest' (Err e) → FillsNew old new h kinds.String 1 text final room result
   string-no_line new rest' final e result k =
       record {
         fills = λ p f c b. absurd
@@ -253,13 +223,8 @@ module _ (old now : SegmentState) (h room : ℕ) (text rest : List ℕ) (len cou
         record {
           table = at.table;
           places = at.places;
-          stands = record {
-            directory = one.1.directory;
-            stands = one.1.stands;
-            mode = one.1.mode;
-            filling = subst (λ w. IsFilling one.1.directory p.site p.done (head_of p h) (Bytes w at.table) p.more)
-                (sym (front-more bs n)) one.1.filling;
-          };
+          stands = subst (λ w. StandsFilling new p.site p.done (head_of p h) (Bytes w at.table) p.more)
+              (sym (front-more bs n)) one.1;
           left = read.1;
           inside = omega (arith, l, q.2);
         },
@@ -300,23 +265,11 @@ string-end {F} old now h room text rest len counter i l = record {
       let at = q.4 in
       let n : suc counter ≡ pieces_in (length bs) = omega (arith, at.inside, q.2, l) in
       let all : front_bytes bs (suc counter) ≡ bs = front-all bs (suc counter) n in
-      let filling : IsFilling at.stands.directory p.site p.done (head_of p h) (Bytes bs at.table) p.more =
-      subst (λ w. IsFilling at.stands.directory p.site p.done (head_of p h) (Bytes w at.table) p.more) all
-      at.stands.filling in
-      let done = built at.stands.directory p.site p.done (head_of p h) (Bytes bs at.table) p.more filling in (
+      let stands = subst (λ w. StandsFilling now p.site p.done (head_of p h) (Bytes w at.table) p.more) all
+      at.stands in (
         refl,
         record {
-          stands = record {
-            directory = at.stands.directory;
-            stands = at.stands.stands;
-            mode = at.stands.mode;
-            built = subst (λ (c : ValueContent).
-                HasBuiltItems at.stands.directory p.site (p.done ++ record {
-                  class = p.class;
-                  name = p.name;
-                  content = c;
-                } ∷ []) p.more) (sym q.1) done;
-          };
+          stands = filled-so p h (Bytes bs at.table) p.more (sym q.1) stands;
           text_is = none-left bs p.after (suc counter) rest n at.left;
         },
       );

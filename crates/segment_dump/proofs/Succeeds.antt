@@ -1,35 +1,26 @@
 -- A load of a dump, where nothing is lacking for its objects, gives a segment.
+use Rattle.seg_types.specs.Commands as asked
+use Rattle.segment_manager.specs.declared.errors.CreateError.TheVariants as create
 use Rattle.segment_dump.proofs.Common.{◌≡◌, ℕ, ◌+◌, ◌*◌, ◌^◌, ◌<◌, ◌≤◌, Bool, true, false, nat_eq, nat_lt, List, []}
 use Rattle.segment_dump.proofs.Common.{◌++◌, length, map, Option, Some, None, Result, Ok, Err, if◌then◌else◌, refl, sym}
 use Rattle.segment_dump.proofs.Common.{ap, subst, ◌∙◌, arith, IfOk, not, false≢true, ltb-false, eq-eqb, length-append}
 use Rattle.segment_dump.proofs.Common.{is_legal_size, Refusal, CreateError, CreateRefused, Write, Done, Number, IsWhy}
 use Rattle.segment_dump.proofs.Common.{Directory, empty, shrunk, TakesStep, SegmentState, DenotesCurrent, done_answer}
-use Rattle.segment_dump.proofs.Common.{step, Count}
-use Rattle.segment_dump.proofs.Common.{Front, LoadError, BadSize, RegionTooSmall, NoSpace, LongText, LoadRefused}
-use Rattle.segment_dump.proofs.Common.{BuildsAllObjects, HasBuiltItems, Site, CountsDump, IsFront, fronted, StandsBuilt}
-use Rattle.segment_dump.proofs.Common.{DumpItem, Items}
-use Rattle.segment_dump.proofs.Common.{item_of_object, portable, IsRequestedSize, IsRefusalOf, asked_of, refusal_for}
-use Rattle.segment_dump.proofs.Common.{all_needs}
-use Rattle.segment_dump.proofs.Common.{block_room, front_room, item_needs, items_needs, all_items, Succeeds, Takes}
-use Rattle.segment_dump.proofs.Common.{dump_text, end_text, items_text}
+use Rattle.segment_dump.proofs.Common.{step, Count, Front, LoadError, BadSize, RegionTooSmall, NoSpace, LongText}
+use Rattle.segment_dump.proofs.Common.{LoadRefused, BuildsAllObjects, HasBuiltItems, Site, CountsDump, IsFront, fronted}
+use Rattle.segment_dump.proofs.Common.{StandsBuilt, DumpItem, Items, item_of_object, portable, IsRequestedSize}
+use Rattle.segment_dump.proofs.Common.{IsRefusalOf, asked_of, refusal_for, all_needs, block_room, front_room}
+use Rattle.segment_dump.proofs.Common.{item_needs, items_needs, all_items, Succeeds, Takes, dump_text, end_text}
+use Rattle.segment_dump.proofs.{Common.items_text, DumpCounts.is-front, Found.never-ok, Found.ok-same, Found.none-some}
+use Rattle.segment_dump.proofs.{Elements.free-is, Elements.size-is, Fillings.Led, Fillings.led}
+use Rattle.segment_dump.proofs.{Judged.portable-countable, Spaces.block-rest, Spaces.rest-both, Makes.items-rest}
 use Rattle.std.specs.Prelude.{OnErr}
-use Rattle.segment_manager.specs.Calls.{Creates}
-use Rattle.segment_manager.specs.blocks.Resized.{Resizes}
-use Rattle.segment_dump.specs.Comparing.{IsNoDumpOf}
+use Rattle.segment_manager.specs.{Calls.Creates, blocks.Resized.Resizes}
+use Rattle.segment_dump.specs.{Comparing.IsNoDumpOf, Succeeding.trimmed}
 use Rattle.segment_dump.specs.Succeeding.{HasRequestedSize, JudgesDump, MakesObjects, Sizes, SucceedsOf, Trims, site_of}
-use Rattle.segment_dump.specs.Succeeding.{trimmed}
 use Rattle.segment_dump.proofs.Buildables.{needs-all, portable-left}
 use Rattle.segment_dump.proofs.Builds.{IsFronted, empty-built, fronted as with_names, named-reserved, unique-reserved}
-use Rattle.segment_dump.proofs.DumpCounts.{is-front}
-use Rattle.segment_dump.proofs.Found.{never-ok, ok-same, none-some}
-use Rattle.segment_dump.proofs.Elements.{free-is, size-is}
-use Rattle.segment_dump.proofs.Fillings.{Led, led}
 use Rattle.segment_dump.proofs.Finishes.{built-portable, cut-free, portable-sorted, text-behind}
-use Rattle.segment_dump.proofs.Judged.{portable-countable}
-use Rattle.segment_dump.proofs.Spaces.{block-rest, rest-both}
-use Rattle.segment_dump.proofs.Makes.{items-rest}
-use Rattle.seg_types.specs.Commands as asked
-use Rattle.segment_manager.specs.declared.errors.CreateError.TheVariants as create
 
 -- ---- the objects
 
@@ -49,8 +40,7 @@ module _ (old mid : SegmentState) (front : Front) (text : List ℕ) (most room :
       → Led mid (done_answer r) Done (IsFronted size front.named (more items))
   unfolding front_room
   named-led size items st w fits =
-      led st w _ moved
-      (named-reserved size front.named (more items) st.denotes.directory
+      led st w _ moved (named-reserved size front.named (more items) st.denotes.directory
       (empty-built size (block_room (8 * front.named) + more items) (omega (arith, fits)))
       (rest-both (block_room (8 * front.unique)) (all_needs item_needs items).room (block-rest (8 * front.unique))
       (items-rest items)))
@@ -283,8 +273,7 @@ module _ (text : List ℕ) (capacity base : ℕ) (size : Option ℕ) (room : ℕ
 
 pub succeeds-lacking : (text : List ℕ) (capacity base : ℕ) (size : Option ℕ) (room : ℕ) (counted : Result Count ℕ)
     (o : Option LoadError) (cause : LoadError) (result : Result SegmentState LoadRefused) → CountsDump text counted
-    → IsRefusalOf capacity base size room counted o → o ≡ Some cause
-    → Succeeds text capacity base size room result
+    → IsRefusalOf capacity base size room counted o → o ≡ Some cause → Succeeds text capacity base size room result
 succeeds-lacking text capacity base size room counted o cause result h r e = record {
   succeeds = λ b d n s l t f.
       let c = h.counts n (portable d) l (portable-countable b d s) t in

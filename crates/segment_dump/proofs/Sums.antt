@@ -2,8 +2,7 @@
 use Rattle.segment_dump.proofs.Common.{◌≡◌, ℕ, ◌+◌, ◌*◌, ◌/◌, ◌<◌, ◌≤◌, ◌==◌, Bool, true, false, List, [], ◌∷◌, ◌++◌}
 use Rattle.segment_dump.proofs.Common.{if◌then◌else◌, refl, sym, ap, ◌∙◌, arith, zero-add, max, nat_tests, room, Needs}
 use Rattle.segment_dump.proofs.Common.{IsSmall, all_needs, block_room, both, nothing, ScalarKind, size_of, node_len}
-use Rattle.std.proofs.Common.{add_assoc}
-use Rattle.std.proofs.Math.Nat.{le-max_right, zero-max, le-mul_of_pos_right}
+use Rattle.std.proofs.{Common.add_assoc, Math.Nat.le-max_right, Math.Nat.zero-max, Math.Nat.le-mul_of_pos_right}
 use Rattle.seg_types.specs.declared.kinds.ScalarKind.TheVariants.{Bool as BoolKind}
 
 -- ---- sums of needs

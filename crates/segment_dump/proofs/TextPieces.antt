@@ -2,11 +2,8 @@
 use Rattle.segment_dump.proofs.Common.{◌≡◌, ℕ, zero, suc, ◌+◌, ◌*◌, ◌≤◌, List, [], ◌∷◌, ◌++◌, length, take, drop, refl}
 use Rattle.segment_dump.proofs.Common.{sym, ap, ◌∙◌, arith, append_assoc, ◌<◌, ◌^◌, take-add, take_all, quoted_text}
 use Rattle.segment_dump.proofs.Common.{number_text, parts_until, piece_line, piece_of, pieces_in, pieces_text}
-use Rattle.segment_dump.proofs.Common.{text_lines, decimal_injective}
-use Rattle.segment_dump.proofs.Codes.{Breaks, heads, tails, words-read}
-use Rattle.segment_dump.proofs.Quotes.{quoted-read}
-use Rattle.segment_dump.proofs.Words.{decimal-word}
-use Rattle.segment_dump.proofs.PartLines.{split}
+use Rattle.segment_dump.proofs.{Common.text_lines, Common.decimal_injective, Codes.Breaks, Codes.heads, Codes.tails}
+use Rattle.segment_dump.proofs.{Codes.words-read, Quotes.quoted-read, Words.decimal-word, PartLines.split}
 
 -- ---- the pieces of a text are its bytes
 
@@ -37,9 +34,8 @@ piece-read : (i : ℕ) (bs cs a b : List ℕ) → piece_line bs i ++ a ≡ piece
 piece-read zero bs cs a b e = closed-read (piece_of bs 0) (piece_of cs 0) a b (ap (drop 1) e)
 piece-read (suc i) bs cs a b e = closed-read (piece_of bs (suc i)) (piece_of cs (suc i)) a b (ap (drop 4) e)
 
-same-read : (bs cs : List ℕ) (n : ℕ) (a b : List ℕ)
-    → parts_until (piece_line bs) n ++ a ≡ parts_until (piece_line cs) n ++ b
-    → (parts_until (piece_of bs) n ≡ parts_until (piece_of cs) n) × (a ≡ b)
+same-read : (bs cs : List ℕ) (n : ℕ) (a b : List ℕ) → parts_until (piece_line bs) n
+    ++ a ≡ parts_until (piece_line cs) n ++ b → (parts_until (piece_of bs) n ≡ parts_until (piece_of cs) n) × (a ≡ b)
 same-read bs cs zero a b e = (refl, e)
 same-read bs cs (suc n) a b e =
     let r = same-read bs cs n (piece_line bs n ++ a) (piece_line cs n ++ b)
@@ -69,8 +65,7 @@ pub texts-read : (bs cs a b : List ℕ) → length bs < 2 ^ 64 → length cs < 2
     → text_lines bs ++ a ≡ text_lines cs ++ b → (bs ≡ cs) × (a ≡ b)
 texts-read bs cs a b p q e =
     let r = words-read (number_text (length bs)) (number_text (length cs)) (pieces_text bs ++ a) (pieces_text cs
-    ++ b) (decimal-word (length bs)) (decimal-word (length cs))
-    (pieces-break bs a) (pieces-break cs b)
+    ++ b) (decimal-word (length bs)) (decimal-word (length cs)) (pieces-break bs a) (pieces-break cs b)
     (sym (append_assoc (number_text (length bs)) (pieces_text bs) a) ∙ ap (drop 2) e
     ∙ append_assoc (number_text (length cs)) (pieces_text cs) b) in
     pieces-read bs cs a b (decimal_injective (length bs) (length cs) p q r.0) r.1

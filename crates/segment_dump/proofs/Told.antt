@@ -9,14 +9,11 @@ use Rattle.segment_dump.proofs.Common.{node_len, NumberPair, is_number_pair, ite
 use Rattle.segment_dump.proofs.Common.{Numbers, Object, Pairs, Texts, Value, by_kind, by_name, has_good_name, is_class}
 use Rattle.segment_dump.proofs.Common.{is_good_value, is_object, kind_of, live, named_objects, object_len}
 use Rattle.segment_dump.proofs.Common.{unique_objects, has_own_block, is_owned_text, DenotesCurrent, all-ordered}
-use Rattle.segment_dump.proofs.Common.{live-size}
-use Rattle.segment_dump.proofs.Common.{anonymous_objects, content_of, item_of_object, portable, ValueContent, DumpItem}
-use Rattle.segment_dump.proofs.Common.{Map}
-use Rattle.segment_dump.proofs.Common.{Scalars, String, Strings, Vector, bytes_in, count_of_content, kind_of_content}
-use Rattle.segment_dump.proofs.Common.{IsTypedPair, IsByteList, AreRising, AreValues, IsBuildableContent, IsNameIn}
-use Rattle.segment_dump.proofs.Common.{ints}
-use Rattle.segment_dump.proofs.Common.{OwnedText, all_needs, elements_room, item_needs, items_needs, object_room}
-use Rattle.segment_dump.proofs.Common.{text_needs, texts_needs, AreOf}
+use Rattle.segment_dump.proofs.Common.{live-size, anonymous_objects, content_of, item_of_object, portable, ValueContent}
+use Rattle.segment_dump.proofs.Common.{DumpItem, Map, Scalars, String, Strings, Vector, bytes_in, count_of_content}
+use Rattle.segment_dump.proofs.Common.{kind_of_content, IsTypedPair, IsByteList, AreRising, AreValues}
+use Rattle.segment_dump.proofs.Common.{IsBuildableContent, IsNameIn, ints, OwnedText, all_needs, elements_room}
+use Rattle.segment_dump.proofs.Common.{item_needs, items_needs, object_room, text_needs, texts_needs, AreOf}
 use Rattle.block_tags.specs.declared.tile.Role.TheVariants.{Object as ObjectRole}
 use Rattle.seg_types.specs.Names.{is_text_name}
 use Rattle.segment_dump.specs.Laws.{DumpsTellObjects, DumpsTellSizes}
@@ -24,11 +21,9 @@ use Rattle.std.specs.Str.{is_utf8}
 use Rattle.std.proofs.lemmas.Str.{IsUtf8-from_is_utf8}
 use lib.Dec.{ltb}
 use lib.Utf8.{encode, encodes, next, scalar, scalars, scalar_cases}
-use Rattle.segment_dump.proofs.ItemLines.{IsGoodItem}
-use Rattle.segment_dump.proofs.Readings.{AreItems, dumps-read, sizes-read}
-use Rattle.segment_dump.proofs.Sums.{block-least, node-least, size-least}
+use Rattle.segment_dump.proofs.{ItemLines.IsGoodItem, Readings.AreItems, Readings.dumps-read, Readings.sizes-read}
+use Rattle.segment_dump.proofs.{Sums.block-least, Sums.node-least, Sums.size-least, ObjectRooms.segments-have-room}
 use Rattle.segment_dump.proofs.Lists.{AllByRecursion-append, all-by, all-kept, all-mapped, all-tested}
-use Rattle.segment_dump.proofs.ObjectRooms.{segments-have-room}
 
 -- ---- names
 
@@ -128,8 +123,7 @@ owned-bytes p e = all-bytes p.bytes (and_parts (has_own_block p) (list_all (λ b
 
 all-texts : (ps : List OwnedText) → list_all is_owned_text ps ≡ true → AllByRecursion IsByteList (map bytes_in ps)
 all-texts ps e = all-mapped IsByteList bytes_in ps (all-tested is_owned_text (λ p.
-    IsByteList (bytes_in p)) owned-bytes ps
-    e)
+    IsByteList (bytes_in p)) owned-bytes ps e)
 
 value-half : (v : Value) → is_good_value v ≡ true → IsHalfContent (content_of v)
 value-half (Numbers k zs) e =
@@ -204,9 +198,8 @@ half-good c i h l = record {
   content = content-counted i.content h.content (omega (arith, own-part i, l));
 }
 
-good-items : (c : Class) (is : List DumpItem) → AllByRecursion (IsHalf c) is
-    → (all_needs item_needs is).room ≤ 1073741824
-    → AllByRecursion (IsGoodItem c) is
+good-items : (c : Class) (is : List DumpItem)
+    → AllByRecursion (IsHalf c) is → (all_needs item_needs is).room ≤ 1073741824 → AllByRecursion (IsGoodItem c) is
 good-items c [] a l = tt
 good-items c (i ∷ is) a l = (half-good c i a.0 (omega (arith, l)), good-items c is a.1 (omega (arith, l)))
 

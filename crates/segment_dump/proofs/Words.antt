@@ -64,8 +64,7 @@ pub decimal-some : (n : ℕ) → IsSome (decimal n)
 unfolding digits
 decimal-some n =
     some-if (n / 10 == 0) (n % 10) [] (digits_onto 63 10 false (n / 10) (digit_glyph false (n % 10) ∷ [])) (omega arith)
-    tt
-    (digits_onto-some 63 (n / 10) (digit_glyph false (n % 10)) [] (glyph-digit (n % 10) (omega arith), tt))
+    tt (digits_onto-some 63 (n / 10) (digit_glyph false (n % 10)) [] (glyph-digit (n % 10) (omega arith), tt))
 
 decimal-digits : (n : ℕ) → AreDigits (decimal n)
 decimal-digits n = let s = decimal-some n in subst AreDigits (sym s.is) s.digits

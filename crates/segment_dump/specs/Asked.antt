@@ -1,16 +1,13 @@
 -- What the lines of a text ask for, dump or not, as far as they are counted: objects and their elements, up to the line
 -- `end`.
+use Rattle.seg_types.specs.declared.kinds.Kind.TheVariants as kinds
 use Rattle.std.specs.Prelude.{◌≡◌, ◌≤◌, ℕ, List, [], ◌∷◌, ◌++◌, Some, length, flat_map}
 use Rattle.std.specs.List.{AllByRecursion}
 use Rattle.raw_region.specs.Format.{current}
 use Rattle.seg_types.specs.declared.kinds.Kind.{Kind}
-use Rattle.seg_types.specs.declared.kinds.Kind.TheVariants as kinds
-use Rattle.segment_lang.specs.Language.{whole}
-use Rattle.segment_lang.specs.Reading.{kind_named}
-use Rattle.segment_lang.specs.Texts.{number_text}
-use Rattle.segment_dump.specs.declared.needs.Needs.{Needs}
+use Rattle.segment_lang.specs.{Language.whole, Reading.kind_named, Texts.number_text}
+use Rattle.segment_dump.specs.{declared.needs.Needs.Needs, Reads.AreLines, Reads.lines_text}
 use Rattle.segment_dump.specs.Need.{all_needs, block_room, both, nothing, object_room, only_room}
-use Rattle.segment_dump.specs.Reads.{AreLines, lines_text}
 use Rattle.segment_dump.specs.Texts.{end_text, length_text, pieces_in}
 
 -- the text begins with bytes that say this, and the rest follows

@@ -1,35 +1,24 @@
 -- What the calls promise that build a segment of a text.
-use Rattle.std.specs.Prelude.{◌≡◌, ℕ, ◌+◌, ◌<◌, ◌≤◌, ℤ, pos, true, false, List, [], ◌∷◌, ◌++◌, Some, Result, Ok, length}
-use Rattle.std.specs.Prelude.{replicate, take}
-use Rattle.std.specs.List.{AllByRecursion}
-use Rattle.seg_types.specs.declared.kinds.Class.{Class}
-use Rattle.seg_types.specs.declared.kinds.Class.TheVariants.{Anonymous, Named, Unique}
-use Rattle.seg_types.specs.declared.kinds.Kind.{Kind}
 use Rattle.seg_types.specs.declared.kinds.Kind.TheVariants as kinds
-use Rattle.seg_types.specs.declared.kinds.ScalarKind.{ScalarKind}
-use Rattle.seg_types.specs.declared.values.ScalarValue.{ScalarValue}
 use Rattle.seg_types.specs.Commands as asked
-use Rattle.seg_types.specs.Commands.{Command, Content as Asked, literal_of}
-use Rattle.seg_types.specs.Kinds.{is_value}
-use Rattle.seg_types.specs.Names.{Key}
-use Rattle.seg_types.specs.Values.{scalar_of}
+use Rattle.std.specs.Prelude.{◌≡◌, ℕ, ◌+◌, ◌<◌, ◌≤◌, ℤ, pos, true, false, List, [], ◌∷◌, ◌++◌, Some, Result, Ok, length}
+use Rattle.std.specs.{Prelude.replicate, Prelude.take, List.AllByRecursion}
+use Rattle.seg_types.specs.{declared.kinds.Class.Class, declared.kinds.Kind.Kind, declared.kinds.ScalarKind.ScalarKind}
+use Rattle.seg_types.specs.{Commands.Content as Asked, Kinds.is_value, Names.Key, Values.scalar_of}
+use Rattle.seg_types.specs.declared.kinds.Class.TheVariants.{Anonymous, Named, Unique}
+use Rattle.seg_types.specs.declared.values.ScalarValue.{ScalarValue}
 use Rattle.best_fit.specs.Table.{BackingArray}
-use Rattle.segment_manager.specs.Directory.{Bytes}
-use Rattle.segment_manager.specs.Plan.{bare}
+use Rattle.segment_manager.specs.{Directory.Bytes, Plan.bare, objects.Found.is_object_at, objects.Located.IsObject}
+use Rattle.segment_manager.specs.{State.AnswersWith, State.IsSegment, State.SegmentState, Parts.parts_until}
 use Rattle.segment_manager.specs.declared.objects.object_ref.Object.{Object as Located}
-use Rattle.segment_manager.specs.objects.{Found.is_object_at, Located.IsObject}
-use Rattle.segment_manager.specs.State.{AnswersWith, IsSegment, SegmentState}
 use Rattle.seg_types.specs.Texts.{class_text, name_text, quoted_text}
-use Rattle.segment_lang.specs.Tokens.{next_word}
-use Rattle.segment_lang.specs.Words.{Bare}
-use Rattle.segment_dump.specs.declared.building.ObjectLine.{ObjectLine}
+use Rattle.segment_lang.specs.{Tokens.next_word, Words.Bare}
+use Rattle.segment_dump.specs.{declared.building.ObjectLine.ObjectLine, Building.measure_words}
 use Rattle.segment_dump.specs.Building.{AreNew, IsRest, Site, count_class, has_item_key, head_words, item_key}
-use Rattle.segment_dump.specs.Building.{measure_words}
 use Rattle.segment_dump.specs.Filling.{IsByteList, FillState, FillsAt, IsBuildable, IsBuildableContent, IsCounted}
 use Rattle.segment_dump.specs.Filling.{IsTypedPair, StandsBuilt, StandsFilling, filled_item, head_of}
 use Rattle.segment_dump.specs.Items.{ValueContent, DumpItem, count_of_content, kind_of_content}
 use Rattle.segment_dump.specs.Need.{all_needs, elements_room, item_needs, texts_needs}
-use Rattle.segment_manager.specs.Parts.{parts_until}
 use Rattle.segment_dump.specs.Texts.{content_text, element_line, end_text, items_text, pair_line, piece_lead}
 use Rattle.segment_dump.specs.Texts.{piece_line, piece_of, pieces_text, text_lines}
 
@@ -171,17 +160,15 @@ pub record IsGone {E : Type 0} (text : List ℕ) (result : Result (Unit {0}) E) 
 pub record StartsUnder {E : Type 0} (old new : SegmentState) (key : Kind
     → Key) (words : List ℕ) (result : Result (ℕ × ObjectLine) E) : Type 0 where
   pub starts : (site : Site) (done : List DumpItem) (i : DumpItem) (more room : ℕ)
-      → CanBuildItem old site done i more room → key (kind_of_content i.content) ≡ item_key i
-      → words ≡ 0x20 ∷ measure_words (kind_of_content i.content) (count_of_content i.content)
-      → IsStarted new site done i more result
+      → CanBuildItem old site done i more room → key (kind_of_content i.content) ≡ item_key i → words ≡ 0x20
+      ∷ measure_words (kind_of_content i.content) (count_of_content i.content) → IsStarted new site done i more result
 
 -- behind the word of its class
 pub record StartsNamed {E : Type 0} (old new : SegmentState) (words : List ℕ) (result : Result (ℕ × ObjectLine) E) :
     Type 0 where
   pub starts : (site : Site) (done : List DumpItem) (i : DumpItem) (more room : ℕ)
-      → CanBuildItem old site done i more room → i.class ≡ Named
-      → words ≡ 0x20 ∷ (name_text i.name
-      ++ 0x20 ∷ measure_words (kind_of_content i.content) (count_of_content i.content))
+      → CanBuildItem old site done i more room → i.class ≡ Named → words
+      ≡ 0x20 ∷ (name_text i.name ++ 0x20 ∷ measure_words (kind_of_content i.content) (count_of_content i.content))
       → IsStarted new site done i more result
 
 -- by all words of its line
@@ -234,9 +221,8 @@ pub record ReadsLength {E : Type 0} (text rest : List ℕ) (result : Result (Lis
 
 -- a piece goes behind so many bytes of the room
 pub record CopiesPiece {E : Type 0} (words old new : List ℕ) (from : ℕ) (result : Result ℕ E) : Type 0 where
-  pub copies : (i : ℕ) (bs : List ℕ) → IsByteList bs → words ≡ piece_lead i ++ quoted_text bs
-      → from + length bs ≤ length old → (result ≡ Ok (from + length bs))
-      × (take (from + length bs) new ≡ take from old ++ bs)
+  pub copies : (i : ℕ) (bs : List ℕ) → IsByteList bs → words ≡ piece_lead i ++ quoted_text bs → from
+      + length bs ≤ length old → (result ≡ Ok (from + length bs)) × (take (from + length bs) new ≡ take from old ++ bs)
 
 -- a text is collected in the front of the room
 pub record Collects {E : Type 0} (text rest old new : List ℕ) (result : Result ℕ E) : Type 0 where
@@ -248,7 +234,6 @@ pub record AppendsPiece {E : Type 0} (old new : SegmentState) (h : ℕ) (words :
     (result : Result (Unit {0}) E) : Type 0 where
   pub appends : (site : Site) (done : List DumpItem) (class : Class) (name front : List ℕ) (t : BackingArray)
       (rest i : ℕ) (bs : List ℕ) → StandsFilling old site done (record { class = class; name = name; handle = h })
-      (Bytes front t) rest → IsByteList bs
-      → words ≡ piece_lead i ++ quoted_text bs → length (front ++ bs) ≤ t.capacity
+      (Bytes front t) rest → IsByteList bs → words ≡ piece_lead i ++ quoted_text bs → length (front ++ bs) ≤ t.capacity
       → (result ≡ Ok tt) × StandsFilling new site done (record { class = class; name = name; handle = h })
       (Bytes (front ++ bs) t) rest

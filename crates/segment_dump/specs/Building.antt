@@ -1,15 +1,11 @@
 -- A segment that is being built: its objects so far, and room for the rest behind all its blocks.
 use Rattle.std.specs.Prelude.{◌≡◌, ◌⊎◌, ℕ, ◌+◌, ◌≤◌, ⊤, Bool, true, false, ◌&&◌, ◌==◌, nat_lt, List, [], ◌∷◌, ◌++◌}
 use Rattle.std.specs.Prelude.{codes, length, map, filter, flat_map}
-use Rattle.std.specs.List.{AllByRecursion}
+use Rattle.std.specs.{List.AllByRecursion, Cmp.Lexicographic.slice_cmp, Ordering.nat_cmp, Ordering.is_lt}
 use Rattle.best_fit.specs.Extents.{Extent, end_of, handle}
-use Rattle.std.specs.Cmp.Lexicographic.{slice_cmp}
-use Rattle.std.specs.Ordering.{nat_cmp, is_lt}
-use Rattle.seg_types.specs.declared.kinds.Class.{Class}
+use Rattle.seg_types.specs.{declared.kinds.Class.Class, declared.kinds.Kind.Kind, Kinds.class_code, Kinds.code_of}
+use Rattle.seg_types.specs.{Kinds.same_kind, Names.Key, Names.ByHandle, Names.ByKind, Names.ByName, Names.NoKey}
 use Rattle.seg_types.specs.declared.kinds.Class.TheVariants.{Anonymous, Named, Unique}
-use Rattle.seg_types.specs.declared.kinds.Kind.{Kind}
-use Rattle.seg_types.specs.Kinds.{class_code, code_of, same_kind}
-use Rattle.seg_types.specs.Names.{Key, ByHandle, ByKind, ByName, NoKey}
 use Rattle.segment_manager.specs.Directory.{Directory, Object, Value, extents_of, same_bytes, table_extents}
 use Rattle.segment_dump.specs.Items.{DumpItem, count_of_content, item_of_object, kind_of_content}
 use Rattle.segment_lang.specs.Texts.{kind_text, name_text, number_text}

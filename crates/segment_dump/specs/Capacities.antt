@@ -1,17 +1,12 @@
 -- The capacities of a segment: which there are, and how they are told behind its dump, each in a note.
 use Rattle.std.specs.Prelude.{ℕ, List, [], ◌∷◌, ◌++◌, Option, Some, None, Result, Ok, Err, codes, map, option_to_list}
 use Rattle.std.specs.List.{flat_map}
-use Rattle.seg_types.specs.declared.kinds.Class.{Class}
-use Rattle.seg_types.specs.declared.kinds.Kind.{Kind}
+use Rattle.seg_types.specs.{declared.kinds.Class.Class, declared.kinds.Kind.Kind, Names.Key}
 use Rattle.seg_types.specs.declared.refusals.Refusal.{Refusal}
-use Rattle.seg_types.specs.Names.{Key}
 use Rattle.segment_lang.specs.Texts.{kind_text, number_text}
 use Rattle.segment_manager.specs.Directory.{Value, Numbers, Elements, Bytes, Pairs, Texts, Directory, Object, kind_of}
-use Rattle.segment_manager.specs.Directory.{named_objects, object_at, unique_objects}
-use Rattle.segment_dump.specs.Building.{class_words}
-use Rattle.segment_dump.specs.Items.{anonymous_objects}
-use Rattle.segment_dump.specs.DumpWrites.{where_anonymous}
-use Rattle.segment_manager.specs.Parts.{part_of}
+use Rattle.segment_manager.specs.{Directory.named_objects, Directory.object_at, Directory.unique_objects, Parts.part_of}
+use Rattle.segment_dump.specs.{Building.class_words, Items.anonymous_objects}
 
 -- ---- which there are
 
@@ -73,13 +68,6 @@ object_notes o = capacities_text (object_capacities o)
 
 abbrev pub notes_at : Directory → Key → List ℕ
 notes_at d key = part_of object_notes (object_at d key)
-
--- the same where it is anonymous
-abbrev pub anonymous_notes : Object → List ℕ
-anonymous_notes = where_anonymous object_notes
-
-abbrev pub anonymous_notes_at : Directory → Key → List ℕ
-anonymous_notes_at d key = part_of anonymous_notes (object_at d key)
 
 -- the places of the object of a key, if it has a capacity
 abbrev pub places_in : Option Object → Option ℕ

@@ -2,10 +2,8 @@
 use Rattle.std.specs.Prelude.{◌≡◌, ◌≢◌, ◌≤◌, ⊤, ℕ, Option, Some, None, List, ◌∷◌, ◌++◌, length, take, drop}
 use Rattle.std.specs.Prelude.{option_to_list}
 use Rattle.raw_region.specs.Device.{WriterHistory}
-use Rattle.segment_manager.specs.Directory.{Directory}
-use Rattle.segment_manager.specs.State.{SegmentState, DenotesCurrent}
-use Rattle.segment_dump.specs.Items.{portable}
-use Rattle.segment_dump.specs.Texts.{dump_text}
+use Rattle.segment_manager.specs.{Directory.Directory, State.SegmentState, State.DenotesCurrent}
+use Rattle.segment_dump.specs.{Items.portable, Texts.dump_text}
 
 -- the text, how many bytes of it were written, then the first byte that was another, and how many writes were refused
 pub record Compared : Type 0 where

@@ -1,16 +1,11 @@
 -- What is counted of a text, and of which texts it is said.
 use Rattle.std.specs.Prelude.{◌≡◌, ◌≢◌, ◌<◌, ◌^◌, ◌++◌, ℕ, List, [], Option, Some, Result, Ok, length}
 use Rattle.std.specs.List.{AllByRecursion}
-use Rattle.seg_types.specs.declared.kinds.Class.TheVariants.{Named}
-use Rattle.seg_types.specs.declared.kinds.Kind.{Kind}
-use Rattle.segment_dump.specs.declared.counting.Count.{Count}
-use Rattle.segment_dump.specs.declared.counting.Front.{Front}
-use Rattle.segment_dump.specs.declared.needs.Needs.{Needs}
+use Rattle.seg_types.specs.{declared.kinds.Class.TheVariants.Named, declared.kinds.Kind.Kind}
+use Rattle.segment_dump.specs.{declared.counting.Count.Count, declared.counting.Front.Front, declared.needs.Needs.Needs}
+use Rattle.segment_dump.specs.{Leads.IsSmall, Asked.AreAtMost, Asked.HasObjects, Need.texts_needs}
 use Rattle.segment_dump.specs.Items.{ValueContent, DumpItem, Items, kind_of_content, count_of_content}
-use Rattle.segment_dump.specs.Leads.{IsSmall}
-use Rattle.segment_dump.specs.Asked.{AreAtMost, HasObjects}
 use Rattle.segment_dump.specs.Need.{all_needs, both, front_room, item_needs, items_needs, only_room, text_needs}
-use Rattle.segment_dump.specs.Need.{texts_needs}
 use Rattle.segment_dump.specs.Texts.{dump_text, end_text, front_text, items_text}
 
 -- ---- what it has

@@ -2,14 +2,11 @@
 use Rattle.std.specs.Prelude.{◌++◌, List, [], ℕ, Result, if◌then◌else◌}
 use Rattle.std.specs.List.{flat_map}
 use Rattle.raw_region.specs.Device.{WriterHistory}
-use Rattle.seg_types.specs.declared.kinds.Class.TheVariants.{Anonymous}
-use Rattle.seg_types.specs.Names.{Key}
+use Rattle.seg_types.specs.{declared.kinds.Class.TheVariants.Anonymous, Names.Key}
 use Rattle.segment_manager.specs.Directory.{Directory, Object, is_class, named_objects, object_at, unique_objects}
-use Rattle.segment_manager.specs.State.{SegmentState, DenotesCurrent}
+use Rattle.segment_manager.specs.{State.SegmentState, State.DenotesCurrent, Parts.part_of}
 use Rattle.segment_values.specs.Writing.{WritesFor}
-use Rattle.segment_dump.specs.Items.{anonymous_objects, item_of_object}
-use Rattle.segment_manager.specs.Parts.{part_of}
-use Rattle.segment_dump.specs.Texts.{end_text, item_text}
+use Rattle.segment_dump.specs.{Items.anonymous_objects, Items.item_of_object, Texts.end_text, Texts.item_text}
 
 -- the text that is owed of each directory
 abbrev pub WritesOf : {A E : Type 0} → SegmentState → WriterHistory → WriterHistory → Result A E
@@ -26,13 +23,6 @@ text_at d key = part_of object_text (object_at d key)
 -- a text of those objects that are anonymous
 abbrev pub where_anonymous : (Object → List ℕ) → Object → List ℕ
 where_anonymous text o = if is_class Anonymous o then text o else []
-
--- the lines of an object where it is anonymous
-abbrev pub anonymous_text : Object → List ℕ
-anonymous_text = where_anonymous object_text
-
-abbrev pub anonymous_at : Directory → Key → List ℕ
-anonymous_at d key = part_of anonymous_text (object_at d key)
 
 -- all lines of some objects
 abbrev pub objects_text : List Object → List ℕ

@@ -1,21 +1,15 @@
 -- An object that is being filled: what of its content it has, and what is left in the text and of the room.
 use Rattle.std.specs.Prelude.{◌≡◌, ℕ, ◌+◌, ◌*◌, ◌^◌, ◌<◌, ◌≤◌, ℤ, pos, ⊤, true, int_lt, List, [], ◌∷◌, ◌++◌, length}
-use Rattle.std.specs.Prelude.{map, replicate, flat_map}
-use Rattle.std.specs.List.{AllByRecursion}
+use Rattle.std.specs.{Prelude.map, Prelude.replicate, Prelude.flat_map, List.AllByRecursion}
 use Rattle.best_fit.specs.Table.{BackingArray}
 use Rattle.raw_region.specs.Format.{current}
-use Rattle.seg_types.specs.declared.kinds.Class.{Class}
+use Rattle.seg_types.specs.{declared.kinds.Class.Class, Kinds.is_value, Kinds.size_of, Names.is_name}
 use Rattle.seg_types.specs.declared.kinds.Class.TheVariants.{Anonymous, Named, Unique}
 use Rattle.seg_types.specs.declared.kinds.ScalarKind.{ScalarKind}
-use Rattle.seg_types.specs.Kinds.{is_value, size_of}
-use Rattle.seg_types.specs.Names.{is_name}
-use Rattle.seg_map.specs.Map.{node_len}
-use Rattle.seg_map.specs.Numbers.{NumberPair}
-use Rattle.seg_map.specs.Places.{item_of}
+use Rattle.seg_map.specs.{Map.node_len, Numbers.NumberPair, Places.item_of}
 use Rattle.seg_vector.specs.Vector.{OwnedText}
-use Rattle.segment_manager.specs.declared.modes.Mode.TheVariants.{Write}
+use Rattle.segment_manager.specs.{declared.modes.Mode.TheVariants.Write, State.SegmentState, State.DenotesCurrent}
 use Rattle.segment_manager.specs.Directory.{Directory, Elements, Numbers, Pairs, Texts, Value}
-use Rattle.segment_manager.specs.State.{SegmentState, DenotesCurrent}
 use Rattle.segment_dump.specs.Building.{Head, HasBuiltItems, IsFilling, Site}
 use Rattle.segment_dump.specs.Items.{ValueContent, DumpItem, Map, Scalars, String, Strings, Vector, bytes_in}
 use Rattle.segment_dump.specs.Need.{all_needs, block_room, text_needs}
@@ -77,52 +71,72 @@ pub record StandsFilling (s : SegmentState) (site : Site) (done : List DumpItem)
 
 -- ---- so many elements of a content: the value, what is left of the text, and the bytes that the others need
 
-pub record ScalarsPart (k : ScalarKind) (all : List ℤ) (n : ℕ) (v : Value) (text : List ℕ) (need : ℕ) : Type 0 where
-  pub front : List ℤ
-  pub back : List ℤ
-  pub all_are : all ≡ front ++ back
-  pub many : n ≡ length front
-  pub value_is : v ≡ Numbers k (front ++ replicate (length back) (pos 0))
-  pub text_is : text ≡ flat_map (element_line k) back
-  pub need_is : need ≡ 0
+-- how a content is filled: what its elements are of those in the segment, the value that has some and lacks the others,
+-- the lines of one, and the bytes that the others need
+pub record FillCourse (X Y : Type 0) : Type 0 where
+  pub items : List X → List Y
+  pub value : List X → List Y → Value
+  pub line : Y → List ℕ
+  pub need : List Y → ℕ
 
-pub record VectorPart (k : ScalarKind) (all : List ℤ) (n : ℕ) (v : Value) (text : List ℕ) (need : ℕ) : Type 0 where
-  pub front : List ℤ
-  pub back : List ℤ
+-- the value has the first n elements, and the lines of the others and the bytes that they need are left
+pub record HasFirstElements {X Y : Type 0} (way : FillCourse X Y) (all : List Y) (n : ℕ) (v : Value) (text : List ℕ)
+    (need : ℕ) : Type 0 where
+  pub front : List X
+  pub back : List Y
+  pub all_are : all ≡ way.items front ++ back
+  pub many : n ≡ length front
+  pub value_is : v ≡ way.value front back
+  pub text_is : text ≡ flat_map way.line back
+  pub need_is : need ≡ way.need back
+
+-- an array, whose other elements are zeros
+abbrev pub array_course : ScalarKind → FillCourse ℤ ℤ
+array_course k = record {
+  items = λ front. front;
+  value = λ front back. Numbers k (front ++ replicate (length back) (pos 0));
+  line = element_line k;
+  need = λ back. 0;
+}
+
+-- a vector, with its places
+abbrev pub vector_course : ScalarKind → BackingArray → FillCourse ℤ ℤ
+vector_course k t = record {
+  items = λ front. front;
+  value = λ front back. Elements k front t;
+  line = element_line k;
+  need = λ back. 0;
+}
+
+abbrev pub map_course : ScalarKind → ScalarKind → FillCourse NumberPair (ℤ × ℤ)
+map_course k w = record {
+  items = map item_of;
+  value = λ front back. Pairs k w front;
+  line = pair_line k w;
+  need = λ back. length back * block_room (node_len (size_of k) (size_of w));
+}
+
+abbrev pub strings_course : BackingArray → FillCourse OwnedText (List ℕ)
+strings_course t = record {
+  items = map bytes_in;
+  value = λ front back. Texts front t;
+  line = text_lines;
+  need = λ back. (all_needs text_needs back).room;
+}
+
+-- the same of a value that has places for all of them
+pub record HasReservedPlaces {X Y : Type 0} (way : BackingArray → FillCourse X Y) (all : List Y) (n : ℕ) (v : Value)
+    (text : List ℕ) (need : ℕ) : Type 0 where
   pub table : BackingArray
-  pub all_are : all ≡ front ++ back
-  pub many : n ≡ length front
   pub places : length all ≤ table.capacity
-  pub value_is : v ≡ Elements k front table
-  pub text_is : text ≡ flat_map (element_line k) back
-  pub need_is : need ≡ 0
-
-pub record MapPart (k w : ScalarKind) (all : List (ℤ × ℤ)) (n : ℕ) (v : Value) (text : List ℕ) (need : ℕ) : Type 0 where
-  pub front : List NumberPair
-  pub back : List (ℤ × ℤ)
-  pub all_are : all ≡ map item_of front ++ back
-  pub many : n ≡ length front
-  pub value_is : v ≡ Pairs k w front
-  pub text_is : text ≡ flat_map (pair_line k w) back
-  pub need_is : need ≡ length back * block_room (node_len (size_of k) (size_of w))
-
-pub record StringsPart (all : List (List ℕ)) (n : ℕ) (v : Value) (text : List ℕ) (need : ℕ) : Type 0 where
-  pub front : List OwnedText
-  pub back : List (List ℕ)
-  pub table : BackingArray
-  pub all_are : all ≡ map bytes_in front ++ back
-  pub many : n ≡ length front
-  pub places : length all ≤ table.capacity
-  pub value_is : v ≡ Texts front table
-  pub text_is : text ≡ flat_map text_lines back
-  pub need_is : need ≡ (all_needs text_needs back).room
+  pub part : HasFirstElements (way table) all n v text need
 
 abbrev pub IsPartialValue : ValueContent → ℕ → Value → List ℕ → ℕ → Type 0
-IsPartialValue (Scalars k zs) = ScalarsPart k zs
-IsPartialValue (Vector k zs) = VectorPart k zs
+IsPartialValue (Scalars k zs) = HasFirstElements (array_course k) zs
+IsPartialValue (Vector k zs) = HasReservedPlaces (vector_course k) zs
 IsPartialValue (String bs) = λ n v text need. ⊥
-IsPartialValue (Map k w ps) = MapPart k w ps
-IsPartialValue (Strings ts) = StringsPart ts
+IsPartialValue (Map k w ps) = HasFirstElements (map_course k w) ps
+IsPartialValue (Strings ts) = HasReservedPlaces strings_course ts
 
 -- what is being filled, what the objects behind it need, and the text behind it
 pub record FillState : Type 0 where

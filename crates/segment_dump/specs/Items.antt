@@ -1,10 +1,9 @@
 -- What a dump says of a segment's objects: class, name, kind and value of each, and nothing of blocks, handles and
 -- capacities.
-use Rattle.std.specs.Prelude.{ℕ, List, map, filter}
-use Rattle.seg_types.specs.declared.kinds.Class.{Class}
-use Rattle.seg_types.specs.declared.kinds.Class.TheVariants.{Anonymous}
-use Rattle.seg_types.specs.declared.kinds.Kind.{Kind}
 use Rattle.seg_types.specs.declared.kinds.Kind.TheVariants as kinds
+use Rattle.std.specs.Prelude.{ℕ, List, map, filter}
+use Rattle.seg_types.specs.{declared.kinds.Class.Class, declared.kinds.Kind.Kind}
+use Rattle.seg_types.specs.declared.kinds.Class.TheVariants.{Anonymous}
 use Rattle.segment_manager.specs.Directory.{Directory, Object, is_class, named_objects, unique_objects}
 -- the value of an object
 pub use Rattle.segment_values.specs.Contents.{ValueContent, Scalars, Vector, String, Map, Strings}

@@ -1,21 +1,14 @@
 -- A segment as lines of JSON: an object a line, with its class, name, kind and value.
-use Rattle.std.specs.Prelude.{ℕ, zero, suc, ℤ, ◌+◌, ◌-◌, ◌*◌, ◌/◌, ◌%◌, ◌==◌, ◌||◌, nat_lt, if◌then◌else◌, List, []}
-use Rattle.std.specs.Prelude.{◌∷◌, ◌++◌, codes}
-use Rattle.std.specs.List.{flat_map}
-use Rattle.std.specs.Str.{is_utf8}
-use Rattle.seg_types.specs.declared.kinds.Class.{Class}
-use Rattle.seg_types.specs.declared.kinds.Class.TheVariants.{Anonymous, Named, Unique}
-use Rattle.seg_types.specs.declared.kinds.Kind.{Kind}
 use Rattle.seg_types.specs.declared.kinds.Kind.TheVariants as kinds
+use Rattle.std.specs.Prelude.{ℕ, zero, suc, ℤ, ◌+◌, ◌-◌, ◌*◌, ◌/◌, ◌%◌, ◌==◌, ◌||◌, nat_lt, if◌then◌else◌, List, []}
+use Rattle.std.specs.{Prelude.◌∷◌, Prelude.◌++◌, Prelude.codes, List.flat_map, Str.is_utf8}
+use Rattle.seg_types.specs.{declared.kinds.Class.Class, declared.kinds.Kind.Kind, Names.Key, Texts.digit_text}
+use Rattle.seg_types.specs.declared.kinds.Class.TheVariants.{Anonymous, Named, Unique}
 use Rattle.seg_types.specs.declared.kinds.ScalarKind.{ScalarKind}
-use Rattle.seg_types.specs.Names.{Key}
-use Rattle.seg_types.specs.Texts.{digit_text}
 use Rattle.segment_lang.specs.Texts.{kind_text, value_text}
-use Rattle.segment_manager.specs.Directory.{Directory, Object, object_at}
+use Rattle.segment_manager.specs.{Directory.Directory, Directory.Object, Directory.object_at, Parts.part_of}
 use Rattle.segment_dump.specs.Items.{ValueContent, Scalars, Vector, String, Map, Strings, DumpItem, Items}
-use Rattle.segment_dump.specs.Items.{item_of_object, kind_of_content}
-use Rattle.segment_dump.specs.Layouts.{Spelling, laid_from}
-use Rattle.segment_manager.specs.Parts.{part_of}
+use Rattle.segment_dump.specs.{Items.item_of_object, Items.kind_of_content, Layouts.Spelling, Layouts.laid_from}
 
 -- ---- texts: a string where the bytes are UTF-8, and else an object with their base64
 

@@ -1,14 +1,10 @@
 -- What a dump tells.
 use Rattle.std.specs.Prelude.{◌≡◌, ◌≤◌, ℕ, true, List, ◌∷◌, ◌++◌}
 use Rattle.std.specs.List.{AllByRecursion}
-use Rattle.segment_manager.specs.Directory.{Directory}
-use Rattle.segment_manager.specs.State.{DenotesCurrent}
+use Rattle.segment_manager.specs.{Directory.Directory, State.DenotesCurrent}
 use Rattle.segment_dump.specs.Capacities.{capacities, capacities_text}
-use Rattle.segment_dump.specs.Items.{Items, portable}
-use Rattle.segment_dump.specs.Need.{items_needs}
-use Rattle.segment_dump.specs.Notes.{are_notes, without_notes}
-use Rattle.segment_dump.specs.Reads.{HasNoEnd, lines_text}
-use Rattle.segment_dump.specs.Texts.{dump_text}
+use Rattle.segment_dump.specs.{Items.Items, Items.portable, Need.items_needs, Notes.are_notes, Notes.without_notes}
+use Rattle.segment_dump.specs.{Reads.HasNoEnd, Reads.lines_text, Texts.dump_text}
 
 -- Two segments that have one dump have the same objects, whatever sizes are said in it: the same names, classes, kinds
 -- and values, and the anonymous objects in the same order.

@@ -1,13 +1,9 @@
 -- A text that is read line by line, and a line word by word: what is read where it stands there as it is written.
 use Rattle.std.specs.Prelude.{◌≡◌, ◌≤◌, ℕ, List, [], ◌++◌, Option, Some, None, Result, Ok, Err, length, option_map}
 use Rattle.std.specs.Borrow.{Bor}
-use Rattle.seg_types.specs.declared.kinds.ScalarKind.{ScalarKind}
+use Rattle.seg_types.specs.{declared.kinds.ScalarKind.ScalarKind, Values.scalar_of}
 use Rattle.seg_types.specs.declared.values.ScalarValue.{ScalarValue}
-use Rattle.seg_types.specs.Values.{scalar_of}
-use Rattle.segment_lang.specs.Reading.{value_for}
-use Rattle.segment_lang.specs.Seen.{word_of}
-use Rattle.segment_lang.specs.Tokens.{next_word}
-use Rattle.segment_lang.specs.Words.{Word, Bare, Text}
+use Rattle.segment_lang.specs.{Reading.value_for, Seen.word_of, Tokens.next_word, Words.Word, Words.Bare, Words.Text}
 use Rattle.segment_lang.specs.declared.words.Word.{Word as Held}
 use Rattle.segment_dump.specs.Reads.{HasNoEnd, ended}
 

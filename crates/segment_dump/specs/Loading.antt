@@ -4,20 +4,12 @@ use Rattle.std.specs.Prelude.{take, IsTrue, not, nat_lt, if◌then◌else◌}
 use Rattle.block_tags.specs.Format.{is_legal_size}
 use Rattle.best_fit.specs.Extents.{free_bytes}
 use Rattle.segment_manager.specs.declared.modes.Mode.TheVariants.{Write}
-use Rattle.segment_manager.specs.Directory.{Directory, live}
-use Rattle.segment_manager.specs.State.{SegmentState, DenotesCurrent}
-use Rattle.segment_dump.specs.Comparing.{IsDumpOf}
-use Rattle.segment_dump.specs.Counting.{CountsDump, IsCounted}
-use Rattle.segment_dump.specs.Items.{portable}
-use Rattle.segment_dump.specs.Need.{items_needs}
-use Rattle.segment_dump.specs.Texts.{dump_text}
-use Rattle.segment_dump.specs.declared.counting.Count.{Count}
-use Rattle.segment_dump.specs.declared.faults.BadDump.{BadDump}
-use Rattle.segment_dump.specs.declared.faults.LoadError.{LoadError}
+use Rattle.segment_manager.specs.{Directory.Directory, Directory.live, State.SegmentState, State.DenotesCurrent}
+use Rattle.segment_dump.specs.{Items.portable, Texts.dump_text, Need.items_needs, Comparing.IsDumpOf}
+use Rattle.segment_dump.specs.{Places.place_behind, declared.counting.Count.Count, Counting.CountsDump}
+use Rattle.segment_dump.specs.{Counting.IsCounted, declared.faults.BadDump.BadDump, declared.faults.LoadError.LoadError}
+use Rattle.segment_dump.specs.{declared.faults.LoadRefused.LoadRefused, declared.faults.LoadError.TheVariants.LongText}
 use Rattle.segment_dump.specs.declared.faults.LoadError.TheVariants.{BadDump as Bad, BadSize, RegionTooSmall, NoSpace}
-use Rattle.segment_dump.specs.declared.faults.LoadError.TheVariants.{LongText}
-use Rattle.segment_dump.specs.declared.faults.LoadRefused.{LoadRefused}
-use Rattle.segment_dump.specs.Places.{place_behind}
 
 -- the segment has the size that was asked for, or, where none was, nothing in it is free
 abbrev pub HasSize : SegmentState → Option ℕ → Type 0
@@ -120,8 +112,7 @@ cause_in (Err refused) = cause_but_bad refused.cause
 -- lacking for its objects, and for that.
 pub record IsExact (text : List ℕ) (capacity base : ℕ) (size : Option ℕ) (room : ℕ) (cause : Option LoadError) :
     Type 0 where
-  pub exact : (b : List ℕ) (d : Directory) (n : ℕ) → DenotesCurrent b d → n < 2 ^ 64
-      → text ≡ dump_text n (portable d)
+  pub exact : (b : List ℕ) (d : Directory) (n : ℕ) → DenotesCurrent b d → n < 2 ^ 64 → text ≡ dump_text n (portable d)
       → cause ≡ refusal_for capacity base size room (record { size = n; needs = items_needs (portable d) })
 
 -- where nothing is lacking, or the objects were not counted, only a place of the text is a reason

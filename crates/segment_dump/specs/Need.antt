@@ -1,15 +1,12 @@
 -- What the objects of a dump need: bytes of blocks in a segment, and of the room for a text while they are made.
+use Rattle.seg_types.specs.declared.kinds.Kind.TheVariants as kinds
 use Rattle.std.specs.Prelude.{ℕ, ◌+◌, ◌*◌, max, List, [], ◌∷◌, length, ◌==◌, if◌then◌else◌}
 use Rattle.best_fit.specs.Fit.{room}
-use Rattle.seg_types.specs.declared.kinds.Kind.{Kind}
-use Rattle.seg_types.specs.declared.kinds.Kind.TheVariants as kinds
-use Rattle.seg_types.specs.Kinds.{size_of}
+use Rattle.seg_types.specs.{declared.kinds.Kind.Kind, Kinds.size_of}
 use Rattle.seg_map.specs.Map.{node_len}
-use Rattle.segment_manager.specs.Layout.{head_len}
-use Rattle.segment_manager.specs.Directory.{padded}
-use Rattle.segment_dump.specs.declared.needs.Needs.{Needs}
+use Rattle.segment_manager.specs.{Layout.head_len, Directory.padded}
+use Rattle.segment_dump.specs.{declared.needs.Needs.Needs, Items.kind_of_content, Items.count_of_content}
 use Rattle.segment_dump.specs.Items.{ValueContent, Scalars, Vector, String, Map, Strings, DumpItem, Items}
-use Rattle.segment_dump.specs.Items.{kind_of_content, count_of_content}
 
 -- ---- blocks
 
@@ -76,6 +73,5 @@ front_room named unique = 144 + block_room (8 * named) + block_room (8 * unique)
 -- all objects, in a segment of their own
 abbrev pub items_needs : Items → Needs
 items_needs items =
-    both (only_room (front_room (length items.named) (length items.unique)))
-    (both (all_needs item_needs items.named)
+    both (only_room (front_room (length items.named) (length items.unique))) (both (all_needs item_needs items.named)
     (both (all_needs item_needs items.unique) (all_needs item_needs items.anonymous)))

@@ -1,6 +1,5 @@
 -- Where a byte of a text stands: in which line, and where in it.
-use Rattle.std.specs.Prelude.{ℕ, ◌+◌, List, ◌==◌, if◌then◌else◌}
-use Rattle.std.specs.List.{fold}
+use Rattle.std.specs.{Prelude.ℕ, Prelude.◌+◌, Prelude.List, Prelude.◌==◌, Prelude.if◌then◌else◌, List.fold}
 
 -- behind one byte more: the line and the column behind it, each from 1 on
 abbrev pub behind_byte : ℕ × ℕ → ℕ → ℕ × ℕ

@@ -1,7 +1,6 @@
 -- What is read from the front of a text, where it stands there as it is written.
 use Rattle.std.specs.Prelude.{◌≡◌, ◌≢◌, ◌<◌, ◌≤◌, ⊤, ℕ, List, [], ◌∷◌, ◌++◌, Option, Some, length, option_map}
-use Rattle.std.specs.Borrow.{Bor}
-use Rattle.std.specs.List.{AllByRecursion, flat_map}
+use Rattle.std.specs.{Borrow.Bor, List.AllByRecursion, List.flat_map}
 
 -- bytes behind the blank
 abbrev pub IsWord : List ℕ → Type 0

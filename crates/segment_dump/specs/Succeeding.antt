@@ -5,25 +5,16 @@ use Rattle.std.specs.List.{AllByRecursion}
 use Rattle.best_fit.specs.Extents.{free_bytes}
 use Rattle.seg_types.specs.declared.kinds.Class.{Class}
 use Rattle.seg_types.specs.declared.kinds.Class.TheVariants.{Anonymous, Named, Unique}
-use Rattle.segment_lang.specs.Tokens.{next_word}
-use Rattle.segment_lang.specs.Words.{Bare}
-use Rattle.segment_manager.specs.declared.modes.Mode.TheVariants.{Write}
-use Rattle.segment_manager.specs.Directory.{Directory, empty, live}
-use Rattle.segment_manager.specs.blocks.Resized.{shrunk}
-use Rattle.segment_manager.specs.State.{SegmentState, DenotesCurrent}
-use Rattle.segment_dump.specs.declared.counting.Count.{Count}
-use Rattle.segment_dump.specs.declared.counting.Front.{Front}
-use Rattle.segment_dump.specs.declared.faults.LoadRefused.{LoadRefused}
-use Rattle.segment_dump.specs.Builders.{AreLeft}
+use Rattle.segment_lang.specs.{Tokens.next_word, Words.Bare}
+use Rattle.segment_manager.specs.{declared.modes.Mode.TheVariants.Write, Directory.Directory, Directory.empty}
+use Rattle.segment_manager.specs.{Directory.live, blocks.Resized.shrunk, State.SegmentState, State.DenotesCurrent}
+use Rattle.segment_dump.specs.{declared.counting.Count.Count, declared.counting.Front.Front}
+use Rattle.segment_dump.specs.{declared.faults.LoadRefused.LoadRefused, Builders.AreLeft, Filling.StandsBuilt}
+use Rattle.segment_dump.specs.{Items.DumpItem, Items.Items, Items.portable, Lines.IsShortLine, Loading.IsRequestedSize}
+use Rattle.segment_dump.specs.{Loading.refusal_for, Order.all_items, Reads.HasNoEnd, Reads.ended, Texts.dump_text}
+use Rattle.segment_dump.specs.{Texts.end_text, Texts.items_text}
 use Rattle.segment_dump.specs.Building.{AreSortedItems, Site, kind_less, name_less}
-use Rattle.segment_dump.specs.Filling.{StandsBuilt}
-use Rattle.segment_dump.specs.Items.{DumpItem, Items, portable}
-use Rattle.segment_dump.specs.Lines.{IsShortLine}
-use Rattle.segment_dump.specs.Loading.{IsRequestedSize, refusal_for}
 use Rattle.segment_dump.specs.Need.{all_needs, front_room, item_needs, items_needs}
-use Rattle.segment_dump.specs.Order.{all_items}
-use Rattle.segment_dump.specs.Reads.{HasNoEnd, ended}
-use Rattle.segment_dump.specs.Texts.{dump_text, end_text, items_text}
 
 -- ---- the first lines
 
@@ -74,11 +65,10 @@ site_of front size = record { named = front.named; unique = front.unique; size =
 -- all of them, in a segment with nothing in it that is long enough
 pub record MakesObjects {E : Type 0} (old new : SegmentState) (front : Front) (text : List ℕ) (most room : ℕ)
     (result : Result (Unit {0}) E) : Type 0 where
-  pub makes : (size : ℕ) (items : List DumpItem) → DenotesCurrent old.cut.bytes (empty size) → old.mode ≡ Write
-      → front_room front.named front.unique + (all_needs item_needs items).room ≤ size
-      → AreLeft (site_of front size) room [] items
-      → text ≡ items_text items ++ end_text → length text ≤ most
-      → (result ≡ Ok tt) × StandsBuilt new (site_of front size) items 0
+  pub makes : (size : ℕ) (items : List DumpItem) → DenotesCurrent old.cut.bytes (empty size)
+      → old.mode ≡ Write → front_room front.named front.unique + (all_needs item_needs items).room ≤ size
+      → AreLeft (site_of front size) room [] items → text ≡ items_text items ++ end_text
+      → length text ≤ most → (result ≡ Ok tt) × StandsBuilt new (site_of front size) items 0
 
 -- ---- what was made is judged
 

@@ -1,10 +1,8 @@
 -- A dump as text, line by line. Numbers, values, kinds, names and quoted texts are spelled as in the language.
 use Rattle.std.specs.Prelude.{ℕ, ℤ, zero, suc, ◌+◌, ◌-◌, ◌*◌, ◌/◌, List, [], ◌∷◌, ◌++◌, codes, drop, length, take}
 use Rattle.std.specs.List.{flat_map}
-use Rattle.seg_types.specs.declared.kinds.Class.{Class}
+use Rattle.seg_types.specs.{declared.kinds.Class.Class, declared.kinds.Kind.Kind, declared.kinds.ScalarKind.ScalarKind}
 use Rattle.seg_types.specs.declared.kinds.Class.TheVariants.{Anonymous, Named, Unique}
-use Rattle.seg_types.specs.declared.kinds.Kind.{Kind}
-use Rattle.seg_types.specs.declared.kinds.ScalarKind.{ScalarKind}
 use Rattle.segment_lang.specs.Texts.{kind_text, name_text, number_text, quoted_text, value_text}
 use Rattle.segment_dump.specs.Items.{ValueContent, Scalars, Vector, String, Map, Strings, DumpItem, Items}
 use Rattle.segment_dump.specs.Items.{kind_of_content, count_of_content}

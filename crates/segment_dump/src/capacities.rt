@@ -3,11 +3,10 @@ ghost use Rattle.std.specs.Prelude.{◌≡◌, ◌-◌, ◌^◌, ◌<◌, ◌++�
 ghost use Rattle.raw_region.specs.Device.{Writes};
 ghost use Rattle.seg_types.specs.Names.{ByHandle};
 ghost use Rattle.segment_manager.specs.containers.Contents.{sizes_at};
-ghost use Rattle.segment_manager.specs.objects.Instances.{SaysOf};
 ghost use Rattle.segment_manager.specs.objects.Located.{IsLocated, IsObject};
 ghost use Rattle.segment_manager.specs.State.{AnswersWith};
 ghost use Rattle.segment_dump.specs.Capacities.{Holds, capacities, capacities_text, capacity_note, index_notes};
-ghost use Rattle.segment_dump.specs.Capacities.{measured_places, notes_at, places_at};
+ghost use Rattle.segment_dump.specs.Capacities.{measured_places, places_at};
 ghost use Rattle.segment_dump.specs.Items.{portable};
 ghost use Rattle.segment_dump.specs.DumpWrites.{WritesOf};
 ghost use Rattle.segment_dump.specs.Texts.{dump_text};
@@ -55,7 +54,11 @@ impl ObjectWriter for Notes {
         said: Instance<'_>,
         out: &mut W,
     ) -> Result<(), DeviceFault> {
-        put_capacity(segment, said, out)
+        let object = object_here(segment, said.handle);
+        match places_of(segment, object) {
+            Some(places) => put_note(said, places, out),
+            None => Ok(()),
+        }
     }
 }
 
@@ -101,24 +104,6 @@ fn unique_capacity(segment: &Segment) -> u64
     ensures { AnswersWith segment.now (λ d. d.unique.capacity) result }
 {
     word_in(segment.as_bytes(), UNIQUE_AT as usize + CAPACITY)
-}
-
-/// Writes the note of an object that said this of itself, and nothing where it has no capacity.
-fn put_capacity<W: Sink>(
-    segment: &Segment,
-    said: Instance<'_>,
-    out: &mut W,
-) -> Result<(), DeviceFault>
-    requires writer { (W.history out.old).failures < 2 ^ 64 - 1 }
-    requires text { SaysOf segment.now (ByHandle said.handle) said }
-    ensures { WritesOf segment.now (W.history out.old) (W.history out.new) result (λ d.
-        notes_at d (ByHandle said.entry.handle)) }
-{
-    let object = object_here(segment, said.handle);
-    match places_of(segment, object) {
-        Some(places) => put_note(said, places, out),
-        None => Ok(()),
-    }
 }
 
 /// How many places an object has, if it has a capacity.

@@ -1,9 +1,6 @@
 //! An object in a dump: its line, and below it a line for each element.
 ghost use Rattle.std.specs.Prelude.{◌-◌, ◌^◌, ◌<◌};
 ghost use Rattle.raw_region.specs.Device.{Writes};
-ghost use Rattle.seg_types.specs.Names.{ByHandle};
-ghost use Rattle.segment_manager.specs.objects.Instances.{SaysOf};
-ghost use Rattle.segment_dump.specs.DumpWrites.{WritesOf, text_at};
 ghost use Rattle.segment_dump.specs.Texts.{head_line, told_line};
 
 use crate::layouts::InLines;
@@ -29,21 +26,11 @@ impl ObjectWriter for Entries {
         said: Instance<'_>,
         out: &mut W,
     ) -> Result<(), DeviceFault> {
-        put_entry(segment, said, out)
+        let object = object_here(segment, said.handle);
+        let count = count_of(segment, object);
+        put_head(said, count, out)?;
+        put_content(&InLines, segment, object, count, out)
     }
-}
-
-/// Writes all lines of an object that said this of itself.
-fn put_entry<W: Sink>(segment: &Segment, said: Instance<'_>, out: &mut W) -> Result<(), DeviceFault>
-    requires writer { (W.history out.old).failures < 2 ^ 64 - 1 }
-    requires text { SaysOf segment.now (ByHandle said.handle) said }
-    ensures { WritesOf segment.now (W.history out.old) (W.history out.new) result (λ d.
-        text_at d (ByHandle said.entry.handle)) }
-{
-    let object = object_here(segment, said.handle);
-    let count = count_of(segment, object);
-    put_head(said, count, out)?;
-    put_content(&InLines, segment, object, count, out)
 }
 
 /// Writes the line of an object: its class, its name where it has one, its kind, and how many elements there are.

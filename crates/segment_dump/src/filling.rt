@@ -2,18 +2,13 @@
 ghost use Rattle.std.specs.Prelude.{◌≡◌, ℕ, length, Ok};
 ghost use Rattle.seg_types.specs.declared.kinds.Kind.TheVariants.{Map as MapOf, Scalar as ScalarOf};
 ghost use Rattle.seg_types.specs.declared.kinds.Kind.TheVariants.{Strings as StringsKind, Vector as VectorOf};
-ghost use Rattle.seg_types.specs.Commands.{Push, Set, literal_of};
-ghost use Rattle.seg_types.specs.Names.{ByHandle};
-ghost use Rattle.seg_types.specs.Values.{kind_of_scalar, value_of_scalar};
-ghost use Rattle.segment_manager.specs.State.{TakesStepOfKind, done_answer};
-ghost use Rattle.segment_manager.specs.objects.Located.{IsObject};
 ghost use Rattle.segment_dump.specs.Builders.{AddsElement, FillsElements, FillsNew, HasLocatedObject, IsVectorKind};
 
 use crate::building::{BuildError, ObjectLine, misfit, stop_of};
 use crate::faults::DumpFault;
 use crate::filling_texts::{fill_string, push_text};
 use crate::tokens::{Lines, next_pair, next_value};
-use seg_types::{Kind, Refusal, ScalarKind, ScalarValue, by_value};
+use seg_types::{Kind, Refusal, ScalarKind};
 use segment_lang::LineBuffer;
 use segment_manager::{Object, Segment};
 
@@ -116,22 +111,7 @@ fn set_next(
 {
     let at = lines.at();
     let value = next_value(lines, kind)?;
-    ended(set_value(segment, object, index, value), at)
-}
-
-/// Makes a value the element at an index of an array.
-fn set_value(
-    segment: &mut Segment,
-    object: Object,
-    index: u64,
-    value: ScalarValue,
-) -> Result<(), Refusal>
-    requires { IsObject object segment.old }
-    ensures { TakesStepOfKind segment.old segment.new (ByHandle object.handle) (ScalarOf (kind_of_scalar value))
-        (Set (ByHandle object.handle) index (literal_of (kind_of_scalar value) (value_of_scalar value)))
-        (done_answer result) }
-{
-    by_value!(value, it => segment.set(&object, index, it))
+    ended(segment.set_value(&object, index, value), at)
 }
 
 /// Puts the value of the next line behind the elements of a vector.
@@ -148,17 +128,7 @@ fn push_next(
 {
     let at = lines.at();
     let value = next_value(lines, kind)?;
-    ended(push_value(segment, object, value), at)
-}
-
-/// Puts a value behind the elements of a vector.
-fn push_value(segment: &mut Segment, object: Object, value: ScalarValue) -> Result<(), Refusal>
-    requires { IsObject object segment.old }
-    ensures { TakesStepOfKind segment.old segment.new (ByHandle object.handle) (VectorOf (kind_of_scalar value))
-        (Push (ByHandle object.handle) (literal_of (kind_of_scalar value) (value_of_scalar value)))
-        (done_answer result) }
-{
-    by_value!(value, it => segment.vec_push(&object, it))
+    ended(segment.vec_push_value(&object, value), at)
 }
 
 /// Puts the pair of the next line into a map.

@@ -3,11 +3,10 @@ ghost use Rattle.std.specs.Prelude.{◌≡◌, ◌-◌, ◌^◌, ◌<◌, ◌++�
 ghost use Rattle.raw_region.specs.Device.{Writes};
 ghost use Rattle.seg_types.specs.declared.kinds.Class.TheVariants.{Named};
 ghost use Rattle.seg_types.specs.Names.{ByHandle};
-ghost use Rattle.segment_manager.specs.objects.Instances.{SaysOf};
 ghost use Rattle.segment_manager.specs.objects.Located.{IsLocated};
 ghost use Rattle.segment_manager.specs.State.{AnswersWith};
 ghost use Rattle.segment_dump.specs.Items.{portable};
-ghost use Rattle.segment_dump.specs.Json.{closing, comma_before, in_json, json_at, json_dump, json_key, json_kind};
+ghost use Rattle.segment_dump.specs.Json.{closing, comma_before, in_json, json_dump, json_key, json_kind};
 ghost use Rattle.segment_dump.specs.Json.{opening};
 ghost use Rattle.segment_dump.specs.DumpWrites.{WritesOf};
 ghost use Rattle.segment_values.specs.Layouts.{count_at, laid_at};
@@ -54,7 +53,11 @@ impl ObjectWriter for InJson {
         said: Instance<'_>,
         out: &mut W,
     ) -> Result<(), DeviceFault> {
-        put_object(segment, said, out)
+        let object = object_here(segment, said.handle);
+        let count = count_of(segment, object);
+        put_key(said, out)?;
+        put_kind(said.kind, out)?;
+        put_value(segment, object, count, out)
     }
 }
 
@@ -106,24 +109,6 @@ fn comma_before(index: u64) -> &'static [u8]
     ensures { result.now ≡ comma_before index }
 {
     if index == 0 { b"" } else { b"," }
-}
-
-/// Writes the line of an object that said this of itself.
-fn put_object<W: Sink>(
-    segment: &Segment,
-    said: Instance<'_>,
-    out: &mut W,
-) -> Result<(), DeviceFault>
-    requires writer { (W.history out.old).failures < 2 ^ 64 - 1 }
-    requires text { SaysOf segment.now (ByHandle said.handle) said }
-    ensures { WritesOf segment.now (W.history out.old) (W.history out.new) result (λ d.
-        json_at d (ByHandle said.entry.handle)) }
-{
-    let object = object_here(segment, said.handle);
-    let count = count_of(segment, object);
-    put_key(said, out)?;
-    put_kind(said.kind, out)?;
-    put_value(segment, object, count, out)
 }
 
 /// Writes the class and the name of an object, from the start of its line on.

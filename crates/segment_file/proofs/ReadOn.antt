@@ -23,8 +23,8 @@ use Rattle.grow_shrink.specs.LargerRegion.{region_len}
 use Rattle.segment_disk.specs.Events.{nothing_given}
 use Rattle.segment_file.specs.declared.file_errors.FileError.{FileError}
 use Rattle.segment_file.specs.declared.file_errors.FileError.TheVariants.{OutOfMemory}
-use Rattle.segment_file.specs.declared.unfit.Unfit.{Unfit}
-use Rattle.segment_file.specs.declared.unfit.Unfit.TheVariants.{Image, OutOfMemory as NoMemory, ReadFault}
+use Rattle.segment_file.specs.declared.file_errors.Unfit.{Unfit}
+use Rattle.segment_file.specs.declared.file_errors.Unfit.TheVariants.{Image, OutOfMemory as NoMemory, ReadFault}
 use Rattle.segment_file.specs.Opening.{IsTold, IsWhyUnopened, IsWithoutMemory, file_region, unfit_error}
 use Rattle.segment_file.specs.ReadingOn.{IsWhole, IsWhyNotWhole, Says}
 use Rattle.segment_file.proofs.Fronts.{ends-early, format-grown, goes-past, passed, said-most, said-least, says-grown}

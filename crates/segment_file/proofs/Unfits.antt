@@ -13,8 +13,8 @@ use Rattle.image_check.specs.Causes.{IsShown, error_for}
 use Rattle.image_check.specs.Classes.{class_of}
 use Rattle.image_check.specs.Opening.{IsRefusedAs, IsTooSmallFor, IsOpenCause}
 use Rattle.image_check.specs.OpeningBytes.{IsWhyNotOf, as_given}
-use Rattle.segment_file.specs.declared.unfit.Unfit.{Unfit}
-use Rattle.segment_file.specs.declared.unfit.Unfit.TheVariants.{Image, OutOfMemory, ReadFault}
+use Rattle.segment_file.specs.declared.file_errors.Unfit.{Unfit}
+use Rattle.segment_file.specs.declared.file_errors.Unfit.TheVariants.{Image, OutOfMemory, ReadFault}
 use Rattle.segment_file.specs.Opening.{IsWhyUnfit, unfit_for}
 
 -- the class of an image that is refused

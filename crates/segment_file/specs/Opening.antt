@@ -29,9 +29,9 @@ use Rattle.grow_shrink.specs.LargerRegion.{region_len}
 use Rattle.segment_disk.specs.Events.{Event, After}
 use Rattle.segment_file.specs.declared.file_errors.FileError.{FileError}
 use Rattle.segment_file.specs.declared.file_errors.FileError.TheVariants.{Image, OutOfMemory, ReadFault}
-use Rattle.segment_file.specs.declared.unfit.Unfit.{Unfit}
-use Rattle.segment_file.specs.declared.unfit.Unfit.TheVariants.{Image as Unfitting, OutOfMemory as Unremembered}
-use Rattle.segment_file.specs.declared.unfit.Unfit.TheVariants.{ReadFault as Unreadable}
+use Rattle.segment_file.specs.declared.file_errors.Unfit.{Unfit}
+use Rattle.segment_file.specs.declared.file_errors.Unfit.TheVariants.{Image as Unfitting, OutOfMemory as Unremembered}
+use Rattle.segment_file.specs.declared.file_errors.Unfit.TheVariants.{ReadFault as Unreadable}
 use Rattle.segment_file.specs.Files.{opens, does_not_open}
 
 -- ---- how much room a segment has

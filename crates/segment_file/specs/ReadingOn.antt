@@ -7,8 +7,8 @@ use Rattle.image_check.specs.declared.errors.MemoryFault.{MemoryFault}
 use Rattle.image_check.specs.declared.errors.MemoryFault.TheVariants.{Bytes}
 use Rattle.image_check.specs.EarlyTests.{has_front, size_word}
 use Rattle.image_check.specs.Formats.{format_of}
-use Rattle.segment_file.specs.declared.unfit.Unfit.{Unfit}
-use Rattle.segment_file.specs.declared.unfit.Unfit.TheVariants.{Image, OutOfMemory, ReadFault}
+use Rattle.segment_file.specs.declared.file_errors.Unfit.{Unfit}
+use Rattle.segment_file.specs.declared.file_errors.Unfit.TheVariants.{Image, OutOfMemory, ReadFault}
 
 -- these are all bytes that a reader gave, and no read failed
 pub record IsReadUpTo (gave : ReaderHistory) (bytes : List ℕ) : Type 0 where

@@ -26,7 +26,7 @@ use Rattle.segment_file.specs.declared.file_errors.FileError.{FileError}
 use Rattle.segment_file.specs.declared.file_errors.FileError.TheVariants.{Exists, BadSize, OutOfMemory, WriteFault}
 use Rattle.segment_file.specs.declared.file_errors.FileError.TheVariants.{InUse, Growth}
 use Rattle.segment_file.specs.declared.segment_files.SegmentFile.{SegmentFile}
-use Rattle.segment_file.specs.declared.unfit.Unfit.{Unfit}
+use Rattle.segment_file.specs.declared.file_errors.Unfit.{Unfit}
 use Rattle.segment_file.specs.Files.{WritesImage}
 use Rattle.segment_file.specs.Holding.{RunsLocked}
 use Rattle.segment_file.specs.Opening.{ExaminesFile, OpensFile, unfit_error}

@@ -1,17 +1,16 @@
 //! The check of the image in a file, of which no segment is made.
 ghost use Rattle.std.specs.Prelude.{◌≡◌, ◌+◌};
-ghost use Rattle.raw_region.specs.Device.{read_delta};
-ghost use Rattle.raw_region.specs.Format.{current};
+ghost use Rattle.raw_region.specs.{Device.read_delta, Format.current};
 ghost use Rattle.image_check.specs.Opening.{IsTooSmallFor};
 ghost use Rattle.grow_shrink.specs.LargerRegion.{region_len};
 ghost use Rattle.segment_disk.specs.Events.{nothing_given};
 ghost use Rattle.segment_file.specs.Opening.{ExaminesFile, ExaminesImage, unfit_for};
 ghost use Rattle.segment_file.specs.ReadingOn.{IsFrontGiven};
 
+use crate::file_errors::Unfit;
 use crate::heading::Headed;
 use crate::opening::file_region;
 use crate::reading_on::read_on;
-use crate::unfit::Unfit;
 use image_check::{AcceptedVersions, ExamineError, MemoryFault, examine, examine_bytes};
 use raw_region::{Source, Steps};
 use segment_disk::{Disk, OpenedFile};

@@ -1,14 +1,14 @@
-//! Why a segment's file is not made, read or written.
+//! Why a segment's file is not made, read or written, and why there is no segment of an image.
 ghost use Rattle.std.specs.Prelude.{◌≡◌};
 ghost use Rattle.image_check.specs.declared.errors.MemoryFault.TheVariants.{Bytes};
 ghost use Rattle.segment_file.specs.declared.file_errors.FileError.TheVariants.{Growth, OutOfMemory as NoMemory};
-ghost use Rattle.segment_file.specs.Opening.{unfit_error};
-ghost use Rattle.segment_file.specs.SegmentFiles.{growing_error};
+ghost use Rattle.segment_file.specs.declared.file_errors.FileError.TheVariants.{WriteFault as NotWritten};
+ghost use Rattle.segment_file.specs.declared.file_errors.Unfit.TheVariants.{OutOfMemory as NoMemoryForIt};
+ghost use Rattle.segment_file.specs.{Opening.unfit_error, SegmentFiles.growing_error};
 
-use crate::unfit::Unfit;
 use grow_shrink::{GrowError, GrowOrMoveError};
-use image_check::{ImageClass, MemoryFault};
-use raw_region::OutOfMemory;
+use image_check::{ImageClass, MemoryFault, Verdict};
+use raw_region::{DeviceFault, OutOfMemory};
 use thiserror::Error;
 
 /// Why a call of a [`SegmentFile`](crate::SegmentFile) is refused.
@@ -79,5 +79,33 @@ impl From<GrowOrMoveError> for FileError {
                 refusal,
             )),
         }
+    }
+}
+
+impl From<DeviceFault> for FileError {
+    ghost from_gives = { λ _ error. error ≡ NotWritten };
+
+    /// Says that a file can't be written: no call tells a failed read this way.
+    fn from(_fault: DeviceFault) -> FileError {
+        FileError::WriteFault
+    }
+}
+
+/// Why there is no segment in a file.
+#[derive(Clone, Copy, Debug, PartialEq, Eq)]
+pub enum Unfit {
+    /// The bytes of the file denote no directory: why, and the place that shows it.
+    Image(Verdict),
+    /// Memory was refused: for the region of the segment, for what was read, or for the check of the image.
+    OutOfMemory(MemoryFault),
+    /// The file can't be opened, or reading it failed.
+    ReadFault,
+}
+
+impl From<OutOfMemory> for Unfit {
+    ghost from_gives = { λ refusal unfit. unfit ≡ NoMemoryForIt (Bytes refusal) };
+
+    fn from(refusal: OutOfMemory) -> Unfit {
+        Unfit::OutOfMemory(MemoryFault::Bytes(refusal))
     }
 }

@@ -1,27 +1,23 @@
 //! Segments in files: a segment with its file, which no other may write meanwhile, and the reading and writing of
-//! images,
-//! over any disk.
+//! images, over any disk.
 #![tactic(auto)]
 
 mod examining;
 mod file_errors;
-mod file_steps;
 mod heading;
 mod opening;
 mod reading;
 mod reading_on;
 mod segment_files;
 mod theorems;
-mod unfit;
 mod writing;
 
 pub use examining::examine_file;
-pub use file_errors::FileError;
+pub use file_errors::{FileError, Unfit};
 pub use opening::open_file;
 pub use reading::{check, migrate, read};
 pub use segment_files::SegmentFile;
 pub use theorems::{
     emptying_tears, replacing_keeps_one_whole, saving_ends_whole, unplaced_leaves_the_old,
 };
-pub use unfit::Unfit;
 pub use writing::write_image;

@@ -1,11 +1,8 @@
 //! The opening of the image in a file, whatever it says of its size.
 ghost use Rattle.std.specs.Prelude.{◌≡◌, ◌+◌, IfErr, IfOk, length};
-ghost use Rattle.raw_region.specs.Device.{read_delta};
-ghost use Rattle.raw_region.specs.Refusals.{refusal_of};
-ghost use Rattle.image_check.specs.declared.errors.OpenError.TheVariants.{RegionTooSmall};
-ghost use Rattle.image_check.specs.Formats.{format_in};
-ghost use Rattle.image_check.specs.Opening.{IsTooSmallFor};
-ghost use Rattle.image_check.specs.OpeningBytes.{as_given};
+ghost use Rattle.raw_region.specs.{Device.read_delta, Refusals.refusal_of};
+ghost use Rattle.image_check.specs.{declared.errors.OpenError.TheVariants.RegionTooSmall, Formats.format_in};
+ghost use Rattle.image_check.specs.{Opening.IsTooSmallFor, OpeningBytes.as_given};
 ghost use Rattle.grow_shrink.specs.LargerRegion.{region_len};
 ghost use Rattle.segment_disk.specs.Events.{nothing_given};
 ghost use Rattle.segment_file.specs.Opening.{WidensIfNeeded, OpensAt, OpensFile, OpensImage, file_error};

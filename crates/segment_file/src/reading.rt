@@ -6,10 +6,10 @@ ghost use Rattle.segment_file.specs.SegmentFiles.{ChecksFile, HoldsFile, Migrate
 
 use crate::examining::examine_file;
 use crate::file_errors::FileError;
-use crate::file_steps::migrate_held;
 use crate::opening::open_file;
+use crate::writing::write_image;
 use image_check::AcceptedVersions;
-use segment_disk::Disk;
+use segment_disk::{CreateMode, Disk};
 use segment_manager::{Mode, Segment};
 use std::alloc::Global;
 
@@ -43,10 +43,20 @@ pub fn read<D: Disk>(
 pub fn check<D: Disk>(alloc: Global, disk: &mut D, path: &str) -> Result<(), FileError>
     ensures { ChecksFile D.step disk.old disk.new path.now result }
 {
-    match examine_file(alloc, disk, path) {
-        Ok(()) => Ok(()),
-        Err(unfit) => Err(FileError::from(unfit)),
-    }
+    Ok(examine_file(alloc, disk, path)?)
+}
+
+/// Writes the segment in a file of any of the three formats by the current one.
+fn migrate_held<D: Disk>(
+    alloc: Global,
+    disk: &mut D,
+    path: &str,
+    hold: &mut D::Hold,
+) -> Result<(), FileError>
+    ensures { Migrates D.step disk.old disk.new path.now result }
+{
+    let segment = open_file(alloc, disk, path, AcceptedVersions::All, Mode::Write, 0)?;
+    Ok(write_image(disk, path, CreateMode::Truncate, hold, &segment)?)
 }
 
 /// Writes the segment in a file by the current format, whichever of the three it has.
@@ -55,8 +65,7 @@ pub fn check<D: Disk>(alloc: Global, disk: &mut D, path: &str) -> Result<(), Fil
 ///
 /// # Errors
 ///
-/// Those of [`read`], and `InUse` where another has the right to write the file: it is as it was. `WriteFault`
-/// where it
+/// Those of [`read`], and `InUse` where another has the right to write the file: it is as it was. `WriteFault` where it
 /// can't be emptied, takes not the whole image, or need not last.
 pub fn migrate<D: Disk>(alloc: Global, disk: &mut D, path: &str) -> Result<(), FileError>
     ensures { HoldsFile D.step disk.old disk.new path.now (λ held done.

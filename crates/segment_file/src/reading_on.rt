@@ -4,8 +4,8 @@ ghost use Rattle.raw_region.specs.Device.{AppendsBytes};
 ghost use Rattle.image_check.specs.EarlyTests.{size_word};
 ghost use Rattle.segment_file.specs.ReadingOn.{IsFrontGiven, IsReadUpTo, IsWhole, IsWhyNotUpTo, IsWhyNotWhole};
 
+use crate::file_errors::Unfit;
 use crate::heading::Headed;
-use crate::unfit::Unfit;
 use image_check::{FRONT, ImageClass, Verdict};
 use raw_region::{Source, append, word_in};
 use segment_manager::layout::SIZE_AT;

@@ -1,17 +1,70 @@
 //! A segment with its file, which no other may write meanwhile.
-ghost use Rattle.std.specs.Prelude.{◌≡◌, string_bytes};
+ghost use Rattle.std.specs.Prelude.{◌≡◌, MatchResult, string_bytes};
 ghost use Rattle.segment_disk.specs.declared.presence.CreateMode.TheVariants.{Replacement, Truncate};
 ghost use Rattle.segment_disk.specs.Events.{Released};
-ghost use Rattle.segment_file.specs.SegmentFiles.{CreatesSegment, GrowsFile, KeepsFile, OpensHeld, OpensOrCreates};
-ghost use Rattle.segment_file.specs.SegmentFiles.{SavesFile, SavesAs, ShrinksFile};
+ghost use Rattle.segment_file.specs.SegmentFiles.{ComesHeld, CreatesSegment, GrowsFile, IsEmptySegment, IsWhyNoSegment};
+ghost use Rattle.segment_file.specs.SegmentFiles.{KeepsFile, MakesSegmentFile, OpensHeld, OpensOrCreates, SavesAs};
+ghost use Rattle.segment_file.specs.SegmentFiles.{SavesFile, ShrinksFile};
 
 use crate::file_errors::FileError;
-use crate::file_steps::{make_segment_file, open_held, save_image};
-use grow_shrink::{grow_or_move, shrink_to_fit};
+use crate::opening::open_file;
+use crate::writing::write_image;
+use block_tags::is_legal_size;
+use grow_shrink::{grow_or_move, region_for, shrink_to_fit};
+use image_check::AcceptedVersions;
 use raw_region::copy_text;
 use segment_disk::{CreateMode, Disk, Presence};
-use segment_manager::Segment;
+use segment_manager::{Mode, Segment};
 use std::alloc::Global;
+
+/// An empty segment of a size. One that no segment has is refused before memory is asked for.
+fn empty_segment(alloc: Global, size: u64) -> Result<Segment, FileError>
+    ensures { MatchResult result (IsEmptySegment size) (IsWhyNoSegment size) }
+{
+    if !is_legal_size(size) {
+        return Err(FileError::BadSize);
+    }
+    let region = region_for(alloc, size)?;
+    match Segment::create(region, 0, size, Mode::Write) {
+        Ok(segment) => Ok(segment),
+        Err(_) => unreachable!(),
+    }
+}
+
+/// An empty segment of a size, whose image is written to a new file, and the right to write it.
+fn make_segment_file<D: Disk>(
+    alloc: Global,
+    disk: &mut D,
+    path: &str,
+    size: u64,
+) -> Result<(Segment, D::Hold), FileError>
+    ensures { ComesHeld (MakesSegmentFile D.step disk.old disk.new path.now size) result }
+{
+    let segment = empty_segment(alloc, size)?;
+    let mut hold = D::hold_none();
+    write_image(disk, path, CreateMode::New, &mut hold, &segment)?;
+    Ok((segment, hold))
+}
+
+/// The segment in a file, open for writing, and the right to write it, which was taken before the file was read.
+fn open_held<D: Disk>(
+    alloc: Global,
+    disk: &mut D,
+    path: &str,
+) -> Result<(Segment, D::Hold), FileError>
+    ensures { ComesHeld (OpensHeld D.step disk.old disk.new path.now) result }
+{
+    let Ok(hold) = disk.lock(path) else {
+        return Err(FileError::InUse);
+    };
+    match open_file(alloc, disk, path, AcceptedVersions::Current, Mode::Write, 0) {
+        Ok(segment) => Ok((segment, hold)),
+        Err(error) => {
+            disk.unlock(hold);
+            Err(error)
+        }
+    }
+}
 
 /// A segment in memory, the path of the file that it was read from or made in, and the right to write that file, which
 /// no other has until this one is closed or dropped. The file changes by `save` and `replace` alone.
@@ -60,8 +113,7 @@ impl<H: Drop> SegmentFile<H> {
     ///
     /// # Errors
     ///
-    /// `InUse` where another has the right to write the file. Those of [`read`](crate::read); the right is
-    /// given back.
+    /// `InUse` where another has the right to write the file. Those of [`read`](crate::read); the right is given back.
     pub fn open<D: Disk<Hold = H>>(
         alloc: Global,
         disk: &mut D,
@@ -116,8 +168,7 @@ impl<H: Drop> SegmentFile<H> {
     /// # Errors
     ///
     /// `WriteFault` where the file can't be emptied, takes not the whole image, or need not last, and where another
-    /// file
-    /// has taken its name, which is left alone.
+    /// file has taken its name, which is left alone.
     pub fn save<D: Disk<Hold = H>>(&mut self, disk: &mut D) -> Result<(), FileError>
         ensures save { SavesFile D.step disk.old disk.new (string_bytes self.old.path) self.old.segment result
             Truncate }
@@ -125,13 +176,8 @@ impl<H: Drop> SegmentFile<H> {
         ensures path { self.new.path ≡ self.old.path }
     {
         let path = self.path.as_str();
-        save_image(
-            disk,
-            path,
-            CreateMode::Truncate,
-            &mut self.hold,
-            &self.segment,
-        )
+        let how = CreateMode::Truncate;
+        Ok(write_image(disk, path, how, &mut self.hold, &self.segment)?)
     }
 
     /// The same to a new file beside its file, which takes the place of the old one when it has the whole image: at
@@ -150,13 +196,8 @@ impl<H: Drop> SegmentFile<H> {
         ensures path { self.new.path ≡ self.old.path }
     {
         let path = self.path.as_str();
-        save_image(
-            disk,
-            path,
-            CreateMode::Replacement,
-            &mut self.hold,
-            &self.segment,
-        )
+        let how = CreateMode::Replacement;
+        Ok(write_image(disk, path, how, &mut self.hold, &self.segment)?)
     }
 
     /// Writes the image of the segment to another file, which is made for it. The segment keeps its path.
@@ -173,13 +214,8 @@ impl<H: Drop> SegmentFile<H> {
         if disk.path_status(path) == Presence::There {
             return Err(FileError::Exists);
         }
-        save_image(
-            disk,
-            path,
-            CreateMode::New,
-            &mut D::hold_none(),
-            &self.segment,
-        )
+        let mut hold = D::hold_none();
+        Ok(write_image(disk, path, CreateMode::New, &mut hold, &self.segment)?)
     }
 
     /// Gives the right to write the file back. The segment is gone, and what was not saved of it is not in the file.
@@ -204,10 +240,7 @@ impl<H: Drop> SegmentFile<H> {
         ensures history { GrowsFile self.old.segment self.new.segment extra result }
         ensures path { self.new.path ≡ self.old.path }
     {
-        match grow_or_move(alloc, &mut self.segment, extra) {
-            Ok(()) => Ok(()),
-            Err(why) => Err(FileError::from(why)),
-        }
+        Ok(grow_or_move(alloc, &mut self.segment, extra)?)
     }
 
     /// Makes the segment as short as its last block lets it be. Every object keeps its handle and its value. The file

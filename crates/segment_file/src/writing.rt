@@ -1,6 +1,6 @@
 //! The writing of an image to a file.
 ghost use Rattle.std.specs.Prelude.{◌≡◌, ◌≢◌, is_ok};
-ghost use Rattle.segment_disk.specs.declared.presence.CreateMode.TheVariants.{Replacement, New};
+ghost use Rattle.segment_disk.specs.declared.presence.CreateMode.TheVariants.{Replacement};
 ghost use Rattle.segment_disk.specs.Events.{After, nothing_taken};
 ghost use Rattle.segment_file.specs.Files.{FillsFile, MakesImage, WritesImage, placing};
 
@@ -16,10 +16,8 @@ fn fill<D: Disk>(disk: &mut D, mut writer: D::Writer, segment: &Segment) -> Resu
 {
     let saved = save(segment, &mut writer);
     let lasting = disk.sync_and_close(writer);
-    match saved {
-        Ok(()) => lasting,
-        Err(fault) => Err(fault),
-    }
+    saved?;
+    lasting
 }
 
 /// Makes or empties a file, writes the image of a segment to it and closes it.
@@ -33,10 +31,8 @@ fn write_here<D: Disk>(
     requires { how ≢ Replacement }
     ensures { MakesImage D.step disk.old disk.new how path.now segment.now.cut.bytes result }
 {
-    match disk.create(path, how, hold) {
-        Ok(writer) => fill(disk, writer, segment),
-        Err(fault) => Err(fault),
-    }
+    let writer = disk.create(path, how, hold)?;
+    fill(disk, writer, segment)
 }
 
 /// Puts the file that was made beside another in its place, or removes it.
@@ -92,38 +88,8 @@ fn make_image<D: Disk>(
     }
 }
 
-/// The same of a new file, which is compared with none.
-fn write_new<D: Disk>(
-    disk: &mut D,
-    path: &str,
-    hold: &mut D::Hold,
-    segment: &Segment,
-) -> Result<(), DeviceFault>
-    ensures { WritesImage D.step disk.old disk.new New path.now segment.now.cut.bytes result }
-{
-    make_image(disk, path, CreateMode::New, hold, segment)
-}
-
-/// The same of a file that is emptied or replaced. It is left alone where another has taken its name.
-fn overwrite_image<D: Disk>(
-    disk: &mut D,
-    path: &str,
-    how: CreateMode,
-    hold: &mut D::Hold,
-    segment: &Segment,
-) -> Result<(), DeviceFault>
-    requires { how ≢ New }
-    ensures { WritesImage D.step disk.old disk.new how path.now segment.now.cut.bytes result }
-{
-    match disk.compare(path, hold) {
-        Ok(()) => make_image(disk, path, how, hold, segment),
-        Err(fault) => Err(fault),
-    }
-}
-
 /// Writes the image of a segment to a file that is made, emptied or replaced for it, with the right to write it. A
-/// check
-/// of the image accepts it.
+/// check of the image accepts it. A file that is there is left alone if another has taken its name.
 pub fn write_image<D: Disk>(
     disk: &mut D,
     path: &str,
@@ -134,8 +100,10 @@ pub fn write_image<D: Disk>(
     ensures { WritesImage D.step disk.old disk.new how path.now segment.now.cut.bytes result }
 {
     if how == CreateMode::New {
-        write_new(disk, path, hold, segment)
-    } else {
-        overwrite_image(disk, path, how, hold, segment)
+        return make_image(disk, path, CreateMode::New, hold, segment);
+    }
+    match disk.compare(path, hold) {
+        Ok(()) => make_image(disk, path, how, hold, segment),
+        Err(fault) => Err(fault),
     }
 }

@@ -3,9 +3,7 @@ ghost use Rattle.std.specs.Prelude.{◌≡◌, false, Some, None, Ok, Err, map, 
 ghost use Rattle.std.specs.Prelude.{option_map, option_and_then, unwrap_or};
 ghost use Rattle.std.specs.List.{list_any};
 ghost use Rattle.std.specs.Str.{bytes_eq};
-ghost use Rattle.clap.specs.Matches.{found_of};
-ghost use Rattle.clap.specs.Values.{kind_of};
-ghost use Rattle.clap.specs.Walk.{first_of, rows_of};
+ghost use Rattle.clap.specs.{Matches.found_of, Values.kind_of, Walk.first_of, Walk.rows_of};
 ghost use Rattle.clap.specs.declared.error.kind.ErrorKind.TheVariants.{DisplayVersion, OutOfMemory as NoMemory};
 ghost use Rattle.segment_lang.specs.Words.{number_of};
 ghost use Rattle.segment_invocation.specs.Invocations.{Asked, IsAskedBy, IsWritten, IsWrongBy, ParsesTo, asked_by};
@@ -28,14 +26,14 @@ use clap::{ArgMatches, Error as Misread};
 use segment_lang::number_of;
 use std::alloc::{AllocError, Global};
 
-/// The word of an operand or an option, if there is one.
+/// Returns the word of an operand or an option, if there is one.
 fn word_of<'a>(words: &ArgMatches<'a>, id: &str) -> Option<&'a str>
     ensures { option_map (λ word. word.now) result ≡ first_of id.now (rows_of (found_of words.now)) }
 {
     words.get_str(id)
 }
 
-/// The values of an operand or an option that may stand there more than once.
+/// Returns the values of an operand or an option that may stand there more than once.
 #[tactic(auto, using(crate::proofs::Filed::all_listed, crate::proofs::Filed::none_listed))]
 fn texts_in<'a>(alloc: Global, words: &ArgMatches<'a>, id: &str) -> Result<Vec<&'a str>, AllocError>
     ensures { IfOk result (λ texts. map (λ s. s.now) texts.items ≡ list_of id.now (rows_of (found_of words.now))) }
@@ -48,7 +46,7 @@ fn texts_in<'a>(alloc: Global, words: &ArgMatches<'a>, id: &str) -> Result<Vec<&
     Ok(texts)
 }
 
-/// The mode of a run, `open_only` where none is named.
+/// Returns the mode of a run, `open_only` if none is named.
 fn mode_in(alloc: Global, words: &ArgMatches<'_>) -> Result<ModeName, UsageError>
     ensures read { ParsesTo (mode_of (first_of (codes "mode") (rows_of (found_of words.now)))) result }
     ensures error { IfErr result (λ e. wrong_by e ≡ Some no_mode) }
@@ -62,7 +60,7 @@ fn mode_in(alloc: Global, words: &ArgMatches<'_>) -> Result<ModeName, UsageError
     }
 }
 
-/// The number behind an option, if there is one.
+/// Returns the number after an option, if there is one.
 fn count_in(words: &ArgMatches<'_>, id: &str) -> Result<Option<u64>, UsageError>
     ensures read { ParsesTo (size_of (first_of id.now (rows_of (found_of words.now)))) result }
     ensures error { IfErr result (λ e. wrong_by e ≡ Some no_number) }
@@ -76,7 +74,7 @@ fn count_in(words: &ArgMatches<'_>, id: &str) -> Result<Option<u64>, UsageError>
     }
 }
 
-/// The number of a command.
+/// Returns the number of a command.
 #[tactic(auto, using(crate::proofs::Filed::number_read, crate::proofs::Filed::no_number_read, crate::proofs::Filed::number_unread))]
 fn number_in(words: &ArgMatches<'_>) -> Result<u64, UsageError>
     ensures read { ParsesTo (option_and_then number_of (first_of (codes "number") (rows_of (found_of words.now))))
@@ -89,14 +87,14 @@ fn number_in(words: &ArgMatches<'_>) -> Result<u64, UsageError>
     }
 }
 
-/// Whether a flag stands among the words.
+/// Tells whether a flag stands among the words.
 fn is_set(words: &ArgMatches<'_>, id: &str) -> bool
     ensures { result ≡ is_set (first_of id.now (rows_of (found_of words.now))) }
 {
     matches!(word_of(words, id), Some("true"))
 }
 
-/// How the file of a command is taken and saved.
+/// Returns how the file of a command is taken and saved.
 fn keeping_in(words: &ArgMatches<'_>) -> Result<Keeping, UsageError>
     ensures save { IfOk result (λ k. k.saving ≡ saving_of (first_of (codes "replace") (rows_of (found_of words.now)))) }
     ensures read { MatchResult result (λ k. seconds_of (first_of (codes "wait") (rows_of (found_of words.now)))
@@ -113,7 +111,7 @@ fn keeping_in(words: &ArgMatches<'_>) -> Result<Keeping, UsageError>
     Ok(Keeping { saving, wait })
 }
 
-/// Where the script of a run comes from, that has these lines on the command line.
+/// Returns where the script of a run comes from, that has these lines on the command line.
 fn script_in<'a>(words: &ArgMatches<'a>, lines: Vec<&'a str>) -> Result<Script<'a>, UsageError>
     ensures read { MatchResult result
         (λ s. origin_of (first_of (codes "script") (rows_of (found_of words.now)))
@@ -130,7 +128,7 @@ fn script_in<'a>(words: &ArgMatches<'a>, lines: Vec<&'a str>) -> Result<Script<'
     }
 }
 
-/// What the words of the command `run` ask for, of a file, with the lines that stand among them.
+/// Returns what the words of the command `run` ask for, of a file, with the lines that stand among them.
 fn read_run<'a>(
     alloc: Global,
     file: &'a str,
@@ -163,7 +161,7 @@ fn read_run<'a>(
     Ok(Invocation::RunWith(file, mode, size, running))
 }
 
-/// What the words of the command `check` ask for, of these files, the first of which this is.
+/// Returns what the words of the command `check` ask for, of these files, the first of which this is.
 fn read_check<'a>(
     file: &'a str,
     words: &ArgMatches<'a>,
@@ -184,7 +182,7 @@ fn read_check<'a>(
     }
 }
 
-/// A change of the segment in a file, with how that file is taken and saved where an option says so.
+/// Returns a change of the segment in a file, with how that file is taken and saved if an option says so.
 fn change_of<'a>(file: &'a str, change: FileChange, keeping: Keeping) -> Invocation<'a>
     ensures { asked_by result ≡ asked_change file.now change keeping.saving keeping.wait }
 {
@@ -196,7 +194,7 @@ fn change_of<'a>(file: &'a str, change: FileChange, keeping: Keeping) -> Invocat
     }
 }
 
-/// What the words of a command ask for.
+/// Returns what the words of a command ask for.
 #[tactic(auto, using(crate::proofs::Filed::lint_asked, crate::proofs::Filed::language_asked, crate::proofs::Filed::without_file))]
 fn read_command<'a>(
     alloc: Global,
@@ -248,7 +246,7 @@ fn read_command<'a>(
     }
 }
 
-/// What words ask for that have no command: the version, or they are wrong or ask for help.
+/// Returns what words without a command ask for: the version or help, or says that they are wrong.
 fn read_other<'a>(other: Misread) -> Result<Invocation<'a>, InvocationFault>
     ensures version { kind_of other ≡ DisplayVersion → result ≡ Ok Version }
     ensures memory { kind_of other ≡ NoMemory → result ≡ Err OutOfMemory }
@@ -263,12 +261,12 @@ fn read_other<'a>(other: Misread) -> Result<Invocation<'a>, InvocationFault>
     Err(InvocationFault::from(other))
 }
 
-/// What a command line asks for. Its first word is the program's name.
+/// Returns what a command line asks for. Its first word is the program's name.
 ///
 /// # Errors
 ///
-/// `Usage` where it is wrong or asks for help; it says what is wrong, or has the help. `OutOfMemory` where memory for
-/// reading it was refused.
+/// `Usage` if it is wrong or asks for help; it says what is wrong, or has the help. `OutOfMemory` if memory for reading
+/// it was refused.
 pub fn invocation<'a>(
     alloc: Global,
     words: &'a [&'a str],
@@ -292,7 +290,7 @@ pub fn invocation<'a>(
     }
 }
 
-/// Whether one of the words of a command line is `--verbose`.
+/// Tells whether one of the words of a command line is `--verbose`.
 pub fn is_verbose(words: &[&str]) -> bool
     ensures { result ≡ list_any (λ word. bytes_eq word.now (codes "--verbose")) words.now }
 {

@@ -1,7 +1,6 @@
 //! The command line of the program, and its help.
 ghost use Rattle.std.specs.Prelude.{◌≡◌, false, fold, map, IfOk};
-ghost use Rattle.clap.specs.Walk.{rule_of};
-ghost use Rattle.clap.specs.Simple.{app_of, new_app, with_rule, with_subcommand};
+ghost use Rattle.clap.specs.{Walk.rule_of, Simple.app_of, Simple.new_app, Simple.with_rule, Simple.with_subcommand};
 ghost use Rattle.clap.specs.declared.builder.command.Command.TheViews.{out-Command as fields_of};
 ghost use Rattle.segment_invocation.specs.Invocations.{command_line, program};
 ghost use Rattle.segment_invocation.specs.Table.{row_shape, word_rule};
@@ -10,52 +9,39 @@ use crate::version::VERSION;
 use clap::{Arg, ArgAction, Command};
 use std::alloc::{AllocError, Global};
 
-/// What the program is, before its commands.
+// What help says of the program, before its commands, and then of each command.
 const ABOUT: &str =
     "Keeps typed objects under names in one run of bytes, a segment, which a file holds";
 
-/// What the command `create` does.
 const CREATE: &str =
     "Makes FILE with an empty segment of SIZE bytes; a FILE that exists is refused";
 
-/// What the command `run` does.
 const RUN: &str = "Runs a script on the segment in FILE, prints its answers, and saves the segment";
 
-/// What the command `check` does.
 const CHECK: &str =
     "Prints ok where FILE holds a segment, and else says why it holds none; the status is the worst of all FILEs";
 
-/// What the command `grow` does.
 const GROW: &str = "Adds BYTES free bytes at the end of the segment in FILE, and prints its size";
 
-/// What the command `shrink` does.
 const SHRINK: &str =
     "Gives up the free bytes at the end of the segment in FILE, and prints its size";
 
-/// What the command `migrate` does.
 const MIGRATE: &str = "Writes the segment in FILE in the newest format; prints ok";
 
-/// What the command `stat` does.
 const STAT: &str = "Prints how the bytes of the segment in FILE are used, in figures";
 
-/// What the command `draw` does.
 const DRAW: &str = "Prints a picture of the segment in FILE, as SVG";
 
-/// What the command `dump` does.
 const DUMP: &str = "Prints the objects of the segment in FILE as text";
 
-/// What the command `names` does.
 const NAMES: &str = "Prints the names in the segment in FILE, in their order, a line each";
 
-/// What the command `load` does.
 const LOAD: &str =
     "Makes FILE with a segment of the dump of standard input; without --replace a FILE that exists is refused";
 
-/// What the command `lint` does.
 const LINT: &str =
     "Tells which lines of the script of standard input are no commands, and where; it needs no segment";
 
-/// What the command `language` does.
 const LANGUAGE: &str = "Prints the commands of a script, each with its answer and what it does";
 
 /// What the words of the commands of a script stand for.
@@ -113,13 +99,13 @@ const SIZES: &str = "A number of bytes: 144, or a multiple of 16 from 176 to 107
 pub enum CommandWord {
     /// A value in its place, which must be there; help calls it by the second text.
     Operand(&'static str, &'static str, &'static str),
-    /// The same, and there may be more of them.
+    /// A value in its place, of which there may be more.
     Operands(&'static str, &'static str, &'static str),
-    /// The same, which may be left out.
+    /// A value in its place, which may be left out.
     Optional(&'static str, &'static str, &'static str),
-    /// A value behind its name, which may be left out; help calls it by the second text.
+    /// A value after its name, which may be left out; help calls it by the second text.
     Option(&'static str, &'static str, &'static str),
-    /// A value behind a hyphen and a letter, as often as there are values; help calls it by the second text.
+    /// A value after a hyphen and a letter, as often as there are values; help calls it by the second text.
     Short(&'static str, char, &'static str, &'static str),
     /// A name that stands alone, and may be left out.
     Flag(&'static str, &'static str),
@@ -133,28 +119,25 @@ type Row = (
     &'static [CommandWord],
 );
 
-/// The file of a command.
+// The words of the commands, each with what help says of it.
 const FILE: CommandWord = CommandWord::Operand(
     "file",
     "FILE",
     "The path of the file with the segment",
 );
 
-/// The files of a check.
 const FILES: CommandWord = CommandWord::Operands(
     "file",
     "FILE",
     "The path of the file with the segment",
 );
 
-/// The script of a run, as a file.
 const SCRIPT: CommandWord = CommandWord::Optional(
     "script",
     "SCRIPT",
     "The path of a file with the script",
 );
 
-/// A line of the script of a run.
 const LINE: CommandWord = CommandWord::Short(
     "line",
     'c',
@@ -162,91 +145,74 @@ const LINE: CommandWord = CommandWord::Short(
     "A line of the script; the next -c has the next one",
 );
 
-/// The size of a segment that is made.
 const SIZE: CommandWord = CommandWord::Operand("number", "SIZE", SIZES);
 
-/// By how much a segment grows.
 const BYTES: CommandWord = CommandWord::Operand("number", "BYTES", "A multiple of 16 from 32 on");
 
-/// The mode of a run.
 const MODE: CommandWord = CommandWord::Option("mode", "MODE", "One of the five modes below");
 
-/// The size of a segment that a run makes.
 const RUN_SIZE: CommandWord = CommandWord::Option("size", "SIZE", SIZES);
 
-/// What is done to a file that is saved.
 const REPLACE: CommandWord = CommandWord::Flag(
     "replace",
     "The image goes to a new file, FILE.new, which then takes the place of FILE: one of the two is whole at each moment",
 );
 
-/// How long a file is waited for that another program writes.
 const WAIT: CommandWord = CommandWord::Option(
     "wait",
     "SECONDS",
     "How long to wait for FILE where another program writes it; without it that is told at once",
 );
 
-/// What a run does behind an error.
 const STRICT: CommandWord = CommandWord::Flag(
     "strict",
     "The first answer that is an error ends the run, with status 1, and nothing is saved",
 );
 
-/// How the answers of a run are told apart.
 const NUMBERED: CommandWord = CommandWord::Flag(
     "numbered",
     "Each line of an answer stands behind the number of the line that it answers, as in '3: #192'",
 );
 
-/// What a check says beside the class.
 const EXPLAIN: CommandWord = CommandWord::Flag(
     "explain",
     "Where FILE holds no segment, tells in words why, and at which byte, from 0 on, that shows",
 );
 
-/// What a check leaves out.
 const QUIET: CommandWord = CommandWord::Flag(
     "quiet",
     "Prints nothing for a FILE that holds a segment",
 );
 
-/// The option of a picture.
 const HTML: CommandWord = CommandWord::Flag(
     "html",
     "Prints a page for a browser: the picture, the figures of stat, and the objects as a table",
 );
 
-/// How a dump is written.
 const JSON: CommandWord = CommandWord::Flag(
     "json",
     "Writes each object as a line of JSON: class, name, kind and value; then --capacities tells nothing",
 );
 
-/// What a dump has behind its end.
 const CAPACITIES: CommandWord = CommandWord::Flag(
     "capacities",
     "Behind the objects, tells the capacities: of the indexes, vectors, strings and vectors of strings",
 );
 
-/// What the names that are printed begin with.
 const PREFIX: CommandWord = CommandWord::Option(
     "prefix",
     "TEXT",
     "Prints only names that begin with TEXT",
 );
 
-/// How many names are printed.
 const MOST: CommandWord = CommandWord::Option("most", "N", "Prints the first N of them at most");
 
-/// The size of a segment that is loaded.
 const LOADED: CommandWord = CommandWord::Option(
     "size",
     "SIZE",
     "The bytes of the segment, as for create; without it the segment is made as long as the dump says, and then shrunk",
 );
 
-/// How much is told of a file that can't be read or written.
 const VERBOSE: CommandWord = CommandWord::Flag(
     "verbose",
     "Behind a read fault or write fault of FILE, tells FILE and why, as far as the system says",
@@ -276,7 +242,7 @@ static COMMANDS: [Row; 13] = [
     ("language", LANGUAGE, Some(WORDS), &[VERBOSE]),
 ];
 
-/// A word of a command, for clap.
+/// Returns a word of a command, for clap.
 fn arg_of<'a>(alloc: Global, word: &CommandWord) -> Arg<'a>
     ensures rule { rule_of result ≡ word_rule word.now }
     ensures local { result.global ≡ false }
@@ -311,7 +277,7 @@ fn arg_of<'a>(alloc: Global, word: &CommandWord) -> Arg<'a>
     }
 }
 
-/// A command without its words.
+/// Returns a command without its words.
 fn bare_command<'a>(
     alloc: Global,
     name: &'a str,
@@ -328,7 +294,7 @@ fn bare_command<'a>(
     }
 }
 
-/// A command with these words behind those that it has.
+/// Returns a command with these words after those that it has.
 fn with_words<'a>(
     alloc: Global,
     begun: Command<'a>,
@@ -347,7 +313,7 @@ fn with_words<'a>(
     Ok(command)
 }
 
-/// The program, without its commands.
+/// Returns the program, without its commands.
 fn program<'a>(alloc: Global, about: &'a str, statuses: &'a str) -> Command<'a>
     ensures { app_of result ≡ program }
 {
@@ -357,7 +323,7 @@ fn program<'a>(alloc: Global, about: &'a str, statuses: &'a str) -> Command<'a>
         .arg_required_else_help(true)
 }
 
-/// The program with a command behind those that it has.
+/// Returns the program with a command after those that it has.
 fn with_command<'a>(
     alloc: Global,
     program: Command<'a>,
@@ -369,7 +335,7 @@ fn with_command<'a>(
     program.subcommand(with_words(alloc, command, row.3)?)
 }
 
-/// The program with these commands behind those that it has.
+/// Returns the program with these commands after those that it has.
 fn with_commands<'a>(
     alloc: Global,
     begun: Command<'a>,
@@ -386,7 +352,7 @@ fn with_commands<'a>(
     Ok(program)
 }
 
-/// The command lines of the program.
+/// Returns the command lines of the program.
 pub fn command_line<'a>(alloc: Global) -> Result<Command<'a>, AllocError>
     ensures { IfOk result (λ c. app_of c ≡ command_line) }
 {

@@ -13,7 +13,7 @@ pub enum ModeName {
     CreateOnly,
     /// `open_only`: the segment is the one in the file.
     OpenOnly,
-    /// `open_or_create`: the segment is the one in the file, and is made where there is none.
+    /// `open_or_create`: the segment is the one in the file, and is made if there is none.
     OpenOrCreate,
     /// `open_read_only`: commands that may change the segment are refused, and nothing is saved.
     OpenReadOnly,
@@ -22,7 +22,7 @@ pub enum ModeName {
 }
 
 impl ModeName {
-    /// The mode of a word. `None` is a word that is none of the five.
+    /// Returns the mode of a word. `None` is a word that is none of the five.
     pub(crate) fn called(word: &str) -> Option<ModeName>
         ensures { result ≡ mode_called word.now }
     {
@@ -36,7 +36,7 @@ impl ModeName {
         }
     }
 
-    /// Whether a segment of this mode may have to be made.
+    /// Tells whether a segment of this mode may have to be made.
     pub(crate) fn wants_size(self) -> bool
         ensures { result ≡ wants_size self }
     {
@@ -64,7 +64,7 @@ pub enum Report {
     Page,
     /// Its objects as text.
     Dump,
-    /// The same, and behind it the capacities of what has one.
+    /// The dump, and after it the capacities of what has one.
     Capacities,
     /// Its objects as lines of JSON.
     Json,
@@ -73,11 +73,11 @@ pub enum Report {
 /// How the segment in a file changes without a script.
 #[derive(Clone, Copy, Debug, PartialEq, Eq)]
 pub enum FileChange {
-    /// It becomes larger by so many bytes.
+    /// The segment becomes larger by so many bytes.
     Grow(u64),
-    /// It becomes as small as its last block lets it be.
+    /// The segment becomes as small as its last block lets it be.
     Shrink,
-    /// It is written in this format, of which it is, or an older one.
+    /// The segment, of this format or an older one, is written in this format.
     Migrate,
 }
 
@@ -86,7 +86,7 @@ pub enum FileChange {
 pub struct Answering {
     /// `--strict`: the first answer that is an error ends the run, and nothing is saved.
     pub strict: bool,
-    /// `--numbered`: each line of an answer stands behind the number of the line of the script that it answers.
+    /// `--numbered`: each line of an answer stands after the number of the line of the script that it answers.
     pub numbered: bool,
 }
 
@@ -95,18 +95,18 @@ pub struct Answering {
 pub struct Keeping {
     /// How a file that is there is saved.
     pub saving: SaveMode,
-    /// `--wait`: for how many seconds the right to write the file is waited for, where another has it.
+    /// `--wait`: for how many seconds the right to write the file is waited for, if another has it.
     pub wait: u64,
 }
 
 impl Keeping {
-    /// As it is where no option says otherwise.
+    /// The options that hold if the command line gives none.
     pub const PLAIN: Keeping = Keeping {
         saving: SaveMode::InPlace,
         wait: 0,
     };
 
-    /// Whether no option says otherwise.
+    /// Tells whether no option says otherwise.
     pub(crate) fn is_plain(self) -> bool
         ensures { result ≡ is_plain self.saving self.wait }
     {
@@ -125,7 +125,7 @@ pub enum Script<'a> {
     Lines(Vec<&'a str>),
 }
 
-/// The script of these lines: each with a line end behind it.
+/// Returns the script of these lines: each with a line end after it.
 ///
 /// # Errors
 ///
@@ -153,7 +153,7 @@ pub struct Running<'a> {
 }
 
 impl<'a> Running<'a> {
-    /// As it is where no option says otherwise.
+    /// The options that hold if the command line gives none.
     pub const PLAIN: Running<'static> = Running {
         script: Script::Input,
         keeping: Keeping::PLAIN,
@@ -163,7 +163,7 @@ impl<'a> Running<'a> {
         },
     };
 
-    /// Whether no option says otherwise.
+    /// Tells whether no option says otherwise.
     pub(crate) fn is_plain(&self) -> bool
         ensures { result ≡ is_plain_run (origin_by self.now.script) self.now.keeping.saving self.now.keeping.wait
             self.now.answering.strict self.now.answering.numbered }
@@ -183,15 +183,14 @@ pub enum Invocation<'a> {
     /// To make an empty segment of this size in a file that is not there.
     Create(&'a str, u64),
     /// To run the script of standard input on the segment in a file, in a mode, with the size of a segment that is
-    /// made.
-    /// The modes `create_only` and `open_or_create` have a size.
+    /// made. The modes `create_only` and `open_or_create` have a size.
     Run(&'a str, ModeName, Option<u64>),
-    /// The same, as other options say.
+    /// To run a script on the segment in a file, with options.
     RunWith(&'a str, ModeName, Option<u64>, Running<'a>),
     /// To check that a file holds a segment.
     Check(&'a str),
-    /// To check that of several files, or of one, and to name those that hold none; of the others nothing where the
-    /// second is true.
+    /// To check that of several files, or of one, and to name those that hold none; of the others nothing if the second
+    /// is true.
     CheckAll(Vec<&'a str>, bool),
     /// To check the same, and where it holds none to tell in words why, and which byte shows it.
     Explain(&'a str),
@@ -201,13 +200,13 @@ pub enum Invocation<'a> {
     Shrink(&'a str),
     /// To write the segment in a file, of this format or an older one, in this format.
     Migrate(&'a str),
-    /// To do one of these three as other options say.
+    /// To grow, shrink or migrate a segment with options.
     ChangeWith(&'a str, FileChange, Keeping),
     /// To tell something of the segment in a file.
     Tell(&'a str, Report),
     /// To print the names of the segment in a file that begin with a text, in their order, at most so many.
     Names(&'a str, &'a str, Option<u64>),
-    /// To make a segment of such a text: of this size, or as long as the text says and cut behind its last block. It is
+    /// To make a segment of such a text: of this size, or as long as the text says and cut after its last block. It is
     /// made in a file that is not there, or is to take the place of the one that is.
     Load(&'a str, Option<u64>, Keeping),
     /// To tell which lines of a script are no commands.

@@ -30,8 +30,8 @@ impl fmt::Display for Tip {
     }
 }
 
-/// The mode that is most like a word, the first of those that are equally like it; none where no mode is near, or where
-/// memory for comparing them was refused.
+/// Returns the mode that is most like a word, the first of those that are equally like it. Returns none if no mode is
+/// near, or if memory for the comparison was refused.
 pub(crate) fn nearest_mode(alloc: Global, word: &str) -> Tip {
     let mut mode = None;
     let mut most = NEAR;

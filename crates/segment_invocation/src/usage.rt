@@ -1,7 +1,6 @@
 //! What is wrong with a command line.
 ghost use Rattle.std.specs.Prelude.{◌≡◌};
-ghost use Rattle.clap.specs.Values.{kind_of};
-ghost use Rattle.clap.specs.declared.error.kind.ErrorKind.TheVariants.{OutOfMemory as NoMemory};
+ghost use Rattle.clap.specs.{Values.kind_of, declared.error.kind.ErrorKind.TheVariants.OutOfMemory as NoMemory};
 ghost use Rattle.segment_invocation.specs.declared.usage.InvocationFault.TheVariants.{OutOfMemory, Usage};
 ghost use Rattle.segment_invocation.specs.declared.usage.UsageError.TheVariants.{Words};
 
@@ -17,7 +16,7 @@ pub enum UsageError {
     /// The words do not fit, or ask for help.
     #[error("{0}")]
     Words(Misread),
-    /// No command stands behind the program's name.
+    /// No command stands after the program's name.
     #[error("error: a command is missing\n")]
     Command,
     /// A command has no file.
@@ -43,7 +42,7 @@ pub enum UsageError {
 /// Why a command line asks for nothing that the program does.
 #[derive(Debug, Drop, Error)]
 pub enum InvocationFault {
-    /// It is wrong, or asks for help.
+    /// The command line is wrong, or asks for help.
     #[error("{0}")]
     Usage(UsageError),
     /// Memory for reading it was refused.

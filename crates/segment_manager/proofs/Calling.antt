@@ -1,13 +1,10 @@
 -- What the contracts of the heap come to for a directory: blocks asked for, released and written.
 use Rattle.segment_manager.proofs.Common.{◌≡◌, sym, ap, ◌∙◌, ℕ, Bool, true, ◌&&◌, ◌==◌, List, WindowState, live, []}
-use Rattle.segment_manager.proofs.Common.{◌∷◌}
-use Rattle.segment_manager.proofs.Common.{refl, is_live_in, value_extents, without_object, lay_out_one, list_any-insert}
-use Rattle.segment_manager.proofs.Common.{subst, IsTrue, eq-eqb, Extent, handle, holds, KeepsBlocks, Object, has_key}
-use Rattle.segment_manager.proofs.Common.{Denotes}
-use Rattle.segment_manager.proofs.Common.{list_any, is_proper, Deallocates, Directory, IsObjectAt, Anonymous}
-use Rattle.segment_manager.proofs.Common.{extents_of}
-use Rattle.segment_manager.proofs.Common.{and_from, bytes_of, LiveSet, released, EncodesLiveSet, live_of, has_room}
-use Rattle.segment_manager.proofs.Common.{ByHandle}
+use Rattle.segment_manager.proofs.Common.{◌∷◌, refl, is_live_in, value_extents, without_object, lay_out_one}
+use Rattle.segment_manager.proofs.Common.{list_any-insert, subst, IsTrue, eq-eqb, Extent, handle, holds, KeepsBlocks}
+use Rattle.segment_manager.proofs.Common.{Object, has_key, Denotes, list_any, is_proper, Deallocates, Directory}
+use Rattle.segment_manager.proofs.Common.{IsObjectAt, Anonymous, extents_of, and_from, bytes_of, LiveSet, released}
+use Rattle.segment_manager.proofs.Common.{EncodesLiveSet, live_of, has_room, ByHandle}
 use Rattle.segment_manager.proofs.Live.{IsFound, IsIn, live-split, removing}
 use Rattle.segment_manager.proofs.{Order.inserted, objects.ObjectLists.all-found, Denoted.denotes-without}
 
@@ -49,9 +46,8 @@ denotes-heap format b d h = subst (EncodesLiveSet format b) (sym (denotes-live f
 
 -- without the object whose block was released, one without a key that has no other
 pub denotes-released : {format : ℕ} {old new : WindowState} {d : Directory} (o : Object)
-    → Denotes format old.bytes d → IsIn d o
-    → o.class ≡ Anonymous → value_extents o.value ≡ [] → Deallocates format old new (handle o.extent)
-    → Denotes format new.bytes (without_object d o)
+    → Denotes format old.bytes d → IsIn d o → o.class ≡ Anonymous → value_extents o.value ≡ []
+    → Deallocates format old new (handle o.extent) → Denotes format new.bytes (without_object d o)
 denotes-released {format} {old} {new} {d} o k f class alone r =
     let same : released (live_of old.bytes) (handle o.extent) ≡ removing (live d) (extents_of o) =
     ap (λ l. released l (handle o.extent)) (denotes-live format old.bytes d k)

@@ -2,12 +2,10 @@
 use Rattle.segment_manager.proofs.Common as common
 use common.{◌≡◌, refl, sym, ap, subst, ◌∙◌, ℕ, suc, ◌+◌, ◌≢◌, Bool, ◌&&◌, List, [], ◌∷◌, length, arith, IsTrue, nat_le}
 use common.{AllByRecursion, Memory, WindowState, SameBytes, bytes_of, Extent, LiveSet, handle, is_proper}
-use common.{EncodesLiveSet, SameBlock, KeepsBlocks}
-use common.{BackingArray, has_backing, Anonymous, IsIndexAt, Object, Directory, IsDirectory, live, extents_of}
-use common.{value_extents}
-use common.{table_extents, is_object, is_index, rises, remove_object, with_object, with_changed, without_object}
-use common.{named_objects, unique_objects, by_name, by_kind, Denotes, IsObjectAt, IsHeader, handles, SameBytes-part}
-use common.{flat_map, list_all, rises_from}
+use common.{EncodesLiveSet, SameBlock, KeepsBlocks, BackingArray, has_backing, Anonymous, IsIndexAt, Object, Directory}
+use common.{IsDirectory, live, extents_of, value_extents, table_extents, is_object, is_index, rises, remove_object}
+use common.{with_object, with_changed, without_object, named_objects, unique_objects, by_name, by_kind, Denotes}
+use common.{IsObjectAt, IsHeader, handles, SameBytes-part, flat_map, list_all, rises_from}
 use Rattle.segment_manager.proofs.Faces.{IsLike, replace-rises, anonymous-named, anonymous-unique, ordered-with}
 use Rattle.segment_manager.proofs.Faces.{ordered-without, ordered-changed, by_name-face, by_kind-face}
 use Rattle.segment_manager.proofs.objects.ObjectLists.{all-put, all-remove, all-replace, list_all-put, list_all-remove}
@@ -82,11 +80,10 @@ directory-with {format} {d} o h is_there c p = record {
 }
 
 -- an anonymous object, with all its extents
-pub denotes-with : {format : ℕ} (old new : WindowState) {d : Directory} {o : Object} → Denotes format old.bytes d
-    → IsTrue (is_object format o) → o.class ≡ Anonymous
-    → EncodesLiveSet format new.bytes (adding (live d) (extents_of o))
-    → KeepsBlocks old new (live d).extents → IsObjectAt (bytes_of new.bytes) o
-    → Denotes format new.bytes (with_object d o)
+pub denotes-with : {format : ℕ} (old new : WindowState) {d : Directory} {o : Object}
+    → Denotes format old.bytes d → IsTrue (is_object format o) → o.class ≡ Anonymous
+    → EncodesLiveSet format new.bytes (adding (live d) (extents_of o)) → KeepsBlocks old new (live d).extents
+    → IsObjectAt (bytes_of new.bytes) o → Denotes format new.bytes (with_object d o)
 denotes-with {format} old new {d} {o} h is_there c l k at =
     let blocks = of_each (SameBlock (bytes_of old.bytes) (bytes_of new.bytes)) k.blocks in
     let frame = frame-stays old new (live d).extents h k blocks.named blocks.unique in
@@ -119,8 +116,7 @@ directory-without {format} {d} o h f c p = record {
 
 -- an anonymous object, with all its extents: those of the others stay
 pub denotes-without : {format : ℕ} (old new : WindowState) {d : Directory} (o : Object) → Denotes format old.bytes d
-    → IsIn d o
-    → o.class ≡ Anonymous → EncodesLiveSet format new.bytes (removing (live d) (extents_of o))
+    → IsIn d o → o.class ≡ Anonymous → EncodesLiveSet format new.bytes (removing (live d) (extents_of o))
     → KeepsBlocks old new (removing (live d) (extents_of o)).extents → Denotes format new.bytes (without_object d o)
 denotes-without {format} old new {d} o h f c l k =
     let same = live-without d o f h.directory.proper in

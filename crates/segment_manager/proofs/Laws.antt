@@ -7,15 +7,13 @@ pub use Rattle.raw_region.proofs.Facts.{AllByRecursion-append, AllByRecursion-be
 pub use Rattle.segment_manager.proofs.Order.{all-sorted, all_of-sorted, rising-insert, rising-weak}
 unfoldable pub use Rattle.segment_manager.proofs.Order.{Rising}
 -- the live set of a directory: its size and its extents, which rise
-pub use Rattle.segment_manager.proofs.Live.{live-extents, live-size}
+pub use Rattle.segment_manager.proofs.{Live.live-extents, Live.live-size, Order.live-rises}
 unfoldable pub use Rattle.segment_manager.proofs.Live.{tables_of}
-pub use Rattle.segment_manager.proofs.Order.{live-rises}
 -- objects put in by an order: which come first, that the whole list rises, and what holds of each
 pub use Rattle.segment_manager.proofs.objects.Ranks.{IsRanked, IsStrict, after, all-insert_by, all-ordered}
 pub use Rattle.segment_manager.proofs.objects.Ranks.{all_of-insert_by, before, ranked-sym}
 pub use Rattle.segment_manager.proofs.objects.RankedPairs.{insert_by-rises, rises-pairwise, rises-tail}
-unfoldable pub use Rattle.segment_manager.proofs.objects.Ranks.{AllRanked}
-unfoldable pub use Rattle.segment_manager.proofs.objects.RankedPairs.{Pairwise}
+unfoldable pub use Rattle.segment_manager.proofs.{objects.Ranks.AllRanked, objects.RankedPairs.Pairwise}
 -- the two indexes of a directory: each is its objects of a class by a strict order, and has a table with the places
 pub use Rattle.segment_manager.proofs.indexes.Indexes.{by_kind-strict, by_name-strict, index-parts}
 unfoldable pub use Rattle.segment_manager.proofs.Faces.{ordered}
@@ -42,7 +40,7 @@ pub use Rattle.segment_manager.proofs.containers.TextMoves.{of_kind-leads_on}
 -- what bytes denote by an older format, where the version, the tags and the free tree are made those of the current one
 pub use Rattle.segment_manager.proofs.Renewed.{denotes-later, directory-later}
 -- a command on the elements of an object keeps each object
-pub use Rattle.segment_manager.proofs.objects.StayingObjects.{leads_on-stay, objects_stay}
+pub use Rattle.segment_manager.proofs.objects.StayingObjects.{extends-stay, leads_on-stay, objects_stay, writes-stay}
 -- an object whose handle is answered when it is made is there, as is one whose block a walk over the tiles comes to
 pub use Rattle.segment_manager.proofs.objects.MadeObjects.{made-here}
 pub use Rattle.segment_manager.proofs.blocks.OwnWalks.{objects-few, tile-here}

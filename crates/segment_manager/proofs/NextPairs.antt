@@ -9,9 +9,8 @@ use Rattle.segment_manager.specs.{Parts.part_of, containers.Walks.KindedPair}
 
 -- the next pair is the one at a place
 abbrev pub IsNext : SegmentState → ℕ → ScalarKind → ScalarKind → Option (ScalarValue × ScalarValue) → ℕ → Type 0
-IsNext s h k v o i = (d : Directory) → DenotesCurrent s.cut.bytes d
-    → option_map item_seen o ≡ option_map (item_of_kinds k v)
-    (option_map item_of (slice_get (pairs_at d (ByHandle h)) i))
+IsNext s h k v o i = (d : Directory) → DenotesCurrent s.cut.bytes d → option_map item_seen o
+    ≡ option_map (item_of_kinds k v) (option_map item_of (slice_get (pairs_at d (ByHandle h)) i))
 
 -- there is one
 record IsPair (k v : ScalarKind) (x y : ScalarValue) (r : Option NumberPair) : Type 0 where

@@ -4,10 +4,9 @@ use Rattle.segment_manager.proofs.Common as common
 use common.{◌≡◌, refl, ap, ◌∙◌, ℕ, zero, suc, Bool, true, false, not, ◌&&◌, ◌==◌, List, [], ◌∷◌, length, arith, IsTrue}
 use common.{nat_le, nat_lt, if◌then◌else◌, AllByRecursion, list_all, chars, is_utf8, and_from, and_parts, le-leb}
 use common.{leb-true, lt-leb, le-ltb, current, Memory, SameBytes, bytes_of, word_at, SameBytes-part, SameBytes-word}
-use common.{EncodesLiveSet}
-use common.{SameBlock, is_kind_of, is_control, is_name, is_printable_name, is_text_name, Denotes, IsHeader, Directory}
-use common.{IsDirectory, Object, by_kind, by_name, has_good_name, is_class, is_good_value, is_object, kind_of, live}
-use common.{named_objects, object_len, unique_objects, serves, ObjectRole}
+use common.{EncodesLiveSet, SameBlock, is_kind_of, is_control, is_name, is_printable_name, is_text_name, Denotes}
+use common.{IsHeader, Directory, IsDirectory, Object, by_kind, by_name, has_good_name, is_class, is_good_value}
+use common.{is_object, kind_of, live, named_objects, object_len, unique_objects, serves, ObjectRole}
 use Rattle.segment_manager.proofs.{Codes.known-kind, Denoted.index-stays, Frame.any_objects-same, Live.of_each}
 use Rattle.std.specs.Str.{IsAscii}
 use Rattle.std.proofs.lemmas.Bool.{and_left, or_from, not_from_false}

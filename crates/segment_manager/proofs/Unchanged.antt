@@ -1,11 +1,9 @@
 -- What only reads leaves the directory, and a step leads on.
 use Rattle.segment_manager.proofs.Common as common
 use common.{◌≡◌, sym, subst, Bool, false, Some, None, Ok, Err, Kind, Key, Mode, live, Plan, met, plan, step}
-use common.{SegmentState}
-use common.{refl, Option, Result, Extent, resized, Refusal, NoSpace, Command, Answer, Refused, perform, TakesStep}
-use common.{StepsWithoutAnswer}
-use common.{ap, false≢true, LiveSet, is_changing, Directory, refusal_of, step_of_kind, DenotesCurrent, answer_of}
-use common.{refusal_in}
+use common.{SegmentState, refl, Option, Result, Extent, resized, Refusal, NoSpace, Command, Answer, Refused, perform}
+use common.{TakesStep, StepsWithoutAnswer, ap, false≢true, LiveSet, is_changing, Directory, refusal_of, step_of_kind}
+use common.{DenotesCurrent, answer_of, refusal_in}
 use Rattle.segment_manager.proofs.Refusals.{Leaves, by_change, by_other, by_refusal, by_request, by_same, plan-leaves}
 use Rattle.segment_manager.proofs.Refusals.{plan_of_kind-leaves, step-refused}
 
@@ -52,10 +50,9 @@ refusal_in-answer f none (Ok a) = none a
 refusal_in-answer f none (Err r) = refl
 
 -- so a call of which the whole answer is known leads on
-pub result-leads : {A : Type 0} (f : A → Answer) → ((a : A) → refusal_of (f a) ≡ None)
-    → {old new : SegmentState} (c : Command)
-    (result : Result A Refusal) → TakesStep old new c (answer_of f result)
-    → StepsWithoutAnswer old new c (refusal_in result)
+pub result-leads : {A : Type 0} (f : A → Answer)
+    → ((a : A) → refusal_of (f a) ≡ None) → {old new : SegmentState} (c : Command) (result : Result A Refusal)
+    → TakesStep old new c (answer_of f result) → StepsWithoutAnswer old new c (refusal_in result)
 result-leads f none {old} {new} c result m =
     subst (StepsWithoutAnswer old new c) (refusal_in-answer f none result) (step-leads old new c (answer_of f result) m)
 
@@ -66,7 +63,6 @@ refused-is answer e = cc
 
 -- what is refused stays where it is
 pub refused-stays : (old new : SegmentState) (c : Command) (r : Refusal) → StepsWithoutAnswer old new c (Some r)
-    → (d : Directory)
-    → DenotesCurrent old.cut.bytes d → DenotesCurrent new.cut.bytes d
+    → (d : Directory) → DenotesCurrent old.cut.bytes d → DenotesCurrent new.cut.bytes d
 refused-stays old new c r m d h = subst (DenotesCurrent new.cut.bytes)
     (step-refused old.mode c r (refused-is (step old.mode d c).0 (m.answers d h))) (m.denotes d h)

@@ -4,29 +4,19 @@ use Rattle.std.specs.Prelude.{option_map, slice_get, List, length, IsTrue}
 use Rattle.std.specs.List.{AllByRecursion}
 use Rattle.raw_region.specs.Format.{current}
 use Rattle.raw_region.specs.Memory.{AreZero, SameSurroundings, bytes_of, cut_at, word_at}
-use Rattle.block_tags.specs.declared.tile.Tile.{Tile}
-use Rattle.block_tags.specs.Format.{is_legal_size}
-use Rattle.block_tags.specs.Tiles.{tiles_of}
+use Rattle.block_tags.specs.{declared.tile.Tile.Tile, Format.is_legal_size, Tiles.tiles_of}
 use Rattle.best_fit.specs.Extents.{Gap, Span as LiveSpan, gaps, spans}
 use Rattle.best_fit.specs.FreeTree.{gap_front, span as span_of}
-use Rattle.seg_types.specs.declared.kinds.ScalarKind.{ScalarKind}
-use Rattle.seg_types.specs.declared.kinds.ScalarKind.TheVariants.{U8}
-use Rattle.seg_types.specs.declared.kinds.Kind.{Kind}
+use Rattle.seg_types.specs.{declared.kinds.ScalarKind.ScalarKind, declared.kinds.ScalarKind.TheVariants.U8}
+use Rattle.seg_types.specs.{declared.kinds.Kind.Kind, declared.refusals.Refusal.Refusal, Names.Key, Commands.Command}
 use Rattle.seg_types.specs.declared.kinds.Kind.TheVariants.{Scalar, String, Vector, Map, Strings}
-use Rattle.seg_types.specs.declared.refusals.Refusal.{Refusal}
 use Rattle.seg_types.specs.declared.refusals.Refusal.TheVariants.{NotFound, WrongKind}
-use Rattle.seg_types.specs.Names.{Key}
-use Rattle.seg_types.specs.Commands.{Command}
-use Rattle.segment_manager.specs.declared.modes.Mode.{Mode}
-use Rattle.segment_manager.specs.declared.errors.CreateError.{CreateError}
+use Rattle.segment_manager.specs.{declared.modes.Mode.Mode, declared.errors.CreateError.CreateError}
+use Rattle.segment_manager.specs.{declared.errors.CreateRefused.CreateRefused, declared.blocks.tiles.TileInfo.TileInfo}
+use Rattle.segment_manager.specs.{Layout.header_len, Answers.Answer, Answers.Refused, Step.step}
 use Rattle.segment_manager.specs.declared.errors.CreateError.TheVariants.{BadSize, RegionTooSmall}
-use Rattle.segment_manager.specs.declared.errors.CreateRefused.{CreateRefused}
-use Rattle.segment_manager.specs.declared.blocks.tiles.TileInfo.{TileInfo}
-use Rattle.segment_manager.specs.Layout.{header_len}
 use Rattle.segment_manager.specs.Directory.{Object, Directory, empty, kind_of, live, object_at}
-use Rattle.segment_manager.specs.Answers.{Answer, Refused}
 use Rattle.segment_manager.specs.State.{AnswersWith, SegmentState, DenotesCurrent}
-use Rattle.segment_manager.specs.Step.{step}
 
 -- a segment with nothing in it, in the window of the size at the base; its bytes are 0 but for the header's front,
 -- which says the size, the free tree and two indexes without a place, the tags, and the links of the one gap
@@ -73,10 +63,6 @@ elements_of Strings = Err WrongKind
 
 abbrev pub elements_at : Directory → Key → Result ScalarKind Refusal
 elements_at d key = elim (object_at d key) [ None ↦ Err NotFound | Some o ↦ elements_of (kind_of o.value) ]
-
--- the elements of the object of a key are scalars of some kind
-abbrev pub HasScalars : SegmentState → Key → Type 0
-HasScalars s key = (k : ScalarKind) × AnswersWith s (λ d. elements_at d key) (Ok k)
 
 -- what a command answers for objects whose elements are scalars, and for others why there are none
 abbrev pub scalar_reply : Mode → Directory → Key → Command → Answer

@@ -2,8 +2,7 @@
 use Rattle.std.specs.Prelude.{◌≡◌, ℕ, ◌+◌, ◌-◌, ◌*◌, List, ◌++◌, length, map, replicate}
 use Rattle.std.specs.List.{AllByRecursion}
 use Rattle.raw_region.specs.Memory.{Memory, bytes_of, HasBytesAt, word_at, AreZero}
-use Rattle.best_fit.specs.Extents.{handle}
-use Rattle.best_fit.specs.Heap.{EncodesLiveSet}
+use Rattle.best_fit.specs.{Extents.handle, Heap.EncodesLiveSet}
 use Rattle.seg_types.specs.Kinds.{class_code, code_of}
 use Rattle.seg_vector.specs.Vector.{IsVectorAt, IsTextAt, IsTextsAt, spelled}
 use Rattle.seg_map.specs.Numbers.{IsNumberMapAt}

@@ -1,24 +1,18 @@
 -- The directory: which objects a segment has, by handle, with their values and the extents that they use.
 use Rattle.std.specs.Prelude.{ℕ, ◌+◌, ◌*◌, ◌/◌, ℤ, Bool, true, false, ◌&&◌, Option, Some, None, List, [], ◌∷◌, ◌++◌}
 use Rattle.std.specs.Prelude.{length, map, filter, find, flat_map, fold, option_to_list, IsTrue, ◌==◌, nat_lt, nat_le}
-use Rattle.std.specs.Prelude.{nat_eq, int_lt, if◌then◌else◌}
-use Rattle.std.specs.List.{list_all}
-use Rattle.std.specs.Cmp.Lexicographic.{pointwise, slice_cmp}
-use Rattle.std.specs.Ordering.{nat_cmp, is_lt}
+use Rattle.std.specs.{Prelude.nat_eq, Prelude.int_lt, Prelude.if◌then◌else◌, List.list_all, Cmp.Lexicographic.pointwise}
+use Rattle.std.specs.{Cmp.Lexicographic.slice_cmp, Ordering.nat_cmp, Ordering.is_lt}
 use Rattle.block_tags.specs.declared.tile.Role.TheVariants.{Object as ObjectRole, Index, Storage}
-use Rattle.best_fit.specs.Extents.{Extent, LiveSet, handle, is_proper}
-use Rattle.best_fit.specs.Fit.{insert}
+use Rattle.best_fit.specs.{Extents.Extent, Extents.LiveSet, Extents.handle, Extents.is_proper, Fit.insert}
 use Rattle.best_fit.specs.Table.{BackingArray, no_backing, has_backing, serves}
-use Rattle.seg_types.specs.declared.kinds.ScalarKind.{ScalarKind}
-use Rattle.seg_types.specs.declared.kinds.Kind.{Kind}
-use Rattle.seg_types.specs.declared.kinds.Class.{Class}
+use Rattle.seg_types.specs.{declared.kinds.ScalarKind.ScalarKind, declared.kinds.Kind.Kind, declared.kinds.Class.Class}
 use Rattle.seg_types.specs.declared.kinds.Kind.TheVariants.{Scalar, String, Vector, Map, Strings as StringsKind}
 use Rattle.seg_types.specs.declared.kinds.Class.TheVariants.{Named, Unique}
 use Rattle.seg_types.specs.Kinds.{size_of, is_value, code_of, same_kind, class_code, is_kind_of}
 use Rattle.seg_types.specs.Names.{Key, ByName, ByKind, ByHandle, NoKey, is_name}
 use Rattle.seg_vector.specs.Vector.{OwnedText, is_vector}
-use Rattle.seg_map.specs.Map.{is_rising}
-use Rattle.seg_map.specs.Numbers.{NumberPair, is_number_pair}
+use Rattle.seg_map.specs.{Map.is_rising, Numbers.NumberPair, Numbers.is_number_pair}
 use Rattle.segment_manager.specs.Layout.{head_len}
 
 -- numbers of one kind; a vector; a text; a map, by rising keys; a vector of texts

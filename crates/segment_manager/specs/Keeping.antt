@@ -2,20 +2,15 @@
 -- element.
 use Rattle.std.specs.Prelude.{◌≡◌, ◌<◌, ◌≤◌, ◌+◌, ◌⊎◌, ℕ, ℤ, int_lt, List, length, Some, None, Ok, IfOk}
 use Rattle.raw_region.specs.Memory.{SameBytesExcept, bytes_of}
-use Rattle.seg_types.specs.declared.kinds.ScalarKind.{ScalarKind}
-use Rattle.seg_types.specs.Kinds.{size_of}
-use Rattle.seg_types.specs.Names.{Key}
+use Rattle.seg_types.specs.{declared.kinds.ScalarKind.ScalarKind, Kinds.size_of, Names.Key}
 use Rattle.seg_map.specs.{Map.pair_at, Numbers.NumberPair}
-use Rattle.best_fit.specs.Extents.{handle}
-use Rattle.segment_manager.specs.containers.Contents.{sizes_at}
-use Rattle.best_fit.specs.{Heap.KeepsGaps, Heap.live_of, Table.BackingArray}
+use Rattle.best_fit.specs.{Extents.handle, Heap.KeepsGaps, Heap.live_of, Table.BackingArray}
+use Rattle.segment_manager.specs.{containers.Contents.sizes_at, objects.Standing.place_at, containers.Walks.pairs_at}
 use Rattle.best_fit.specs.declared.places.Place.{Place}
-use Rattle.seg_vector.specs.{TextsCalls.new_array, TextsCalls.placed_text}
+use Rattle.seg_vector.specs.TextsCalls.{new_array, placed_text}
 use Rattle.seg_vector.specs.Vector.{OwnedText, capacity_for_one, grown_backing}
 use Rattle.segment_manager.specs.Directory.{Object, Directory, Texts, live, object_at}
-use Rattle.segment_manager.specs.objects.Standing.{place_at}
 use Rattle.segment_manager.specs.State.{SegmentState, DenotesCurrent}
-use Rattle.segment_manager.specs.containers.Walks.{pairs_at}
 
 -- the call changes nothing where this holds of the directory
 abbrev pub UnchangedWhere : SegmentState → SegmentState → (Directory → Type 0) → Type 0

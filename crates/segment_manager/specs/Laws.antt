@@ -1,20 +1,15 @@
 -- What holds of every step of the directory machine.
-use Rattle.std.specs.Prelude.{◌≡◌, ◌<◌, ℕ, true, false, Some, List, Result, length}
-use Rattle.seg_types.specs.declared.refusals.Refusal.{Refusal}
-use Rattle.seg_types.specs.declared.refusals.Refusal.TheVariants.{ReadOnly}
-use Rattle.seg_types.specs.declared.kinds.Kind.{Kind}
-use Rattle.seg_types.specs.Names.{Key, ByHandle}
 use Rattle.seg_types.specs.Commands as asked
+use Rattle.std.specs.Prelude.{◌≡◌, ◌<◌, ℕ, true, false, Some, List, Result, length}
+use Rattle.seg_types.specs.{declared.refusals.Refusal.Refusal, declared.kinds.Kind.Kind, Names.Key, Names.ByHandle}
+use Rattle.seg_types.specs.declared.refusals.Refusal.TheVariants.{ReadOnly}
 use Rattle.seg_types.specs.Commands.{Command, NumNamed, NumUnique, Pop, is_changing}
-use Rattle.segment_manager.specs.declared.modes.Mode.{Mode}
+use Rattle.segment_manager.specs.{declared.modes.Mode.Mode, Step.step, Step.step_of_kind, Step.is_read_only}
+use Rattle.segment_manager.specs.{State.answer_of, State.refusal_in, objects.Found.IsBelow, objects.Located.IsLocated}
 use Rattle.segment_manager.specs.declared.objects.object_ref.Object.{Object as Located}
 use Rattle.segment_manager.specs.Directory.{Directory, named_objects, object_at, unique_objects}
 use Rattle.segment_manager.specs.Answers.{Answer, Number, Refused, TextElement, refusal_of}
-use Rattle.segment_manager.specs.Step.{step, step_of_kind, is_read_only}
 use Rattle.segment_manager.specs.State.{SegmentState, DenotesCurrent, AnswersQuery, TakesStep, StepsWithoutAnswer}
-use Rattle.segment_manager.specs.State.{answer_of, refusal_in}
-use Rattle.segment_manager.specs.objects.Found.{IsBelow}
-use Rattle.segment_manager.specs.objects.Located.{IsLocated}
 
 -- what is refused leaves the directory as it was; a segment that is open for reading refuses what may change it
 pub record IsSafe (mode : Mode) (d : Directory) (c : Command) : Type 0 where
@@ -57,8 +52,7 @@ PoppedTextsLeadOn = (old new : SegmentState) (key : Key) (result : Result (List 
 -- and what leads on and is refused leaves the directory
 abbrev pub RefusedCallsStay : Type 0
 RefusedCallsStay = (old new : SegmentState) (c : Command) (r : Refusal) → StepsWithoutAnswer old new c (Some r)
-    → (d : Directory)
-    → DenotesCurrent old.cut.bytes d → DenotesCurrent new.cut.bytes d
+    → (d : Directory) → DenotesCurrent old.cut.bytes d → DenotesCurrent new.cut.bytes d
 
 -- the law: an index that is less than the number that was answered has an object
 pub record CountedAreBelow : Type 0 where
@@ -93,9 +87,8 @@ KeysMeanObjects = (mode : Mode) (d : Directory) (key other : Key) (c : Command) 
     → step mode d (at_key key c) ≡ step mode d (at_key other c)
 
 abbrev pub KeysOfKindMeanObjects : Type 0
-KeysOfKindMeanObjects = (mode : Mode) (d : Directory) (key other : Key) (kind : Kind) (c : Command)
-    → object_at d key ≡ object_at d other
-    → step_of_kind mode d key kind (at_key key c) ≡ step_of_kind mode d other kind (at_key other c)
+KeysOfKindMeanObjects = (mode : Mode) (d : Directory) (key other : Key) (kind : Kind) (c : Command) → object_at d key
+    ≡ object_at d other → step_of_kind mode d key kind (at_key key c) ≡ step_of_kind mode d other kind (at_key other c)
 
 -- and an object that was located has its handle for a key
 abbrev pub HandlesMeanObjects : Type 0

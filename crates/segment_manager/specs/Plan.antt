@@ -1,19 +1,15 @@
 -- What a command does if it is not refused: which blocks it asks for, in which order, and what it does then.
+use Rattle.seg_types.specs.Commands as asked
 use Rattle.std.specs.Prelude.{ℕ, ◌*◌, Option, Some, None, Result, Ok, Err, List, [], ◌∷◌, length, ◌==◌, nat_lt, nat_le}
 use Rattle.std.specs.Prelude.{if◌then◌else◌}
 use Rattle.block_tags.specs.declared.tile.Role.{Role}
 use Rattle.block_tags.specs.declared.tile.Role.TheVariants.{Object as ObjectRole, Index, Storage}
-use Rattle.best_fit.specs.Extents.{Extent, LiveSet}
-use Rattle.best_fit.specs.Fit.{place, resized, regrow}
+use Rattle.best_fit.specs.{Extents.Extent, Extents.LiveSet, Fit.place, Fit.resized, Fit.regrow}
 use Rattle.best_fit.specs.Table.{BackingArray, no_backing}
-use Rattle.seg_types.specs.declared.kinds.Class.{Class}
-use Rattle.seg_types.specs.declared.refusals.Refusal.{Refusal}
+use Rattle.seg_types.specs.{declared.kinds.Class.Class, declared.refusals.Refusal.Refusal}
+use Rattle.seg_types.specs.{declared.refusals.Refusal.TheVariants.NoSpace, Kinds.size_of, Names.Key, Names.ByName}
+use Rattle.seg_types.specs.{Names.ByKind, Names.ByHandle, Names.NoKey, Commands.Content}
 use Rattle.seg_types.specs.declared.kinds.Class.TheVariants.{Anonymous, Named, Unique}
-use Rattle.seg_types.specs.declared.refusals.Refusal.TheVariants.{NoSpace}
-use Rattle.seg_types.specs.Kinds.{size_of}
-use Rattle.seg_types.specs.Names.{Key, ByName, ByKind, ByHandle, NoKey}
-use Rattle.seg_types.specs.Commands as asked
-use Rattle.seg_types.specs.Commands.{Content}
 use Rattle.seg_vector.specs.Vector.{OwnedText}
 use Rattle.seg_index.specs.Index.{grown_capacity}
 use Rattle.segment_manager.specs.Directory.{Value, Numbers, Elements, Bytes, Pairs, Texts, Object, Directory}

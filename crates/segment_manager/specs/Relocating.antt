@@ -2,8 +2,7 @@
 use Rattle.std.specs.Prelude.{◌≡◌, ◌<◌, ◌≤◌, ℕ, ◌+◌, List, length, Result, MatchResult}
 use Rattle.raw_region.specs.Memory.{SameSurroundings, cut_at, whole}
 use Rattle.segment_manager.specs.declared.errors.RelocateRefused.{RelocateRefused}
-use Rattle.segment_manager.specs.Directory.{Directory}
-use Rattle.segment_manager.specs.State.{SegmentState, DenotesCurrent}
+use Rattle.segment_manager.specs.{Directory.Directory, State.SegmentState, State.DenotesCurrent}
 
 -- the segment stands at the base of the region with the bytes and the mode that it had, all other bytes of the region
 -- stay, and the region that it left has all its bytes

@@ -1,18 +1,11 @@
 -- What contracts see of a segment: its bytes, which denote one directory, how it is open, and where it lies.
 use Rattle.std.specs.Prelude.{◌≡◌, ℕ, Bool, true, List, Option, Some, None, Result, Ok, Err, IfErr}
-use Rattle.raw_region.specs.Memory.{WindowState, SameSurroundings}
-use Rattle.raw_region.specs.Format.{current}
-use Rattle.seg_types.specs.declared.kinds.Kind.{Kind}
-use Rattle.seg_types.specs.declared.refusals.Refusal.{Refusal}
-use Rattle.seg_types.specs.declared.values.ScalarValue.{ScalarValue}
-use Rattle.seg_types.specs.Names.{Key}
-use Rattle.seg_types.specs.Values.{kind_of_scalar, value_of_scalar}
-use Rattle.seg_types.specs.Commands.{Command}
+use Rattle.raw_region.specs.{Memory.WindowState, Memory.SameSurroundings, Format.current}
+use Rattle.seg_types.specs.{Names.Key, Commands.Command, declared.kinds.Kind.Kind, declared.refusals.Refusal.Refusal}
+use Rattle.seg_types.specs.{Values.kind_of_scalar, Values.value_of_scalar, declared.values.ScalarValue.ScalarValue}
 use Rattle.segment_manager.specs.declared.modes.Mode.{Mode}
-use Rattle.segment_manager.specs.Directory.{Directory}
+use Rattle.segment_manager.specs.{Directory.Directory, Step.step, Step.step_of_kind, Denotes.Denotes}
 use Rattle.segment_manager.specs.Answers.{Answer, Made, Truth, Element, Refused, Done, is_untouched, refusal_of}
-use Rattle.segment_manager.specs.Step.{step, step_of_kind}
-use Rattle.segment_manager.specs.Denotes.{Denotes}
 
 pub record SegmentState : Type 0 where
   pub cut : WindowState

@@ -1,12 +1,9 @@
 -- Objects that stay.
-use Rattle.std.specs.Prelude.{◌≡◌, Bool, true, false}
-use Rattle.seg_types.specs.declared.kinds.Kind.{Kind}
-use Rattle.seg_types.specs.Names.{Key}
 use Rattle.seg_types.specs.Commands as asked
-use Rattle.seg_types.specs.Commands.{Command}
+use Rattle.std.specs.Prelude.{◌≡◌, Bool, true, false}
+use Rattle.seg_types.specs.{declared.kinds.Kind.Kind, Names.Key, Commands.Command}
 use Rattle.segment_manager.specs.declared.objects.object_ref.Object.{Object as Located}
-use Rattle.segment_manager.specs.objects.Located.{IsObject}
-use Rattle.segment_manager.specs.Answers.{Answer}
+use Rattle.segment_manager.specs.{objects.Located.IsObject, Answers.Answer}
 use Rattle.segment_manager.specs.State.{IsSegment, TakesStep, TakesStepOfKind, SegmentState}
 
 -- The commands on the elements of an object, and those that only read.

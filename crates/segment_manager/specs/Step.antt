@@ -1,29 +1,22 @@
 -- What each command does: an answer, and the directory after it.
+use Rattle.seg_types.specs.Commands as asked
 use Rattle.std.specs.Prelude.{ℕ, ◌-◌, ℤ, pos, nat_abs, Bool, true, false, ◌&&◌, Some, None, Result, Ok, Err, List, []}
 use Rattle.std.specs.Prelude.{◌∷◌, ◌++◌, length, map, insert, remove, slice_get, slice_set, take, replicate, ◌==◌}
 use Rattle.std.specs.Prelude.{nat_lt, nat_le, int_lt, if◌then◌else◌}
 use Rattle.block_tags.specs.declared.tile.Role.TheVariants.{Node}
-use Rattle.best_fit.specs.Extents.{handle, spans, free_bytes}
-use Rattle.best_fit.specs.Fit.{place, regrow}
+use Rattle.best_fit.specs.{Extents.handle, Extents.spans, Extents.free_bytes, Fit.place, Fit.regrow}
 use Rattle.best_fit.specs.Table.{BackingArray, shrunk_backing}
-use Rattle.seg_types.specs.declared.kinds.ScalarKind.{ScalarKind}
-use Rattle.seg_types.specs.declared.kinds.Kind.{Kind}
-use Rattle.seg_types.specs.declared.refusals.Refusal.{Refusal}
-use Rattle.seg_types.specs.declared.kinds.ScalarKind.TheVariants.{U8}
+use Rattle.seg_types.specs.{declared.kinds.ScalarKind.ScalarKind, declared.kinds.Kind.Kind}
+use Rattle.seg_types.specs.{declared.refusals.Refusal.Refusal, declared.kinds.ScalarKind.TheVariants.U8, Kinds.size_of}
+use Rattle.seg_types.specs.{Kinds.same_kind, Names.Key, Names.ByHandle, Literals.pair_values, Literals.values_of}
 use Rattle.seg_types.specs.declared.refusals.Refusal.TheVariants.{ReadOnly, Exists, NotFound, WrongKind, OutOfRange}
-use Rattle.seg_types.specs.Kinds.{size_of, same_kind}
-use Rattle.seg_types.specs.Names.{Key, ByHandle}
-use Rattle.seg_types.specs.Commands as asked
 use Rattle.seg_types.specs.Commands.{Command, Literal, value_of_literal, is_changing}
-use Rattle.seg_types.specs.Literals.{pair_values, values_of}
 use Rattle.seg_vector.specs.Vector.{OwnedText, capacity_for_one, capacity_for_text}
-use Rattle.seg_map.specs.Map.{pair_at, put_pair, remove_pair, node_len}
-use Rattle.seg_map.specs.Numbers.{NumberPair}
-use Rattle.segment_manager.specs.declared.modes.Mode.{Mode}
+use Rattle.seg_map.specs.{Map.pair_at, Map.put_pair, Map.remove_pair, Map.node_len, Numbers.NumberPair}
+use Rattle.segment_manager.specs.{declared.modes.Mode.Mode, Directory.unique_objects}
 use Rattle.segment_manager.specs.declared.modes.Mode.TheVariants.{Write, ReadOnly as ReadOnlyMode, CopyOnWrite}
 use Rattle.segment_manager.specs.Directory.{Value, Numbers, Elements, Bytes, Pairs, Texts, Object, Directory, live}
 use Rattle.segment_manager.specs.Directory.{object_at, kind_of, count_of, with_changed, without_object, named_objects}
-use Rattle.segment_manager.specs.Directory.{unique_objects}
 use Rattle.segment_manager.specs.Plan.{Plan, New, Refuse, Request, Reply, perform, with, with_new_index, with_storage}
 use Rattle.segment_manager.specs.Plan.{with_capacity, bare, with_owned_text, with_owned_texts, with_new_object}
 use Rattle.segment_manager.specs.Answers.{Answer, Done, Absent, Truth, Number, Made, Found, Element, TextElement, Shown}

@@ -3,15 +3,12 @@ ghost use Rattle.std.specs.Prelude.{◌≡◌, ◌-◌, ◌^◌, ◌<◌, flat_m
 ghost use Rattle.raw_region.specs.Device.{Writes};
 ghost use Rattle.seg_types.specs.Kinds.{kinds};
 ghost use Rattle.segment_manager.specs.State.{AnswersWith};
-ghost use Rattle.segment_report.specs.Objects.{object_tally_of};
+ghost use Rattle.segment_report.specs.{Entries.entry_line, Entries.entry_text, Objects.object_tally_of};
 ghost use Rattle.segment_report.specs.Stat.{counted_line, figures_text, kind_line, stat_text};
-ghost use Rattle.segment_report.specs.Telling.{WritesReport};
-ghost use Rattle.segment_report.specs.Usages.{tally_of};
+ghost use Rattle.segment_report.specs.{Telling.WritesReport, Usages.tally_of};
 
-use crate::entries::put_entries;
 use crate::objects::{ObjectTally, tally_objects};
-use crate::sizes::size_of;
-use crate::tallies::{Tally, tally_blocks};
+use crate::tallies::{size_of, tally_blocks};
 use raw_region::{DeviceFault, Sink, word_in};
 use seg_types::{Kind, ScalarKind};
 use segment_lang::{Piece, put_pieces};
@@ -62,20 +59,20 @@ static KINDS: [Kind; 37] = [
     Kind::Map(ScalarKind::U64, ScalarKind::U64),
 ];
 
-/// Writes the figures of a segment, a line for each, of a word and a number: its size, its free bytes, how many gaps it
-/// has and the longest of them; how many blocks of each role it has, and their bytes, with their tags; how many objects
-/// of each class; for how many entries its indexes have places; and by how many bytes it would be shorter if it ended
-/// behind its last block. Then there is a line for each kind that some of its objects have, with their number.
+/// Writes the figures of a segment, a line for each, of a word and a number. They are its size, its free bytes, the
+/// number of gaps and the longest gap. The number and bytes of the blocks of each role follow, tags included, then the
+/// number of objects of each class and the capacities of the indexes. The last is how many bytes shorter the segment
+/// would be if it ended after its last block. Then there is a line for each kind that some of its objects have, with
+/// their number.
 ///
-/// It answers `DeviceFault` where the writer failed: what went out is then shorter than the text, and the text begins
-/// with it.
+/// Returns `DeviceFault` if the writer failed: what went out is then a proper prefix of the text.
 pub fn stat<W: Sink>(segment: &Segment, out: &mut W) -> Result<(), DeviceFault>
     requires { (W.history out.old).failures < 2 ^ 64 - 1 }
     ensures { WritesReport segment.now (W.history out.old) (W.history out.new) result stat_text }
 {
     let objects = tally_objects(segment);
     put_figures(segment, &objects, out)?;
-    put_kinds(&objects, out)
+    put_kind_lines(&objects, all_kinds(), out)
 }
 
 /// Writes the figures that each segment has.
@@ -90,38 +87,10 @@ fn put_figures<W: Sink>(
         figures_text d.size (tally_of d) (object_tally_of d) d.named.capacity d.unique.capacity) }
 {
     let blocks = tally_blocks(segment);
-    let places = Places {
-        named: named_capacity(segment),
-        unique: unique_capacity(segment),
-    };
-    put_lines(out, size_of(segment), &blocks, objects, places)
-}
-
-/// For how many entries the indexes have places.
-#[derive(Clone, Copy)]
-struct Places {
-    /// The index of names.
-    named: u64,
-    /// The index of kinds.
-    unique: u64,
-}
-
-/// Writes figures, a line for each.
-fn put_lines<W: Sink>(
-    out: &mut W,
-    size: u64,
-    blocks: &Tally,
-    objects: &ObjectTally,
-    places: Places,
-) -> Result<(), DeviceFault>
-    requires { (W.history out.old).failures < 2 ^ 64 - 1 }
-    ensures { Writes (W.history out.old) (W.history out.new) result
-        (figures_text size blocks.now objects.now places.named places.unique) }
-{
     put_entries(
         out,
         &[
-            (b"size", size),
+            (b"size", size_of(segment)),
             (b"free", blocks.gaps.bytes),
             (b"gaps", blocks.gaps.count),
             (b"largest_gap", blocks.longest_gap),
@@ -136,9 +105,36 @@ fn put_lines<W: Sink>(
             (b"named", objects.named),
             (b"unique", objects.unique),
             (b"anonymous", objects.anonymous),
-            (b"named_capacity", places.named),
-            (b"unique_capacity", places.unique),
+            (b"named_capacity", named_capacity(segment)),
+            (b"unique_capacity", unique_capacity(segment)),
             (b"shrink_frees", blocks.end_gap),
+        ],
+    )
+}
+
+/// Writes a line for each of these words and numbers, one behind another.
+fn put_entries<W: Sink>(out: &mut W, entries: &[(&[u8], u64)]) -> Result<(), DeviceFault>
+    requires { (W.history out.old).failures < 2 ^ 64 - 1 }
+    ensures { Writes (W.history out.old) (W.history out.new) result (flat_map entry_text entries.now) }
+{
+    'entries: for entry in entries {
+        put_entry(out, entry.0, entry.1)?;
+    }
+    Ok(())
+}
+
+/// Writes a word, a number behind it, and the end of the line.
+fn put_entry<W: Sink>(out: &mut W, key: &[u8], number: u64) -> Result<(), DeviceFault>
+    requires { (W.history out.old).failures < 2 ^ 64 - 1 }
+    ensures { Writes (W.history out.old) (W.history out.new) result (entry_line key.now number) }
+{
+    put_pieces(
+        out,
+        &[
+            Piece::Bytes(key),
+            Piece::Bytes(b" "),
+            Piece::Number(number),
+            Piece::Bytes(b"\n"),
         ],
     )
 }
@@ -150,19 +146,11 @@ fn named_capacity(segment: &Segment) -> u64
     word_in(segment.as_bytes(), NAMED_AT as usize + CAPACITY)
 }
 
-/// For how many entries the index of kinds has places.
+/// Returns the number of entries that the index of kinds has places for.
 fn unique_capacity(segment: &Segment) -> u64
     ensures { AnswersWith segment.now (λ d. d.unique.capacity) result }
 {
     word_in(segment.as_bytes(), UNIQUE_AT as usize + CAPACITY)
-}
-
-/// Writes a line for each kind that some objects have, with their number.
-fn put_kinds<W: Sink>(objects: &ObjectTally, out: &mut W) -> Result<(), DeviceFault>
-    requires { (W.history out.old).failures < 2 ^ 64 - 1 }
-    ensures { Writes (W.history out.old) (W.history out.new) result (flat_map (counted_line objects.now.kinds) kinds) }
-{
-    put_kind_lines(objects, all_kinds(), out)
 }
 
 /// Writes a line for each of these kinds that some objects have, with their number.
@@ -181,7 +169,7 @@ fn put_kind_lines<W: Sink>(
     Ok(())
 }
 
-/// Writes the line of a kind that so many objects have, where there are some.
+/// Writes the line of a kind that so many objects have, if there are some.
 fn put_kind<W: Sink>(out: &mut W, kind: Kind, count: u64) -> Result<(), DeviceFault>
     requires { (W.history out.old).failures < 2 ^ 64 - 1 }
     ensures { Writes (W.history out.old) (W.history out.new) result (kind_line kind count) }
@@ -200,7 +188,7 @@ fn put_kind<W: Sink>(out: &mut W, kind: Kind, count: u64) -> Result<(), DeviceFa
     )
 }
 
-/// All kinds, in their order.
+/// Returns all kinds, in their order.
 fn all_kinds() -> &'static [Kind]
     ensures { result.now ≡ kinds }
 {

@@ -1,7 +1,6 @@
 //! What people want to see of a segment: how its bytes are used, in figures and as a picture, and what its names are.
 #![tactic(auto)]
 
-mod entries;
 mod figures;
 mod names;
 mod objects;
@@ -10,7 +9,6 @@ mod parts;
 mod picture;
 mod scale;
 mod shapes;
-mod sizes;
 mod tallies;
 
 pub use figures::stat;

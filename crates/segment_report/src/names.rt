@@ -1,7 +1,7 @@
 //! The names of a segment that begin with a text.
 ghost use Rattle.std.specs.Prelude.{◌≡◌, ◌-◌, ◌^◌, ◌<◌, IfOk};
 ghost use Rattle.raw_region.specs.Device.{Writes};
-ghost use Rattle.segment_report.specs.Names.{begins_with, left_behind, listed_line, name_line, names_text};
+ghost use Rattle.segment_report.specs.Names.{left_behind, listed_line, names_text};
 ghost use Rattle.segment_report.specs.Telling.{WritesReport};
 
 use raw_region::{DeviceFault, Sink};
@@ -11,8 +11,7 @@ use segment_manager::Segment;
 /// Writes the names that begin with a text, in the order of their bytes and a line each, at most so many. A name stands
 /// there as in a script.
 ///
-/// It answers `DeviceFault` where the writer failed: what went out is then shorter than the text, and the text begins
-/// with it.
+/// Returns `DeviceFault` if the writer failed: what went out is then a proper prefix of the text.
 pub fn put_names<W: Sink>(
     segment: &Segment,
     prefix: &[u8],
@@ -29,7 +28,7 @@ pub fn put_names<W: Sink>(
     Ok(())
 }
 
-/// Writes a name that begins with the text, where so many more are to be written, and answers how many more are then.
+/// Writes a name that begins with the text, where so many more are to be written, and returns how many more are then.
 fn put_listed<W: Sink>(
     out: &mut W,
     name: &[u8],
@@ -40,24 +39,9 @@ fn put_listed<W: Sink>(
     ensures remainder { IfOk result (λ n. n ≡ left_behind prefix.now left name.now) }
     ensures output { Writes (W.history out.old) (W.history out.new) result (listed_line prefix.now left name.now) }
 {
-    if left == 0 || !begins_with(name, prefix) {
+    if left == 0 || !name.starts_with(prefix) {
         return Ok(left);
     }
-    put_name(out, name)?;
+    put_pieces(out, &[Piece::Name(name), Piece::Bytes(b"\n")])?;
     Ok(left - 1)
-}
-
-/// Whether a name begins with a text.
-fn begins_with(name: &[u8], prefix: &[u8]) -> bool
-    ensures { result ≡ begins_with name.now prefix.now }
-{
-    name.starts_with(prefix)
-}
-
-/// Writes a name, and the end of its line.
-fn put_name<W: Sink>(out: &mut W, name: &[u8]) -> Result<(), DeviceFault>
-    requires { (W.history out.old).failures < 2 ^ 64 - 1 }
-    ensures { Writes (W.history out.old) (W.history out.new) result (name_line name.now) }
-{
-    put_pieces(out, &[Piece::Name(name), Piece::Bytes(b"\n")])
 }

@@ -13,17 +13,17 @@ const KIND_COUNT: usize = 37;
 /// How many objects there are, by class and by kind.
 #[derive(Clone, Copy)]
 pub struct ObjectTally {
-    /// Those with a name.
+    /// The objects with a name.
     pub named: u64,
-    /// Those that are the only one of their kind.
+    /// The objects that are the only one of their kind.
     pub unique: u64,
-    /// Those that go by their handle alone.
+    /// The objects that go by their handle alone.
     pub anonymous: u64,
-    /// Those of each kind, at its place.
+    /// The objects of each kind, at its place.
     pub kinds: [u64; KIND_COUNT],
 }
 
-/// The place of a kind among all.
+/// Returns the place of a kind among all.
 fn place_of(kind: Kind) -> usize
     ensures place { result ≡ kind_place kind }
     ensures in_bounds { result < 37 }
@@ -37,7 +37,7 @@ fn place_of(kind: Kind) -> usize
     }
 }
 
-/// The place of a kind among the scalar ones.
+/// Returns the place of a kind among the scalar ones.
 fn scalar_place(kind: ScalarKind) -> usize
     ensures place { result ≡ scalar_place kind }
     ensures in_bounds { result < 5 }
@@ -52,7 +52,7 @@ fn scalar_place(kind: ScalarKind) -> usize
 }
 
 impl ObjectTally {
-    /// What is counted before the first object.
+    /// Makes what is counted before the first object.
     fn new() -> ObjectTally
         ensures { result ≡ objects_tally [] }
     {
@@ -64,7 +64,7 @@ impl ObjectTally {
         }
     }
 
-    /// How many objects are of a kind.
+    /// Returns how many objects are of a kind.
     pub fn of_kind(&self, kind: Kind) -> u64
         ensures { result ≡ slice_index self.now.kinds (kind_place kind) }
     {
@@ -85,7 +85,7 @@ impl ObjectTally {
     }
 }
 
-/// How many objects a segment has, by class and by kind.
+/// Returns how many objects a segment has, by class and by kind.
 pub fn tally_objects(segment: &Segment) -> ObjectTally
     ensures { AnswersWith segment.now object_tally_of result }
 {

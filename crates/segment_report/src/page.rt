@@ -8,15 +8,15 @@ ghost use Rattle.segment_report.specs.Telling.{WritesReport};
 use crate::figures::stat;
 use crate::parts::{Part, put_parts};
 use crate::picture::draw;
-use raw_region::{DeviceFault, Sink};
+use raw_region::{DeviceFault, Sink, write_all};
 use seg_types::{Handle, Kind};
 use segment_manager::{Instance, Segment};
 
 /// Writes a page of HTML that shows a segment: its picture, its figures, and its objects as a table that can be sorted
 /// and searched. The page needs no other file.
 ///
-/// It answers `DeviceFault` where the writer failed: what went out is then shorter than the page, and the page begins
-/// with it.
+/// It returns `DeviceFault` if the writer failed: what went out is then shorter than the page, and the page begins with
+/// it.
 pub fn draw_page<W: Sink>(segment: &Segment, out: &mut W) -> Result<(), DeviceFault>
     requires { (W.history out.old).failures < 2 ^ 64 - 1 }
     ensures { WritesReport segment.now (W.history out.old) (W.history out.new) result page_of }
@@ -109,17 +109,11 @@ fn put_head<W: Sink>(out: &mut W) -> Result<(), DeviceFault>
     requires { (W.history out.old).failures < 2 ^ 64 - 1 }
     ensures { Writes (W.history out.old) (W.history out.new) result page_head }
 {
-    put_parts(
+    write_all(
         out,
-        &[
-            Part::Bytes(
-                b"<!DOCTYPE html>\n<html lang='en'><head><meta charset='utf-8'><title>Segment</title>\n",
-            ),
-            Part::Bytes(b"<style>body{font:14px sans-serif;margin:2em}svg{max-width:1080px}"),
-            Part::Bytes(
-                b"table{border-collapse:collapse}td,th{padding:2px 12px;border-bottom:1px solid #ccd;text-align:left}th{cursor:pointer}</style></head>\n<body><h1>Segment</h1>\n",
-            ),
-        ],
+        b"<!DOCTYPE html>\n<html lang='en'><head><meta charset='utf-8'><title>Segment</title>\n\
+        <style>body{font:14px sans-serif;margin:2em}svg{max-width:1080px}\
+        table{border-collapse:collapse}td,th{padding:2px 12px;border-bottom:1px solid #ccd;text-align:left}th{cursor:pointer}</style></head>\n<body><h1>Segment</h1>\n",
     )
 }
 
@@ -128,11 +122,9 @@ fn put_figures_head<W: Sink>(out: &mut W) -> Result<(), DeviceFault>
     requires { (W.history out.old).failures < 2 ^ 64 - 1 }
     ensures { Writes (W.history out.old) (W.history out.new) result figures_head }
 {
-    put_parts(
+    write_all(
         out,
-        &[Part::Bytes(
-            b"<h2>Figures</h2><table id='figures'></table>\n<script type='text/plain' id='stat'>\n",
-        )],
+        b"<h2>Figures</h2><table id='figures'></table>\n<script type='text/plain' id='stat'>\n",
     )
 }
 
@@ -141,16 +133,10 @@ fn put_table_head<W: Sink>(out: &mut W) -> Result<(), DeviceFault>
     requires { (W.history out.old).failures < 2 ^ 64 - 1 }
     ensures { Writes (W.history out.old) (W.history out.new) result table_head }
 {
-    put_parts(
+    write_all(
         out,
-        &[
-            Part::Bytes(
-                b"</script>\n<h2>Objects</h2><input id='search' placeholder='search'>\n<table id='objects'><thead>",
-            ),
-            Part::Bytes(
-                b"<tr><th>class</th><th>name</th><th>kind</th><th>count</th><th>handle</th></tr></thead><tbody>\n",
-            ),
-        ],
+        b"</script>\n<h2>Objects</h2><input id='search' placeholder='search'>\n<table id='objects'><thead>\
+        <tr><th>class</th><th>name</th><th>kind</th><th>count</th><th>handle</th></tr></thead><tbody>\n",
     )
 }
 
@@ -159,35 +145,17 @@ fn put_page_end<W: Sink>(out: &mut W) -> Result<(), DeviceFault>
     requires { (W.history out.old).failures < 2 ^ 64 - 1 }
     ensures { Writes (W.history out.old) (W.history out.new) result page_end }
 {
-    put_parts(
+    write_all(
         out,
-        &[
-            Part::Bytes(b"</tbody></table>\n<script>\n"),
-            Part::Bytes(
-                b"const rows=[...document.querySelectorAll('#objects tbody tr')],body=document.querySelector('#objects tbody');\n",
-            ),
-            Part::Bytes(
-                b"const lines=document.getElementById('stat').textContent.trim().split(String.fromCharCode(10));\n",
-            ),
-            Part::Bytes(
-                b"for(const line of lines){const at=line.lastIndexOf(' '),row=document.getElementById('figures').insertRow();\n",
-            ),
-            Part::Bytes(
-                b"row.insertCell().textContent=line.slice(0,at);row.insertCell().textContent=line.slice(at+1)}\n",
-            ),
-            Part::Bytes(
-                b"document.getElementById('search').oninput=e=>{for(const row of rows)row.hidden=!row.textContent.includes(e.target.value)};\n",
-            ),
-            Part::Bytes(
-                b"document.querySelectorAll('#objects th').forEach((head,column)=>{let up=false;head.onclick=()=>{up=!up;\n",
-            ),
-            Part::Bytes(
-                b"rows.sort((a,b)=>{const x=a.cells[column].textContent,y=b.cells[column].textContent;\n",
-            ),
-            Part::Bytes(
-                b"return(up?1:-1)*(x-y||x.localeCompare(y))});for(const row of rows)body.append(row)}});\n",
-            ),
-            Part::Bytes(b"</script></body></html>\n"),
-        ],
+        b"</tbody></table>\n<script>\n\
+        const rows=[...document.querySelectorAll('#objects tbody tr')],body=document.querySelector('#objects tbody');\n\
+        const lines=document.getElementById('stat').textContent.trim().split(String.fromCharCode(10));\n\
+        for(const line of lines){const at=line.lastIndexOf(' '),row=document.getElementById('figures').insertRow();\n\
+        row.insertCell().textContent=line.slice(0,at);row.insertCell().textContent=line.slice(at+1)}\n\
+        document.getElementById('search').oninput=e=>{for(const row of rows)row.hidden=!row.textContent.includes(e.target.value)};\n\
+        document.querySelectorAll('#objects th').forEach((head,column)=>{let up=false;head.onclick=()=>{up=!up;\n\
+        rows.sort((a,b)=>{const x=a.cells[column].textContent,y=b.cells[column].textContent;\n\
+        return(up?1:-1)*(x-y||x.localeCompare(y))});for(const row of rows)body.append(row)}});\n\
+        </script></body></html>\n",
     )
 }

@@ -21,7 +21,7 @@ pub enum Part<'a> {
     Kind(Kind),
 }
 
-/// Writes parts, one behind another.
+/// Writes parts, one after another.
 pub fn put_parts<W: Sink>(out: &mut W, parts: &[Part<'_>]) -> Result<(), DeviceFault>
     requires { (W.history out.old).failures < 2 ^ 64 - 1 }
     ensures { Writes (W.history out.old) (W.history out.new) result (flat_map part_text parts.now) }
@@ -60,7 +60,7 @@ fn put_escaped<W: Sink>(out: &mut W, text: &[u8]) -> Result<(), DeviceFault>
     Ok(())
 }
 
-/// Writes a byte of a text that stands behind two others.
+/// Writes a byte of a text that stands after two others.
 fn put_byte<W: Sink>(out: &mut W, before: u8, last: u8, byte: u8) -> Result<(), DeviceFault>
     requires { (W.history out.old).failures < 2 ^ 64 - 1 }
     ensures { Writes (W.history out.old) (W.history out.new) result (xml_byte before last byte) }
@@ -99,21 +99,15 @@ fn put_kind<W: Sink>(out: &mut W, kind: Kind) -> Result<(), DeviceFault>
         Kind::Scalar(kind) => write_all(out, kind.as_str().as_bytes()),
         Kind::String => write_all(out, b"string"),
         Kind::Vector(kind) => put_slices(out, &[b"vec&lt;", kind.as_str().as_bytes(), b"&gt;"]),
-        Kind::Map(key, value) => put_slices(
-            out,
-            &[
-                b"map&lt;",
-                key.as_str().as_bytes(),
-                b",",
-                value.as_str().as_bytes(),
-                b"&gt;",
-            ],
-        ),
+        Kind::Map(key, value) => {
+            let (key, value) = (key.as_str().as_bytes(), value.as_str().as_bytes());
+            put_slices(out, &[b"map&lt;", key, b",", value, b"&gt;"])
+        }
         Kind::Strings => write_all(out, b"vec&lt;string&gt;"),
     }
 }
 
-/// Writes slices, one behind another.
+/// Writes slices, one after another.
 fn put_slices<W: Sink>(out: &mut W, slices: &[&[u8]]) -> Result<(), DeviceFault>
     requires { (W.history out.old).failures < 2 ^ 64 - 1 }
     ensures { Writes (W.history out.old) (W.history out.new) result (flat_map slice_text slices.now) }

@@ -2,9 +2,7 @@
 ghost use Rattle.std.specs.Prelude.{◌≡◌, ◌+◌, ◌-◌, ◌^◌, ◌<◌, ◌≤◌, ◌++◌, true};
 ghost use Rattle.raw_region.specs.Device.{Writes};
 ghost use Rattle.seg_types.specs.Names.{ByHandle};
-ghost use Rattle.segment_manager.specs.Directory.{object_at};
-ghost use Rattle.segment_manager.specs.objects.Found.{is_object_at};
-ghost use Rattle.segment_manager.specs.State.{AnswersWith};
+ghost use Rattle.segment_manager.specs.{Directory.object_at, objects.Found.is_object_at, State.AnswersWith};
 ghost use Rattle.segment_report.specs.Picture.{HasOwner, HasScale, end_text, front_text, head_text, object_in};
 ghost use Rattle.segment_report.specs.Picture.{object_label, picture_of, shape_text, sort_of, spans_text};
 ghost use Rattle.segment_report.specs.Telling.{WritesReport};
@@ -12,7 +10,7 @@ ghost use Rattle.segment_report.specs.Telling.{WritesReport};
 use crate::parts::{Part, put_parts};
 use crate::scale::Scale;
 use crate::shapes::{put_label, put_shape};
-use crate::sizes::size_of;
+use crate::tallies::size_of;
 use block_tags::{Role, TAG_LEN, Tile};
 use raw_region::{DeviceFault, Sink};
 use segment_manager::Segment;
@@ -21,8 +19,8 @@ use segment_manager::unchecked::{instance_here, next_tile};
 /// The bytes of a segment's header.
 const HEADER: u64 = 128;
 
-/// Writes a picture of a segment as a text of SVG, and answers `DeviceFault` where the writer failed: what went out is
-/// then shorter than the text, and the text begins with it.
+/// Writes a picture of a segment as a text of SVG. Returns `DeviceFault` if the writer failed: what went out is then a
+/// proper prefix of the text.
 pub fn draw<W: Sink>(segment: &Segment, out: &mut W) -> Result<(), DeviceFault>
     requires { (W.history out.old).failures < 2 ^ 64 - 1 }
     ensures { WritesReport segment.now (W.history out.old) (W.history out.new) result picture_of }
@@ -33,7 +31,7 @@ pub fn draw<W: Sink>(segment: &Segment, out: &mut W) -> Result<(), DeviceFault>
     put_end(segment, scale, out)
 }
 
-/// The scale of a segment's picture.
+/// Returns the scale of a segment's picture.
 fn scale_of(segment: &Segment) -> Scale
     ensures { HasScale segment.now result.row }
 {
@@ -69,35 +67,20 @@ fn put_head<W: Sink>(out: &mut W, size: u64, free: u64) -> Result<(), DeviceFaul
         out,
         &[
             Part::Bytes(
-                b"<svg xmlns='http://www.w3.org/2000/svg' viewBox='0 0 1080 600' font-family='sans-serif' font-size='13'>\n",
-            ),
-            Part::Bytes(
-                b"<style>path{stroke:#456}.header,.end{fill:#bcc3ca}.free{fill:#fff}.object{fill:#9cc9ea}.index{fill:#f5c883}",
-            ),
-            Part::Bytes(
-                b".storage{fill:#a9d8a2}.node{fill:#cdb9e6}</style>\n<rect width='1080' height='600' fill='#f2f4f6'/>\n<text x='28' y='26' font-size='16'>",
+                b"<svg xmlns='http://www.w3.org/2000/svg' viewBox='0 0 1080 600' font-family='sans-serif' font-size='13'>\n\
+                <style>path{stroke:#456}.header,.end{fill:#bcc3ca}.free{fill:#fff}.object{fill:#9cc9ea}.index{fill:#f5c883}\
+                .storage{fill:#a9d8a2}.node{fill:#cdb9e6}</style>\n<rect width='1080' height='600' fill='#f2f4f6'/>\n<text x='28' y='26' font-size='16'>",
             ),
             Part::Number(size),
             Part::Bytes(b" bytes, "),
             Part::Number(free),
-            Part::Bytes(b" free"),
             Part::Bytes(
-                b"</text>\n<path class='object' d='M28 40H44V56H28Z'/><text x='50' y='53'>object</text>",
-            ),
-            Part::Bytes(
-                b"<path class='index' d='M128 40H144V56H128Z'/><text x='150' y='53'>index</text>",
-            ),
-            Part::Bytes(
-                b"<path class='storage' d='M228 40H244V56H228Z'/><text x='250' y='53'>storage</text>",
-            ),
-            Part::Bytes(
-                b"<path class='node' d='M328 40H344V56H328Z'/><text x='350' y='53'>node</text>",
-            ),
-            Part::Bytes(
-                b"<path class='free' d='M428 40H444V56H428Z'/><text x='450' y='53'>free</text>",
-            ),
-            Part::Bytes(
-                b"<path class='end' d='M528 40H544V56H528Z'/><text x='550' y='53'>header and end tag</text>\n",
+                b" free</text>\n<path class='object' d='M28 40H44V56H28Z'/><text x='50' y='53'>object</text>\
+                <path class='index' d='M128 40H144V56H128Z'/><text x='150' y='53'>index</text>\
+                <path class='storage' d='M228 40H244V56H228Z'/><text x='250' y='53'>storage</text>\
+                <path class='node' d='M328 40H344V56H328Z'/><text x='350' y='53'>node</text>\
+                <path class='free' d='M428 40H444V56H428Z'/><text x='450' y='53'>free</text>\
+                <path class='end' d='M528 40H544V56H528Z'/><text x='550' y='53'>header and end tag</text>\n",
             ),
         ],
     )
@@ -140,7 +123,7 @@ fn put_tile<W: Sink>(
     put_inside(segment, scale, tile, out)
 }
 
-/// Writes what stands in a block, where it is an object's.
+/// Writes what stands in a block, if it is an object's.
 fn put_inside<W: Sink>(
     segment: &Segment,
     scale: Scale,
@@ -175,16 +158,11 @@ fn put_object<W: Sink>(
     ensures { WritesReport segment.now (W.history out.old) (W.history out.new) result (λ d.
         object_label scale.row from len (object_at d (ByHandle (from + 16)))) }
 {
-    put_label(
-        out,
-        scale,
-        from,
-        len,
-        instance_here(segment, from + TAG_LEN),
-    )
+    let said = instance_here(segment, from + TAG_LEN);
+    put_label(out, scale, from, len, said)
 }
 
-/// The word for what bytes are used for.
+/// Returns the word for what bytes are used for.
 fn sort_of(use_of: Option<Role>) -> &'static [u8]
     ensures { result.now ≡ sort_of use_of }
 {

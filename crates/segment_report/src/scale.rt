@@ -25,7 +25,7 @@ pub struct Corners {
 }
 
 impl Scale {
-    /// The scale of the picture of a segment of so many bytes: 16 rows hold all of them.
+    /// Returns the scale of the picture of a segment of so many bytes: 16 rows hold all of them.
     pub fn of(size: u64) -> Scale
         requires { size ≤ 2 ^ 30 }
         ensures { result.row ≡ bytes_in_row size }
@@ -35,21 +35,21 @@ impl Scale {
         }
     }
 
-    /// The left edge of a byte.
+    /// Returns the left edge of a byte.
     fn left_of(self, at: u64) -> u64
         ensures { result ≡ left_of self.row at }
     {
         28 + at % self.row * 1024 / self.row
     }
 
-    /// The right edge of a byte.
+    /// Returns the right edge of a byte.
     fn right_of(self, at: u64) -> u64
         ensures { result ≡ right_of self.row at }
     {
         28 + (at % self.row + 1) * 1024 / self.row
     }
 
-    /// The top of a byte's row.
+    /// Returns the top of a byte's row.
     fn top_of(self, at: u64) -> u64
         requires { at < 2 ^ 31 }
         ensures top { result ≡ top_of self.row at }
@@ -58,7 +58,7 @@ impl Scale {
         72 + at / self.row * 32
     }
 
-    /// Where the shape of `len` bytes from an offset on stands.
+    /// Returns where the shape of `len` bytes from an offset on stands.
     pub fn corners(self, from: u64, len: u64) -> Corners
         requires non_empty { 0 < len }
         requires in_bounds { from + len ≤ 2 ^ 30 }

@@ -85,8 +85,8 @@ pub fn put_shape<W: Sink>(
     )
 }
 
-/// Writes what an object is called and its kind, as far as there is room for it in the first row of its block, which
-/// has `len` bytes from an offset on.
+/// Writes an object's name and its kind, as far as the first row of its block has room for them. The block has `len`
+/// bytes from an offset on.
 pub fn put_label<W: Sink>(
     out: &mut W,
     scale: Scale,
@@ -131,7 +131,7 @@ fn put_frame<W: Sink>(out: &mut W, scale: Scale, from: u64, len: u64) -> Result<
     )
 }
 
-/// How wide what is written in a shape can be: as far as its first row goes.
+/// Returns how wide what is written in a shape can be: as far as its first row goes.
 fn width_in(corners: &Corners) -> u64
     ensures { result ≡ width_in corners.now.left corners.now.right corners.now.top corners.now.last }
 {

@@ -1,10 +1,10 @@
 //! How the bytes of a segment are used, counted in one walk over its blocks and gaps.
 ghost use Rattle.std.specs.Prelude.{◌≡◌, ◌+◌, ◌^◌, ◌<◌, []};
-ghost use Rattle.segment_manager.specs.State.{AnswersWith};
+ghost use Rattle.seg_types.specs.Commands.{Size};
+ghost use Rattle.segment_manager.specs.{Answers.Number, State.AnswersQuery, State.AnswersWith, State.IsSegment};
 ghost use Rattle.segment_report.specs.Counting.{counted, more, tally_in, total_bytes, total_count};
 ghost use Rattle.segment_report.specs.Usages.{tally_of};
 
-use crate::sizes::size_of;
 use block_tags::Role;
 use segment_manager::Segment;
 use segment_manager::unchecked::next_tile;
@@ -23,7 +23,7 @@ pub struct Usage {
 pub struct Tally {
     /// The gaps.
     pub gaps: Usage,
-    /// The bytes of the longest gap, 0 where there is none.
+    /// The bytes of the longest gap, 0 if there is none.
     pub longest_gap: u64,
     /// The blocks that hold objects.
     pub objects: Usage,
@@ -33,7 +33,7 @@ pub struct Tally {
     pub storages: Usage,
     /// The blocks that hold pairs of maps.
     pub nodes: Usage,
-    /// The bytes behind the last block, by which the segment is longer than it need be.
+    /// The bytes after the last block, by which the segment is longer than it need be.
     pub end_gap: u64,
 }
 
@@ -41,7 +41,7 @@ pub struct Tally {
 const NO_USAGE: Usage = Usage { count: 0, bytes: 0 };
 
 impl Usage {
-    /// One block more, of so many bytes.
+    /// Counts one block more, and its bytes.
     fn add(&mut self, len: u64)
         requires count { self.old.count + 1 < 2 ^ 64 }
         requires bytes { self.old.bytes + len < 2 ^ 64 }
@@ -53,7 +53,7 @@ impl Usage {
 }
 
 impl Tally {
-    /// What is counted before the first block.
+    /// Makes what is counted before the first block.
     fn new() -> Tally
         ensures { result ≡ tally_in [] }
     {
@@ -89,7 +89,7 @@ impl Tally {
     }
 }
 
-/// How the bytes of a segment are used.
+/// Returns how the bytes of a segment are used.
 pub fn tally_blocks(segment: &Segment) -> Tally
     ensures { AnswersWith segment.now tally_of result }
 {
@@ -104,4 +104,13 @@ pub fn tally_blocks(segment: &Segment) -> Tally
         ahead = next_tile(segment, tile);
     }
     tally
+}
+
+/// The number of bytes of a segment, which are those of a directory.
+pub fn size_of(segment: &Segment) -> u64
+    ensures size { AnswersQuery segment.now Size (Number result) }
+    ensures denotation { IsSegment segment.now.cut.bytes }
+{
+    let _bytes = segment.as_bytes();
+    segment.size()
 }

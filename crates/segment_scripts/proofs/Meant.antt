@@ -337,110 +337,29 @@ making_each-meant (w ∷ v ∷ vs) room_is =
 abbrev IsFormMeant : Form → Type 0
 IsFormMeant f = Meant f.1
 
+-- one and the others
+also : {A B : Type 0} → A → B → A × B
+also a b = (a, b)
+
 forms-meant : AllByRecursion IsFormMeant forms
-forms-meant = (
-  making-meant asked.Construct new_key (λ k x h. h),
-  (
-    making_each-meant,
-    (
-      finding-meant,
-      (
-        making-meant asked.FindOrConstruct name_key (λ k x h. h),
-        (
-          key-meant asked.Destroy name_key (λ k. tt),
-          (
-            destroying-meant,
-            (
-              key-meant asked.Show key_of (λ k. tt),
-              (
-                key-meant asked.Info key_of (λ k. tt),
-                (
-                  key-number-meant asked.Get (λ k n. tt),
-                  (
-                    key-number-literal-meant asked.Set (λ k n m few. few),
-                    (
-                      key-literal-meant asked.Push (λ k m few. few),
-                      (
-                        key-meant asked.Pop key_of (λ k. tt),
-                        (
-                          key-number-literal-meant asked.Insert (λ k n m few. few),
-                          (
-                            key-number-meant asked.Erase (λ k n. tt),
-                            (
-                              key-number-meant asked.Reserve (λ k n. tt),
-                              (
-                                key-meant asked.Shrink key_of (λ k. tt),
-                                (
-                                  key-meant asked.Clear key_of (λ k. tt),
-                                  (
-                                    assigning-meant,
-                                    (
-                                      appending-meant,
-                                      (
-                                        putting-meant,
-                                        (
-                                          key-literal-meant asked.Lookup (λ k m few. tt),
-                                          (
-                                            key-literal-meant asked.Remove (λ k m few. tt),
-                                            (
-                                              alone-meant asked.ListNames tt,
-                                              (
-                                                alone-meant asked.ListKinds tt,
-                                                (
-                                                  alone-meant asked.ListBlocks tt,
-                                                  (
-                                                    alone-meant asked.Size tt,
-                                                    (
-                                                      alone-meant asked.Free tt,
-                                                      (
-                                                        alone-meant asked.NumNamed tt,
-                                                        (
-                                                          alone-meant asked.NumUnique tt,
-                                                          (
-                                                            number-meant asked.ReserveNamed (λ n. tt),
-                                                            (
-                                                              number-meant asked.ReserveUnique (λ n. tt),
-                                                              (
-                                                                alone-meant asked.ShrinkIndexes tt,
-                                                                (
-                                                                  alone-meant asked.ZeroFree tt,
-                                                                  (
-                                                                    alone-meant asked.Sanity tt,
-                                                                    (alone-meant asked.AllDeallocated tt, tt),
-                                                                  ),
-                                                                ),
-                                                              ),
-                                                            ),
-                                                          ),
-                                                        ),
-                                                      ),
-                                                    ),
-                                                  ),
-                                                ),
-                                              ),
-                                            ),
-                                          ),
-                                        ),
-                                      ),
-                                    ),
-                                  ),
-                                ),
-                              ),
-                            ),
-                          ),
-                        ),
-                      ),
-                    ),
-                  ),
-                ),
-              ),
-            ),
-          ),
-        ),
-      ),
-    ),
-  ),
-)
+forms-meant =
+    also (making-meant asked.Construct new_key (λ k x h. h)) (also making_each-meant (also finding-meant
+    (also (making-meant asked.FindOrConstruct name_key (λ k x h. h))
+    (also (key-meant asked.Destroy name_key (λ k. tt)) (also destroying-meant
+    (also (key-meant asked.Show key_of (λ k. tt)) (also (key-meant asked.Info key_of (λ k. tt))
+    (also (key-number-meant asked.Get (λ k n. tt)) (also (key-number-literal-meant asked.Set (λ k n m few. few))
+    (also (key-literal-meant asked.Push (λ k m few. few)) (also (key-meant asked.Pop key_of (λ k. tt))
+    (also (key-number-literal-meant asked.Insert (λ k n m few. few)) (also (key-number-meant asked.Erase (λ k n. tt))
+    (also (key-number-meant asked.Reserve (λ k n. tt)) (also (key-meant asked.Shrink key_of (λ k. tt))
+    (also (key-meant asked.Clear key_of (λ k. tt)) (also assigning-meant (also appending-meant (also putting-meant
+    (also (key-literal-meant asked.Lookup (λ k m few. tt)) (also (key-literal-meant asked.Remove (λ k m few. tt))
+    (also (alone-meant asked.ListNames tt) (also (alone-meant asked.ListKinds tt)
+    (also (alone-meant asked.ListBlocks tt) (also (alone-meant asked.Size tt) (also (alone-meant asked.Free tt)
+    (also (alone-meant asked.NumNamed tt) (also (alone-meant asked.NumUnique tt)
+    (also (number-meant asked.ReserveNamed (λ n. tt)) (also (number-meant asked.ReserveUnique (λ n. tt))
+    (also (alone-meant asked.ShrinkIndexes tt) (also (alone-meant asked.ZeroFree tt)
+    (also (alone-meant asked.Sanity tt)
+    (also (alone-meant asked.AllDeallocated tt) tt))))))))))))))))))))))))))))))))))
 
 find-if : (t : Form → Bool) (b : Bool) (f : Form) (r : Option Form) → IsFormMeant f → Holds IsFormMeant r
     → Holds IsFormMeant (if b then Some f else r)

@@ -24,18 +24,6 @@ kind-same k l h =
     ∙ code-read k in
     cc
 
-new-kind : (key : NewKey) (k : ScalarKind) → IsTrue (agrees (Scalar k) (new_key_seen key))
-    → IsOfItsKind (new_key_seen key) k
-new-kind (new.Name bytes) k h = tt
-new-kind (new.Unique u) k h = kind-same (Scalar k) u h
-new-kind new.Anonymous k h = tt
-
-entry-kind : (key : IndexKey) (k : ScalarKind) → IsTrue (agrees (Scalar k) (index_key_seen key))
-    → IsOfItsKind (index_key_seen key) k
-entry-kind (entry.Name bytes) k h = tt
-entry-kind (entry.Unique u) k h = kind-same (Scalar k) u h
-
--- the same of a key for any kind
 new-of : (key : NewKey) (kind : Kind) → IsTrue (agrees kind (new_key_seen key)) → IsOfKind (new_key_seen key) kind
 new-of (new.Name bytes) kind h = tt
 new-of (new.Unique u) kind h = kind-same kind u h
@@ -57,7 +45,7 @@ few n z h = subst (λ m. m ≤ 1048576) (length-replicate n z) h
 module _ (key : NewKey) (k : ScalarKind) (n : ℕ) (z : ℤ)
     (h : IsLineContent (new_key_seen key) (asked.Numbers k (replicate n z))) where
   pub content_kind : IsOfItsKind (new_key_seen key) k
-  content_kind = new-kind key k h.2
+  content_kind = new-of key (Scalar k) h.2
 
   pub content_some : 1 ≤ n
   content_some = some n z h.0
@@ -70,7 +58,7 @@ module _ (key : NewKey) (k : ScalarKind) (n : ℕ) (z : ℤ)
 module _ (key : IndexKey) (k : ScalarKind) (n : ℕ) (z : ℤ)
     (h : IsLineContent (index_key_seen key) (asked.Numbers k (replicate n z))) where
   pub index_kind : IsOfItsKind (index_key_seen key) k
-  index_kind = entry-kind key k h.2
+  index_kind = entry-of key (Scalar k) h.2
 
   pub index_some : 1 ≤ n
   index_some = some n z h.0
@@ -117,7 +105,7 @@ index_strings_kind key bss h = entry-of key Strings h.1
 module _ (key : NewKey) (k : ScalarKind) (n : ℕ) (zs : List ℤ)
     (h : IsMeant (asked.ConstructIt (new_key_seen key) k n zs)) where
   pub array_kind : IsOfItsKind (new_key_seen key) k
-  array_kind = new-kind key k h.3
+  array_kind = new-of key (Scalar k) h.3
 
   pub array_some : 1 ≤ n
   array_some = h.0

@@ -41,6 +41,16 @@ parts-taken (n ∷ ns) bs e =
     let rest = parts-taken ns (drop n bs) left in
     omega (arith, length-take-le n bs fits, length-drop n bs)
 
+-- what a row has, and a place for the length of one more
+module _ {len : ℕ} {lengths bs : List ℕ} {row : List (List ℕ)} (is : parts (take len lengths) bs ≡ row)
+    (fits : total (take len lengths) ≡ length bs) where
+  pub row-taken : texts_taken row ≡ length (take len lengths) + length bs
+  row-taken = ap texts_taken (sym is) ∙ parts-taken (take len lengths) bs fits
+
+  pub row-slot : {n : ℕ} → len ≤ 4097 → length lengths ≡ 4097 → texts_taken row + n ≤ 4096 → len < length lengths
+  row-slot within many few =
+      omega (arith, few, many, row-taken, length-take-le len lengths (omega (arith, within, many)))
+
 pub taken-more : (ts : List (List ℕ)) (t : List ℕ) → texts_taken (ts ++ t ∷ []) ≡ texts_taken ts + 1 + length t
 taken-more [] t = omega arith
 taken-more (x ∷ ts) t = let more = taken-more ts t in omega arith

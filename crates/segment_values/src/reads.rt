@@ -1,6 +1,5 @@
 //! Elements of arrays and vectors of scalars, so many read by one call.
 ghost use Rattle.std.specs.Prelude.{◌≡◌, ◌+◌, ◌*◌, ◌≤◌, OnErr, drop, length, map, nat_le, take, true, List, ℤ};
-ghost use Rattle.seg_types.specs.Keys.{key_seen};
 ghost use Rattle.seg_types.specs.Kinds.{is_value, spelling};
 ghost use Rattle.seg_types.specs.Names.{ByHandle};
 ghost use Rattle.segment_manager.specs.Directory.{Directory};
@@ -9,8 +8,8 @@ ghost use Rattle.segment_manager.specs.State.{AnswersWith, DenotesCurrent};
 ghost use Rattle.segment_values.specs.Ranges.{AreSpelled, HasRow, is_row, range_at, read_into, row_of};
 
 use seg_types::theorems::scalar_is_number;
-use seg_types::{Key, Kind, Refusal, Scalar};
-use segment_manager::{ElementRun, Object, Segment, locate};
+use seg_types::{Kind, Refusal, Scalar};
+use segment_manager::{ElementRun, Object, ObjectRef, Segment, locate};
 
 /// Copies elements of the object of a key into a row: as many as the row has, from `first` on. The object is an array
 /// of scalars of the type, or a vector of them.
@@ -19,13 +18,14 @@ use segment_manager::{ElementRun, Object, Segment, locate};
 ///
 /// `NotFound` where no object has the key, `WrongKind` where it is of another kind, `OutOfRange` where it has not so
 /// many elements there. The row is as it was.
-pub fn read_elements<T: Scalar>(
+pub fn read_elements<T: Scalar, O: ObjectRef>(
     segment: &Segment,
-    key: &Key,
+    key: &O,
     first: u64,
     row: &mut [T],
 ) -> Result<(), Refusal>
-    ensures read { AnswersWith segment.now (λ d. range_at d (key_seen key.now) T.kind first (length row.old))
+    requires { O.stands key.now segment.now }
+    ensures read { AnswersWith segment.now (λ d. range_at d (O.key key.now) T.kind first (length row.old))
         (read_into T.whole row.new result) }
     ensures unchanged { OnErr result (row.new ≡ row.old) }
 {

@@ -1,6 +1,4 @@
 mod Here
 mod Reading
-mod Repeating
 mod Between
 mod RangeReads
-mod Copies

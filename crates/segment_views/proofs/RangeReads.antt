@@ -1,6 +1,6 @@
 -- What is read of a map says of the pairs between two bounds.
 use Rattle.std.proofs.Common.{◌≡◌, refl, sym, ap, ◌∙◌, ℕ, ◌-◌, ◌≤◌, ℤ, Bool, true, false, Option, Some, None, Result}
-use Rattle.std.proofs.Common.{Ok, Err, List, [], ◌∷◌, ◌++◌, length, arith, if◌then◌else◌}
+use Rattle.std.proofs.Common.{Ok, Err, List, [], ◌∷◌, ◌++◌, length, arith, subst, if◌then◌else◌}
 use Rattle.std.specs.Bool.{then_some}
 use Rattle.std.specs.Prelude.{MatchResult, option_map, slice_get}
 use Rattle.std.proofs.lemmas.List.{length-append}
@@ -13,14 +13,15 @@ use Rattle.seg_types.specs.Kinds.{lowest}
 use Rattle.seg_types.specs.Names.{Key}
 use Rattle.seg_map.specs.Numbers.{NumberPair}
 use Rattle.seg_map.specs.Places.{item_of}
+use Rattle.segment_manager.specs.declared.objects.object_ref.Object.{Object as Located}
 use Rattle.segment_manager.specs.Directory.{Directory}
 use Rattle.segment_manager.specs.objects.ElementLists.{length_at_kind, number_or_none}
 use Rattle.segment_manager.specs.containers.Maps.{numbers_in, pair_from, pair_result, told_of_map}
 use Rattle.segment_manager.specs.State.{AnswersWith, SegmentState, DenotesCurrent}
 use Rattle.segment_manager.specs.containers.Walks.{first_of, pairs_at_kinds}
 use Rattle.segment_manager.proofs.Laws.{map-least, map-length, map-rises, map-told}
-use Rattle.segment_views.specs.Ranged.{GoesBackPairs, GoesOnPairs, PairWalk, is_from, is_up_to, last_between}
-use Rattle.segment_views.specs.Ranged.{pair_or_none, pairs_left, range_of}
+use Rattle.segment_views.specs.Ranged.{GoesBackPairs, GoesOnPairs, IsPairWalk, PairWalk, is_from, is_up_to}
+use Rattle.segment_views.specs.Ranged.{last_between, pair_or_none, pairs_left, range_of}
 use Rattle.segment_views.proofs.Between.{admitted, last-within, range-begins, range-empty, range-ends, range-few}
 use Rattle.segment_views.proofs.Between.{range-none, range-within}
 
@@ -131,68 +132,78 @@ module _ (s : SegmentState) (key : Key) (k v : ScalarKind) where
 
 -- ---- an iterator over the pairs between two bounds
 
-module _ (k v : ScalarKind) (w : PairWalk) (few : (d : Directory) → DenotesCurrent w.segment.cut.bytes d
-    → length (pairs_left k v d w) ≤ w.left) {A : Type 0} (seen : A → ℤ × ℤ) where
-  pub finds-none : AnswersWith w.segment (λ d. slice_get (range_of w.start w.end (pairs_at_kinds d w.key k v)) 0)
-      None → GoesOnPairs k v seen w None w
-  finds-none a = record {
+module _ {k v : ScalarKind} {o : Located} {w : PairWalk} (is : IsPairWalk k v o w) {A B : Type 0} (kw : A → ℤ)
+    (vw : B → ℤ) where
+  abbrev seen : A × B → ℤ × ℤ
+  seen pair = (kw pair.0, vw pair.1)
+
+  -- the first of the pairs that are left is this one
+  abbrev HasFirst : Option (A × B) → Type 0
+  HasFirst r = AnswersWith w.segment (λ d. slice_get (range_of w.start w.end (pairs_at_kinds d w.key k v)) 0)
+      (numbers_in kw vw r)
+
+  pub finds-none : {t : PairWalk} → w ≡ t → {r : Option (A × B)} → r ≡ None → HasFirst r
+      → GoesOnPairs k v seen t None t
+  finds-none e was a = subst (λ t. GoesOnPairs k v seen t None t) e (record {
     segment = refl;
     key = refl;
-    pairs = λ d h. let n = none-left w.segment w.key k v w.start w.end a d h in (n, n);
-  }
+    pairs = λ d h. let n = none-left w.segment w.key k v w.start w.end (subst HasFirst was a) d h in (n, n);
+  })
 
-  abbrev pub behind : A → PairWalk
-  behind item = record {
+  abbrev pub behind : A × B → PairWalk
+  behind pair = record {
     segment = w.segment;
     key = w.key;
-    start = Excluded (seen item).0;
+    start = Excluded (kw pair.0);
     end = w.end;
     left = w.left - 1;
   }
 
-  pub finds-one : (item : A) → AnswersWith w.segment (λ d.
-      slice_get (range_of w.start w.end (pairs_at_kinds d w.key k v)) 0) (Some (seen item))
-      → GoesOnPairs k v seen w (Some item) (behind item)
-  finds-one item a = record {
+  pub finds-one : {t : PairWalk} → w ≡ t → {r : Option (A × B)} {pair : A × B} → r ≡ Some pair → HasFirst r
+      → GoesOnPairs k v seen t (Some pair) (behind pair)
+  finds-one e {pair = pair} was a = subst (λ t. GoesOnPairs k v seen t (Some pair) (behind pair)) e (record {
     segment = refl;
     key = refl;
-    pairs = λ d h. others-left w.segment w.key k v w.start w.end (seen item).0 (seen item).1 a d h;
-  }
+    pairs = λ d h. others-left w.segment w.key k v w.start w.end (kw pair.0) (vw pair.1) (subst HasFirst was a) d h;
+  })
 
-  pub fewer : (item : A) → AnswersWith w.segment (λ d.
-      slice_get (range_of w.start w.end (pairs_at_kinds d w.key k v)) 0) (Some (seen item))
-      → (d : Directory) → DenotesCurrent w.segment.cut.bytes d → length (pairs_left k v d (behind item)) ≤ w.left - 1
-  fewer item a d h = fewer-left w.segment w.key k v w.start w.end (seen item).0 (seen item).1 w.left a few d h
+  pub fewer : {r : Option (A × B)} {pair : A × B} → r ≡ Some pair → HasFirst r
+      → (d : Directory) → DenotesCurrent w.segment.cut.bytes d → length (pairs_left k v d (behind pair)) ≤ w.left - 1
+  fewer {pair = pair} was a d h =
+      fewer-left w.segment w.key k v w.start w.end (kw pair.0) (vw pair.1) w.left (subst HasFirst was a) is.few d h
 
   -- ---- the same from the other end
 
-  pub finds-none-back : AnswersWith w.segment (λ d. last_between w.start w.end (pairs_at_kinds d w.key k v)) None
-      → GoesBackPairs k v seen w None w
-  finds-none-back a = record {
+  abbrev HasLast : Option (A × B) → Type 0
+  HasLast r = AnswersWith w.segment (λ d. last_between w.start w.end (pairs_at_kinds d w.key k v))
+      (numbers_in kw vw r)
+
+  pub finds-none-back : {t : PairWalk} → w ≡ t → {r : Option (A × B)} → r ≡ None → HasLast r
+      → GoesBackPairs k v seen t None t
+  finds-none-back e was a = subst (λ t. GoesBackPairs k v seen t None t) e (record {
     segment = refl;
     key = refl;
-    pairs = λ d h. let n = none-before w.segment w.key k v w.start w.end a d h in (n, n);
-  }
+    pairs = λ d h. let n = none-before w.segment w.key k v w.start w.end (subst HasLast was a) d h in (n, n);
+  })
 
-  abbrev pub before : A → PairWalk
-  before item = record {
+  abbrev pub before : A × B → PairWalk
+  before pair = record {
     segment = w.segment;
     key = w.key;
     start = w.start;
-    end = Excluded (seen item).0;
+    end = Excluded (kw pair.0);
     left = w.left - 1;
   }
 
-  pub finds-one-back : (item : A)
-      → AnswersWith w.segment (λ d. last_between w.start w.end (pairs_at_kinds d w.key k v)) (Some (seen item))
-      → GoesBackPairs k v seen w (Some item) (before item)
-  finds-one-back item a = record {
+  pub finds-one-back : {t : PairWalk} → w ≡ t → {r : Option (A × B)} {pair : A × B} → r ≡ Some pair → HasLast r
+      → GoesBackPairs k v seen t (Some pair) (before pair)
+  finds-one-back e {pair = pair} was a = subst (λ t. GoesBackPairs k v seen t (Some pair) (before pair)) e (record {
     segment = refl;
     key = refl;
-    pairs = λ d h. others-before w.segment w.key k v w.start w.end (seen item).0 (seen item).1 a d h;
-  }
+    pairs = λ d h. others-before w.segment w.key k v w.start w.end (kw pair.0) (vw pair.1) (subst HasLast was a) d h;
+  })
 
-  pub fewer-back : (item : A) → AnswersWith w.segment (λ d.
-      last_between w.start w.end (pairs_at_kinds d w.key k v)) (Some (seen item))
-      → (d : Directory) → DenotesCurrent w.segment.cut.bytes d → length (pairs_left k v d (before item)) ≤ w.left - 1
-  fewer-back item a d h = fewer-before w.segment w.key k v w.start w.end (seen item).0 (seen item).1 w.left a few d h
+  pub fewer-back : {r : Option (A × B)} {pair : A × B} → r ≡ Some pair → HasLast r
+      → (d : Directory) → DenotesCurrent w.segment.cut.bytes d → length (pairs_left k v d (before pair)) ≤ w.left - 1
+  fewer-back {pair = pair} was a d h =
+      fewer-before w.segment w.key k v w.start w.end (kw pair.0) (vw pair.1) w.left (subst HasLast was a) is.few d h

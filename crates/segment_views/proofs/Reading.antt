@@ -1,13 +1,11 @@
 -- What a reading of one element says of the list of all.
 use Rattle.std.proofs.Common.{◌≡◌, refl, sym, subst, ◌∙◌, ℕ, ◌≤◌, ℤ, None, Result, Ok, Err, List, length}
-use Rattle.std.proofs.Common.{ap, Bool, false, Option, Some, [], if◌then◌else◌, map}
-use Rattle.std.proofs.lemmas.List.{length-map}
-use Rattle.seg_types.specs.declared.kinds.Kind.TheVariants.{Map as MapOf}
-use Rattle.seg_types.specs.declared.kinds.ScalarKind.TheVariants.{Bool as BoolKind, U8, I32, I64, U64}
+use Rattle.std.proofs.Common.{ap, Bool, true, false, Option, Some, [], if◌then◌else◌}
+use Rattle.std.proofs.lemmas.{Bool.eqb-true, List.length-map, Option.same_Some}
 use Rattle.seg_types.specs.declared.refusals.Refusal.TheVariants.{NotFound, WrongKind}
-use Rattle.seg_types.specs.Kinds.{same_kind}
+use Rattle.seg_types.specs.Kinds.{code_of, kind_of_code, same_kind}
 use Rattle.segment_manager.specs.containers.Contents.{sizes_of, sizes_of_kind}
-use Rattle.segment_manager.specs.Directory.{Value, Numbers, Elements, Bytes, Pairs, Texts, Object, kind_of, object_at}
+use Rattle.segment_manager.specs.Directory.{Value, Texts, Object, kind_of, object_at}
 use Rattle.segment_manager.specs.objects.ElementLists.{first_size, texts_in}
 use Rattle.std.specs.Prelude.{slice_get}
 use Rattle.std.proofs.lemmas.Option.{slice_get_past}
@@ -23,7 +21,7 @@ use Rattle.segment_manager.specs.objects.ElementLists.{array_at, array_length_at
 use Rattle.segment_manager.specs.objects.ElementLists.{texts_at, vector_at}
 use Rattle.segment_manager.specs.State.{AnswersWith, AnswersQueryOfKind, SegmentState, answer_of}
 use Rattle.segment_views.specs.Walked.{element_of}
-use Rattle.segment_manager.proofs.Laws.{array-length, array-read, got, text-read, vector-length, vector-read}
+use Rattle.segment_manager.proofs.Laws.{array-length, array-read, code-read, got, text-read, vector-length, vector-read}
 
 -- behind the last element there is none
 pub none-past : {B : Type 0} (elements : Directory → List B) (s : SegmentState) (at len : ℕ)
@@ -75,57 +73,16 @@ module _ (s : SegmentState) (key : Key) (at : ℕ) where
 
 -- ---- how many
 
--- a map is no vector of strings
-no-map : (k v : ScalarKind) → same_kind StringsKind (MapOf k v) ≡ false
-no-map BoolKind BoolKind = refl
-no-map BoolKind U8 = refl
-no-map BoolKind I32 = refl
-no-map BoolKind I64 = refl
-no-map BoolKind U64 = refl
-no-map U8 BoolKind = refl
-no-map U8 U8 = refl
-no-map U8 I32 = refl
-no-map U8 I64 = refl
-no-map U8 U64 = refl
-no-map I32 BoolKind = refl
-no-map I32 U8 = refl
-no-map I32 I32 = refl
-no-map I32 I64 = refl
-no-map I32 U64 = refl
-no-map I64 BoolKind = refl
-no-map I64 U8 = refl
-no-map I64 I32 = refl
-no-map I64 I64 = refl
-no-map I64 U64 = refl
-no-map U64 BoolKind = refl
-no-map U64 U8 = refl
-no-map U64 I32 = refl
-no-map U64 I64 = refl
-no-map U64 U64 = refl
-
-no-texts : (v : Value) → same_kind StringsKind (kind_of v) ≡ false
-    → number_or_none (first_size (if same_kind StringsKind (kind_of v) then sizes_of v else Err WrongKind))
-    ≡ length (if same_kind StringsKind (kind_of v) then texts_in v else [])
-no-texts v e = subst (λ b. number_or_none (first_size (if b then sizes_of v else Err WrongKind))
-    ≡ length (if b then texts_in v else [])) (sym e) refl
-
 -- of a vector of strings as many as are listed of it
-texts-sized : (v : Value)
-    → number_or_none (first_size (if same_kind StringsKind (kind_of v) then sizes_of v else Err WrongKind))
-    ≡ length (if same_kind StringsKind (kind_of v) then texts_in v else [])
-texts-sized (Numbers BoolKind zs) = refl
-texts-sized (Numbers U8 zs) = refl
-texts-sized (Numbers I32 zs) = refl
-texts-sized (Numbers I64 zs) = refl
-texts-sized (Numbers U64 zs) = refl
-texts-sized (Elements BoolKind zs t) = refl
-texts-sized (Elements U8 zs t) = refl
-texts-sized (Elements I32 zs t) = refl
-texts-sized (Elements I64 zs t) = refl
-texts-sized (Elements U64 zs t) = refl
-texts-sized (Bytes bs t) = refl
-texts-sized (Pairs k v ps) = no-texts (Pairs k v ps) (no-map k v)
-texts-sized (Texts ps t) = sym (length-map ps _)
+texts-of : (v : Value) → StringsKind ≡ kind_of v → number_or_none (first_size (sizes_of v)) ≡ length (texts_in v)
+texts-of (Texts ps t) e = sym (length-map ps _)
+texts-of v e = absurd (cc)
+
+texts-sized : (v : Value) (b : Bool) → same_kind StringsKind (kind_of v) ≡ b
+    → number_or_none (first_size (if b then sizes_of v else Err WrongKind)) ≡ length (if b then texts_in v else [])
+texts-sized v false e = refl
+texts-sized v true e = texts-of v (same_Some StringsKind (kind_of v) (sym (code-read StringsKind)
+    ∙ ap kind_of_code (eqb-true (code_of StringsKind) (code_of (kind_of v)) e) ∙ code-read (kind_of v)))
 
 texts-length : (o : Option Object) → number_or_none (first_size (elim o as (λ _. Result (ℕ × ℕ) Refusal) [
   | None ↦ Err NotFound
@@ -135,7 +92,7 @@ texts-length : (o : Option Object) → number_or_none (first_size (elim o as (λ
   | Some o ↦ if same_kind StringsKind (kind_of o.value) then texts_in o.value else []
 ])
 texts-length None = refl
-texts-length (Some o) = texts-sized o.value
+texts-length (Some o) = texts-sized o.value (same_kind StringsKind (kind_of o.value)) refl
 
 module _ (s : SegmentState) (key : Key) (r : Result ℕ Refusal) where
   pub vector-many : (k : ScalarKind) → AnswersWith s (λ d. length_at_kind d key (VectorOf k)) r

@@ -1,10 +1,9 @@
 //! One scalar of a type, or an array of them, in a segment that may be changed, looked up once.
-ghost use Rattle.std.specs.Prelude.{map};
+ghost use Rattle.std.specs.Prelude.{◌≡◌, OnErr, OnOk, length, map};
 ghost use Rattle.seg_types.specs.declared.kinds.Kind.TheVariants.{Scalar as ScalarOf};
-ghost use Rattle.seg_types.specs.Commands.{Set, literal_of};
+ghost use Rattle.segment_manager.specs.containers.Ranges.{ChangesRange, WritesRange};
 ghost use Rattle.segment_manager.specs.objects.ElementLists.{array_at, array_length_at};
-ghost use Rattle.segment_manager.specs.Keeping.{ChangesElement};
-ghost use Rattle.segment_views.specs.Repeated.{StepsOn};
+ghost use Rattle.segment_manager.specs.{Keeping.ChangesElement, State.done_answer};
 
 use crate::elements::RowItems;
 use crate::rows::{Row, Storage};
@@ -56,24 +55,22 @@ impl Storage for Array {
 impl<'a, T: Scalar> View<'a, Row<T, Array>> {
     ghost use Rattle.segment_views.specs.OfView.{SameView, key_of, segment_of};
 
-    /// Makes values its first elements, one after another. No other byte changes.
+    /// Makes values its first elements, all of them or none. No other byte changes.
     ///
     /// Example: `flags.copy_from(&[1, 2])?`.
     ///
     /// # Errors
     ///
-    /// Those of `set`, at the first value that is refused, as where there are more values than elements: the values
-    /// before it are elements then.
+    /// `ReadOnly` where the segment is open for reading, else `WrongKind` where the object is of another kind,
+    /// `OutOfRange` where there are more values than elements. Nothing changes.
     pub fn copy_from(&mut self, values: &[T]) -> Result<(), Refusal>
         ensures unchanged { SameView self.old self.new }
-        ensures steps { StepsOn (key_of self.old) (ScalarOf T.kind) (λ i z.
-            Set (key_of self.old) i (literal_of T.kind z)) (λ old new i.
-            ChangesElement old new (key_of self.old) T.kind i) (map T.whole values.now) (segment_of self.old)
-            (segment_of self.new) result }
+        ensures step { WritesRange (segment_of self.old) (segment_of self.new) (key_of self.old) T.kind 0
+            (map T.whole values.now) (done_answer result) }
+        ensures refused { OnErr result (segment_of self.new ≡ segment_of self.old) }
+        ensures frame { OnOk result (ChangesRange (segment_of self.old) (segment_of self.new) (key_of self.old) T.kind
+            0 (length values.now)) }
     {
-        'values: for i in 0..values.len() {
-            self.set(i as u64, values[i])?;
-        }
-        Ok(())
+        self.segment.write_range(&self.object, 0, values)
     }
 }

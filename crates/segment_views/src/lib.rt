@@ -3,7 +3,6 @@
 #![tactic(auto)]
 
 mod arrays;
-mod copying;
 mod elements;
 mod maps;
 mod ranges;

@@ -1,5 +1,5 @@
 //! Scalars of a type one after another, an array of them or a vector, in a segment that may be changed, looked up once.
-ghost use Rattle.std.specs.Prelude.{◌≡◌, ℕ, ℤ, List, OnErr, OnOk, Result as AnyResult, length, map, slice_get, take};
+ghost use Rattle.std.specs.Prelude.{◌≡◌, ℕ, ℤ, List, OnErr, OnOk, Result as AnyResult, length, slice_get};
 ghost use Rattle.seg_types.specs.declared.kinds.Kind.{Kind as AnyKind};
 ghost use Rattle.seg_types.specs.declared.kinds.ScalarKind.{ScalarKind as AnyScalarKind};
 ghost use Rattle.seg_types.specs.declared.refusals.Refusal.{Refusal as AnyRefusal};
@@ -11,15 +11,14 @@ ghost use Rattle.segment_manager.specs.objects.ElementLists.{number_or_none};
 ghost use Rattle.segment_manager.specs.objects.Located.{IsObject};
 ghost use Rattle.segment_manager.specs.State.{AnswersWith, AnswersQueryOfKind, TakesStepOfKind, SegmentState};
 ghost use Rattle.segment_manager.specs.State.{answer_of, done_answer};
-ghost use Rattle.segment_manager.specs.State.{refusal_in};
-ghost use Rattle.segment_views.specs.Copied.{lacking};
+ghost use Rattle.segment_values.specs.Ranges.{range_at, read_into};
 ghost use Rattle.segment_views.specs.Walked.{element_of};
 
-use crate::copying::copy_row;
 use crate::elements::RowItems;
 use crate::views::{View, ViewContent};
 use seg_types::{Kind, Refusal, Scalar, ScalarKind};
 use segment_manager::{Object, Segment};
+use segment_values::read_elements;
 use std::marker::PhantomData;
 
 /// Where the scalars of a row are: in the object itself, an array, or in a block of their own, those of a vector.
@@ -141,18 +140,11 @@ impl<'a, T: Scalar, S: Storage> View<'a, Row<T, S>> {
     /// `WrongKind` where the object is of another kind, `OutOfRange` where the slice has more places than there are
     /// elements. The slice does not change.
     pub fn copy_to(&self, values: &mut [T]) -> Result<(), Refusal>
-        ensures refusal { AnswersWith (segment_of self.now) (λ d.
-            lacking (length values.old) (S.count d (key_of self.now) T.kind)) (refusal_in result) }
-        ensures copy { OnOk result (AnswersWith (segment_of self.now) (λ d.
-            take (length values.old) (S.elements d (key_of self.now) T.kind)) (map T.whole values.new)) }
+        ensures read { AnswersWith (segment_of self.now) (λ d.
+            range_at d (key_of self.now) T.kind 0 (length values.old)) (read_into T.whole values.new result) }
         ensures unchanged { OnErr result (values.new ≡ values.old) }
     {
-        let len = S::len::<T>(self.segment, &self.object)?;
-        if len < values.len() as u64 {
-            return Err(Refusal::OutOfRange);
-        }
-        copy_row::<T, S>(self.segment, &self.object, values);
-        Ok(())
+        read_elements(self.segment, &self.object, 0, values)
     }
 
     /// Makes a value the element at `index`. Of an array no other byte changes.
@@ -169,7 +161,6 @@ impl<'a, T: Scalar, S: Storage> View<'a, Row<T, S>> {
         ensures others { OnOk result (S.keeps (segment_of self.old) (segment_of self.new) (key_of self.old) T.kind
             index) }
     {
-        let _ = self.segment.as_bytes();
         S::set::<T>(self.segment, &self.object, index, value)
     }
 }

@@ -3,10 +3,9 @@ ghost use Rattle.std.specs.Prelude.{◌≡◌, OnErr, map, ⊤};
 ghost use Rattle.seg_types.specs.declared.kinds.Kind.TheVariants.{Vector as VectorOf};
 ghost use Rattle.seg_types.specs.Commands.{Assign, Erase, Insert, Pop, Push, literal_of};
 ghost use Rattle.segment_manager.specs.Answers.{Element};
-ghost use Rattle.segment_manager.specs.containers.Contents.{sizes_at};
+ghost use Rattle.segment_manager.specs.containers.{Contents.sizes_at, Ranges.ExtendsVector};
 ghost use Rattle.segment_manager.specs.objects.ElementLists.{length_at_kind, vector_at};
 ghost use Rattle.segment_manager.specs.State.{AnswersWith, TakesStepOfKind, answer_of, done_answer};
-ghost use Rattle.segment_views.specs.Repeated.{StepsOn};
 
 use crate::elements::RowItems;
 use crate::rows::{Row, Storage};
@@ -81,7 +80,6 @@ impl<'a, T: Scalar> View<'a, Row<T, Vector>> {
             (VectorOf T.kind) (Push (key_of self.old) (literal_of T.kind (T.whole value))) (done_answer result) }
         ensures refused { OnErr result (segment_of self.new ≡ segment_of self.old) }
     {
-        let _ = self.segment.as_bytes();
         self.segment.vec_push(&self.object, value)
     }
 
@@ -97,7 +95,6 @@ impl<'a, T: Scalar> View<'a, Row<T, Vector>> {
             (VectorOf T.kind) (Pop (key_of self.old)) (answer_of (λ x. Element T.kind (T.whole x)) result) }
         ensures refused { OnErr result (segment_of self.new ≡ segment_of self.old) }
     {
-        let _ = self.segment.as_bytes();
         self.segment.vec_pop::<T, Object>(&self.object)
     }
 
@@ -115,7 +112,6 @@ impl<'a, T: Scalar> View<'a, Row<T, Vector>> {
             (done_answer result) }
         ensures refused { OnErr result (segment_of self.new ≡ segment_of self.old) }
     {
-        let _ = self.segment.as_bytes();
         self.segment.vec_insert(&self.object, index, value)
     }
 
@@ -131,7 +127,6 @@ impl<'a, T: Scalar> View<'a, Row<T, Vector>> {
             (VectorOf T.kind) (Erase (key_of self.old) index) (done_answer result) }
         ensures refused { OnErr result (segment_of self.new ≡ segment_of self.old) }
     {
-        let _ = self.segment.as_bytes();
         self.segment.vec_erase::<T, Object>(&self.object, index)
     }
 
@@ -148,26 +143,24 @@ impl<'a, T: Scalar> View<'a, Row<T, Vector>> {
             (done_answer result) }
         ensures refused { OnErr result (segment_of self.new ≡ segment_of self.old) }
     {
-        let _ = self.segment.as_bytes();
         self.segment.vec_assign(&self.object, values)
     }
 
-    /// Puts values behind the last element, one after another.
+    /// Puts values behind the last element, one after another. Where there are not places for all of them, the vector
+    /// gets twice as many as before, and at least 4, and as many as are needed.
     ///
     /// Example: `queue.extend(&[8, 9])?`.
     ///
     /// # Errors
     ///
-    /// Those of `push`, of the first value that is refused: the values before it are elements then.
+    /// `ReadOnly` where the segment is open for reading, else `WrongKind` where the object is no vector of the type,
+    /// `NoSpace` where its storage cannot be regrown. Nothing changes.
     pub fn extend(&mut self, values: &[T]) -> Result<(), Refusal>
         ensures unchanged { SameView self.old self.new }
-        ensures steps { StepsOn (key_of self.old) (VectorOf T.kind) (λ i z.
-            Push (key_of self.old) (literal_of T.kind z)) (λ old new i.
-            ⊤) (map T.whole values.now) (segment_of self.old) (segment_of self.new) result }
+        ensures step { ExtendsVector (segment_of self.old) (segment_of self.new) (key_of self.old) T.kind
+            (map T.whole values.now) (done_answer result) }
+        ensures refused { OnErr result (segment_of self.new ≡ segment_of self.old) }
     {
-        'values: for i in 0..values.len() {
-            self.push(values[i])?;
-        }
-        Ok(())
+        self.segment.vec_extend(&self.object, values)
     }
 }

@@ -5,7 +5,7 @@
 //! reads
 //! a file gets its segment by [`read`]. `crates/examples` has programs that do so.
 //!
-//! Every call on a segment takes whatever the segment holds, and answers or refuses. A few ask for something else
+//! Every call on a segment takes whatever the segment holds, and returns or refuses. A few ask for something else
 //! before they are called, say so under `# Conditions`, and which call does the same without:
 //!
 //! | Call | Its condition | Without one |

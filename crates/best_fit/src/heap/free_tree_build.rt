@@ -19,9 +19,9 @@ use offset_link::load;
 use raw_region::{Window, hold_bytes};
 
 impl Heap {
-    /// The heap of a window that has blocks and gaps, and no tree of the gaps: the tree is written into the gaps, and
-    /// the link to it into the word at 24. The window has a legal size and good tags, and no gap is red. What the word
-    /// at 24 and the links of the gaps held is lost, and all else stays.
+    /// Makes the heap of a window that has blocks and gaps, and no tree of the gaps. It writes the tree into the gaps,
+    /// and the link to it into the word at 24. The window has a legal size and good tags, and no gap is red. What the
+    /// word at 24 and the links of the gaps held is lost, and all else stays.
     pub fn rebuild(window: Window) -> Heap
         requires size { IsTrue (is_legal_size (length window.bytes)) }
         requires tags { IsTrue (has_tags 0 (bytes_of window.bytes) (length window.bytes)) }
@@ -54,7 +54,7 @@ fn clear_gaps(window: &mut Window)
     set_link(window, FREE_TREE_ROOT, None);
 }
 
-/// Makes the links at `node` and behind it null.
+/// Makes the links at `node` and after it null.
 fn clear(window: &mut Window, node: u64)
     requires aligned { node % 8 ≡ 0 }
     requires max_size { node ≤ 1073741824 }
@@ -84,7 +84,7 @@ fn plant_gaps(gaps: &mut GapTree)
     }
 }
 
-/// Puts the first gap into the tree that stands behind all those of the tree.
+/// Puts the first gap into the tree that stands after all those of the tree.
 fn plant(gaps: &mut GapTree, node: u64)
     requires { (xs : List Gap) × (g : Gap) × (node ≡ node_of g) × IsNextGap gaps.old.window xs g }
     ensures tree { (xs : List Gap) (g : Gap) → node ≡ node_of g → IsNextGap gaps.old.window xs g
@@ -96,7 +96,7 @@ fn plant(gaps: &mut GapTree, node: u64)
     set_link(&mut gaps.window, FREE_TREE_ROOT, changed.root);
 }
 
-/// Each byte of a window is below 256. Nothing is done.
+/// States that each byte of a window is below 256. It does nothing.
 fn hold_window(window: &Window)
     ensures { AreBytes window.now.bytes }
 {

@@ -16,7 +16,7 @@ use offset_link::{Places, load, shift, shift_non_null};
 use raw_region::Window;
 
 impl Heap {
-    /// Where the header's link at `at` leads: a multiple of 8 below 128, and not 24.
+    /// Returns where the header's link at `at` leads: a multiple of 8 below 128, and not 24.
     pub fn header_link(&self, at: u64) -> Option<u64>
         requires aligned { at % 8 ≡ 0 }
         requires subtree { at < HEADER_LEN }
@@ -38,7 +38,7 @@ impl Heap {
         set_link(&mut self.gaps.window, at, to);
     }
 
-    /// Where the link at `at` in the block of a handle leads.
+    /// Returns where the link at `at` in the block of a handle leads.
     pub fn link(&self, handle: u64, at: u64) -> Option<u64>
         requires aligned { at % 8 ≡ 0 }
         requires room { IsTrue (has_room (live_of self.now.bytes) handle (at + 8)) }
@@ -72,7 +72,7 @@ impl Heap {
         move_to(&mut self.gaps.window, from + from_at, to + to_at, n);
     }
 
-    /// The same for links none of which is null, in about half the time.
+    /// Moves links as `shift_links`, if none of them is null, in about half the time.
     pub fn shift_non_null_links(&mut self, from: u64, from_at: u64, to: u64, to_at: u64, n: u64)
         requires from_aligned { from_at % 8 ≡ 0 }
         requires to_aligned { to_at % 8 ≡ 0 }
@@ -85,7 +85,7 @@ impl Heap {
         move_non_null_to(&mut self.gaps.window, from + from_at, to + to_at, n);
     }
 
-    /// Whether the block of a handle is red. Only a node block may be.
+    /// Tells whether the block of a handle is red. Only a node block may be.
     pub fn node_red(&self, handle: u64) -> bool
         requires { IsTrue (is_live_in (live_of self.now.bytes) handle) }
         ensures { result ≡ is_red (bytes_of self.now.bytes) handle }
@@ -116,7 +116,7 @@ fn move_to(window: &mut Window, source: u64, target: u64, n: u64)
     shift(window, source, n, way(source, target));
 }
 
-/// The same for links none of which is null.
+/// Moves links as `move_to`, if none of them is null.
 fn move_non_null_to(window: &mut Window, source: u64, target: u64, n: u64)
     requires source_aligned { source % 8 ≡ 0 }
     requires target_aligned { target % 8 ≡ 0 }
@@ -130,7 +130,7 @@ fn move_non_null_to(window: &mut Window, source: u64, target: u64, n: u64)
     shift_non_null(window, source, n, way(source, target));
 }
 
-/// How far it is from one link to another.
+/// Returns how far it is from one link to another.
 fn way(source: u64, target: u64) -> Places
     requires source_aligned { source % 8 ≡ 0 }
     requires target_aligned { target % 8 ≡ 0 }

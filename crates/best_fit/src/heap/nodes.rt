@@ -18,7 +18,7 @@ use link_tree::{Nodes, NodesMut};
 use offset_link::{load, store, store_null};
 use raw_region::Window;
 
-/// Where the right link of a node of a tree stands behind the left one, in bytes.
+/// Where the right link of a node of a tree stands after the left one, in bytes.
 pub const RIGHT_LINK: u64 = 8;
 
 /// The offset of the header's word that links to the root of the free tree.
@@ -28,7 +28,7 @@ pub const FREE_TREE_ROOT: u64 = 24;
 const FIRST_GAP: u64 = HEADER_LEN + TAG_LEN;
 
 /// What is looked for among the gaps: the first that is longer than `len`, or just so long and has its payload at
-/// `from` or behind it.
+/// `from` or after it.
 #[derive(Clone, Copy, Debug)]
 pub struct GapProbe {
     pub len: u64,
@@ -36,7 +36,7 @@ pub struct GapProbe {
 }
 
 /// A window whose gaps are nodes, each named by its payload: its links are the first two words there, and its colour is
-/// that of its tile. A gap precedes longer ones, and those as long that stand behind it.
+/// that of its tile. A gap precedes longer ones, and those as long that stand after it.
 #[derive(Drop)]
 pub struct GapTree {
     pub(super) window: Window,
@@ -123,7 +123,7 @@ pub fn set_link(window: &mut Window, at: u64, to: Option<u64>)
     }
 }
 
-/// Makes the one gap of a window the tree, or no gap where there is none.
+/// Makes the one gap of a window the tree, or no gap if there is none.
 pub fn plant_first(window: &mut Window)
     requires layout { EncodesTiles window.old (laid (length window.old.bytes)) }
     ensures live { EncodesLiveSet current window.new.bytes (no_blocks (length window.old.bytes)) }

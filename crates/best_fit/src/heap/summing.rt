@@ -14,7 +14,7 @@ use raw_region::Window;
 /// Where the word that tells a gap's length stands in its tag; its lowest four bits tell the use and the colour.
 const LENGTH: u64 = 8;
 
-/// The length of the gap that has this payload. Any number may be asked for.
+/// Returns the length of the gap that has this payload. Any number may be asked for.
 fn len_before(window: &Window, node: u64) -> u64
     ensures { is_gap_node window.now node ≡ true → result ≡ len_in (gaps_in window.now) node }
 {
@@ -24,7 +24,7 @@ fn len_before(window: &Window, node: u64) -> u64
     window.read_u64(node - TAG_LEN + LENGTH) / 16 * 16
 }
 
-/// The bytes of all gaps.
+/// Returns the bytes of all gaps.
 pub fn free_bytes(gaps: &GapTree) -> u64
     requires { IsHeap current gaps.now.window.bytes }
     ensures { result ≡ free_bytes_of (live_of gaps.now.window.bytes) }

@@ -30,6 +30,7 @@ pub struct TouchCounter<'a> {
 }
 
 impl<'a> TouchCounter<'a> {
+    /// Makes a counter of touches, which stands at 0.
     pub fn new(gaps: &'a mut GapTree) -> TouchCounter<'a>
         ensures same_borrow { result.gaps.ghost_name ≡ gaps.entry.ghost_name }
         ensures gaps { result.gaps.now ≡ gaps.old }
@@ -38,13 +39,14 @@ impl<'a> TouchCounter<'a> {
         TouchCounter { gaps, count: 0 }
     }
 
+    /// Returns how many touches there were.
     pub fn count(&self) -> u64
         ensures { result ≡ self.now.count }
     {
         self.count
     }
 
-    /// The payload of the first gap of the tree that has at least `wanted` bytes.
+    /// Returns the payload of the first gap of the tree that has at least `wanted` bytes.
     pub fn find_best_fit(&mut self, wanted: u64) -> Option<u64>
         requires tree { (hs : List Gap) × HasGapTree self.old.gaps.now.window hs }
         requires no_overflow { self.old.count < 2 ^ 63 }
@@ -91,7 +93,7 @@ impl<'a> TouchCounter<'a> {
         }
     }
 
-    /// The same of a gap that is looked for first.
+    /// Takes a gap out of the tree after a search for it.
     #[inline(never)]
     fn take_out_below(&mut self, root: Option<u64>, node: u64)
         requires root { root ≡ root_of_gaps self.old.gaps.now.window }
@@ -111,7 +113,7 @@ impl<'a> TouchCounter<'a> {
         self.take_out_at(root, way.exit, node);
     }
 
-    /// The same from the root on, or from where a search has found that the removal begins.
+    /// Takes a gap out of the tree, from the root or from where a search found that the removal begins.
     #[inline(always)]
     fn take_out_at(&mut self, root: Option<u64>, exit: Option<u64>, node: u64)
         requires root { root ≡ root_of_gaps self.old.gaps.now.window }
@@ -153,7 +155,7 @@ impl<'a> TouchCounter<'a> {
         set_link(&mut self.gaps.window, FREE_TREE_ROOT, changed.root);
     }
 
-    /// The tile that begins at the offset `at`.
+    /// Returns the tile that begins at the offset `at`.
     pub fn tile_at(&mut self, at: u64) -> Tile
         requires tile { HasTileAt self.old.gaps.now.window at }
         requires no_overflow { self.old.count + 1 < 2 ^ 64 }
@@ -181,7 +183,7 @@ impl<'a> TouchCounter<'a> {
         block_tags::split(&mut self.gaps.window, at, len);
     }
 
-    /// The tile behind the one at `at`.
+    /// Returns the tile after the one at `at`.
     pub fn next(&mut self, at: u64) -> Option<Tile>
         requires tile { HasTileAt self.old.gaps.now.window at }
         requires no_overflow { self.old.count + 1 < 2 ^ 64 }
@@ -194,7 +196,7 @@ impl<'a> TouchCounter<'a> {
         block_tags::next(&self.gaps.window, at)
     }
 
-    /// The tile before the one at `at`.
+    /// Returns the tile before the one at `at`.
     pub fn previous(&mut self, at: u64) -> Option<Tile>
         requires tile { HasTileAt self.old.gaps.now.window at }
         requires no_overflow { self.old.count + 1 < 2 ^ 64 }
@@ -207,7 +209,7 @@ impl<'a> TouchCounter<'a> {
         block_tags::previous(&self.gaps.window, at)
     }
 
-    /// Joins the tile behind the one at `at`, which is free, to it.
+    /// Joins the tile after the one at `at`, which is free, to it.
     pub fn merge_next(&mut self, at: u64)
         requires tile { HasFreeNext self.old.gaps.now.window at }
         requires no_overflow { self.old.count + 1 < 2 ^ 64 }
@@ -252,14 +254,14 @@ impl<'a> TouchCounter<'a> {
         block_tags::set_red(&mut self.gaps.window, at, false);
     }
 
-    /// The number of bytes in the window.
+    /// Returns the number of bytes in the window.
     pub fn size(&self) -> u64
         ensures { result ≡ length self.now.gaps.now.window.bytes }
     {
         self.gaps.window.size()
     }
 
-    /// Moves the window's end, to `size` bytes behind its base. No tile is touched.
+    /// Moves the window's end, to `size` bytes after its base. No tile is touched.
     pub fn resize(&mut self, size: u64)
         requires in_bounds { length self.old.gaps.now.window.before + size ≤ length (whole self.old.gaps.now.window) }
         ensures cut { self.new.gaps.now.window
@@ -287,7 +289,7 @@ impl<'a> TouchCounter<'a> {
         block_tags::append_free(&mut self.gaps.window, old_size);
     }
 
-    /// The last tile.
+    /// Returns the last tile.
     pub fn last(&mut self) -> Option<Tile>
         requires tiles { IsTiledWindow self.old.gaps.now.window }
         requires no_overflow { self.old.count + 1 < 2 ^ 64 }
@@ -300,7 +302,7 @@ impl<'a> TouchCounter<'a> {
         block_tags::last(&self.gaps.window)
     }
 
-    /// Takes away the last tile, which is free, and answers the number of bytes that the window needs for the others.
+    /// Takes away the last tile, which is free, and returns the number of bytes that the window needs for the others.
     pub fn drop_last(&mut self) -> u64
         requires tile { HasFreeLast self.old.gaps.now.window }
         requires no_overflow { self.old.count + 1 < 2 ^ 64 }
@@ -329,7 +331,7 @@ fn clear_links(gaps: &mut GapTree, node: u64)
     set_link(&mut gaps.window, node + RIGHT_LINK, None);
 }
 
-/// The way from the root to a gap of the tree: where its removal begins.
+/// Returns the way from the root to a gap of the tree: where its removal begins.
 fn way_out(gaps: &GapTree, root: Option<u64>, node: u64) -> RemovePoint
     requires root { root ≡ root_of_gaps gaps.now.window }
     requires tree { (hs : List Gap) × HasGapTree gaps.now.window hs × (is_in node (payloads hs) ≡ true) }

@@ -167,8 +167,7 @@ value-none h (Texts ps t) e = none-append (is_object_block h) (table_extents t) 
     (has_backing Storage 16 t) (first (nat_le (length ps) t.capacity
     && has_backing Storage 16 t) (list_all is_owned_text ps)
     e))) (all_owned-none h ps (second (nat_le (length ps) t.capacity
-    && has_backing Storage 16 t) (list_all is_owned_text
-    ps) e))
+    && has_backing Storage 16 t) (list_all is_owned_text ps) e))
 
 pub object-told : (format h : ℕ) (o : Object) → IsTrue (is_object format o) → IsTold (is_object_block h) h o
 object-told format h o e =

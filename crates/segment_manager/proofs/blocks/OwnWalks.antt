@@ -150,9 +150,8 @@ none-mapped f (x ∷ xs) zero e = absurd (none-some (f x) (sym e))
 none-mapped f (x ∷ xs) (suc i) e = none-mapped f xs i e
 
 -- all objects came
-pub objects-end : (s : SegmentState) (at : ℕ) {d : Directory} → DenotesCurrent s.cut.bytes d
-    → None ≡ slice_get (own_spans d) at
-    → length d.objects ≤ at
+pub objects-end : (s : SegmentState) (at : ℕ) {d : Directory}
+    → DenotesCurrent s.cut.bytes d → None ≡ slice_get (own_spans d) at → length d.objects ≤ at
 objects-end s at {d} k e = none_more d.objects at (none-mapped (λ (o : Object). o.extent) d.objects at
     (none-mapped as_used (blocks d.objects) at
     (ap (λ ss. slice_get ss at) (sym (all-own_spans k.denotes.directory)) ∙ sym e)))

@@ -1,11 +1,10 @@
 -- What the bytes stand for where the end of the heap moves, and then the size is written.
 use Rattle.segment_manager.proofs.Common.{◌≡◌, refl, sym, ap, subst, ◌∙◌, ℕ, ◌+◌, ◌≤◌, inl, inr, List, length, arith}
 use Rattle.segment_manager.proofs.Common.{AllByRecursion, WindowState, SameBytes, bytes_of, word_at, current}
-use Rattle.segment_manager.proofs.Common.{SameBytes-part, SameBytes-word}
-use Rattle.segment_manager.proofs.Common.{LiveSet, ChangesBytes, EncodesLiveSet, SameBlock, live_of, blocks-trans}
-use Rattle.segment_manager.proofs.Common.{lay_out_one}
-use Rattle.segment_manager.proofs.Common.{Directory, by_kind, by_name, live, named_objects, unique_objects, Denotes}
-use Rattle.segment_manager.proofs.Common.{IsHeader, Resizes, grown, shrunk, IsSegment, DenotesCurrent, SegmentState}
+use Rattle.segment_manager.proofs.Common.{SameBytes-part, SameBytes-word, LiveSet, ChangesBytes, EncodesLiveSet}
+use Rattle.segment_manager.proofs.Common.{SameBlock, live_of, blocks-trans, lay_out_one, Directory, by_kind, by_name}
+use Rattle.segment_manager.proofs.Common.{live, named_objects, unique_objects, Denotes, IsHeader, Resizes, grown}
+use Rattle.segment_manager.proofs.Common.{shrunk, IsSegment, DenotesCurrent, SegmentState}
 use Rattle.segment_manager.proofs.Live.{live-size, of_each}
 use Rattle.segment_manager.proofs.{Calling.denotes-live, Denoted.index-stays, Frame.any_objects-same}
 use Rattle.best_fit.specs.Ends.{EndsAt, MovesEnd, least_size, of_size}
@@ -17,8 +16,7 @@ unfolding live
 live-of_size d n = refl
 
 module _ (old mid new : WindowState) (n : ℕ) (moved : MovesEnd current old mid n)
-    (change : ChangesBytes current mid new 16 8)
-    (word : word_at (bytes_of new.bytes) 16 ≡ n) where
+    (change : ChangesBytes current mid new 16 8) (word : word_at (bytes_of new.bytes) 16 ≡ n) where
   mid_live : live_of mid.bytes ≡ of_size (live_of old.bytes) n
   mid_live = lay_out_one current mid.bytes (of_size (live_of old.bytes) n) moved.live
 
@@ -114,9 +112,8 @@ shrinks {old} mode moved change word = resizes mode moved change (word ∙ moved
     e) (denotes-live current old.cut.bytes d h.denotes))
 
 -- and it is still a segment
-pub resized-segment : {old new : SegmentState} {next : Directory → Directory} → Resizes old new next
-    → IsSegment old.cut.bytes
-    → IsSegment new.cut.bytes
+pub resized-segment : {old new : SegmentState} {next : Directory → Directory}
+    → Resizes old new next → IsSegment old.cut.bytes → IsSegment new.cut.bytes
 resized-segment {next} r s = (next s.0, r.denotes s.0 s.1)
 
 -- ---- what the call of the heap needs

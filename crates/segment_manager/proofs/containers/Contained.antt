@@ -2,16 +2,12 @@
 -- do to it is what becomes of the object.
 use Rattle.segment_manager.proofs.Common as common
 use common.{◌≡◌, refl, Bool, ◌&&◌, Some, None, List, IsContainer, Value, Bytes, Object, padded, sym, ap, ◌∙◌, ◌+◌, ◌*◌}
-use common.{◌≤◌}
-use common.{ℤ, [], ◌∷◌, WindowState, Key, live, subst, ObjectRole, ScalarKind, is_kind_of, IsStorageBlock}
-use common.{RefillsContainer, has_values}
-use common.{ℕ, and_from, extent_at, Directory, is_object, object_at, value_len, IsValueAt, Option, length, IsTrue}
-use common.{nat_le, le-leb, Memory, Extent, handle, BackingArray, serves, append-nil, same_Some, ExchangesBlocks}
-use common.{contents_of}
-use common.{is_good_value, value_extents, arith, Storage, LiveSet, live_of, size_of, spelled, kind_of, Denotes, changed}
-use common.{option_to_list, IsContainerAt, container_place, has_good_name, AllByRecursion, current, bytes_of}
-use common.{has_backing}
-use common.{place_at, Contents, Elements, count_of, IsObjectInBlock}
+use common.{◌≤◌, ℤ, [], ◌∷◌, WindowState, Key, live, subst, ObjectRole, ScalarKind, is_kind_of, IsStorageBlock}
+use common.{RefillsContainer, has_values, ℕ, and_from, extent_at, Directory, is_object, object_at, value_len, IsValueAt}
+use common.{Option, length, IsTrue, nat_le, le-leb, Memory, Extent, handle, BackingArray, serves, append-nil, same_Some}
+use common.{ExchangesBlocks, contents_of, is_good_value, value_extents, arith, Storage, LiveSet, live_of, size_of}
+use common.{spelled, kind_of, Denotes, changed, option_to_list, IsContainerAt, container_place, has_good_name}
+use common.{AllByRecursion, current, bytes_of, has_backing, place_at, Contents, Elements, count_of, IsObjectInBlock}
 use Rattle.segment_manager.proofs.objects.Exchanged.{Exchange, between, denotes-container}
 use Rattle.segment_manager.proofs.containers.MapBlocks.{BlocksInUse, blocks-in_use}
 use Rattle.segment_manager.proofs.objects.Rewritten.{value_start, with_value}
@@ -43,10 +39,9 @@ bytes_in bs t = record { each = 1; len = length bs; table = t; bytes = bs }
 
 -- what is so of vectors of numbers and of texts is so of every value with contents
 pub of-contents : (P : Value → Contents → Type 0)
-    → ((k : ScalarKind) (zs : List ℤ) (t : BackingArray) → P (Elements k zs t)
-    (elements_in k zs t)) → ((bs : List ℕ) (t : BackingArray) → P (Bytes bs t) (bytes_in bs t))
-    → (v : Value) (c : Contents)
-    → contents_of v ≡ Some c → P v c
+    → ((k : ScalarKind) (zs : List ℤ) (t : BackingArray) → P (Elements k zs t) (elements_in k zs t))
+    → ((bs : List ℕ) (t : BackingArray) → P (Bytes bs t) (bytes_in bs t))
+    → (v : Value) (c : Contents) → contents_of v ≡ Some c → P v c
 of-contents P f g (Elements k zs t) c e = subst (P (Elements k zs t)) (same_Some (elements_in k zs t) c e) (f k zs t)
 of-contents P f g (Bytes bs t) c e = subst (P (Bytes bs t)) (same_Some (bytes_in bs t) c e) (g bs t)
 of-contents P f g v c e = absurd (cc)

@@ -1,17 +1,15 @@
 -- The plans of the commands on a vector of numbers or a text.
-use Rattle.segment_manager.proofs.Common.{◌≡◌, ◌∙◌, ◌-◌, ℤ, pos, Ok, Err, [], ◌∷◌, map, U8, Key, live, Plan, with}
-use Rattle.segment_manager.proofs.Common.{refl, Option, Refusal, size_of, Literal, Element, Elements, changed, found_at}
-use Rattle.segment_manager.proofs.Common.{ap, ScalarKind, OutOfRange, with_capacity, storage_of, with_items, with_table}
-use Rattle.segment_manager.proofs.Common.{ℕ, Bool, true, Some, None, List, ◌++◌, take, Done, Value, Bytes, Texts, Reply}
-use Rattle.segment_manager.proofs.Common.{nat_abs, if◌then◌else◌, value_of_literal, capacity_for_one, capacity_for_text}
-use Rattle.segment_manager.proofs.Common.{false, Result, length, insert, remove, nat_lt, BackingArray, Object, Refuse}
-use Rattle.segment_manager.proofs.Common.{effect}
-use Rattle.segment_manager.proofs.Common.{slice_get, slice_set, shrunk_backing, WrongKind, Directory, object_at}
-use Rattle.segment_manager.proofs.Common.{values_of}
-use Rattle.segment_manager.proofs.Steps.{with-found}
-use Rattle.segment_manager.specs.Step.{text_among, text_of}
 use Rattle.seg_types.specs.Commands as asked
 use Rattle.segment_manager.specs.Step as step
+use Rattle.segment_manager.proofs.Common.{◌≡◌, ◌∙◌, ◌-◌, ℤ, pos, Ok, Err, [], ◌∷◌, map, U8, Key, live, Plan, with, refl}
+use Rattle.segment_manager.proofs.Common.{Option, Refusal, size_of, Literal, Element, Elements, changed, found_at, ap}
+use Rattle.segment_manager.proofs.Common.{ScalarKind, OutOfRange, with_capacity, storage_of, with_items, with_table, ℕ}
+use Rattle.segment_manager.proofs.Common.{Bool, true, Some, None, List, ◌++◌, take, Done, Value, Bytes, Texts, Reply}
+use Rattle.segment_manager.proofs.Common.{nat_abs, if◌then◌else◌, value_of_literal, capacity_for_one, capacity_for_text}
+use Rattle.segment_manager.proofs.Common.{false, Result, length, insert, remove, nat_lt, BackingArray, Object, Refuse}
+use Rattle.segment_manager.proofs.Common.{effect, slice_get, slice_set, shrunk_backing, WrongKind, Directory, object_at}
+use Rattle.segment_manager.proofs.{Common.values_of, Steps.with-found}
+use Rattle.segment_manager.specs.Step.{text_among, text_of}
 
 -- an element that is read or left out, which there is where the index is of one
 abbrev pub of_slice : Option ℤ → Result ℤ Refusal
@@ -141,8 +139,7 @@ abbrev pub shrink_with : Directory → Object → Value → ℕ × ℕ × Backin
 shrink_with d o v (each, len, t) = Reply Done (changed d o (with_table v (shrunk_backing (live d) each len t)))
 
 module _ (d : Directory) (key : Key) (o : Object) (e : object_at d key
-    ≡ Some o) (r : Result (ℕ × ℕ × BackingArray) Refusal)
-    (f : storage_of o.value ≡ r) where
+    ≡ Some o) (r : Result (ℕ × ℕ × BackingArray) Refusal) (f : storage_of o.value ≡ r) where
   by-storage : (next : Object → ℕ × ℕ × BackingArray → Plan)
       → with (found_at d key) (λ o. with (storage_of o.value) (next o)) ≡ with r (next o)
   by-storage next = with-found d key o (λ o. with (storage_of o.value) (next o)) e ∙ ap (λ r. with r (next o)) f

@@ -2,29 +2,24 @@
 use Rattle.segment_manager.proofs.Common as common
 use common.{◌≡◌, refl, sym, ap, subst, ◌∙◌, ℕ, ℤ, zero, suc, Bool, true, ◌∷◌, ◌+◌, ◌*◌, ◌%◌, ◌≤◌, Option, Some, None}
 use common.{Result, Ok, Err, List, [], length, arith, IsTrue, WindowState, Memory, HasBytesAt, bytes_of, read, current}
-use common.{word_at}
-use common.{link_at, has_room, live_of, IsHeap, handle, Extent, BackingArray, room_block, Key, Kind, ScalarKind, U8}
-use common.{size_of, spelled, Scalar, String, Vector, Refusal, NotFound, Object, Directory, Value, Numbers, Elements}
-use common.{Bytes, Pairs, Texts, object_at, kind_of, padded, head_len, IsValueAt, IsObjectInBlock}
+use common.{word_at, link_at, has_room, live_of, IsHeap, handle, Extent, BackingArray, room_block, Key, Kind}
+use common.{ScalarKind, U8, size_of, spelled, Scalar, String, Vector, Refusal, NotFound, Object, Directory, Value}
+use common.{Numbers, Elements, Bytes, Pairs, Texts, object_at, kind_of, padded, head_len, IsValueAt, IsObjectInBlock}
 use common.{AnswersWith, handle_at, SegmentState, DenotesCurrent, IsSegment, Contents, slice_get, list_all, is_value}
 use common.{is_good_value, spelling, contents_of, Denotes, count_of, eqb-true, has_backing, Storage, IfSome, value_len}
 use common.{WrongKind, option_map}
 use Rattle.segment_manager.proofs.objects.Here.{here, seen-handle, standing}
-use Rattle.segment_manager.specs.objects.Located.{located, located_at}
+use Rattle.segment_manager.specs.{objects.Located.located, objects.Located.located_at, objects.ElementLists.numbers_in}
 use Rattle.segment_manager.proofs.objects.Standings.{standing-room, standing-short}
-use Rattle.segment_manager.proofs.containers.Contained.{contents-stand}
-use Rattle.segment_manager.proofs.Calling.{denotes-heap}
-use Rattle.segment_manager.proofs.{Frame.object-roomy, blocks.Blocks.spelling-length, objects.Rows.HasBytesAt-element}
+use Rattle.segment_manager.proofs.{containers.Contained.contents-stand, Calling.denotes-heap, Frame.object-roomy}
+use Rattle.segment_manager.proofs.{blocks.Blocks.spelling-length, objects.Rows.HasBytesAt-element}
 use Rattle.raw_region.proofs.Facts.{first, second}
-use Rattle.segment_manager.specs.objects.ElementLists.{numbers_in}
 use Rattle.best_fit.proofs.Laws.{block_aligned}
 use Rattle.best_fit.specs.Table.{table_link}
 use Rattle.seg_vector.proofs.Storage.{stands-room}
-use Rattle.std.specs.Option.{unwrap_or}
-use Rattle.std.specs.Prelude.{IfOk, option_map}
+use Rattle.std.specs.{Option.unwrap_or, Prelude.IfOk, Prelude.option_map}
 use Rattle.segment_manager.specs.declared.containers.element_runs.ElementRun.{ElementRun}
-use Rattle.segment_manager.specs.containers.ElementRuns.{IsRunOf, run_at, run_in, run_of, spelled_at, spelled_in}
-use Rattle.segment_manager.specs.containers.ElementRuns.{storage_offset}
+use Rattle.segment_manager.specs.containers.ElementRuns.{IsRunOf, run_at, run_in, run_of, spelled_in, storage_offset}
 
 -- ---- what is read
 
@@ -274,9 +269,8 @@ pub data IsRowOfKind (k : ScalarKind) (v : Value) : Type 0 where
   AnArray : kind_of v ≡ Scalar k → IsRowOfKind k v
   AVector : kind_of v ≡ Vector k → IsRowOfKind k v
 
-row-if : (m : Memory) (at : ℕ) (k : ScalarKind) (v : Value) (i : ℕ) {z : ℤ} → IsRowOfKind k v
-    → IsTrue (is_good_value v) → HasBytesAt m at (spelled_in v) → slice_get (numbers_in v) i ≡ Some z
-    → IsElementAt m (at + size_of k * i) k z
+row-if : (m : Memory) (at : ℕ) (k : ScalarKind) (v : Value) (i : ℕ) {z : ℤ} → IsRowOfKind k v → IsTrue (is_good_value v)
+    → HasBytesAt m at (spelled_in v) → slice_get (numbers_in v) i ≡ Some z → IsElementAt m (at + size_of k * i) k z
 row-if m at k (Numbers j zs) i {z} (AnArray e) good h f =
     let same : j ≡ k = cc in
     subst (λ k. IsElementAt m (at + size_of k * i) k z) same (element-in m at j zs i (second _ _ good) h f)
@@ -298,9 +292,8 @@ row-element s key run k r d l o is row i e = row-if (bytes_of s.cut.bytes) run.o
 
 -- and the run says their kind
 pub run-kind : (s : SegmentState) (key : Key) (run : ElementRun) (k : ScalarKind)
-    → AnswersWith s (λ d. run_at d key) (Ok run)
-    → (d : Directory) → DenotesCurrent s.cut.bytes d → (o : Object) → object_at d key ≡ Some o → IsRowOfKind k o.value
-    → (run.kind ≡ k) × (run.count ≡ length (numbers_in o.value))
+    → AnswersWith s (λ d. run_at d key) (Ok run) → (d : Directory) → DenotesCurrent s.cut.bytes d → (o : Object)
+    → object_at d key ≡ Some o → IsRowOfKind k o.value → (run.kind ≡ k) × (run.count ≡ length (numbers_in o.value))
 run-kind s key run k a d l o is row = kind-if o.value row (a.answers d l ∙ ap run_if is)
   where
     kind-if : (v : Value) → IsRowOfKind k v → Ok run ≡ run_in (handle o.extent + head_len + padded (length o.name)) v

@@ -2,17 +2,13 @@
 -- place comes to the directory.
 use Rattle.segment_manager.proofs.Common as common
 use common.{◌&&◌, same_Some, same_kind, ScalarKind, OutOfRange, RefusesIndex, RefillsContainer, has_values, Directory}
-use common.{object_at}
-use common.{◌<◌, IsTrue, Result, length, Vector, Refusal, NoSpace, Refused, Denotes, kind_of, perform, AnswersWith}
-use common.{changed}
-use common.{Bool, List, None, false, subst, BackingArray, IsContainer, Place, Answer, Object, Value, Refuse, Reply}
-use common.{SegmentState, effect}
-use common.{Err, Ok, Some, ap, sym, true, ℤ, ◌∙◌, ◌≡◌, ◌≤◌, WindowState, Key, Kind, Done, live, met, plan}
-use common.{ℕ, MatchResult, ExchangesBlocks, is_changing, grown_backing, contents_of, TakesStepOfKind, is_read_only}
-use common.{StepsSafely}
-use common.{eqb-true, current, live_of, Command, code_of, place_at, Contents, Elements, IsObjectInBlock, IsSegment}
-use common.{DenotesCurrent}
-use common.{option_to_list, kind_of_code, LacksSpace, container_at, container_place, is_good_value, with_capacity}
+use common.{object_at, ◌<◌, IsTrue, Result, length, Vector, Refusal, NoSpace, Refused, Denotes, kind_of, perform}
+use common.{AnswersWith, changed, Bool, List, None, false, subst, BackingArray, IsContainer, Place, Answer, Object}
+use common.{Value, Refuse, Reply, SegmentState, effect, Err, Ok, Some, ap, sym, true, ℤ, ◌∙◌, ◌≡◌, ◌≤◌, WindowState}
+use common.{Key, Kind, Done, live, met, plan, ℕ, MatchResult, ExchangesBlocks, is_changing, grown_backing, contents_of}
+use common.{TakesStepOfKind, is_read_only, StepsSafely, eqb-true, current, live_of, Command, code_of, place_at}
+use common.{Contents, Elements, IsObjectInBlock, IsSegment, DenotesCurrent, option_to_list, kind_of_code, LacksSpace}
+use common.{container_at, container_place, is_good_value, with_capacity}
 use Rattle.segment_manager.proofs.containers.Refilled.{HoldsAt, Refill, holds-at, room-asked, refill-steps_of_kind}
 use Rattle.segment_manager.proofs.Steps.{by_no_change_of_kind, open-writing, step_of_kind-found}
 use Rattle.segment_manager.proofs.containers.Contained.{contents-changed, contents-fit, contents-stand}
@@ -140,9 +136,8 @@ module _ {A : Type 0} {L : Listing A} (old new : WindowState) {d : Directory} {k
   }
 
   -- in the places that there were, or fewer
-  pub items-now : (xs : List A) (u : BackingArray) (c : Command) (answer : Answer)
-      → effect d c ≡ Reply answer (with_elements
-      xs u) → ListedNow L old new p h.table xs u → Refill old new d key c answer
+  pub items-now : (xs : List A) (u : BackingArray) (c : Command) (answer : Answer) → effect d c
+      ≡ Reply answer (with_elements xs u) → ListedNow L old new p h.table xs u → Refill old new d key c answer
   items-now xs u c answer e now = items-refill xs u c answer (ap (perform d (live d)) e) now
 
   -- in n places, or more

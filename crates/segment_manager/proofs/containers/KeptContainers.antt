@@ -1,17 +1,14 @@
 -- What calls on vectors, strings and maps leave to the last byte.
 use Rattle.segment_manager.proofs.Common.{◌≡◌, sym, ap, subst, ◌∙◌, ℕ, ◌≤◌, ℤ, Bool, Option, Some, None, Result, Ok}
 use Rattle.segment_manager.proofs.Common.{Err, List, [], MatchOption, int_lt, none-some, WindowState, ScalarKind}
-use Rattle.segment_manager.proofs.Common.{StringsKind}
-use Rattle.segment_manager.proofs.Common.{Plain, Refusal, NotFound, Key, Map, ErasesKey, pair_at, NumberPair, Place}
-use Rattle.segment_manager.proofs.Common.{container_at, sizes_of, Object, Directory, object_at, HasPlaces}
-use Rattle.segment_manager.proofs.Common.{UnchangedWhere}
-use Rattle.segment_manager.proofs.Common.{AnswersWith, SegmentState, DenotesCurrent, pairs_of, Change, HasEnough}
-use Rattle.segment_manager.proofs.Common.{Reserve}
+use Rattle.segment_manager.proofs.Common.{StringsKind, Plain, Refusal, NotFound, Key, Map, ErasesKey, pair_at}
+use Rattle.segment_manager.proofs.Common.{NumberPair, Place, container_at, sizes_of, Object, Directory, object_at}
+use Rattle.segment_manager.proofs.Common.{HasPlaces, UnchangedWhere, AnswersWith, SegmentState, DenotesCurrent}
+use Rattle.segment_manager.proofs.Common.{pairs_of, Change, HasEnough, Reserve, PutsPair}
 use Rattle.segment_manager.proofs.containers.TextsHeld.{HoldsTexts, holds-texts}
 use Rattle.segment_manager.proofs.containers.PairNumbers.{IsScalarOf, erases-numbers, puts-numbers}
 use Rattle.segment_manager.proofs.containers.MapCalls.{HoldsPairs, holds-pairs}
 use Rattle.segment_manager.proofs.containers.ToChange.{seen-found}
-use Rattle.segment_manager.proofs.{Common.PutsPair}
 use Rattle.segment_manager.specs.{containers.Stored.ChangesTexts, Keeping.ChangesValue, Keeping.LacksPair}
 
 -- the window is as it was, and so is the segment

@@ -2,19 +2,17 @@
 -- map.
 use Rattle.segment_manager.proofs.Common.{◌≡◌, sym, subst, ◌∙◌, ℤ, Bool, true, false, Option, Result, Ok, option_map}
 use Rattle.segment_manager.proofs.Common.{WindowState, Map, ScalarKind, Plain, Refusal, is_value, Key, Lookup, Put}
-use Rattle.segment_manager.proofs.Common.{Remove}
-use Rattle.segment_manager.proofs.Common.{literal_of, ErasesKey, PutsPair, FindsItem, FindsItemBefore, FindsLastItem}
-use Rattle.segment_manager.proofs.Common.{FindsValue, IsSomeMap, container_at, numbers_in, pair_at_end, told_of_map}
-use Rattle.segment_manager.proofs.Common.{value_or_absent, AnswersWith, AnswersQueryOfKind, IsSegment, SegmentState}
-use Rattle.segment_manager.proofs.Common.{is_read_only, List}
+use Rattle.segment_manager.proofs.Common.{Remove, literal_of, ErasesKey, PutsPair, FindsItem, FindsItemBefore}
+use Rattle.segment_manager.proofs.Common.{FindsLastItem, FindsValue, IsSomeMap, container_at, numbers_in, pair_at_end}
+use Rattle.segment_manager.proofs.Common.{told_of_map, value_or_absent, AnswersWith, AnswersQueryOfKind, IsSegment}
+use Rattle.segment_manager.proofs.Common.{SegmentState, is_read_only, List, NumberPair, int_lt, item_of, truth_answer}
 use Rattle.segment_manager.proofs.containers.MapCalls.{TellsSafely, map-erased, map-got, map-put, map-told, put_result}
+use Rattle.segment_manager.proofs.{containers.MapCalls.stands-map, containers.ToChange.seen-found}
 use Rattle.segment_manager.proofs.containers.PairNumbers.{IsScalarOf, erases-numbers, finds-back, finds-item}
 use Rattle.segment_manager.proofs.containers.PairNumbers.{finds-last, finds-value, puts-numbers, some-map}
-use Rattle.segment_manager.proofs.{Common.NumberPair, Common.int_lt, Common.item_of, containers.Safely.answered}
-use Rattle.segment_manager.proofs.{Common.truth_answer, containers.MapCalls.stands-map, containers.Safely.Answered}
-use Rattle.segment_manager.proofs.containers.ToChange.{seen-found}
+use Rattle.segment_manager.proofs.containers.Safely.{answered, Answered}
 use Rattle.best_fit.specs.declared.places.Place.{Place}
-use Rattle.seg_map.specs.{Places.last_pair}
+use Rattle.seg_map.specs.Places.{last_pair}
 use Rattle.segment_manager.specs.{containers.Maps.IsPairs, containers.Walks.pair_past}
 
 -- a key that is a value is a number of its kind

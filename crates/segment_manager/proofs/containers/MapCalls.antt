@@ -1,36 +1,30 @@
 -- The calls on maps of numbers, each as one step: what the calls of seg_map ensure of the map at its place comes to the
 -- directory.
 use Rattle.segment_manager.proofs.Common as common
+use Rattle.seg_types.specs.Commands as asked
+use Rattle.segment_manager.specs.Step as step
+use Rattle.segment_manager.proofs.containers.PairCommands as plan
 use common.{◌≡◌, is_value, ErasesPair, node_len, put_pair, Directory, object_at, HasPairs, IsSegment, DenotesCurrent}
-use common.{cons_values}
-use common.{refl, Option, Result, int_lt, eq-eqb, ErasesKey, told_of, Request, perform, AnswersWith, changed, live_of}
-use common.{LiveSet}
-use common.{sym, ◌∙◌, ℕ, ℤ, Bool, true, Some, None, Ok, Err, List, [], WindowState, Node, Kind, Map, Key, PutsPair, New}
-use common.{Plan, with}
-use common.{ap, subst, false, PutsNoSpace, PutsNewPair, Truth, Pairs, Object, container_place, Reply, SegmentState}
-use common.{effect, map_of}
-use common.{Answer, Extent}
-use common.{option_map, value_of_literal, nodes_of_pairs, value_of_pair, AnswersSafely, value_or_absent}
-use common.{current, Refusal, NoSpace, code_of, size_of, Command, Literal, pair_at, Element, Refused, Denotes, kind_of}
-use common.{SameSurroundings, remove_pair, container_at, AnswersQueryOfKind, TakesStepOfKind, is_read_only}
-use common.{step_of_kind, truth_answer}
-use common.{ScalarKind, same_kind, literal_of, transitive, OverwritesPair, NumberPair, FindsValue, numbers_of}
-use common.{told_of_map}
-use Rattle.segment_manager.proofs.containers.MapSteps.{IsMapObject, again-denotes, erased-denotes, map-only}
-use Rattle.segment_manager.proofs.containers.MapSteps.{object-map, put-denotes}
+use common.{cons_values, refl, Option, Result, int_lt, eq-eqb, ErasesKey, told_of, Request, perform, AnswersWith}
+use common.{changed, live_of, LiveSet, sym, ◌∙◌, ℕ, ℤ, Bool, true, Some, None, Ok, Err, List, [], WindowState, Node}
+use common.{Kind, Map, Key, PutsPair, New, Plan, with, ap, subst, false, PutsNoSpace, PutsNewPair, Truth, Pairs, Object}
+use common.{container_place, Reply, SegmentState, effect, map_of, Answer, Extent, option_map, value_of_literal}
+use common.{nodes_of_pairs, value_of_pair, AnswersSafely, value_or_absent, current, Refusal, NoSpace, code_of, size_of}
+use common.{Command, Literal, pair_at, Element, Refused, Denotes, kind_of, SameSurroundings, remove_pair, container_at}
+use common.{AnswersQueryOfKind, TakesStepOfKind, is_read_only, step_of_kind, truth_answer, ScalarKind, same_kind}
+use common.{literal_of, transitive, OverwritesPair, NumberPair, FindsValue, numbers_of, told_of_map}
+use Rattle.segment_manager.proofs.containers.MapSteps.{IsMapObject, again-denotes, erased-denotes, map-only, object-map}
+use Rattle.segment_manager.proofs.{containers.MapSteps.put-denotes, Calling.denotes-live, objects.ObjectLists.key-found}
+use Rattle.segment_manager.proofs.{objects.Here.standing, objects.Stored.literal-read}
 use Rattle.segment_manager.proofs.Steps.{IsMove, IsOpenFor, by_no_change_of_kind, by_step_of_kind, open-reading}
 use Rattle.segment_manager.proofs.Steps.{open-writing, perform-new, perform-no_space, step_of_kind-found}
 use Rattle.segment_manager.proofs.containers.Refilled.{HoldsAt, finds-no_container, holds-at, told-some}
 use Rattle.segment_manager.proofs.containers.PairNumbers.{ErasesBy, PutsBy}
 use Rattle.segment_manager.proofs.containers.MapBlocks.{blocks-in_use, found-key}
-use Rattle.segment_manager.proofs.{Calling.denotes-live, objects.ObjectLists.key-found, objects.Here.standing}
-use Rattle.segment_manager.proofs.{objects.Stored.literal-read, containers.StorageSteps.step_of_kind-reply}
+use Rattle.segment_manager.proofs.containers.StorageSteps.{step_of_kind-reply}
 use Rattle.best_fit.specs.declared.places.Place.{Place}
 use Rattle.seg_map.proofs.Laws.{replaced_nodes}
 use Rattle.segment_manager.specs.{Answers.Absent, containers.Maps.IsPairs}
-use Rattle.seg_types.specs.Commands as asked
-use Rattle.segment_manager.specs.Step as step
-use Rattle.segment_manager.proofs.containers.PairCommands as plan
 
 -- ---- the search
 
@@ -284,8 +278,7 @@ module _ (s : SegmentState) (key : Key) (k v : ScalarKind) (p : Place) (b : IsSe
         (each h.pairs h.map) in
         record {
           step = subst (λ (e : WindowState).
-              TakesStepOfKind s (record s { cut = e }) key (Map k v) (Put x y) (Refused NoSpace))
-              (sym (at b.0 b.1).0)
+              TakesStepOfKind s (record s { cut = e }) key (Map k v) (Put x y) (Refused NoSpace)) (sym (at b.0 b.1).0)
               (by_no_change_of_kind s key (Map k v) (Put x y) (Refused NoSpace) (λ d l. (at d l).1));
           refused = (at b.0 b.1).0;
         }

@@ -4,12 +4,10 @@ use Rattle.segment_manager.proofs.Common as common
 use common.{◌≡◌, refl, sym, ◌∙◌, true, ◌&&◌, Some, None, List, SameBytes, Value, Pairs, live, ap, and_from, bytes_of}
 use common.{Directory, is_object, value_len, IsValueAt, exchanged, subst, ℕ, arith, int_lt, Memory, Extent, handle}
 use common.{KeepsBlocks, PutsNewPair, Object, padded, ◌+◌, ◌≤◌, ◌≢◌, inl, ℤ, [], ◌∷◌, map, WindowState, Map, length}
-use common.{IsTrue, LiveSet}
-use common.{EncodesLiveSet, live_of, pair_at, kind_of, Denotes, changed, AllByRecursion, is_number_pair, nodes_of_pairs}
-use common.{is_good_value, value_extents, list_all, extent_at, same_kind, is_rising, NumberPair, numbers_of, SameSpread}
-use common.{current, ErasesPair, put_pair, HoldsMap, IsPairIn, count_of, head_len, IsObjectInBlock, SameBlockExcept}
-use common.{lay_out_one}
-use common.{ScalarKind, KeepsOutsideMap, OverwritesPair, remove_pair}
+use common.{IsTrue, LiveSet, EncodesLiveSet, live_of, pair_at, kind_of, Denotes, changed, AllByRecursion}
+use common.{is_number_pair, nodes_of_pairs, is_good_value, value_extents, list_all, extent_at, same_kind, is_rising}
+use common.{NumberPair, numbers_of, SameSpread, current, ErasesPair, put_pair, HoldsMap, IsPairIn, count_of, head_len}
+use common.{IsObjectInBlock, SameBlockExcept, lay_out_one, ScalarKind, KeepsOutsideMap, OverwritesPair, remove_pair}
 use Rattle.segment_manager.proofs.containers.MapBlocks.{BlocksInUse, PartedNodes, no-node, nodes, one-by_handle}
 use Rattle.segment_manager.proofs.containers.MapBlocks.{put-parted, removed-parted}
 use Rattle.segment_manager.proofs.containers.Contained.{start-place, good-with}
@@ -17,8 +15,8 @@ use Rattle.segment_manager.proofs.objects.Rewritten.{object-held, value_start, w
 use Rattle.segment_manager.proofs.objects.Exchanged.{all-but-beside, Exchange, between, live-exchanged, others-beside}
 use Rattle.segment_manager.proofs.Calling.{denotes-heap, denotes-live, object-at}
 use Rattle.segment_manager.proofs.{objects.Standings.standing-room, containers.ItemSteps.one-kind, objects.Regrown.rest}
-use Rattle.segment_manager.proofs.{Denoted.denotes-replaced, Order.Differs, objects.Regrown.InPlace, Frame.object-roomy}
-use Rattle.segment_manager.proofs.{Order.Apart, Order.IsFoundIn, Frame.IsRoomy, Faces.IsLike, Live.IsIn}
+use Rattle.segment_manager.proofs.{objects.Regrown.InPlace, Denoted.denotes-replaced, Order.Differs, Order.Apart}
+use Rattle.segment_manager.proofs.{Order.IsFoundIn, Frame.object-roomy, Frame.IsRoomy, Faces.IsLike, Live.IsIn}
 use Rattle.raw_region.proofs.Facts.{first, second}
 use Rattle.best_fit.proofs.Laws.{spread-refl}
 
@@ -97,8 +95,7 @@ module _ {b : List ℕ} {d : Directory} {o : Object} {k v : ScalarKind} {ps : Li
 -- ---- what becomes of it
 
 module _ (old new : WindowState) {d : Directory} {o : Object} {k v : ScalarKind} {ps : List NumberPair}
-    (qs : List NumberPair)
-    (den : Denotes current old.bytes d) (x : IsMapObject old.bytes d o k v ps) where
+    (qs : List NumberPair) (den : Denotes current old.bytes d) (x : IsMapObject old.bytes d o k v ps) where
   abbrev next : Value
   next = Pairs k v qs
 

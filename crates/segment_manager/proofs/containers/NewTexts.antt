@@ -1,16 +1,14 @@
 -- A vector of texts as the value of a new object: it is made without a text, and then with its texts, each in a block
 -- of its own.
+use Rattle.seg_types.specs.Commands as asked
 use Rattle.segment_manager.proofs.Common.{◌≡◌, refl, sym, subst, ℕ, Some, Ok, Err, Result, List, [], ◌∷◌, ◌++◌, length}
 use Rattle.segment_manager.proofs.Common.{IsTrue, option_to_list, list_all, current, WindowState, LiveSet, ChangesBytes}
-use Rattle.segment_manager.proofs.Common.{live_of}
-use Rattle.segment_manager.proofs.Common.{BackingArray, no_backing, Refusal, Place, place_at, AssignsTextsOk}
-use Rattle.segment_manager.proofs.Common.{AssignsTexts}
-use Rattle.segment_manager.proofs.Common.{UndoesRequests, ReplacesTexts, all_texts, new_array, placed_texts}
-use Rattle.segment_manager.proofs.Common.{text_blocks}
-use Rattle.segment_manager.proofs.Common.{OwnedText, are_bytes, Texts, MakesValueOk, MakesValue}
-use Rattle.seg_types.specs.Commands as asked
+use Rattle.segment_manager.proofs.Common.{live_of, BackingArray, no_backing, Refusal, Place, place_at, AssignsTextsOk}
+use Rattle.segment_manager.proofs.Common.{AssignsTexts, UndoesRequests, ReplacesTexts, all_texts, new_array}
+use Rattle.segment_manager.proofs.Common.{placed_texts, text_blocks, OwnedText, are_bytes, Texts, MakesValueOk}
+use Rattle.segment_manager.proofs.{Common.MakesValue, containers.TextsHeld.good-texts}
 use Rattle.seg_vector.specs.TextsCalls.{InitsTexts}
-use Rattle.segment_manager.proofs.{containers.PlacedTexts.texts-bytes, containers.TextsHeld.good-texts}
+use Rattle.segment_manager.proofs.containers.PlacedTexts.{texts-bytes}
 use Rattle.segment_manager.proofs.containers.TextPlans.{all-met, all-unmet, beside_array, beside_texts}
 
 module _ (old mid new : WindowState) (p : Place) (change : ChangesBytes current old mid (place_at p) 24) where

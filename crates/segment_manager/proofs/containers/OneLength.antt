@@ -1,33 +1,29 @@
 -- The words of containers, and what the calls of seg_vector leave of storage whose elements have one length: as the
 -- steps of the calls on the object, a vector of numbers or a text.
 use Rattle.segment_manager.proofs.Common as common
+use Rattle.seg_types.specs.Commands as asked
 use common.{◌≡◌, shrunk_backing, IsValueAt, Directory, value_len, IsSegment, DenotesCurrent, HasEnough, has_sizes}
-use common.{UnchangedWhere, ap}
-use common.{ℕ, ◌+◌, ◌*◌, ◌∙◌, ◌≤◌, Err, Ok, [], sym, take, true, WindowState, Kind, Key, Done, live, Plan, arith, Some}
-use common.{false}
-use common.{refl, subst, BackingArray, Place, Clear, Value, Bytes, Pairs, Texts, Reply, SegmentState, Option, IsTrue}
-use common.{ScalarKind}
-use common.{RefillsContainer, has_values, storage_of, with_items, with_table, command_of, grown_backing, List, LiveSet}
-use common.{MapKind}
-use common.{Refusal, NoSpace, Command, Reserve, Refused, Denotes, Numbers, kind_of, emptied, None, length, Memory}
-use common.{handle, IsContainer, Change, Shrink, Object, padded, perform, AnswersWith, changed, effect, Result, current}
-use common.{word_at}
-use common.{has_room, live_of, no_backing, place_at, Contents, sizes_of, Elements, IsObjectInBlock, bytes_of}
-use common.{StringsKind}
-use common.{container_at, contents_of, sizes_at_kind, is_read_only, StepsSafely, has_storage}
+use common.{UnchangedWhere, ap, ℕ, ◌+◌, ◌*◌, ◌∙◌, ◌≤◌, Err, Ok, [], sym, take, true, WindowState, Kind, Key, Done, live}
+use common.{Plan, arith, Some, false, refl, subst, BackingArray, Place, Clear, Value, Bytes, Pairs, Texts, Reply}
+use common.{SegmentState, Option, IsTrue, ScalarKind, RefillsContainer, has_values, storage_of, with_items, with_table}
+use common.{command_of, grown_backing, List, LiveSet, MapKind, Refusal, NoSpace, Command, Reserve, Refused, Denotes}
+use common.{Numbers, kind_of, emptied, None, length, Memory, handle, IsContainer, Change, Shrink, Object, padded}
+use common.{perform, AnswersWith, changed, effect, Result, current, word_at, has_room, live_of, no_backing, place_at}
+use common.{Contents, sizes_of, Elements, IsObjectInBlock, bytes_of, StringsKind, container_at, contents_of}
+use common.{sizes_at_kind, is_read_only, StepsSafely, has_storage}
 use Rattle.segment_manager.proofs.containers.Contained.{contents-fit, contents-stand, of-contents, start-place}
 use Rattle.segment_manager.proofs.containers.Refilled.{HoldsAt, holds-at, refill-steps_of_kind, room-asked, then_room}
 use Rattle.segment_manager.proofs.containers.ContentPlans.{clear-plan, reserve-plan, shrink-plan}
 use Rattle.segment_manager.proofs.containers.KeptContainers.{enough-places, keeps-cut}
 use Rattle.segment_manager.proofs.Steps.{by_no_change_of_kind, step_of_kind-found, open-writing}
-use Rattle.segment_manager.proofs.{objects.Standings.standing-room, Frame.object-roomy, containers.ToChange.seen-found}
-use Rattle.segment_manager.proofs.{objects.Standings.standing-short, containers.AnyStorage.sizes-found}
-use Rattle.segment_manager.proofs.{objects.Rewritten.value_start, objects.Here.standing, containers.ItemSteps.one-kind}
-use Rattle.segment_manager.proofs.{containers.Safely.done-so, containers.Safely.stays, Calling.denotes-live}
+use Rattle.segment_manager.proofs.objects.Standings.{standing-room, standing-short}
+use Rattle.segment_manager.proofs.{Frame.object-roomy, containers.ToChange.seen-found, objects.Rewritten.value_start}
+use Rattle.segment_manager.proofs.{objects.Here.standing, containers.ItemSteps.one-kind, containers.Safely.done-so}
+use Rattle.segment_manager.proofs.{containers.Safely.stays, Calling.denotes-live}
+use Rattle.segment_manager.proofs.containers.AnyStorage.{sizes-found}
 use Rattle.best_fit.proofs.Laws.{room-less}
 use Rattle.seg_vector.specs.{Elements.ShrinksStorageOk, Elements.RewritesElements, Containers.ReservesStorageOk}
 use Rattle.segment_manager.specs.containers.Stored.{ChangesElements, IsElements, each_of}
-use Rattle.seg_types.specs.Commands as asked
 
 -- ---- the words of a container
 
@@ -133,9 +129,8 @@ storage-said = of-contents (λ v c. (storage_of v ≡ Ok (c.each, c.len, c.table
 abbrev contents_at : Kind → ℕ → BackingArray → List ℕ → Contents
 contents_at kind len t bytes = record { each = each_of kind; len = len; table = t; bytes = bytes }
 
-elements-in : (v : Value) → has_storage (kind_of v) ≡ true → (kind_of v ≡ StringsKind → ⊥)
-    → (len : ℕ) × ((t : BackingArray)
-    × ((bytes : List ℕ) × (contents_of v ≡ Some (contents_at (kind_of v) len t bytes))))
+elements-in : (v : Value) → has_storage (kind_of v) ≡ true → (kind_of v ≡ StringsKind → ⊥) → (len : ℕ)
+    × ((t : BackingArray) × ((bytes : List ℕ) × (contents_of v ≡ Some (contents_at (kind_of v) len t bytes))))
 elements-in (Elements k zs t) h n = (_, (_, (_, refl)))
 elements-in (Bytes bs t) h n = (_, (_, (_, refl)))
 elements-in (Texts ps t) h n = absurd (n refl)

@@ -1,15 +1,14 @@
 -- Commands on the pairs of a map by literals: which call is the step of the command, by the kind of the object.
 use Rattle.segment_manager.proofs.Common as common
-use common.{◌≡◌, refl, sym, ◌∙◌, true, Some, None, Ok, Err, List, ◌∷◌, [], Map, Key, live, Plan, with, SegmentState}
-use common.{ap, ScalarKind, WrongKind, literal_of, remove_pair, NumberPair, IsChangeableObject, IsValueOf, Directory}
-use common.{object_at}
-use common.{subst, false, int_lt, eq-eqb, Answer, Truth, Value, Pairs, Object, Refuse, Reply, TakesStep, effect, map_of}
-use common.{ℤ, Option, Result, Located, Element, Refused, kind_at, kind_of, perform, AnswersWith, AnswersQuery, changed}
-use common.{pair_values}
-use common.{Refusal, code_of, is_value, ByHandle, Literal, pair_at, IsMissing, IsLocated, DenotesCurrent, cons_values}
-use common.{found_at}
-use common.{ScalarValue, value_of_literal, kind_of_scalar, value_of_scalar, IsUnchangeable, AnswersQueryOfKind}
-use common.{TakesStepOfKind}
+use Rattle.seg_types.specs.Commands as asked
+use Rattle.segment_manager.specs.Step as step
+use common.{◌≡◌, refl, sym, ◌∙◌, true, Some, None, Ok, Err, List, ◌∷◌, [], Map, Key, live, Plan, with, SegmentState, ap}
+use common.{ScalarKind, WrongKind, literal_of, remove_pair, NumberPair, IsChangeableObject, IsValueOf, Directory}
+use common.{object_at, subst, false, int_lt, eq-eqb, Answer, Truth, Value, Pairs, Object, Refuse, Reply, TakesStep}
+use common.{effect, map_of, ℤ, Option, Result, Located, Element, Refused, kind_at, kind_of, perform, AnswersWith}
+use common.{AnswersQuery, changed, pair_values, Refusal, code_of, is_value, ByHandle, Literal, pair_at, IsMissing}
+use common.{IsLocated, DenotesCurrent, cons_values, found_at, ScalarValue, value_of_literal, kind_of_scalar}
+use common.{value_of_scalar, IsUnchangeable, AnswersQueryOfKind, TakesStepOfKind}
 use Rattle.segment_manager.proofs.containers.AnyStorage.{IsOfKindAt, kind-told, of_kind-same, of_kind-steps}
 use Rattle.segment_manager.proofs.containers.Changeable.{answered-reads, refuses, refuses-read, says-kind}
 use Rattle.segment_manager.proofs.objects.Locating.{kind-by_key, reply_of_kind-by_key, step_of_kind-by_key}
@@ -17,8 +16,6 @@ use Rattle.segment_manager.proofs.{Steps.with-found, Steps.with-not_found, objec
 use Rattle.segment_manager.proofs.{ElementLaws.same_plan-steps, containers.MapSteps.map-only}
 use Rattle.segment_manager.specs.Answers.{Absent}
 use Rattle.seg_types.specs.Literals.{ConvertsPair}
-use Rattle.seg_types.specs.Commands as asked
-use Rattle.segment_manager.specs.Step as step
 
 -- ---- the plans
 
@@ -184,9 +181,8 @@ module _ {s : SegmentState} {key : Key} {o : Located} (h : IsChangeableObject s 
 
   -- a key of its kind
   pub removes-key : {new : SegmentState} (at : Literal) (x : ScalarValue) {answer : Answer}
-      → IsValueOf k (value_of_literal k
-      at) (Ok x) → TakesStepOfKind s new (ByHandle o.handle) (Map (kind_of_scalar x) v)
-      (asked.Remove (ByHandle o.handle)
+      → IsValueOf k (value_of_literal k at) (Ok x)
+      → TakesStepOfKind s new (ByHandle o.handle) (Map (kind_of_scalar x) v) (asked.Remove (ByHandle o.handle)
       (literal_of (kind_of_scalar x) (value_of_scalar x))) answer → TakesStep s new (asked.Remove key at) answer
   removes-key {new} at x {answer} (same, read, good) r = remove-read s key k v (says-kind h.located is) new at
       (value_of_scalar x) answer read good (step_of_kind-by_key s key o h.located new (Map k v) (asked.Remove key

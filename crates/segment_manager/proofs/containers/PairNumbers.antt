@@ -2,17 +2,13 @@
 -- ensure of them.
 use Rattle.segment_manager.proofs.Common as common
 use common.{◌≡◌, sym, ap, ◌∙◌, ◌+◌, not, Some, None, Ok, Err, List, [], ◌∷◌, map, find, WindowState, HasBytesAt, Node}
-use common.{PutsPair}
-use common.{refl, Bool, true, false, ◌&&◌, ◌||◌, Memory, handle, place, serves, Plain, ErasesKey, PutsNoSpace}
-use common.{PutsNewPair, is_key}
-use common.{subst, bytes_of, IsTreeOf, is_value, spelling, ErasesPair, ReleasesMap, node_len, put_pair, FindsItem}
-use common.{IsSomeMap}
-use common.{ℕ, MatchResult, option_map, length-map, ExchangesBlocks, KeepsOutsideMap, remove_pair, FindsLastItem}
-use common.{value_of_pair}
-use common.{ℤ, ScalarKind, ChangesBytes, OverwritesPair, is_rising, NumberPair, FindsValue, first_pair, numbers_in}
-use common.{numbers_of}
-use common.{Option, Result, IsTrue, int_lt, current, LiveSet, live_of, size_of, pair_at, HoldsMap, IsPairIn, item_of}
-use common.{if◌then◌else◌, MatchOption, AllByRecursion, IsNumberPairAt, is_number_pair, FindsItemBefore, nodes_of_pairs}
+use common.{PutsPair, refl, Bool, true, false, ◌&&◌, ◌||◌, Memory, handle, place, serves, Plain, ErasesKey, PutsNoSpace}
+use common.{PutsNewPair, is_key, subst, bytes_of, IsTreeOf, is_value, spelling, ErasesPair, ReleasesMap, node_len}
+use common.{put_pair, FindsItem, IsSomeMap, ℕ, MatchResult, option_map, length-map, ExchangesBlocks, KeepsOutsideMap}
+use common.{remove_pair, FindsLastItem, value_of_pair, ℤ, ScalarKind, ChangesBytes, OverwritesPair, is_rising}
+use common.{NumberPair, FindsValue, first_pair, numbers_in, numbers_of, Option, Result, IsTrue, int_lt, current}
+use common.{LiveSet, live_of, size_of, pair_at, HoldsMap, IsPairIn, item_of, if◌then◌else◌, MatchOption, AllByRecursion}
+use common.{IsNumberPairAt, is_number_pair, FindsItemBefore, nodes_of_pairs}
 use Rattle.raw_region.proofs.Facts.{first, second}
 use mathlib.Core.List.{reverse}
 use Rattle.seg_map.specs.Places.{final_pair, is_passed, last_pair}
@@ -125,8 +121,7 @@ module _ {K V : Type 0} {k v : ScalarKind} {kp : Plain K} {vp : Plain V} {kw : K
   pair-same : (m : Memory) (p : Pair K V)
       → IsPairAt kp.SIZE kp.spelling vp.spelling m p ≡ IsNumberPairAt k v m (number_pair p)
   pair-same m p = λ i. HasBytesAt m (handle p.node + 16) (kl.spelled p.key i)
-      × HasBytesAt m (handle p.node + 16 + kl.long i)
-      (vl.spelled p.value i)
+      × HasBytesAt m (handle p.node + 16 + kl.long i) (vl.spelled p.value i)
 
   pairs-same : (m : Memory) (ps : List (Pair K V)) → AllByRecursion (IsPairAt kp.SIZE kp.spelling vp.spelling m) ps
       ≡ AllByRecursion (IsNumberPairAt k v m) (number_pairs ps)

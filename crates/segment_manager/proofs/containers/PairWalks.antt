@@ -7,8 +7,7 @@ use common.{ObjectRole, serves, Map, ScalarKind, Refusal, ScalarValue, code_of, 
 use common.{size_of, Key, kind_of_scalar, value_of_scalar, is_rising, node_len, NumberPair, is_number_pair, item_of}
 use common.{Denotes, Value, Pairs, Object, Directory, has_good_name, is_good_value, is_object, kind_of, object_at}
 use common.{object_len, pair_above, pair_from, told_of, told_of_map, AnswersWith, SegmentState, DenotesCurrent, IsMap}
-use common.{first_of}
-use common.{item_of_kinds, item_seen, pairs_at, pairs_of}
+use common.{first_of, item_of_kinds, item_seen, pairs_at, pairs_of}
 use Rattle.segment_manager.proofs.containers.AnyStorage.{IsOfKindAt, kind-told}
 use Rattle.segment_manager.proofs.containers.MapWalks.{walk-goes_on, walk-starts}
 use Rattle.segment_manager.proofs.{objects.Here.standing, containers.MapSteps.map-only, containers.Refilled.told-some}

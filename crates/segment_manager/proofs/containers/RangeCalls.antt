@@ -1,41 +1,34 @@
 -- Elements of arrays and vectors that one call writes: what comes of it in each directory.
 use Rattle.segment_manager.proofs.Common as common
 use common.{◌≡◌, refl, sym, ap, subst, ◌∙◌, ℕ, ◌+◌, ◌*◌, ◌<◌, ◌≤◌, ℤ, Bool, true, false, ◌||◌, Option, Some, None}
-use common.{Result}
-use common.{Ok, Err, List, ◌++◌, length, map, take, drop, if◌then◌else◌, arith, IsTrue, list_all, nat_le, le-leb}
-use common.{lt-leb}
-use common.{length-append, length-map, map-append, take-map, eq-eqb, ne_eqb, append_assoc, WindowState, SameBytesExcept}
-use common.{HasBytesAt, bytes_of}
-use common.{current, handle, Kind, ScalarKind, Scalar, Vector, code_of, same_kind, is_value, size_of, spelled, spelling}
-use common.{Refusal, NotFound, OutOfRange, ReadOnly, WrongKind, Key, ByHandle, Mode, Answer, Done, Refused, Directory}
-use common.{Object, Value, Numbers, Elements, Bytes, Pairs, Texts, kind_of, count_of, value_extents, padded, object_at}
-use common.{changed, is_read_only, with_items, AnswersWith, SegmentState, DenotesCurrent, Denotes, IsValueAt}
-use common.{ChangesBytes, Located}
-use common.{IsLocated, head_len, is_object, Place, IsSegment, IsObjectInBlock, same_Some, value_len, mul-le-mul_left}
-use common.{done_answer, IsMissing, OnErr, SameSurroundings, BackingArray, kind_of_code, leb-true, [], flat_map}
-use common.{has_room, live_of}
-use Rattle.std.proofs.lemmas.List.{nil_from_length}
+use common.{Result, Ok, Err, List, ◌++◌, length, map, take, drop, if◌then◌else◌, arith, IsTrue, list_all, nat_le}
+use common.{le-leb, lt-leb, length-append, length-map, map-append, take-map, eq-eqb, ne_eqb, WindowState}
+use common.{SameBytesExcept, HasBytesAt, bytes_of, current, handle, Kind, ScalarKind, Scalar, Vector, code_of}
+use common.{same_kind, is_value, size_of, spelled, spelling, Refusal, NotFound, OutOfRange, ReadOnly, WrongKind, Key}
+use common.{ByHandle, Mode, Answer, Done, Refused, Directory, Object, Value, Numbers, Elements, kind_of, count_of}
+use common.{value_extents, padded, object_at, changed, is_read_only, with_items, SegmentState, DenotesCurrent, Denotes}
+use common.{IsValueAt, ChangesBytes, Located, IsLocated, head_len, Place, IsSegment, IsObjectInBlock, same_Some}
+use common.{value_len, mul-le-mul_left, IsMissing, BackingArray, kind_of_code, leb-true, [], flat_map, has_room}
+use common.{live_of}
+use Rattle.std.proofs.lemmas.List.{nil_from_length, drop-map, length-drop, length-take, take-append-drop}
 use Rattle.segment_manager.proofs.{Calling.denotes-heap, objects.Standings.standing-room, containers.ItemSteps.one-kind}
-use Rattle.segment_manager.proofs.Whole.{IsOfKind, whole-spelled, whole-values}
-use Rattle.std.proofs.lemmas.Bool.{leb-false}
+use Rattle.segment_manager.proofs.{Whole.IsOfKind, Whole.whole-spelled, Whole.whole-values, objects.Locating.said-at}
+use Rattle.segment_manager.proofs.{objects.Locating.same-object, objects.Here.standing, objects.Written.numbers-object}
+use Rattle.segment_manager.proofs.{Codes.code-read, Codes.numbers-only, objects.ObjectLists.key-found}
+use Rattle.segment_manager.proofs.{objects.Exchanged.denotes-rewritten, Frame.object-roomy}
+use Rattle.segment_manager.proofs.{objects.Rewritten.value_start, containers.Safely.Performed}
+use Rattle.segment_manager.proofs.{containers.Safely.performed}
+use Rattle.std.proofs.{lemmas.Bool.leb-false, lemmas.Bool.and_parts, lemmas.List.Folds.list_all-append}
 use Rattle.segment_manager.specs.objects.Located.{container_in, located, value_in}
 use Rattle.std.specs.Prelude.{IfOk, OnOk}
-use Rattle.std.proofs.lemmas.List.{drop-map, length-drop, length-take}
-use Rattle.raw_region.specs.Memory.{patched}
 use Rattle.raw_region.proofs.Bytes.{HasBytesAt-patched}
 use Rattle.seg_vector.proofs.Typed.{all-both, flat-replaced}
-use Rattle.std.proofs.lemmas.{Bool.and_parts, List.Folds.list_all-append, List.take-append-drop}
-use Rattle.segment_manager.specs.containers.Ranges.{ChangesRange, WritesRange, is_row, numbers_if, range_at, range_in}
-use Rattle.segment_manager.specs.containers.Ranges.{range_of, replaced, with_range, written, written_if}
-use Rattle.segment_manager.specs.objects.{ElementLists.numbers_in, Standing.place_at, Standing.place_in}
-use Rattle.segment_manager.specs.objects.Standing.{element_at}
-use Rattle.segment_manager.proofs.{objects.Locating.said-at, objects.Locating.same-object, objects.Here.standing}
-use Rattle.segment_manager.proofs.{objects.Stored.numbers-good, objects.Written.numbers-object, Codes.code-read}
-use Rattle.segment_manager.proofs.{Codes.numbers-only, objects.Stored.ElementAt, objects.Stored.element-found}
-use Rattle.segment_manager.proofs.{objects.ObjectLists.key-found, objects.Exchanged.denotes-rewritten}
-use Rattle.segment_manager.proofs.{Frame.object-roomy, blocks.Blocks.spelling-length, blocks.Blocks.spelled-length}
-use Rattle.segment_manager.proofs.objects.Rewritten.{value_start, with_value}
-use Rattle.segment_manager.proofs.containers.Safely.{seen-refused}
+use Rattle.segment_manager.specs.containers.Ranges.{ChangesRange, WritesRange, numbers_if, range_at, range_in, replaced}
+use Rattle.segment_manager.specs.containers.Ranges.{with_range, written, written_if}
+use Rattle.segment_manager.specs.{objects.ElementLists.numbers_in, objects.Standing.place_at, objects.Standing.place_in}
+use Rattle.segment_manager.proofs.objects.Stored.{numbers-good, ElementAt, element-found}
+use Rattle.segment_manager.proofs.blocks.Blocks.{spelling-length, spelled-length}
+use Rattle.segment_manager.proofs.Steps.{IsMove, by_moves, by_same, moves-same, stays-refl}
 
 -- ---- a list with others in the places from one on
 
@@ -71,11 +64,11 @@ whole-replaced w xs i ys =
 
 -- ---- what is answered
 
-abbrev row_in : ScalarKind → Option Object → Result (List ℤ) Refusal
+abbrev pub row_in : ScalarKind → Option Object → Result (List ℤ) Refusal
 row_in k r =
     elim r as (λ _. Result (List ℤ) Refusal) [ None ↦ Err NotFound | Some o ↦ numbers_if k o.value ]
 
-abbrev range_with : Directory → ℕ → List ℤ → Option Object → Directory
+abbrev pub range_with : Directory → ℕ → List ℤ → Option Object → Directory
 range_with d first zs r = elim r as (λ _. Directory) [
   | None ↦ d
   | Some o ↦ changed d o (with_items o.value (replaced (numbers_in o.value) first zs))
@@ -111,8 +104,7 @@ module _ (mode : Mode) (d : Directory) (key : Key) (k : ScalarKind) (first : ℕ
     pub range-short : length ns < first + length zs → written mode d key k first zs ≡ (Refused OutOfRange, d)
     range-short h = range-if false (lt-leb (first + length zs) (length ns) h)
 
-    pub range-done : first + length zs ≤ length ns
-        → written mode d key k first zs ≡ (Done, with_range d key first zs)
+    pub range-done : first + length zs ≤ length ns → written mode d key k first zs ≡ (Done, with_range d key first zs)
     range-done h = range-if true (le-leb (first + length zs) (length ns) h)
 
 -- the directory in which they are others, of an array and of a vector
@@ -123,75 +115,37 @@ range-numbers d key o k ns first zs is value = ap (range_with d first zs) is
     ∙ ap (λ v. changed d o (with_items v (replaced (numbers_in v) first zs))) value
 
 pub range-elements : (d : Directory) (key : Key) (o : Object) (k : ScalarKind) (ns : List ℤ) (t : BackingArray)
-    (first : ℕ)
-    (zs : List ℤ) → object_at d key ≡ Some o → o.value ≡ Elements k ns t
-    → with_range d key first zs ≡ changed d o (Elements k (replaced ns first zs) t)
+    (first : ℕ) (zs : List ℤ) → object_at d key ≡ Some o
+    → o.value ≡ Elements k ns t → with_range d key first zs ≡ changed d o (Elements k (replaced ns first zs) t)
 range-elements d key o k ns t first zs is value = ap (range_with d first zs) is
     ∙ ap (λ v. changed d o (with_items v (replaced (numbers_in v) first zs))) value
 
 -- ---- the segment
 
 -- what the call did
-pub record RangeWritten (s t : SegmentState) (new : WindowState) (key : Key) (k : ScalarKind) (first : ℕ) (zs : List ℤ)
-    (r : Result (Unit {0}) Refusal) : Type 0 where
-  pub step : WritesRange t (record s { cut = new }) key k first zs (done_answer r)
-  pub refused : OnErr r ((record s { cut = new }) ≡ t)
-  pub segment : IsSegment new.bytes
+abbrev pub RangeWritten : SegmentState → SegmentState → WindowState → Key → ScalarKind → ℕ → List ℤ
+    → Result (Unit {0}) Refusal → Type 0
+RangeWritten s t new key k first zs r = Performed s t new (λ mode d. written mode d key k first zs) r
 
 module _ (s : SegmentState) (key : Key) (k : ScalarKind) (first : ℕ) (zs : List ℤ) where
   -- nothing changes
   pub range-stays : (why : Refusal) → ((d : Directory) → DenotesCurrent s.cut.bytes d
       → written s.mode d key k first zs ≡ (Refused why, d)) → WritesRange s s key k first zs (Refused why)
-  range-stays why each = record {
-    stays = record { mode = refl; place = record { before = refl; after = refl } };
-    answers = λ d st. sym (ap (λ (n : Answer × Directory). n.0) (each d st));
-    denotes = λ d st. subst (λ (n : Answer × Directory). DenotesCurrent s.cut.bytes n.1) (sym (each d st)) st;
-  }
+  range-stays why each = by_same (λ d. written s.mode d key k first zs) each
 
   -- the elements are others
-  range-moves : (new : WindowState) → SameSurroundings s.cut new → ((d : Directory) → DenotesCurrent s.cut.bytes d
-      → written s.mode d key k first zs ≡ (Done, with_range d key first zs)) → ((d : Directory)
-      → DenotesCurrent s.cut.bytes d → Denotes current new.bytes (with_range d key first zs))
-      → WritesRange s (record s { cut = new }) key k first zs Done
-  range-moves new place each leads = record {
-    stays = record { mode = refl; place = place };
-    answers = λ d st. sym (ap (λ (n : Answer × Directory). n.0) (each d st));
-    denotes = λ d st. subst (λ (n : Answer × Directory). DenotesCurrent new.bytes n.1) (sym (each d st))
-        (record { denotes = leads d st });
-  }
-
-  -- the same, as the view before the call names the segment
-  module _ (t : SegmentState) (view : s ≡ t) (b : IsSegment s.cut.bytes) (new : WindowState) where
-    pub range-written : {u : Unit {0}} → SameSurroundings s.cut new → ((d : Directory) → DenotesCurrent s.cut.bytes d
-        → written s.mode d key k first zs ≡ (Done, with_range d key first zs)) → ((d : Directory)
-        → DenotesCurrent s.cut.bytes d → Denotes current new.bytes (with_range d key first zs))
-        → RangeWritten s t new key k first zs (Ok u)
-    range-written place each leads = record {
-      step = subst (λ (u : SegmentState). WritesRange u (record s { cut = new }) key k first zs Done) view
-          (range-moves new place each leads);
-      refused = tt;
-      segment = (with_range b.0 key first zs, record { denotes = leads b.0 b.1 });
-    }
-
-    pub range-refused : (why e : Refusal) → e ≡ why → new ≡ s.cut → ((d : Directory) → DenotesCurrent s.cut.bytes d
-        → written s.mode d key k first zs ≡ (Refused why, d)) → RangeWritten s t new key k first zs (Err e)
-    range-refused why e is same each = record {
-      step = subst (λ (u : SegmentState). WritesRange u (record s { cut = new }) key k first zs (Refused e)) view
-          (subst (λ (r : Refusal). WritesRange s (record s { cut = new }) key k first zs (Refused r)) (sym is)
-          (subst (λ (c : WindowState). WritesRange s (record s { cut = c }) key k first zs (Refused why)) (sym same)
-          (range-stays why each)));
-      refused = seen-refused {R = Unit {0}} s t view new (Err e) same;
-      segment = subst (λ (c : WindowState). IsSegment c.bytes) (sym same) b;
-    }
+  pub range-moves : (new : WindowState) (d : Directory) → written s.mode d key k first zs
+      ≡ (Done, with_range d key first zs) → Denotes current new.bytes (with_range d key first zs)
+      → IsMove (record s { cut = new }) Done (written s.mode d key k first zs)
+  range-moves new d is leads =
+      record { after = with_range d key first zs; is = is; stands = record { denotes = leads } }
 
 -- no object has the key
 pub why-missing : (s : SegmentState) (key : Key) (k : ScalarKind) (first : ℕ) (zs : List ℤ)
-    → is_read_only s.mode ≡ false
-    → {why : Refusal} → IsMissing s key why → WritesRange s s key k first zs (Refused why)
+    → is_read_only s.mode ≡ false → {why : Refusal} → IsMissing s key why → WritesRange s s key k first zs (Refused why)
 why-missing s key k first zs writing m =
     subst (λ (r : Refusal). WritesRange s s key k first zs (Refused r)) (sym m.is)
-    (range-stays s key k first zs NotFound
-    (λ d st. range-nowhere s.mode d key k first zs writing (m.missing d st)))
+    (range-stays s key k first zs NotFound (λ d st. range-nowhere s.mode d key k first zs writing (m.missing d st)))
 
 -- under a key as under the handle of its object
 pub range-by_key : (s t : SegmentState) (key : Key) (o : Located) → IsLocated s key o → (k : ScalarKind) (first : ℕ)
@@ -203,11 +157,8 @@ range-by_key s t key o l k first zs answer m =
     ap (λ (r : Option Object). if is_read_only s.mode then (Refused ReadOnly, d)
     else written_if (range_in (row_in k r) first (length zs)) d (range_with d first zs r))
     (sym (same-object s key o l d st)) in
-    record {
-      stays = m.stays;
-      answers = λ d st. m.answers d st ∙ ap (λ (n : Answer × Directory). n.0) (same d st);
-      denotes = λ d st. subst (λ (n : Answer × Directory). DenotesCurrent t.cut.bytes n.1) (same d st) (m.denotes d st);
-    }
+    moves-same s t answer (λ d. written s.mode d (ByHandle o.handle) k first zs)
+    (λ d. written s.mode d key k first zs) same m
 
 -- ---- kinds
 
@@ -334,19 +285,16 @@ module _ (s : SegmentState) (o : Located) (l : IsLocated s (ByHandle o.handle) o
 
       -- they are written
       pub array-written : RangeWritten s t new (ByHandle o.handle) k first zs (Ok tt)
-      array-written = range-written s (ByHandle o.handle) k first zs t view b new c.place (λ d st.
+      array-written = performed s t view b new (λ mode d. written mode d (ByHandle o.handle) k first zs) c.place
+          (λ d st.
           let h = numbers-of d st in
-          range-done s.mode d (ByHandle o.handle) k first zs
+          range-moves s (ByHandle o.handle) k first zs new d (range-done s.mode d (ByHandle o.handle) k first zs
           (subst (λ (u : SegmentState). is_read_only u.mode ≡ false) (sym view) writing) h.object h.is h.numbers
-          (row-of h)
-          (inside h)) (λ d st.
-          let h = numbers-of d st in
-          subst (Denotes current new.bytes)
+          (row-of h) (inside h)) (subst (Denotes current new.bytes)
           (sym (range-numbers d (ByHandle o.handle) h.object k h.numbers first zs h.is h.value))
           (array-denotes s.cut new d (ByHandle o.handle) h.object k h.numbers first zs st.denotes h.is h.value
-          (inside h)
-          good (subst (λ at. ChangesBytes current s.cut new at (size_of k * length zs)) (same-spot h) c)
-          (subst (λ at. HasBytesAt (bytes_of new.bytes) at (spelled k zs)) (same-spot h) w)))
+          (inside h) good (subst (λ at. ChangesBytes current s.cut new at (size_of k * length zs)) (same-spot h) c)
+          (subst (λ at. HasBytesAt (bytes_of new.bytes) at (spelled k zs)) (same-spot h) w))))
 
 -- ---- no other byte of an array
 
@@ -362,8 +310,7 @@ module _ (s t : SegmentState) (o : Located) (l : IsLocated s (ByHandle o.handle)
   but-if d st each (Err why) e = tt
 
   pub array-but : SameBytesExcept (bytes_of s.cut.bytes) (bytes_of t.cut.bytes)
-      (o.handle + (value_in o + size_of k * first))
-      (size_of k * n) → ChangesRange s t (ByHandle o.handle) k first n
+      (o.handle + (value_in o + size_of k * first)) (size_of k * n) → ChangesRange s t (ByHandle o.handle) k first n
   array-but but d st = but-if d st (λ p x.
       let q = said-at s (ByHandle o.handle) o l d st in
       let same : o ≡ located x.object = q.said ∙ ap located (same_Some q.object x.object (sym q.is ∙ x.is)) in
@@ -424,23 +371,21 @@ pub array-empty : (s : SegmentState) (o : Located) → IsLocated s (ByHandle o.h
     → length zs ≡ 0 → WritesRange s s (ByHandle o.handle) k first zs Done
 array-empty s o l k first zs is writing fits none =
     let nothing : zs ≡ [] = nil_from_length zs none in
-    range-moves s (ByHandle o.handle) k first zs s.cut (record { before = refl; after = refl }) (λ d st.
+    by_moves stays-refl (λ d st.
     let h = numbers-of s o l k first zs is d st in
-    range-done s.mode d (ByHandle o.handle) k first zs writing h.object h.is h.numbers
-    (row-of s o l k first zs is h)
-    (let f = leb-true (first + length zs) o.count fits in omega (arith, f, many s o l k first zs is h))) (λ d st.
-    let h = numbers-of s o l k first zs is d st in
-    subst (Denotes current s.cut.bytes)
+    let f = leb-true (first + length zs) o.count fits in
+    let inside : first + length zs ≤ length h.numbers = omega (arith, f, many s o l k first zs is h) in
+    range-moves s (ByHandle o.handle) k first zs s.cut d
+    (range-done s.mode d (ByHandle o.handle) k first zs writing h.object h.is h.numbers
+    (row-of s o l k first zs is h) inside) (subst (Denotes current s.cut.bytes)
     (sym (range-numbers d (ByHandle o.handle) h.object k h.numbers first zs h.is h.value))
-    (array-denotes s.cut s.cut d (ByHandle o.handle) h.object k h.numbers first zs st.denotes h.is h.value
-    (let f = leb-true (first + length zs) o.count fits in omega (arith, f, many s o l k first zs is h))
+    (array-denotes s.cut s.cut d (ByHandle o.handle) h.object k h.numbers first zs st.denotes h.is h.value inside
     (subst (λ ys. IsTrue (list_all (is_value k) ys)) (sym nothing) refl) (record {
       place = record { before = refl; after = refl };
       live = denotes-heap current s.cut.bytes d st.denotes;
       rest = record { at = λ j out. refl };
     }) (subst (λ ys. HasBytesAt (bytes_of s.cut.bytes) (value_start h.object + size_of k * first) (spelled k ys))
-    (sym nothing)
-    refl)))
+    (sym nothing) refl))))
 
 -- its block has the room
 pub array-room : (s : SegmentState) (b : IsSegment s.cut.bytes) (o : Located) → IsLocated s (ByHandle o.handle) o
@@ -486,9 +431,7 @@ module _ {T : Type 0} {k : ScalarKind} {w : T → ℤ} {size : ℕ} {test : T �
       → RangeWritten s t new (ByHandle o.handle) k first wholes (Ok tt)
   array-spelled h =
       array-written s o (subst (λ (u : SegmentState). IsLocated u (ByHandle o.handle) o) (sym view) l) k first
-      wholes is t
-      view b new
-      writing fits (sym (whole-values k w size test sp law values) ∙ good) change
+      wholes is t view b new writing fits (sym (whole-values k w size test sp law values) ∙ good) change
       (subst (λ m. HasBytesAt (bytes_of new.bytes) m (spelled k wholes)) spot-is
       (subst (HasBytesAt (bytes_of new.bytes) (o.handle + (at + each * first)))
       (whole-spelled k w size test sp law values) h))

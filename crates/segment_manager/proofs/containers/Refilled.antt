@@ -2,17 +2,15 @@
 use Rattle.segment_manager.proofs.Common as common
 use common.{◌≡◌, refl, sym, ap, ◌∙◌, ℕ, true, false, Bool, Option, Some, None, Result, Ok, Err, List, if◌then◌else◌}
 use common.{◌*◌, ◌&&◌, IsTrue, nat_le, option_map, WindowState, live_of, BackingArray, Extent, LiveSet, regrow, Kind}
-use common.{Refusal, NoSpace}
-use common.{NotFound, WrongKind, ReadOnly, same_kind, Key, Command, is_changing, Place, grown_backing, Mode, same_Some}
-use common.{Answer, Refused, Contents, RefillsContainer, container_at, container_place, contents_of, has_values, Value}
-use common.{Object, Directory, kind_of, live, object_at, Denotes, perform, with_capacity, Request, RegrownNeed, Refuse}
-use common.{AnswersWith, IsSegment, TakesStep, TakesStepOfKind, SegmentState, DenotesCurrent, changed, effect, Plan}
-use common.{is_read_only}
-use common.{step_of_kind, step, arith, le-ltb, lt-ltb, resized, with_array}
+use common.{Refusal, NoSpace, NotFound, WrongKind, ReadOnly, same_kind, Key, Command, is_changing, Place, grown_backing}
+use common.{Mode, same_Some, Answer, Refused, Contents, RefillsContainer, container_at, container_place, contents_of}
+use common.{has_values, Value, Object, Directory, kind_of, live, object_at, Denotes, perform, with_capacity, Request}
+use common.{RegrownNeed, Refuse, AnswersWith, IsSegment, TakesStep, TakesStepOfKind, SegmentState, DenotesCurrent}
+use common.{changed, effect, Plan, is_read_only, step_of_kind, step, arith, le-ltb, lt-ltb, resized, with_array}
 use Rattle.segment_manager.proofs.Steps.{IsMove, IsOpenFor, by_no_change, by_no_change_of_kind, by_step_of_kind}
 use Rattle.segment_manager.proofs.Steps.{open-writing, step-effect, step_of_kind-found, step_of_kind-not_found}
-use Rattle.segment_manager.proofs.Steps.{step_of_kind-other, moves-same}
-use Rattle.segment_manager.proofs.{Calling.denotes-live, containers.Contained.contents-changed}
+use Rattle.segment_manager.proofs.{Steps.step_of_kind-other, Steps.moves-same, Calling.denotes-live}
+use Rattle.segment_manager.proofs.containers.Contained.{contents-changed}
 use Rattle.std.proofs.lemmas.Bool.{leb-false}
 
 -- ---- a plan that asks for a block
@@ -172,9 +170,8 @@ finds-no_container s key kind c r w a = by_no_change_of_kind s key kind c (Refus
 
 -- a call for objects of one kind is the step, where the object of the key is changed so
 pub refill-steps_of_kind : (s : SegmentState) (new : WindowState) (key : Key) (kind : Kind) (p : Place)
-    → AnswersWith s (λ d. container_at d key kind) (Ok p) → (c : Command) (answer : Answer)
-    → is_read_only s.mode ≡ false
-    → IsSegment s.cut.bytes → ((d : Directory) → DenotesCurrent s.cut.bytes d → Refill s.cut new d key c answer)
+    → AnswersWith s (λ d. container_at d key kind) (Ok p) → (c : Command) (answer : Answer) → is_read_only s.mode
+    ≡ false → IsSegment s.cut.bytes → ((d : Directory) → DenotesCurrent s.cut.bytes d → Refill s.cut new d key c answer)
     → TakesStepOfKind s (record s { cut = new }) key kind c answer
 refill-steps_of_kind s new key kind p found c answer writing b each = by_step_of_kind s (record s { cut = new }) key
     kind c answer (record { mode = refl; place = (each b.0 b.1).change.change.place }) (λ d l.

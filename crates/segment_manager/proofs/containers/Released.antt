@@ -1,14 +1,12 @@
 -- What becomes of an object whose contents are released, for each kind of value.
 use Rattle.segment_manager.proofs.Common as common
 use common.{◌≡◌, ExchangesBlocks, StringsKind, IsTextsContainer, container_at, container_place, value_extents}
-use common.{ReleasesPairs}
-use common.{refl, sym, ◌∙◌, ◌+◌, Some, Ok, List, [], WindowState, Kind, Map, Key, Head, Texts, true, ap, subst, length}
-use common.{IsTrue}
-use common.{eq-eqb, Extent, handle, Scalar, Place, Value, Pairs, Object, padded, changed, append-nil, same_Some}
-use common.{ScalarKind, ReplacesTexts, IsValueAt, HoldsObject, Directory, is_object, numbers_of, ℕ, current, code_of}
-use common.{Denotes, Becomes, Empties, emptied, has_key, kind_of, HasPairs, IsHeadOf, IsObjectInBlock, bytes_of}
-use common.{no_backing}
-use common.{ByHandle, place_at, object_at, value_len, head_len, HasObject, DenotesCurrent}
+use common.{ReleasesPairs, refl, sym, ◌∙◌, ◌+◌, Some, Ok, List, [], WindowState, Kind, Map, Key, Head, Texts, true, ap}
+use common.{subst, length, IsTrue, eq-eqb, Extent, handle, Scalar, Place, Value, Pairs, Object, padded, changed}
+use common.{append-nil, same_Some, ScalarKind, ReplacesTexts, IsValueAt, HoldsObject, Directory, is_object, numbers_of}
+use common.{ℕ, current, code_of, Denotes, Becomes, Empties, emptied, has_key, kind_of, HasPairs, IsHeadOf}
+use common.{IsObjectInBlock, bytes_of, no_backing, ByHandle, place_at, object_at, value_len, head_len, HasObject}
+use common.{DenotesCurrent}
 use Rattle.segment_manager.proofs.containers.Contained.{good-with, start-place, Shape, contents-shape, value-said}
 use Rattle.segment_manager.proofs.containers.Emptied.{IsEmptied, changed-itself, emptied-is, emptied-numbers}
 use Rattle.segment_manager.proofs.objects.Exchanged.{Exchange, between, denotes-container}
@@ -20,15 +18,14 @@ use Rattle.segment_manager.proofs.objects.Rewritten.{value_start, with_value}
 use Rattle.segment_manager.proofs.containers.Refilled.{placed, told-some}
 use Rattle.segment_manager.proofs.{Frame.object-roomy, objects.Here.IsReadAt, objects.Here.standing, Live.IsIn}
 use Rattle.seg_map.specs.Changing.{FreesAllPairs}
-use Rattle.seg_vector.specs.{Elements.FreesStorage, Elements.FreesStorageOk, Containers.IsStanding}
-use Rattle.seg_vector.specs.{TextsCalls.ReleasesTexts}
+use Rattle.seg_vector.specs.Elements.{FreesStorage, FreesStorageOk}
+use Rattle.seg_vector.specs.{Containers.IsStanding, TextsCalls.ReleasesTexts}
 use Rattle.segment_manager.specs.{containers.Contents.has_storage, containers.Stored.each_of}
 
 -- ---- the object of a handle
 
-pub held-stands : (b : List ℕ) (h : ℕ) (d : Directory) (o : Object) → DenotesCurrent b d
-    → object_at d (ByHandle h) ≡ Some o
-    → IsObjectInBlock b h o
+pub held-stands : (b : List ℕ) (h : ℕ) (d : Directory) (o : Object)
+    → DenotesCurrent b d → object_at d (ByHandle h) ≡ Some o → IsObjectInBlock b h o
 held-stands b h d o k e = subst (λ g. IsObjectInBlock b g o) (sym (found-handle h d.objects o (record { is = e })))
     (standing b d (ByHandle h) o k.denotes e)
 

@@ -1,21 +1,18 @@
 -- A call on the container of an object that answers nothing: its step, and that it changes nothing where it is refused.
 use Rattle.segment_manager.proofs.Common as common
-use common.{NoSpace, OutOfRange, ◌⊎◌, inl, inr, TakesStep, is_read_only, ◌≡◌, refl, sym, ap, subst, ◌∙◌, Bool, true}
-use common.{false, Option, Some, None, Result, Ok, Err, OnErr, WindowState, Kind, Refusal, NotFound, Key, Command}
-use common.{Place}
-use common.{Answer}
-use common.{Done, Refused, container_at, place_of_kind, Object, object_at, option_map, AnswersWith, IsSegment}
-use common.{TakesStepOfKind}
-use common.{SegmentState, AnswersSafely, StepsSafely, MatchResult, live_of, Located}
+use common.{NoSpace, OutOfRange, ◌⊎◌, inl, inr, TakesStep, is_read_only, ◌≡◌, refl, sym, ap, subst, ◌∙◌, false, Option}
+use common.{Some, None, Result, Ok, Err, OnErr, WindowState, Kind, Refusal, NotFound, Key, Command, Place, Answer}
+use common.{done_answer, Mode, SameSurroundings, Transitions, Directory, DenotesCurrent, Done, Refused, container_at}
+use common.{place_of_kind, Object, object_at, option_map, AnswersWith, IsSegment, TakesStepOfKind, SegmentState}
+use common.{AnswersSafely, StepsSafely, MatchResult, live_of, Located}
 use Rattle.best_fit.proofs.Laws.{gaps-refl}
 use Rattle.best_fit.specs.Heap.{KeepsGaps}
-use Rattle.segment_manager.proofs.Steps.{step-segment, step_of_kind-segment}
+use Rattle.segment_manager.proofs.Steps.{IsMove, by_moves, by_same, step-segment, step_of_kind-segment}
 use Rattle.segment_manager.specs.objects.Located.{container_in, located, located_at}
 
 -- it is refused, and nothing has changed
 pub stays : (s : SegmentState) (new : WindowState) (key : Key) (kind : Kind) (c : Command) (e why : Refusal)
-    → e ≡ why → new ≡ s.cut
-    → TakesStepOfKind s s key kind c (Refused why) → StepsSafely s new key kind c (Err e)
+    → e ≡ why → new ≡ s.cut → TakesStepOfKind s s key kind c (Refused why) → StepsSafely s new key kind c (Err e)
 stays s new key kind c e why is same step = record {
   step = subst (λ (r : Refusal). TakesStepOfKind s (record s { cut = new }) key kind c (Refused r)) (sym is)
       (subst (λ (x : WindowState). TakesStepOfKind s (record s { cut = x }) key kind c (Refused why)) (sym same) step);
@@ -43,10 +40,38 @@ pick-space e f h (inr y) = y
 
 -- nothing has changed where it was refused
 pub seen-refused : {R : Type 0} (s t : SegmentState) (view : s ≡ t) (new : WindowState) (r : Result R Refusal)
-    → OnErr r (new ≡ s.cut)
-    → OnErr r ((record s { cut = new }) ≡ t)
+    → OnErr r (new ≡ s.cut) → OnErr r ((record s { cut = new }) ≡ t)
 seen-refused s t view new (Ok u) e = tt
 seen-refused s t view new (Err w) e = (λ i. record s { cut = e i }) ∙ view
+
+-- a call did what the machine does, changed nothing where it was refused, and left a segment
+pub record Performed (s t : SegmentState) (new : WindowState) (next : Mode → Directory → Answer × Directory)
+    (r : Result (Unit {0}) Refusal) : Type 0 where
+  pub step : Transitions t (record s { cut = new }) (done_answer r) (λ d. next t.mode d)
+  pub refused : OnErr r ((record s { cut = new }) ≡ t)
+  pub segment : IsSegment new.bytes
+
+module _ (s t : SegmentState) (view : s ≡ t) (b : IsSegment s.cut.bytes) (new : WindowState)
+    (next : Mode → Directory → Answer × Directory) where
+  pub performed : {u : Unit {0}} → SameSurroundings s.cut new → ((d : Directory) → DenotesCurrent s.cut.bytes d
+      → IsMove (record s { cut = new }) Done (next s.mode d)) → Performed s t new next (Ok u)
+  performed place each = record {
+    step = subst (λ (v : SegmentState). Transitions v (record s { cut = new }) Done (λ d. next v.mode d)) view
+        (by_moves (record { mode = refl; place = place }) each);
+    refused = tt;
+    segment = let m = each b.0 b.1 in (m.after, m.stands);
+  }
+
+  pub refuses-so : (why e : Refusal) → e ≡ why → new ≡ s.cut → ((d : Directory) → DenotesCurrent s.cut.bytes d
+      → next s.mode d ≡ (Refused why, d)) → Performed s t new next (Err e)
+  refuses-so why e is same each = record {
+    step = subst (λ (v : SegmentState). Transitions v (record s { cut = new }) (Refused e) (λ d. next v.mode d)) view
+        (subst (λ (r : Refusal). Transitions s (record s { cut = new }) (Refused r) (λ d. next s.mode d)) (sym is)
+        (subst (λ (c : WindowState). Transitions s (record s { cut = c }) (Refused why) (λ d. next s.mode d)) (sym same)
+        (by_same (λ d. next s.mode d) each)));
+    refused = seen-refused {R = Unit {0}} s t view new (Err e) same;
+    segment = subst (λ (c : WindowState). IsSegment c.bytes) (sym same) b;
+  }
 
 -- a call came to its step, changed nothing where it was refused, and left a segment
 pub record Answered {R : Type 0} (says : Result R Refusal
@@ -75,14 +100,22 @@ pub told : {R : Type 0} {says : Result R Refusal
     }
 told a = record { step = a.step; refused = a.refused }
 
+-- the same, and what it does to the gaps
+pub told-gaps : {R G : Type 0} {says : Result R Refusal → Answer} {s t : SegmentState} {new : WindowState} {key : Key}
+    {kind : Kind} {c : Command} {r : Result R Refusal} → Answered says s t new key kind c r → G → record {
+      step : TakesStepOfKind t (record s { cut = new }) key kind c (says r);
+      refused : OnErr r ((record s { cut = new }) ≡ t);
+      gaps : G;
+    }
+told-gaps a g = record { step = a.step; refused = a.refused; gaps = g }
+
 -- the same of a call on whatever object
 pub record Stepped (s t : SegmentState) (new : WindowState) (c : Command) (answer : Answer) : Type 0 where
   pub step : TakesStep t (record s { cut = new }) c answer
   pub segment : IsSegment new.bytes
 
 pub stepped : (s t : SegmentState) (view : s ≡ t) (b : IsSegment s.cut.bytes) (new : WindowState) (c : Command)
-    (answer : Answer)
-    → is_read_only t.mode ≡ false
+    (answer : Answer) → is_read_only t.mode ≡ false
     → (is_read_only s.mode ≡ false → TakesStep s (record s { cut = new }) c answer) → Stepped s t new c answer
 stepped s t view b new c answer may each =
     let done : TakesStep s (record s { cut = new }) c answer =

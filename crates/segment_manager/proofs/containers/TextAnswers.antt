@@ -4,21 +4,18 @@ use Rattle.segment_manager.proofs.Common as common
 use common.{◌++◌, ◌<◌, Err, IsTrue, List, None, Ok, Option, Result, Some, [], ap, arith, false, get_or, length, map}
 use common.{nat_abs, nat_le, nat_lt, pos, refl, slice_get, subst, suc, sym, true, zero, ℕ, ◌∙◌, ◌∷◌, ◌≡◌, and_from}
 use common.{le-leb, slice_get-get_or, slice_get-map, slice_get_past, option_map, slice_set, WindowState, BackingArray}
-use common.{Append}
-use common.{Assign, Get, Quoted, Set, literal_of, is_value, Key, String, U8, Refusal, NotFound, OutOfRange, AssignsText}
-use common.{IsSomeText, GrowsTextOk, ReplacesText, capacity_for_text, Place, Done, Element, Refused, are_bytes}
-use common.{bytes_at}
-use common.{container_at, Bytes, Object, Value, kind_of, live, Reply, perform, AnswersWith, IsSegment, TakesStepOfKind}
-use common.{SegmentState}
-use common.{changed, is_read_only, Command, StepsSafely, done_answer}
+use common.{Append, Assign, Get, Quoted, Set, literal_of, is_value, Key, String, U8, Refusal, NotFound, OutOfRange}
+use common.{AssignsText, IsSomeText, GrowsTextOk, ReplacesText, capacity_for_text, Place, Done, Element, Refused}
+use common.{are_bytes, bytes_at, container_at, Bytes, Object, Value, kind_of, live, Reply, perform, AnswersWith}
+use common.{IsSegment, TakesStepOfKind, SegmentState, changed, is_read_only, Command, StepsSafely, done_answer}
 use Rattle.segment_manager.proofs.containers.ContentPlans.{append-plan, byte-plan, set_byte-plan, text-plan}
 use Rattle.segment_manager.proofs.containers.ItemSteps.{HoldsItems, ListedNow, items-stay, one-kind, so-too, some-items}
 use Rattle.segment_manager.proofs.containers.ItemSteps.{ListedGrown, Listing, changes-safely, grows-safely, holds-items}
 use Rattle.segment_manager.proofs.containers.Safely.{Answered, answered, kept-gaps, same-live}
 use Rattle.best_fit.specs.Heap.{KeepsGaps}
 use Rattle.seg_vector.proofs.Laws.{same-extents}
-use Rattle.segment_manager.proofs.{Common.live_of}
-use Rattle.segment_manager.proofs.{Steps.open-reading, objects.Stored.literal-read, containers.ToChange.seen-found}
+use Rattle.segment_manager.proofs.{Common.live_of, Steps.open-reading, objects.Stored.literal-read}
+use Rattle.segment_manager.proofs.containers.ToChange.{seen-found}
 use Rattle.raw_region.proofs.{Bytes.fits-are_bytes, Facts.first, Facts.second}
 use Rattle.std.proofs.Common.{Fits, w8}
 use Rattle.seg_vector.specs.TextCalls.{AppendsText, GetsByte, ReadsText, SetsByte}
@@ -79,9 +76,8 @@ texts = record {
 }
 
 -- what became of a text, with its bytes below 256
-bytes-now : {old new : WindowState} {p : Place} {t u : BackingArray} {bs : List ℕ} → IsTrue (are_bytes bs)
-    → ReplacesText old new p t bs u
-    → ListedNow texts old new p t bs u
+bytes-now : {old new : WindowState} {p : Place} {t u : BackingArray} {bs : List ℕ}
+    → IsTrue (are_bytes bs) → ReplacesText old new p t bs u → ListedNow texts old new p t bs u
 bytes-now small r = record { change = r.change; stands = r.text; values = small }
 
 bytes-grown : {old new : WindowState} {p : Place} {t : BackingArray} {n : ℕ} {bs : List ℕ} → IsTrue (are_bytes bs)

@@ -3,10 +3,9 @@
 use Rattle.segment_manager.proofs.Common.{◌≡◌, sym, ap, subst, ◌∙◌, ℕ, ◌≢◌, List, [], ◌∷◌, ◌++◌, append_assoc, arith}
 use Rattle.segment_manager.proofs.Common.{option_to_list, AllByRecursion, Extent, handle, BackingArray, SameSpread}
 use Rattle.segment_manager.proofs.Common.{middle-first, AreDistinct, text_blocks, OwnedText, Object, Texts}
-use Rattle.segment_manager.proofs.Common.{value_extents}
+use Rattle.segment_manager.proofs.{Common.value_extents, objects.Exchanged.Exchange, objects.Rewritten.with_value}
 use Rattle.seg_vector.proofs.TextBlocks.{blocks-three}
 use Rattle.best_fit.proofs.Laws.{spread-behind}
-use Rattle.segment_manager.proofs.{objects.Exchanged.Exchange, objects.Rewritten.with_value}
 use Rattle.segment_manager.proofs.Order.{Differs, IsFresh, Rising, all_of-inserted, inserted, rising-insert}
 
 -- ---- extents that rise

@@ -1,24 +1,19 @@
 -- What the calls of seg_vector ensure of the texts at the place that was found, as the steps of the calls on the
 -- object's vector of texts.
 use Rattle.segment_manager.proofs.Common as common
+use Rattle.seg_types.specs.Commands as asked
 use common.{IsTextsContainer, option_to_list, slice_get-get_or, slice_get_past, AssignsTextsOk, AssignsTexts}
-use common.{is_untouched}
-use common.{◌≡◌, refl, subst, true, false, Some, None, arith, BackingArray, Place, Change, Clear, Shrink, Reply}
-use common.{SegmentState, effect}
-use common.{sym, ap, ◌∙◌, ℕ, ◌+◌, ◌-◌, ◌<◌, ◌≤◌, inl, inr, Ok, Err, List, [], ◌∷◌, map, Bor, WindowState, Key, Done}
-use common.{Plan, with}
-use common.{Option, Result, length, get_or, IsTrue, insert, remove, le-ltb, lt-ltb, Refused, Reserve, perform}
-use common.{AnswersWith}
-use common.{append-nil, option_map, slice_get, false≢true, OutOfRange, with_array, command_of, refusal_in, done_answer}
-use common.{slice_set, list_all, same_Some, shrunk_backing, UndoesRequests, all_texts, OwnedText, RefusesIndex}
-use common.{are_bytes, Directory}
-use common.{current, LiveSet, live_of, Refusal, NoSpace, Command, one_more, IsSegment, DenotesCurrent, answer_of}
-use common.{texts_of}
-use common.{StringsKind, placed_text, grown_backing, TextElement, container_at, TakesStepOfKind, is_read_only}
-use common.{StepsSafely}
+use common.{is_untouched, ◌≡◌, refl, subst, true, false, Some, None, arith, BackingArray, Place, Change, Clear, Shrink}
+use common.{Reply, SegmentState, effect, sym, ap, ◌∙◌, ℕ, ◌+◌, ◌-◌, ◌<◌, ◌≤◌, inl, inr, Ok, Err, List, [], ◌∷◌, map}
+use common.{Bor, WindowState, Key, Done, Plan, with, Option, Result, length, get_or, IsTrue, insert, remove, le-ltb}
+use common.{lt-ltb, Refused, Reserve, perform, AnswersWith, append-nil, option_map, slice_get, false≢true, OutOfRange}
+use common.{with_array, command_of, refusal_in, done_answer, slice_set, list_all, same_Some, shrunk_backing}
+use common.{UndoesRequests, all_texts, OwnedText, RefusesIndex, are_bytes, Directory, current, LiveSet, live_of}
+use common.{Refusal, NoSpace, Command, one_more, IsSegment, DenotesCurrent, answer_of, texts_of, StringsKind}
+use common.{placed_text, grown_backing, TextElement, container_at, TakesStepOfKind, is_read_only, StepsSafely}
 use Rattle.segment_manager.proofs.containers.TextMoves.{TextsMove, all-other, moved, one-block, texts-stay, texts-steps}
-use Rattle.segment_manager.proofs.containers.TextMoves.{in-array, left-out, Kept, kept, led, texts_in}
-use Rattle.segment_manager.proofs.containers.TextMoves.{Led, StepsKeeping, step-leads-on, texts-lead-on, texts-restored}
+use Rattle.segment_manager.proofs.containers.TextMoves.{in-array, left-out, Kept, kept, led, texts_in, Led}
+use Rattle.segment_manager.proofs.containers.TextMoves.{StepsKeeping, step-leads-on, texts-lead-on, texts-restored}
 use Rattle.segment_manager.proofs.containers.TextPlans.{all-met, all-unmet, all_plan, assign-none, assign-some}
 use Rattle.segment_manager.proofs.containers.TextPlans.{beside_array, clear-texts, erase-text, got-text, insert-text}
 use Rattle.segment_manager.proofs.containers.TextPlans.{insert_in, insert_plan, one-more-met, one-more-unmet, pop-text}
@@ -26,19 +21,19 @@ use Rattle.segment_manager.proofs.containers.TextPlans.{push-text, reserve-texts
 use Rattle.segment_manager.proofs.containers.TextPlans.{text-placed, assign_in, text_in, texts_after, then_text}
 use Rattle.segment_manager.proofs.containers.Safely.{pick-outside, pick-space, Answered, answered, done-so, stays}
 use Rattle.segment_manager.proofs.containers.PlacedTexts.{text-bytes, texts-bytes}
-use Rattle.segment_manager.proofs.{containers.TextsHeld.some-texts, containers.TextsHeld.HoldsTexts, Steps.open-reading}
-use Rattle.segment_manager.proofs.{containers.TextLists.part-inserted, containers.TextAnswers.fits-bytes}
-use Rattle.segment_manager.proofs.{containers.TextLists.part-set, containers.Refilled.then_room, Steps.open-writing}
-use Rattle.segment_manager.proofs.{containers.Refilled.room-grown, Calling.denotes-live, containers.ToChange.seen-found}
+use Rattle.segment_manager.proofs.containers.TextsHeld.{some-texts, HoldsTexts}
+use Rattle.segment_manager.proofs.{Steps.open-reading, Steps.open-writing, containers.TextAnswers.fits-bytes}
+use Rattle.segment_manager.proofs.{Calling.denotes-live, containers.ToChange.seen-found}
+use Rattle.segment_manager.proofs.containers.TextLists.{part-inserted, part-set}
+use Rattle.segment_manager.proofs.containers.Refilled.{then_room, room-grown}
 use Rattle.std.proofs.Common.{Fits, w8}
-use Rattle.segment_manager.specs.{containers.Stored.ChangesTexts, containers.ToChange.IsChangeableContainer}
+use Rattle.segment_manager.specs.{containers.Stored.ChangesTexts, Directory.Object, Directory.Texts, Directory.live}
+use Rattle.segment_manager.specs.containers.ToChange.{IsChangeableContainer}
 use Rattle.best_fit.specs.Exchange.{KeepsLiveSet}
 use Rattle.seg_vector.specs.TextsCalls.{ClearsTexts, ErasesText, GetsText, InsertsText, RemovesTextOk, InsertsTextOk}
 use Rattle.seg_vector.specs.TextsCalls.{RefusesFirstBlock, SetsTextOk, LacksFit, PopsText, PushesText, SetsText}
 use Rattle.seg_vector.specs.{TextsCalls.StaysAtFirst, TextsCalls.new_array, Vector.capacity_for_one}
 use Rattle.segment_manager.specs.Keeping.{UnchangedWhere, LacksArray, LacksFirst}
-use Rattle.segment_manager.specs.Directory.{Object, Texts, live}
-use Rattle.seg_types.specs.Commands as asked
 
 -- texts as literals are read as them
 texts-read : (bss : List (List ℕ)) → texts_of (map asked.Quoted bss) ≡ Ok bss
@@ -106,8 +101,7 @@ module _ {s t : SegmentState} (view : s ≡ t) (b : IsSegment s.cut.bytes) {key 
 
   -- a call that is done
   does : {c : Command} → ((d : Directory) (l : DenotesCurrent s.cut.bytes d) (h : Holds d)
-      → TextsMove s.cut new d key p h c
-      Done) → TakesStepOfKind s (record s { cut = new }) key StringsKind c Done
+      → TextsMove s.cut new d key p h c Done) → TakesStepOfKind s (record s { cut = new }) key StringsKind c Done
   does each = texts-steps s key p b found new _ Done writing each
 
   -- a refusal, and nothing has changed

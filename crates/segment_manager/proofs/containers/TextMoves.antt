@@ -2,15 +2,11 @@
 -- directory.
 use Rattle.segment_manager.proofs.Common as common
 use common.{◌≡◌, sym, ◌∙◌, true, None, Ok, List, ◌++◌, OnErr, WindowState, BackingArray, Kind, Key, Place, Value, Texts}
-use common.{SegmentState, [], ℕ}
-use common.{refl, option_to_list, AllByRecursion, is_untouched, container_at, TakesStepOfKind, is_read_only}
-use common.{LeadsOnOfKind}
-use common.{ap, subst, false, Option, Result, IfErr, Extent, Answer, StepsWithoutAnswer, changed, effect, LiveSet}
-use common.{live_of, remove}
-use common.{current, StringsKind, same_kind, ReplacesTexts, text_blocks, refusal_of, done_answer, step_of_kind}
-use common.{append-nil}
-use common.{Refusal, Command, OwnedText, Refused, kind_at, Directory, kind_of, perform, AnswersWith, IsSegment}
-use common.{DenotesCurrent}
+use common.{SegmentState, [], ℕ, refl, option_to_list, AllByRecursion, is_untouched, container_at, TakesStepOfKind}
+use common.{is_read_only, LeadsOnOfKind, ap, subst, false, Option, Result, IfErr, Extent, Answer, StepsWithoutAnswer}
+use common.{changed, effect, LiveSet, live_of, remove, current, StringsKind, same_kind, ReplacesTexts, text_blocks}
+use common.{refusal_of, done_answer, step_of_kind, append-nil, Refusal, Command, OwnedText, Refused, kind_at, Directory}
+use common.{kind_of, perform, AnswersWith, IsSegment, DenotesCurrent}
 use Rattle.segment_manager.proofs.containers.TextsHeld.{HasBytes, HoldsTexts, IsTextsMove, holds-texts, texts-changed}
 use Rattle.segment_manager.proofs.Steps.{IsMove, IsOpenFor, by_no_change_of_kind, by_step_of_kind, open-writing}
 use Rattle.segment_manager.proofs.Steps.{step_of_kind-found, step_of_kind-segment}
@@ -29,8 +25,7 @@ one-block xs r = ap (λ (ys : List Extent). xs ++ ys) (sym (append-nil (option_t
 
 -- it is so where a part of them is another
 pub moved : {old new : WindowState} {p : Place} {ps qs out in_place : List OwnedText} {t u : BackingArray}
-    {gone come : List Extent}
-    → IsPartOther ps qs out in_place → AllByRecursion HasBytes in_place
+    {gone come : List Extent} → IsPartOther ps qs out in_place → AllByRecursion HasBytes in_place
     → gone ≡ option_to_list t.extent ++ text_blocks out → come ≡ option_to_list u.extent ++ text_blocks in_place
     → ReplacesTexts old new p gone come qs u → IsTextsMove old new p ps t qs u
 moved part bytes e f now = record {
@@ -112,9 +107,8 @@ module _ (s : SegmentState) (key : Key) (p : Place) (b : IsSegment s.cut.bytes)
 
   -- the same of a call that does not say what it took away
   pub texts-lead-on : (new : WindowState) (c : Command) (answer : (d : Directory) → DenotesCurrent s.cut.bytes d
-      → Answer)
-      → is_read_only s.mode ≡ false → ((d : Directory) (l : DenotesCurrent s.cut.bytes d)
-      → refusal_of (answer d l) ≡ None)
+      → Answer) → is_read_only s.mode ≡ false
+      → ((d : Directory) (l : DenotesCurrent s.cut.bytes d) → refusal_of (answer d l) ≡ None)
       → ((d : Directory) (l : DenotesCurrent s.cut.bytes d) → TextsMove s.cut new d key p (texts_in d l) c (answer d l))
       → LeadsOnOfKind s (record s { cut = new }) key StringsKind c None
   texts-lead-on new c answer writing done each = record {

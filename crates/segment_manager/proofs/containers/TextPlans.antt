@@ -1,21 +1,19 @@
 -- The plans of the commands on a vector of texts, and what they come to.
 use Rattle.segment_manager.proofs.Common as common
+use Rattle.seg_types.specs.Commands as asked
+use Rattle.segment_manager.specs.Step as step
 use common.{◌≡◌, refl, sym, ap, ◌∙◌, ℕ, ◌-◌, ◌*◌, Bool, true, false, Option, Some, None, Result, Ok, Err, List, [], ◌∷◌}
 use common.{length, ◌==◌, if◌then◌else◌, insert, remove, slice_get, slice_set, nat_lt, option_map, Storage, LiveSet}
 use common.{place, resized, BackingArray, shrunk_backing, no_backing, Refusal, NoSpace, OutOfRange, Key, Literal, Place}
-use common.{all_texts}
-use common.{new_array, one_more, placed_text, placed_texts, with_array, with_text, OwnedText, capacity_for_one}
-use common.{grown_backing, Answer, Done, Refused, TextElement, Texts, Object, Directory, Value, found_at, live, New}
-use common.{Plan}
-use common.{Refuse, Reply, Request, perform, with, with_capacity, with_owned_text, with_owned_texts, with_storage}
-use common.{changed, effect, storage_of, texts_of, with_items}
+use common.{all_texts, new_array, one_more, placed_text, placed_texts, with_array, with_text, OwnedText}
+use common.{capacity_for_one, grown_backing, Answer, Done, Refused, TextElement, Texts, Object, Directory, Value}
+use common.{found_at, live, New, Plan, Refuse, Reply, Request, perform, with, with_capacity, with_owned_text}
+use common.{with_owned_texts, with_storage, changed, effect, storage_of, texts_of, with_items}
 use Rattle.segment_manager.proofs.containers.ContentPlans.{reserve_with, shrink_with}
 use Rattle.segment_manager.proofs.containers.Refilled.{asked-met, of_places, room-grown, then_by, then_room}
 use Rattle.segment_manager.proofs.containers.PlacedTexts.{in_block, unplaced}
 use Rattle.segment_manager.proofs.containers.TextLists.{pushed-last, removed-last}
 use Rattle.segment_manager.proofs.{Steps.with-found, containers.TextsHeld.HoldsTexts}
-use Rattle.seg_types.specs.Commands as asked
-use Rattle.segment_manager.specs.Step as step
 
 -- ---- what requests come to
 
@@ -87,9 +85,8 @@ one_more_plan ps t bs next =
 module _ (d : Directory) (l : LiveSet) (ps : List OwnedText) (t : BackingArray) (bs : List ℕ)
     (next : BackingArray → OwnedText → Plan) where
   pub one-more-met : (u : BackingArray) (q : OwnedText)
-      → grown_backing l 16 (capacity_for_one (length ps) t.capacity) t ≡ Some u
-      → placed_text (with_array l t u) bs ≡ Some q
-      → perform d l (one_more_plan ps t bs next) ≡ perform d (with_text (with_array l t u) q) (next u q)
+      → grown_backing l 16 (capacity_for_one (length ps) t.capacity) t ≡ Some u → placed_text (with_array l t u) bs
+      ≡ Some q → perform d l (one_more_plan ps t bs next) ≡ perform d (with_text (with_array l t u) q) (next u q)
   one-more-met u q g h = room-grown d l 16 t (capacity_for_one (length ps) t.capacity)
       (λ u. with_owned_text bs (next u)) ∙ ap (then_room d l t (λ u. with_owned_text bs (next u))) g
       ∙ text-placed d (with_array l t u) bs (next u) ∙ ap (then_text d (with_array l t u) (next u)) h

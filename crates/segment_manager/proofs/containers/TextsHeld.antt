@@ -3,24 +3,21 @@
 use Rattle.segment_manager.proofs.Common as common
 use common.{◌≡◌, sym, true, ◌&&◌, Some, None, List, ◌++◌, live, ◌∙◌, ◌+◌, ◌≢◌, ◌≤◌, Ok, [], ◌∷◌, WindowState, Key, ℕ}
 use common.{refl, Storage, LiveSet, live_of, length, IsTrue, nat_le, nat_lt, eq-eqb, Denotes, kind_of, AnswersWith}
-use common.{changed}
-use common.{Value, Texts, SegmentState, ap, subst, arith, le-leb, lt-ltb, Extent, handle, BackingArray, serves, Place}
-use common.{Object, padded}
-use common.{list_all, value_len, IsStorageBlock, ReplacesTexts, text_blocks, extents_of, ExchangesBlocks, StringsKind}
-use common.{IsTextsContainer}
-use common.{and_from, IsSegment, extent_at, same_kind, is_proper, AreDistinct, OwnedText, are_bytes, IsValueAt}
-use common.{Directory}
-use common.{eqb-true, ltb-true, bytes_of, current, has_backing, place_at, count_of, IsObjectInBlock, Option, is_object}
-use common.{object_at}
-use common.{option_to_list, AllByRecursion, container_place, has_own_block, is_good_value, container_at, is_owned_text}
+use common.{changed, Value, Texts, SegmentState, ap, subst, arith, le-leb, lt-ltb, Extent, handle, BackingArray, serves}
+use common.{Place, Object, padded, list_all, value_len, IsStorageBlock, ReplacesTexts, text_blocks, extents_of}
+use common.{ExchangesBlocks, StringsKind, IsTextsContainer, and_from, IsSegment, extent_at, same_kind, is_proper}
+use common.{AreDistinct, OwnedText, are_bytes, IsValueAt, Directory, eqb-true, ltb-true, bytes_of, current, has_backing}
+use common.{place_at, count_of, IsObjectInBlock, Option, is_object, object_at, option_to_list, AllByRecursion}
+use common.{container_place, has_own_block, is_good_value, container_at, is_owned_text}
 use Rattle.segment_manager.proofs.containers.Contained.{good-with, start-place}
 use Rattle.segment_manager.proofs.containers.TextBlocks.{IsPartOther, others-apart, part-exchange}
 use Rattle.segment_manager.proofs.objects.Rewritten.{with_value, value_start}
-use Rattle.segment_manager.proofs.{Frame.object-roomy, Live.live-split, Order.Rising, Order.live-rises}
-use Rattle.segment_manager.proofs.{Live.IsIn, containers.Refilled.HoldsAt, Calling.denotes-live, objects.Regrown.rest}
-use Rattle.segment_manager.proofs.{Order.inserted, objects.Exchanged.denotes-container, objects.Standings.standing-room}
-use Rattle.segment_manager.proofs.{containers.Refilled.holds-at, Calling.denotes-heap, objects.Regrown.with_extents}
-use Rattle.segment_manager.proofs.{containers.ItemSteps.one-kind, objects.Here.standing, objects.ObjectLists.key-found}
+use Rattle.segment_manager.proofs.{Frame.object-roomy, Live.live-split, Live.IsIn, Order.Rising, Order.live-rises}
+use Rattle.segment_manager.proofs.{Order.inserted, Calling.denotes-live, Calling.denotes-heap, objects.Regrown.rest}
+use Rattle.segment_manager.proofs.{objects.Regrown.with_extents, objects.Exchanged.denotes-container}
+use Rattle.segment_manager.proofs.{objects.Standings.standing-room, containers.ItemSteps.one-kind}
+use Rattle.segment_manager.proofs.{objects.Here.standing, objects.ObjectLists.key-found}
+use Rattle.segment_manager.proofs.containers.Refilled.{HoldsAt, holds-at}
 use Rattle.raw_region.proofs.Facts.{AllByRecursion-append, AllByRecursion-behind, AllByRecursion-front, first, no_more}
 use Rattle.raw_region.proofs.Facts.{second}
 use Rattle.best_fit.proofs.Laws.{all-found-in}
@@ -207,8 +204,7 @@ some-texts s key p b a =
 
 -- what a call did to the vector: which texts stand there now, in which array, and which part of them is another
 pub record IsTextsMove (old new : WindowState) (p : Place) (ps : List OwnedText) (t : BackingArray)
-    (qs : List OwnedText)
-    (u : BackingArray) : Type 0 where
+    (qs : List OwnedText) (u : BackingArray) : Type 0 where
   pub out : List OwnedText
   pub in_place : List OwnedText
   pub part : IsPartOther ps qs out in_place

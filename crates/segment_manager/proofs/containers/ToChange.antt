@@ -1,9 +1,8 @@
 -- The container that is to be changed, as the calls that change it find it.
 use Rattle.segment_manager.proofs.Common.{◌≡◌, true, false, sym, subst, Result, Ok, Err, MatchResult, Kind, Refusal}
 use Rattle.segment_manager.proofs.Common.{Key, Command, Place, Refused, container_at, AnswersWith, SegmentState}
-use Rattle.segment_manager.proofs.Common.{TakesStepOfKind}
-use Rattle.segment_manager.proofs.Common.{Answer, answer_of, is_changing, is_read_only, IsNotToChange, exit-is}
-use Rattle.segment_manager.proofs.{containers.Refilled.finds-no_container, Steps.open-writing}
+use Rattle.segment_manager.proofs.Common.{TakesStepOfKind, Answer, answer_of, is_changing, is_read_only, IsNotToChange}
+use Rattle.segment_manager.proofs.{Common.exit-is, containers.Refilled.finds-no_container, Steps.open-writing}
 use Rattle.std.specs.Prelude.{IsErrAnd}
 use Rattle.segment_manager.specs.containers.ToChange.{IsChangeableContainer}
 
@@ -24,8 +23,7 @@ seen-found s t view key kind p =
 
 -- where there is none, the call that would change it answers why
 pub not-changed : {R : Type 0} {s : SegmentState} {key : Key} {l k : Kind} {why : Refusal} (says : R
-    → Answer) (c : Command)
-    (r : Result R Refusal) → l ≡ k → IsErrAnd r (λ e. e ≡ why) → is_changing c ≡ true → IsNotToChange s key l why
-    → TakesStepOfKind s s key k c (answer_of says r)
+    → Answer) (c : Command) (r : Result R Refusal) → l ≡ k → IsErrAnd r (λ e. e ≡ why)
+    → is_changing c ≡ true → IsNotToChange s key l why → TakesStepOfKind s s key k c (answer_of says r)
 not-changed {s = s} {key = key} {why = why} says c r same is changing not = rw (exit-is r why is)
     (subst (λ (kind : Kind). TakesStepOfKind s s key kind c (Refused why)) same (not.refused c changing))

@@ -1,40 +1,37 @@
 -- What the calls of seg_vector ensure of the vector at the place that was found, as the steps of the calls on the
 -- object's vector.
 use Rattle.segment_manager.proofs.Common as common
+use Rattle.seg_types.specs.Commands as asked
 use common.{◌++◌, slice_get, take-map, slice_set, same_kind, OutOfRange, RefusesIndex, Directory, IsSegment, answer_of}
 use common.{◌+◌, length-map, map-append, option_map, literal_of, ScalarKind, ReplacesVector, is_read_only, done_answer}
 use common.{◌-◌, ◌<◌, Err, [], ap, inl, inr, map, pos, sym, true, ◌∙◌, ◌∷◌, ◌≡◌, ◌≤◌, WindowState, Key, Done, live}
-use common.{Bool}
-use common.{IsTrue, Result, get_or, length, le-ltb, lt-ltb, insert, remove, Vector, AnswersWith, changed, Command, List}
-use common.{None, Some, arith, false, refl, subst, take, BackingArray, Place, Value, Reply, SegmentState, effect}
-use common.{Answer, Ok}
-use common.{slice_get-get_or, slice_get-map, slice_get_past, value_of_literal, capacity_for_one, LacksSpace, ℕ}
-use common.{IsSomeVector, GrowsVectorOk, container_at, is_good_value, with_capacity, TakesStepOfKind, AnswersSafely, ℤ}
-use common.{list_all, flat_map, size_of, Refusal, NoSpace, Assigns, Element, Refused, Elements, kind_of, perform}
+use common.{Bool, IsTrue, Result, get_or, length, le-ltb, lt-ltb, insert, remove, Vector, AnswersWith, changed, Command}
+use common.{List, None, Some, arith, false, refl, subst, take, BackingArray, Place, Value, Reply, SegmentState, effect}
+use common.{Answer, Ok, slice_get-get_or, slice_get-map, slice_get_past, value_of_literal, capacity_for_one, LacksSpace}
+use common.{ℕ, IsSomeVector, GrowsVectorOk, container_at, is_good_value, with_capacity, TakesStepOfKind, AnswersSafely}
+use common.{ℤ, list_all, flat_map, size_of, Refusal, NoSpace, Assigns, Element, Refused, Elements, kind_of, perform}
 use common.{grown_backing, current, Denotes, Option, Plan, DenotesCurrent}
-use Rattle.segment_manager.proofs.containers.RangeCalls.{RangeWritten, range-done, range-elements, range-refused}
-use Rattle.segment_manager.proofs.containers.RangeCalls.{range-short, range-written, row-elements, whole-replaced}
-use Rattle.segment_manager.proofs.containers.Extending.{VectorExtended, extended-done, extended-found, extended-refused}
-use Rattle.segment_manager.proofs.containers.Extending.{extended-room}
-use Rattle.segment_manager.proofs.containers.Refilled.{then_room}
-use Rattle.segment_manager.specs.containers.Ranges.{extended, numbers_if, replaced}
-use Rattle.seg_vector.specs.{Vector.capacity_for_more, VectorCalls.ExtendsBy, VectorCalls.SetsAll}
-use Rattle.segment_manager.proofs.containers.Safely.{pick-outside, pick-space, Answered, answered, done-so, kept-gaps}
-use Rattle.segment_manager.proofs.{containers.Safely.same-live, Common.live_of}
+use Rattle.segment_manager.proofs.containers.RangeCalls.{RangeWritten, range-done, range-elements, range-moves}
+use Rattle.segment_manager.proofs.containers.RangeCalls.{range-short, row-elements, whole-replaced}
+use Rattle.segment_manager.proofs.containers.Extending.{VectorExtended, extended-found, extended-room}
+use Rattle.segment_manager.proofs.{containers.Refilled.then_room, Common.live_of, Whole.whole-values}
+use Rattle.segment_manager.proofs.{containers.ToChange.seen-found, Steps.open-reading, Steps.open-writing}
+use Rattle.segment_manager.specs.containers.Ranges.{extended, numbers_if, replaced, written}
+use Rattle.seg_vector.specs.{Vector.capacity_for_more, VectorCalls.Sets}
+use Rattle.seg_vector.specs.VectorCalls.{ExtendsBy, SetsAll, ErasesFrom, Gets, InsertsInto, IsVector, Pops, Pushes}
+use Rattle.segment_manager.proofs.containers.Safely.{performed, pick-outside, pick-space, Answered, answered, done-so}
+use Rattle.segment_manager.proofs.containers.Safely.{kept-gaps, refuses-so, same-live}
 use Rattle.best_fit.specs.Heap.{KeepsGaps}
 use Rattle.seg_vector.proofs.Laws.{same-extents}
 use Rattle.segment_manager.proofs.containers.ContentPlans.{assign-plan, erase-plan, get-plan, insert-plan, pop-plan}
 use Rattle.segment_manager.proofs.containers.ContentPlans.{push-plan, set-plan}
 use Rattle.segment_manager.proofs.containers.ItemSteps.{HoldsItems, ListedGrown, ListedNow, Listing, changes-safely}
-use Rattle.segment_manager.proofs.containers.ItemSteps.{found-items, items-denote}
-use Rattle.segment_manager.proofs.containers.ItemSteps.{grows-safely, items-full, items-grown, items-now, items-refused}
-use Rattle.segment_manager.proofs.containers.ItemSteps.{items-stay, items-steps, so-too, some-items, vector-only}
+use Rattle.segment_manager.proofs.containers.ItemSteps.{found-items, items-denote, grows-safely, items-full}
+use Rattle.segment_manager.proofs.containers.ItemSteps.{items-grown, items-now, items-refused, items-stay, items-steps}
+use Rattle.segment_manager.proofs.containers.ItemSteps.{so-too, some-items, vector-only}
 use Rattle.segment_manager.proofs.Whole.{IsOfKind, whole-insert, whole-reached, whole-remove, whole-set, whole-spelled}
 use Rattle.segment_manager.proofs.objects.Stored.{literal-read, literals-read}
-use Rattle.segment_manager.proofs.{Whole.whole-values, containers.Contained.contents-fit}
-use Rattle.segment_manager.proofs.{containers.ToChange.seen-found, Steps.open-reading, Steps.open-writing}
-use Rattle.seg_vector.specs.VectorCalls.{ErasesFrom, Gets, InsertsInto, IsVector, Pops, Pushes, Sets}
-use Rattle.seg_types.specs.Commands as asked
+use Rattle.segment_manager.proofs.containers.Contained.{contents-fit}
 
 module _ {T : Type 0} {k : ScalarKind} {w : T → ℤ} {size : ℕ} {test : T → Bool} {sp : T → List ℕ}
     (law : IsOfKind k w size test sp) where
@@ -68,13 +65,11 @@ module _ {T : Type 0} {k : ScalarKind} {w : T → ℤ} {size : ℕ} {test : T �
   }
 
   now-so : {old new : WindowState} {p : Place} {t u : BackingArray} {ys : List T}
-      → ReplacesVector size test sp old new p t ys u
-      → ListedNow typed old new p t ys u
+      → ReplacesVector size test sp old new p t ys u → ListedNow typed old new p t ys u
   now-so r = record { change = r.change; stands = r.vector.stands; values = r.vector.values }
 
   grown-so : {old new : WindowState} {p : Place} {t : BackingArray} {n : ℕ} {ys : List T}
-      → GrowsVectorOk size test sp old new p t n ys
-      → ListedGrown typed old new p t n ys
+      → GrowsVectorOk size test sp old new p t n ys → ListedGrown typed old new p t n ys
   grown-so r = record { table = r.table; grown = r.grown; now = now-so r.now }
 
   -- the place that was found, as the view before the call, the type and the vector name it
@@ -115,14 +110,12 @@ module _ {T : Type 0} {k : ScalarKind} {w : T → ℤ} {size : ℕ} {test : T �
         some.stands.own g.now.change e)
 
     pub set-gaps : {new : WindowState} (i : ℕ) (x : T) (r : Result (Unit {0}) Refusal)
-        → Sets size test sp s.cut new p i x r
-        → KeepsGaps t.cut new
+        → Sets size test sp s.cut new p i x r → KeepsGaps t.cut new
     set-gaps i x r a = kept-gaps view r (a some.items some.table (vector b.0 some)) (λ u m. m.1.gaps refl)
         (λ e m. m.same)
 
     pub erase-gaps : {new : WindowState} (i : ℕ) (r : Result (Unit {0}) Refusal)
-        → ErasesFrom size test sp s.cut new p i r
-        → KeepsGaps t.cut new
+        → ErasesFrom size test sp s.cut new p i r → KeepsGaps t.cut new
     erase-gaps i r a = kept-gaps view r (a some.items some.table (vector b.0 some)) (λ u m. m.1.gaps refl)
         (λ e m. m.same)
 
@@ -135,14 +128,12 @@ module _ {T : Type 0} {k : ScalarKind} {w : T → ℤ} {size : ℕ} {test : T �
         (λ u g. grown-gaps g (same-live view new e)) (λ e m. m.same)
 
     pub insert-gaps : {new : WindowState} (i : ℕ) (x : T) (r : Result (Unit {0}) Refusal)
-        → InsertsInto size test sp s.cut new p
-        i x r → live_of new.bytes ≡ live_of t.cut.bytes → KeepsGaps t.cut new
+        → InsertsInto size test sp s.cut new p i x r → live_of new.bytes ≡ live_of t.cut.bytes → KeepsGaps t.cut new
     insert-gaps {new} i x r a e = kept-gaps view r (a some.items some.table (vector b.0 some))
         (λ u g. grown-gaps g.1 (same-live view new e)) (λ e m. elim m [ inl o ↦ o.same | inr o ↦ o.1.same ])
 
     pub assign-gaps : {new : WindowState} (ys : List T) (r : Result (Unit {0}) Refusal)
-        → Assigns size test sp s.cut new p ys r
-        → live_of new.bytes ≡ live_of t.cut.bytes → KeepsGaps t.cut new
+        → Assigns size test sp s.cut new p ys r → live_of new.bytes ≡ live_of t.cut.bytes → KeepsGaps t.cut new
     assign-gaps {new} ys r a e = kept-gaps view r (a some.items some.table (vector b.0 some))
         (λ u g. grown-gaps g (same-live view new e)) (λ e m. m.same)
 
@@ -291,22 +282,23 @@ module _ {T : Type 0} {k : ScalarKind} {w : T → ℤ} {size : ℕ} {test : T �
 
       pub vector-overwritten : (first : ℕ) (ys : List T) (r : Result (Unit {0}) Refusal)
           → SetsAll size test sp s.cut new p first ys r → RangeWritten s t new key k first (map w ys) r
-      vector-overwritten first ys (Ok u) a = range-written s key k first (map w ys) t view b new
+      vector-overwritten first ys (Ok u) a =
+          performed s t view b new (λ mode d. written mode d key k first (map w ys))
           (a some.items some.table (vector b.0 some)).1.change.place (λ d l.
           let h = found-items typed s key p b found d l in
-          range-done s.mode d key k first (map w ys) writing h.object h.is (map w h.items)
+          let r = a h.items h.table (vector d h) in
+          let inside = r.0 in
+          range-moves s key k first (map w ys) new d
+          (range-done s.mode d key k first (map w ys) writing h.object h.is (map w h.items)
           (ap (numbers_if k) h.value ∙ row-elements k (map w h.items) h.table)
-          (let inside = (a h.items h.table (vector d h)).0 in
-          omega (arith, inside, length-map ys w, length-map h.items w))) (λ d l.
-          let h = found-items typed s key p b found d l in
-          subst (Denotes current new.bytes)
+          (omega (arith, inside, length-map ys w, length-map h.items w))) (subst (Denotes current new.bytes)
           (ap (λ zs. changed d h.object (Elements k zs h.table)) (whole-replaced w h.items first ys)
           ∙ sym (range-elements d key h.object k (map w h.items) h.table first (map w ys) h.is h.value))
-          (items-denote s.cut new l.denotes h (replaced h.items first ys) h.table
-          (now-so (a h.items h.table (vector d h)).1)))
+          (items-denote s.cut new l.denotes h (replaced h.items first ys) h.table (now-so r.1))))
       vector-overwritten first ys (Err e) a =
           let out = a some.items some.table (vector b.0 some) in
-          range-refused s key k first (map w ys) t view b new OutOfRange e out.refusal out.same (λ d l.
+          refuses-so s t view b new (λ mode d. written mode d key k first (map w ys)) OutOfRange e out.refusal
+          out.same (λ d l.
           let h = found-items typed s key p b found d l in
           range-short s.mode d key k first (map w ys) writing h.object h.is (map w h.items)
           (ap (numbers_if k) h.value ∙ row-elements k (map w h.items) h.table)
@@ -331,12 +323,12 @@ module _ {T : Type 0} {k : ScalarKind} {w : T → ℤ} {size : ℕ} {test : T �
             (capacity_for_more (length h.items) (length ys) h.table.capacity) h.table ≡ r
             → extended s.mode d key k (map w ys) ≡ then_room d (live d) h.table behind_last r
         extends-to l r e = extended-found s.mode d key k (map w ys) writing h.object h.is (map w h.items) h.table
-            h.value
-            ∙ extended-room d l.denotes k wanted_places h.table behind_last r (asked-places e)
+            h.value ∙ extended-room d l.denotes k wanted_places h.table behind_last r (asked-places e)
 
       pub vector-extended : (ys : List T) (r : Result (Unit {0}) Refusal) → ExtendsBy size test sp s.cut new p ys r
           → VectorExtended s t new key k (map w ys) r
-      vector-extended ys (Ok u) a = extended-done s key k (map w ys) t view b new
+      vector-extended ys (Ok u) a =
+          performed s t view b new (λ mode d. extended mode d key k (map w ys))
           (a some.items some.table (vector b.0 some)).now.change.place (λ d l.
           let h = found-items typed s key p b found d l in
           let r = a h.items h.table (vector d h) in
@@ -344,10 +336,12 @@ module _ {T : Type 0} {k : ScalarKind} {w : T → ℤ} {size : ℕ} {test : T �
             after = changed d h.object (Elements k (map w (h.items ++ ys)) r.table);
             is = extends-to ys d h l (Some r.table) r.grown
                 ∙ ap (λ zs. (Done, changed d h.object (Elements k zs r.table))) (sym (map-append w h.items ys));
-            denotes = items-denote s.cut new l.denotes h (h.items ++ ys) r.table (now-so r.now);
+            stands = record {
+              denotes = items-denote s.cut new l.denotes h (h.items ++ ys) r.table (now-so r.now);
+            };
           })
       vector-extended ys (Err e) a =
           let out = a some.items some.table (vector b.0 some) in
-          extended-refused s key k (map w ys) t view b new NoSpace e out.refusal out.same (λ d l.
+          refuses-so s t view b new (λ mode d. extended mode d key k (map w ys)) NoSpace e out.refusal out.same (λ d l.
           let h = found-items typed s key p b found d l in
           extends-to ys d h l None (a h.items h.table (vector d h)).none)

@@ -1,16 +1,17 @@
 -- The bridge from a directory to the two indexes of its heap: what a look-up in them means for the directory, and which
 -- entry an object is when it comes or goes. What the bytes hold stands in HeldIndexes.
 use Rattle.segment_manager.proofs.Common as common
+use Rattle.seg_types.specs.Names as names
 use common.{◌≡◌, refl, sym, ap, subst, ◌∙◌, ℕ, ◌+◌, ◌<◌, ◌≤◌, ◌≢◌, ◌⊎◌, inl, inr, true, false, ◌&&◌, ◌==◌, Some, None}
 use common.{List, [], ◌∷◌, length, arith, IsTrue, filter, find, insert, remove, slice_get, AllByRecursion, nat_cmp}
 use common.{slice_cmp, and_from, cases_lt, cond-true, cond-false, eq-eqb, ne_eqb, false≢true, same_Some, current}
-use common.{WindowState}
-use common.{Memory, bytes_of, handle, NamedClass, UniqueClass, Kind, code_of, same_kind, Index, Named, Unique, Name}
-use common.{Code, Found, Absent, FindsPosition, Object, Directory, IsDirectory, has_key, insert_by, is_class, kind_of}
-use common.{object_at, remove_object, rises_from, same_bytes, with_object, without_object, Denotes, handles, IsEntry}
-use common.{Seeks, class_of_index, entries_of, objects_of, order_of, table_of, by_name, by_kind}
-use Rattle.segment_manager.proofs.indexes.HeldIndexes.{all-in, directory-index, entries-in}
-use Rattle.segment_manager.proofs.indexes.HeldIndexes.{objects-ascend, order-strict}
+use common.{WindowState, Memory, bytes_of, handle, NamedClass, UniqueClass, Kind, code_of, same_kind, Index, Named}
+use common.{Unique, Name, Code, Found, Absent, FindsPosition, Object, Directory, IsDirectory, has_key, insert_by}
+use common.{is_class, kind_of, object_at, remove_object, rises_from, same_bytes, with_object, without_object, Denotes}
+use common.{handles, IsEntry, Seeks, class_of_index, entries_of, objects_of, order_of, table_of, by_name, by_kind}
+use Rattle.segment_manager.proofs.indexes.HeldIndexes.{all-in, directory-index, entries-in, objects-ascend}
+use Rattle.segment_manager.proofs.{indexes.HeldIndexes.order-strict, objects.Ranks.IsRanked, objects.Ranks.all-ordered}
+use Rattle.segment_manager.proofs.{Faces.ordered-without, Denoted.handles-length, Live.IsIn, blocks.InUse.all-both}
 use Rattle.segment_manager.proofs.indexes.KeyOrder.{Says, code-of, kinds-apart, kinds-class, kinds-say, name-of}
 use Rattle.segment_manager.proofs.indexes.KeyOrder.{same-itself, names-apart, names-class, names-say}
 use Rattle.segment_manager.proofs.indexes.EntryPlaces.{IsPlaceOf, all-at, all_of-ordered, ascends-at, at-all, at-handle}
@@ -19,11 +20,8 @@ use Rattle.segment_manager.proofs.objects.RankedPairs.{found-filter, ordered-pai
 use Rattle.segment_manager.proofs.indexes.Indexes.{index-parts, named-more, rises-above, unique-more, one-removed}
 use Rattle.segment_manager.proofs.indexes.Indexes.{by_name-strict, by_kind-strict}
 use Rattle.segment_manager.proofs.objects.ObjectLists.{rises-rest, all-found}
-use Rattle.segment_manager.proofs.objects.Ranks.{IsRanked, all-ordered}
-use Rattle.segment_manager.proofs.{Faces.ordered-without, Denoted.handles-length, Live.IsIn, blocks.InUse.all-both}
 use Rattle.raw_region.proofs.Facts.{first}
 use Rattle.seg_index.specs.{declared.keys.Entry.Entry, Lookups.order, Sorted.index_of}
-use Rattle.seg_types.specs.Names as names
 
 -- what a place among the entries means: the object of the key, which that entry leads to
 pub record IsEntryFor (i : Index) (d : Directory) (key : names.Key) (at : ℕ) : Type 0 where
@@ -161,9 +159,8 @@ place-of i c {d} e key at o k q p h j r f =
     ((λ l. says.behind o h (each.0 l)), (λ l. says.ahead o h (each.1 l)))
 
 -- the objects of an index with one more
-objects-more : (i : Index) (d : Directory) (e : Entry) (key : names.Key) (o : Object) → Seeks i e key
-    → has_key key o ≡ true → object_at d key ≡ None
-    → objects_of i (with_object d o) ≡ insert_by (order_of i) o (objects_of i d)
+objects-more : (i : Index) (d : Directory) (e : Entry) (key : names.Key) (o : Object) → Seeks i e key → has_key key o
+    ≡ true → object_at d key ≡ None → objects_of i (with_object d o) ≡ insert_by (order_of i) o (objects_of i d)
 objects-more Named d (Name s) (names.ByName name) o q h n = named-more d o (first (is_class NamedClass o)
     (same_bytes name o.name) h) (subst (λ bs. object_at d (names.ByName bs) ≡ None) (name-of o h) n)
 objects-more Unique d (Code x) (names.ByKind k) o q h n = unique-more d o (first (is_class UniqueClass o)

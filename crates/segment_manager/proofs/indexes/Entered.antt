@@ -94,8 +94,7 @@ other-one index.Unique d t o a b = record { is = a; at = b }
 
 -- the other index with the object
 pub entered-other : (i : Index) {m : Memory} {d : Directory} (t : BackingArray) (o : Object)
-    → o.class ≡ class_of_index i
-    → HasOne (other i) m d → HasOne (other i) m (with_object (with_table_of i d t) o)
+    → o.class ≡ class_of_index i → HasOne (other i) m d → HasOne (other i) m (with_object (with_table_of i d t) o)
 entered-other i {m} {d} t o c h =
     let e = sym (other-with i d o (other_class i o c)) in
     other-one i d t o (subst (λ os. IsTrue (is_index (table_of (other i) d) os (order_of (other i)))) e h.is)

@@ -1,23 +1,22 @@
 -- Bytes that denote a directory hold its two indexes: each stands in its heap with its block, and its entries lead to
 -- rising keys.
-use Rattle.segment_manager.proofs.Common.{◌≡◌, sym, ◌∙◌, ℕ, ◌+◌, ◌≤◌, ◌%◌, [], ◌∷◌, Less, WindowState, live}
-use Rattle.segment_manager.proofs.Common.{subst, true, Some, List, arith, Memory, handle, Index, Named, Unique, Object}
-use Rattle.segment_manager.proofs.Common.{length, bytes_of, place_of, is_class, is_index, is_object, order_of}
-use Rattle.segment_manager.proofs.Common.{IsTrue, IfSome, le-leb, current, Denotes, handles, IsEntry, table_of}
-use Rattle.segment_manager.proofs.Common.{AllByRecursion, nat_cmp, IsDirectory, IsObjectAt, class_of_index}
-use Rattle.segment_manager.proofs.Common.{slice_cmp, extent_at, IsIndexOf, IsIndexAt, Directory, entries_of, objects_of}
+use Rattle.segment_manager.proofs.Common.{◌≡◌, sym, ◌∙◌, ℕ, ◌+◌, ◌≤◌, ◌%◌, [], ◌∷◌, Less, WindowState, live, subst}
+use Rattle.segment_manager.proofs.Common.{true, Some, List, arith, Memory, handle, Index, Named, Unique, Object, length}
+use Rattle.segment_manager.proofs.Common.{bytes_of, place_of, is_class, is_index, is_object, order_of, IsTrue, IfSome}
+use Rattle.segment_manager.proofs.Common.{le-leb, current, Denotes, handles, IsEntry, table_of, AllByRecursion, nat_cmp}
+use Rattle.segment_manager.proofs.Common.{IsDirectory, IsObjectAt, class_of_index, slice_cmp, extent_at, IsIndexOf}
+use Rattle.segment_manager.proofs.Common.{IsIndexAt, Directory, entries_of, objects_of, ObjectRole, and_from, and_parts}
+use Rattle.segment_manager.proofs.Common.{ap, has_good_name, holds, is_good_value, ◌&&◌, is_kind_of, kind_of}
+use Rattle.segment_manager.proofs.Common.{object_len, same_role, serves}
 use Rattle.segment_manager.proofs.objects.Heads.{entries_say_objects, entry-name_len, good-name, good_name-short}
 use Rattle.segment_manager.proofs.blocks.InUse.{IsInUse, all-both, all-each, named-in_use, objects-in_use}
+use Rattle.segment_manager.proofs.{blocks.InUse.unique-in_use, objects.ObjectLists.each-true, Denoted.handles-length}
+use Rattle.segment_manager.proofs.{Calling.denotes-heap, Calling.denotes-live, Frame.object-roomy}
 use Rattle.segment_manager.proofs.indexes.EntryPlaces.{Ascends, rises-ascends}
 use Rattle.segment_manager.proofs.indexes.KeyOrder.{kind-less, name-less}
 use Rattle.segment_manager.proofs.indexes.Indexes.{index-parts, by_kind-strict, by_name-strict}
 use Rattle.segment_manager.proofs.objects.Ranks.{all-ordered, IsStrict}
-use Rattle.segment_manager.proofs.{blocks.InUse.unique-in_use, objects.ObjectLists.each-true, Denoted.handles-length}
-use Rattle.segment_manager.proofs.{Calling.denotes-heap, Calling.denotes-live, Frame.object-roomy}
-use Rattle.raw_region.proofs.Facts.{AllByRecursion-filter}
-use Rattle.segment_manager.proofs.Common.{ObjectRole, and_from, and_parts, ap, has_good_name, holds, is_good_value}
-use Rattle.segment_manager.proofs.Common.{◌&&◌, is_kind_of, kind_of, object_len, same_role, serves}
-use Rattle.raw_region.proofs.Facts.{second}
+use Rattle.raw_region.proofs.Facts.{AllByRecursion-filter, second}
 use Rattle.seg_index.specs.Sorted.{AreSortedHandles, HasSortKey, HasSortedIndex, sort_key_end, sort_order}
 use Rattle.std.specs.List.Sorted.{IsStrictlySortedBy}
 

@@ -4,17 +4,16 @@ use common.{◌≡◌, refl, sym, ap, subst, ◌∙◌, ℕ, ◌+◌, ◌<◌, �
 use common.{[], ◌∷◌, length, arith, if◌then◌else◌, cond, IsTrue, nat_le, find, filter, AllByRecursion, Ordering, Less}
 use common.{Equal, Greater, nat_cmp, is_lt, is_eq, ordering_reverse, slice_cmp, texts_ties, nat_list_cmp_total}
 use common.{and_from, ltb-true, ltb-false, lt-ltb, le-ltb, le-leb, eqb-false, handle, is_proper, BackingArray}
-use common.{has_backing, Class}
-use common.{code_of, same_kind, ByName, ByKind, Object, Directory, IsDirectory, live, kind_of, same_bytes, has_key}
-use common.{object_at, is_class, is_object, is_index, rises, rises_from, remove_object, with_object, without_object}
-use common.{by_name, by_kind, insert_by, named_objects, unique_objects}
+use common.{has_backing, Class, code_of, same_kind, ByName, ByKind, Object, Directory, IsDirectory, live, kind_of}
+use common.{same_bytes, has_key, object_at, is_class, is_object, is_index, rises, rises_from, remove_object}
+use common.{with_object, without_object, by_name, by_kind, insert_by, named_objects, unique_objects}
 use Rattle.segment_manager.proofs.Live.{IsFound, IsIn, Place, here, behind, found-place, remove-here, remove-behind}
 use Rattle.segment_manager.proofs.objects.ObjectLists.{list_all-remove, remove-rises, rises-weak, rises-front}
+use Rattle.segment_manager.proofs.{objects.ObjectLists.rises-rest, objects.Ranks.all-ordered}
 use Rattle.segment_manager.proofs.objects.Ranks.{IsStrict, IsRanked, before, after, AllRanked, ordered-put, remove-more}
 use Rattle.segment_manager.proofs.objects.RankedPairs.{ordered-pairwise, pairwise-remove, insert_by-rises}
 use Rattle.segment_manager.proofs.objects.RankedPairs.{without-rises, insert_by-length}
 use Rattle.segment_manager.proofs.Faces.{ordered-without, ordered}
-use Rattle.segment_manager.proofs.{objects.ObjectLists.rises-rest, objects.Ranks.all-ordered}
 use Rattle.raw_region.proofs.Facts.{AllByRecursion-filter, first, second, no_more}
 use Rattle.block_tags.specs.declared.tile.Role.TheVariants.{Index}
 use Rattle.seg_types.specs.declared.kinds.Class.TheVariants.{Named, Unique}

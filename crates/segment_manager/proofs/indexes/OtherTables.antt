@@ -1,33 +1,29 @@
 -- What the bytes denote where an index has another table, and where one object is gone.
 use Rattle.segment_manager.proofs.Common as common
+use Rattle.seg_index.specs.declared.index.Index.TheVariants as index
 use common.{◌≡◌, SameBytes-part, IndexRole, is_proper, SameBlock, entries_of, option_map, ReservesIndexOk, rises_from}
-use common.{objects_of}
-use common.{refl, Option, IsTrue, Memory, Extent, LiveSet, handle, EncodesLiveSet, live_of, Denotes, resized, link_at}
-use common.{handles}
-use common.{sym, ◌∙◌, ◌+◌, ◌≤◌, Some, None, List, WindowState, live, ◌*◌, Bool, true, ◌&&◌, ◌==◌, [], ◌||◌, place, ◌∷◌}
-use common.{ap, subst, arith, added, KeepsBlocks, BackingArray, Index, Object, false, length, nat_le, nat_lt, eq-eqb}
-use common.{serves}
-use common.{ℕ, flat_map, bytes_of, no_backing, unlinked, IsIndexOf, Directory, is_object, shrunk_backing}
-use common.{KeepsOutsideIndex, IsIndexAt}
-use common.{AllByRecursion, class_of_index, with_table_of, if◌then◌else◌, placed_is_proper, lay_out_one, without_object}
-use common.{current, place_of, table_of, list_all, eqb-true, released, has_backing, ShrinksIndex, IsHeader, is_index}
-use common.{order_of}
-use common.{SameBytes-trans, blocks-trans, beside_table, without_link, extents_of, IsObjectAt, remove_object}
-use common.{table_extents}
+use common.{objects_of, refl, Option, IsTrue, Memory, Extent, LiveSet, handle, EncodesLiveSet, live_of, Denotes}
+use common.{resized, link_at, handles, sym, ◌∙◌, ◌+◌, ◌≤◌, Some, None, List, WindowState, live, ◌*◌, Bool, true, ◌&&◌}
+use common.{◌==◌, [], ◌||◌, place, ◌∷◌, ap, subst, arith, added, KeepsBlocks, BackingArray, Index, Object, false}
+use common.{length, nat_le, nat_lt, eq-eqb, serves, ℕ, flat_map, bytes_of, no_backing, unlinked, IsIndexOf, Directory}
+use common.{is_object, shrunk_backing, KeepsOutsideIndex, IsIndexAt, AllByRecursion, class_of_index, with_table_of}
+use common.{if◌then◌else◌, placed_is_proper, lay_out_one, without_object, current, place_of, table_of, list_all}
+use common.{eqb-true, released, has_backing, ShrinksIndex, IsHeader, is_index, order_of, SameBytes-trans, blocks-trans}
+use common.{beside_table, without_link, extents_of, IsObjectAt, remove_object, table_extents}
 use Rattle.segment_manager.proofs.indexes.Entered.{HasOne, has_both, of_rest, other, other-stays, other-words}
+use Rattle.segment_manager.proofs.{indexes.Entered.other_class, indexes.HeldIndexes.denotes-index}
+use Rattle.segment_manager.proofs.{indexes.Bridge.no-entry-removed, Order.live-rises, Calling.denotes-live}
 use Rattle.segment_manager.proofs.indexes.Tables.{index-left_out, left_out, live-moved_index, live-no_index}
+use Rattle.segment_manager.proofs.indexes.Tables.{live-resized_index, live-same_index}
 use Rattle.segment_manager.proofs.indexes.Tabled.{same-size, same-objects, has-one, place-high}
 use Rattle.segment_manager.proofs.Live.{IsIn, OfEach, live-without, of_each, removing}
 use Rattle.segment_manager.proofs.Denoted.{KeepsFront, denotes-taken, handles-length}
-use Rattle.segment_manager.proofs.{indexes.Entered.other_class, indexes.Indexes.index-from, indexes.Indexes.index-parts}
-use Rattle.segment_manager.proofs.{indexes.Tables.live-resized_index, indexes.HeldIndexes.denotes-index}
-use Rattle.segment_manager.proofs.{indexes.Tables.live-same_index, Frame.header-same, indexes.Bridge.no-entry-removed}
-use Rattle.segment_manager.proofs.{Order.live-rises, Frame.any_index-same, Frame.any_objects-same, Calling.denotes-live}
+use Rattle.segment_manager.proofs.indexes.Indexes.{index-from, index-parts}
+use Rattle.segment_manager.proofs.Frame.{header-same, any_index-same, any_objects-same}
 use Rattle.raw_region.proofs.Facts.{AllByRecursion-behind, AllByRecursion-front, AllByRecursion-append}
 use Rattle.seg_index.proofs.Laws.{place_behind}
 use Rattle.best_fit.specs.Fit.{gap_after, room, shorter}
 use Rattle.seg_index.specs.Capacities.{with_cut}
-use Rattle.seg_index.specs.declared.index.Index.TheVariants as index
 
 -- ---- an index has another table
 
@@ -156,9 +152,8 @@ no-places t n h few e = eq-eqb n 0 (omega (
   ])) e h)),
 ))
 
-pub shrunk-tabled : {i : Index} {a c : WindowState} {d : Directory} → Denotes current a.bytes d
-    → ShrinksIndex a c (place_of i)
-    (table_of i d) (entries_of i d)
+pub shrunk-tabled : {i : Index} {a c : WindowState} {d : Directory}
+    → Denotes current a.bytes d → ShrinksIndex a c (place_of i) (table_of i d) (entries_of i d)
     → IsTabled i a c d (shrunk_backing (live d) 8 (length (objects_of i d)) (table_of i d))
 shrunk-tabled {i} {a} {c} {d} k r =
     let x = denotes-index i a k in let now = denotes-live current a.bytes d k in
@@ -223,8 +218,7 @@ table-in index.Unique P d o e = e.unique
 
 -- the directory without the object is what the new bytes denote
 pub removed-denotes : {i : Index} {a b c : WindowState} {d : Directory} (o : Object) → Denotes current a.bytes d
-    → IsIn d o
-    → o.class ≡ class_of_index i → IsLeft i a b (table_of i d) (entries_of i (without_object d o))
+    → IsIn d o → o.class ≡ class_of_index i → IsLeft i a b (table_of i d) (entries_of i (without_object d o))
     → IsGone b c (extents_of o) → Denotes current c.bytes (without_object d o)
 removed-denotes {i} {a} {b} {c} {d} o k f class e g =
     let A = bytes_of a.bytes in let B = bytes_of b.bytes in

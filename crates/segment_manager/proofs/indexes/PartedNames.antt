@@ -1,15 +1,12 @@
 -- A look-up in the index of names parts them by the text that is looked up.
 use Rattle.segment_manager.proofs.Common as common
-use common.{◌≡◌, sym, ap, subst, ◌∙◌, ℕ, ◌<◌, ◌≤◌, ◌⊎◌, inl, inr, true, false, Some, length, arith, cases_lt}
-use common.{slice_get, slice_get_within, List, slice_cmp, nat_cmp, is_lt, Equal, same_Some, WindowState, bytes_of}
-use common.{Entry}
-use common.{Name, Found, Absent, FindsPosition, handle, Object, Directory, by_name, named_objects, Denotes, IsEntry}
-use common.{Named}
+use common.{◌≡◌, sym, ap, subst, ◌∙◌, ℕ, ◌<◌, ◌≤◌, ◌⊎◌, inl, inr, true, false, Some, arith, cases_lt, slice_get}
+use common.{slice_get_within, List, slice_cmp, nat_cmp, is_lt, Equal, same_Some, WindowState, bytes_of, Name, Found}
+use common.{Absent, FindsPosition, handle, Object, Directory, by_name, named_objects, Denotes, IsEntry, Named}
 use common.{entries_of, current, SegmentState}
 use Rattle.segment_manager.proofs.indexes.HeldIndexes.{entries-in, objects-ascend}
 use Rattle.segment_manager.proofs.indexes.EntryPlaces.{all-at, ascends-at, at-handle, stands-at}
-use Rattle.segment_manager.proofs.indexes.Indexes.{by_name-strict}
-use Rattle.segment_manager.proofs.Denoted.{handles-length}
+use Rattle.segment_manager.proofs.{indexes.Indexes.by_name-strict, Denoted.handles-length}
 use Rattle.segment_manager.proofs.objects.KeyCalls.{ForIndex, of-directory}
 use Rattle.std.proofs.lemmas.Map.Lookups.{exact_bytes}
 use Rattle.seg_index.specs.Lookups.{order}
@@ -24,9 +21,8 @@ module _ (c : WindowState) (d : Directory) (k : Denotes current c.bytes d) (s : 
       (sym (all-at (IsEntry (bytes_of c.bytes)) (named_objects d) j (entries-in Named c k) f).name i) s.now
 
   -- one behind the entry of the text, or the entry itself, does not stand before the text
-  from-there : (at j : ℕ) {o p : Object} → slice_get (named_objects d) at ≡ Some o
-      → slice_get (named_objects d) j ≡ Some p → slice_cmp nat_cmp o.name s.now ≡ Equal → at ≤ j
-      → (at < j) ⊎ (j ≤ at) → is_before s.now p ≡ false
+  from-there : (at j : ℕ) {o p : Object} → slice_get (named_objects d) at ≡ Some o → slice_get (named_objects d) j
+      ≡ Some p → slice_cmp nat_cmp o.name s.now ≡ Equal → at ≤ j → (at < j) ⊎ (j ≤ at) → is_before s.now p ≡ false
   from-there at j {o} {p} f g e l (inl m) = subst (λ n. is_lt (slice_cmp nat_cmp p.name n) ≡ false)
       (exact_bytes o.name s.now e) (by_name-strict.asym o p
       (ascends-at (λ o p. by_name o p ≡ true) (named_objects d) at j (objects-ascend Named k.directory) m f g))

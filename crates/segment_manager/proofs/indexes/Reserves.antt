@@ -1,21 +1,19 @@
 -- The calls that give the indexes other capacities, as steps of the machine.
 use Rattle.segment_manager.proofs.Common as common
-use common.{◌≡◌, cases_lt, IndexRole, AllocatesNoSpace, shrunk_backing, IsIndexOf, Directory, objects_of, reserve_of}
-use common.{IsSegment}
-use common.{refl, if◌then◌else◌, SameSurroundings-trans, is_changing, capacity_at, entries_of, with_table_of}
-use common.{is_read_only}
-use common.{sym, ap, ◌∙◌, ◌*◌, ◌<◌, ◌≤◌, ◌⊎◌, inl, inr, List, WindowState, Done, live, Plan, New, Bool, subst, true}
-use common.{false}
-use common.{arith, nat_le, le-leb, lt-leb, place, BackingArray, Index, Reply, TakesStep, SegmentState, effect, ℕ}
-use common.{length, current}
-use common.{NoSpace, KeepsRoomyIndex, ShrinksIndex, HasIndex, place_of, Refused, Denotes, table_of, Request}
-use Rattle.segment_manager.proofs.indexes.OtherTables.{places_in, reserved-tabled, shrunk-tabled, tabled-denotes}
-use Rattle.segment_manager.proofs.Steps.{by_no_change, by_step, lands, open-writing, perform-new, perform-no_space}
-use Rattle.segment_manager.proofs.{Steps.step-plan, Steps.step-reply, containers.Safely.Stepped}
-use Rattle.segment_manager.proofs.{containers.Safely.stepped, Calling.denotes-live, indexes.HeldIndexes.denotes-index}
-use Rattle.segment_manager.specs.Step.{shrunk_indexes}
 use Rattle.seg_types.specs.Commands as asked
 use Rattle.seg_index.specs.declared.index.Index.TheVariants as index
+use common.{◌≡◌, cases_lt, IndexRole, AllocatesNoSpace, shrunk_backing, IsIndexOf, Directory, objects_of, reserve_of}
+use common.{IsSegment, refl, if◌then◌else◌, SameSurroundings-trans, is_changing, capacity_at, entries_of, with_table_of}
+use common.{is_read_only, sym, ap, ◌∙◌, ◌*◌, ◌<◌, ◌≤◌, ◌⊎◌, inl, inr, List, WindowState, Done, live, Plan, New, Bool}
+use common.{subst, true, false, arith, nat_le, le-leb, lt-leb, place, BackingArray, Index, Reply, TakesStep}
+use common.{SegmentState, effect, ℕ, length, current, NoSpace, KeepsRoomyIndex, ShrinksIndex, HasIndex, place_of}
+use common.{Refused, Denotes, table_of, Request}
+use Rattle.segment_manager.proofs.indexes.OtherTables.{places_in, reserved-tabled, shrunk-tabled, tabled-denotes}
+use Rattle.segment_manager.proofs.Steps.{by_no_change, by_step, lands, open-writing, perform-new, perform-no_space}
+use Rattle.segment_manager.proofs.{Steps.step-plan, Steps.step-reply, Calling.denotes-live}
+use Rattle.segment_manager.proofs.containers.Safely.{Stepped, stepped}
+use Rattle.segment_manager.proofs.indexes.HeldIndexes.{denotes-index}
+use Rattle.segment_manager.specs.Step.{shrunk_indexes}
 
 pub reserve-changes : (i : Index) (n : ℕ) → is_changing (reserve_of i n) ≡ true
 reserve-changes index.Named n = refl
@@ -55,9 +53,8 @@ reserves {s} {t} view b {c} i {n} may r = stepped s t view b c (reserve_of i n) 
 
 -- or their block is refused
 pub reserves-none : {s t : SegmentState} (view : s ≡ t) (b : IsSegment s.cut.bytes) {c : WindowState} (i : Index)
-    (n : ℕ)
-    → is_read_only t.mode ≡ false → capacity_at s.cut (place_of i) < n → AllocatesNoSpace s.cut c (8 * n) IndexRole
-    → Stepped s t c (reserve_of i n) (Refused NoSpace)
+    (n : ℕ) → is_read_only t.mode ≡ false → capacity_at s.cut (place_of i) < n
+    → AllocatesNoSpace s.cut c (8 * n) IndexRole → Stepped s t c (reserve_of i n) (Refused NoSpace)
 reserves-none {s} {t} view b {c} i n may h r = stepped s t view b c (reserve_of i n) (Refused NoSpace) may (λ writing.
     subst (λ (x : WindowState). TakesStep s (record s { cut = x }) (reserve_of i n) (Refused NoSpace)) (sym r.same)
     (by_no_change s (reserve_of i n) (Refused NoSpace) (λ d k.
@@ -82,9 +79,8 @@ pub shrunk-denotes : (i : Index) {a c : WindowState} {d : Directory} → Denotes
 shrunk-denotes i {a} {d} k r =
     tabled-denotes k (shrunk-tabled k (r (table_of i d) (entries_of i d) (denotes-index i a k)))
 
-pub shrinks : {s t : SegmentState} (view : s ≡ t) (g : IsSegment s.cut.bytes) {b c : WindowState}
-    → is_read_only t.mode ≡ false
-    → Shrinks index.Named s.cut b → Shrinks index.Unique b c → Stepped s t c asked.ShrinkIndexes Done
+pub shrinks : {s t : SegmentState} (view : s ≡ t) (g : IsSegment s.cut.bytes) {b c : WindowState} → is_read_only t.mode
+    ≡ false → Shrinks index.Named s.cut b → Shrinks index.Unique b c → Stepped s t c asked.ShrinkIndexes Done
 shrinks {s} {t} view g {b} {c} may n u =
     let k0 = g.1.denotes in let e0 = shrunk index.Named g.0 in
     stepped s t view g c asked.ShrinkIndexes Done may (λ writing. by_step asked.ShrinkIndexes (record {

@@ -1,22 +1,21 @@
 -- What the bytes denote after an index has an entry more or less, or another capacity.
 use Rattle.segment_manager.proofs.Common as common
+use Rattle.seg_index.specs.declared.index.Index.TheVariants as index
 use common.{◌≡◌, refl, sym, ap, subst, ◌∙◌, ℕ, ◌+◌, ◌≤◌, Some, None, Option, List, arith, IsTrue, flat_map, insert}
 use common.{AllByRecursion, WindowState, SameBytes, SameSurroundings, bytes_of, current, SameBytes-part}
-use common.{SameBytes-trans, IndexRole, Extent, LiveSet}
-use common.{handle, is_proper, added, others, AllocatesOk, KeepsBlocks, EncodesLiveSet, SameBlock, extent_at, live_of}
-use common.{BackingArray}
-use common.{no_backing, allocated-live, blocks-trans, Index, AddKeeps, AddsEntry, beside_table, unlinked, without_link}
-use common.{IsIndexOf, place_of, grown_capacity, Object, Directory, extents_of, is_object, live, object_at, with_object}
-use common.{Denotes, IsObjectAt, class_of_index, entries_of, table_of, with_table_of}
+use common.{SameBytes-trans, IndexRole, Extent, LiveSet, handle, is_proper, added, others, AllocatesOk, KeepsBlocks}
+use common.{EncodesLiveSet, SameBlock, extent_at, live_of, BackingArray, no_backing, allocated-live, blocks-trans}
+use common.{Index, AddKeeps, AddsEntry, beside_table, unlinked, without_link, IsIndexOf, place_of, grown_capacity}
+use common.{Object, Directory, extents_of, is_object, live, object_at, with_object, Denotes, IsObjectAt, class_of_index}
+use common.{entries_of, table_of, with_table_of}
 use Rattle.segment_manager.proofs.objects.Taking.{IsMade, allocated-found, taken-found, taken-live}
 use Rattle.segment_manager.proofs.indexes.Entered.{HasOne, OfRest, entered-other, entered-own, has_both, key_in, of_all}
 use Rattle.segment_manager.proofs.indexes.Entered.{of_rest, other, other-stays, other-words}
 use Rattle.segment_manager.proofs.indexes.Tables.{index-left_out, last-table, left_out, live-moved_index, same-table}
+use Rattle.segment_manager.proofs.{indexes.Tables.table-of, Live.adding, Calling.denotes-live, Frame.any_object-same}
 use Rattle.segment_manager.proofs.Denoted.{KeepsFront, denotes-put}
 use Rattle.segment_manager.proofs.Order.{inserted, live-rises, all_of-inserted}
-use Rattle.segment_manager.proofs.{indexes.Tables.table-of, Live.adding, Calling.denotes-live, Frame.any_object-same}
 use Rattle.seg_index.proofs.Laws.{place_behind}
-use Rattle.seg_index.specs.declared.index.Index.TheVariants as index
 
 -- ---- the bytes once the entry is there
 
@@ -81,10 +80,9 @@ entered-denotes {i} a {b} {c} {d} {t} {o} k keeps good at class none e =
 
 -- the index had a place left
 pub entered-none : {i : Index} (a : WindowState) {b : WindowState} {c : WindowState} {d : Directory} {o : Object}
-    (at : ℕ)
-    → Denotes current a.bytes d → IsMade a b o → IsIndexOf b (place_of i) (table_of i d) (entries_of i d)
-    → insert (entries_of i d) at (handle o.extent) ≡ entries_of i (with_object d o) → AddsEntry b c (place_of i)
-    (table_of i d) (insert (entries_of i d) at (handle o.extent)) None
+    (at : ℕ) → Denotes current a.bytes d → IsMade a b o → IsIndexOf b (place_of i) (table_of i d) (entries_of i d)
+    → insert (entries_of i d) at (handle o.extent) ≡ entries_of i (with_object d o)
+    → AddsEntry b c (place_of i) (table_of i d) (insert (entries_of i d) at (handle o.extent)) None
     → EncodesLiveSet current c.bytes (live_of b.bytes)
     → AddKeeps b c (place_of i) (table_of i d) None → IsEntered i b c d (table_of i d) o
 entered-none {i} a {b} {c} {d} {o} at k m x e adds laid keeps =

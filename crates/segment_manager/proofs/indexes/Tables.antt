@@ -1,10 +1,10 @@
 -- The live set after one of the two indexes takes another block, loses its block, or has it shortened.
+use Rattle.seg_index.specs.declared.index.Index.TheVariants as index
 use Rattle.segment_manager.proofs.Common.{◌≡◌, refl, sym, ap, subst, ◌∙◌, ℕ, ◌+◌, ◌≢◌, Some, None, Option, List, []}
 use Rattle.segment_manager.proofs.Common.{◌∷◌, ◌++◌, append_assoc, IsTrue, flat_map, option_to_list, option_map}
 use Rattle.segment_manager.proofs.Common.{AllByRecursion, Extent, LiveSet, handle, is_proper, others, added, released}
 use Rattle.segment_manager.proofs.Common.{resized, BackingArray, no_backing, Index, without_link, Directory, sorted}
-use Rattle.segment_manager.proofs.Common.{live}
-use Rattle.segment_manager.proofs.Common.{extents_of, table_extents, table_of, with_table_of}
+use Rattle.segment_manager.proofs.Common.{live, extents_of, table_extents, table_of, with_table_of}
 use Rattle.segment_manager.proofs.Order.{Differs, Rising, inserted, insert-inserted, sorted-append, all_of-sorted}
 use Rattle.segment_manager.proofs.Order.{live-rises, rising-insert, rising-inserted, apart-inserted, others-insert}
 use Rattle.segment_manager.proofs.{Live.adding, objects.Regrown.differs-flip}
@@ -12,7 +12,6 @@ use Rattle.raw_region.proofs.Facts.{AllByRecursion-front, AllByRecursion-behind}
 use Rattle.std.proofs.lemmas.List.{append-nil}
 use Rattle.best_fit.specs.{Fit.insert, Table.table_link}
 use Rattle.best_fit.proofs.Laws.{insert-comm}
-use Rattle.seg_index.specs.declared.index.Index.TheVariants as index
 
 -- ---- one extent in a list
 
@@ -159,8 +158,7 @@ index-left_out i d ys h =
 
 -- Another block is taken for an index, and then these, and then the old one is released.
 pub live-moved_index : (i : Index) (d : Directory) (t : BackingArray) (x : Extent) (ys : List Extent)
-    → t.extent ≡ Some x
-    → IsTrue (is_proper (adding (added (live d) x) ys))
+    → t.extent ≡ Some x → IsTrue (is_proper (adding (added (live d) x) ys))
     → without_link (adding (added (live d) x) ys) (table_link (table_of i d)) ≡ adding (live (with_table_of i d t)) ys
 live-moved_index i d t x ys e h =
     let f : List Extent = (around i d).front in let b : List Extent = (around i d).back in

@@ -2,8 +2,7 @@
 use Rattle.segment_manager.proofs.Common.{◌≡◌, sym, ap, subst, ◌∙◌, ℕ, ◌≤◌, Some, None, List, length, option_map}
 use Rattle.segment_manager.proofs.Common.{slice_get, slice_get-map, slice_get_past, Named, Instance, Directory, Object}
 use Rattle.segment_manager.proofs.Common.{named_objects, SaysAt, objects_of, YieldsInstance, GoesOnNames, NameWalk}
-use Rattle.segment_manager.proofs.Common.{Walk}
-use Rattle.segment_manager.proofs.Common.{AnswersWith, SegmentState, DenotesCurrent}
+use Rattle.segment_manager.proofs.Common.{Walk, AnswersWith, SegmentState, DenotesCurrent}
 use Rattle.segment_manager.specs.indexes.Iterating.{names_of}
 
 -- what stands at a place of the list of named objects is the name that is said, and behind the last there is none

@@ -1,24 +1,21 @@
 -- Calls on elements whose kind is what the object says: then the step of the kind is the command's own.
 use Rattle.segment_manager.proofs.Common as common
+use Rattle.seg_types.specs.Commands as asked
 use common.{◌≡◌, refl, sym, ap, subst, ◌∙◌, ℕ, ℤ, pos, true, false, Option, Some, None, Result, Ok, Err, List, map}
 use common.{slice_set, eq-eqb, same_Some, Kind, ScalarOf, StringKind, VectorKind, StringsKind, ScalarKind, U8, Refusal}
 use common.{NotFound, WrongKind, code_of, is_value, Key, ByHandle, Command, Literal, literal_of, value_of_literal, Mode}
 use common.{Located, Answer, Done, Refused, elements_at, elements_of, kind_at, Value, Numbers, Elements, Bytes, Pairs}
-use common.{Texts, Object, Directory, kind_of, live, object_at, IsMissing, IsLocated, Plan, Refuse, Reply, perform}
-use common.{with, AnswersWith, AnswersQuery, AnswersQueryOfKind, TakesStep, SegmentState, DenotesCurrent, changed}
-use common.{effect, element_at, get}
-use common.{is_read_only, set, step, with_items, ne_eqb, scalar_code, size_of, same_kind, handle, arith, bytes_of}
-use common.{◌+◌, ◌≤◌, ◌==◌, SameBytesExcept, Place}
+use common.{Texts, Object, Directory, kind_of, live, object_at, IsLocated, Plan, Refuse, Reply, perform, with}
+use common.{AnswersWith, AnswersQuery, AnswersQueryOfKind, TakesStep, SegmentState, DenotesCurrent, changed, effect}
+use common.{element_at, get, is_read_only, set, step, with_items, ne_eqb, scalar_code, size_of, same_kind, handle}
+use common.{arith, bytes_of, ◌+◌, ◌≤◌, ◌==◌, SameBytesExcept, Place}
 use Rattle.std.specs.Prelude.{IfOk, OnOk}
-use Rattle.segment_manager.specs.{Keeping.ChangesElement, objects.Standing.place_in}
+use Rattle.segment_manager.specs.{Keeping.ChangesElement, objects.Standing.place_in, Calls.scalar_reply}
 use Rattle.segment_manager.proofs.objects.Locating.{kind-by_key, reply_of_kind-by_key, same-object}
-use Rattle.segment_manager.proofs.objects.Heads.{scalar-small}
+use Rattle.segment_manager.proofs.{objects.Heads.scalar-small, objects.Stored.literal-read}
 use Rattle.segment_manager.proofs.containers.Refilled.{refused-steps, same_plan-steps}
 use Rattle.segment_manager.proofs.Steps.{open-reading, step-refuse, step_of_kind-step, with-found, with-not_found}
 use Rattle.segment_manager.proofs.containers.AnyStorage.{IsOfKindAt, kind-told}
-use Rattle.segment_manager.proofs.objects.Stored.{literal-read}
-use Rattle.segment_manager.specs.Calls.{scalar_reply}
-use Rattle.seg_types.specs.Commands as asked
 
 -- ---- what an object says of its elements
 
@@ -115,22 +112,6 @@ of_kind-replies {s} key {kind} c a f r = record {
       ∙ sym (ap (reply_of s.mode d c) (elements-told d key kind e ∙ f));
 }
 
--- it has no scalars
-pub of_kind-none : (s : SegmentState) (key : Key) (kind : Kind) (r : Refusal) (c : Command)
-    → AnswersWith s (λ d. kind_at d key)
-    (Ok kind) → elements_of kind ≡ Err r → AnswersWith s (λ d. scalar_reply s.mode d key c) (Refused r)
-of_kind-none s key kind r c a f = record {
-  answers = λ d l. sym (ap (reply_of s.mode d c) (elements-told d key kind (kind-told d key kind (a.answers d l)) ∙ f));
-}
-
--- neither scalars nor a vector of them nor a string
-pub other-elements : (kind : Kind) → ((k : ScalarKind) → kind ≡ ScalarOf k → ⊥)
-    → ((k : ScalarKind) → kind ≡ VectorKind k → ⊥) → (kind ≡ StringKind → ⊥) → elements_of kind ≡ Err WrongKind
-other-elements (ScalarOf k) n v t = absurd (n k refl)
-other-elements StringKind n v t = absurd (t refl)
-other-elements (VectorKind k) n v t = absurd (v k refl)
-other-elements w n v t = refl
-
 -- an object that was located is of a kind that has scalars
 pub located-replies : (s : SegmentState) (key : Key) (o : Located) (l : IsLocated s key o) (kind : Kind)
     (k : ScalarKind)
@@ -139,13 +120,6 @@ pub located-replies : (s : SegmentState) (key : Key) (o : Located) (l : IsLocate
 located-replies s key o l kind k i answer is f r = of_kind-replies key (asked.Get key i)
     (subst (λ (n : Kind). AnswersWith s (λ d. kind_at d key) (Ok n)) is (kind-by_key s key o l)) f
     (reply_of_kind-by_key s key o l kind (asked.Get key i) answer r)
-
--- no object has the key
-pub any-missing : (s : SegmentState) (key : Key) (c : Command) (why : Refusal) → IsMissing s key why
-    → AnswersWith s (λ d. scalar_reply s.mode d key c) (Refused why)
-any-missing s key c why m = record {
-  answers = λ d l. ap Refused m.is ∙ sym (ap (reply_of s.mode d c) (ap elements_in (m.missing d l)));
-}
 
 -- ---- writing: the kind of the object
 
@@ -171,8 +145,7 @@ left-kind kind e t v = absurd (cc)
 pub scalar-kind : (s : SegmentState) (key : Key) (kind : Kind) (k : ScalarKind)
     → AnswersWith s (λ d. kind_at d key) (Ok kind)
     → AnswersWith s (λ d. elements_at d key) (Ok k) → (kind ≡ StringKind → ⊥)
-    → ((l : ScalarKind) → kind ≡ VectorKind l → ⊥)
-    → AnswersWith s (λ d. kind_at d key) (Ok (ScalarOf k))
+    → ((l : ScalarKind) → kind ≡ VectorKind l → ⊥) → AnswersWith s (λ d. kind_at d key) (Ok (ScalarOf k))
 scalar-kind s key kind k a b t v = record {
   answers = λ d w. ap Ok (left-kind kind
       (b.answers d w ∙ elements-told d key kind (kind-told d key kind (a.answers d w))) t v) ∙ a.answers d w;
@@ -205,9 +178,8 @@ set-effect {d} {key} i l e f =
 
 -- a literal that is read as the value is as good as the value's own
 pub any-literal : {old : SegmentState} {new : SegmentState} (key : Key) {k : ScalarKind} (i : ℕ) (l : Literal) {z : ℤ}
-    {answer : Answer} → AnswersWith old (λ d. elements_at d key) (Ok k) → value_of_literal k l ≡ Ok z
-    → is_value k z ≡ true
-    → TakesStep old new (asked.Set key i (literal_of k z)) answer → TakesStep old new (asked.Set key i l) answer
+    {answer : Answer} → AnswersWith old (λ d. elements_at d key) (Ok k) → value_of_literal k l ≡ Ok z → is_value k z
+    ≡ true → TakesStep old new (asked.Set key i (literal_of k z)) answer → TakesStep old new (asked.Set key i l) answer
 any-literal {old} {new} key {k} i l {z} {answer} a f v r =
     same_plan-steps old new (asked.Set key i l) (asked.Set key i (literal_of k z)) answer refl (λ d w.
     let e = has-elements d key (a.answers d w) in
@@ -260,8 +232,7 @@ pub element-elsewhere : (old new : SegmentState) (key : Key) (k : ScalarKind) (i
     → same_kind (ScalarOf k) n ≡ false → AnswersWith old (λ d. kind_at d key) (Ok n) → ChangesElement old new key k i
 element-elsewhere old new key k i n e a = λ d w.
     no-place (λ (p : Place). SameBytesExcept (bytes_of old.cut.bytes) (bytes_of new.cut.bytes) (p.handle + p.at)
-    (size_of k))
-    (object_at d key) k i n e (a.answers d w)
+    (size_of k)) (object_at d key) k i n e (a.answers d w)
 
 pub element-of_text : (old new : SegmentState) (key : Key) (k : ScalarKind) (i : ℕ)
     → AnswersWith old (λ d. kind_at d key) (Ok StringKind) → ChangesElement old new key k i

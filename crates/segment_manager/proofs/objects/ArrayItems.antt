@@ -1,21 +1,19 @@
 -- An array that is made of items: the call takes all of them, or none.
 use Rattle.segment_manager.proofs.Common as common
+use Rattle.seg_types.specs.Commands as asked
 use common.{◌≡◌, refl, sym, ap, subst, ◌∙◌, ℕ, ◌+◌, ◌*◌, ◌≤◌, ℤ, Bool, true, false, if◌then◌else◌, Option, Some, None}
 use common.{Result, Ok, Err, List, [], ◌∷◌, ◌++◌, length, map, replicate, arith, IfErr, MatchResult, nat_lt, pos, take}
 use common.{Yields, le-ltb, lt-ltb, length-map, length-replicate, take_all, ObjectRole, Extent, LiveSet, handle}
 use common.{resized, Class, Anonymous, ScalarKind, Refusal, Exists, NoSpace, OutOfRange, size_of, Key, Mode, Write}
 use common.{CopyOnWrite, Answer, Made, Refused, is_untouched, Numbers, Object, Directory, live, named_objects}
 use common.{object_at, object_len, padded, unique_objects, with_object, ConstructsFromItems, head_len, Need, New, Plan}
-use common.{Refuse}
-use common.{Reply, Request, class_of, met, name_of, perform, with_entry, with_new_object, TakesStep, UnchangedIfRefused}
-use common.{SegmentState}
-use common.{DenotesCurrent, handle_answer, step}
+use common.{Refuse, Reply, Request, class_of, met, name_of, perform, with_entry, with_new_object, TakesStep}
+use common.{UnchangedIfRefused, SegmentState, DenotesCurrent, handle_answer, step}
 use Rattle.std.specs.Iterator.{YieldsFirst, YieldsThen}
 use Rattle.std.proofs.lemmas.List.{append-nil, length-append}
 use Rattle.seg_types.specs.declared.kinds.Class.TheVariants.{Named, Unique}
 use Rattle.segment_manager.specs.declared.modes.Mode.TheVariants.{ReadOnly}
 use Rattle.segment_manager.specs.objects.Items.{KeepsUnasked, TakesUntil}
-use Rattle.seg_types.specs.Commands as asked
 
 -- ---- the items
 

@@ -1,31 +1,26 @@
 -- An object made under a key with an entry: what the bytes denote, and what the machine does.
 use Rattle.segment_manager.proofs.Common as common
+use Rattle.seg_types.specs.Names as names
+use Rattle.seg_types.specs.Commands as asked
 use common.{◌≡◌, sym, ◌∙◌, ◌*◌, ◌<◌, ◌≤◌, inl, inr, Some, None, List, WindowState, Kind, AddsEntry, Value, live, Plan}
-use common.{New, bare}
-use common.{refl, IndexRole, AddKeeps, IsIndexOf, Directory, objects_of, IsNewKeyOf, RestoresBlocks, with_entry}
-use common.{with_value}
-use common.{ap, current, LiveSet, resized, EncodesLiveSet, live_of, IsGrowth, place_of, count_of, IsDenied, table_of}
-use common.{class_of}
-use common.{subst, ℤ, length, arith, insert, Extent, handle, added, place, KeepsBlocks, BackingArray, Scalar, Index}
-use common.{Absent, Object}
-use common.{ℕ, allocated-live, keeps-trans, grown_bytes, grown_capacity, class_of_index, with_table_of, with_new_object}
-use common.{Option, Content, FindsPosition, Refused, Denotes, Numbers, kind_of, IsGiven, Request, name_of, perform}
-use common.{NoSpace}
-use common.{bytes_of, ObjectRole, ScalarKind, entry_count, extents_of, object_len, with_object, entries_of}
-use common.{RequestsBlocksOk}
+use common.{New, bare, refl, IndexRole, AddKeeps, IsIndexOf, Directory, objects_of, IsNewKeyOf, RestoresBlocks}
+use common.{with_entry, with_value, ap, current, LiveSet, resized, EncodesLiveSet, live_of, IsGrowth, place_of}
+use common.{count_of, IsDenied, table_of, class_of, subst, ℤ, length, arith, insert, Extent, handle, added, place}
+use common.{KeepsBlocks, BackingArray, Scalar, Index, Absent, Object, ℕ, allocated-live, keeps-trans, grown_bytes}
+use common.{grown_capacity, class_of_index, with_table_of, with_new_object, Option, Content, FindsPosition, Refused}
+use common.{Denotes, Numbers, kind_of, IsGiven, Request, name_of, perform, NoSpace, bytes_of, ObjectRole, ScalarKind}
+use common.{entry_count, extents_of, object_len, with_object, entries_of, RequestsBlocksOk}
 use Rattle.segment_manager.proofs.objects.Requests.{entry-grows, entry-refused, entry-room}
 use Rattle.segment_manager.proofs.indexes.Tabled.{IsEntered, entered-denotes, entered-none, entered-some, grown_into}
 use Rattle.segment_manager.proofs.objects.NewKeys.{key-class, key-has, key-name, key-own, key-seeks, object_of}
-use Rattle.segment_manager.proofs.indexes.Bridge.{entry-added, lookup-absent}
-use Rattle.segment_manager.proofs.objects.Taking.{IsMade, taken-index, growth-index}
-use Rattle.segment_manager.proofs.{Calling.denotes-live, Kept.denotes-kept, Steps.perform-new, Steps.perform-no_space}
+use Rattle.segment_manager.proofs.{indexes.Bridge.entry-added, indexes.Bridge.lookup-absent, Calling.denotes-live}
+use Rattle.segment_manager.proofs.{Kept.denotes-kept, Steps.perform-new, Steps.perform-no_space}
 use Rattle.segment_manager.proofs.{indexes.Tables.same-table, indexes.HeldIndexes.denotes-index, Denoted.handles-length}
+use Rattle.segment_manager.proofs.objects.Taking.{IsMade, taken-index, growth-index}
 use Rattle.best_fit.proofs.Laws.{AllByRecursion-insert}
 use Rattle.seg_index.specs.{declared.keys.Entry.Entry, Growth.grown_live}
 use Rattle.segment_manager.specs.objects.NewObjects.{FindsNone}
 use Rattle.seg_index.proofs.Laws.{place_behind, place_small}
-use Rattle.seg_types.specs.Names as names
-use Rattle.seg_types.specs.Commands as asked
 
 -- what is made is the object, in a directory that the new bytes denote; and so the machine goes on
 pub record IsNewObject (new : WindowState) (d : Directory) (key : names.Key) (content : Content) (h : ℕ) : Type 0 where
@@ -109,8 +104,7 @@ grows-keeps i a b c {d} (Some g) k h keeps =
     subst (λ (l : LiveSet). KeepsBlocks a c l.extents) (denotes-live current a.bytes
     d k) (keeps-trans a b c (live_of a.bytes).extents h.1.keeps (keeps-front b c h.1.extent (live_of a.bytes)
     (subst (λ (l : LiveSet). KeepsBlocks b c l.extents)
-    (allocated-live current a b (grown_bytes a (place_of i)) IndexRole g
-    h.1) keeps)))
+    (allocated-live current a b (grown_bytes a (place_of i)) IndexRole g h.1) keeps)))
 
 -- ---- the entry is there
 
@@ -126,13 +120,12 @@ grown-is i d a b None h = sym (same-table i)
 grown-is i d a b (Some g) h = refl
 
 entered : {i : Index} (a b : WindowState) {c : WindowState} {e : WindowState} {d : Directory} {o : Object} (at : ℕ)
-    (g : Option ℕ)
-    → Denotes current a.bytes d → (h : IsGrowth a b (place_of i) g) → IsMade b c o → IsIndexOf c (place_of i)
-    (table_of i d) (entries_of i d) → insert (entries_of i d) at (handle o.extent) ≡ entries_of i (with_object d o)
+    (g : Option ℕ) → Denotes current a.bytes d
+    → (h : IsGrowth a b (place_of i) g) → IsMade b c o → IsIndexOf c (place_of i) (table_of i d) (entries_of i d)
+    → insert (entries_of i d) at (handle o.extent) ≡ entries_of i (with_object d o)
     → AddsEntry c e (place_of i) (table_of i d) (insert (entries_of i d) at (handle o.extent)) g
-    → EncodesLiveSet current e.bytes
-    (grown_live c (place_of i) g) → AddKeeps c e (place_of i) (table_of i d) g → IsEntered i c e d (table_then i d a b g
-    h) o
+    → EncodesLiveSet current e.bytes (grown_live c (place_of i) g)
+    → AddKeeps c e (place_of i) (table_of i d) g → IsEntered i c e d (table_then i d a b g h) o
 entered a b {c} {o} at None k h made x same adds laid keeps =
     entered-none a at k (subst (λ (s : WindowState). IsMade s c o) h.1 made) x same adds laid keeps
 entered a b at (Some g) k h made x same adds laid keeps = entered-some at k h.1 made x same adds laid keeps

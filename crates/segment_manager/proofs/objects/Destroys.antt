@@ -1,33 +1,29 @@
 -- The object of a handle and its own entry, and what it is to destroy an object.
 use Rattle.segment_manager.proofs.Common as common
+use Rattle.seg_types.specs.declared.kinds.Class.TheVariants as class
+use Rattle.seg_types.specs.Names as names
+use Rattle.seg_types.specs.Commands as asked
+use Rattle.seg_index.specs.declared.index.Index.TheVariants as index
 use common.{◌≡◌, sym, ap, ◌∙◌, ◌<◌, [], ◌∷◌, WindowState, refl, true, ◌==◌, Some, None, List, BackingArray, Found}
-use common.{Truth, Seeks, Plan}
-use common.{Reply, subst, Directory, Deallocates, is_live_in, HoldsObject, entries_of, objects_of, ℕ, Option, handle}
-use common.{Class, Index, Absent, Object, SegmentState, arith, remove, TakesStep, false, EncodesLiveSet, live_of}
-use common.{Refused, Denotes}
-use common.{Becomes, Empties, emptied, changed, bytes_of, IsAnonymousAt, lay_out_one, beside_table, entry_count}
-use common.{is_read_only, current, FindsPosition, is_class, NotFound, HasIndex, place_of, order_of, table_of}
-use common.{class_code}
-use common.{slice_get_within, SameSurroundings-trans, without_object, class_of_index, object_at, IsSegment}
-use common.{DenotesCurrent}
-use common.{slice_get, same_Some, KeepsOutsideIndex, IsIndexOf}
+use common.{Truth, Seeks, Plan, Reply, subst, Directory, Deallocates, is_live_in, HoldsObject, entries_of, objects_of}
+use common.{ℕ, Option, handle, Class, Index, Absent, Object, SegmentState, arith, remove, TakesStep, false}
+use common.{EncodesLiveSet, live_of, Refused, Denotes, Becomes, Empties, emptied, changed, bytes_of, IsAnonymousAt}
+use common.{lay_out_one, beside_table, entry_count, is_read_only, current, FindsPosition, is_class, NotFound, HasIndex}
+use common.{place_of, order_of, table_of, class_code, slice_get_within, SameSurroundings-trans, without_object}
+use common.{class_of_index, object_at, IsSegment, DenotesCurrent, slice_get, same_Some, KeepsOutsideIndex, IsIndexOf}
 use Rattle.segment_manager.proofs.indexes.Bridge.{lookup-absent, IsEntryFor, entry-removed, in-handles, lookup-found}
 use Rattle.segment_manager.proofs.containers.Emptied.{changed-entries, changed-in, changed-others, emptied-is}
 use Rattle.segment_manager.proofs.Steps.{by_no_change, by_step, lands, open-writing, step-refuse, step-reply}
+use Rattle.segment_manager.proofs.{Steps.with-found, Steps.with-not_found, indexes.HeldIndexes.denotes-index, Live.IsIn}
+use Rattle.segment_manager.proofs.{objects.Ranks.all-ordered, objects.Rewritten.with_value}
 use Rattle.segment_manager.proofs.Calling.{denotes-live, denotes-released, object-live}
 use Rattle.segment_manager.proofs.indexes.EntryPlaces.{all-at, at-handle, of-class}
 use Rattle.segment_manager.proofs.indexes.OtherTables.{IsGone, IsLeft, removed-denotes}
 use Rattle.segment_manager.proofs.containers.Safely.{Stepped, stepped}
 use Rattle.segment_manager.proofs.objects.ObjectLists.{found-handle, key-found}
-use Rattle.segment_manager.proofs.{Steps.with-found, Steps.with-not_found, indexes.HeldIndexes.denotes-index, Live.IsIn}
-use Rattle.segment_manager.proofs.{objects.Ranks.all-ordered, objects.Rewritten.with_value}
 use Rattle.seg_index.specs.{declared.keys.Entry.Entry, declared.keys.Lookup.Lookup}
 use Rattle.segment_manager.specs.indexes.Listed.{IsEntryAt}
 use Rattle.segment_manager.specs.objects.Destroyed.{HoldsEntry, RemovesAnonymous, RemovesEntry}
-use Rattle.seg_types.specs.declared.kinds.Class.TheVariants as class
-use Rattle.seg_types.specs.Names as names
-use Rattle.seg_types.specs.Commands as asked
-use Rattle.seg_index.specs.declared.index.Index.TheVariants as index
 
 -- ---- an object with an entry
 
@@ -91,8 +87,7 @@ pub record IsUnlisted (i : Index) (old new : WindowState) (at : ℕ) : Type 0 wh
 
 -- an object of a handle, and the directory with its value emptied, which the bytes denote then
 module _ {a b : WindowState} (h : ℕ) (empties : Empties a b h) {d : Directory} {o : Object}
-    (k : DenotesCurrent a.bytes d)
-    (e : object_at d (names.ByHandle h) ≡ Some o) where
+    (k : DenotesCurrent a.bytes d) (e : object_at d (names.ByHandle h) ≡ Some o) where
   abbrev emptied_object : Object
   emptied_object = with_value o (emptied o.value)
 
@@ -191,24 +186,21 @@ Ends c i e r = (t : BackingArray) (hs : List ℕ) → IsIndexOf c (place_of i) t
     → FindsPosition (bytes_of c.bytes) e hs r
 
 found-for : (c : WindowState) {i : Index} (e : Entry) {key : names.Key} {at : ℕ} {d : Directory}
-    → Denotes current c.bytes d
-    → Seeks i e key → Ends c i e (Found at) → IsEntryFor i d key at
+    → Denotes current c.bytes d → Seeks i e key → Ends c i e (Found at) → IsEntryFor i d key at
 found-for c {i} e {key} {at} {d} k q p =
     lookup-found i c e key k q at (p (table_of i d) (entries_of i d) (denotes-index i c k))
 
 -- the entry that was found is an object's
 pub found-entry : (c : WindowState) (b : IsSegment c.bytes) (i : Index) (e : Entry) (key : names.Key) (at : ℕ)
-    → Seeks i e key
-    → Ends c i e (Found at) → HoldsEntry c.bytes i at
+    → Seeks i e key → Ends c i e (Found at) → HoldsEntry c.bytes i at
 found-entry c b i e key at q p =
     let there = found-for c e b.1.denotes q p in
     record { directory = b.0; stands = b.1; object = there.object; is = there.stands }
 
 -- the look-up found its entry
 pub destroys-entered : {s t : SegmentState} (view : s ≡ t) (b : IsSegment s.cut.bytes) {c : WindowState} (i : Index)
-    (e : Entry)
-    (key : names.Key) (at : ℕ) → is_read_only t.mode ≡ false → Seeks i e key → Ends s.cut i e (Found at)
-    → RemovesEntry s.cut c i at → Stepped s t c (asked.Destroy key) (Truth true)
+    (e : Entry) (key : names.Key) (at : ℕ) → is_read_only t.mode ≡ false → Seeks i e key
+    → Ends s.cut i e (Found at) → RemovesEntry s.cut c i at → Stepped s t c (asked.Destroy key) (Truth true)
 destroys-entered {s} {t} view b {c} i e key at may q p r =
     stepped s t view b c (asked.Destroy key) (Truth true) may (λ writing. by_step (asked.Destroy key) (record {
       mode = refl;
@@ -243,8 +235,7 @@ destroys-none {s} view i e key at may q p =
 
 -- the object of the handle is gone from each directory
 destroys-object : {s : SegmentState} (c : WindowState) (h : ℕ) → is_read_only s.mode ≡ false → IsSegment s.cut.bytes
-    → ((d : Directory)
-    → DenotesCurrent s.cut.bytes d → (o : Object) × ((object_at d (names.ByHandle h) ≡ Some o)
+    → ((d : Directory) → DenotesCurrent s.cut.bytes d → (o : Object) × ((object_at d (names.ByHandle h) ≡ Some o)
     × Becomes s.cut c (without_object d o))) → TakesStep s (record s { cut = c }) (asked.DestroyPtr h) (Truth true)
 destroys-object {s} c h writing b each =
     by_step (asked.DestroyPtr h) (record { mode = refl; place = (each b.0 b.1).1.1.place }) (λ d k.

@@ -1,25 +1,22 @@
 -- Commands on elements by literals: which call is the step of the command, by the kind of the object.
 use Rattle.segment_manager.proofs.Common as common
+use Rattle.seg_types.specs.Commands as asked
+use Rattle.segment_manager.specs.Step as step
 use common.{◌≡◌, true, Some, None, List, Kind, Value, Pairs, Texts, Refuse, TakesStep, SegmentState, refl, NotFound}
-use common.{is_value}
-use common.{ByHandle, Elements, Directory, IsLocated, DenotesCurrent, sym, ap, ◌∙◌, ◌⊎◌, inl, inr, ℕ, ℤ, Ok, Err, Key}
-use common.{subst}
-use common.{literal_of, OwnedText, elements_at, elements_of, IsChangeableObject, IsValueOf, false, MapKind, Refusal}
-use common.{Literal}
-use common.{Located, Refused, kind_at, kind_of, AnswersWith, Option, Result, length, nat_lt, BackingArray, Scalar}
-use common.{Vector, Quoted}
-use common.{Answer, Object, StringsKind, WrongKind, ScalarValue, IsChangeable, TakesStepOfKind, is_read_only}
-use common.{ScalarKind}
-use common.{value_of_literal, kind_of_scalar, value_of_scalar, IsUnchangeable}
+use common.{is_value, ByHandle, Elements, Directory, IsLocated, DenotesCurrent, sym, ap, ◌∙◌, ◌⊎◌, inl, inr, ℕ, ℤ, Ok}
+use common.{Err, Key, subst, literal_of, OwnedText, elements_at, elements_of, IsChangeableObject, IsValueOf, false}
+use common.{MapKind, Refusal, Literal, Located, Refused, kind_at, kind_of, AnswersWith, Option, Result, length, nat_lt}
+use common.{BackingArray, Scalar, Vector, Quoted, Answer, Object, StringsKind, WrongKind, ScalarValue, IsChangeable}
+use common.{TakesStepOfKind, is_read_only, ScalarKind, value_of_literal, kind_of_scalar, value_of_scalar}
+use common.{IsUnchangeable}
 use Rattle.segment_manager.proofs.containers.AnyStorage.{IsOfKindAt, kind-told, of_kind-steps}
 use Rattle.segment_manager.proofs.containers.ContentPlans.{erase-other, insert-other, insert-plan, is_no_vector}
 use Rattle.segment_manager.proofs.containers.ContentPlans.{pop-other, push-other, push-plan}
 use Rattle.segment_manager.proofs.containers.Changeable.{refuses, says-kind}
-use Rattle.segment_manager.proofs.{objects.AnyKind.any-literal, objects.Locating.step_of_kind-by_key, Steps.with-found}
-use Rattle.segment_manager.proofs.{Steps.with-not_found, objects.Stored.literal-read, ElementLaws.same_plan-steps}
+use Rattle.segment_manager.proofs.{objects.AnyKind.any-literal, Steps.with-found, Steps.with-not_found}
+use Rattle.segment_manager.proofs.{objects.Stored.literal-read, ElementLaws.same_plan-steps}
+use Rattle.segment_manager.proofs.objects.Locating.{step_of_kind-by_key}
 use Rattle.segment_manager.specs.containers.Changeable.{IsElement, IsNoElement}
-use Rattle.seg_types.specs.Commands as asked
-use Rattle.segment_manager.specs.Step as step
 
 -- ---- values by their kinds
 
@@ -115,8 +112,7 @@ module _ {s : SegmentState} (key : Key) (k : ScalarKind) (a : AnswersWith s (λ 
 
   -- a literal that is read as a value of the kind is as good as the value's own
   push-read : {new : SegmentState} (l : Literal) {z : ℤ} {answer : Answer} → value_of_literal k l ≡ Ok z
-      → is_value k z ≡ true
-      → TakesStepOfKind s new key (Vector k) (asked.Push key (literal_of k z)) answer
+      → is_value k z ≡ true → TakesStepOfKind s new key (Vector k) (asked.Push key (literal_of k z)) answer
       → TakesStep s new (asked.Push key l) answer
   push-read {new} l {z} {answer} e v r =
       same_plan-steps s new (asked.Push key l) (asked.Push key (literal_of k z)) answer refl (λ d st.
@@ -239,8 +235,7 @@ elements-either h (inr e) = elements-told h (ap elements_of e)
 
 -- a value of the kind that they have
 pub set-step : {old new : SegmentState} (key : Key) {k : ScalarKind} (i : ℕ) (l : Literal) (v : ScalarValue)
-    {answer : Answer}
-    → AnswersWith old (λ d. elements_at d key) (Ok k) → IsValueOf k (value_of_literal k l) (Ok v)
+    {answer : Answer} → AnswersWith old (λ d. elements_at d key) (Ok k) → IsValueOf k (value_of_literal k l) (Ok v)
     → TakesStep old new (asked.Set key i (literal_of (kind_of_scalar v) (value_of_scalar v))) answer
     → TakesStep old new (asked.Set key i l) answer
 set-step {old} {new} key {k} i l v {answer} a (same, value, range) h = any-literal key i l a value range

@@ -2,19 +2,17 @@
 use Rattle.segment_manager.proofs.Common as common
 use common.{◌≡◌, refl, sym, ap, subst, ◌∙◌, ℕ, ◌+◌, ◌≤◌, ◌≢◌, inl, inr, List, [], ◌∷◌, ◌++◌, length, arith, IsTrue}
 use common.{AllByRecursion, Memory, WindowState, SameBytes, bytes_of, exchanged, SameBlockExcept, ExchangesBlocks}
-use common.{Extent, LiveSet, handle}
-use common.{end_of, is_proper, EncodesLiveSet, SameBlock, KeepsBlocks, live_of, Value, Object, Directory, live}
-use common.{extents_of, padded}
-use common.{count_of, kind_of, value_len, value_extents, is_object, remove_object, with_changed, without_object}
-use common.{Denotes, IsObjectAt, IsValueAt, changed, SameSpread, inserted-append, live-spaced, middle-first}
-use common.{spaced-insert, ◌-◌, current, Some, ChangesBytes, extent_at}
+use common.{Extent, LiveSet, handle, end_of, is_proper, EncodesLiveSet, SameBlock, KeepsBlocks, live_of, Value, Object}
+use common.{Directory, live, extents_of, padded, count_of, kind_of, value_len, value_extents, is_object, remove_object}
+use common.{with_changed, without_object, Denotes, IsObjectAt, IsValueAt, changed, SameSpread, inserted-append}
+use common.{live-spaced, middle-first, spaced-insert, ◌-◌, current, Some, ChangesBytes, extent_at}
 use Rattle.segment_manager.proofs.Live.{adding, IsFound, IsIn, live-split, live-changed}
 use Rattle.segment_manager.proofs.objects.Regrown.{InPlace, differs-flip, rest, with_extents}
 use Rattle.segment_manager.proofs.objects.Rewritten.{object-held, value_start, with_value}
 use Rattle.segment_manager.proofs.Order.{Rising, inserted, insert-inserted, all_of-inserted, live-rises, rising-insert}
-use Rattle.segment_manager.proofs.Order.{apart-inserted, without_all, without-inserted}
-use Rattle.segment_manager.proofs.{Calling.denotes-heap, containers.MapBlocks.blocks-in_use, Denoted.denotes-replaced}
-use Rattle.segment_manager.proofs.{Calling.denotes-live, Calling.object-at, Faces.IsLike, Frame.object-roomy}
+use Rattle.segment_manager.proofs.{Faces.IsLike, Frame.object-roomy, Denoted.denotes-replaced}
+use Rattle.segment_manager.proofs.{containers.MapBlocks.blocks-in_use, Calling.denotes-heap, Calling.denotes-live}
+use Rattle.segment_manager.proofs.{Calling.object-at, Order.apart-inserted, Order.without_all, Order.without-inserted}
 use Rattle.best_fit.proofs.Laws.{changed-keeps_block, found-room, spread-refl, written-but, LiesBeside, above, below}
 use Rattle.best_fit.specs.Fit.{insert}
 
@@ -177,9 +175,8 @@ denotes-held {format} old new {d} o v from n gone come k found x kind count good
 
 -- So the calls of seg_vector and seg_map change a container of an object: its 24 bytes are written.
 pub denotes-container : (format : ℕ) (old new : WindowState) (d : Directory) (o : Object) (v : Value)
-    (gone come : List Extent)
-    → Denotes format old.bytes d → IsIn d o → Exchange o (with_value o v) gone come → kind_of v ≡ kind_of o.value
-    → count_of v ≡ count_of o.value → value_len o.value ≡ 24 → IsTrue (is_object format o)
+    (gone come : List Extent) → Denotes format old.bytes d → IsIn d o → Exchange o (with_value o v) gone come
+    → kind_of v ≡ kind_of o.value → count_of v ≡ count_of o.value → value_len o.value ≡ 24 → IsTrue (is_object format o)
     → IsTrue (is_object format (with_value o v)) → ExchangesBlocks format old new (value_start o) 24 gone come
     → IsValueAt (bytes_of new.bytes) (value_start o) v → Denotes format new.bytes (changed d o v)
 denotes-container format old new d o v gone come k found x kind count len was good c at =
@@ -190,10 +187,9 @@ denotes-container format old new d o v gone come k found x kind count len was go
 -- And so a value is written that has the same blocks.
 pub denotes-rewritten : {old new : WindowState} {d : Directory} (o : Object) (v : Value) {from n : ℕ}
     → Denotes current old.bytes d → IsIn d o → kind_of v ≡ kind_of o.value → count_of v ≡ count_of o.value
-    → value_extents v ≡ value_extents o.value → IsTrue (is_object current (with_value o v)) → value_start o ≤ from
-    → from + n ≤ end_of o.extent → ChangesBytes current old new from n
-    → IsValueAt (bytes_of new.bytes) (value_start o) v
-    → Denotes current new.bytes (changed d o v)
+    → value_extents v ≡ value_extents o.value → IsTrue (is_object current (with_value o v))
+    → value_start o ≤ from → from + n ≤ end_of o.extent → ChangesBytes current old new from n
+    → IsValueAt (bytes_of new.bytes) (value_start o) v → Denotes current new.bytes (changed d o v)
 denotes-rewritten {old} {new} {d} o v {from} {n} k found kind count extents good low high c at =
     let l = live_of old.bytes in let x : Extent = o.extent in
     let proper : IsTrue (is_proper l) = (denotes-heap current old.bytes d k).proper in

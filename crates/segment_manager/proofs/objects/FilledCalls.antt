@@ -1,13 +1,13 @@
 -- Calls that construct an object, of what fills it or of numbers from items, as the code makes them.
 use Rattle.segment_manager.proofs.Common as common
+use Rattle.seg_types.specs.Names as names
+use Rattle.seg_types.specs.Commands as asked
 use common.{false≢true, ◌≡◌, refl, sym, ap, subst, ◌∙◌, ℕ, true, false, Some, None, Option, Ok, Err, Result, List}
 use common.{IfErr, none-some, WindowState, Kind, Refusal, Exists, NoSpace, Command, Content, Index, PendingEntry, Mode}
-use common.{Answer}
-use common.{Made, Refused, is_untouched, BeginsObject, IsAbsentAt, IsNotBegun, Object, Directory, count_of, kind_of}
-use common.{object_at, value_len, Constructs, FindsOrConstructs, IsBegunFor, MakesValue, with_count, handle_at}
+use common.{Answer, Made, Refused, is_untouched, BeginsObject, IsAbsentAt, IsNotBegun, Object, Directory, count_of}
+use common.{kind_of, object_at, value_len, Constructs, FindsOrConstructs, IsBegunFor, MakesValue, with_count, handle_at}
 use common.{pair_answer, IsNewKeyOf, bare, IsObjectInBlock, pair_of_kind, AnswersWith, IsSegment, TakesStep}
-use common.{SegmentState, answer_of}
-use common.{handle_answer, is_read_only, Reply, effect, found, with_new_object}
+use common.{SegmentState, answer_of, handle_answer, is_read_only, Reply, effect, found, with_new_object}
 use Rattle.segment_manager.proofs.objects.FoundOrMade.{constructs-exists, finds, found-there, made_for, made_handle}
 use Rattle.segment_manager.proofs.objects.FoundOrMade.{makes, makes-nothing}
 use Rattle.segment_manager.proofs.objects.NewValues.{IsMadeNever, IsMadeNow, away-in, value-built, value-loose}
@@ -15,29 +15,25 @@ use Rattle.segment_manager.proofs.objects.NewValues.{value-not_built, value-read
 use Rattle.segment_manager.proofs.objects.NotBegun.{key-taken, value-not_begun}
 use Rattle.segment_manager.proofs.{Steps.step-segment, indexes.Bridge.lookup-absent, objects.NewKeys.key-seeks}
 use Rattle.segment_manager.specs.containers.Filled.{HasBegun, FillsObject, IsShapeOf}
-use Rattle.segment_manager.specs.{objects.PendingObjects.Ends, objects.PendingObjects.IsEnding}
+use Rattle.segment_manager.specs.objects.PendingObjects.{Ends, IsEnding}
 use Rattle.segment_manager.specs.{objects.Found.pair_found, Answers.Found}
-use Rattle.segment_manager.specs.{declared.objects.pending_object.PendingObject.PendingObject}
-use Rattle.segment_manager.specs.{declared.containers.fillings.ObjectShape.ObjectShape}
+use Rattle.segment_manager.specs.declared.objects.pending_object.PendingObject.{PendingObject}
+use Rattle.segment_manager.specs.declared.containers.fillings.ObjectShape.{ObjectShape}
 use Rattle.seg_index.specs.declared.keys.Entry.{Entry}
-use Rattle.seg_types.specs.Names as names
-use Rattle.seg_types.specs.Commands as asked
 
 -- ---- begun
 
 -- what the shape says of an object that was begun is what the content says
 pub begun-for : (old new : WindowState) (key : names.Key) {content : Content} {s : ObjectShape}
-    (r : Result PendingObject Refusal)
-    → IsShapeOf content s → BeginsObject old new key s.kind s.count s.len r
+    (r : Result PendingObject Refusal) → IsShapeOf content s → BeginsObject old new key s.kind s.count s.len r
     → BeginsObject old new key (kind_of (bare content)) (count_of (bare content)) (value_len (bare content)) r
 begun-for old new key {content} {s} r is g = subst (λ (k : Kind). BeginsObject old new key k (count_of (bare content))
     (value_len (bare content)) r) is.kind (subst (λ n. BeginsObject old new key s.kind n (value_len (bare content)) r)
     is.count (subst (λ n. BeginsObject old new key s.kind s.count n r) is.len g))
 
 pub has-begun : (old new : WindowState) (key : names.Key) {content : Content} {s : ObjectShape} (r : PendingObject)
-    → IsSegment old.bytes
-    → IsShapeOf content s → BeginsObject old new key s.kind s.count s.len (Ok r)
-    → HasBegun new content r.handle r.at r.entry
+    → IsSegment old.bytes → IsShapeOf content s
+    → BeginsObject old new key s.kind s.count s.len (Ok r) → HasBegun new content r.handle r.at r.entry
 has-begun old new key r b is g = (old, (b, (key, begun-for old new key (Ok r) is g)))
 
 -- ---- filled
@@ -156,8 +152,7 @@ module _ {a : WindowState} (b : IsSegment a.bytes) (key : names.Key) (content : 
 
 -- a look-up finds no object
 pub no-object : {a : WindowState} (b : IsSegment a.bytes) (i : Index) (e : Entry) (at : ℕ) (key : names.Key)
-    (name : List ℕ)
-    (kind : Kind) → IsNewKeyOf i e key name kind → IsAbsentAt a i e at → object_at b.0 key ≡ None
+    (name : List ℕ) (kind : Kind) → IsNewKeyOf i e key name kind → IsAbsentAt a i e at → object_at b.0 key ≡ None
 no-object {a} b i e at key name kind new away =
     (lookup-absent i a e key b.1.denotes (key-seeks i e key name kind new) (away-in i e at b.1.denotes away)).none
 
@@ -174,8 +169,7 @@ found-absent {a} i e at {key} name kind new away done = record {
 -- ---- the segment afterwards, as its view before the call is named
 
 module _ {A : Type 0} {s t : SegmentState} (view : s ≡ t) {c : WindowState} {command : Command}
-    {answer : Result A Refusal → Answer}
-    {r : Result A Refusal} (done : Constructs s.cut c command answer r) where
+    {answer : Result A Refusal → Answer} {r : Result A Refusal} (done : Constructs s.cut c command answer r) where
   pub made-step : is_read_only t.mode ≡ false → TakesStep t (record s { cut = c }) command (answer r)
   made-step writing = subst (λ (u : SegmentState). TakesStep u (record s { cut = c }) command (answer r)) view
       (done.step s.mode (ap (λ (u : SegmentState). is_read_only u.mode) view ∙ writing))

@@ -3,9 +3,8 @@ use Rattle.segment_manager.proofs.Common.{◌≡◌, sym, ap, ◌∙◌, ◌+◌
 use Rattle.segment_manager.proofs.Common.{refl, subst, ℕ, Bool, true, Some, Option, List, length, arith, IsTrue, Yields}
 use Rattle.segment_manager.proofs.Common.{length-append, AllByRecursion, flat_map_more, length-map, current, ScalarKind}
 use Rattle.segment_manager.proofs.Common.{list_all, and_from, bytes_of, ChangesBytes, is_value, size_of, spelling}
-use Rattle.segment_manager.proofs.Common.{spelled}
+use Rattle.segment_manager.proofs.{Common.spelled, blocks.NewBlocks.changed-trans, objects.Pieces.bytes-stay}
 use Rattle.segment_manager.proofs.blocks.Blocks.{spelled-length, spelling-length}
-use Rattle.segment_manager.proofs.{blocks.NewBlocks.changed-trans, objects.Pieces.bytes-stay}
 use Rattle.raw_region.proofs.{Facts.AllByRecursion-behind, Facts.first, Facts.second, Bytes.HasBytesAt-append}
 use Rattle.std.specs.Iterator.{HoldsAlong}
 use Rattle.std.proofs.lemmas.List.{map_push}
@@ -47,10 +46,9 @@ module _ (S : Type 0) {A : Type 0} {gives : S → Option A → S → Type 0} {ca
     → ℤ} {old : WindowState}
     {k : ScalarKind} {from : ℕ} {before : S} where
   -- and one more
-  pub filling-more : {b c : WindowState} {i to : ℕ} {s t : S} → IsFilling gives can whole old b k from i before s
-      → can t
-      → to ≡ from + size_of k * i → WritesItem gives whole b c k to s t
-      → IsFilling gives can whole old c k from (i + 1) before t
+  pub filling-more : {b c : WindowState} {i to : ℕ} {s t : S}
+      → IsFilling gives can whole old b k from i before s → can t → to ≡ from + size_of k * i
+      → WritesItem gives whole b c k to s t → IsFilling gives can whole old c k from (i + 1) before t
   filling-more {b} {c} {i} {to} {s} {t} f go at w =
       let zs = map whole f.items in let bytes = spelling k (whole w.item) in
       let more = map_push whole f.items w.item in let each = spelling-length k (whole w.item) in

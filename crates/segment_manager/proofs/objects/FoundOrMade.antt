@@ -1,17 +1,14 @@
 -- An object found under a key, or constructed where there is none, as a step of the machine.
+use Rattle.seg_types.specs.Commands as asked
 use Rattle.segment_manager.proofs.Common.{◌≡◌, sym, ap, ◌∙◌, ℕ, None, WindowState, Key, Made, Plan, Reply, bare}
-use Rattle.segment_manager.proofs.Common.{SegmentState, found}
-use Rattle.segment_manager.proofs.Common.{refl, if◌then◌else◌, pair_answer, with_new_object, pair_of_kind, is_read_only}
-use Rattle.segment_manager.proofs.Common.{false, Option, Result, handle, Exists, Answer, Object, Refuse, TakesStep}
-use Rattle.segment_manager.proofs.Common.{effect}
-use Rattle.segment_manager.proofs.Common.{Some, Refusal, NoSpace, Content, Refused, kind_of, IsObjectInBlock}
-use Rattle.segment_manager.proofs.Common.{AnswersWith, Command}
-use Rattle.segment_manager.proofs.Common.{SameSurroundings, WrongKind, same_kind, Directory, object_at, handle_at}
-use Rattle.segment_manager.proofs.Common.{DenotesCurrent}
+use Rattle.segment_manager.proofs.Common.{SegmentState, found, refl, if◌then◌else◌, pair_answer, with_new_object}
+use Rattle.segment_manager.proofs.Common.{pair_of_kind, is_read_only, false, Option, Result, handle, Exists, Answer}
+use Rattle.segment_manager.proofs.Common.{Object, Refuse, TakesStep, effect, Some, Refusal, NoSpace, Content, Refused}
+use Rattle.segment_manager.proofs.Common.{kind_of, IsObjectInBlock, AnswersWith, Command, SameSurroundings, WrongKind}
+use Rattle.segment_manager.proofs.Common.{same_kind, Directory, object_at, handle_at, DenotesCurrent}
 use Rattle.segment_manager.proofs.Steps.{by_no_change, by_step, lands, open-writing, step-plan, step-refuse}
 use Rattle.segment_manager.proofs.objects.Constructed.{IsNewObject, IsNoObject}
 use Rattle.segment_manager.proofs.{objects.Here.here, objects.KeyCalls.kind-step}
-use Rattle.seg_types.specs.Commands as asked
 
 -- ---- an object that is constructed
 

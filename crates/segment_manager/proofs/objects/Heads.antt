@@ -3,8 +3,7 @@ use Rattle.segment_manager.proofs.Common as common
 use common.{◌≡◌, ap, ◌∙◌, ℕ, zero, suc, ◌+◌, ◌*◌, ◌-◌, ◌<◌, ◌≤◌, Bool, true, false, ◌&&◌, not, List, [], ◌∷◌, ◌++◌}
 use common.{length, replicate, ◌==◌, if◌then◌else◌, arith, IsTrue, nat_le, AllByRecursion, list_all, is_utf8, chars}
 use common.{and_parts, eqb-true, leb-true, Memory, bytes_of, read, HasBytesAt, word_at, handle, serves, ObjectRole}
-use common.{ScalarKind}
-use common.{BoolKind, Kind, Scalar, Vector, Map, scalar_code, code_of, class_code, is_kind_of, is_name}
+use common.{ScalarKind, BoolKind, Kind, Scalar, Vector, Map, scalar_code, code_of, class_code, is_kind_of, is_name}
 use common.{is_printable_name, is_text_name, is_control, name_len_at, Object, kind_of, count_of, padded, is_class}
 use common.{has_good_name, is_good_value, is_object, object_len, IsObjectAt, IsEntry, subst, length-append}
 use Rattle.raw_region.proofs.{Facts.first, Facts.second, Bytes.HasBytesAt-take}

@@ -1,12 +1,11 @@
 -- The object of a key as it stands in its block, and what is said of it.
 use Rattle.segment_manager.proofs.Common.{◌≡◌, sym, ap, ◌∙◌, ℕ, ◌+◌, Some, None, Ok, Err, List, Key, SegmentState, Head}
 use Rattle.segment_manager.proofs.Common.{refl, subst, Option, Result, IsTrue, le-leb, handle, Object, Denotes}
-use Rattle.segment_manager.proofs.Common.{AnswersWith}
-use Rattle.segment_manager.proofs.Common.{option_map, Directory, is_object, object_at, object_len, handle_at, HasObject}
-use Rattle.segment_manager.proofs.Common.{current, has_room, Refusal, NotFound, has_key, IsObjectInBlock, IsSegment}
-use Rattle.segment_manager.proofs.Common.{IsHeadOf}
+use Rattle.segment_manager.proofs.Common.{AnswersWith, option_map, Directory, is_object, object_at, object_len}
+use Rattle.segment_manager.proofs.Common.{handle_at, HasObject, current, has_room, Refusal, NotFound, has_key}
+use Rattle.segment_manager.proofs.{Common.IsObjectInBlock, Common.IsSegment, Common.IsHeadOf, Frame.object-roomy}
 use Rattle.segment_manager.proofs.objects.ObjectLists.{all-found, each-true, key-found}
-use Rattle.segment_manager.proofs.{Calling.denotes-live, Calling.object-at, Calling.object-room, Frame.object-roomy}
+use Rattle.segment_manager.proofs.Calling.{denotes-live, object-at, object-room}
 use Rattle.segment_manager.specs.Calls.{told_at}
 
 -- ---- the object of a key
@@ -54,18 +53,16 @@ nothing-if None e = refl
 nothing-if (Some o) e = absurd (cc)
 
 -- some object stands at the handle that was found
-pub has-object : {s : SegmentState} (key : Key) {h : ℕ} → IsSegment s.cut.bytes
-    → AnswersWith s (λ d. handle_at d key) (Some h)
-    → HasObject s.cut.bytes h
+pub has-object : {s : SegmentState} (key : Key) {h : ℕ}
+    → IsSegment s.cut.bytes → AnswersWith s (λ d. handle_at d key) (Some h) → HasObject s.cut.bytes h
 has-object {s} key {h} i a =
     let o = here s.cut.bytes i.0 key h i.1.denotes (a.answers i.0 i.1) in
     (o.object, o.stands)
 
 -- what is said of each object that stands there is said of the key's
 pub tells : {A : Type 0} {s : SegmentState} (key : Key) {h : ℕ} (say : Object → A) {x : A}
-    → AnswersWith s (λ d. handle_at d key)
-    (Some h) → ((o : Object) → IsObjectInBlock s.cut.bytes h o → x ≡ say o)
-    → AnswersWith s (λ d. told_at d key say) (Ok x)
+    → AnswersWith s (λ d. handle_at d key) (Some h)
+    → ((o : Object) → IsObjectInBlock s.cut.bytes h o → x ≡ say o) → AnswersWith s (λ d. told_at d key say) (Ok x)
 tells {A} {s} key {h} say a each = record {
   answers = λ d k.
       let o = here s.cut.bytes d key h k.denotes (a.answers d k) in
@@ -77,8 +74,7 @@ tells {A} {s} key {h} say a each = record {
 
 -- where a look-up ended, there it ended in the view
 pub seen-handle : (s t : SegmentState) (view : s ≡ t) (key : Key) (r : Option ℕ)
-    → AnswersWith t (λ d. handle_at d key) r
-    → AnswersWith s (λ d. handle_at d key) r
+    → AnswersWith t (λ d. handle_at d key) r → AnswersWith s (λ d. handle_at d key) r
 seen-handle s t view key r = subst (λ (u : SegmentState). AnswersWith u (λ d. handle_at d key) r) (sym view)
 
 pub seen-object : (s t : SegmentState) (view : s ≡ t) (key : Key) (h : ℕ) → IsSegment s.cut.bytes

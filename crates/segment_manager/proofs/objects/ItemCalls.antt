@@ -1,36 +1,32 @@
 -- Calls that construct an object of numbers from items, as the code makes them.
 use Rattle.segment_manager.proofs.Common as common
-use common.{◌≡◌, sym, ap, ◌∙◌, Ok, Err, WindowState, ◌+◌, ◌*◌, ◌≤◌, ℤ, [], map, ◌<◌, pos, live, step, Plan}
-use common.{refl, true, Some, None, List, Made, SegmentState, Reply, Bool, arith, take, Extent, handle, place, Scalar}
-use common.{padded}
+use Rattle.seg_types.specs.Names as names
+use Rattle.seg_types.specs.Commands as asked
+use common.{◌≡◌, sym, ap, ◌∙◌, Ok, Err, WindowState, ◌+◌, ◌*◌, ◌≤◌, ℤ, [], map, ◌<◌, pos, live, step, Plan, refl, true}
+use common.{Some, None, List, Made, SegmentState, Reply, Bool, arith, take, Extent, handle, place, Scalar, padded}
 use common.{subst, Directory, object_at, IsSegment, replicate, SameSurroundings, ChangesBytes, ConstructsFromItems}
-use common.{RestoresBlocks}
-use common.{ℕ, Option, Result, Exists, Object, TakesStep, effect, length, IsTrue, nat_lt, lt-ltb, le-ltb, perform}
-use common.{live_of}
-use common.{false, PendingEntry, list_all, take_all, Anonymous, ReadOnly, is_value, head_len, room_for, DenotesCurrent}
-use common.{Refusal, NoSpace, Command, Refused, current, resized, size_of, BeginsObjectOk, IsUnindexedObject, Denotes}
-use common.{Numbers, has_room}
-use common.{IsNotBegun, length-map, ObjectRole, ScalarKind, OutOfRange, RefusesKey, LeadsThere, object_len, with_object}
-use common.{is_read_only, with_new_object, if◌then◌else◌, mul-le-mul_left, length-replicate, AllocatesOk, is_good_value}
-use common.{inl, inr, option_map, Mode, AnswersWith, IsObjectInBlock, handle_at, pair_of_kind, with_count, Index, Kind}
-use common.{IsAbsentAt, IsNewKeyOf, Write}
+use common.{RestoresBlocks, ℕ, Option, Result, Exists, Object, TakesStep, effect, length, IsTrue, nat_lt, lt-ltb}
+use common.{le-ltb, perform, false, PendingEntry, list_all, take_all, Anonymous, ReadOnly, is_value, head_len, room_for}
+use common.{DenotesCurrent, Refusal, NoSpace, Command, Refused, current, resized, size_of, BeginsObjectOk}
+use common.{IsUnindexedObject, Denotes, Numbers, IsNotBegun, length-map, ObjectRole, ScalarKind, OutOfRange, RefusesKey}
+use common.{LeadsThere, object_len, with_object, is_read_only, with_new_object, if◌then◌else◌, mul-le-mul_left}
+use common.{length-replicate, AllocatesOk, is_good_value, inl, inr, option_map, Mode, AnswersWith, IsObjectInBlock}
+use common.{handle_at, pair_of_kind, with_count, Index, Kind, IsAbsentAt, IsNewKeyOf, Write}
 use Rattle.seg_index.specs.declared.keys.Entry.{Entry}
 use Rattle.segment_manager.proofs.Steps.{step-segment, perform-new, refuses-read_only, by_no_change, by_step, lands}
+use Rattle.segment_manager.proofs.Steps.{open-writing, step-plan, step-refuse}
 use Rattle.segment_manager.proofs.objects.Constructed.{IsMet, IsNewObject, numbers-met, restored-denotes, IsNoObject}
 use Rattle.segment_manager.proofs.objects.NewValues.{away-in, value-built, value-ready, no_key-none}
 use Rattle.segment_manager.proofs.objects.NotBegun.{key-taken, value-not_begun}
 use Rattle.segment_manager.proofs.objects.ArrayItems.{by-items, from-items}
-use Rattle.segment_manager.proofs.{Steps.open-writing, objects.FoundOrMade.made_handle, objects.NewNumbers.numbers-made}
-use Rattle.segment_manager.proofs.{Steps.step-plan, objects.MadeValues.headed-change}
-use Rattle.segment_manager.proofs.{Steps.step-refuse, objects.Loose.begun-room, objects.NewKeys.key-seeks}
-use Rattle.segment_manager.proofs.{objects.FoundOrMade.makes, objects.Here.here, indexes.Bridge.lookup-absent}
-use Rattle.segment_manager.proofs.{objects.NewKeys.numbers-value, Calling.denotes-live}
+use Rattle.segment_manager.proofs.objects.FoundOrMade.{made_handle, makes}
+use Rattle.segment_manager.proofs.{objects.NewNumbers.numbers-made, objects.MadeValues.headed-change, objects.Here.here}
+use Rattle.segment_manager.proofs.{indexes.Bridge.lookup-absent, Calling.denotes-live}
+use Rattle.segment_manager.proofs.objects.NewKeys.{key-seeks, numbers-value}
 use Rattle.segment_manager.specs.objects.PendingObjects.{Ends, IsEnding, Fills}
 use Rattle.segment_manager.specs.objects.Items.{FindsOrTakes, FindsOrTakesIn, TakesItemsIn}
-use Rattle.segment_manager.specs.{containers.Filled.MakesValueOk, containers.Filled.numbers_shape}
-use Rattle.segment_manager.specs.{declared.containers.fillings.ObjectShape.ObjectShape}
-use Rattle.seg_types.specs.Names as names
-use Rattle.seg_types.specs.Commands as asked
+use Rattle.segment_manager.specs.containers.Filled.{MakesValueOk, numbers_shape}
+use Rattle.segment_manager.specs.declared.containers.fillings.ObjectShape.{ObjectShape}
 
 -- the numbers that the machine asks blocks for: those that are taken, or as many zeros where there are too few
 abbrev pub asked_for : ℕ → List ℤ → List ℤ
@@ -241,8 +237,7 @@ module _ (S : Type 0) {A : Type 0} (gives : S → Option A → S → Type 0) (wh
 -- ---- it is refused before an item is taken
 
 module _ (S : Type 0) {A : Type 0} (gives : S → Option A → S → Type 0) (whole : A
-    → ℤ) {s : SegmentState} (key : names.Key)
-    (k : ScalarKind) (count : ℕ) (at : S) where
+    → ℤ) {s : SegmentState} (key : names.Key) (k : ScalarKind) (count : ℕ) (at : S) where
   pub takes-nothing : is_read_only s.mode ≡ true → ConstructsFromItems gives whole s s key k count at at (Err ReadOnly)
   takes-nothing e = record {
     items = [];
@@ -284,9 +279,8 @@ module _ (S : Type 0) {A : Type 0} (gives : S → Option A → S → Type 0) (wh
 
 -- a shape of so many numbers
 pub begun-numbers : (a m : WindowState) (key : names.Key) {k : ScalarKind} {count : ℕ} (h at : ℕ)
-    (entry : Option PendingEntry)
-    {shape : ObjectShape} → shape ≡ numbers_shape k count
-    → BeginsObjectOk a m key shape.kind shape.count shape.len h at entry
+    (entry : Option PendingEntry) {shape : ObjectShape}
+    → shape ≡ numbers_shape k count → BeginsObjectOk a m key shape.kind shape.count shape.len h at entry
     → BeginsObjectOk a m key (Scalar k) count (size_of k * count) h at entry
 begun-numbers a m key h at entry same begun =
     subst (λ (j : ObjectShape). BeginsObjectOk a m key j.kind j.count j.len h at entry) same begun
@@ -334,14 +328,12 @@ module _ (S : Type 0) {A : Type 0} (gives : S → Option A → S → Type 0) (wh
 
       pub items-taken : ConstructsFromItems gives whole t (record s { cut = c }) key k count before after result
       items-taken = subst (λ (u : SegmentState).
-          ConstructsFromItems gives whole u (record s { cut = c }) key k count before after
-          result) view finished
+          ConstructsFromItems gives whole u (record s { cut = c }) key k count before after result) view finished
 
 -- ---- found, or made of items
 
 module _ (S : Type 0) {A : Type 0} (gives : S → Option A → S → Type 0) (whole : A
-    → ℤ) {a : WindowState} (key : names.Key)
-    (k : ScalarKind) (count : ℕ) (before : S) where
+    → ℤ) {a : WindowState} (key : names.Key) (k : ScalarKind) (count : ℕ) (before : S) where
   -- an object has the key
   pub found-items : {h : ℕ} {r : Result (ℕ × ℕ) Refusal}
       → ((mode : Mode) → AnswersWith (record { cut = a; mode = mode })
@@ -370,10 +362,8 @@ module _ (S : Type 0) {A : Type 0} (gives : S → Option A → S → Type 0) (wh
 
   -- it is not begun, with a shape of so many numbers
   pub none-items : {c : WindowState} {shape : ObjectShape} {j : ScalarKind} {why : Refusal}
-      → shape ≡ numbers_shape j count
-      → j ≡ k
-      → 1 ≤ count → IsNotBegun a c key shape.kind shape.len why
-      → TakesItemsIn gives whole a c key k count before before (Err why)
+      → shape ≡ numbers_shape j count → j ≡ k → 1 ≤ count
+      → IsNotBegun a c key shape.kind shape.len why → TakesItemsIn gives whole a c key k count before before (Err why)
   none-items {c} {why = why} same is low not mode writing =
       takes-none S gives whole key k count before why c writing low
       (subst (λ (l : ScalarKind). IsNotBegun a c key (Scalar l) (size_of l * count) why) is

@@ -1,30 +1,28 @@
 -- What calls that look a key up find, and what they say of it, for each directory that the bytes stand for.
 use Rattle.segment_manager.proofs.Common as common
+use Rattle.seg_types.specs.Commands as asked
 use common.{◌≡◌, Option, ne_eqb, Extent, handle, Absent, Object, length, Unique, IsBelow, AnswersQuery, Command}
-use common.{Refusal}
-use common.{refl, none-some, same_Some, extent_at, same_role, IsIndexOf, Directory, object_at, handle_at, IsSegment}
-use common.{sym, ◌∙◌, ℕ, ◌+◌, ◌<◌, [], ◌∷◌, WindowState, Key, live, Kind, Plan, Mode, step, Err, Ok, ap, Bool, true}
-use common.{◌&&◌, ◌||◌}
-use common.{◌==◌, Some, None, List, cond, find, Role, SegmentState, subst, Named, Reply, found, false, arith}
-use common.{BackingArray, Index}
-use common.{Entry, Found, Seeks, Answer, Number, Refuse, Result, effect, SaysAt, SaysOf, is_some, option_map, slice_get}
-use common.{ObjectRole, is_live_in, entries_of, objects_of, pair_answer, IsInstance, list_any, eqb-true, bytes_of}
-use common.{ByHandle, HasIndex, place_of, DenotesCurrent, WrongKind, same_kind, HasObject, slice_get_within}
-use common.{entry_count}
-use common.{is_object_at, if◌then◌else◌, named_objects, unique_objects, pair_of_kind, current, live_of, FindsPosition}
-use common.{has_key, Denotes, table_of, AnswersWith, kind_of, IsObjectInBlock, count_of, Instance}
+use common.{Refusal, refl, none-some, same_Some, extent_at, same_role, IsIndexOf, Directory, object_at, handle_at}
+use common.{IsSegment, sym, ◌∙◌, ℕ, ◌+◌, ◌<◌, [], ◌∷◌, WindowState, Key, live, Kind, Plan, Mode, step, Err, Ok, ap}
+use common.{Bool, true, ◌&&◌, ◌||◌, ◌==◌, Some, None, List, cond, find, Role, SegmentState, subst, Named, Reply, found}
+use common.{false, arith, BackingArray, Index, Entry, Found, Seeks, Answer, Number, Refuse, Result, effect, SaysAt}
+use common.{SaysOf, is_some, option_map, slice_get, ObjectRole, is_live_in, entries_of, objects_of, pair_answer}
+use common.{IsInstance, list_any, eqb-true, bytes_of, ByHandle, HasIndex, place_of, DenotesCurrent, WrongKind}
+use common.{same_kind, HasObject, slice_get_within, entry_count, is_object_at, if◌then◌else◌, named_objects}
+use common.{unique_objects, pair_of_kind, current, live_of, FindsPosition, has_key, Denotes, table_of, AnswersWith}
+use common.{kind_of, IsObjectInBlock, count_of, Instance}
 use Rattle.segment_manager.proofs.indexes.Bridge.{lookup-absent, lookup-found, in-handles}
-use Rattle.segment_manager.proofs.{Steps.open-reading, objects.ObjectLists.found-handle, indexes.EntryPlaces.stands-at}
-use Rattle.segment_manager.proofs.{Steps.IsOpenFor, objects.Here.standing, Calling.denotes-live, Denoted.handles-length}
-use Rattle.segment_manager.proofs.{Steps.step-refuse, Steps.step-reply, objects.Here.here, Order.live-rises}
-use Rattle.segment_manager.proofs.{objects.Here.nothing-if, blocks.OwnBlocks.or-none, indexes.EntryPlaces.all-at}
-use Rattle.segment_manager.proofs.{blocks.OwnBlocks.handle-is-object, indexes.HeldIndexes.denotes-index, Order.Rising}
+use Rattle.segment_manager.proofs.Steps.{open-reading, IsOpenFor, step-refuse, step-reply}
+use Rattle.segment_manager.proofs.{objects.ObjectLists.found-handle, Calling.denotes-live, Denoted.handles-length}
+use Rattle.segment_manager.proofs.{Order.live-rises, Order.Rising, indexes.HeldIndexes.denotes-index}
+use Rattle.segment_manager.proofs.indexes.EntryPlaces.{stands-at, all-at}
+use Rattle.segment_manager.proofs.objects.Here.{standing, here, nothing-if}
+use Rattle.segment_manager.proofs.blocks.OwnBlocks.{or-none, handle-is-object}
 use Rattle.std.specs.Bool.{then_some}
 use Rattle.block_tags.specs.contracts.tile.Role.{the_type}
 use denote.Enum.Bare.{sameb}
 use Rattle.seg_types.specs.Names.{NoKey}
 use Rattle.segment_manager.specs.Answers.{Absent}
-use Rattle.seg_types.specs.Commands as asked
 
 -- ---- a handle from outside
 
@@ -281,8 +279,7 @@ pub record IsEntered (s : SegmentState) (d : Directory) (i : Index) (n h : ℕ) 
   pub stands : IsObjectInBlock s.cut.bytes h object
 
 pub entered : (s : SegmentState) {i : Index} {n h : ℕ} → ForIndex s.cut i (λ hs. slice_get hs n ≡ Some h)
-    → {d : Directory}
-    → DenotesCurrent s.cut.bytes d → IsEntered s d i n h
+    → {d : Directory} → DenotesCurrent s.cut.bytes d → IsEntered s d i n h
 entered s {i} {n} {h} f {d} k =
     let at = stands-at (objects_of i d) n (of-directory s i (λ hs. slice_get hs n ≡ Some h) k f) in let o = at.object in
     record {

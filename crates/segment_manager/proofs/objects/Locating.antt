@@ -73,9 +73,8 @@ located-there {s} {t} view key {q} g a o stands =
     let there = here s.cut.bytes g.0 key q.handle g.1.denotes ((handle-located key b).answers g.0 g.1) in
     p.said ∙ ap located (same_Some p.object there.object (sym p.is ∙ there.is)) ∙ alike there.stands stands
 
-pub said-at : (s : SegmentState) (key : Key) (o : Located) → IsLocated s key o → (d : Directory)
-    → DenotesCurrent s.cut.bytes d
-    → IsSaidAt d key o
+pub said-at : (s : SegmentState) (key : Key) (o : Located)
+    → IsLocated s key o → (d : Directory) → DenotesCurrent s.cut.bytes d → IsSaidAt d key o
 said-at s key o l d k = said-if (object_at d key) refl (l.at.answers d k)
 
 pub same-object : HandlesMeanObjects
@@ -155,8 +154,7 @@ module _ (old : SegmentState) (key : Key) (o : Located) (l : IsLocated old key o
   step-same c d k = keys-same old.mode d (ByHandle o.handle) key c (same d k)
 
   pub step-by_key : (new : SegmentState) (c : Command) (answer : Answer)
-      → TakesStep old new (at_key (ByHandle o.handle) c) answer
-      → TakesStep old new (at_key key c) answer
+      → TakesStep old new (at_key (ByHandle o.handle) c) answer → TakesStep old new (at_key key c) answer
   step-by_key new c answer m = moves-same old new answer (λ d. step old.mode d (at_key (ByHandle o.handle) c))
       (λ d. step old.mode d (at_key key c)) (step-same c) m
 
@@ -212,8 +210,7 @@ module _ (old : SegmentState) (key : Key) (o : Located) (l : IsLocated old key o
   located-changes Clear new kind answer is m = located-steps new kind (asked.Clear key) answer is m
 
   pub enough-by_key : (change : Change) (new : SegmentState)
-      → UnchangedWhere old new (HasEnough change (ByHandle o.handle))
-      → UnchangedWhere old new (HasEnough change key)
+      → UnchangedWhere old new (HasEnough change (ByHandle o.handle)) → UnchangedWhere old new (HasEnough change key)
   enough-by_key (Reserve n) new m = places-by_key n m
   enough-by_key Shrink new m = λ d k e. absurd e
   enough-by_key Clear new m = λ d k e. absurd e

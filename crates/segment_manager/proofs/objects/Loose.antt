@@ -1,13 +1,12 @@
 -- The blocks of an object that no entry leads to yet: what an index wants to lead there, and how they are given back.
 use Rattle.segment_manager.proofs.Common.{sym, subst, ◌+◌, Some, None, List, arith, IsTrue, WindowState, IsHeap, Kind}
 use Rattle.segment_manager.proofs.Common.{Class, Key, Role, ℕ, Option, IfSome, current, LiveSet, live_of}
-use Rattle.segment_manager.proofs.Common.{BeginsObjectOk}
-use Rattle.segment_manager.proofs.Common.{WritesObjectHeader, IsUnindexedObject, room_for, IsGrowth, [], ObjectRole}
-use Rattle.segment_manager.proofs.Common.{Deallocates}
-use Rattle.segment_manager.proofs.Common.{has_room, is_live_in, FreesGrowth, place_of, PendingEntry, RestoresBlocks}
-use Rattle.segment_manager.proofs.Common.{AllocatesOk, allocated-is_live, allocated-room, changed-room, lay_out_one}
+use Rattle.segment_manager.proofs.Common.{BeginsObjectOk, WritesObjectHeader, IsUnindexedObject, room_for, IsGrowth, []}
+use Rattle.segment_manager.proofs.Common.{ObjectRole, Deallocates, has_room, is_live_in, FreesGrowth, place_of}
+use Rattle.segment_manager.proofs.Common.{PendingEntry, RestoresBlocks, AllocatesOk, allocated-is_live, allocated-room}
+use Rattle.segment_manager.proofs.Common.{changed-room, lay_out_one, IsLooseAlone, IsLooseEntry}
 use Rattle.segment_manager.proofs.objects.Taking.{growth-held, restored-taken, written-taken}
-use Rattle.segment_manager.proofs.{Common.IsLooseAlone, Common.IsLooseEntry, objects.Pieces.changed-heap}
+use Rattle.segment_manager.proofs.objects.Pieces.{changed-heap}
 use Rattle.best_fit.proofs.Laws.{taken-back}
 
 -- ---- begun: the value has room behind the head
@@ -34,16 +33,14 @@ begun-heap (Some e) a m key kind count body h at g = changed-heap g.headed.chang
 -- ---- all is given back
 
 -- a block that was put in use and goes leaves the blocks that were in use before
-back-again : {a b c : WindowState} {n : ℕ} {role : Role} {h : ℕ} → AllocatesOk current a b n role h
-    → Deallocates current b c h
-    → RestoresBlocks a c
+back-again : {a b c : WindowState} {n : ℕ} {role : Role} {h : ℕ}
+    → AllocatesOk current a b n role h → Deallocates current b c h → RestoresBlocks a c
 back-again {a} {b} {c} {n} {role} {h} took gone =
     let r = taken-back a b c n h role took gone in record { laid = r.laid; keeps = r.keeps }
 
 -- what an index took to grow into goes back, after what was taken behind it
-growth-back : {a : WindowState} {b c : WindowState} {e : WindowState} (at : ℕ) (g : Option ℕ) → IsGrowth a b at g
-    → RestoresBlocks b c
-    → FreesGrowth c e g → RestoresBlocks a e
+growth-back : {a : WindowState} {b c : WindowState} {e : WindowState} (at : ℕ) (g : Option ℕ)
+    → IsGrowth a b at g → RestoresBlocks b c → FreesGrowth c e g → RestoresBlocks a e
 growth-back {a} {c} at None grows r back =
     subst (RestoresBlocks a) (sym back) (subst (λ (s : WindowState). RestoresBlocks s c) grows.1 r)
 growth-back at (Some h) grows r back = back-again (restored-taken grows.1 r) back

@@ -1,17 +1,15 @@
 -- An object whose handle is answered when it is made is there.
 use Rattle.segment_manager.proofs.Common as common
-use common.{◌≡◌, ◌&&◌, refl, sym, ap, ◌∙◌, ℕ, ◌==◌, Bool, true, false, Option, Some, None, List, [], ◌∷◌, length}
-use common.{cond, nat_lt, Exists}
-use common.{if◌then◌else◌, is_some, eq-eqb, Extent, handle, LiveSet, resized, Refusal, NoSpace, BackingArray, OwnedText}
-use common.{Class}
-use common.{Anonymous, size_of, Key, ByHandle, Mode, Content, Answer, Made, Refused, Directory, Object, Value, live}
-use common.{has_key, object_at, put_object, with_object, Elements, Bytes, Texts, Plan, Refuse, Reply, Request, perform}
-use common.{met, with_place, with_entry, with_storage, with_owned_text, with_owned_texts, with_value, with_new_object}
-use common.{class_of, name_of, Need, is_read_only, plan, step, is_object_at, AnswersWith, IsSegment, TakesStep}
-use common.{SegmentState, find}
+use Rattle.seg_types.specs.Commands as asked
+use common.{◌≡◌, ◌&&◌, refl, sym, ap, ◌∙◌, ℕ, ◌==◌, Bool, true, false, Option, Some, None, List, [], ◌∷◌, length, cond}
+use common.{nat_lt, Exists, if◌then◌else◌, is_some, eq-eqb, Extent, handle, LiveSet, resized, Refusal, NoSpace}
+use common.{BackingArray, OwnedText, Class, Anonymous, size_of, Key, ByHandle, Mode, Content, Answer, Made, Refused}
+use common.{Directory, Object, Value, live, has_key, object_at, put_object, Elements, Bytes, Texts, Plan, Refuse, Reply}
+use common.{Request, perform, met, with_place, with_entry, with_storage, with_owned_text, with_owned_texts, with_value}
+use common.{with_new_object, class_of, name_of, Need, is_read_only, plan, step, is_object_at, AnswersWith, IsSegment}
+use common.{TakesStep, SegmentState, find}
 use Rattle.segment_manager.proofs.objects.KeyCalls.{object-passes}
 use Rattle.seg_types.specs.declared.kinds.Class.TheVariants.{Named, Unique}
-use Rattle.seg_types.specs.Commands as asked
 
 -- a handle that is answered is that of an object of the directory that is left
 abbrev IsMadeHere : Answer → Directory → Type 0
@@ -34,8 +32,7 @@ asked-here : (d : Directory) (o : Option Extent) (after : Extent → Answer × D
 asked-here d None after k = refused-here d
 asked-here d (Some x) after k = k x
 
-perform-here : (d : Directory) (l : LiveSet) (p : Plan) → MakesHere p
-    → IsMadeHere (perform d l p).0 (perform d l p).1
+perform-here : (d : Directory) (l : LiveSet) (p : Plan) → MakesHere p → IsMadeHere (perform d l p).0 (perform d l p).1
 perform-here d l p by_refusal = refused-here d
 perform-here d l p (by_reply k) = k
 perform-here d l p (by_request {need = need} {next = next} k) = asked-here d (met l need)

@@ -2,22 +2,19 @@
 -- there.
 use Rattle.segment_manager.proofs.Common as common
 use common.{◌≡◌, HasBytesAt-same, ChangesBytes, no_backing, same_role, WritesObjectHeader, IsValueAt, Directory, refl}
-use common.{zero, Some, None, List}
-use common.{arith, holds, added, place, BackingArray, Class, Value, sym, ◌∙◌, suc, ◌+◌, ◌*◌, ◌≤◌, inl, [], ◌∷◌}
-use common.{WindowState, HasBytesAt, SameBytes}
-use common.{Kind, Plan, New, ap, word_at, Storage, LiveSet, resized, EncodesLiveSet, count_of, IsHeadAt, room_for}
-use common.{subst}
-use common.{lt-leb, ne_eqb, Memory, Extent, end_of, handle, regrow, Answer, padded, ℕ, option_map, SameBytes-trans}
-use common.{AllocatesOk, grown_backing, padded_name, live-spaced, Option, length, live_of, NoSpace, code_of, Refused}
-use common.{kind_of, Request, perform, if◌then◌else◌, AllByRecursion, SameSurroundings-trans, allocated-live}
-use common.{spaced-insert}
-use common.{current, SameBytes-word, ObjectRole, exchanged, class_code, IsObjectAt, two_halves, bytes_of}
-use common.{SameBytesExcept-SameBytes}
-use common.{SameBlockExcept, ExchangesBlocks, blocks-trans, with_storage}
+use common.{zero, Some, None, List, arith, holds, added, place, BackingArray, Class, Value, sym, ◌∙◌, suc, ◌+◌, ◌*◌}
+use common.{◌≤◌, inl, [], ◌∷◌, WindowState, HasBytesAt, SameBytes, Kind, Plan, New, ap, word_at, Storage, LiveSet}
+use common.{resized, EncodesLiveSet, count_of, IsHeadAt, room_for, subst, lt-leb, ne_eqb, Memory, Extent, end_of}
+use common.{handle, regrow, Answer, padded, ℕ, option_map, SameBytes-trans, AllocatesOk, grown_backing, padded_name}
+use common.{live-spaced, Option, length, live_of, NoSpace, code_of, Refused, kind_of, Request, perform, if◌then◌else◌}
+use common.{AllByRecursion, SameSurroundings-trans, allocated-live, spaced-insert, current, SameBytes-word, ObjectRole}
+use common.{exchanged, class_code, IsObjectAt, two_halves, bytes_of, SameBytesExcept-SameBytes, SameBlockExcept}
+use common.{ExchangesBlocks, blocks-trans, with_storage}
 use Rattle.segment_manager.proofs.objects.Taking.{IsTaken, requested-taken, taken-live, written-taken}
-use Rattle.segment_manager.proofs.{objects.Exchanged.all-but-beside, blocks.NewBlocks.allocated-serves, Order.inserted}
-use Rattle.segment_manager.proofs.{objects.Exchanged.put-first, blocks.NewBlocks.changed-trans, Order.all_of-insert}
-use Rattle.segment_manager.proofs.{Order.live-rises, Order.resized-fresh, Order.rising-insert, Frame.padded_name-length}
+use Rattle.segment_manager.proofs.objects.Exchanged.{all-but-beside, put-first}
+use Rattle.segment_manager.proofs.blocks.NewBlocks.{allocated-serves, changed-trans}
+use Rattle.segment_manager.proofs.Order.{inserted, all_of-insert, live-rises, resized-fresh, rising-insert}
+use Rattle.segment_manager.proofs.Frame.{padded_name-length}
 use Rattle.raw_region.proofs.{Facts.second, Facts.no_more, Laws.SameBytesExcept-wider}
 use Rattle.best_fit.specs.Fit.{insert}
 
@@ -88,8 +85,7 @@ pub record StaysBut (a b c : WindowState) (x : Extent) (from n : ℕ) : Type 0 w
   pub others : AllByRecursion (SameBlockExcept (bytes_of b.bytes) (bytes_of c.bytes) from n) (live_of a.bytes).extents
 
 pub stays-but : {a : WindowState} {b c : WindowState} {x : Extent} {from n : ℕ} {come : List Extent}
-    → IsTaken a b (x ∷ [])
-    → ExchangesBlocks current b c from n [] come → StaysBut a b c x from n
+    → IsTaken a b (x ∷ []) → ExchangesBlocks current b c from n [] come → StaysBut a b c x from n
 stays-but {a} {b} {c} {x} {from} {n} m r =
     let both = all_of-insert (SameBlockExcept (bytes_of b.bytes) (bytes_of c.bytes) from n) x (live_of a.bytes).extents
     (subst (λ (s : LiveSet). AllByRecursion (SameBlockExcept (bytes_of b.bytes) (bytes_of c.bytes) from n) s.extents)
@@ -139,9 +135,8 @@ changed-wider {a} {b} {from} {m} {n} l c = record {
 
 -- what was written behind the head stands in the payload
 pub headed-change : {a b c : WindowState} {kind : Kind} {class : Class} {name : List ℕ} {count : ℕ} (body : ℕ)
-    {h at n : ℕ}
-    → WritesObjectHeader a b kind class name count h at → ChangesBytes current b c (h + at) n → n ≤ body
-    → ChangesBytes current a c h (room_for name body)
+    {h at n : ℕ} → WritesObjectHeader a b kind class name count h at
+    → ChangesBytes current b c (h + at) n → n ≤ body → ChangesBytes current a c h (room_for name body)
 headed-change {b} {c} {name} body {h} {at} {n} hd change l =
     changed-wider (omega arith) (changed-trans hd.change
     (subst (λ p. ChangesBytes current b c (h + p) n) hd.start change))
@@ -189,11 +184,9 @@ headed-object {m} {m'} {h} {at} {class} {name} v x is start head s w = record {
 
 -- the object stands there with its value
 pub made-object : {a t m e w : WindowState} {class : Class} {name : List ℕ} {n h at : ℕ} (v : Value)
-    {come : List Extent}
-    → (took : AllocatesOk current a e (room_for name n) ObjectRole h)
-    → WritesObjectHeader t m (kind_of v) class name (count_of v)
-    h at → ChangesBytes current m e (h + at) n → ExchangesBlocks current e w (h + at) n [] come
-    → IsValueAt (bytes_of w.bytes)
+    {come : List Extent} → (took : AllocatesOk current a e (room_for name n) ObjectRole h)
+    → WritesObjectHeader t m (kind_of v) class name (count_of v) h at → ChangesBytes current m e (h + at) n
+    → ExchangesBlocks current e w (h + at) n [] come → IsValueAt (bytes_of w.bytes)
     (h + at) v → IsObjectAt (bytes_of w.bytes) (record { class = class; name = name; value = v; extent = took.extent })
 made-object {a} {m} {e} {w} {name} {n} {h} {at} v took headed change storage says =
     let M = bytes_of m.bytes in let E = bytes_of e.bytes in

@@ -1,17 +1,15 @@
 -- Numbers as the value of a new object, and a map without pairs: they ask for no block but the object's own.
+use Rattle.seg_types.specs.Commands as asked
 use Rattle.segment_manager.proofs.Common.{◌≡◌, refl, sym, ap, subst, ◌∙◌, ℕ, ◌*◌, ◌≤◌, ◌∷◌, ◌++◌, ℤ, Option, None, List}
 use Rattle.segment_manager.proofs.Common.{[], length, replicate, IsTrue, AllByRecursion, length-replicate, current}
-use Rattle.segment_manager.proofs.Common.{WindowState}
-use Rattle.segment_manager.proofs.Common.{HasBytesAt, Memory, bytes_of, Tree, fork, leaf, nodes_of, ExchangesBlocks}
-use Rattle.segment_manager.proofs.Common.{SameBlockExcept}
-use Rattle.segment_manager.proofs.Common.{Extent, cells_of, ChangesBytes, EncodesLiveSet, live_of, laid-heap}
-use Rattle.segment_manager.proofs.Common.{ScalarKind, Plain}
-use Rattle.segment_manager.proofs.Common.{is_value, size_of, spelling, Place, place_at, spelled, Numbers}
-use Rattle.segment_manager.proofs.{Common.Pairs, Common.MakesValueOk, Common.repeated, objects.NewKeys.equal-good}
-use Rattle.segment_manager.proofs.{Common.is_good_value, blocks.Blocks.spelling-length, objects.Rows.repeated-spelled}
+use Rattle.segment_manager.proofs.Common.{WindowState, HasBytesAt, Memory, bytes_of, Tree, fork, leaf, nodes_of}
+use Rattle.segment_manager.proofs.Common.{ExchangesBlocks, SameBlockExcept, Extent, cells_of, ChangesBytes}
+use Rattle.segment_manager.proofs.Common.{EncodesLiveSet, live_of, laid-heap, ScalarKind, Plain, is_value, size_of}
+use Rattle.segment_manager.proofs.Common.{spelling, Place, place_at, spelled, Numbers, Pairs, MakesValueOk, repeated}
+use Rattle.segment_manager.proofs.{Common.is_good_value, objects.NewKeys.equal-good, blocks.Blocks.spelling-length}
+use Rattle.segment_manager.proofs.objects.Rows.{repeated-spelled}
 use Rattle.link_tree.specs.Tree.{IsTree}
 use Rattle.seg_map.specs.Changing.{InitsMap}
-use Rattle.seg_types.specs.Commands as asked
 
 all-stay : (m : Memory) (from n : ℕ) (xs : List Extent) → AllByRecursion (SameBlockExcept m m from n) xs
 all-stay m from n [] = tt
@@ -32,8 +30,7 @@ nothing-exchanged {c} {from} {n} laid = record {
 
 -- they are written
 pub numbers-made : (k : ScalarKind) (zs : List ℤ) {old new : WindowState} {p : Place}
-    → IsTrue (is_good_value (Numbers k zs))
-    → ChangesBytes current old new (place_at p) (size_of k * length zs)
+    → IsTrue (is_good_value (Numbers k zs)) → ChangesBytes current old new (place_at p) (size_of k * length zs)
     → HasBytesAt (bytes_of new.bytes) (place_at p) (spelled k zs) → MakesValueOk (asked.Numbers k zs) old new p
 numbers-made k zs {old} {new} good change says = record {
   empty = new;

@@ -1,18 +1,15 @@
 -- An object made under a key whose value takes blocks of its own, whatever it is, as a step of the machine: its
 -- requests are met in order, or one is refused and all is given back.
 use Rattle.segment_manager.proofs.Common as common
+use Rattle.seg_types.specs.Names as names
 use common.{◌≡◌, sym, true, ◌&&◌, Some, None, List, find, Kind, Value, live, Plan, bare, refl, LiveSet, resized}
 use common.{EncodesLiveSet, live_of, Refusal, Content, FindsPosition, room_for, ap, Extent, place, KeepsBlocks}
-use common.{BackingArray, serves, Class}
-use common.{Index, Absent, Object, padded, subst, IsAbsentAt, IsReadyFor, LeadsThere, extents_of, object_len}
-use common.{entries_of, ◌∙◌, ℕ, ◌+◌, [], ◌∷◌, WindowState, Option, length, IsTrue, BeginsObjectOk, IsUnindexedObject}
-use common.{Denotes, has_key}
-use common.{kind_of, IsGiven, and_from, SameSurroundings, ChangesBytes, laid-heap, IsNewKeyOf, RestoresBlocks}
-use common.{with_value, current}
-use common.{PendingEntry, WritesObjectHeader, IsReadyForEntry, count_of, IsDenied, table_of, head_len, bytes_of, added}
-use common.{place_of, AddKeeps}
-use common.{IsGrowth, prepared, IsSegment, DenotesCurrent, SameSurroundings-trans, BeginsAnonymous, is_good_value}
-use common.{value_extents}
+use common.{BackingArray, serves, Class, Index, Absent, Object, padded, subst, IsAbsentAt, IsReadyFor, LeadsThere}
+use common.{extents_of, object_len, entries_of, ◌∙◌, ℕ, ◌+◌, [], ◌∷◌, WindowState, Option, length, IsTrue}
+use common.{BeginsObjectOk, IsUnindexedObject, Denotes, has_key, kind_of, IsGiven, and_from, SameSurroundings}
+use common.{ChangesBytes, laid-heap, IsNewKeyOf, RestoresBlocks, with_value, current, PendingEntry, WritesObjectHeader}
+use common.{IsReadyForEntry, count_of, IsDenied, table_of, head_len, bytes_of, added, place_of, AddKeeps, IsGrowth}
+use common.{prepared, IsSegment, DenotesCurrent, SameSurroundings-trans, BeginsAnonymous, is_good_value, value_extents}
 use common.{class_of_index, ObjectRole, AllocatesOk, is_kind_of, BeginsEntryOk, with_object, MakesValueOk, Anonymous}
 use common.{IsIndexOf, Directory, is_object, object_at, value_len, MakesValueErr, handle}
 use Rattle.segment_manager.proofs.objects.Taking.{IsMade, IsTaken, taken-growth, taken-index, growth-index}
@@ -20,15 +17,13 @@ use Rattle.segment_manager.proofs.objects.Taking.{growth-stays, made-key, made-s
 use Rattle.segment_manager.proofs.objects.MadeValues.{empty-taken, made-object, made-taken, placed-next}
 use Rattle.segment_manager.proofs.objects.Constructed.{IsNewObject, IsNoObject, content-denied, content-entered}
 use Rattle.segment_manager.proofs.{objects.Constructed.restored-denotes, Codes.known-kind, indexes.Bridge.lookup-absent}
-use Rattle.segment_manager.proofs.{Calling.denotes-live, Denoted.denotes-with, indexes.HeldIndexes.denotes-index}
-use Rattle.segment_manager.proofs.{objects.Heads.object-entry, blocks.NewBlocks.allocated-serves}
+use Rattle.segment_manager.proofs.{Calling.denotes-live, Denoted.denotes-with, objects.Heads.object-entry}
+use Rattle.segment_manager.proofs.{blocks.NewBlocks.allocated-serves, Live.adding, Steps.perform-new}
+use Rattle.segment_manager.proofs.indexes.HeldIndexes.{denotes-index, denotes-sorted}
 use Rattle.segment_manager.proofs.objects.NewKeys.{key-object, key-of, key-seeks, key-short, key-sort, object_of}
-use Rattle.segment_manager.proofs.{Live.adding, Steps.perform-new, indexes.HeldIndexes.denotes-sorted}
-use Rattle.seg_index.specs.declared.keys.Entry.{Entry}
+use Rattle.seg_index.specs.{declared.keys.Entry.Entry, Sorted.BelongsAt}
 use Rattle.segment_manager.specs.objects.PendingObjects.{GivesAllBack, IsEntryAdded}
 use Rattle.seg_index.proofs.Laws.{ObjectStays, belongs-at, keeps-sorted, place_behind, place_small, stays-trans}
-use Rattle.seg_index.specs.Sorted.{BelongsAt}
-use Rattle.seg_types.specs.Names as names
 
 -- ---- places
 
@@ -47,9 +42,8 @@ no_key-none [] = refl
 no_key-none (o ∷ os) = no_key-none os
 
 -- what a look-up that finds no entry says of each directory
-pub away-in : (i : Index) {a : WindowState} {d : Directory} (e : Entry) (at : ℕ) → Denotes current a.bytes d
-    → IsAbsentAt a i e at
-    → FindsPosition (bytes_of a.bytes) e (entries_of i d) (Absent at)
+pub away-in : (i : Index) {a : WindowState} {d : Directory} (e : Entry) (at : ℕ)
+    → Denotes current a.bytes d → IsAbsentAt a i e at → FindsPosition (bytes_of a.bytes) e (entries_of i d) (Absent at)
 away-in i {a} {d} e at said away = away (table_of i d) (entries_of i d) (denotes-index i a said)
 
 -- ---- all directories
@@ -121,8 +115,7 @@ module _ (content : Content) where
   -- ---- the directory, under a key with an entry
 
   module _ {a m : WindowState} {key : names.Key} {h at : ℕ} {e : PendingEntry}
-      (g : BeginsEntryOk a m key kind many long h at e)
-      {d : Directory} (said : Denotes current a.bytes d) where
+      (g : BeginsEntryOk a m key kind many long h at e) {d : Directory} (said : Denotes current a.bytes d) where
     absent : object_at d key ≡ None
     absent = (lookup-absent e.index a g.entry key said (key-seeks e.index g.entry key g.name kind g.is)
         (away-in e.index g.entry e.place said g.absent)).none
@@ -239,8 +232,7 @@ module _ (content : Content) where
         let belongs = belongs-at {a = a} {b = w} g.entry e.place (handle took.extent)
         (key-sort i g.entry key g.name (kind_of r.value) new) sorted stay (made-key i made)
         (key-of i g.entry key {m = bytes_of w.bytes} g.name o new refl
-        (object-entry (bytes_of w.bytes) o short made.at))
-        (g.absent t hs x) in
+        (object-entry (bytes_of w.bytes) o short made.at)) (g.absent t hs x) in
         record {
           entry = record {
             table = t;
@@ -297,8 +289,7 @@ module _ (content : Content) where
       }
 
       value-refused : {why : Refusal} → MakesValueErr content m w (record { handle = h; at = at }) why
-          → RestoresBlocks a c
-          → IsMadeNever a c key content
+          → RestoresBlocks a c → IsMadeNever a c key content
       value-refused r back = record {
         place = back.keeps.place;
         each = λ d st. (absent g st.denotes, entry-denied g st.denotes r back);

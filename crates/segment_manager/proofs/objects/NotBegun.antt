@@ -1,25 +1,22 @@
 -- An object that is not begun: why, and what the directory is then.
+use Rattle.seg_types.specs.Names as names
 use Rattle.segment_manager.proofs.Common.{◌≡◌, sym, ap, subst, ◌∙◌, inl, inr, Some, [], WindowState, place, Object}
-use Rattle.segment_manager.proofs.Common.{live, bare}
-use Rattle.segment_manager.proofs.Common.{refl, ObjectRole, IsNotBegun, RefusesKey, object_len, with_object, entries_of}
-use Rattle.segment_manager.proofs.Common.{current, NoSpace, Content, Denotes, kind_of, table_of, room_for}
-use Rattle.segment_manager.proofs.Common.{DenotesCurrent}
-use Rattle.segment_manager.proofs.Common.{SameSurroundings, AllocatesNoSpace, Anonymous, Directory, object_at}
-use Rattle.segment_manager.proofs.Common.{value_len, with_value}
+use Rattle.segment_manager.proofs.Common.{live, bare, refl, ObjectRole, IsNotBegun, RefusesKey, object_len, with_object}
+use Rattle.segment_manager.proofs.Common.{entries_of, current, NoSpace, Content, Denotes, kind_of, table_of, room_for}
+use Rattle.segment_manager.proofs.Common.{DenotesCurrent, SameSurroundings, AllocatesNoSpace, Anonymous, Directory}
+use Rattle.segment_manager.proofs.{Common.object_at, Common.value_len, Common.with_value, indexes.Bridge.lookup-absent}
+use Rattle.segment_manager.proofs.{indexes.Bridge.lookup-found, Calling.denotes-live, indexes.HeldIndexes.denotes-index}
+use Rattle.segment_manager.proofs.{objects.NewKeys.key-seeks, Steps.perform-no_space}
 use Rattle.segment_manager.proofs.objects.Constructed.{content-none, restored-denotes}
 use Rattle.segment_manager.proofs.objects.NewValues.{no_key-none, away-in, IsMadeNever}
-use Rattle.segment_manager.proofs.{indexes.Bridge.lookup-absent, indexes.Bridge.lookup-found, Calling.denotes-live}
-use Rattle.segment_manager.proofs.{indexes.HeldIndexes.denotes-index, objects.NewKeys.key-seeks, Steps.perform-no_space}
 use Rattle.segment_manager.specs.objects.PendingObjects.{BeginsEntryErr}
-use Rattle.seg_types.specs.Names as names
 
 -- ---- it is not begun
 
 module _ {a : WindowState} (key : names.Key) (content : Content) where
   -- an object has the key
-  pub key-taken : {c : WindowState} → (t : RefusesKey a c key (kind_of (bare content))) → (d : Directory)
-      → DenotesCurrent a.bytes d
-      → (o : Object) × (object_at d key ≡ Some o)
+  pub key-taken : {c : WindowState} → (t : RefusesKey a c key (kind_of (bare content)))
+      → (d : Directory) → DenotesCurrent a.bytes d → (o : Object) × (object_at d key ≡ Some o)
   key-taken t d st =
       let f = lookup-found t.index a t.entry key st.denotes
       (key-seeks t.index t.entry key t.name (kind_of (bare content)) t.is) t.place
@@ -60,7 +57,6 @@ module _ {a : WindowState} (key : names.Key) (content : Content) where
 
   -- a block is refused
   pub value-not_begun : {c : WindowState}
-      → IsNotBegun a c key (kind_of (bare content)) (value_len (bare content)) NoSpace
-      → IsMadeNever a c key content
+      → IsNotBegun a c key (kind_of (bare content)) (value_len (bare content)) NoSpace → IsMadeNever a c key content
   value-not_begun {c} (inl r) = subst (λ (q : names.Key). IsMadeNever a c q content) (sym r.0) (none-alone r.1)
   value-not_begun (inr u) = none-entry u

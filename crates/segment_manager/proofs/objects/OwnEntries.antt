@@ -70,8 +70,7 @@ module _ {s t : SegmentState} (view : s ≡ t) {h : ℕ} {head : Head} (a : Answ
 
   -- it has a name
   pub listed-name : (e : Entry) → head.class ≡ class.Named
-      → ((o : Object) → IsObjectInBlock s.cut.bytes h o → IsNamed e o.name)
-      → HasEntries t index.Named e h
+      → ((o : Object) → IsObjectInBlock s.cut.bytes h o → IsNamed e o.name) → HasEntries t index.Named e h
   listed-name (entry.Name bytes) e n =
       subst (λ (u : SegmentState). HasEntries u index.Named (entry.Name bytes) h) view (λ d k.
       let o = here-in d k in

@@ -149,11 +149,9 @@ pub record HasHead (a d : WindowState) (h : ℕ) (kind : Kind) (count : ℕ) (cl
   pub head : IsHeadAt (bytes_of d.bytes) h kind count class name
 
 pub head-written : {a b c : WindowState} {d : WindowState} {h : ℕ} {kind : Kind} {count : ℕ} {class : Class}
-    {name : List ℕ}
-    → ChangesBytes current a b (h + 0) 8 → word_at (bytes_of b.bytes) (h + 0) ≡ two_halves (code_of kind) count
-    → ChangesBytes current b c (h + 8) 8
-    → word_at (bytes_of c.bytes) (h + 8) ≡ two_halves (length name) (class_code class)
-    → HasName c d h name → HasHead a d h kind count class name
+    {name : List ℕ} → ChangesBytes current a b (h + 0) 8 → word_at (bytes_of b.bytes) (h + 0)
+    ≡ two_halves (code_of kind) count → ChangesBytes current b c (h + 8) 8 → word_at (bytes_of c.bytes) (h + 8)
+    ≡ two_halves (length name) (class_code class) → HasName c d h name → HasHead a d h kind count class name
 head-written {a} {b} {c} {h} {name} p v q w n =
     let at : h + 0 ≡ h = omega arith in let two : h + 8 + 8 ≡ h + 16 = omega arith in
     record {

@@ -1,9 +1,8 @@
 -- An object with another value: where the value stands, and that its head and name stay.
 use Rattle.segment_manager.proofs.Common.{◌≡◌, sym, ◌∙◌, ℕ, ◌+◌, length, arith, Memory, SameBytes, handle, code_of}
-use Rattle.segment_manager.proofs.Common.{Value}
-use Rattle.segment_manager.proofs.Common.{Object, count_of, kind_of, padded, IsObjectAt, IsValueAt, padded_name}
-use Rattle.segment_manager.proofs.{Common.two_halves, Common.HasBytesAt-same, Common.SameBytes-word}
-use Rattle.segment_manager.proofs.{Frame.padded_name-length}
+use Rattle.segment_manager.proofs.Common.{Value, Object, count_of, kind_of, padded, IsObjectAt, IsValueAt, padded_name}
+use Rattle.segment_manager.proofs.Common.{two_halves, HasBytesAt-same, SameBytes-word}
+use Rattle.segment_manager.proofs.Frame.{padded_name-length}
 
 -- where the value of an object stands
 abbrev pub value_start : Object → ℕ

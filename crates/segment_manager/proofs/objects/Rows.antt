@@ -2,11 +2,10 @@
 use Rattle.segment_manager.proofs.Common.{◌≡◌, refl, sym, ap, subst, ◌∙◌, ℕ, zero, suc, ◌+◌, ◌*◌, ◌<◌, ℤ, Some, List}
 use Rattle.segment_manager.proofs.Common.{[], ◌∷◌, ◌++◌, length, replicate, arith, length-append, slice_get, slice_set}
 use Rattle.segment_manager.proofs.Common.{flat_map, flat_map_more, Memory, HasBytesAt, SameBytesExcept, ScalarKind}
-use Rattle.segment_manager.proofs.Common.{spelling, spelled}
-use Rattle.segment_manager.proofs.Common.{repeated, ◌≤◌, true, IsTrue, list_all, mul-le-mul_left}
+use Rattle.segment_manager.proofs.Common.{spelling, spelled, repeated, ◌≤◌, true, IsTrue, list_all, mul-le-mul_left}
 use Rattle.segment_manager.proofs.objects.Heads.{Has-front}
 use Rattle.std.proofs.{lemmas.List.replicate_more, Math.Seq.drop-append_seam}
-use Rattle.seg_vector.proofs.{Typed.flat-set}
+use Rattle.seg_vector.proofs.Typed.{flat-set}
 use Rattle.raw_region.proofs.Bytes.{HasBytesAt-patched, HasBytesAt-drop}
 
 -- ---- two rows
@@ -46,10 +45,9 @@ module _ {X : Type 0} (f : X → List ℕ) {n : ℕ} (each : (x : X) → length 
       (HasBytesAt-element m (at + length (f y)) ys i (HasBytesAt-behind m at (f y) (flat_map f ys) h) e)
 
   -- one element is written in its place
-  pub HasBytesAt-set : {m m' : Memory} (at : ℕ) (xs : List X) (i : ℕ) (x : X) → HasBytesAt m at (flat_map f xs)
-      → i < length xs
-      → SameBytesExcept m m' (at + n * i) n → HasBytesAt m' (at + n * i) (f x)
-      → HasBytesAt m' at (flat_map f (slice_set xs i x))
+  pub HasBytesAt-set : {m m' : Memory} (at : ℕ) (xs : List X) (i : ℕ) (x : X)
+      → HasBytesAt m at (flat_map f xs) → i < length xs → SameBytesExcept m m' (at + n * i) n
+      → HasBytesAt m' (at + n * i) (f x) → HasBytesAt m' at (flat_map f (slice_set xs i x))
   HasBytesAt-set {m} {m'} at xs i x h l s w =
       let within : n * suc i ≤ n * length xs = mul-le-mul_left n (omega arith) in
       let fits : n * i + length (f x) ≤ length (flat_map f xs) = omega (arith, within, each x, flat-length xs) in

@@ -2,8 +2,7 @@
 use Rattle.segment_manager.proofs.Common.{◌≡◌, ap, ◌∙◌, ◌+◌, ◌-◌, ◌*◌, ◌/◌, ◌%◌, ◌≤◌, List, arith, read, Object, padded}
 use Rattle.segment_manager.proofs.Common.{ℕ, replicate, bytes_of, has_room, class_code, count_of, object_len, value_len}
 use Rattle.segment_manager.proofs.Common.{length, IsTrue, current, word_at, handle, live_of, code_of, kind_of}
-use Rattle.segment_manager.proofs.Common.{IsObjectInBlock}
-use Rattle.segment_manager.proofs.Common.{sym, Kind, kind_of_code, same_Some}
+use Rattle.segment_manager.proofs.Common.{IsObjectInBlock, sym, Kind, kind_of_code, same_Some}
 use Rattle.segment_manager.proofs.Codes.{code-read}
 use Rattle.segment_manager.proofs.objects.Heads.{Has-front, good-name, good_name-short, object-entry}
 use Rattle.best_fit.proofs.Laws.{room-less}

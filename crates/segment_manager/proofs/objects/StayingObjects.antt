@@ -1,13 +1,16 @@
 -- What destroys no object leaves what is said of each.
 use Rattle.segment_manager.proofs.Common as common
-use common.{◌≡◌, sym, not, ◌∙◌, ℕ, None, List, [], ◌∷◌, find, cond, Kind, Key, Mode, live, Plan, met, plan, step}
-use common.{refl, ◌==◌, Bool, true, false, Option, Some, Extent, handle, Object, Answer, Refused, perform, Transitions}
-use common.{SegmentState}
-use common.{ap, is_some, LiveSet, resized, Refusal, NoSpace, ByHandle, Command, Directory, has_key, IsSegment, current}
-use common.{subst, if◌then◌else◌, false≢true, replace_object, is_elementwise, step_of_kind, LeadsOnOfKind, option_map}
-use common.{IsDirectory, Denotes, Located, object_at, is_object_at, handle_at, same_Some}
+use common.{◌≡◌, sym, not, ◌∙◌, ℕ, None, List, [], ◌∷◌, find, cond, Kind, Key, Mode, live, Plan, met, plan, step, refl}
+use common.{◌==◌, Bool, true, false, Option, Some, Extent, handle, Object, Answer, Refused, perform, Transitions}
+use common.{SegmentState, ap, is_some, LiveSet, resized, Refusal, NoSpace, ByHandle, Command, Directory, has_key}
+use common.{IsSegment, current, if◌then◌else◌, false≢true, replace_object, is_elementwise, step_of_kind, LeadsOnOfKind}
+use common.{option_map, IsDirectory, Denotes, Located, object_at, is_object_at, handle_at, same_Some}
 use Rattle.segment_manager.proofs.Refusals.{IsAnother, Leaves, by_change, by_other, by_refusal, by_request, by_same}
-use Rattle.segment_manager.proofs.Refusals.{plan-leaves, plan_of_kind-leaves}
+use Rattle.segment_manager.proofs.Refusals.{extended-leaves, plan-leaves, plan_of_kind-leaves}
+use Rattle.segment_manager.proofs.containers.RangeCalls.{range_with, replaced-length, row_in}
+use Rattle.segment_manager.specs.containers.Ranges.{ExtendsVector, WritesRange, extended, is_row, range_at, range_in}
+use Rattle.segment_manager.specs.containers.Ranges.{replaced as replaced_range, with_range, written, written_if}
+use Rattle.segment_manager.specs.objects.ElementLists.{numbers_in}
 use Rattle.segment_manager.proofs.{indexes.Bridge.by-handle, objects.Here.here, objects.Standings.alike}
 use Rattle.segment_manager.proofs.objects.KeyCalls.{handle-if, object-passes}
 use Rattle.segment_manager.specs.objects.Located.{located, located_at}
@@ -80,6 +83,65 @@ module _ {format : ℕ} (d : Directory) (is : IsDirectory format d) (h : ℕ) (q
   unfolding step_of_kind
   step_of_kind-keeps mode key kind c e = perform-keeps _ (ap not e) (live d) _ (plan_of_kind-leaves mode d key kind c)
 
+  -- ---- ranges
+
+  -- values that are put behind the last of a vector
+  extended-keeps : (mode : Mode) (key : Key) (k : ScalarKind) (more : List ℤ)
+      → located_at (extended mode d key k more).1 (ByHandle h) ≡ Some q
+  extended-keeps mode key k more = perform-keeps true refl (live d) _ (extended-leaves mode d key k more)
+
+  -- elements that are written over
+  module _ (key : Key) (first : ℕ) (zs : List ℤ) where
+    over : Value → Value
+    over v = with_items v (replaced_range (numbers_in v) first zs)
+
+    over-kind : (v : Value) → kind_of (over v) ≡ kind_of v
+    over-kind (Numbers k ns) = refl
+    over-kind v = refl
+
+    over-count : (v : Value) → first + length zs ≤ length (numbers_in v) → count_of (over v) ≡ count_of v
+    over-count (Numbers k ns) f = replaced-length ns first zs f
+    over-count v f = refl
+
+    over-keeps : (o : Object) → object_at d key ≡ Some o → first + length zs ≤ length (numbers_in o.value)
+        → located_at (changed d o (over o.value)) (ByHandle h) ≡ Some q
+    over-keeps o is fits = change-keeps (record o { value = over o.value }) (record {
+      key = key;
+      was = o;
+      is = is;
+      same = λ i. record {
+        handle = handle o.extent;
+        kind = over-kind o.value i;
+        name_len = length o.name;
+        count = over-count o.value fits i;
+      };
+    })
+
+    range-keeps : (k : ScalarKind) (r : Option Object) → object_at d key ≡ r
+        → located_at (written_if (range_in (row_in k r) first (length zs)) d (range_with d first zs r)).1 (ByHandle h)
+        ≡ Some q
+    range-keeps k None e = here
+    range-keeps k (Some o) e = row-if (is_row k (kind_of o.value))
+      where
+        fits-if : (b : Bool) → nat_le (first + length zs) (length (numbers_in o.value)) ≡ b
+            → located_at (written_if (if b then Ok (take (length zs) (drop first (numbers_in o.value)))
+            else Err OutOfRange) d (changed d o (over o.value))).1 (ByHandle h) ≡ Some q
+        fits-if true f = over-keeps o e (leb-true (first + length zs) (length (numbers_in o.value)) f)
+        fits-if false f = here
+
+        row-if : (b : Bool) → located_at (written_if (range_in (if b then Ok (numbers_in o.value) else Err WrongKind)
+            first (length zs)) d (changed d o (over o.value))).1 (ByHandle h) ≡ Some q
+        row-if true = fits-if (nat_le (first + length zs) (length (numbers_in o.value))) refl
+        row-if false = here
+
+    written-keeps : (mode : Mode) (k : ScalarKind) → located_at (written mode d key k first zs).1 (ByHandle h) ≡ Some q
+    written-keeps mode k = reading-if (is_read_only mode)
+      where
+        reading-if : (b : Bool) → located_at (if b then (Refused ReadOnly, d)
+            else written_if (range_at d key k first (length zs)) d (with_range d key first zs)).1 (ByHandle h) ≡ Some q
+        reading-if true = here
+        reading-if false = range-keeps k (object_at d key) refl
+
 -- ---- segments
 
 -- an object has the handle
@@ -120,3 +182,14 @@ pub leads_on-stay : (old new : SegmentState) (key : Key) (kind : Kind) (c : Comm
     → IsSegment old.cut.bytes → is_elementwise c ≡ true → LeadsOnOfKind old new key kind c why → KeepsObjects old new
 leads_on-stay old new key kind c why g e m =
     moved-keeps g m (λ d is h q here. step_of_kind-keeps d is h q here old.mode key kind c e)
+
+-- and of calls on a range of elements
+pub extends-stay : (old new : SegmentState) (key : Key) (k : ScalarKind) (more : List ℤ) (answer : Answer)
+    → IsSegment old.cut.bytes → ExtendsVector old new key k more answer → KeepsObjects old new
+extends-stay old new key k more answer g m =
+    moved-keeps g m (λ d is h q here. extended-keeps d is h q here old.mode key k more)
+
+pub writes-stay : (old new : SegmentState) (key : Key) (k : ScalarKind) (first : ℕ) (zs : List ℤ) (answer : Answer)
+    → IsSegment old.cut.bytes → WritesRange old new key k first zs answer → KeepsObjects old new
+writes-stay old new key k first zs answer g m =
+    moved-keeps g m (λ d is h q here. written-keeps d is h q here key first zs old.mode k)

@@ -1,24 +1,20 @@
 -- The elements of the object of a key: where each stands and its number, what reading one answers, and writing one.
 use Rattle.segment_manager.proofs.Common as common
+use Rattle.seg_types.specs.Commands as asked
 use common.{◌≡◌, Option, Result, length, IsTrue, nat_lt, handle, Scalar, Object, padded, eq-eqb, Answer, Refuse, effect}
 use common.{refl, subst, zero, Bool, true, false, Some, None, List, arith, read, SegmentState, Mode, Done, live, Reply}
-use common.{with}
-use common.{sym, ap, ◌∙◌, suc, ◌+◌, ◌*◌, ◌<◌, ◌≤◌, pos, Ok, Err, [], ◌∷◌, HasBytesAt, Key, get, map}
-use common.{ℕ, list_all, ltb-true, bytes_of, has_room, option_map, Located, slice_set, ltb-false, IsSegment, answer_of}
-use common.{values_of}
-use common.{ℤ, live_of, Refusal, NotFound, is_value, size_of, spelling, spelled, count_of, IsObjectInBlock, BoolKind}
-use common.{cons_values}
-use common.{get_or, Numbers, kind_of, Denotes, AnswersWith, code_of, Literal, Element, Refused, perform, changed}
-use common.{Command}
-use common.{if◌then◌else◌, ScalarKind, OutOfRange, is_good_value, MatchOption, false≢true, AnswersQueryOfKind}
-use common.{step_of_kind}
-use common.{slice_get, current, WrongKind, same_kind, Directory, is_object, object_at, value_len, IsValueAt, literal_of}
-use common.{mul-le-mul_left, slice_get-get_or, slice_get_within, slice_get_past, value_of_literal, set as set_element}
+use common.{with, sym, ap, ◌∙◌, suc, ◌+◌, ◌*◌, ◌<◌, ◌≤◌, pos, Ok, Err, [], ◌∷◌, HasBytesAt, Key, get, map, ℕ, list_all}
+use common.{ltb-true, bytes_of, has_room, option_map, Located, slice_set, ltb-false, IsSegment, answer_of, values_of, ℤ}
+use common.{live_of, Refusal, NotFound, is_value, size_of, spelling, spelled, count_of, IsObjectInBlock, BoolKind}
+use common.{cons_values, get_or, Numbers, kind_of, Denotes, AnswersWith, code_of, Literal, Element, Refused, perform}
+use common.{changed, Command, if◌then◌else◌, ScalarKind, OutOfRange, is_good_value, MatchOption, false≢true}
+use common.{AnswersQueryOfKind, step_of_kind, slice_get, current, WrongKind, same_kind, Directory, is_object, object_at}
+use common.{value_len, IsValueAt, literal_of, mul-le-mul_left, slice_get-get_or, slice_get_within, slice_get_past}
+use common.{value_of_literal, set as set_element}
 use Rattle.segment_manager.proofs.Steps.{open-reading, step_of_kind-found, step_of_kind-not_found, step_of_kind-other}
-use Rattle.segment_manager.proofs.{Steps.with-found, Steps.IsOpenFor, Codes.numbers-only, Frame.object-roomy}
-use Rattle.segment_manager.proofs.{objects.Standings.standing-room, containers.ContentPlans.of_slice}
-use Rattle.segment_manager.proofs.{objects.Here.standing, objects.Rows.HasBytesAt-element}
-use Rattle.segment_manager.proofs.{blocks.Blocks.spelling-length}
+use Rattle.segment_manager.proofs.{Codes.numbers-only, Frame.object-roomy, objects.Here.standing, Steps.with-found}
+use Rattle.segment_manager.proofs.{Steps.IsOpenFor, blocks.Blocks.spelling-length, objects.Standings.standing-room}
+use Rattle.segment_manager.proofs.{objects.Rows.HasBytesAt-element, containers.ContentPlans.of_slice}
 use Rattle.raw_region.proofs.Facts.{first, second}
 use Rattle.best_fit.specs.declared.places.Place.{Place}
 use Rattle.segment_manager.specs.objects.Located.{element_in, located, located_at}
@@ -28,7 +24,6 @@ use Rattle.byteorder.specs.Endian.{little_number}
 use Rattle.seg_types.specs.Kinds.{is_spelling, value_of}
 use Rattle.seg_types.proofs.Laws.{all_spell_one}
 use Rattle.std.proofs.Common.{negsuc}
-use Rattle.seg_types.specs.Commands as asked
 
 -- ---- an element
 

@@ -4,21 +4,17 @@ use Rattle.segment_manager.proofs.Common as common
 use common.{◌≡◌, sym, ap, subst, ◌∙◌, ℕ, ◌+◌, ◌-◌, ◌/◌, ◌%◌, ◌==◌, inr, Some, None, Option, List, arith, Role, LiveSet}
 use common.{SameBlock, allocated-live, bytes_of, keeps-trans, word_at, IfSome, IsTrue, WindowState, current, ObjectRole}
 use common.{IndexRole, AllocatesOk, ChangesBytes, IsHeap, AllocatesNoSpace, KeepsBlocks, EncodesLiveSet, is_live_in}
-use common.{live_of, BackingArray, added}
-use common.{allocated-is_live, allocated-room, keeps-refl, laid-heap, Index, CanGrow, FreesGrowth, IsGrowth}
-use common.{grown_bytes, IsIndexOf, place_of, RequestsBlocksOk, RestoresBlocks, RequestsBlocksErr, ◌≤◌, Bool, [], ◌∷◌}
-use common.{find}
-use common.{SameBytes-part, SameBytes-word, SameBytes-link, Extent, handle, extent_at, lay_out_one, grown_capacity}
-use common.{Object, extents_of}
-use common.{is_object, IsObjectAt, value_extents}
-use Rattle.segment_manager.proofs.{Order.all_of-insert, Order.live-rises, Order.rising-insert, Live.adding}
+use common.{live_of, BackingArray, added, allocated-is_live, allocated-room, keeps-refl, laid-heap, Index, CanGrow}
+use common.{FreesGrowth, IsGrowth, grown_bytes, IsIndexOf, place_of, RequestsBlocksOk, RestoresBlocks}
+use common.{RequestsBlocksErr, ◌≤◌, Bool, [], ◌∷◌, find, SameBytes-part, SameBytes-word, SameBytes-link, Extent, handle}
+use common.{extent_at, lay_out_one, grown_capacity, Object, extents_of, is_object, IsObjectAt, value_extents}
+use Rattle.segment_manager.proofs.Order.{all_of-insert, live-rises, rising-insert, inserted}
+use Rattle.segment_manager.proofs.{Live.adding, indexes.HeldIndexes.key-fits}
 use Rattle.best_fit.proofs.Laws.{still_allocated-block, found-inserted, found-new, found-none}
 use Rattle.seg_index.proofs.Laws.{ObjectStays, all_found, place_behind, place_small, stays-itself, taken-stays}
 use Rattle.seg_index.proofs.Laws.{Around-kept, stays}
-use Rattle.seg_index.specs.Sorted.{HasSortKey}
-use Rattle.segment_manager.proofs.{indexes.HeldIndexes.key-fits, Order.inserted}
+use Rattle.seg_index.specs.{Sorted.HasSortKey, Growth.IsBlockFor}
 use Rattle.best_fit.specs.Fit.{insert}
-use Rattle.seg_index.specs.Growth.{IsBlockFor}
 
 -- These blocks are in use, too, and may be written. Nothing else changed.
 pub record IsTaken (old new : WindowState) (xs : List Extent) : Type 0 where
@@ -59,14 +55,12 @@ taken-found old new xs h {x} m e =
     ∙ found-inserted h x xs zs (found-none h x xs zs (live-rises (adding (live_of old.bytes) xs) m.live.proper) e) e
 
 -- an index stays
-pub taken-index : {old : WindowState} {new : WindowState} (xs : List Extent) {at : ℕ} {t : BackingArray}
-    {hs : List ℕ} → IsTaken old new xs
-    → 32 ≤ at → at + 24 ≤ 128 → IsIndexOf old at t hs → IsIndexOf new at t hs
+pub taken-index : {old : WindowState} {new : WindowState} (xs : List Extent) {at : ℕ} {t : BackingArray} {hs : List ℕ}
+    → IsTaken old new xs → 32 ≤ at → at + 24 ≤ 128 → IsIndexOf old at t hs → IsIndexOf new at t hs
 taken-index {old} {new} xs {at} {t} {hs} m low high i = stays old new at t hs i
     (Around-kept old new at t (live_of old.bytes).extents (laid-heap new.bytes (adding (live_of old.bytes) xs) m.live)
     (SameBytes-part (bytes_of old.bytes) (bytes_of new.bytes) 32 128 at (at + 24) m.keeps.behind low high)
-    m.keeps.blocks
-    (λ x e.
+    m.keeps.blocks (λ x e.
     let f : extent_at (live_of old.bytes) (handle x) ≡ Some x =
     subst (λ (s : Option Extent). IfSome s (λ y. extent_at (live_of old.bytes) (handle y) ≡ Some y)) e i.held in
     (f, taken-found old new xs (handle x) m f)))
@@ -131,9 +125,8 @@ growth-index i None {t} {hs} g x = subst (λ (c : WindowState). IsIndexOf c (pla
 growth-index i (Some h) g x = taken-index _ (requested-taken g.1) (place_behind i) (place_small i) x
 
 -- the block is requested, and written where it was asked for
-pub written-taken : {a m b : WindowState} {n h : ℕ} → AllocatesOk current a m n ObjectRole h
-    → ChangesBytes current m b h n
-    → AllocatesOk current a b n ObjectRole h
+pub written-taken : {a m b : WindowState} {n h : ℕ}
+    → AllocatesOk current a m n ObjectRole h → ChangesBytes current m b h n → AllocatesOk current a b n ObjectRole h
 written-taken {a} {m} {b} {n} {h} take change = still_allocated-block current a m b n ObjectRole h h n n take change
     (allocated-room current a m n ObjectRole h n take (omega arith)) (omega arith) (omega arith)
 
@@ -170,9 +163,8 @@ made-key i {a} {b} {o} m =
 -- ---- blocks as they were
 
 -- a block that was taken is taken still
-pub restored-taken : {a m w : WindowState} {n : ℕ} {role : Role} {h : ℕ} → AllocatesOk current a m n role h
-    → RestoresBlocks m w
-    → AllocatesOk current a w n role h
+pub restored-taken : {a m w : WindowState} {n : ℕ} {role : Role} {h : ℕ}
+    → AllocatesOk current a m n role h → RestoresBlocks m w → AllocatesOk current a w n role h
 restored-taken {a} {m} {w} {n} {role} {h} t r =
     let is = allocated-live current a m n role h t in
     let kept : KeepsBlocks m w (added (live_of a.bytes) t.extent).extents =

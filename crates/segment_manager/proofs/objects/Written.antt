@@ -1,14 +1,13 @@
 -- A number of the object of a key is written: what the bytes denote then, and that it is the step.
 use Rattle.segment_manager.proofs.Common as common
+use Rattle.seg_types.specs.Commands as asked
 use common.{◌≡◌, refl, sym, ap, subst, ◌∙◌, ℕ, zero, suc, ◌+◌, ◌*◌, ◌<◌, ◌≤◌, ℤ, Bool, true, false, Some, None, Ok, Err}
 use common.{List, [], ◌∷◌, length, arith, IsTrue, list_all, mul-le-mul_left, slice_get_within, current, HasBytesAt}
-use common.{bytes_of}
-use common.{ScalarKind, Scalar, Refusal, is_value, size_of, spelling, Key, spelled, Numbers, Object, Directory}
-use common.{count_of, is_object, kind_of, padded, value_len, Denotes, IsValueAt, AnswersWith, SegmentState, Literal}
-use common.{value_of_literal, Mode, Refused, Done, live, perform, IsSegment, step_of_kind, done_answer, ◌&&◌, nat_le}
-use common.{and_from, WindowState, SameBytesExcept, ObjectRole, ChangesBytes, serves, literal_of, has_good_name}
-use common.{value_extents}
-use common.{with_changed, TakesStepOfKind, is_read_only}
+use common.{bytes_of, ScalarKind, Scalar, Refusal, is_value, size_of, spelling, Key, spelled, Numbers, Object}
+use common.{Directory, count_of, is_object, kind_of, padded, value_len, Denotes, IsValueAt, AnswersWith, SegmentState}
+use common.{Literal, value_of_literal, Mode, Refused, Done, live, perform, IsSegment, step_of_kind, done_answer, ◌&&◌}
+use common.{nat_le, and_from, WindowState, SameBytesExcept, ObjectRole, ChangesBytes, serves, literal_of, has_good_name}
+use common.{value_extents, with_changed, TakesStepOfKind, is_read_only}
 use Rattle.segment_manager.proofs.Steps.{step_of_kind-found, by_no_change_of_kind, by_step_of_kind, lands, open-writing}
 use Rattle.segment_manager.proofs.objects.Stored.{ElementAt, numbers-good, element-found, element-missing}
 use Rattle.segment_manager.proofs.objects.Stored.{numbers-stand, set-effect, element-kind, missing-steps, literal-read}
@@ -20,7 +19,6 @@ use Rattle.raw_region.proofs.Facts.{second, first}
 use Rattle.best_fit.specs.declared.places.Place.{Place}
 use Rattle.segment_manager.specs.objects.Standing.{place_at}
 use Rattle.std.proofs.{Common.set, lemmas.List.length-set}
-use Rattle.seg_types.specs.Commands as asked
 
 -- ---- the numbers with another among them
 
@@ -32,10 +30,9 @@ list_all-set t (y ∷ ys) (suc i) z h v = and_from (t y) (list_all t (set ys i z
     (list_all-set t ys i z (second (t y) (list_all t ys) h) v)
 
 -- as many values make the object another
-pub numbers-object : (o : Object) (k : ScalarKind) (zs new : List ℤ) → IsTrue (is_object current o)
-    → o.value ≡ Numbers k zs
-    → length new ≡ length zs → IsTrue (list_all (is_value k) new)
-    → IsTrue (is_object current (with_value o (Numbers k new)))
+pub numbers-object : (o : Object) (k : ScalarKind) (zs new : List ℤ)
+    → IsTrue (is_object current o) → o.value ≡ Numbers k zs → length new ≡ length zs
+    → IsTrue (list_all (is_value k) new) → IsTrue (is_object current (with_value o (Numbers k new)))
 numbers-object o k zs new h e many all =
     let h1 : IsTrue (is_object current (with_value o (Numbers k zs))) =
     subst (λ v. IsTrue (is_object current (with_value o v))) e h in
@@ -123,10 +120,9 @@ stores-nothing {s} key k i z {r} writing v a = by_no_change_of_kind s key (Scala
 
 -- a spelling was written at the place: the call is the step
 pub stores-number : {s t : SegmentState} (view : s ≡ t) (b : IsSegment s.cut.bytes) {new : WindowState} {key : Key}
-    (k : ScalarKind)
-    (i : ℕ) {p : Place} (z : ℤ) {bytes : List ℕ} → is_read_only t.mode ≡ false → is_value k z ≡ true
-    → bytes ≡ spelling k z → AnswersWith t (λ d. place_at d key k i) (Ok p)
-    → ChangesBytes current s.cut new (p.handle + p.at) (length bytes)
+    (k : ScalarKind) (i : ℕ) {p : Place} (z : ℤ) {bytes : List ℕ}
+    → is_read_only t.mode ≡ false → is_value k z ≡ true → bytes ≡ spelling k z
+    → AnswersWith t (λ d. place_at d key k i) (Ok p) → ChangesBytes current s.cut new (p.handle + p.at) (length bytes)
     → HasBytesAt (bytes_of new.bytes) (p.handle + p.at) bytes
     → Answered done_answer s t new key (Scalar k) (asked.Set key i (literal_of k z)) (Ok tt)
 stores-number {s} {t} view b {new} {key} k i {p} z may v f there c w = answered s t view b new key (Scalar k)

@@ -1,11 +1,8 @@
 -- A segment that becomes longer or shorter at its end.
-use Rattle.std.specs.Prelude.{◌≡◌, ℕ, ◌+◌, ◌-◌, length}
-use Rattle.std.specs.List.{AllByRecursion}
+use Rattle.std.specs.{Prelude.◌≡◌, Prelude.ℕ, Prelude.◌+◌, Prelude.◌-◌, Prelude.length, List.AllByRecursion}
 use Rattle.raw_region.specs.Memory.{WindowState, bytes_of, whole}
-use Rattle.best_fit.specs.Ends.{EndsAt, least_size}
-use Rattle.best_fit.specs.Heap.{SameBlock, live_of}
-use Rattle.segment_manager.specs.Directory.{Directory, live}
-use Rattle.segment_manager.specs.State.{SegmentState, DenotesCurrent}
+use Rattle.best_fit.specs.{Ends.EndsAt, Ends.least_size, Heap.SameBlock, Heap.live_of}
+use Rattle.segment_manager.specs.{Directory.Directory, Directory.live, State.SegmentState, State.DenotesCurrent}
 
 -- with so many bytes more
 abbrev pub grown : Directory → ℕ → Directory

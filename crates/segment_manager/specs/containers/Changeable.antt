@@ -1,23 +1,14 @@
 -- Objects that a command changes, and literals that it changes them by: what is known of both where their kind is
 -- learnt late.
 use Rattle.std.specs.Prelude.{◌≡◌, ℕ, true, false, None, Ok}
-use Rattle.seg_types.specs.declared.kinds.Kind.{Kind}
-use Rattle.seg_types.specs.declared.kinds.Kind.TheVariants.{Vector}
-use Rattle.seg_types.specs.declared.refusals.Refusal.{Refusal}
-use Rattle.seg_types.specs.declared.refusals.Refusal.TheVariants.{NotFound}
-use Rattle.seg_types.specs.declared.values.ScalarValue.{ScalarValue}
-use Rattle.seg_types.specs.Kinds.{is_value}
-use Rattle.seg_types.specs.Names.{Key}
+use Rattle.seg_types.specs.{Names.Key, Kinds.is_value, declared.kinds.Kind.Kind, declared.refusals.Refusal.Refusal}
+use Rattle.seg_types.specs.{declared.kinds.Kind.TheVariants.Vector, Values.kind_of_scalar, Values.value_of_scalar}
+use Rattle.seg_types.specs.{declared.values.ScalarValue.ScalarValue, declared.refusals.Refusal.TheVariants.NotFound}
 use Rattle.seg_types.specs.Commands.{Command, Insert, Literal, Push, is_changing, value_of_literal}
-use Rattle.seg_types.specs.Values.{kind_of_scalar, value_of_scalar}
 use Rattle.segment_manager.specs.declared.objects.object_ref.Object.{Object}
-use Rattle.segment_manager.specs.Answers.{Refused}
-use Rattle.segment_manager.specs.Calls.{kind_at}
-use Rattle.segment_manager.specs.Directory.{Directory, object_at}
-use Rattle.segment_manager.specs.objects.Located.{IsLocated}
-use Rattle.segment_manager.specs.Plan.{Refuse}
+use Rattle.segment_manager.specs.{Answers.Refused, Calls.kind_at, Directory.Directory, Directory.object_at}
+use Rattle.segment_manager.specs.{objects.Located.IsLocated, Plan.Refuse, Step.effect, Step.is_read_only}
 use Rattle.segment_manager.specs.State.{AnswersWith, TakesStep, SegmentState}
-use Rattle.segment_manager.specs.Step.{effect, is_read_only}
 
 -- ---- what is known of the object
 

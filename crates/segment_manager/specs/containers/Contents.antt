@@ -1,24 +1,15 @@
 -- Vectors of numbers and texts: what the two have in common as values of objects, and where they stand.
 use Rattle.std.specs.Prelude.{ℕ, ◌+◌, Bool, true, false, Option, Some, None, Result, Ok, Err, List, length}
-use Rattle.std.specs.Prelude.{option_to_list, nat_lt, if◌then◌else◌}
-use Rattle.std.specs.List.{list_all}
-use Rattle.raw_region.specs.Format.{current}
-use Rattle.raw_region.specs.Memory.{WindowState, are_bytes}
-use Rattle.best_fit.specs.Exchange.{ExchangesBlocks}
-use Rattle.best_fit.specs.Extents.{handle}
-use Rattle.best_fit.specs.Table.{BackingArray}
-use Rattle.seg_types.specs.declared.kinds.Kind.{Kind}
+use Rattle.std.specs.{Prelude.option_to_list, Prelude.if◌then◌else◌, List.list_all}
+use Rattle.raw_region.specs.{Format.current, Memory.WindowState, Memory.are_bytes}
+use Rattle.best_fit.specs.{Exchange.ExchangesBlocks, Extents.handle, Table.BackingArray, declared.places.Place.Place}
+use Rattle.seg_types.specs.{declared.kinds.Kind.Kind, declared.refusals.Refusal.Refusal, Names.Key}
 use Rattle.seg_types.specs.declared.kinds.Kind.TheVariants.{Map, Scalar}
-use Rattle.seg_types.specs.declared.refusals.Refusal.{Refusal}
 use Rattle.seg_types.specs.declared.refusals.Refusal.TheVariants.{NotFound, WrongKind}
 use Rattle.seg_types.specs.Kinds.{is_value, same_kind, size_of}
-use Rattle.seg_types.specs.Names.{Key}
-use Rattle.best_fit.specs.declared.places.Place.{Place}
-use Rattle.seg_vector.specs.Containers.{IsContainer, place_at}
-use Rattle.seg_vector.specs.Vector.{spelled}
+use Rattle.seg_vector.specs.{Containers.IsContainer, Containers.place_at, Vector.spelled}
 use Rattle.segment_manager.specs.Directory.{Value, Numbers, Elements, Bytes, Pairs, Texts, Object, Directory, kind_of}
-use Rattle.segment_manager.specs.Directory.{object_at, padded}
-use Rattle.segment_manager.specs.Layout.{head_len}
+use Rattle.segment_manager.specs.{Directory.object_at, Directory.padded, Layout.head_len}
 
 -- the bytes of an element, how many elements there are, their storage, and the bytes that spell them
 pub record Contents : Type 0 where

@@ -1,19 +1,14 @@
 -- Where the elements of an array, a vector or a string of scalars stand in the image, one after another.
 use Rattle.std.specs.Prelude.{◌≡◌, ℕ, ◌+◌, ◌*◌, ◌%◌, ◌≤◌, Some, None, Result, Ok, Err, List, [], length}
 use Rattle.raw_region.specs.Memory.{HasBytesAt, bytes_of}
-use Rattle.best_fit.specs.Extents.{handle}
-use Rattle.best_fit.specs.Table.{BackingArray}
+use Rattle.best_fit.specs.{Extents.handle, Table.BackingArray}
 use Rattle.seg_types.specs.declared.kinds.ScalarKind.TheVariants.{U8}
-use Rattle.seg_types.specs.declared.refusals.Refusal.{Refusal}
+use Rattle.seg_types.specs.{declared.refusals.Refusal.Refusal, Kinds.size_of, Names.Key}
 use Rattle.seg_types.specs.declared.refusals.Refusal.TheVariants.{NotFound, WrongKind}
-use Rattle.seg_types.specs.Kinds.{size_of}
-use Rattle.seg_types.specs.Names.{Key}
 use Rattle.seg_vector.specs.Vector.{spelled}
 use Rattle.segment_manager.specs.declared.containers.element_runs.ElementRun.{ElementRun}
-use Rattle.segment_manager.specs.Directory.{Value, Numbers, Elements, Bytes, Pairs, Texts, Object, Directory}
-use Rattle.segment_manager.specs.Directory.{object_at, padded}
-use Rattle.segment_manager.specs.Layout.{head_len}
-use Rattle.segment_manager.specs.State.{SegmentState, DenotesCurrent}
+use Rattle.segment_manager.specs.Directory.{Value, Numbers, Elements, Bytes, Pairs, Texts, Object, Directory, object_at}
+use Rattle.segment_manager.specs.{Directory.padded, Layout.head_len, State.SegmentState, State.DenotesCurrent}
 
 -- where the storage of a container begins, or 0 where it has none
 abbrev pub storage_offset : BackingArray → ℕ

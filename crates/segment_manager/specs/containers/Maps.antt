@@ -1,25 +1,19 @@
 -- Maps of numbers as values of objects: where they stand, what is read of them, and what becomes of them.
+use Rattle.seg_map.specs.Changing as maps
 use Rattle.std.specs.Prelude.{ℕ, ℤ, int_lt, true, false, Option, Some, None, Result, Ok, Err, List, option_map}
 use Rattle.std.specs.Prelude.{if◌then◌else◌}
 use Rattle.raw_region.specs.Memory.{WindowState}
 use Rattle.byteorder.specs.Endian.{little_number}
-use Rattle.seg_types.specs.declared.kinds.Kind.TheVariants.{Map}
-use Rattle.seg_types.specs.declared.kinds.ScalarKind.{ScalarKind}
-use Rattle.seg_types.specs.declared.plain.Plain.{Ghosts as Plain}
-use Rattle.seg_types.specs.declared.refusals.Refusal.{Refusal}
+use Rattle.seg_types.specs.{Names.Key, declared.refusals.Refusal.Refusal, declared.kinds.Kind.TheVariants.Map}
+use Rattle.seg_types.specs.{declared.kinds.ScalarKind.ScalarKind, declared.plain.Plain.Ghosts as Plain}
+use Rattle.seg_types.specs.{Values.kind_of_scalar, Values.value_of_scalar, declared.values.ScalarValue.ScalarValue}
 use Rattle.seg_types.specs.declared.refusals.Refusal.TheVariants.{NotFound, WrongKind}
-use Rattle.seg_types.specs.declared.values.ScalarValue.{ScalarValue}
-use Rattle.seg_types.specs.Values.{kind_of_scalar, value_of_scalar}
 use Rattle.seg_types.specs.Kinds.{is_value, same_kind, scalar_code, size_of, spelling, value_of}
-use Rattle.seg_types.specs.Names.{Key}
 use Rattle.best_fit.specs.declared.places.Place.{Place}
-use Rattle.seg_map.specs.Changing as maps
 use Rattle.seg_map.specs.Numbers.{NumberPair}
 use Rattle.seg_map.specs.Places.{HoldsMap, final_pair, first_pair, item_of, last_pair}
-use Rattle.segment_manager.specs.Answers.{Answer, Absent, Element}
+use Rattle.segment_manager.specs.{Answers.Answer, Answers.Absent, Answers.Element, Directory.object_at, State.answer_of}
 use Rattle.segment_manager.specs.Directory.{Value, Numbers, Elements, Bytes, Pairs, Texts, Directory, kind_of}
-use Rattle.segment_manager.specs.Directory.{object_at}
-use Rattle.segment_manager.specs.State.{answer_of}
 
 -- ---- where they stand
 

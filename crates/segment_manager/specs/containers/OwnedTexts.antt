@@ -1,13 +1,10 @@
 -- The blocks that several texts ask for, as a list of requests.
 use Rattle.std.specs.Prelude.{◌≡◌, ℕ, Option, Some, None, List, [], ◌∷◌, length, IsTrue, ◌==◌, if◌then◌else◌}
-use Rattle.block_tags.specs.declared.tile.Role.{Role}
-use Rattle.block_tags.specs.declared.tile.Role.TheVariants.{Storage}
-use Rattle.best_fit.specs.Extents.{Extent, LiveSet, is_proper}
-use Rattle.best_fit.specs.Requests.{place_all, all_added}
+use Rattle.block_tags.specs.{declared.tile.Role.Role, declared.tile.Role.TheVariants.Storage}
+use Rattle.best_fit.specs.{Extents.Extent, Extents.LiveSet, Extents.is_proper, Requests.place_all, Requests.all_added}
 use Rattle.seg_types.specs.declared.refusals.Refusal.TheVariants.{NoSpace}
 use Rattle.seg_vector.specs.Vector.{OwnedText}
-use Rattle.segment_manager.specs.Directory.{Directory}
-use Rattle.segment_manager.specs.Answers.{Answer, Refused}
+use Rattle.segment_manager.specs.{Directory.Directory, Answers.Answer, Answers.Refused}
 use Rattle.segment_manager.specs.Plan.{Plan, perform, with_owned_texts}
 
 -- one for each text that is not empty

@@ -1,23 +1,20 @@
 -- Elements of an array or a vector of scalars that are read, written or put in by one call.
-use Rattle.std.specs.Prelude.{◌≡◌, ℕ, ◌+◌, ◌*◌, ℤ, Bool, ◌&&◌, ◌||◌, IsTrue, None, Some, Result, Ok, Err, List, [], ◌∷◌}
-use Rattle.std.specs.Prelude.{◌++◌, IfOk, drop, length, max, nat_le, slice_set, take, if◌then◌else◌}
+use Rattle.std.specs.Prelude.{ℕ, ◌+◌, ◌*◌, ℤ, Bool, ◌||◌, None, Some, Result, Ok, Err, List, ◌++◌, IfOk, drop, length}
+use Rattle.std.specs.Prelude.{nat_le, take, if◌then◌else◌}
 use Rattle.raw_region.specs.Memory.{SameBytesExcept, bytes_of}
 use Rattle.best_fit.specs.declared.places.Place.{Place}
-use Rattle.seg_types.specs.declared.kinds.Kind.{Kind}
+use Rattle.seg_types.specs.{declared.kinds.Kind.Kind, declared.kinds.ScalarKind.ScalarKind}
+use Rattle.seg_types.specs.{declared.refusals.Refusal.Refusal, Kinds.same_kind, Kinds.size_of, Names.Key}
 use Rattle.seg_types.specs.declared.kinds.Kind.TheVariants.{Scalar, Vector}
-use Rattle.seg_types.specs.declared.kinds.ScalarKind.{ScalarKind}
-use Rattle.seg_types.specs.declared.refusals.Refusal.{Refusal}
 use Rattle.seg_types.specs.declared.refusals.Refusal.TheVariants.{NotFound, OutOfRange, ReadOnly, WrongKind}
-use Rattle.seg_types.specs.{Kinds.same_kind, Kinds.size_of, Names.Key}
 use Rattle.seg_vector.specs.Vector.{capacity_for_more}
-pub use Rattle.seg_vector.specs.VectorCalls.{replaced}
-use Rattle.segment_manager.specs.declared.modes.Mode.{Mode}
-use Rattle.segment_manager.specs.Answers.{Answer, Done, Refused}
-use Rattle.segment_manager.specs.Directory.{Directory, Elements, Object, Value, kind_of, live, object_at}
+use Rattle.segment_manager.specs.{declared.modes.Mode.Mode, Answers.Answer, Answers.Done, Answers.Refused}
 use Rattle.segment_manager.specs.{objects.ElementLists.numbers_in, objects.Standing.place_at}
+use Rattle.segment_manager.specs.Directory.{Directory, Elements, Object, Value, kind_of, live, object_at}
 use Rattle.segment_manager.specs.Plan.{Plan, Refuse, Reply, perform, with, with_capacity}
 use Rattle.segment_manager.specs.State.{Transitions, SegmentState, DenotesCurrent}
 use Rattle.segment_manager.specs.Step.{changed, found_at, is_read_only, vector_of, with_items}
+pub use Rattle.seg_vector.specs.VectorCalls.{replaced}
 
 -- ---- reading
 

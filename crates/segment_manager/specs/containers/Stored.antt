@@ -1,22 +1,16 @@
 -- Containers with storage of their own, at a place: what calls on one answer and leave, whichever key has its object.
+use Rattle.seg_types.specs.Commands as asked
 use Rattle.std.specs.Prelude.{◌≡◌, ◌≤◌, ℕ, List, Result, Ok, OnErr}
 use Rattle.raw_region.specs.Memory.{WindowState}
-use Rattle.seg_types.specs.declared.kinds.Kind.{Kind}
-use Rattle.seg_types.specs.declared.refusals.Refusal.{Refusal}
-use Rattle.seg_types.specs.declared.kinds.Kind.TheVariants.{Vector}
-use Rattle.seg_types.specs.Kinds.{size_of}
-use Rattle.seg_types.specs.Commands as asked
-use Rattle.seg_types.specs.Commands.{Command}
-use Rattle.seg_types.specs.Names.{Key}
+use Rattle.seg_types.specs.{declared.kinds.Kind.Kind, declared.refusals.Refusal.Refusal}
+use Rattle.seg_types.specs.{declared.kinds.Kind.TheVariants.Vector, Kinds.size_of, Commands.Command, Names.Key}
 use Rattle.best_fit.specs.declared.places.Place.{Place}
 use Rattle.seg_vector.specs.Elements.{ShrinksStorage, Truncates}
 use Rattle.seg_vector.specs.Containers.{ReservesStorage, IsStanding}
 use Rattle.seg_vector.specs.TextsCalls.{ClearsTexts, ReservesNoTexts, ReservesTexts, ShrinksTexts}
 use Rattle.segment_manager.specs.declared.containers.storages.Change.{Change}
 use Rattle.segment_manager.specs.declared.containers.storages.Change.TheVariants.{Clear, Reserve, Shrink}
-use Rattle.segment_manager.specs.Answers.{Answer}
-use Rattle.segment_manager.specs.Directory.{Directory}
-use Rattle.segment_manager.specs.Keeping.{HasPlaces}
+use Rattle.segment_manager.specs.{Answers.Answer, Directory.Directory, Keeping.HasPlaces}
 use Rattle.segment_manager.specs.State.{TakesStepOfKind, SegmentState, done_answer}
 
 -- A call that changes a container is one step of the machine, and where it is refused nothing changes.

@@ -1,14 +1,10 @@
 -- What is found of a container that is to be changed.
 use Rattle.std.specs.Prelude.{◌≡◌, false, true, Ok}
-use Rattle.seg_types.specs.declared.kinds.Kind.{Kind}
+use Rattle.seg_types.specs.{declared.kinds.Kind.Kind, Names.Key, Commands.Command, Commands.is_changing}
 use Rattle.seg_types.specs.declared.refusals.Refusal.{Refusal}
-use Rattle.seg_types.specs.Names.{Key}
-use Rattle.seg_types.specs.Commands.{Command, is_changing}
 use Rattle.best_fit.specs.declared.places.Place.{Place}
-use Rattle.segment_manager.specs.Answers.{Refused}
-use Rattle.segment_manager.specs.containers.Contents.{container_at}
+use Rattle.segment_manager.specs.{Answers.Refused, containers.Contents.container_at, Step.is_read_only}
 use Rattle.segment_manager.specs.State.{AnswersWith, TakesStepOfKind, SegmentState}
-use Rattle.segment_manager.specs.Step.{is_read_only}
 
 -- the segment may be changed, and the container of the key's object is there
 pub record IsChangeableContainer (s : SegmentState) (key : Key) (kind : Kind) (p : Place) : Type 0 where

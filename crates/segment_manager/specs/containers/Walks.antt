@@ -1,17 +1,11 @@
 -- The pairs of a map, one after another by rising keys.
 use Rattle.std.specs.Prelude.{◌≡◌, ℤ, Bool, Option, Some, None, Result, Ok, Err, List, [], ◌∷◌, ⊤, int_lt, option_map}
-use Rattle.seg_types.specs.declared.kinds.Kind.TheVariants.{Map}
-use Rattle.seg_types.specs.declared.kinds.ScalarKind.{ScalarKind}
-use Rattle.seg_types.specs.declared.refusals.Refusal.{Refusal}
+use Rattle.seg_types.specs.{declared.kinds.Kind.TheVariants.Map, declared.kinds.ScalarKind.ScalarKind}
+use Rattle.seg_types.specs.{declared.refusals.Refusal.Refusal, Names.Key, Values.kind_of_scalar, Values.value_of_scalar}
 use Rattle.seg_types.specs.declared.values.ScalarValue.{ScalarValue}
-use Rattle.seg_types.specs.Names.{Key}
-use Rattle.seg_types.specs.Values.{kind_of_scalar, value_of_scalar}
-use Rattle.seg_map.specs.Numbers.{NumberPair}
-use Rattle.seg_map.specs.Places.{first_pair, item_of}
-use Rattle.segment_manager.specs.Calls.{kind_at}
+use Rattle.seg_map.specs.{Numbers.NumberPair, Places.first_pair, Places.item_of}
+use Rattle.segment_manager.specs.{Calls.kind_at, objects.ElementLists.list_at, State.AnswersWith, State.SegmentState}
 use Rattle.segment_manager.specs.Directory.{Value, Numbers, Elements, Bytes, Pairs, Texts, Directory, object_at}
-use Rattle.segment_manager.specs.objects.ElementLists.{list_at}
-use Rattle.segment_manager.specs.State.{AnswersWith, SegmentState}
 
 -- ---- the map
 

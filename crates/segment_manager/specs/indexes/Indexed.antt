@@ -1,15 +1,12 @@
 -- The two indexes of a directory, by which of them is meant.
+use Rattle.seg_index.specs.declared.index.Index.TheVariants as index
 use Rattle.std.specs.Prelude.{◌≡◌, ℕ, Bool, List, [], filter, fold}
 use Rattle.best_fit.specs.Table.{BackingArray}
-use Rattle.seg_types.specs.declared.kinds.Class.{Class}
+use Rattle.seg_types.specs.{declared.kinds.Class.Class, Kinds.code_of, Names.Key, Names.ByName, Names.ByKind}
 use Rattle.seg_types.specs.declared.kinds.Class.TheVariants.{Named, Unique}
-use Rattle.seg_index.specs.declared.index.Index.{Index}
-use Rattle.seg_index.specs.declared.index.Index.TheVariants as index
-use Rattle.seg_index.specs.declared.keys.Entry.{Entry}
+use Rattle.seg_index.specs.{declared.index.Index.Index, declared.keys.Entry.Entry}
 use Rattle.seg_index.specs.declared.keys.Entry.TheVariants.{Name, Code}
-use Rattle.seg_types.specs.Kinds.{code_of}
 use Rattle.seg_types.specs.Commands.{Command, ReserveNamed, ReserveUnique}
-use Rattle.seg_types.specs.Names.{Key, ByName, ByKind}
 use Rattle.segment_manager.specs.Directory.{Object, Directory, by_kind, by_name, insert_by, is_class}
 use Rattle.segment_manager.specs.Denotes.{handles}
 

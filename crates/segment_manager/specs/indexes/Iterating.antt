@@ -2,17 +2,12 @@
 use Rattle.std.specs.Prelude.{◌≡◌, ℕ, ◌+◌, ◌≤◌, Bool, false, Option, Some, None, List, filter, length, map, option_map}
 use Rattle.std.specs.Prelude.{slice_get, take}
 use Rattle.block_tags.specs.declared.tile.Role.TheVariants.{Object as ObjectRole}
-use Rattle.best_fit.specs.Extents.{Extent, Span as LiveSpan, spans}
-use Rattle.best_fit.specs.Heap.{live_of}
-use Rattle.best_fit.specs.Table.{same_role}
+use Rattle.best_fit.specs.{Extents.Extent, Extents.Span as LiveSpan, Extents.spans, Heap.live_of, Table.same_role}
 use Rattle.seg_index.specs.declared.index.Index.{Index}
-use Rattle.segment_manager.specs.declared.objects.instance_info.Instance.{Instance}
-use Rattle.segment_manager.specs.declared.blocks.tiles.TileInfo.{TileInfo}
-use Rattle.segment_manager.specs.Calls.{as_span}
+use Rattle.segment_manager.specs.{declared.objects.instance_info.Instance.Instance}
+use Rattle.segment_manager.specs.{declared.blocks.tiles.TileInfo.TileInfo, Calls.as_span, indexes.Indexed.objects_of}
+use Rattle.segment_manager.specs.{objects.Instances.SaysAt, State.AnswersWith, State.SegmentState, State.DenotesCurrent}
 use Rattle.segment_manager.specs.Directory.{Object, Directory, live, named_objects}
-use Rattle.segment_manager.specs.indexes.Indexed.{objects_of}
-use Rattle.segment_manager.specs.objects.Instances.{SaysAt}
-use Rattle.segment_manager.specs.State.{AnswersWith, SegmentState, DenotesCurrent}
 
 -- an iterator over the objects of an index: how many of them it has given
 pub record Walk : Type 0 where

@@ -1,18 +1,13 @@
 -- Where the entry of an object stands that is known by its handle.
+use Rattle.seg_types.specs.Names as names
 use Rattle.std.specs.Prelude.{◌≡◌, ℕ, Option, Some, None, List}
 use Rattle.raw_region.specs.Memory.{bytes_of}
 use Rattle.best_fit.specs.Table.{BackingArray}
 use Rattle.seg_types.specs.declared.kinds.Class.TheVariants.{Anonymous}
-use Rattle.seg_types.specs.Names as names
-use Rattle.seg_index.specs.declared.index.Index.{Index}
-use Rattle.seg_index.specs.declared.keys.Entry.{Entry}
-use Rattle.seg_index.specs.declared.keys.Lookup.TheVariants.{Found}
-use Rattle.seg_index.specs.Held.{IsIndexOf, place_of}
-use Rattle.seg_index.specs.Lookups.{FindsPosition}
-use Rattle.segment_manager.specs.declared.objects.destroying.Listed.{Listed}
-use Rattle.segment_manager.specs.Directory.{Object, Directory, object_at}
-use Rattle.segment_manager.specs.indexes.Indexed.{Seeks}
-use Rattle.segment_manager.specs.State.{DenotesCurrent, SegmentState}
+use Rattle.seg_index.specs.{Lookups.FindsPosition, Held.IsIndexOf, Held.place_of, declared.keys.Entry.Entry}
+use Rattle.seg_index.specs.{declared.index.Index.Index, declared.keys.Lookup.TheVariants.Found}
+use Rattle.segment_manager.specs.{declared.objects.destroying.Listed.Listed, Directory.Object, Directory.Directory}
+use Rattle.segment_manager.specs.{Directory.object_at, indexes.Indexed.Seeks, State.DenotesCurrent, State.SegmentState}
 
 -- the object of the handle has an entry, which is found by its own key
 pub record HasIndexEntry (i : Index) (e : Entry) (d : Directory) (h : ℕ) : Type 0 where

@@ -1,7 +1,6 @@
 -- Names from a text on, in the order of their bytes.
 use Rattle.std.specs.Prelude.{◌≡◌, ℕ, ◌<◌, ◌≤◌, Bool, true, false, List, Some, length, slice_get}
-use Rattle.std.specs.Cmp.Lexicographic.{slice_cmp}
-use Rattle.std.specs.Ordering.{nat_cmp, is_lt}
+use Rattle.std.specs.{Cmp.Lexicographic.slice_cmp, Ordering.nat_cmp, Ordering.is_lt}
 use Rattle.segment_manager.specs.Directory.{Directory, Object, named_objects}
 use Rattle.segment_manager.specs.State.{SegmentState, DenotesCurrent}
 

@@ -2,8 +2,7 @@
 use Rattle.std.specs.Prelude.{◌≡◌, ℕ, Bool, false, ◌&&◌, if◌then◌else◌, nat_le, Result, Err}
 use Rattle.seg_types.specs.declared.refusals.Refusal.{Refusal}
 use Rattle.seg_types.specs.declared.refusals.Refusal.TheVariants.{OutOfRange, ReadOnly}
-use Rattle.segment_manager.specs.State.{SegmentState}
-use Rattle.segment_manager.specs.Step.{is_read_only}
+use Rattle.segment_manager.specs.{State.SegmentState, Step.is_read_only}
 
 -- from 1 to 1048576
 abbrev pub is_count : ℕ → Bool

@@ -1,18 +1,13 @@
 -- How an object goes: first the blocks that its value has, then its entry, if it has one, and then the block of its
 -- own.
 use Rattle.std.specs.Prelude.{◌≡◌, ℕ, Some, List, [], slice_get}
-use Rattle.raw_region.specs.Format.{current}
-use Rattle.raw_region.specs.Memory.{WindowState, SameSurroundings}
+use Rattle.raw_region.specs.{Format.current, Memory.WindowState, Memory.SameSurroundings}
 use Rattle.best_fit.specs.Table.{no_backing}
-use Rattle.seg_types.specs.declared.kinds.Class.TheVariants.{Anonymous}
-use Rattle.seg_types.specs.Names.{ByHandle}
+use Rattle.seg_types.specs.{declared.kinds.Class.TheVariants.Anonymous, Names.ByHandle}
 use Rattle.seg_index.specs.declared.index.Index.{Index}
-use Rattle.segment_manager.specs.Denotes.{Denotes}
+use Rattle.segment_manager.specs.{Denotes.Denotes, Directory.without_object, State.DenotesCurrent, Step.changed}
 use Rattle.segment_manager.specs.Directory.{Value, Numbers, Elements, Bytes, Pairs, Texts, Object, Directory, object_at}
-use Rattle.segment_manager.specs.Directory.{without_object}
 use Rattle.segment_manager.specs.indexes.Indexed.{objects_of}
-use Rattle.segment_manager.specs.State.{DenotesCurrent}
-use Rattle.segment_manager.specs.Step.{changed}
 
 -- the value without a block: a container with nothing in it and no place
 abbrev pub emptied : Value → Value

@@ -1,17 +1,13 @@
 -- The elements of the object of a key, one after another: as many as it has where it is of the kind, and else none.
 use Rattle.std.specs.Prelude.{ℕ, ℤ, Some, None, Result, Ok, Err, List, [], map, if◌then◌else◌}
-use Rattle.seg_types.specs.declared.kinds.Kind.{Kind}
+use Rattle.seg_types.specs.{declared.kinds.Kind.Kind, declared.refusals.Refusal.Refusal, Kinds.same_kind, Names.Key}
 use Rattle.seg_types.specs.declared.kinds.Kind.TheVariants.{Scalar as ScalarOf, Vector as VectorOf}
 use Rattle.seg_types.specs.declared.kinds.Kind.TheVariants.{Strings as StringsKind}
 use Rattle.seg_types.specs.declared.kinds.ScalarKind.{ScalarKind}
-use Rattle.seg_types.specs.declared.refusals.Refusal.{Refusal}
 use Rattle.seg_types.specs.declared.refusals.Refusal.TheVariants.{NotFound, WrongKind}
-use Rattle.seg_types.specs.Kinds.{same_kind}
-use Rattle.seg_types.specs.Names.{Key}
 use Rattle.seg_vector.specs.Vector.{OwnedText}
-use Rattle.segment_manager.specs.containers.Contents.{sizes_at_kind}
+use Rattle.segment_manager.specs.{containers.Contents.sizes_at_kind, Directory.object_at}
 use Rattle.segment_manager.specs.Directory.{Value, Numbers, Elements, Bytes, Pairs, Texts, Directory, count_of, kind_of}
-use Rattle.segment_manager.specs.Directory.{object_at}
 
 -- the numbers of a value that is an array or a vector of scalars
 abbrev pub numbers_in : Value → List ℤ

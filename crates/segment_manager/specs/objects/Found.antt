@@ -1,11 +1,9 @@
 -- What the calls answer that find objects.
 use Rattle.std.specs.Prelude.{ℕ, ◌<◌, Bool, Option, Some, None, Result, is_some, option_map}
 use Rattle.best_fit.specs.Extents.{handle}
-use Rattle.seg_types.specs.declared.refusals.Refusal.{Refusal}
-use Rattle.seg_types.specs.Names.{Key, ByHandle}
-use Rattle.segment_manager.specs.Directory.{Object, Directory, object_at}
-use Rattle.segment_manager.specs.Answers.{Answer, Absent, Found}
-use Rattle.segment_manager.specs.State.{SegmentState, DenotesCurrent, answer_of}
+use Rattle.seg_types.specs.{declared.refusals.Refusal.Refusal, Names.Key, Names.ByHandle}
+use Rattle.segment_manager.specs.{Answers.Answer, Answers.Absent, Answers.Found, Directory.Object, Directory.Directory}
+use Rattle.segment_manager.specs.{Directory.object_at, State.SegmentState, State.DenotesCurrent, State.answer_of}
 
 -- the handle of the object of a key
 abbrev pub handle_at : Directory → Key → Option ℕ

@@ -1,6 +1,5 @@
 -- What the words of an index entry say of the objects that bytes denote.
-use Rattle.std.specs.Prelude.{◌≡◌, ℕ, List}
-use Rattle.std.specs.List.{AllByRecursion}
+use Rattle.std.specs.{Prelude.◌≡◌, Prelude.ℕ, Prelude.List, List.AllByRecursion}
 use Rattle.raw_region.specs.Memory.{Memory, bytes_of}
 use Rattle.best_fit.specs.Extents.{handle}
 use Rattle.seg_types.specs.Kinds.{code_of, class_code}

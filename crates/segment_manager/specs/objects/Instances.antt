@@ -1,11 +1,9 @@
 -- What objects say of themselves.
 use Rattle.std.specs.Prelude.{◌≡◌, ℕ, Option, Some, None, List, slice_get}
 use Rattle.best_fit.specs.Extents.{handle}
-use Rattle.seg_types.specs.declared.kinds.Class.{Class}
+use Rattle.seg_types.specs.{declared.kinds.Class.Class, declared.refusals.Refusal.Refusal, Names.Key}
 use Rattle.seg_types.specs.declared.kinds.Class.TheVariants.{Anonymous, Named, Unique}
-use Rattle.seg_types.specs.declared.refusals.Refusal.{Refusal}
 use Rattle.seg_types.specs.declared.refusals.Refusal.TheVariants.{NotFound}
-use Rattle.seg_types.specs.Names.{Key}
 use Rattle.segment_manager.specs.declared.objects.instance_info.Instance.{Instance}
 use Rattle.segment_manager.specs.Directory.{Object, Directory, count_of, kind_of, object_at}
 use Rattle.segment_manager.specs.State.{SegmentState, DenotesCurrent}

@@ -3,17 +3,12 @@ use Rattle.std.specs.Prelude.{◌≡◌, ◌⊎◌, ℕ, ◌<◌, ℤ, true, fal
 use Rattle.std.specs.Prelude.{MatchResult, List, [], length, map, option_map, ⊤}
 use Rattle.raw_region.specs.Memory.{WindowState}
 use Rattle.std.specs.Iterator.{Yields, YieldsThen}
-use Rattle.seg_types.specs.declared.kinds.ScalarKind.{ScalarKind}
-use Rattle.seg_types.specs.declared.refusals.Refusal.{Refusal}
-use Rattle.seg_types.specs.declared.kinds.Kind.TheVariants.{Scalar}
+use Rattle.seg_types.specs.{declared.kinds.ScalarKind.ScalarKind, declared.refusals.Refusal.Refusal}
+use Rattle.seg_types.specs.{declared.kinds.Kind.TheVariants.Scalar, Names.Key, Commands.ConstructIt}
 use Rattle.seg_types.specs.declared.refusals.Refusal.TheVariants.{NoSpace, OutOfRange, ReadOnly}
-use Rattle.seg_types.specs.Names.{Key}
-use Rattle.seg_types.specs.Commands.{ConstructIt}
 use Rattle.segment_manager.specs.Directory.{Directory, object_at}
-use Rattle.segment_manager.specs.objects.Standing.{pair_of_kind}
-use Rattle.segment_manager.specs.declared.modes.Mode.{Mode}
+use Rattle.segment_manager.specs.{objects.Standing.pair_of_kind, declared.modes.Mode.Mode, Step.is_read_only}
 use Rattle.segment_manager.specs.State.{AnswersWith, TakesStep, DenotesCurrent, SegmentState, handle_answer}
-use Rattle.segment_manager.specs.Step.{is_read_only}
 
 -- Too few items came, or it is refused before one is taken.
 abbrev pub TakesUntil : {S A : Type 0} → (S → Option A → S → Type 0) → ℕ → S → List A → S → Refusal → Type 0
@@ -38,13 +33,11 @@ pub record ConstructsFromItems {S A : Type 0} (gives : S → Option A → S → 
   pub unchanged : IfErr result (KeepsUnasked old new)
 
 -- the same on the heap of a segment that may be changed
-abbrev pub TakesItemsIn : {S A : Type 0} → (S → Option A → S → Type 0) → (A → ℤ) → WindowState → WindowState → Key
-    → ScalarKind → ℕ → S
-    → S → Result ℕ Refusal → Type 0
+abbrev pub TakesItemsIn : {S A : Type 0} → (S → Option A → S → Type 0)
+    → (A → ℤ) → WindowState → WindowState → Key → ScalarKind → ℕ → S → S → Result ℕ Refusal → Type 0
 TakesItemsIn gives whole old new key k count before after result = (mode : Mode) → is_read_only mode ≡ false
     → ConstructsFromItems gives whole (record { cut = old; mode = mode }) (record { cut = new; mode = mode }) key k
-    count before
-    after result
+    count before after result
 
 -- ---- found, or made of items
 
@@ -84,18 +77,15 @@ pub record ConstructsFromItemsOk {S A : Type 0} (gives : S → Option A → S �
   pub takes : ConstructsFromItems gives whole old new key k count before after (handle_in result)
   pub counted : IfOk result (λ (h, n). n ≡ count)
 
-abbrev pub FindsOrTakes : {S A : Type 0} → (S → Option A → S → Type 0) → (A → ℤ) → SegmentState → SegmentState → Key
-    → ScalarKind → ℕ
-    → S → S → Result (ℕ × ℕ) Refusal → Type 0
+abbrev pub FindsOrTakes : {S A : Type 0} → (S → Option A → S → Type 0)
+    → (A → ℤ) → SegmentState → SegmentState → Key → ScalarKind → ℕ → S → S → Result (ℕ × ℕ) Refusal → Type 0
 FindsOrTakes gives whole old new key k count before after result =
-    RefusesReadOnly old new before after result
-    ⊎ (FindsExisting old new key k before after result
+    RefusesReadOnly old new before after result ⊎ (FindsExisting old new key k before after result
     ⊎ ConstructsFromItemsOk gives whole old new key k count before after result)
 
 -- the same on the heap of a segment that may be changed
-abbrev pub FindsOrTakesIn : {S A : Type 0} → (S → Option A → S → Type 0) → (A → ℤ) → WindowState → WindowState → Key
-    → ScalarKind → ℕ
-    → S → S → Result (ℕ × ℕ) Refusal → Type 0
+abbrev pub FindsOrTakesIn : {S A : Type 0} → (S → Option A → S → Type 0)
+    → (A → ℤ) → WindowState → WindowState → Key → ScalarKind → ℕ → S → S → Result (ℕ × ℕ) Refusal → Type 0
 FindsOrTakesIn gives whole old new key k count before after result = (mode : Mode) → is_read_only mode ≡ false
     → FindsOrTakes gives whole (record { cut = old; mode = mode }) (record { cut = new; mode = mode }) key k count
     before after result

@@ -1,14 +1,10 @@
 -- An object as it was located: what calls take that look nothing up again.
-use Rattle.std.specs.Prelude.{ℕ, ◌+◌, ◌*◌, Option, Some, None, Result, Ok, Err, length, nat_lt, option_map}
-use Rattle.std.specs.Prelude.{if◌then◌else◌}
-use Rattle.best_fit.specs.Extents.{handle}
-use Rattle.seg_types.specs.declared.kinds.Kind.{Kind}
+use Rattle.std.specs.Prelude.{ℕ, ◌+◌, ◌*◌, Option, Some, Result, Ok, Err, length, nat_lt, option_map, if◌then◌else◌}
+use Rattle.best_fit.specs.{Extents.handle, declared.places.Place.Place}
+use Rattle.seg_types.specs.{Names.ByHandle, Names.Key, declared.kinds.Kind.Kind, Kinds.same_kind, Kinds.size_of}
+use Rattle.seg_types.specs.{declared.refusals.Refusal.Refusal, declared.kinds.ScalarKind.ScalarKind}
 use Rattle.seg_types.specs.declared.kinds.Kind.TheVariants.{Scalar}
-use Rattle.seg_types.specs.declared.kinds.ScalarKind.{ScalarKind}
-use Rattle.seg_types.specs.declared.refusals.Refusal.{Refusal}
 use Rattle.seg_types.specs.declared.refusals.Refusal.TheVariants.{OutOfRange, WrongKind}
-use Rattle.seg_types.specs.{Kinds.same_kind, Kinds.size_of, Names.ByHandle, Names.Key}
-use Rattle.best_fit.specs.declared.places.Place.{Place}
 use Rattle.segment_manager.specs.declared.objects.object_ref.Object.{Object as Located}
 use Rattle.segment_manager.specs.Directory.{Object, Directory, count_of, kind_of, object_at, padded}
 use Rattle.segment_manager.specs.{Layout.head_len, State.AnswersWith, State.SegmentState}

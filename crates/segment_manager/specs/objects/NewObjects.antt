@@ -1,21 +1,14 @@
 -- How an object comes to be: its blocks are taken into use, they are written, and then an entry leads to it.
-use Rattle.std.specs.Prelude.{◌≡◌, ℕ, ◌≤◌, ◌⊎◌, Option, None, Result, MatchResult, List, [], IsTrue, ⊤}
-use Rattle.raw_region.specs.Format.{current}
-use Rattle.raw_region.specs.Memory.{WindowState}
-use Rattle.block_tags.specs.declared.tile.Role.TheVariants.{Object as ObjectRole, Index as IndexRole}
-use Rattle.best_fit.specs.Fit.{place}
-use Rattle.best_fit.specs.Heap.{AllocatesOk, KeepsBlocks, EncodesLiveSet, live_of}
-use Rattle.seg_types.specs.declared.kinds.ScalarKind.{ScalarKind}
-use Rattle.seg_types.specs.declared.kinds.Kind.{Kind}
-use Rattle.seg_types.specs.declared.kinds.Kind.TheVariants.{Scalar}
-use Rattle.seg_types.specs.Kinds.{code_of}
 use Rattle.seg_types.specs.Names as names
-use Rattle.seg_types.specs.Names.{is_name}
-use Rattle.seg_index.specs.declared.index.Index.{Index}
+use Rattle.std.specs.Prelude.{◌≡◌, ℕ, ◌≤◌, ◌⊎◌, Option, None, Result, MatchResult, List, [], IsTrue, ⊤}
+use Rattle.raw_region.specs.{Format.current, Memory.WindowState}
+use Rattle.block_tags.specs.declared.tile.Role.TheVariants.{Object as ObjectRole, Index as IndexRole}
+use Rattle.best_fit.specs.{Fit.place, Heap.AllocatesOk, Heap.KeepsBlocks, Heap.EncodesLiveSet, Heap.live_of}
+use Rattle.seg_types.specs.{declared.kinds.ScalarKind.ScalarKind, declared.kinds.Kind.Kind}
+use Rattle.seg_types.specs.{declared.kinds.Kind.TheVariants.Scalar, Kinds.code_of, Names.is_name}
+use Rattle.seg_index.specs.{declared.index.Index.Index, declared.keys.Entry.Entry, Growth.IsGrowth, Growth.grown_bytes}
 use Rattle.seg_index.specs.declared.index.Index.TheVariants.{Named, Unique}
-use Rattle.seg_index.specs.declared.keys.Entry.{Entry}
 use Rattle.seg_index.specs.declared.keys.Entry.TheVariants.{Name, Code}
-use Rattle.seg_index.specs.Growth.{IsGrowth, grown_bytes}
 use Rattle.seg_index.specs.Held.{capacity_at, entry_count}
 use Rattle.segment_manager.specs.declared.blocks.requesting.Requested.{Requested}
 

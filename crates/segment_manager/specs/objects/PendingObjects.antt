@@ -1,33 +1,25 @@
 -- How an object comes to be whose numbers come one by one: it is begun, it is filled, and then it gets its entry or is
 -- given back.
-use Rattle.std.specs.Prelude.{◌≡◌, ℕ, ◌<◌, ◌*◌, ◌+◌, ◌⊎◌, ⊤, ℤ, Option, Some, None, Result, Ok, Err}
-use Rattle.std.specs.Prelude.{MatchResult, List, [], insert, length, map, IsTrue}
-use Rattle.std.specs.List.{list_all}
-use Rattle.std.specs.Iterator.{Yields, YieldsThen}
-use Rattle.raw_region.specs.Format.{current}
-use Rattle.raw_region.specs.Memory.{WindowState, HasBytesAt, bytes_of}
+use Rattle.seg_types.specs.Names as names
+use Rattle.std.specs.Prelude.{◌≡◌, ℕ, ◌<◌, ◌*◌, ◌+◌, ◌⊎◌, ⊤, ℤ, Option, Some, None, Result, Ok, Err, MatchResult, List}
+use Rattle.std.specs.Prelude.{[], insert, length, map, IsTrue}
+use Rattle.std.specs.{List.list_all, Iterator.Yields, Iterator.YieldsThen}
+use Rattle.raw_region.specs.{Format.current, Memory.WindowState, Memory.HasBytesAt, Memory.bytes_of}
 use Rattle.block_tags.specs.declared.tile.Role.TheVariants.{Object as ObjectRole}
 use Rattle.best_fit.specs.Heap.{AllocatesOk, ChangesBytes, AllocatesNoSpace, EncodesLiveSet}
 use Rattle.best_fit.specs.Table.{BackingArray}
-use Rattle.seg_types.specs.declared.kinds.ScalarKind.{ScalarKind}
-use Rattle.seg_types.specs.declared.kinds.Class.{Class}
+use Rattle.seg_types.specs.{declared.kinds.ScalarKind.ScalarKind, declared.kinds.Class.Class, declared.kinds.Kind.Kind}
+use Rattle.seg_types.specs.{declared.refusals.Refusal.Refusal, Kinds.is_value, Kinds.size_of, Kinds.spelling}
 use Rattle.seg_types.specs.declared.kinds.Class.TheVariants.{Anonymous}
-use Rattle.seg_types.specs.declared.kinds.Kind.{Kind}
-use Rattle.seg_types.specs.declared.refusals.Refusal.{Refusal}
 use Rattle.seg_types.specs.declared.refusals.Refusal.TheVariants.{Exists, NoSpace, OutOfRange}
-use Rattle.seg_types.specs.Kinds.{is_value, size_of, spelling}
-use Rattle.seg_types.specs.Names as names
-use Rattle.seg_index.specs.declared.index.Index.{Index}
-use Rattle.seg_index.specs.declared.keys.Entry.{Entry}
+use Rattle.seg_index.specs.{declared.index.Index.Index, declared.keys.Entry.Entry, Held.IsIndexOf, Held.place_of}
+use Rattle.seg_index.specs.{Lookups.FindsPosition, Sorted.CanAdd}
 use Rattle.seg_index.specs.declared.keys.Lookup.TheVariants.{Absent, Found}
 use Rattle.seg_index.specs.Growth.{AddKeeps, AddsEntry, CanGrow, grown_live}
-use Rattle.seg_index.specs.{Held.IsIndexOf, Held.place_of, Lookups.FindsPosition, Sorted.CanAdd}
 use Rattle.seg_vector.specs.Vector.{spelled}
 use Rattle.segment_manager.specs.declared.objects.pending_object.PendingObject.{PendingObject}
 use Rattle.segment_manager.specs.declared.objects.pending_object.PendingEntry.{PendingEntry}
-use Rattle.segment_manager.specs.Directory.{padded}
-use Rattle.segment_manager.specs.indexes.Indexed.{class_of_index}
-use Rattle.segment_manager.specs.Layout.{head_len}
+use Rattle.segment_manager.specs.{Directory.padded, indexes.Indexed.class_of_index, Layout.head_len}
 use Rattle.segment_manager.specs.objects.NewObjects.{IsNewKeyOf, RequestsBlocksOk, RestoresBlocks, RequestsBlocksErr}
 use Rattle.segment_manager.specs.objects.Standing.{IsHeadAt, room_for}
 
@@ -120,9 +112,8 @@ pub record WritesItem {S A : Type 0} (gives : S → Option A → S → Type 0) (
   pub change : ChangesBytes current old new from (size_of k)
   pub content : HasBytesAt (bytes_of new.bytes) from (spelling k (whole item))
 
-abbrev pub WritesNext : {S A : Type 0} → (S → Option A → S → Type 0) → (A → ℤ) → WindowState → WindowState
-    → ScalarKind → ℕ → S → S
-    → Result (Unit {0}) Refusal → Type 0
+abbrev pub WritesNext : {S A : Type 0} → (S → Option A → S → Type 0)
+    → (A → ℤ) → WindowState → WindowState → ScalarKind → ℕ → S → S → Result (Unit {0}) Refusal → Type 0
 WritesNext gives whole old new k from before after wrote =
     MatchResult wrote (λ u. WritesItem gives whole old new k from before after)
     (λ why. (why ≡ OutOfRange) × (new ≡ old) × gives before None after)

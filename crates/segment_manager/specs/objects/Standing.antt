@@ -1,23 +1,16 @@
 -- An object in its block, as calls on a heap see it: what its head says, and its elements.
-use Rattle.std.specs.Prelude.{◌≡◌, ℕ, ◌+◌, ◌*◌, List, length, replicate, flat_map, IsTrue, Some, None, Result, Ok}
-use Rattle.std.specs.Prelude.{Err, if◌then◌else◌, nat_lt}
-use Rattle.raw_region.specs.Format.{current}
-use Rattle.raw_region.specs.Memory.{Memory, bytes_of, word_at, HasBytesAt}
-use Rattle.best_fit.specs.Extents.{handle}
-use Rattle.best_fit.specs.Heap.{live_of, has_room}
-use Rattle.seg_types.specs.declared.kinds.ScalarKind.{ScalarKind}
-use Rattle.seg_types.specs.declared.kinds.Kind.{Kind}
+use Rattle.std.specs.Prelude.{◌≡◌, ℕ, ◌+◌, ◌*◌, List, length, replicate, flat_map, IsTrue, Some, None, Result, Ok, Err}
+use Rattle.std.specs.Prelude.{if◌then◌else◌, nat_lt}
+use Rattle.raw_region.specs.{Format.current, Memory.Memory, Memory.bytes_of, Memory.word_at, Memory.HasBytesAt}
+use Rattle.best_fit.specs.{Extents.handle, Heap.live_of, Heap.has_room, declared.places.Place.Place}
+use Rattle.seg_types.specs.{declared.kinds.ScalarKind.ScalarKind, declared.kinds.Kind.Kind, declared.kinds.Class.Class}
+use Rattle.seg_types.specs.{declared.refusals.Refusal.Refusal, Names.Key}
 use Rattle.seg_types.specs.declared.kinds.Kind.TheVariants.{Scalar}
-use Rattle.seg_types.specs.declared.kinds.Class.{Class}
-use Rattle.seg_types.specs.declared.refusals.Refusal.{Refusal}
 use Rattle.seg_types.specs.declared.refusals.Refusal.TheVariants.{NotFound, WrongKind, OutOfRange}
 use Rattle.seg_types.specs.Kinds.{class_code, code_of, same_kind, size_of}
-use Rattle.seg_types.specs.Names.{Key}
 use Rattle.segment_manager.specs.declared.objects.head.Head.{Head}
-use Rattle.best_fit.specs.declared.places.Place.{Place}
-use Rattle.segment_manager.specs.Layout.{name_class_at, head_len}
+use Rattle.segment_manager.specs.{Layout.name_class_at, Layout.head_len, Directory.padded}
 use Rattle.segment_manager.specs.Directory.{Object, Directory, object_at, count_of, is_object, kind_of, object_len}
-use Rattle.segment_manager.specs.Directory.{padded}
 use Rattle.segment_manager.specs.Denotes.{IsObjectAt, padded_name, two_halves}
 
 -- the object stands in the block of a handle, which has the room for it

@@ -1,7 +1,7 @@
 //! The elements of objects whose kind is not known before: of scalars, of vectors of scalars, and of strings.
 ghost use Rattle.std.specs.Prelude.{◌≡◌, Ok, OnErr, OnOk};
 ghost use Rattle.seg_types.specs.declared.kinds.Kind.TheVariants.{Vector as VectorOf};
-ghost use Rattle.seg_types.specs.Commands.{Get, Set, literal_of};
+ghost use Rattle.seg_types.specs.Commands.{Get, Push, Set, literal_of};
 ghost use Rattle.seg_types.specs.Values.{kind_of_scalar, value_of_scalar};
 ghost use Rattle.segment_manager.specs.Calls.{elements_at, scalar_reply};
 ghost use Rattle.segment_manager.specs.Keeping.{ChangesElement};
@@ -74,6 +74,24 @@ impl Segment {
         ensures refused { OnErr result (self.new ≡ self.old) }
     {
         by_value!(value, number => self.vec_set(key, index, number))
+    }
+
+    /// Puts a value of a kind behind the last element of the vector of a key, a vector of that kind. Errors: as of
+    /// `vec_push`.
+    ///
+    /// Example: `segment.vec_push_value(&name, ScalarValue::I64(4))?`.
+    pub fn vec_push_value<O: ObjectRef>(
+        &mut self,
+        key: &O,
+        value: ScalarValue,
+    ) -> Result<(), Refusal>
+        requires { O.stands key.now self.old }
+        ensures step { TakesStepOfKind self.old self.new (O.key key.now) (VectorOf (kind_of_scalar value))
+            (Push (O.key key.now) (literal_of (kind_of_scalar value) (value_of_scalar value)))
+            (done_answer result) }
+        ensures refused { OnErr result (self.new ≡ self.old) }
+    {
+        by_value!(value, number => self.vec_push(key, number))
     }
 }
 

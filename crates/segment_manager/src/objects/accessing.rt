@@ -87,8 +87,10 @@ impl Segment {
         Ok(())
     }
 
-    /// The same of a value's kind.
-    pub(crate) fn set_value<O: ObjectRef>(
+    /// The same for a value of a kind. Errors: as of `set`.
+    ///
+    /// Example: `segment.set_value(&name, 0, ScalarValue::I64(640))?`.
+    pub fn set_value<O: ObjectRef>(
         &mut self,
         key: &O,
         index: u64,

@@ -1,7 +1,9 @@
+use Rattle.std.proofs.Common.{subst, sym, arith}
 use Rattle.std.proofs.lemmas.Result.{err_from_is_err_and}
-use Rattle.raw_region.specs.Device.{read_delta}
+use Rattle.raw_region.specs.Device.{ReadsSource, read_delta}
 use Rattle.raw_region.specs.Format.{current}
-use Rattle.image_check.proofs.Refused.{examined, not-examined, unread}
+use Rattle.image_check.proofs.FrontAlone.{examined-reads, examined-roomy}
+use Rattle.image_check.proofs.Refused.{examines, unread}
 use Rattle.image_check.proofs.examining.examine.Goals as goal
 
 pub returns-in_err-window-clause-examination : goal.returns-in_err-window-clause-examination
@@ -13,20 +15,28 @@ returns-in_err-window-clause-examination g c =
     c.args.region c.args.base
     c.in_err-window.field-0.0 c.in_err-window.ensures.reading c.in_err-window.ensures.output)
 
-pub check-requires-clause-front : goal.check-requires-clause-front
+pub examine_window-requires : goal.examine_window-requires
 unfolding current
-check-requires-clause-front g c = c.in_ok-window.ensures.reading.front
+examine_window-requires g c = (current, c.in_ok-window.ensures.reading.front, omega arith)
 
-pub returns-in-Ok-clause-examination : goal.returns-in-Ok-clause-examination
+pub returns-clause-examination : goal.returns-clause-examination
 unfolding current
-returns-in-Ok-clause-examination g c =
-    let given = read_delta (g.S.Source.history c.args.reader.now) (g.S.Source.history c.read_image.new.reader) in
-    examined current given c.args.region c.args.base c.in_ok-window.window c.in_ok-window.ensures.reading
-    c.into_region.result c.in-Ok.ensures.outcome c.into_region.ensures
+returns-clause-examination g c =
+    examines current (read_delta (g.S.Source.history c.args.reader.now) (g.S.Source.history c.read_image.new.reader))
+    c.args.region c.args.base c.in_ok-window.window c.in_ok-window.ensures.reading c.examine_window.result
+    (c.examine_window.ensures.examination current c.in_ok-window.ensures.reading.front)
 
-pub returns-in-Err-clause-examination : goal.returns-in-Err-clause-examination
+pub returns-clause-history : goal.returns-clause-history
 unfolding current
-returns-in-Err-clause-examination g c =
-    let given = read_delta (g.S.Source.history c.args.reader.now) (g.S.Source.history c.read_image.new.reader) in
-    not-examined current given c.args.region c.args.base c.in_ok-window.window c.in_ok-window.ensures.reading
-    c.in-Err.cause c.into_region-in-Err.result c.in-Err.ensures.outcome c.into_region-in-Err.ensures
+returns-clause-history g c =
+    subst (ReadsSource (g.S.Source.history c.args.reader.now) (g.S.Source.history c.read_image.new.reader))
+    (sym (examined-reads current c.in_ok-window.window c.examine_window.result
+    (c.examine_window.ensures.examination current c.in_ok-window.ensures.reading.front)))
+    c.in_ok-window.ensures.history
+
+pub returns-clause-exclusive : goal.returns-clause-exclusive
+unfolding current
+returns-clause-exclusive g c =
+    examined-roomy current c.in_ok-window.window c.examine_window.result (g.S.Source.history c.args.reader.now)
+    (g.S.Source.history c.read_image.new.reader)
+    (c.examine_window.ensures.examination current c.in_ok-window.ensures.reading.front)

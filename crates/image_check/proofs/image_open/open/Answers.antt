@@ -1,10 +1,11 @@
-use Rattle.std.proofs.Common.{Err, refl, subst, sym}
-use Rattle.raw_region.specs.Device.{read_delta}
+use Rattle.std.proofs.Common.{Err, refl, subst, sym, arith}
+use Rattle.raw_region.specs.Device.{ReadsSource, read_delta}
 use Rattle.raw_region.specs.Format.{current}
 use Rattle.image_check.specs.declared.errors.OpenRefused.{OpenRefused}
 use Rattle.image_check.specs.Causes.{opened_as}
 use Rattle.image_check.specs.Opening.{Opens}
-use Rattle.image_check.proofs.Refused.{opened, refused, unread-opens}
+use Rattle.image_check.proofs.FrontAlone.{opened-reads, opened-roomy}
+use Rattle.image_check.proofs.Refused.{opens, unread-opens}
 use Rattle.image_check.proofs.image_open.open.Goals as goal
 
 pub returns-in-Err-clause-opening : goal.returns-in-Err-clause-opening
@@ -16,26 +17,27 @@ returns-in-Err-clause-opening g c =
     (unread-opens current given c.args.region c.args.base c.args.mode (opened_as c.in-Err.refused)
     c.in-Err.ensures.reading)
 
-pub check_noting-requires-clause-front : goal.check_noting-requires-clause-front
+pub open_window-requires : goal.open_window-requires
 unfolding current
-check_noting-requires-clause-front g c = c.in-Ok.ensures.reading.front
+open_window-requires g c = (current, c.in-Ok.ensures.reading.front, omega arith)
 
-pub into_segment-requires-clause-image : goal.into_segment-requires-clause-image
+pub returns-in-Ok-clause-opening : goal.returns-in-Ok-clause-opening
 unfolding current
-into_segment-requires-clause-image g c = c.in-Ok-check_noting.ensures.outcome.image
+returns-in-Ok-clause-opening g c =
+    opens current (read_delta (g.S.Source.history c.args.reader.now) (g.S.Source.history c.read_image.new.reader))
+    c.args.region c.args.base c.in-Ok.window c.in-Ok.ensures.reading c.args.mode c.open_window.result refl
+    (c.open_window.ensures.opening current c.in-Ok.ensures.reading.front)
 
-pub returns-in-Ok-check_noting-clause-opening : goal.returns-in-Ok-check_noting-clause-opening
+pub returns-in-Ok-clause-history : goal.returns-in-Ok-clause-history
 unfolding current
-returns-in-Ok-check_noting-clause-opening g c =
-    opened current (read_delta (g.S.Source.history c.args.reader.now) (g.S.Source.history c.read_image.new.reader))
-    c.args.region c.args.base c.in-Ok.window
-    c.in-Ok.ensures.reading c.args.mode c.into_segment.result refl c.in-Ok-check_noting.ensures.outcome.image
-    c.into_segment.ensures.place c.into_segment.ensures.upgrade c.into_segment.ensures.mode
+returns-in-Ok-clause-history g c =
+    subst (ReadsSource (g.S.Source.history c.args.reader.now) (g.S.Source.history c.read_image.new.reader))
+    (sym (opened-reads current c.in-Ok.window c.args.mode c.open_window.result
+    (c.open_window.ensures.opening current c.in-Ok.ensures.reading.front))) c.in-Ok.ensures.history
 
-pub returns-in-Err-check_noting-clause-opening : goal.returns-in-Err-check_noting-clause-opening
+pub returns-in-Ok-clause-exclusive : goal.returns-in-Ok-clause-exclusive
 unfolding current
-returns-in-Err-check_noting-clause-opening g c =
-    refused current (read_delta (g.S.Source.history c.args.reader.now) (g.S.Source.history c.read_image.new.reader))
-    c.args.region c.args.base c.in-Ok.window
-    c.in-Ok.ensures.reading c.args.mode c.in-Err-check_noting.cause c.into_error.result c.into_region.result
-    c.in-Err-check_noting.ensures.outcome c.into_error.ensures c.into_region.ensures
+returns-in-Ok-clause-exclusive g c =
+    opened-roomy current c.in-Ok.window c.args.mode c.open_window.result (g.S.Source.history c.args.reader.now)
+    (g.S.Source.history c.read_image.new.reader)
+    (c.open_window.ensures.opening current c.in-Ok.ensures.reading.front)

@@ -1,23 +1,21 @@
-use Rattle.std.proofs.Common.{arith}
-use Rattle.best_fit.proofs.Laws.{none-lead, noted-lead}
-use Rattle.image_check.proofs.LiveBlocks.{block_live}
+use Rattle.std.proofs.Common.{arith, ◌∙◌, sym, subst}
+use Rattle.std.specs.Prelude.{IsTrue}
+use Rattle.raw_region.specs.Memory.{WindowState}
+use Rattle.best_fit.specs.Heap.{is_live_in, live_of}
 use Rattle.image_check.proofs.noting.note_blocks.Goals as goal
 
-pub rows-init : goal.rows-init
-rows-init c = record {
-  within = omega arith;
-  lead = λ b blocks. none-lead c.none-points.result b c.none-points.ensures;
-  counted = omega arith;
-}
+pub insert_hint-requires : goal.insert_hint-requires
+insert_hint-requires c =
+    subst (λ (v : WindowState). IsTrue (is_live_in (live_of v.bytes) c.row-payload.result.0))
+    (sym c.rows.invariant.unchanged)
+    (c.requires c.row-payload.result.0 c.row-payload.result.1 c.row-payload.ensures.block)
 
 pub rows-preserved : goal.rows-preserved
 rows-preserved c =
     let inv = c.rows.invariant in
-    let counted = inv.counted in
+    let visits = inv.visits in
     record {
       within = omega arith;
-      lead = λ b blocks. noted-lead c.rows.points c.insert.new.self b c.row-payload.result.0 (inv.lead b blocks)
-          (block_live b c.args.blocks.now.entries c.row-payload.result.0 c.row-payload.result.1 blocks
-          c.row-payload.ensures.block) c.insert.ensures;
-      counted = omega arith;
+      unchanged = c.insert_hint.ensures ∙ inv.unchanged;
+      visits = omega arith;
     }

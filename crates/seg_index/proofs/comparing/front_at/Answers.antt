@@ -9,8 +9,7 @@ returns-then-len c =
     let word = c.read_u64-word.ensures
     ∙ ap (λ (l : List ℕ). big_number 8 (slice_range l (h + 16) (h + 16 + 8))) c.as_bytes-bytes.ensures in
     long_front b (subst AreBytes c.as_bytes-bytes.ensures c.hold_bytes.ensures.each_element) h len
-    c.read_u64-word.result word
-    (omega arith)
+    c.read_u64-word.result word (omega arith)
 
 pub returns : goal.returns
 returns c =

@@ -13,6 +13,5 @@ returns-clause-creation g c =
     let left = c.set_link.ensures in let right = c.set_link-2.ensures in let key = c.write_value.ensures in
     let value = c.write_value-2.ensures in
     made (laws g.met.K.Plain) g.V.Plain (new g (goal.at.returns-clause-creation g c).In_ok-node) left.changes
-    left.link_target
-    right.changes right.link_target key.value key.changes key.content c.args.value value.value
+    left.link_target right.changes right.link_target key.value key.changes key.content c.args.value value.value
     (rw c.SIZE-3.ensures at value.changes) (rw c.SIZE-3.ensures at value.content)

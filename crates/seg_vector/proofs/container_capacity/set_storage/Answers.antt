@@ -1,8 +1,7 @@
 -- A link, and the word of the capacity.
-use Rattle.seg_vector.proofs.{◌≡◌, subst, ◌∙◌, inl, inr, ◌+◌, arith, bytes_of, word_at, SameBytesExcept-word}
-use Rattle.seg_vector.proofs.{SameBytesExcept-link}
-use Rattle.seg_vector.proofs.{changed-both}
 use Rattle.seg_vector.proofs.container_capacity.set_storage.Goals as goal
+use Rattle.seg_vector.proofs.{◌≡◌, subst, ◌∙◌, inl, inr, ◌+◌, arith, bytes_of, word_at, SameBytesExcept-word}
+use Rattle.seg_vector.proofs.{SameBytesExcept-link, changed-both}
 
 pub returns : goal.returns
 returns c =

@@ -1,9 +1,8 @@
 -- The elements lie in the storage, and the length in the container's own block.
-use Rattle.seg_vector.proofs.{◌≡◌, bytes_of, ChangesBytes, none-left, capacity-bytes, extended-not, more-times}
-use Rattle.seg_vector.proofs.{some-room}
-use Rattle.seg_vector.proofs.{sym, ap, subst, ◌∙◌, ◌+◌, ◌*◌, ◌≤◌, ℕ, arith, length, current, HasBytesAt, at-least}
-use Rattle.seg_vector.proofs.{extended}
 use Rattle.seg_vector.proofs.elements.extend.Goals as goal
+use Rattle.seg_vector.proofs.{◌≡◌, bytes_of, ChangesBytes, none-left, capacity-bytes, extended-not, more-times}
+use Rattle.seg_vector.proofs.{some-room, sym, ap, subst, ◌∙◌, ◌+◌, ◌*◌, ◌≤◌, ℕ, arith, length, current, HasBytesAt}
+use Rattle.seg_vector.proofs.{at-least, extended}
 
 pub overflow_mul-each : goal.overflow_mul-each
 overflow_mul-each c =

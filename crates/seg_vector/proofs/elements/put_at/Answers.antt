@@ -1,12 +1,11 @@
 -- One that is written over lies in the storage; before one that is put in, those from the place on move up.
-use Rattle.seg_vector.proofs.elements.put_at.Goals.{In-Over, In-Some, In-Some-link_of}
+use Rattle.seg_vector.proofs.elements.put_at.Goals as goal
+use Rattle.seg_vector.proofs.elements.put_at.Goals.{In-Some, In-Some-link_of}
 use Rattle.seg_vector.proofs.{take, drop, ◌++◌, ℕ, ◌*◌, ◌+◌, ◌-◌, ◌<◌, ◌≤◌, sym, subst, ◌∙◌, arith, IsTrue, IsContainer}
 use Rattle.seg_vector.proofs.{RewritesElements, ChangesBytes, live_of, has_room, current, changed-room, Fitting}
-use Rattle.seg_vector.proofs.{at-least}
-use Rattle.seg_vector.proofs.{PutsAt, bytes_of, capacity-bytes, element-fits, insert-fits, overwritten, part-room}
-use Rattle.seg_vector.proofs.{place_at, put_in, room-small, some-room, word_at}
+use Rattle.seg_vector.proofs.{at-least, PutsAt, bytes_of, capacity-bytes, element-fits, insert-fits, overwritten}
+use Rattle.seg_vector.proofs.{part-room, place_at, put_in, room-small, some-room, word_at}
 use Rattle.seg_vector.specs.Elements.{HasSpot}
-use Rattle.seg_vector.proofs.elements.put_at.Goals as goal
 
 -- the element that is there has room in the storage
 over : (c : In-Some) → let end = c.args.each * c.in-Over.index + c.args.each in

@@ -1,9 +1,8 @@
 -- One value more is spelled behind the others.
-use Rattle.seg_vector.proofs.{◌≡◌, ◌≤◌, sym, ap, subst, ◌∙◌, refl, ℕ, suc, ◌+◌, ◌*◌, ◌++◌, ◌∷◌, [], arith, length}
-use Rattle.seg_vector.proofs.{IsTrue}
+use Rattle.seg_vector.proofs.elements.put_spellings.Goals as goal
+use Rattle.seg_vector.proofs.{◌≡◌, ◌≤◌, sym, ap, subst, ◌∙◌, suc, ◌+◌, ◌*◌, ◌++◌, ◌∷◌, [], arith, length, IsTrue}
 use Rattle.seg_vector.proofs.{all-next, flat_map, length-take, more-times, list_all, patched, spelled-next, take}
 use Rattle.seg_vector.proofs.{take-suc}
-use Rattle.seg_vector.proofs.elements.put_spellings.Goals as goal
 
 pub values-preserved : goal.values-preserved
 values-preserved g c =

@@ -1,10 +1,8 @@
 -- The values are spelled into the payload of the block, which the heap has then.
-use Rattle.seg_vector.proofs.{◌+◌, ◌*◌, ◌≤◌, ap, sym, subst, ◌∙◌, ℕ, List, HasBytesAt, ChangesBytes, IsTrue, bytes_of}
-use Rattle.seg_vector.proofs.{current}
-use Rattle.seg_vector.proofs.{flat-long, flat_map, has_room, length, live-if, live_of, patched, payload-room}
-use Rattle.seg_vector.proofs.{payload-spelled}
-use Rattle.best_fit.specs.Heap.{with_payload}
 use Rattle.seg_vector.proofs.elements.spell.Goals as goal
+use Rattle.seg_vector.proofs.{◌+◌, ◌*◌, ◌≤◌, ap, sym, subst, ◌∙◌, ℕ, List, ChangesBytes, IsTrue, current, flat-long}
+use Rattle.seg_vector.proofs.{flat_map, has_room, length, live-if, live_of, patched, payload-room, payload-spelled}
+use Rattle.best_fit.specs.Heap.{with_payload}
 
 pub block_mut-requires : goal.block_mut-requires
 block_mut-requires g c = live-if c.args.handle (c.args.at + g.T.Plain.SIZE * length c.args.values.now)

@@ -47,8 +47,7 @@ overflow_add-len c =
     omega (arith, w.small, w.count, c.len_of-len.ensures)
 
 pub set_word-requires : goal.set_word-requires
-set_word-requires c = changed-room _ _ _ _ 16 c.args.place.handle (c.args.place.at + 8 + 8)
-    c.put_element.ensures.change
+set_word-requires c = changed-room _ _ _ _ 16 c.args.place.handle (c.args.place.at + 8 + 8) c.put_element.ensures.change
     (changed-room _ _ _ _ _ c.args.place.handle (c.args.place.at + 8 + 8) c.move_elements_up.ensures.change
     (len-room c.args.heap.now.bytes c.args.place (head-room (put-run c.requires.ready).head)))
 
@@ -56,5 +55,4 @@ pub returns-in-Some : goal.returns-in-Some
 returns-in-Some c first ps t y m z r inside at len = put-by c.args.index c.len_of-len.result c.args.text_len c.args.text
     r inside at len (sym c.link_of.ensures ∙ c.in-Some.is) c.len_of-len.ensures c.move_elements_up.ensures.change
     c.move_elements_up.ensures.carried c.put_element.ensures.change c.put_element.ensures.link
-    c.put_element.ensures.len_word
-    c.set_word.ensures.changes c.set_word.ensures.word
+    c.put_element.ensures.len_word c.set_word.ensures.changes c.set_word.ensures.word

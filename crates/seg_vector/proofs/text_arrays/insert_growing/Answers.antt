@@ -1,9 +1,8 @@
 -- The array is asked for, then the text, and then the array is adopted and the text put in; or all is given up.
-use Rattle.seg_vector.proofs.{sym, ap, subst, ◌*◌, length, WindowState, ReservesArray, err_from_is_err_and, asked-heap}
-use Rattle.seg_vector.proofs.{ready-of}
-use Rattle.seg_vector.proofs.{no-extent, growing-err, growing-none, growing-ok, growing-ready, more-places}
-use Rattle.seg_vector.proofs.{small-wanted}
 use Rattle.seg_vector.proofs.text_arrays.insert_growing.Goals as goal
+use Rattle.seg_vector.proofs.{sym, ap, subst, ◌*◌, length, WindowState, ReservesArray, err_from_is_err_and, asked-heap}
+use Rattle.seg_vector.proofs.{ready-of, no-extent, growing-err, growing-none, growing-ok, growing-ready, more-places}
+use Rattle.seg_vector.proofs.{small-wanted}
 
 pub reserve_array-requires-clause-max_size : goal.reserve_array-requires-clause-max_size
 reserve_array-requires-clause-max_size c = small-wanted c.args.heap.now c.args.n c.requires.texts c.requires.full
@@ -31,8 +30,7 @@ pub install_array-requires : goal.install_array-requires
 install_array-requires c =
     let r = c.requires in
     ready-of c.args.n r.texts (more-places c.args.heap.now c.args.n r.texts r.full r.wanted).0
-    (c.in_ok-array.ensures r.ps r.t r.texts) c.in-Ok.ensures.change
-    (λ e. c.in-Ok.ensures.nothing (no-extent e))
+    (c.in_ok-array.ensures r.ps r.t r.texts) c.in-Ok.ensures.change (λ e. c.in-Ok.ensures.nothing (no-extent e))
 
 pub insert_element-requires : goal.insert_element-requires
 insert_element-requires c =
@@ -63,8 +61,7 @@ pub returns-in-Err : goal.returns-in-Err
 returns-in-Err c ps t s inside full wanted =
     let a = c.in_ok-array.ensures ps t s in
     let asked = subst (λ (k : WindowState).
-    ReservesArray c.args.heap.now k t.extent (16 * c.args.n) c.in_ok-array.array)
-    (sym c.in-Err.ensures.same) a in
+    ReservesArray c.args.heap.now k t.extent (16 * c.args.n) c.in_ok-array.array) (sym c.in-Err.ensures.same) a in
     growing-err ps t c.args.n (more-places c.args.heap.now c.args.n s full wanted).0 wanted full a c.in-Err.ensures
     (c.undo_reserve.ensures c.args.heap.now ps t c.args.n s asked (c.array_room-room.ensures ps t s))
 

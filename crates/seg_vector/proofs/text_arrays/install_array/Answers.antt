@@ -1,10 +1,9 @@
 -- The vector's words are those that they were, until they are written.
-use Rattle.seg_vector.proofs.{refl, sym, ap, subst, ◌∙◌, ◌+◌, ◌*◌, Some, length, current, bytes_of, ChangesBytes}
-use Rattle.seg_vector.proofs.{live_of}
-use Rattle.seg_vector.proofs.{changed-room, laid-heap, SameElements, head-room, live-if, adopt-none, adopt-other}
-use Rattle.seg_vector.proofs.{adopt-same, ready, ready-even, ready-new, ready-link, none-left}
-use Rattle.seg_vector.proofs.text_arrays.install_array.Goals.{in-Some+else-old-array, in_default}
 use Rattle.seg_vector.proofs.text_arrays.install_array.Goals as goal
+use Rattle.seg_vector.proofs.{refl, sym, ap, subst, ◌∙◌, ◌+◌, ◌*◌, Some, length, current, bytes_of, ChangesBytes}
+use Rattle.seg_vector.proofs.{live_of, changed-room, laid-heap, SameElements, head-room, live-if, adopt-none}
+use Rattle.seg_vector.proofs.{adopt-other, adopt-same, ready, ready-even, ready-new, ready-link, none-left}
+use Rattle.seg_vector.proofs.text_arrays.install_array.Goals.{in-Some+else-old-array, in_default}
 
 pub len_of-len-requires : goal.len_of-len-requires
 len_of-len-requires c = let r = (ready c.requires).run in record { heap = r.heap; room = head-room r.head }
@@ -45,8 +44,7 @@ deallocate-requires c =
     let w = ready-new c.requires (sym c.link_of.ensures ∙ c.in-Some.is) c.if-old-array.true in
     live-if c.in-Some.old (0 + 16 * length c.requires.ps) (live_of c.set_storage.new.heap.bytes).extents
     (changed-room _ _ _ _ 24 c.in-Some.old (0 + 16 * length c.requires.ps) c.set_storage.ensures.change
-    (changed-room _ _ _ _ _ c.in-Some.old (0 + 16 * length c.requires.ps) c.move_elements_down.ensures.change
-    w.source))
+    (changed-room _ _ _ _ _ c.in-Some.old (0 + 16 * length c.requires.ps) c.move_elements_down.ensures.change w.source))
 
 pub returns-then-old-array : goal.returns-then-old-array
 returns-then-old-array c r =
@@ -56,8 +54,7 @@ returns-then-old-array c r =
     ChangesBytes current c.args.heap.now c.move_elements_down.new.heap (c.args.array + 0)
     (16 * k)) n c.move_elements_down.ensures.change) (subst (SameElements (bytes_of c.args.heap.now.bytes)
     (bytes_of c.move_elements_down.new.heap.bytes) (c.in-Some.old + 0) (c.args.array + 0)) n
-    c.move_elements_down.ensures.carried)
-    c.set_storage.ensures c.deallocate.ensures.released
+    c.move_elements_down.ensures.carried) c.set_storage.ensures c.deallocate.ensures.released
 
 pub returns : goal.returns
 returns c r = elim c.match-link_of.branch [

@@ -1,14 +1,11 @@
+use Rattle.segment_c.proofs.elements.kind_of_vector.Goals as goal
 use Rattle.std.proofs.Common.{◌∙◌, ap, sym, Err, None, Ok, Option, Result, Some}
-use Rattle.seg_types.specs.declared.kinds.Kind.{Kind}
-use Rattle.seg_types.specs.declared.kinds.ScalarKind.{ScalarKind}
-use Rattle.seg_types.specs.declared.kinds.ScalarKind.TheVariants.{U8}
-use Rattle.seg_types.specs.declared.refusals.Refusal.{Refusal}
+use Rattle.seg_types.specs.{declared.kinds.Kind.Kind, declared.kinds.ScalarKind.ScalarKind}
+use Rattle.seg_types.specs.{declared.kinds.ScalarKind.TheVariants.U8, declared.refusals.Refusal.Refusal, Keys.key_seen}
 use Rattle.seg_types.specs.declared.refusals.Refusal.TheVariants.{NotFound}
-use Rattle.seg_types.specs.Keys.{key_seen}
 use Rattle.segment_manager.specs.Directory.{Object, kind_of}
 use Rattle.segment_manager.proofs.Laws.{kind-by_key}
 use Rattle.segment_c.specs.Reads.{vector_kind}
-use Rattle.segment_c.proofs.elements.kind_of_vector.Goals as goal
 
 abbrev kind_in : Result Kind Refusal → ScalarKind
 kind_in r = elim r as (λ _. ScalarKind) [ Err why ↦ U8 | Ok kind ↦ vector_kind kind ]

@@ -1,10 +1,7 @@
-use Rattle.std.proofs.Common.{◌∙◌, ap, subst}
-use Rattle.seg_types.specs.declared.kinds.Kind.TheVariants.{Vector}
-use Rattle.seg_types.specs.Commands.{Pop}
-use Rattle.seg_types.specs.Keys.{key_seen}
-use Rattle.segment_manager.specs.State.{DenotesCurrent}
-use Rattle.segment_manager.specs.Step.{step_of_kind}
 use Rattle.segment_c.proofs.elements.pop.Goals as goal
+use Rattle.std.proofs.Common.{◌∙◌, ap, subst}
+use Rattle.seg_types.specs.{declared.kinds.Kind.TheVariants.Vector, Commands.Pop, Keys.key_seen}
+use Rattle.segment_manager.specs.{State.DenotesCurrent, Step.step_of_kind}
 
 pub returns-clause-step : goal.returns-clause-step
 returns-clause-step c =

@@ -1,9 +1,8 @@
-use Rattle.std.proofs.Common.{arith, refl, subst, sym}
-use Rattle.std.proofs.lemmas.Option.{slice_get_past}
+use Rattle.segment_c.proofs.lists.tell_named.Goals as goal
+use Rattle.std.proofs.{Common.arith, Common.refl, Common.subst, Common.sym, lemmas.Option.slice_get_past}
 use Rattle.segment_manager.specs.Directory.{named_objects}
 use Rattle.segment_c.specs.Lists.{WritesInfoIfFound}
 use Rattle.segment_c.proofs.Counts.{named_is}
-use Rattle.segment_c.proofs.lists.tell_named.Goals as goal
 
 pub named_instance-requires : goal.named_instance-requires
 named_instance-requires c = record {

@@ -1,9 +1,8 @@
-use Rattle.std.proofs.Common.{arith, refl, subst, sym}
-use Rattle.std.proofs.lemmas.Option.{slice_get_past}
+use Rattle.segment_c.proofs.lists.tell_unique.Goals as goal
+use Rattle.std.proofs.{Common.arith, Common.refl, Common.subst, Common.sym, lemmas.Option.slice_get_past}
 use Rattle.segment_manager.specs.Directory.{unique_objects}
 use Rattle.segment_c.specs.Lists.{TellsAlone}
 use Rattle.segment_c.proofs.Counts.{unique_is}
-use Rattle.segment_c.proofs.lists.tell_unique.Goals as goal
 
 pub unique_instance-requires : goal.unique_instance-requires
 unique_instance-requires c = record {
@@ -16,8 +15,7 @@ unique_instance-requires c = record {
 
 pub returns-then-index-num_unique-clause-read : goal.returns-then-index-num_unique-clause-read
 returns-then-index-num_unique-clause-read c = λ d st.
-    subst (TellsAlone c.args.info.now 8)
-    (sym (slice_get_past (unique_objects d) c.args.index (omega (
+    subst (TellsAlone c.args.info.now 8) (sym (slice_get_past (unique_objects d) c.args.index (omega (
       arith,
       c.if-index-num_unique.true,
       unique_is c.args.segment.now.mode d c.num_unique.result (c.num_unique.ensures.answers d st),

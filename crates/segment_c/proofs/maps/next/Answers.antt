@@ -1,17 +1,12 @@
+use Rattle.segment_c.proofs.maps.next.Goals as goal
 use Rattle.std.proofs.Common.{Ok, option_map, subst, sym}
-use Rattle.seg_types.specs.declared.kinds.Kind.{Kind}
+use Rattle.seg_types.specs.{declared.kinds.Kind.Kind, Keys.key_seen, Values.value_of_scalar, Written.literal_seen}
 use Rattle.seg_types.specs.declared.kinds.Kind.TheVariants.{Map}
-use Rattle.seg_types.specs.Keys.{key_seen}
-use Rattle.segment_manager.specs.Calls.{kind_at}
-use Rattle.segment_manager.specs.State.{AnswersWith}
+use Rattle.segment_manager.specs.{Calls.kind_at, State.AnswersWith, containers.Maps.pair_above}
 use Rattle.segment_manager.proofs.Laws.{kind-by_key}
 use Rattle.segment_manager.specs.containers.Walks.{item_seen, pairs_at}
-use Rattle.segment_manager.specs.containers.Maps.{pair_above}
-use Rattle.seg_types.specs.Values.{value_of_scalar}
-use Rattle.seg_types.specs.Written.{literal_seen}
 use Rattle.segment_c.specs.Reads.{item_in}
 use Rattle.segment_c.proofs.MapPairs.{next-missing, next-no_map, next-refused, next-told}
-use Rattle.segment_c.proofs.maps.next.Goals as goal
 
 pub returns-in-Err-clause-read : goal.returns-in-Err-clause-read
 returns-in-Err-clause-read c =
@@ -45,8 +40,7 @@ returns-in-Ok-value_of-clause-read c =
     (subst (λ j. AnswersWith c.args.segment.now (λ d.
     item_in j c.in-Map.values (pair_above (value_of_scalar c.in-Ok-value_of.below)
     (pairs_at d (key_seen c.args.key.now)))) (option_map item_seen c.next_pair.result)) c.in-Ok-value_of.ensures.0
-    c.next_pair.ensures)
-    c.pair_out.ensures.read
+    c.next_pair.ensures) c.pair_out.ensures.read
 
 pub returns-in_default-clause-read : goal.returns-in_default-clause-read
 returns-in_default-clause-read c =

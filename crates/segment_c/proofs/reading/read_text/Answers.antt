@@ -1,8 +1,7 @@
-use Rattle.std.proofs.Common.{◌∙◌, Bor, List, ap, subst, sym, ℕ}
-use Rattle.segment_manager.specs.Answers.{TextElement}
-use Rattle.segment_manager.specs.State.{answer_of}
-use Rattle.segment_c.specs.Reads.{CopiesAnswer}
 use Rattle.segment_c.proofs.reading.read_text.Goals as goal
+use Rattle.std.proofs.Common.{◌∙◌, Bor, List, ap, subst, sym, ℕ}
+use Rattle.segment_manager.specs.{Answers.TextElement, State.answer_of}
+use Rattle.segment_c.specs.Reads.{CopiesAnswer}
 
 pub returns-in-Ok-clause-read : goal.returns-in-Ok-clause-read
 returns-in-Ok-clause-read c = λ d st.

@@ -3,25 +3,25 @@ use Rattle.segment_cli.proofs.Beginnings.{created_by, not_created_by, not_opened
 use Rattle.segment_cli.proofs.Endings.{not_asked}
 use Rattle.segment_cli.proofs.sessions.begin.Goals as goal
 
-pub returns-in_err-segment-in-Fresh-clause-start : goal.returns-in_err-segment-in-Fresh-clause-start
-returns-in_err-segment-in-Fresh-clause-start g c =
+pub returns-in_err-create-in-Fresh-clause-start : goal.returns-in_err-create-in-Fresh-clause-start
+returns-in_err-create-in-Fresh-clause-start g c =
     let Reader = g.I.Source in let p = err_from_is_err_and c.from_residual.result c.from_residual.ensures.1 in
     rw (p.1, p.2, c.in-Fresh.is) (not_created_by c.args.region c.args.base c.in-Fresh.size c.args.mode _ _
-    c.create.ensures (not_asked (Reader.history c.args.image.now)) _ c.in_err-segment-in-Fresh.was)
+    c.create.ensures (not_asked (Reader.history c.args.image.now)) _ c.in_err-create-in-Fresh.was)
 
-pub returns-in_err-opened-in-Image-clause-start : goal.returns-in_err-opened-in-Image-clause-start
-returns-in_err-opened-in-Image-clause-start g c =
-    let from = c.from_residual-in_err-opened-in-Image in let p = err_from_is_err_and from.result from.ensures.1 in
+pub returns-in_err-open-in-Image-clause-start : goal.returns-in_err-open-in-Image-clause-start
+returns-in_err-open-in-Image-clause-start g c =
+    let from = c.from_residual-in_err-open-in-Image in let p = err_from_is_err_and from.result from.ensures.1 in
     rw (p.1, p.2, c.in-Image.is) (not_opened_by c.args.region c.args.base c.args.mode _ _
-    c.open-opened.ensures.opening _
-    c.in_err-opened-in-Image.was)
+    c.open.ensures.opening _
+    c.in_err-open-in-Image.was)
 
-pub returns-in_ok-segment-in-Fresh-clause-start : goal.returns-in_ok-segment-in-Fresh-clause-start
-returns-in_ok-segment-in-Fresh-clause-start g c =
+pub returns-in_ok-create-in-Fresh-clause-start : goal.returns-in_ok-create-in-Fresh-clause-start
+returns-in_ok-create-in-Fresh-clause-start g c =
     let Reader = g.I.Source in
     rw c.in-Fresh.is (created_by c.args.region c.args.base c.in-Fresh.size c.args.mode _ _ c.create.ensures
-    (not_asked (Reader.history c.args.image.now)) _ c.in_ok-segment-in-Fresh.was)
+    (not_asked (Reader.history c.args.image.now)) _ c.in_ok-create-in-Fresh.was)
 
-pub returns-in_ok-opened-in-Image-clause-start : goal.returns-in_ok-opened-in-Image-clause-start
-returns-in_ok-opened-in-Image-clause-start g c = rw c.in-Image.is
-    (opened_by c.args.region c.args.base c.args.mode _ _ c.open-opened.ensures.opening _ c.in_ok-opened-in-Image.was)
+pub returns-in_ok-open-in-Image-clause-start : goal.returns-in_ok-open-in-Image-clause-start
+returns-in_ok-open-in-Image-clause-start g c = rw c.in-Image.is
+    (opened_by c.args.region c.args.base c.args.mode _ _ c.open.ensures.opening _ c.in_ok-open-in-Image.was)

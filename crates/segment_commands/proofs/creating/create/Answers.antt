@@ -1,9 +1,9 @@
 use Rattle.std.proofs.Common.{rules, inr}
 use Rattle.segment_commands.proofs.creating.create.Goals as goal
 
-pub returns-in-Ok : goal.returns-in-Ok
-returns-in-Ok g c =
-    let w = c.in-Ok.ensures in
+pub returns : goal.returns
+returns g c =
+    let w = c.in_ok-write_image.ensures in
     inr (inr (record {
       found = c.path_status.result;
       free = search rules;

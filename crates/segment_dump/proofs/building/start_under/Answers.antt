@@ -1,9 +1,8 @@
+use Rattle.segment_dump.proofs.building.start_under.Goals as goal
 use Rattle.segment_dump.proofs.Common.{sym, ap, subst, ◌∙◌, Ok, IfOk}
 use Rattle.segment_manager.specs.State.{IsSegment}
 use Rattle.segment_dump.specs.Builders.{IsHere}
-use Rattle.segment_dump.proofs.Found.{never-ok, ok-same}
-use Rattle.segment_dump.proofs.Makes.{shape-unread, started}
-use Rattle.segment_dump.proofs.building.start_under.Goals as goal
+use Rattle.segment_dump.proofs.{Found.never-ok, Found.ok-same, Makes.shape-unread, Makes.started}
 
 pub returns-in_err-shape-clause-start : goal.returns-in_err-shape-clause-start
 returns-in_err-shape-clause-start g c =

@@ -7,7 +7,6 @@ word_in-requires c = let h = header-inside c.as_bytes.result.now c.as_bytes.ensu
 
 pub returns : goal.returns
 returns c = record {
-  answers = λ d k. c.word_in.ensures
-      ∙ ap (λ (b : List ℕ). word_at (bytes_of b) 48) c.as_bytes.ensures.bytes
+  answers = λ d k. c.word_in.ensures ∙ ap (λ (b : List ℕ). word_at (bytes_of b) 48) c.as_bytes.ensures.bytes
       ∙ named-places c.args.segment.now.cut.bytes d k;
 }

@@ -1,7 +1,5 @@
-use Rattle.segment_dump.proofs.Common.{all_notes}
-use Rattle.segment_dump.proofs.PlaceNotes.{capacity-parts}
-use Rattle.segment_dump.proofs.Owed.{of-cut, of-same, of-then}
 use Rattle.segment_dump.proofs.capacities.put_capacities.Goals as goal
+use Rattle.segment_dump.proofs.{Common.all_notes, PlaceNotes.capacity-parts, Owed.of-cut, Owed.of-same, Owed.of-then}
 
 pub returns-in_err-put_indexes : goal.returns-in_err-put_indexes
 returns-in_err-put_indexes g c = of-same (of-cut (λ d. all_notes d) c.from_residual.ensures.0

@@ -1,8 +1,7 @@
-use Rattle.segment_dump.proofs.Common.{◌≡◌, ℕ, List, [], ◌∷◌, ◌++◌, ap, sym, subst, append_assoc, codes, Class}
-use Rattle.segment_dump.proofs.Common.{Anonymous, Unique, Kind, kind_text, number_text, Writes}
-use Rattle.segment_dump.specs.Capacities.{Holds, capacity_note}
-use Rattle.segment_dump.specs.Texts.{told_line}
 use Rattle.segment_dump.proofs.capacities.put_note.Goals as goal
+use Rattle.segment_dump.proofs.Common.{◌≡◌, ℕ, List, [], ◌∷◌, ◌++◌, ap, sym, subst, append_assoc, codes, Anonymous}
+use Rattle.segment_dump.proofs.Common.{Unique, Kind, kind_text, number_text, Writes}
+use Rattle.segment_dump.specs.{Capacities.Holds, Capacities.capacity_note, Texts.told_line}
 
 unique-note : (name : List ℕ) (kind : Kind) (n : ℕ)
     → told_line (codes "# capacity of unique ") Unique name kind (codes ": ") n

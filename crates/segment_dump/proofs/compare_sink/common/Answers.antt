@@ -1,6 +1,5 @@
-use Rattle.segment_dump.proofs.Common.{arith}
-use Rattle.segment_dump.proofs.Comparings.{unlike-at}
 use Rattle.segment_dump.proofs.compare_sink.common.Goals as goal
+use Rattle.segment_dump.proofs.{Common.arith, Comparings.unlike-at}
 
 pub returns-then-some-index-clause-difference : goal.returns-then-some-index-clause-difference
 returns-then-some-index-clause-difference c =

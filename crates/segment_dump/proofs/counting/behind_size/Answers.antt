@@ -1,8 +1,6 @@
-use Rattle.segment_dump.proofs.Common.{sym, subst}
-use Rattle.segment_dump.specs.Reads.{Skips, seen_rest}
-use Rattle.segment_dump.specs.Succeeding.{IsNumber, size_said}
-use Rattle.segment_dump.proofs.FrontPlaces.{size-none, size-skipped}
 use Rattle.segment_dump.proofs.counting.behind_size.Goals as goal
+use Rattle.segment_dump.proofs.{Common.sym, Common.subst, FrontPlaces.size-none, FrontPlaces.size-skipped}
+use Rattle.segment_dump.specs.{Reads.Skips, Reads.seen_rest, Succeeding.IsNumber, Succeeding.size_said}
 
 pub returns-in_err-behind : goal.returns-in_err-behind
 returns-in_err-behind c =

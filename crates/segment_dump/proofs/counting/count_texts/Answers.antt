@@ -1,11 +1,9 @@
-use Rattle.segment_dump.proofs.Common.{◌≡◌, ℕ, ◌+◌, ◌<◌, ◌≤◌, None, sym, subst, arith, flat_map, AreTexts, Needs}
-use Rattle.segment_dump.proofs.Common.{all_needs}
+use Rattle.segment_dump.proofs.counting.count_texts.Goals as goal
+use Rattle.segment_dump.proofs.Common.{◌≡◌, ℕ, ◌+◌, ◌<◌, None, sym, subst, arith, flat_map, AreTexts, Needs, all_needs}
 use Rattle.segment_dump.proofs.Common.{both, text_needs, Any, text_lines}
 use Rattle.segment_dump.specs.Asked.{AskTogether, AsksText, Begins}
-use Rattle.segment_dump.proofs.Askings.{more-asks, none-asks}
+use Rattle.segment_dump.proofs.{Askings.more-asks, Askings.none-asks, Readers.as-seen}
 use Rattle.segment_dump.proofs.Counts.{texts-cut, texts-end, texts-more, texts-start}
-use Rattle.segment_dump.proofs.Readers.{as-seen}
-use Rattle.segment_dump.proofs.counting.count_texts.Goals as goal
 
 pub texts-init : goal.texts-init
 texts-init c = record {
@@ -26,8 +24,7 @@ pub texts-preserved : goal.texts-preserved
 texts-preserved c = record {
   left = texts-more c.args.text.now c.texts.rest.now c.texts.needs c.and-needs.result c.args.count c.texts.counter
       c.in_ok-len.len c.in_ok-len.behind.now (omega (arith, c.texts-test.true)) c.texts.invariant.left
-      c.in_ok-len.ensures.value
-      (subst (λ (n : Needs). c.texts.needs.room + n.room < 18446744073709551616
+      c.in_ok-len.ensures.value (subst (λ (n : Needs). c.texts.needs.room + n.room < 18446744073709551616
       → c.and-needs.result ≡ both c.texts.needs n) c.text_needs.ensures c.and-needs.ensures.sum);
   asks = let text = c.in_ok-len.ensures.text in
       more-asks AsksText c.args.text.now c.texts.rest.now c.in_ok-len.behind.now c.texts.counter c.texts.needs

@@ -20,12 +20,10 @@ pub returns-clause-value : goal.returns-clause-value
 returns-clause-value c =
     front-some c.args.text.now c.in_ok-behind.field-0.now c.in_ok-size.size c.in_ok-size.rest.now
     c.in_ok-behind-2.field-0.now c.in_ok-named.named c.in_ok-named.unique c.in_ok-named.rest.now
-    c.in_ok-behind.ensures c.in_ok-size.ensures.value
-    c.in_ok-behind-2.ensures c.in_ok-named.ensures.value
+    c.in_ok-behind.ensures c.in_ok-size.ensures.value c.in_ok-behind-2.ensures c.in_ok-named.ensures.value
 
 pub returns-clause-spelled : goal.returns-clause-spelled
 returns-clause-spelled c =
     front-whole c.args.text.now c.in_ok-behind.field-0.now c.in_ok-size.size c.in_ok-size.rest.now
     c.in_ok-behind-2.field-0.now c.in_ok-named.named c.in_ok-named.unique c.in_ok-named.rest.now
-    c.in_ok-behind.ensures
-    c.in_ok-size.ensures.spelled c.in_ok-behind-2.ensures c.in_ok-named.ensures.spelled
+    c.in_ok-behind.ensures c.in_ok-size.ensures.spelled c.in_ok-behind-2.ensures c.in_ok-named.ensures.spelled

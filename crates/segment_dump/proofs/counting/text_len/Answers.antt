@@ -1,8 +1,6 @@
-use Rattle.segment_dump.proofs.Common.{length, Some, None, sym, Any, text_lines}
-use Rattle.segment_dump.proofs.Askings.{text-by}
-use Rattle.segment_dump.proofs.Counts.{IsShort, text-none, text-some}
-use Rattle.segment_dump.proofs.Readers.{as-seen}
 use Rattle.segment_dump.proofs.counting.text_len.Goals as goal
+use Rattle.segment_dump.proofs.Common.{length, Some, None, sym, Any, text_lines}
+use Rattle.segment_dump.proofs.{Askings.text-by, Counts.IsShort, Counts.text-none, Counts.text-some, Readers.as-seen}
 
 pub returns-in_err-len-clause-value : goal.returns-in_err-len-clause-value
 returns-in_err-len-clause-value c =

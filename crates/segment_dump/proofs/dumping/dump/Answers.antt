@@ -1,7 +1,5 @@
-use Rattle.segment_dump.proofs.Common.{ap, portable, dump_text}
-use Rattle.segment_dump.proofs.Elements.{size-is}
-use Rattle.segment_dump.proofs.Owed.{of-same}
 use Rattle.segment_dump.proofs.dumping.dump.Goals as goal
+use Rattle.segment_dump.proofs.{Common.ap, Common.portable, Common.dump_text, Elements.size-is, Owed.of-same}
 
 pub returns : goal.returns
 returns g c =

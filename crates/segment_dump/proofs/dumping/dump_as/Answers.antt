@@ -1,7 +1,5 @@
-use Rattle.segment_dump.proofs.Common.{all_text}
-use Rattle.segment_dump.proofs.Sections.{dump-parts}
-use Rattle.segment_dump.proofs.Owed.{of-cut, of-same, of-then}
 use Rattle.segment_dump.proofs.dumping.dump_as.Goals as goal
+use Rattle.segment_dump.proofs.{Common.all_text, Sections.dump-parts, Owed.of-cut, Owed.of-same, Owed.of-then}
 
 pub returns-in_err-put_front : goal.returns-in_err-put_front
 returns-in_err-put_front g c = of-same (of-cut (λ d. all_text d) c.from_residual.ensures.0 c.in_err-put_front.ensures)

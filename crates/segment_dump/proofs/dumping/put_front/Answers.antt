@@ -1,7 +1,5 @@
-use Rattle.segment_dump.proofs.Common.{front_text}
-use Rattle.segment_dump.proofs.Elements.{named-is, unique-is}
-use Rattle.segment_dump.proofs.Owed.{of-one}
 use Rattle.segment_dump.proofs.dumping.put_front.Goals as goal
+use Rattle.segment_dump.proofs.{Common.front_text, Elements.named-is, Elements.unique-is, Owed.of-one}
 
 pub returns : goal.returns
 returns g c =

@@ -1,14 +1,12 @@
-use Rattle.segment_dump.proofs.Common.{refl, end_text}
-use Rattle.segment_dump.proofs.Owed.{of-cut, of-one, of-then}
 use Rattle.segment_dump.proofs.dumping.put_objects.Goals as goal
+use Rattle.segment_dump.proofs.{Common.refl, Common.end_text, Owed.of-cut, Owed.of-one, Owed.of-then}
 
 pub returns-in_err-put_named : goal.returns-in_err-put_named
 returns-in_err-put_named g c = of-cut _ c.from_residual.ensures.0 c.in_err-put_named.ensures
 
 pub returns-in_err-put_unique : goal.returns-in_err-put_unique
 returns-in_err-put_unique g c =
-    of-then c.in_ok-put_named.ensures
-    (of-cut _ c.from_residual-in_err-put_unique.ensures.0 c.in_err-put_unique.ensures)
+    of-then c.in_ok-put_named.ensures (of-cut _ c.from_residual-in_err-put_unique.ensures.0 c.in_err-put_unique.ensures)
 
 pub returns-in_err-put_anonymous : goal.returns-in_err-put_anonymous
 returns-in_err-put_anonymous g c =

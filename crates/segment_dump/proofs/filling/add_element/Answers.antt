@@ -1,6 +1,5 @@
-use Rattle.segment_dump.proofs.Common.{length, sym, subst, AddsElement}
-use Rattle.segment_dump.proofs.Starts.{no-element}
 use Rattle.segment_dump.proofs.filling.add_element.Goals as goal
+use Rattle.segment_dump.proofs.{Common.length, Common.sym, Common.subst, Common.AddsElement, Starts.no-element}
 
 pub returns-in-Scalar-clause-visits : goal.returns-in-Scalar-clause-visits
 returns-in-Scalar-clause-visits c =

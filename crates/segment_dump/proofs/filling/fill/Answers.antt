@@ -6,8 +6,7 @@ pub returns-in-String : goal.returns-in-String
 returns-in-String c =
     fills-text c.args.segment.now c.fill_string.new.segment c.args.object.handle c.args.shape.kind
     c.args.shape.count c.args.lines.now c.fill_string.new.lines (length c.args.room.now) c.fill_string.result
-    c.in-String.is
-    (c.fill_string.ensures (length c.args.room.now))
+    c.in-String.is (c.fill_string.ensures (length c.args.room.now))
 
 pub returns-in-Vector : goal.returns-in-Vector
 returns-in-Vector c = c.fill_reserved.ensures (subst IsVectorKind (sym c.in-Vector.is) tt)

@@ -25,8 +25,7 @@ pub elements-preserved : goal.elements-preserved
 elements-preserved c = (
   elements-more c.args.segment.now c.elements.segment c.add_element.new.segment c.args.object.handle
       c.args.shape.kind c.args.lines.now c.elements.lines c.add_element.new.lines (length c.args.room.now)
-      c.elements.index c.in_ok-add_element.field-0
-      c.elements.invariant.0
+      c.elements.index c.in_ok-add_element.field-0 c.elements.invariant.0
       (as-room c.elements.segment c.add_element.new.segment c.args.object.handle c.args.shape.kind c.elements.index
       c.elements.lines c.add_element.new.lines (length c.elements.room) (length c.args.room.now) _
       c.elements.invariant.1

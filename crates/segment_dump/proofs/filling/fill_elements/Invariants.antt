@@ -1,7 +1,6 @@
-use Rattle.segment_dump.proofs.Common.{◌≡◌, length}
-use Rattle.segment_dump.specs.Builders.{HasLocatedObject}
-use Rattle.segment_dump.proofs.Starts.{InElements}
 use Rattle.segment_dump.proofs.filling.fill_elements.Given as goal
+use Rattle.segment_dump.proofs.{Common.◌≡◌, Common.length, Starts.InElements}
+use Rattle.segment_dump.specs.Builders.{HasLocatedObject}
 
 abbrev pub invariant-elements : goal.invariant-elements
 invariant-elements l = InElements l.fn.segment l.segment l.object.handle l.shape.kind l.fn.lines l.lines

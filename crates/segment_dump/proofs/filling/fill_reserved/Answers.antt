@@ -1,21 +1,18 @@
-use Rattle.segment_dump.proofs.Common.{length, refl}
-use Rattle.segment_dump.proofs.HereObjects.{still-here}
-use Rattle.segment_dump.proofs.Starts.{fills-refused, fills-reserved}
 use Rattle.segment_dump.proofs.filling.fill_reserved.Goals as goal
+use Rattle.segment_dump.proofs.{Common.length, Common.refl, HereObjects.still-here}
+use Rattle.segment_dump.proofs.Starts.{fills-refused, fills-reserved}
 
 pub returns-in-Ok : goal.returns-in-Ok
 returns-in-Ok c = λ v.
     fills-reserved c.args.segment.now c.reserve.new.self c.args.object.handle c.args.shape.kind c.args.shape.count
     c.args.lines.now (length c.args.room.now) c.reserve.result v c.reserve.ensures.step c.fill_elements.new.segment
-    c.fill_elements.new.lines
-    c.fill_elements.result c.fill_elements.ensures
+    c.fill_elements.new.lines c.fill_elements.result c.fill_elements.ensures
 
 pub returns-in-Err : goal.returns-in-Err
 returns-in-Err c = λ v.
     fills-refused c.args.segment.now c.reserve.new.self c.args.object.handle c.args.shape.kind c.args.shape.count
     c.args.lines.now (length c.args.room.now) c.reserve.result v c.reserve.ensures.step c.reserve.new.self
-    c.args.lines.now c.in-Err.why _
-    c.in-Err.is
+    c.args.lines.now c.in-Err.why _ c.in-Err.is
 
 pub reserve-requires : goal.reserve-requires
 reserve-requires c = c.requires.object

@@ -1,7 +1,5 @@
-use Rattle.segment_dump.proofs.Common.{refl}
-use Rattle.segment_dump.proofs.HereObjects.{still_of_kind-here}
-use Rattle.segment_dump.proofs.Adds.{push-adds, push-unread}
 use Rattle.segment_dump.proofs.filling.push_next.Goals as goal
+use Rattle.segment_dump.proofs.{Common.refl, HereObjects.still_of_kind-here, Adds.push-adds, Adds.push-unread}
 
 pub returns-in_err-value-clause-visits : goal.returns-in_err-value-clause-visits
 returns-in_err-value-clause-visits c =
@@ -10,12 +8,12 @@ returns-in_err-value-clause-visits c =
 
 pub returns-clause-visits : goal.returns-clause-visits
 returns-clause-visits c = λ index room.
-    push-adds c.args.segment.now c.push_value.new.segment c.args.object.handle index room c.args.kind
-    c.args.lines.now c.next_value.new.lines c.in_ok-value.value c.push_value.result c.ended.result
-    c.in_ok-value.ensures c.push_value.ensures c.ended.ensures
+    push-adds c.args.segment.now c.vec_push_value.new.self c.args.object.handle index room c.args.kind
+    c.args.lines.now c.next_value.new.lines c.in_ok-value.value c.vec_push_value.result c.ended.result
+    c.in_ok-value.ensures c.vec_push_value.ensures.step c.ended.ensures
 
-pub push_value-requires : goal.push_value-requires
-push_value-requires c = c.requires.object
+pub vec_push_value-requires : goal.vec_push_value-requires
+vec_push_value-requires c = c.requires.object
 
 pub returns-clause-in_place : goal.returns-clause-in_place
-returns-clause-in_place c = still_of_kind-here c.requires _ _ _ _ c.push_value.ensures refl
+returns-clause-in_place c = still_of_kind-here c.requires _ _ _ _ c.vec_push_value.ensures.step refl

@@ -1,8 +1,6 @@
-use Rattle.segment_dump.proofs.Common.{true, refl, sym, ◌∙◌}
-use Rattle.segment_dump.proofs.HereObjects.{still_of_kind-here}
-use Rattle.segment_dump.proofs.Found.{never-ok}
-use Rattle.segment_dump.proofs.Adds.{put-adds, put-unread}
 use Rattle.segment_dump.proofs.filling.put_next.Goals as goal
+use Rattle.segment_dump.proofs.{Common.true, Common.refl, Common.sym, Common.◌∙◌, HereObjects.still_of_kind-here}
+use Rattle.segment_dump.proofs.{Found.never-ok, Adds.put-adds, Adds.put-unread}
 
 pub returns-in_err-key-clause-visits : goal.returns-in_err-key-clause-visits
 returns-in_err-key-clause-visits c =

@@ -1,7 +1,5 @@
-use Rattle.segment_dump.proofs.Common.{refl}
-use Rattle.segment_dump.proofs.HereObjects.{still_of_kind-here}
-use Rattle.segment_dump.proofs.Adds.{set-adds, set-unread}
 use Rattle.segment_dump.proofs.filling.set_next.Goals as goal
+use Rattle.segment_dump.proofs.{Common.refl, HereObjects.still_of_kind-here, Adds.set-adds, Adds.set-unread}
 
 pub returns-in_err-value-clause-visits : goal.returns-in_err-value-clause-visits
 returns-in_err-value-clause-visits c =
@@ -10,12 +8,12 @@ returns-in_err-value-clause-visits c =
 
 pub returns-clause-visits : goal.returns-clause-visits
 returns-clause-visits c = λ room.
-    set-adds c.args.segment.now c.set_value.new.segment c.args.object.handle c.args.index room c.args.kind
+    set-adds c.args.segment.now c.set_value.new.self c.args.object.handle c.args.index room c.args.kind
     c.args.lines.now c.next_value.new.lines c.in_ok-value.value c.set_value.result c.ended.result
-    c.in_ok-value.ensures c.set_value.ensures c.ended.ensures
+    c.in_ok-value.ensures c.set_value.ensures.step c.ended.ensures
 
 pub set_value-requires : goal.set_value-requires
 set_value-requires c = c.requires.object
 
 pub returns-clause-in_place : goal.returns-clause-in_place
-returns-clause-in_place c = still_of_kind-here c.requires _ _ _ _ c.set_value.ensures refl
+returns-clause-in_place c = still_of_kind-here c.requires _ _ _ _ c.set_value.ensures.step refl

@@ -1,7 +1,6 @@
-use Rattle.segment_dump.proofs.Common.{arith, ◌∙◌}
-use Rattle.segment_dump.proofs.PieceReads.{collect-no_first, collect-no_copy, collect-start, more-no_copy, more-no_line}
-use Rattle.segment_dump.proofs.PieceReads.{pieces-end, pieces-more}
 use Rattle.segment_dump.proofs.filling_texts.collect.Goals as goal
+use Rattle.segment_dump.proofs.{Common.arith, Common.◌∙◌, PieceReads.pieces-end, PieceReads.pieces-more}
+use Rattle.segment_dump.proofs.PieceReads.{collect-no_first, collect-no_copy, collect-start, more-no_copy, more-no_line}
 
 pub returns-in_err-words-clause-text : goal.returns-in_err-words-clause-text
 returns-in_err-words-clause-text c =
@@ -49,7 +48,6 @@ pub returns-in_err-filled-2-clause-text : goal.returns-in_err-filled-2-clause-te
 returns-in_err-filled-2-clause-text c =
     more-no_copy c.args.lines.now c.args.room.now c.pieces.lines c.pieces.room c.in_ok-words.len c.pieces.filled
     c.pieces.counter c.pieces.invariant.0 (omega (arith, c.pieces-test.true, c.pieces_behind-end.ensures))
-    c.next_line.new.self
-    c.in_ok-words-2.words c.copy_piece-in-pieces.new.room _ c.from_residual-in_err-filled-2.result
+    c.next_line.new.self c.in_ok-words-2.words c.copy_piece-in-pieces.new.room _ c.from_residual-in_err-filled-2.result
     c.pieces.invariant.2 c.in_ok-words-2.ensures c.in_err-filled-2.ensures.piece c.next_line.new.self
     c.copy_piece-in-pieces.new.room

@@ -1,7 +1,6 @@
-use Rattle.segment_dump.proofs.Common.{ℕ}
-use Rattle.segment_dump.specs.Builders.{HasLocatedObject}
-use Rattle.segment_dump.proofs.Strings.{InString}
 use Rattle.segment_dump.proofs.filling_texts.fill_string.Given as goal
+use Rattle.segment_dump.proofs.{Common.ℕ, Strings.InString}
+use Rattle.segment_dump.specs.Builders.{HasLocatedObject}
 
 abbrev pub invariant-pieces : goal.invariant-pieces
 invariant-pieces l =

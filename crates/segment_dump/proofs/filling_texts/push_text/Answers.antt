@@ -1,7 +1,5 @@
-use Rattle.segment_dump.proofs.Common.{refl}
-use Rattle.segment_dump.proofs.HereObjects.{still_of_kind-here}
-use Rattle.segment_dump.proofs.Adds.{text-adds, text-unread}
 use Rattle.segment_dump.proofs.filling_texts.push_text.Goals as goal
+use Rattle.segment_dump.proofs.{Common.refl, HereObjects.still_of_kind-here, Adds.text-adds, Adds.text-unread}
 
 pub returns-in_err-len-clause-visits : goal.returns-in_err-len-clause-visits
 returns-in_err-len-clause-visits c =

@@ -1,6 +1,5 @@
-use Rattle.segment_dump.proofs.Common.{◌<◌, get_or, arith}
-use Rattle.segment_dump.proofs.Readers.{word-goes}
 use Rattle.segment_dump.proofs.front_reading.next_word.Goals as goal
+use Rattle.segment_dump.proofs.{Common.◌<◌, Common.get_or, Common.arith, Readers.word-goes}
 
 pub word-preserved : goal.word-preserved
 word-preserved c =

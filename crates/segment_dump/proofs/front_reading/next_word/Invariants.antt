@@ -1,6 +1,5 @@
-use Rattle.segment_dump.proofs.Common.{length}
-use Rattle.segment_dump.proofs.Readers.{InWord}
 use Rattle.segment_dump.proofs.front_reading.next_word.Given as goal
+use Rattle.segment_dump.proofs.{Common.length, Readers.InWord}
 
 abbrev pub invariant-word : goal.invariant-word
 invariant-word l = InWord l.text l.rest

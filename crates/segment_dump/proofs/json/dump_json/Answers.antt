@@ -1,6 +1,5 @@
-use Rattle.segment_dump.proofs.JsonLines.{json-parts}
-use Rattle.segment_dump.proofs.Owed.{of-cut, of-same, of-then}
 use Rattle.segment_dump.proofs.json.dump_json.Goals as goal
+use Rattle.segment_dump.proofs.{JsonLines.json-parts, Owed.of-cut, Owed.of-same, Owed.of-then}
 
 pub returns-in_err-put_named : goal.returns-in_err-put_named
 returns-in_err-put_named g c = of-same (of-cut _ c.from_residual.ensures.0 c.in_err-put_named.ensures)

@@ -1,9 +1,8 @@
-use Rattle.segment_dump.proofs.Common.{◌≡◌, Bool, true, false, List, ℕ, if◌then◌else◌, refl, sym, ap, subst}
-use Rattle.segment_dump.proofs.Common.{Writes}
+use Rattle.segment_dump.proofs.json_texts.put_bytes.Goals as goal
+use Rattle.segment_dump.proofs.Common.{◌≡◌, Bool, true, false, List, ℕ, if◌then◌else◌, refl, sym, ap, subst, Writes}
 use Rattle.std.specs.Str.{IsUtf8, is_utf8}
 use Rattle.std.proofs.lemmas.Str.{IsUtf8-from_is_utf8, is_utf8-from_IsUtf8}
 use Rattle.segment_dump.specs.Json.{json_bytes, json_coded, json_string}
-use Rattle.segment_dump.proofs.json_texts.put_bytes.Goals as goal
 
 text-if : (b : Bool) (bs : List ℕ) → is_utf8 bs ≡ b → json_bytes bs ≡ (if b then json_string bs else json_coded bs)
 text-if b bs e = ap (λ x. if x then json_string bs else json_coded bs) e

@@ -9,8 +9,7 @@ returns-in_err-put_string_bytes g c =
     let opened = g.W.Sink.history c.write_all.new.sink in
     let ended = g.W.Sink.history c.put_string_bytes.new.out in
     writes-then start opened ended _ c.from_residual-in_err-put_string_bytes.result (34 ∷ []) (text ++ 34 ∷ [])
-    c.in_ok-write_all.ensures
-    (writes-cut opened ended _ c.from_residual-in_err-put_string_bytes.result text (34 ∷ [])
+    c.in_ok-write_all.ensures (writes-cut opened ended _ c.from_residual-in_err-put_string_bytes.result text (34 ∷ [])
     c.from_residual-in_err-put_string_bytes.ensures.0 c.in_err-put_string_bytes.ensures)
 
 pub returns : goal.returns

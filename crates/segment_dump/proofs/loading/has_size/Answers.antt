@@ -1,6 +1,5 @@
-use Rattle.segment_dump.proofs.Judged.{has-size, is-full}
-use Rattle.segment_dump.proofs.Succeeds.{sizes-none, sizes-some}
 use Rattle.segment_dump.proofs.loading.has_size.Goals as goal
+use Rattle.segment_dump.proofs.{Judged.has-size, Judged.is-full, Succeeds.sizes-none, Succeeds.sizes-some}
 
 pub returns-in-Some-clause-content : goal.returns-in-Some-clause-content
 returns-in-Some-clause-content c =

@@ -1,7 +1,6 @@
-use Rattle.segment_dump.proofs.Common.{length, cause_in}
-use Rattle.segment_dump.proofs.Judged.{back-some, exact-done, exact-refused, lacking-made, lacking-refused, lacks}
-use Rattle.segment_dump.proofs.Succeeds.{succeeds-lacking, succeeds-made}
 use Rattle.segment_dump.proofs.loading.load_lines.Goals as goal
+use Rattle.segment_dump.proofs.{Common.length, Common.cause_in, Succeeds.succeeds-lacking, Succeeds.succeeds-made}
+use Rattle.segment_dump.proofs.Judged.{back-some, exact-done, exact-refused, lacking-made, lacking-refused, lacks}
 
 pub returns-in-Some-clause-completion : goal.returns-in-Some-clause-completion
 returns-in-Some-clause-completion c = record {

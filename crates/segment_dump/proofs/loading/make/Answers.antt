@@ -1,7 +1,6 @@
-use Rattle.segment_dump.proofs.Common.{length, refl}
-use Rattle.segment_dump.proofs.Judged.{back-some, judged, wrong-why}
-use Rattle.segment_dump.proofs.Succeeds.{good-judged, good-no_front, good-unbuilt, good-uncreated}
 use Rattle.segment_dump.proofs.loading.make.Goals as goal
+use Rattle.segment_dump.proofs.{Common.length, Common.refl, Judged.back-some, Judged.judged, Judged.wrong-why}
+use Rattle.segment_dump.proofs.Succeeds.{good-judged, good-no_front, good-unbuilt, good-uncreated}
 
 pub returns-in-Err-clause-completion : goal.returns-in-Err-clause-completion
 returns-in-Err-clause-completion c =

@@ -1,6 +1,5 @@
-use Rattle.segment_dump.proofs.Common.{length}
-use Rattle.segment_dump.proofs.Succeeds.{all-made, named-refused, unique-refused}
 use Rattle.segment_dump.proofs.loading.make_objects.Goals as goal
+use Rattle.segment_dump.proofs.{Common.length, Succeeds.all-made, Succeeds.named-refused, Succeeds.unique-refused}
 
 pub returns-in-Err : goal.returns-in-Err
 returns-in-Err c =

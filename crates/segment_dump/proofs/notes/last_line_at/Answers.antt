@@ -1,6 +1,5 @@
-use Rattle.segment_dump.proofs.Common.{ap, ◌==◌, arith}
-use Rattle.segment_dump.proofs.NoteLines.{last-byte, starts-at}
 use Rattle.segment_dump.proofs.notes.last_line_at.Goals as goal
+use Rattle.segment_dump.proofs.{Common.ap, Common.◌==◌, Common.arith, NoteLines.last-byte, NoteLines.starts-at}
 
 pub bytes-init : goal.bytes-init
 bytes-init c = (

@@ -1,12 +1,9 @@
-use Rattle.segment_dump.proofs.Common.{◌≡◌, ◌≤◌, length, sym, ap, subst, ◌∙◌, Directory, SaysAt, SegmentState}
-use Rattle.segment_dump.proofs.Common.{DenotesCurrent}
-use Rattle.segment_dump.proofs.Common.{WritesOf, where_anonymous, parts_until}
-use Rattle.std.proofs.Common.{rules}
-use Rattle.segment_dump.proofs.Members.{all-objects, said-of}
-use Rattle.segment_dump.proofs.Owed.{of-same, of-start}
-use Rattle.segment_dump.proofs.PartLines.{well}
-use Rattle.segment_dump.proofs.Sections.{anonymous-filtered, object_at_place, places-all, places-cut, places-more}
 use Rattle.segment_dump.proofs.objects.put_anonymous.Goals as goal
+use Rattle.segment_dump.proofs.Common.{◌≡◌, ◌≤◌, length, sym, ap, subst, ◌∙◌, Directory, SaysAt, SegmentState}
+use Rattle.segment_dump.proofs.Common.{DenotesCurrent, WritesOf, where_anonymous, parts_until}
+use Rattle.std.proofs.Common.{rules}
+use Rattle.segment_dump.proofs.{Members.all-objects, Members.said-of, Owed.of-same, Owed.of-start, PartLines.well}
+use Rattle.segment_dump.proofs.Sections.{anonymous-filtered, object_at_place, places-all, places-cut, places-more}
 
 pub objects-init : goal.objects-init
 objects-init g c =
@@ -55,8 +52,7 @@ objects-preserved g c =
     d.objects) in
     let at : SaysAt s (λ (d : Directory). d.objects) walk.at c.in-Some.said =
     subst (λ (t : SegmentState). SaysAt t (λ (d : Directory). d.objects) walk.at c.in-Some.said)
-    c.objects.invariant.segment
-    steps.says in
+    c.objects.invariant.segment steps.says in
     record {
       can = tt;
       finite = tt;

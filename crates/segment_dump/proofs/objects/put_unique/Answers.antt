@@ -1,9 +1,7 @@
-use Rattle.segment_dump.proofs.Common.{arith, unique_objects}
-use Rattle.segment_dump.proofs.Elements.{unique-is}
-use Rattle.segment_dump.proofs.Members.{all-unique, said-of}
-use Rattle.segment_dump.proofs.Owed.{of-start}
-use Rattle.segment_dump.proofs.Sections.{object_at_place, places-all, places-cut, places-more}
 use Rattle.segment_dump.proofs.objects.put_unique.Goals as goal
+use Rattle.segment_dump.proofs.Common.{arith, unique_objects}
+use Rattle.segment_dump.proofs.{Elements.unique-is, Members.all-unique, Members.said-of, Owed.of-start}
+use Rattle.segment_dump.proofs.Sections.{object_at_place, places-all, places-cut, places-more}
 
 pub unique_instance-requires : goal.unique_instance-requires
 unique_instance-requires g c = record {

@@ -1,7 +1,6 @@
-use Rattle.segment_dump.proofs.Common.{◌≡◌, ◌++◌, length, ap, ◌∙◌, refl, arith, parts_until, piece_line, pieces_in}
-use Rattle.segment_dump.proofs.Owed.{writes_none}
-use Rattle.segment_dump.proofs.PartLines.{part-cut, part-told}
 use Rattle.segment_dump.proofs.texts.put_all_pieces.Goals as goal
+use Rattle.segment_dump.proofs.Common.{◌≡◌, ◌++◌, length, ap, ◌∙◌, refl, arith, parts_until, piece_line, pieces_in}
+use Rattle.segment_dump.proofs.{Owed.writes_none, PartLines.part-cut, PartLines.part-told}
 
 pub pieces-init : goal.pieces-init
 pieces-init g c = writes_none (g.W.Sink.history c.args.out.now) 0 (parts_until (piece_line c.args.text.now) 0) refl
@@ -16,8 +15,7 @@ returns-in_err-put_piece g c =
 pub pieces-preserved : goal.pieces-preserved
 pieces-preserved g c =
     part-told (piece_line c.args.text.now) (g.W.Sink.history c.args.out.now) (g.W.Sink.history c.pieces.out)
-    (g.W.Sink.history c.put_piece.new.out) c.pieces.index c.pieces.invariant
-    _ c.in_ok-put_piece.ensures
+    (g.W.Sink.history c.put_piece.new.out) c.pieces.index c.pieces.invariant _ c.in_ok-put_piece.ensures
 
 pub returns : goal.returns
 returns g c =

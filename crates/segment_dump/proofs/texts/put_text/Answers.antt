@@ -11,5 +11,4 @@ pub returns : goal.returns
 returns g c =
     writes-then (g.W.Sink.history c.args.out.now) (g.W.Sink.history c.put_length.new.out)
     (g.W.Sink.history c.put_all_pieces.new.out) _ c.put_all_pieces.result (length_text (length c.args.text.now))
-    (pieces_text c.args.text.now)
-    c.in_ok-put_length.ensures c.put_all_pieces.ensures
+    (pieces_text c.args.text.now) c.in_ok-put_length.ensures c.put_all_pieces.ensures

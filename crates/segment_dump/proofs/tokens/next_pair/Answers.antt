@@ -14,8 +14,7 @@ pub returns-in_err-value : goal.returns-in_err-value
 returns-in_err-value c =
     pair-no_value c.wholes_are_decimals.ensures c.args.keys c.args.values c.args.lines.now c.next_line.new.self
     c.in_ok-words.words c.next_value.new.self c.next_value-2.new.self c.in_ok-key.key c.in_ok-words.ensures
-    c.in_ok-key.ensures _
-    c.from_residual-in_err-value.result c.in_err-value.ensures
+    c.in_ok-key.ensures _ c.from_residual-in_err-value.result c.in_err-value.ensures
 
 pub returns-in_err-finish : goal.returns-in_err-finish
 returns-in_err-finish c =
@@ -28,5 +27,4 @@ pub returns : goal.returns
 returns c =
     pair-some c.wholes_are_decimals.ensures c.args.keys c.args.values c.args.lines.now c.next_line.new.self
     c.in_ok-words.words c.next_value.new.self c.next_value-2.new.self c.in_ok-key.key c.in_ok-words.ensures
-    c.in_ok-key.ensures c.in_ok-value.value
-    c.in_ok-value.ensures
+    c.in_ok-key.ensures c.in_ok-value.value c.in_ok-value.ensures

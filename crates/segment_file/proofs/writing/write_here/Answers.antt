@@ -1,7 +1,7 @@
 use Rattle.segment_file.proofs.Written.{written_here}
 use Rattle.segment_file.proofs.writing.write_here.Goals as goal
 
-pub returns-in-Ok : goal.returns-in-Ok
-returns-in-Ok g c = written_here g.D.Disk.step c.args.disk.now c.create.new.self c.fill.new.disk c.args.path.now
+pub returns : goal.returns
+returns g c = written_here g.D.Disk.step c.args.disk.now c.create.new.self c.fill.new.disk c.args.path.now
     c.args.segment.now.cut.bytes c.args.how c.requires
-    c.in-Ok.ensures.request c.fill.result c.fill.ensures
+    c.in_ok-writer.ensures.request c.fill.result c.fill.ensures

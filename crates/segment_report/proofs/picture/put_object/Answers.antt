@@ -9,10 +9,10 @@ use Rattle.segment_report.proofs.picture.put_object.Goals as goal
 pub returns : goal.returns
 returns g c =
     let s = c.args.segment.now in
-    let said = c.instance_here.result in
+    let said = c.instance_here-said.result in
     let row = c.args.scale.row in
     tells-text s (g.W.Sink.history c.args.out.now) (g.W.Sink.history c.put_label.new.out) c.put_label.result
     (label_text row c.args.from c.args.len (called said.class said.name.now said.handle) said.kind)
     (λ (d : Directory). object_label row c.args.from c.args.len (object_at d (ByHandle (c.args.from + 16))))
     c.put_label.ensures
-    (label-said s row c.args.from c.args.len (c.args.from + 16) said c.instance_here.ensures)
+    (label-said s row c.args.from c.args.len (c.args.from + 16) said c.instance_here-said.ensures)

@@ -1,6 +1,5 @@
 -- What the object of the key has under its handle it has under the key.
 use Rattle.std.proofs.Common.{length}
-use Rattle.seg_types.specs.Keys.{key_seen}
 use Rattle.segment_manager.proofs.Laws.{located-here}
 use Rattle.segment_values.specs.Ranges.{read_into}
 use Rattle.segment_values.proofs.RangeReads.{reads-by_key}
@@ -8,11 +7,11 @@ use Rattle.segment_values.proofs.reads.read_elements.Goals as goal
 
 pub read_object-requires : goal.read_object-requires
 read_object-requires g c =
-    located-here c.args.segment.now (key_seen c.args.key.now) c.in_ok-object.object c.in_ok-object.ensures
+    located-here c.args.segment.now (g.O.ObjectRef.key c.args.key.now) c.in_ok-object.object c.in_ok-object.ensures
 
 pub returns-clause-read : goal.returns-clause-read
 returns-clause-read g c =
-    reads-by_key c.args.segment.now (key_seen c.args.key.now) c.in_ok-object.object c.in_ok-object.ensures
+    reads-by_key c.args.segment.now (g.O.ObjectRef.key c.args.key.now) c.in_ok-object.object c.in_ok-object.ensures
     g.T.Scalar.kind c.args.first (length c.args.row.now)
     (read_into g.T.Scalar.whole c.read_object.new.row c.read_object.result)
     c.read_object.ensures.read

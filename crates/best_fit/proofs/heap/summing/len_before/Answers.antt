@@ -3,9 +3,9 @@ use Rattle.best_fit.proofs.Common.{◌≡◌, false, Bool, IsTrue, ◌+◌, ◌-
 use Rattle.best_fit.proofs.Common.{false≢true, bytes_of, word_at, Tile, tile_at, tile_is_read_off}
 use Rattle.best_fit.proofs.Common.{is_gap_node-GapNode, tiles_in}
 use Rattle.best_fit.proofs.GapFacts.{node_at, node_len}
-use Rattle.best_fit.proofs.heap.summing.len_before.Goals.{then-node-lt-TAG_LEN-via-then-node-lt-TAG_LEN}
-use Rattle.best_fit.proofs.heap.summing.len_before.Goals.{then-node-lt-TAG_LEN-via-else-node-lt-TAG_LEN+then-not-in_range}
 use Rattle.best_fit.proofs.heap.summing.len_before.Goals as goal
+use goal.{then-node-lt-TAG_LEN-via-then-node-lt-TAG_LEN}
+use goal.{then-node-lt-TAG_LEN-via-else-node-lt-TAG_LEN+then-not-in_range}
 
 pub returns-then-node-lt-TAG_LEN : goal.returns-then-node-lt-TAG_LEN
 returns-then-node-lt-TAG_LEN c = λ node.

@@ -6,17 +6,17 @@ use Rattle.image_check.proofs.Renewed.{heap-legal, heap-tags, later-heap, rebuil
 use Rattle.image_check.proofs.image_window.renewing.as_heap.Goals as goal
 
 pub rebuild-requires-clause-size : goal.rebuild-requires-clause-size
-rebuild-requires-clause-size c = heap-legal c.args.format c.args.window.bytes c.requires.heap
+rebuild-requires-clause-size c = heap-legal c.args.format c.args.window.bytes c.requires
 
 pub rebuild-requires-clause-tags : goal.rebuild-requires-clause-tags
-rebuild-requires-clause-tags c = heap-tags c.args.format c.args.window.bytes c.if-format-eq0.true c.requires.heap
+rebuild-requires-clause-tags c = heap-tags c.args.format c.args.window.bytes c.if-format-eq0.true c.requires
 
-pub adopt_noted-requires-clause-heap : goal.adopt_noted-requires-clause-heap
-adopt_noted-requires-clause-heap c =
-    later-heap c.args.format c.args.window.bytes (let some = c.if-format-eq0.false in omega arith) c.requires.heap
+pub adopt_without_hints-requires : goal.adopt_without_hints-requires
+adopt_without_hints-requires c =
+    later-heap c.args.format c.args.window.bytes (let some = c.if-format-eq0.false in omega arith) c.requires
 
 pub returns-else-format-eq0-clause-changes : goal.returns-else-format-eq0-clause-changes
 returns-else-format-eq0-clause-changes c =
-    subst (λ (v : WindowState). RebuildsFreeTree current c.args.window v) (sym c.adopt_noted.ensures)
+    subst (λ (v : WindowState). RebuildsFreeTree current c.args.window v) (sym c.adopt_without_hints.ensures)
     (rebuilt-same c.args.window (later-heap c.args.format c.args.window.bytes (let some = c.if-format-eq0.false
-    in omega arith) c.requires.heap))
+    in omega arith) c.requires))

@@ -1,18 +1,16 @@
 -- In the block that the index has the links behind the place make way; in that of the growth they are put round the new
 -- one, and then the block is the index's.
+use Rattle.seg_index.proofs.index.Index.add.Goals as goal
 use Rattle.seg_index.proofs.{◌≡◌, ap, ap₂, refl, sym, subst, ◌∙◌, ℕ, ◌+◌, ◌-◌, ◌*◌, ◌%◌, ◌<◌, Option, IfSome, List}
 use Rattle.seg_index.proofs.{arith, insert, length-insert, current, LiveSet, EncodesLiveSet, IsBlockFor, without_link}
 use Rattle.seg_index.proofs.{IsIndexOf, block_and_count, capacity_at, filled, gaps_kept, grown_capacity, has_places}
 use Rattle.seg_index.proofs.{in_header, index_in, insert_all, inserted, links_lead, offer, place_of, same_live, source}
 use Rattle.seg_index.proofs.{target, written, written_both, written_keeps, ChangesBytes, Offer, Placed, bytes_of}
-use Rattle.seg_index.proofs.{link_at}
-use Rattle.seg_index.proofs.{added-sorted, aligned, beside-stays, extent_at, inl, inr, keeps-sorted, live_of}
-use Rattle.seg_index.proofs.{moved-stays}
-use Rattle.seg_index.proofs.{none-some, unlinked}
+use Rattle.seg_index.proofs.{link_at, added-sorted, aligned, beside-stays, extent_at, inl, inr, keeps-sorted, live_of}
+use Rattle.seg_index.proofs.{moved-stays, none-some, unlinked}
 use Rattle.best_fit.proofs.Laws.{lay_out_one}
 use Rattle.best_fit.specs.Table.{BackingArray as ATable}
 use Rattle.seg_index.specs.{Growth.AddKeeps, Growth.AddsEntry, Growth.CanGrow, Growth.grown_live, Held.entry_count}
-use Rattle.seg_index.proofs.index.Index.add.Goals as goal
 use Rattle.seg_index.proofs.index.Index.add.Goals.{After-unwrap_or-block, After-unwrap_or-from, After-spread-in-Some}
 
 -- there are places left in the block that the index has
@@ -31,8 +29,7 @@ spread-requires-clause-links c =
     let q = c.requires.entry in
     let p = had (goal.at.spread-requires-clause-links c).After-unwrap_or-block q.index.index in
     links_lead c.unwrap_or-block.result c.args.place (c.len-count.result - c.args.place) q.handles
-    p.links
-    q.index.index.whole (omega arith)
+    p.links q.index.index.whole (omega arith)
 
 pub spread-requires-clause-handle : goal.spread-requires-clause-handle
 spread-requires-clause-handle c = aligned c.requires.entry
@@ -42,8 +39,7 @@ returns-in-None-clause-index c = λ t hs i.
     let A = c.args.heap.now in let at = place_of c.args.self in
     let v = (goal.at.returns-in-None-clause-index c).After-unwrap_or-block in let left = few v in let p = had v i in
     subst (λ b. AddsEntry A c.set_header_word.new.self at t (insert hs c.args.place c.args.handle) b)
-    (sym c.in-None.is)
-    (inserted p (in_header c.args.self) (c.len-count.ensures.len t hs i) (omega arith) (omega arith)
+    (sym c.in-None.is) (inserted p (in_header c.args.self) (c.len-count.ensures.len t hs i) (omega arith) (omega arith)
     (aligned c.requires.entry)
     c.spread.ensures.changes c.spread.ensures.in_place c.spread.ensures.tail c.header_offset-in-None.ensures
     c.set_header_word.ensures.changes c.set_header_word.ensures.word)
@@ -84,8 +80,7 @@ given : (c : After-unwrap_or-from) {t : ATable} {hs : List ℕ} → IsIndexOf c.
 given c i =
     let g = subst (λ b. CanGrow c.args.heap.now (place_of c.args.self) b) c.in-Some.is c.requires.growth in
     offer (in_header c.args.self) c.header_offset-in-Some.ensures c.header_link-in-Some.ensures
-    c.unwrap_or-from.ensures g.0 g.1
-    i
+    c.unwrap_or-from.ensures g.0 g.1 i
 
 -- all that is written in it
 all : (c : After-spread-in-Some) → ChangesBytes current c.args.heap.now c.spread-in-Some.new.heap (c.in-Some.block + 0)
@@ -182,8 +177,7 @@ returns-in-None-clause-order c =
     let q = c.requires.entry.index.index in let p = had v q in
     let live = same_live c.set_header_word.ensures.changes ∙ same_live c.spread.ensures.changes in
     keeps-sorted (beside-stays q (block_and_count p (in_header c.args.self) (8 * c.args.place)
-    c.spread.ensures.changes
-    (omega arith) c.header_offset-in-None.ensures c.set_header_word.ensures.changes)
+    c.spread.ensures.changes (omega arith) c.header_offset-in-None.ensures c.set_header_word.ensures.changes)
     (λ h x f other. ap (λ (l : LiveSet). extent_at l h) live ∙ f))
 
 pub returns-in-None-clause-sorted : goal.returns-in-None-clause-sorted

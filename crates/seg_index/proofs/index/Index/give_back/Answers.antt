@@ -1,9 +1,8 @@
 -- What was taken goes back.
-use Rattle.seg_index.proofs.{ℕ, sym, subst, Option, IfSome, current, WindowState, AllocatesOk, KeepsBlocks}
-use Rattle.seg_index.proofs.{EncodesLiveSet, live_of}
-use Rattle.seg_index.proofs.{IndexRole}
-use Rattle.best_fit.proofs.Laws.{taken-back}
 use Rattle.seg_index.proofs.index.Index.give_back.Goals as goal
+use Rattle.seg_index.proofs.{ℕ, sym, subst, Option, IfSome, current, WindowState, AllocatesOk, KeepsBlocks}
+use Rattle.seg_index.proofs.{EncodesLiveSet, live_of, IndexRole}
+use Rattle.best_fit.proofs.Laws.{taken-back}
 
 pub returns-in-Some-clause-unchanged : goal.returns-in-Some-clause-unchanged
 returns-in-Some-clause-unchanged c =

@@ -4,8 +4,7 @@ use Rattle.seg_index.proofs.index.Index.init.Goals as goal
 
 pub returns : goal.returns
 returns c =
-    let w = headed c.header_offset-place.ensures c.set_header_link.ensures.changes
-    c.set_header_link.ensures.link_target
+    let w = headed c.header_offset-place.ensures c.set_header_link.ensures.changes c.set_header_link.ensures.link_target
     c.set_header_word.ensures.changes c.set_header_word.ensures.word c.set_header_word-2.ensures.changes
     c.set_header_word-2.ensures.word in
     record {

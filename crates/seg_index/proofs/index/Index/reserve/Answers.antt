@@ -25,8 +25,7 @@ pub shift_non_null_links-requires : goal.shift_non_null_links-requires
 shift_non_null_links-requires c =
     let q = c.requires.index in let count = c.len-count.result in
     let o = taken_offer (in_header c.args.self) c.in_ok-block.ensures.answer c.saturating_mul.ensures
-    c.header_offset.ensures
-    c.header_link.ensures c.unwrap_or-from.ensures q.index in
+    c.header_offset.ensures c.header_link.ensures c.unwrap_or-from.ensures q.index in
     let s = source o in
     record {
       from_aligned = refl;
@@ -40,8 +39,7 @@ pub settle-requires : goal.settle-requires
 settle-requires c =
     let q = c.requires.index in
     let o = taken_offer (in_header c.args.self) c.in_ok-block.ensures.answer c.saturating_mul.ensures
-    c.header_offset.ensures
-    c.header_link.ensures c.unwrap_or-from.ensures q.index in
+    c.header_offset.ensures c.header_link.ensures c.unwrap_or-from.ensures q.index in
     let p = written o c.shift_non_null_links.ensures.changes (omega arith) in
     record {
       heap = p.index.heap;
@@ -58,8 +56,7 @@ returns c =
     let al = c.in_ok-block.ensures.answer in let w = in_header c.args.self in
     let one = c.shift_non_null_links.ensures.changes in let k = meant n q.index.heap al c.saturating_mul.ensures in
     let o = taken_offer w al c.saturating_mul.ensures c.header_offset.ensures c.header_link.ensures
-    c.unwrap_or-from.ensures
-    q.index in
+    c.unwrap_or-from.ensures q.index in
     let long = c.len-count.ensures.len q.table q.handles o.index in
     let few : 8 * c.len-count.result ≤ 8 * n = omega arith in
     let p = written o one few in let same = o.index.stands.link ∙ sym q.index.stands.link in
@@ -67,8 +64,7 @@ returns c =
     same_live one ∙ allocated-live current A B c.saturating_mul.result IndexRole h al in
     let keeps = taken_keeps w al same (written_keeps o one few c.settle.ensures.frame) in
     let laid = subst (λ (l : LiveSet).
-    EncodesLiveSet current E.bytes l) (ap₂ without_link live (p.leads ∙ sym o.leads ∙ same))
-    c.settle.ensures.live in
+    EncodesLiveSet current E.bytes l) (ap₂ without_link live (p.leads ∙ sym o.leads ∙ same)) c.settle.ensures.live in
     let before_live = allocated-live current A B c.saturating_mul.result IndexRole h al in
     let now = lay_out_one current E.bytes (without_link (added (live_of A.bytes) al.extent)
     (link_at (bytes_of A.bytes) at)) laid in

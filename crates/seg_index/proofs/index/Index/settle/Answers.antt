@@ -1,10 +1,9 @@
 -- The words lead to the block, and the old one goes.
+use Rattle.seg_index.proofs.index.Index.settle.Goals as goal
 use Rattle.seg_index.proofs.{◌≡◌, ap, sym, subst, ◌∙◌, ◌+◌, ◌≤◌, arith, current, LiveSet, released, EncodesLiveSet}
 use Rattle.seg_index.proofs.{heap_touches, live_of, KeepsOutsideIndex, unlinked, without_link, place_of, same_live}
-use Rattle.seg_index.proofs.{in_header}
-use Rattle.seg_index.proofs.{leads_from, keeps_words, block_whole, gone, headed, headed_released_keeps, settled}
-use Rattle.seg_index.proofs.{settled_released, ℕ, ◌<◌, Option, IfSome, none-some, refl}
-use Rattle.seg_index.proofs.index.Index.settle.Goals as goal
+use Rattle.seg_index.proofs.{in_header, leads_from, keeps_words, block_whole, gone, headed, headed_released_keeps}
+use Rattle.seg_index.proofs.{settled, settled_released, ℕ, ◌<◌, Option, IfSome, none-some, refl}
 
 pub set_header_link-requires-clause-target : goal.set_header_link-requires-clause-target
 set_header_link-requires-clause-target c = block_whole c.requires.heap c.requires.block
@@ -12,8 +11,7 @@ set_header_link-requires-clause-target c = block_whole c.requires.heap c.require
 pub returns-in-Some : goal.returns-in-Some
 returns-in-Some c =
     let A = c.args.heap.now in
-    let w = headed c.header_offset-place.ensures c.set_header_link.ensures.changes
-    c.set_header_link.ensures.link_target
+    let w = headed c.header_offset-place.ensures c.set_header_link.ensures.changes c.set_header_link.ensures.link_target
     c.set_header_word.ensures.changes c.set_header_word.ensures.word c.set_header_word-2.ensures.changes
     c.set_header_word-2.ensures.word in
     let leads = leads_from A c.header_offset-place.ensures c.header_link-old.ensures c.in-Some.is in

@@ -1,8 +1,7 @@
 -- The block goes, or is cut.
-use Rattle.seg_index.proofs.{ap, sym, ◌∙◌, WindowState, live_of, same_live, in_header, leads_from, placed, emptied}
-use Rattle.seg_index.proofs.{shrunk_bare}
-use Rattle.seg_index.proofs.{shrunk_empty, shrunk_short}
 use Rattle.seg_index.proofs.index.Index.shrink.Goals as goal
+use Rattle.seg_index.proofs.{ap, sym, ◌∙◌, WindowState, live_of, same_live, in_header, leads_from, placed, emptied}
+use Rattle.seg_index.proofs.{shrunk_bare, shrunk_empty, shrunk_short}
 
 pub returns-in_default-clause-shrinking : goal.returns-in_default-clause-shrinking
 returns-in_default-clause-shrinking c = λ t hs i. shrunk_bare i
@@ -11,8 +10,7 @@ returns-in_default-clause-shrinking c = λ t hs i. shrunk_bare i
 
 pub returns-then-count-eq0-clause-shrinking : goal.returns-then-count-eq0-clause-shrinking
 returns-then-count-eq0-clause-shrinking c = λ t hs i.
-    let w = emptied c.header_offset-place.ensures c.set_header_word.ensures.changes
-    c.set_header_word.ensures.word
+    let w = emptied c.header_offset-place.ensures c.set_header_word.ensures.changes c.set_header_word.ensures.word
     c.set_header_link.ensures.changes c.set_header_link.ensures.link_target c.len-count.ensures.word
     c.if-count-eq0.true in
     let leads = leads_from c.args.heap.now c.header_offset-place.ensures c.header_link.ensures c.in-Some.is in

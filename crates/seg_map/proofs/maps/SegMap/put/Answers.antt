@@ -26,8 +26,7 @@ link_pair-requires g c =
     let none : c.find_for_put-trace.result.node ≡ None = cc in
     let s = c.requires.1 in let absent = key_absent c.find_for_put-trace.ensures.search s none in
     can_put_in (laws g.met.K.Plain) (laws g.met.V.Plain) s absent c.in_ok-node.ensures.creation
-    c.find_for_put-trace.ensures.root
-    (c.find_for_put-trace.ensures.entry c.requires.0 s)
+    c.find_for_put-trace.ensures.root (c.find_for_put-trace.ensures.entry c.requires.0 s)
 
 pub returns-clause-effect : goal.returns-clause-effect
 returns-clause-effect g c =

@@ -10,8 +10,7 @@ pub remove_at-changed-requires : goal.remove_at-changed-requires
 remove_at-changed-requires g c =
     let q = c.requires in let lent = c.lend-pairs.ensures in
     let r = can_unlink (laws g.met.K.Plain) c.args.heap.now q.map c.requires.leads q.key q.found q.is
-    c.args.trace.now.start
-    q.begins in
+    c.args.trace.now.start q.begins in
     rw (lent.ownership, lent.heap) (record { root = r.tree.leads; tree = (r.shape, r.tree.tree, r.listed, r.begins) })
 
 -- what is known of the nodes is known of the heap

@@ -55,7 +55,6 @@ returns c bytes t v =
     let wanted = text-wanted bytes c.args.bytes.now c.capacity_for_text-wanted.ensures (c.len.ensures bytes t v)
     (c.capacity.ensures bytes t v) in
     let grown = subst (λ n. ReservesStorageOk c.args.heap.now c.reserve.new.heap c.args.self.place 1 n
-    (length bytes) t bytes)
-    wanted (c.in_ok-reserve.ensures (length bytes) t bytes v) in
+    (length bytes) t bytes) wanted (c.in_ok-reserve.ensures (length bytes) t bytes v) in
     text-grown-then v grown
     (text-extended c.reserve.new.heap c.extend.new.heap grown.stands c.args.bytes.now c.extend.ensures)

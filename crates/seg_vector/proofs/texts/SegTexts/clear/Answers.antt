@@ -1,11 +1,10 @@
 -- The texts are released, as many as the array has elements, and then the length is written.
-use Rattle.seg_vector.proofs.{[], ◌+◌, ◌∙◌, arith, sym, subst, List, WindowState, live_of, room-less, head-room}
-use Rattle.seg_vector.proofs.{cleared}
+use Rattle.seg_vector.proofs.texts.SegTexts.clear.Goals as goal
+use Rattle.seg_vector.proofs.{◌+◌, ◌∙◌, arith, sym, subst, List, WindowState, live_of, room-less, head-room, cleared}
 use Rattle.seg_vector.proofs.{head-after, held-elements, none-left, released-nothing, text_blocks, FreesBlocks, IsTexts}
 use Rattle.seg_vector.proofs.{OwnedText}
 use Rattle.best_fit.specs.Table.{BackingArray as ATable}
 use Rattle.seg_vector.proofs.texts.SegTexts.clear.Goals.{in-Some, in_default, Joined-link_of}
-use Rattle.seg_vector.proofs.texts.SegTexts.clear.Goals as goal
 
 pub release_texts-requires : goal.release_texts-requires
 release_texts-requires c =

@@ -1,8 +1,8 @@
 -- The text is placed, the one before is released, and then the element is written.
-use Rattle.seg_vector.proofs.texts.SegTexts.set.Goals.{After-release_text, In-Some, In_ok-block}
+use Rattle.seg_vector.proofs.texts.SegTexts.set.Goals as goal
+use Rattle.seg_vector.proofs.texts.SegTexts.set.Goals.{After-release_text, In_ok-block}
 use Rattle.seg_vector.proofs.{sym, refl, ◌∙◌, ◌+◌, ◌*◌, arith, length, live_of, left, no-array, none-left, room-less}
 use Rattle.seg_vector.proofs.{text-set, texts-still, has-element, text-even, IsTexts, IsArrayLeft}
-use Rattle.seg_vector.proofs.texts.SegTexts.set.Goals as goal
 
 -- the new text has a block, and the vector is what it was
 still : (c : In_ok-block) → IsTexts c.place_text.new.heap.bytes c.args.self.place c.requires.0 c.requires.1.0

@@ -1,9 +1,8 @@
 -- The storage grows, and then the values are put in behind the others.
-use Rattle.seg_vector.proofs.{◌+◌, ◌≤◌, arith, length, subst, live_of, ReservesStorageOk, IsVector}
-use Rattle.seg_vector.proofs.{enough-for-more, few-places, flat_map, grown-of, grown-then}
-use Rattle.seg_vector.proofs.{table-places, too-many, wanted-for-more}
-use Rattle.seg_vector.specs.Vector.{capacity_for_more}
 use Rattle.seg_vector.proofs.vectors.SegVec.extend.Goals as goal
+use Rattle.seg_vector.proofs.{arith, length, subst, live_of, ReservesStorageOk, IsVector, enough-for-more, extended-now}
+use Rattle.seg_vector.proofs.{few-places, flat_map, grown-of, grown-then, refl, table-places, too-many, wanted-for-more}
+use Rattle.seg_vector.specs.Vector.{capacity_for_more}
 
 pub returns-then-more-gt-MAX_SEGMENT_LEN : goal.returns-then-more-gt-MAX_SEGMENT_LEN
 returns-then-more-gt-MAX_SEGMENT_LEN g c xs t v =
@@ -27,8 +26,15 @@ capacity_for_more-wanted-requires-clause-repeat g c =
     let v = c.requires.1.1 in let few = few-places c.args.heap.now g.met.T.Plain.sizes.0 v in
     omega (arith, few.1, c.capacity.ensures c.requires.0 c.requires.1.0 v)
 
-pub put_all-requires : goal.put_all-requires
-put_all-requires g c =
+pub put_behind-requires-clause-container : goal.put_behind-requires-clause-container
+put_behind-requires-clause-container g c =
+    let xs = c.requires.0 in
+    let grown = grown-of c.args.heap.now c.reserve.new.heap c.SIZE.ensures c.requires.1.1
+    (λ len capacity. c.capacity_for_more-wanted.result) (λ n u bytes s. c.in_ok-reserve.ensures n u bytes s) in
+    (length xs, (grown.table, (flat_map g.T.Plain.spelling xs, grown.stands)))
+
+pub put_behind-requires-clause-space : goal.put_behind-requires-clause-space
+put_behind-requires-clause-space g c =
     let xs = c.requires.0 in let t = c.requires.1.0 in let v = c.requires.1.1 in
     let more = length c.args.values.now in
     let wanted = wanted-for-more more c.capacity_for_more-wanted.ensures (c.len.ensures xs t v)
@@ -38,7 +44,8 @@ put_all-requires g c =
     let places = table-places (live_of c.args.heap.now.bytes) g.T.Plain.SIZE c.capacity_for_more-wanted.result t
     grown.grown in
     let enough = enough-for-more (length xs) more t.capacity in
-    (xs, (grown.table, (record { stands = grown.stands; values = v.values }, omega (arith, places, wanted, enough))))
+    let words = grown.stands.words in
+    omega (arith, places, wanted, enough, words.len_word, words.capacity)
 
 pub returns : goal.returns
 returns g c xs t v =
@@ -48,9 +55,7 @@ returns g c xs t v =
     let grown = subst (λ n. ReservesStorageOk A B c.args.self.place g.T.Plain.SIZE n (length xs) t
     (flat_map g.T.Plain.spelling xs)) wanted (grown-of A B c.SIZE.ensures v
     (λ len capacity. c.capacity_for_more-wanted.result) (λ n u bytes s. c.in_ok-reserve.ensures n u bytes s)) in
-    let places = table-places (live_of A.bytes) g.T.Plain.SIZE (capacity_for_more (length xs) more t.capacity) t
-    grown.grown in
-    let enough = enough-for-more (length xs) more t.capacity in
     let mid : IsVector g.T.Plain.SIZE g.T.Plain.is_value g.T.Plain.spelling B.bytes c.args.self.place xs grown.table =
     record { stands = grown.stands; values = v.values } in
-    grown-then v grown (c.put_all.ensures xs grown.table mid (omega (arith, places, enough)))
+    grown-then v grown (extended-now B c.put_behind.new.heap refl mid c.args.values.now c.put_behind.ensures.values
+    c.put_behind.ensures.effect)

@@ -1,4 +1,6 @@
 -- `closed` makes a handle that is null.
+use Rattle.segment_c.specs.contracts.segment_slot.HeldSegment.closed as f
+use Rattle.segment_c.proofs.segment_slot.HeldSegment.closed.Code as code
 use Rattle.std.proofs.Common.{◌≡◌, List, [], ◌∷◌, ◌++◌, refl, sym, subst}
 use mir.Val.{Val}
 use base.Logic.{SProp, ent, emp, id⊢}
@@ -15,16 +17,12 @@ use denote.Signature.{types_at, plain}
 use denote.RawPtr.{Ptr, null_ptr, ptr_val}
 use denote.Steps.{nothing}
 use denote.Triple.Walked.{Stays, stay_dropped, walk_of, Goes-dropped}
-use Rattle.std.proofs.alloc.Calls.{handle_tells}
-use Rattle.std.specs.declared.option.Option.{Option}
-use Rattle.std.specs.declared.option.Option.TheVariants.{None}
-use Rattle.std.proofs.raw_atomic.Walks.{proved_at, leaves}
+use Rattle.std.proofs.{alloc.Calls.handle_tells, raw_atomic.Walks.proved_at, raw_atomic.Walks.leaves}
+use Rattle.std.specs.{declared.option.Option.Option, declared.option.Option.TheVariants.None}
 use Rattle.boxed.proofs.Values.{both}
 use Rattle.segment_c.proofs.HandleValues.{Z, al, null_good, handle_in}
 use Rattle.segment_manager.specs.contracts.Segment.{the_row as R}
-use Rattle.segment_c.specs.contracts.segment_slot.HeldSegment.closed as f
 use Rattle.segment_c.proofs.segment_slot.HeldSegment.closed.Statement.{statement}
-use Rattle.segment_c.proofs.segment_slot.HeldSegment.closed.Code as code
 
 abbrev hs : Stays f.ended.signature.params f.ended.kept
 hs = (stay_dropped _ f.ended.kept.0, tt)
@@ -40,8 +38,7 @@ closed_spec 𝓤 𝓛 𝓜 𝓡 wired =
     let none : Option R.Denot = None in let κs = z.0.0 in let a = z.0.3.0 in let Post : Val → SProp 𝓤 =
     (walk_of 𝓛 En hs c).post z in let Run : List Val → SProp 𝓤 = λ ws. WpFn 𝓤 H 𝓣.C 𝓣.Λ fn ws Post in
     qed 𝓛 ((‵ ftrue ⊛ ‵ (owns (types_at En.signature.params κs) z.0.3 z.0.4)) ∷ raw ((c κs z.0.3).requires z.1)
-    ∷ []) ∵ split ! $ move ! (1 ∷ []) $ fsplit ! $
-    handle_tells al ! a z.0.4.0 (λ h ws fits.
+    ∷ []) ∵ split ! $ move ! (1 ∷ []) $ fsplit ! $ handle_tells al ! a z.0.4.0 (λ h ws fits.
     suffices ! (Run (h ∷ [])) (subst (λ (us : List Val).
     ent 𝓤 (Run (h ∷ [])) (Run us)) (sym (λ i. ws i ++ [])) (id⊢ 𝓤 (Run (h ∷ [])))) $
     enter ! 𝓣.C 𝓣.Λ fn (h ∷ []) Post $ alloc_all ! (λ l.

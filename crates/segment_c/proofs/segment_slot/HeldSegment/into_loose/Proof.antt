@@ -1,4 +1,7 @@
 -- `into_loose` tests the pointer.
+use Rattle.segment_c.specs.contracts.segment_slot.HeldSegment as handle
+use Rattle.segment_c.specs.contracts.segment_slot.HeldSegment.into_loose as f
+use Rattle.segment_c.proofs.segment_slot.HeldSegment.into_loose.Code as code
 use Rattle.std.proofs.Common.{◌≡◌, List, [], ◌∷◌, ◌++◌, refl, sym, ap, ◌∙◌, subst, lit<}
 use mir.Val.{Val, vptr, vcons, vnil}
 use base.Logic.{SProp, ent, emp, id⊢}
@@ -18,21 +21,14 @@ use denote.RawPtr.{Ptr, block_ptr, null_ptr, ptr_val, tests_null}
 use denote.Steps.{nothing}
 use denote.Param.{layout}
 use denote.Triple.Walked.{Stays, stay_dropped, walk_of}
-use Rattle.std.proofs.alloc.Calls.{Goes-blank}
-use Rattle.std.proofs.alloc.Shapes.{after}
-use Rattle.std.proofs.cell.Inside.{Good}
-use Rattle.std.proofs.option.Made.{Some-of, none_of}
-use Rattle.std.proofs.ResultValues.{and_tt}
+use Rattle.std.proofs.{alloc.Calls.Goes-blank, alloc.Shapes.after, cell.Inside.Good, option.Made.Some-of}
+use Rattle.std.proofs.{option.Made.none_of, ResultValues.and_tt, raw_atomic.Walks.proved_at, raw_atomic.Walks.leaves}
 use Rattle.std.specs.declared.option.Option.TheVariants.{None, Some}
 use Rattle.std.specs.contracts.impls.GlobalAllocator.TheImpl.{ghosts}
-use Rattle.std.proofs.raw_atomic.Walks.{proved_at, leaves}
 use Rattle.boxed.proofs.Values.{both, LooseRow, fits_pair, loose_made}
 use Rattle.segment_c.proofs.HandleValues.{Z, LZ, null_good, either, handle_out}
 use Rattle.segment_manager.specs.contracts.Segment.{the_row as R}
-use Rattle.segment_c.specs.contracts.segment_slot.HeldSegment as handle
-use Rattle.segment_c.specs.contracts.segment_slot.HeldSegment.into_loose as f
 use Rattle.segment_c.proofs.segment_slot.HeldSegment.into_loose.Statement.{statement}
-use Rattle.segment_c.proofs.segment_slot.HeldSegment.into_loose.Code as code
 
 abbrev hs : Stays f.ended.signature.params f.ended.kept
 hs = (stay_dropped _ f.ended.kept.0, tt)
@@ -52,8 +48,7 @@ into_loose_spec 𝓤 𝓛 𝓜 𝓡 wired =
     in let Run : List Val → SProp 𝓤 = λ ws. WpFn 𝓤 H 𝓣.C 𝓣.Λ fn ws Post in
     let Out : RattleType = type_at En.signature.result κs in
     qed 𝓛 ((‵ ftrue ⊛ ‵ (owns (types_at En.signature.params κs) z.0.3 z.0.4)) ∷ raw ((c κs z.0.3).requires z.1)
-    ∷ []) ∵ split ! $ move ! (1 ∷ []) $ fsplit ! $
-    handle_out ! v z.0.4.0 (λ h ws fits. either ! v.at a v.value
+    ∷ []) ∵ split ! $ move ! (1 ∷ []) $ fsplit ! $ handle_out ! v z.0.4.0 (λ h ws fits. either ! v.at a v.value
     (λ en ev. let w : Val = both (ptr_val null_ptr) h in let is = ws ∙ ap (λ (p : Ptr). both (ptr_val p) h ∷ []) en in
     suffices ! (Run (w ∷ [])) (subst (λ (us : List Val).
     ent 𝓤 (Run (w ∷ [])) (Run us)) (sym (λ i. is i ++ [])) (id⊢ 𝓤 (Run (w ∷ [])))) $
@@ -67,8 +62,7 @@ into_loose_spec 𝓤 𝓛 𝓜 𝓡 wired =
     use0 𝓛 (‵ (Out.own_val None (live 0 vnil ∷ []))) (none_of 𝓛 Lr) $ use0 𝓛 (raw (fact 𝓤 (v.value ≡ None)))
     (fact_i 𝓤 (v.value ≡ None) (emp 𝓤) ev) $ nothing ! $ nothing ! $ fjoin ! $
     returns_within ! Post refl (look_at ! 0 refl) $ free_all ! refl $ keep ! (5 ∷ 0 ∷ 2 ∷ 1 ∷ []) $ by !
-    (leaves 𝓛 En hs c z (live 0 vnil) None (tt, tt) (tt, tt)))
-    (λ wrong. absurd wrong)))
+    (leaves 𝓛 En hs c z (live 0 vnil) None (tt, tt) (tt, tt))) (λ wrong. absurd wrong)))
     (λ b o x e ev t. let w : Val = both (vptr b o) h in let typed = fits_pair R Z LZ ghosts b o h fits
     in let is = ws ∙ ap (λ (p : Ptr). both (ptr_val p) h ∷ []) e in let v₁ : Val = live 1 (vcons w vnil) in
     let good : Good (layout Out) v₁ = (and_tt _ typed.0, (record { fits = lit< tt }, (typed.1, tt))) in
@@ -91,6 +85,5 @@ into_loose_spec 𝓤 𝓛 𝓜 𝓡 wired =
     (‵ (Out.own_val (Some (record { at = block_ptr b o; alloc = a; value = x })) (v₁ ∷ [])))
     (Some-of 𝓛 Lr (record { at = block_ptr b o; alloc = a; value = x }) w) $
     use0 𝓛 (raw (fact 𝓤 (v.value ≡ Some x))) (fact_i 𝓤 (v.value ≡ Some x) (emp 𝓤) ev) $ nothing ! $ nothing ! $
-    fjoin ! $
-    returns ! (look_at ! 0 refl) $ free_all ! refl $ keep ! (4 ∷ 0 ∷ 2 ∷ 1 ∷ []) $ by !
+    fjoin ! $ returns ! (look_at ! 0 refl) $ free_all ! refl $ keep ! (4 ∷ 0 ∷ 2 ∷ 1 ∷ []) $ by !
     (leaves 𝓛 En hs c z v₁ (Some (record { at = block_ptr b o; alloc = a; value = x })) (tt, tt) (tt, tt)))))))

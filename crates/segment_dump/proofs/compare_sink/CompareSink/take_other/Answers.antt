@@ -20,5 +20,4 @@ pub returns-clause-bytes : goal.returns-clause-bytes
 returns-clause-bytes c =
     other-taken c.args.self.now c.self.inside.text.now c.args.bytes.now _ c.self.inside.at c.common-count.result
     c.self.inside.failures c.self.inside.other (sym c.self.view_is) c.requires c.split_at.ensures.back
-    c.common-count.ensures.unchanged
-    (omega (arith, c.if-count-bytes.false, c.common-count.ensures.peer))
+    c.common-count.ensures.unchanged (omega (arith, c.if-count-bytes.false, c.common-count.ensures.peer))

@@ -53,23 +53,20 @@ storage_run-requires-in-String-clause-room c =
 pub returns-in-Scalar : goal.returns-in-Scalar
 returns-in-Scalar c = λ o s.
     let said = c.requires.text o s in
-    scalars-read o s _ _ c.in-Scalar.kind o.value
-    (c.value_at-at.ensures ∙ ap value_in said)
+    scalars-read o s _ _ c.in-Scalar.kind o.value (c.value_at-at.ensures ∙ ap value_in said)
     (c.from.ensures ∙ ap (λ (q : Located). q.count) said) (sym c.in-Scalar.is ∙ ap (λ (q : Located). q.kind) said)
 
 pub returns-in-Vector : goal.returns-in-Vector
 returns-in-Vector c = λ o s.
     let said = c.requires.text o s in let read = c.storage_run.ensures in
-    vector-read o s _ c.in-Vector.kind _ o.value
-    (c.value_at-at.ensures ∙ ap value_in said)
+    vector-read o s _ c.in-Vector.kind _ o.value (c.value_at-at.ensures ∙ ap value_in said)
     (record { offset = read.offset; count = read.count; kind = read.kind })
     (sym c.in-Vector.is ∙ ap (λ (q : Located). q.kind) said) s.said.value
 
 pub returns-in-String : goal.returns-in-String
 returns-in-String c = λ o s.
     let said = c.requires.text o s in let read = c.storage_run-in-String.ensures in
-    string-read o s _ _ o.value
-    (c.value_at-at.ensures ∙ ap value_in said)
+    string-read o s _ _ o.value (c.value_at-at.ensures ∙ ap value_in said)
     (record { offset = read.offset; count = read.count; kind = read.kind })
     (sym c.in-String.is ∙ ap (λ (q : Located). q.kind) said) s.said.value
 

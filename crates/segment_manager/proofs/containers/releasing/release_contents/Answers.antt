@@ -1,10 +1,10 @@
 -- The head says which value the object has, and where it stands.
-use Rattle.segment_manager.proofs.Common.{◌∙◌, refl, ap, subst, sym, ℕ, ◌+◌, padded, head_len}
+use Rattle.segment_manager.proofs.containers.releasing.release_contents.Goals as goal
+use Rattle.segment_manager.proofs.Common.{◌∙◌, ap, subst, sym, ℕ, ◌+◌, padded, head_len}
 use Rattle.seg_vector.specs.{Elements.FreesStorage, Containers.IsStanding}
 use Rattle.segment_manager.proofs.containers.Released.{elements-contents, has_storage-left, held-object}
 use Rattle.segment_manager.proofs.containers.Released.{number-contents, pairs-contents, some-elements, some-pairs}
 use Rattle.segment_manager.proofs.containers.Released.{some-texts, texts-contents}
-use Rattle.segment_manager.proofs.containers.releasing.release_contents.Goals as goal
 
 pub read_head-head-requires : goal.read_head-head-requires
 read_head-head-requires c = held-object c.args.heap.now.bytes c.args.handle c.requires

@@ -28,5 +28,4 @@ pub returns : goal.returns
 returns g c =
     let b = c.args.begun in
     builds (g.F.ObjectInit.content c.args.filling.now) c.args.heap.now c.fill-filled.new.heap c.finish_object.new.heap
-    b.handle b.at
-    b.entry c.fill-filled.result c.finish_object.result c.fill-filled.ensures c.finish_object.ensures
+    b.handle b.at b.entry c.fill-filled.result c.finish_object.result c.fill-filled.ensures c.finish_object.ensures

@@ -29,5 +29,4 @@ returns g c old key b begun = λ mode writing.
     takes _ g.I.Iterator.next_gives g.S.Spelling.whole s b key c.args.kind c.args.count writing c.requires.non_empty
     c.requires.max_count c.args.items.now c.fill_items-filled.new.items c.args.begun.entry c.fill_items-filled.result
     c.args.heap.now c.fill_items-filled.new.heap c.finish_object.new.heap c.args.begun.handle c.args.begun.at
-    c.finish_object.result begun
-    c.fill_items-filled.ensures c.finish_object.ensures
+    c.finish_object.result begun c.fill_items-filled.ensures c.finish_object.ensures

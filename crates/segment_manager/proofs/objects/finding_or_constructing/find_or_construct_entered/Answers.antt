@@ -38,8 +38,7 @@ returns-in-Found g c = λ key n.
     found-answers s c.args.index c.args.entry c.in-Found.place c.in-Found.ensures.place c.at.ensures key
     (key-seeks c.args.index c.args.entry key c.args.name.now (kind_of (bare content)) n))
     (subst (λ k. (o : Object) → IsObjectInBlock c.args.heap.now.bytes c.at.result o
-    → c.found_of.result ≡ pair_of_kind o k)
-    c.shape-shape.ensures.kind c.found_of.ensures)
+    → c.found_of.result ≡ pair_of_kind o k) c.shape-shape.ensures.kind c.found_of.ensures)
 
 pub begin_at-requires-clause-index : goal.begin_at-requires-clause-index
 begin_at-requires-clause-index g c = segment-index c.args.index c.requires.segment

@@ -1,22 +1,20 @@
 -- The container of the object of the key is changed as its kind says.
+use Rattle.segment_manager.proofs.segment.Segment.change_storage.Goals as goal
 use Rattle.segment_manager.proofs.Common.{exit-is, ◌≡◌, false, refl, subst, sym, ◌∙◌, AnswersWith, ByHandle, Change}
-use Rattle.segment_manager.proofs.Common.{Err}
-use Rattle.segment_manager.proofs.Common.{TakesStep, Key, Kind, Located, Refusal, Refused, SegmentState, StringsKind}
-use Rattle.segment_manager.proofs.Common.{command_of}
-use Rattle.segment_manager.proofs.Common.{container_at, ap, done_answer, has_storage, inl, inr, is_read_only}
+use Rattle.segment_manager.proofs.Common.{Err, TakesStep, Key, Kind, Located, Refusal, Refused, SegmentState}
+use Rattle.segment_manager.proofs.Common.{StringsKind, command_of, container_at, ap, done_answer, has_storage, inl, inr}
+use Rattle.segment_manager.proofs.{Common.is_read_only, containers.Safely.Answered, containers.Safely.answered}
+use Rattle.segment_manager.proofs.{containers.KeptContainers.texts-kept, containers.Released.has_storage-left}
+use Rattle.segment_manager.proofs.{Steps.open-writing, Steps.refuses-read_only, containers.Refilled.finds-no_container}
 use Rattle.segment_manager.proofs.objects.Locating.{enough-by_key, kind-by_key, located-changes}
 use Rattle.segment_manager.proofs.containers.OneLength.{elements-changed, elements-kept, some-elements}
 use Rattle.segment_manager.proofs.containers.TextListCalls.{texts-changed, texts-standing}
 use Rattle.segment_manager.proofs.segment.Segment.change_storage.Goals.{After-change_elements, After-change_texts}
 use Rattle.segment_manager.proofs.containers.AnyStorage.{nowhere-steps, change-other}
-use Rattle.segment_manager.proofs.Steps.{open-writing, refuses-read_only}
-use Rattle.segment_manager.proofs.containers.Safely.{Answered, answered}
 use Rattle.segment_manager.proofs.containers.StorageSteps.{change-changes, change-nowhere}
-use Rattle.segment_manager.proofs.{containers.KeptContainers.texts-kept, containers.Released.has_storage-left}
-use Rattle.segment_manager.proofs.{containers.Refilled.finds-no_container, segment.Segment.change_storage.Given.Over}
+use Rattle.segment_manager.proofs.segment.Segment.change_storage.Given.{Over}
 use Rattle.segment_manager.specs.objects.Located.{IsLocated}
 use Rattle.segment_manager.specs.containers.Stored.{ChangesElements, IsElements, each_of}
-use Rattle.segment_manager.proofs.segment.Segment.change_storage.Goals as goal
 
 -- there is no such container
 not-there : (s : SegmentState) (key : Key) (o : Located) (l : IsLocated s key o) (change : Change) (kind : Kind)

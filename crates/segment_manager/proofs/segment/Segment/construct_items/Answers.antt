@@ -12,8 +12,7 @@ pub invariant_of-self : goal.invariant_of-self
 invariant_of-self g c = refused-segment _ g.I.Iterator.next_gives g.S.Spelling.whole c.self.view_is c.self.invariant
     (new_key_seen c.args.key.now) c.args.kind c.args.count c.numbers.ensures
     (sym c.is_read_only.ensures ∙ c.if-is_read_only.false) c.requires.non_empty c.args.items.now
-    c.in_err-begun.field-0.0
-    c.begin_object.new.heap c.in_err-begun.ensures
+    c.in_err-begun.field-0.0 c.begin_object.new.heap c.in_err-begun.ensures
 
 pub returns-in_err-begun : goal.returns-in_err-begun
 returns-in_err-begun g c = refused-items _ g.I.Iterator.next_gives g.S.Spelling.whole c.self.view_is c.self.invariant

@@ -16,8 +16,7 @@ done g c =
     subst (λ (key : Key). Constructs c.self.inside.heap c.build.new.heap (Construct key content) handle_answer
     c.build.result) (c.key_for-key.ensures.key ∙ ap (g.D.ConstructKey.key c.args.key.now) c.shape-shape.ensures.kind)
     (construct-built c.self.invariant (new_key_seen c.key_for-key.result) content b.entry c.begin_object.new.heap
-    b.handle
-    b.at c.build.result (begun-for c.self.inside.heap c.begin_object.new.heap _ (Ok b) c.shape-shape.ensures
+    b.handle b.at c.build.result (begun-for c.self.inside.heap c.begin_object.new.heap _ (Ok b) c.shape-shape.ensures
     c.in_ok-begun.ensures) c.build.ensures)
 
 -- or where it is not begun

@@ -1,10 +1,9 @@
 -- The key says which index has the entry. It is removed with its object, or there is none.
-use Rattle.segment_manager.proofs.Common.{refl, sym, ◌∙◌}
-use Rattle.segment_manager.proofs.objects.Destroys.{destroys-entered, destroys-none, found-entry}
-use Rattle.segment_manager.proofs.{indexes.Bridge.seeks-sort, indexes.HeldIndexes.denotes-sorted_index}
-use Rattle.segment_manager.proofs.{Keeping.keeps-found, Steps.refuses-read_only}
-use Rattle.seg_types.specs.{Commands.Destroy, Keys.index_key_seen}
 use Rattle.segment_manager.proofs.segment.Segment.destroy.Goals as goal
+use Rattle.segment_manager.proofs.{Keeping.keeps-found, Common.refl, Common.sym, Common.◌∙◌, Steps.refuses-read_only}
+use Rattle.segment_manager.proofs.{indexes.Bridge.seeks-sort, indexes.HeldIndexes.denotes-sorted_index}
+use Rattle.segment_manager.proofs.objects.Destroys.{destroys-entered, destroys-none, found-entry}
+use Rattle.seg_types.specs.{Commands.Destroy, Keys.index_key_seen}
 
 pub returns-then-is_read_only-clause-step : goal.returns-then-is_read_only-clause-step
 returns-then-is_read_only-clause-step c = refuses-read_only c.args.self.now (Destroy (index_key_seen c.args.key.now))

@@ -29,6 +29,5 @@ invariant_of-self g c =
     found-segment c.self.invariant (done g (goal.at.invariant_of-self g c).After-find_or_take)
 
 pub returns-clause-items : goal.returns-clause-items
-returns-clause-items g c = λ is. seen-found_items c.self.view_is
-    (sym c.is_read_only.ensures ∙ c.if-is_read_only.false)
+returns-clause-items g c = λ is. seen-found_items c.self.view_is (sym c.is_read_only.ensures ∙ c.if-is_read_only.false)
     (done g (goal.at.returns-clause-items g c).After-find_or_take)

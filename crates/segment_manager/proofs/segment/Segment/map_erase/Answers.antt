@@ -23,8 +23,7 @@ returns-in_err-place-clause-step g c = rw (exit-is c.from_residual.result _ c.fr
 pub invariant_of-self : goal.invariant_of-self
 invariant_of-self g c = (erased-there (of-map g.met.K.Scalar) (of-map g.met.V.Scalar) c.self.view_is _ c.at.ensures
     c.self.invariant c.in_ok-place.ensures _ (sym c.is_read_only.ensures
-    ∙ c.if-is_read_only.false) _ _ c.holds_value.ensures
-    c.erase.ensures.changes).segment
+    ∙ c.if-is_read_only.false) _ _ c.holds_value.ensures c.erase.ensures.changes).segment
 
 pub returns : goal.returns
 returns g c =

@@ -1,9 +1,8 @@
 -- The place that the look-up ends at.
-use Rattle.segment_manager.proofs.Common.{refl, subst, Named}
-use Rattle.segment_manager.proofs.indexes.HeldIndexes.{denotes-sorted_index}
+use Rattle.segment_manager.proofs.segment.Segment.named_place.Goals as goal
+use Rattle.segment_manager.proofs.{Common.refl, Common.subst, Common.Named, indexes.HeldIndexes.denotes-sorted_index}
 use Rattle.segment_manager.proofs.indexes.PartedNames.{first-absent, first-found}
 use Rattle.segment_manager.specs.indexes.NamesFrom.{IsFirstFrom}
-use Rattle.segment_manager.proofs.segment.Segment.named_place.Goals as goal
 
 pub lookup-requires : goal.lookup-requires
 lookup-requires c = record { index = denotes-sorted_index Named c.self.invariant.1.denotes; sort = refl }

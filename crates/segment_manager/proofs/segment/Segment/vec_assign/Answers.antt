@@ -1,9 +1,8 @@
 -- The values are put in the place of those of the vector that is found.
-use Rattle.segment_manager.proofs.{Common.Vector, Common.ap, Common.refl}
-use Rattle.segment_manager.proofs.{containers.ScalarTypes.of-vector, containers.ToChange.not-changed}
-use Rattle.segment_manager.proofs.{containers.VectorAnswers.some-vector, containers.VectorAnswers.vector-assigned}
-use Rattle.segment_manager.proofs.containers.VectorAnswers.{assign-gaps}
 use Rattle.segment_manager.proofs.segment.Segment.vec_assign.Goals as goal
+use Rattle.segment_manager.proofs.{containers.Safely.told-gaps, Common.Vector, Common.ap, Common.refl}
+use Rattle.segment_manager.proofs.{containers.ToChange.not-changed, containers.ScalarTypes.of-vector}
+use Rattle.segment_manager.proofs.containers.VectorAnswers.{some-vector, vector-assigned, assign-gaps}
 
 pub assign-requires : goal.assign-requires
 assign-requires g c = some-vector (of-vector g.met.T.Scalar) c.self.view_is _ c.kind.ensures c.at.ensures
@@ -19,13 +18,7 @@ returns-in_err-place-clause-step g c =
     not-changed _ _ _ (ap Vector c.kind.ensures) c.from_residual.ensures.1 refl c.in_err-place.ensures
 
 pub returns : goal.returns
-returns g c =
-    let d = vector-assigned (of-vector g.met.T.Scalar) c.self.view_is _ c.kind.ensures c.at.ensures
-    c.self.invariant c.in_ok-place.ensures.at _ c.in_ok-place.ensures.writing _ _ c.judge_all.ensures
-    c.assign.ensures in
-    record {
-      step = d.step;
-      refused = d.refused;
-      gaps = assign-gaps (of-vector g.met.T.Scalar) c.self.view_is _ c.kind.ensures c.at.ensures c.self.invariant
-          c.in_ok-place.ensures.at _ _ c.assign.ensures;
-    }
+returns g c = told-gaps (vector-assigned (of-vector g.met.T.Scalar) c.self.view_is _ c.kind.ensures c.at.ensures
+    c.self.invariant c.in_ok-place.ensures.at _ c.in_ok-place.ensures.writing _ _ c.judge_all.ensures c.assign.ensures)
+    (assign-gaps (of-vector g.met.T.Scalar) c.self.view_is _ c.kind.ensures c.at.ensures c.self.invariant
+    c.in_ok-place.ensures.at _ _ c.assign.ensures)

@@ -1,9 +1,9 @@
 -- The values are put behind the last of the vector that is found.
-use Rattle.segment_manager.proofs.Common.{exit-is, sym, ap, ◌∙◌, subst, map, AnswersWith, Err, Vector, container_at}
-use Rattle.segment_manager.proofs.{containers.ScalarTypes.of-vector, containers.VectorAnswers.some-vector}
-use Rattle.segment_manager.proofs.containers.{Extending.extended-missing, Extending.extended-reading}
-use Rattle.segment_manager.proofs.containers.{Extending.extended-stays, VectorAnswers.vector-extended}
 use Rattle.segment_manager.proofs.segment.Segment.vec_extend.Goals as goal
+use Rattle.segment_manager.proofs.Common.{exit-is, sym, ◌∙◌, subst, map, AnswersWith, Err, Vector, container_at}
+use Rattle.segment_manager.proofs.containers.ScalarTypes.{of-vector}
+use Rattle.segment_manager.proofs.containers.VectorAnswers.{some-vector, vector-extended}
+use Rattle.segment_manager.proofs.containers.Extending.{extended-missing, extended-reading, extended-stays}
 
 pub returns-then-is_read_only-clause-step : goal.returns-then-is_read_only-clause-step
 returns-then-is_read_only-clause-step g c = extended-stays c.args.self.now (g.O.ObjectRef.key c.args.key.now)

@@ -1,9 +1,8 @@
 -- The last value is taken out of the vector that is found.
-use Rattle.segment_manager.proofs.{Common.Vector, Common.ap, Common.refl}
-use Rattle.segment_manager.proofs.{containers.ScalarTypes.of-vector, containers.ToChange.not-changed}
-use Rattle.segment_manager.proofs.{containers.VectorAnswers.some-vector, containers.VectorAnswers.vector-popped}
-use Rattle.segment_manager.proofs.containers.VectorAnswers.{pop-gaps}
 use Rattle.segment_manager.proofs.segment.Segment.vec_pop.Goals as goal
+use Rattle.segment_manager.proofs.{containers.Safely.told-gaps, Common.Vector, Common.ap, Common.refl}
+use Rattle.segment_manager.proofs.{containers.ToChange.not-changed, containers.ScalarTypes.of-vector}
+use Rattle.segment_manager.proofs.containers.VectorAnswers.{some-vector, vector-popped, pop-gaps}
 
 pub pop-requires : goal.pop-requires
 pop-requires g c = some-vector (of-vector g.met.T.Scalar) c.self.view_is _ c.kind.ensures c.at.ensures c.self.invariant
@@ -18,12 +17,7 @@ returns-in_err-place-clause-step g c =
     not-changed _ _ _ (ap Vector c.kind.ensures) c.from_residual.ensures.1 refl c.in_err-place.ensures
 
 pub returns : goal.returns
-returns g c =
-    let d = vector-popped (of-vector g.met.T.Scalar) c.self.view_is _ c.kind.ensures c.at.ensures
-    c.self.invariant c.in_ok-place.ensures.at _ c.in_ok-place.ensures.writing _ c.pop.ensures in
-    record {
-      step = d.step;
-      refused = d.refused;
-      gaps = pop-gaps (of-vector g.met.T.Scalar) c.self.view_is _ c.kind.ensures c.at.ensures c.self.invariant
-          c.in_ok-place.ensures.at _ c.pop.ensures;
-    }
+returns g c = told-gaps (vector-popped (of-vector g.met.T.Scalar) c.self.view_is _ c.kind.ensures c.at.ensures
+    c.self.invariant c.in_ok-place.ensures.at _ c.in_ok-place.ensures.writing _ c.pop.ensures)
+    (pop-gaps (of-vector g.met.T.Scalar) c.self.view_is _ c.kind.ensures c.at.ensures c.self.invariant
+    c.in_ok-place.ensures.at _ c.pop.ensures)

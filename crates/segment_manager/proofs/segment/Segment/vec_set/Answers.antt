@@ -1,9 +1,8 @@
 -- The value is written in the vector that is found.
-use Rattle.segment_manager.proofs.{Common.Vector, Common.ap, Common.refl}
-use Rattle.segment_manager.proofs.{containers.ScalarTypes.of-vector, containers.ToChange.not-changed}
-use Rattle.segment_manager.proofs.{containers.VectorAnswers.some-vector, containers.VectorAnswers.vector-set}
-use Rattle.segment_manager.proofs.containers.VectorAnswers.{set-gaps}
 use Rattle.segment_manager.proofs.segment.Segment.vec_set.Goals as goal
+use Rattle.segment_manager.proofs.{containers.Safely.told-gaps, Common.Vector, Common.ap, Common.refl}
+use Rattle.segment_manager.proofs.{containers.ToChange.not-changed, containers.ScalarTypes.of-vector}
+use Rattle.segment_manager.proofs.containers.VectorAnswers.{some-vector, vector-set, set-gaps}
 
 pub set-requires : goal.set-requires
 set-requires g c = some-vector (of-vector g.met.T.Scalar) c.self.view_is _ c.kind.ensures c.at.ensures c.self.invariant
@@ -19,12 +18,7 @@ returns-in_err-place-clause-step g c =
     not-changed _ _ _ (ap Vector c.kind.ensures) c.from_residual.ensures.1 refl c.in_err-place.ensures
 
 pub returns : goal.returns
-returns g c =
-    let d = vector-set (of-vector g.met.T.Scalar) c.self.view_is _ c.kind.ensures c.at.ensures c.self.invariant
-    c.in_ok-place.ensures.at _ c.in_ok-place.ensures.writing _ _ _ c.holds_value.ensures c.set.ensures in
-    record {
-      step = d.step;
-      refused = d.refused;
-      gaps = set-gaps (of-vector g.met.T.Scalar) c.self.view_is _ c.kind.ensures c.at.ensures c.self.invariant
-          c.in_ok-place.ensures.at _ _ _ c.set.ensures;
-    }
+returns g c = told-gaps (vector-set (of-vector g.met.T.Scalar) c.self.view_is _ c.kind.ensures c.at.ensures
+    c.self.invariant c.in_ok-place.ensures.at _ c.in_ok-place.ensures.writing _ _ _ c.holds_value.ensures c.set.ensures)
+    (set-gaps (of-vector g.met.T.Scalar) c.self.view_is _ c.kind.ensures c.at.ensures c.self.invariant
+    c.in_ok-place.ensures.at _ _ _ c.set.ensures)

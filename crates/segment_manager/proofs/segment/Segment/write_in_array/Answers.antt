@@ -1,10 +1,10 @@
 -- The values are spelled where the elements stand, or there are not so many, or it is no array of them.
-use Rattle.segment_manager.proofs.Common.{◌≡◌, sym, ap, ◌∙◌, ◌*◌, length, length-map, map, subst, ByHandle, IsLocated}
+use Rattle.segment_manager.proofs.segment.Segment.write_in_array.Goals as goal
+use Rattle.segment_manager.proofs.Common.{sym, ◌∙◌, ◌*◌, length, length-map, map, subst, ByHandle, IsLocated}
 use Rattle.segment_manager.proofs.Common.{SegmentState, current, eqb-true}
 use Rattle.segment_manager.proofs.{Calling.denotes-heap, containers.ScalarTypes.of-vector}
 use Rattle.segment_manager.proofs.containers.RangeCalls.{array-empty, array-framed, array-kind, array-other, array-room}
 use Rattle.segment_manager.proofs.containers.RangeCalls.{array-short, array-spelled, array-unlike, row-test}
-use Rattle.segment_manager.proofs.segment.Segment.write_in_array.Goals as goal
 
 pub returns-then-code-clause-step : goal.returns-then-code-clause-step
 returns-then-code-clause-step g c = array-other c.args.self.now c.args.object.now c.requires.object g.T.Scalar.kind
@@ -23,8 +23,7 @@ returns-then-is_empty-clause-step g c = array-empty c.args.self.now c.args.objec
     c.args.first (map g.T.Scalar.whole c.args.values.now)
     (array-kind c.args.object.now c.kind.ensures c.code.ensures c.code-2.ensures c.if-code.false) c.requires.writing
     (row-test g.T.Scalar.whole c.args.values.now c.args.first c.from.ensures c.has_range.ensures
-    c.if-not-has_range.false)
-    (length-map c.args.values.now g.T.Scalar.whole
+    c.if-not-has_range.false) (length-map c.args.values.now g.T.Scalar.whole
     ∙ eqb-true (length c.args.values.now) 0 (sym c.is_empty.ensures ∙ c.if-is_empty.true))
 
 pub spell-requires-clause-heap : goal.spell-requires-clause-heap
@@ -35,12 +34,10 @@ pub spell-requires-clause-room : goal.spell-requires-clause-room
 spell-requires-clause-room g c = array-room (record { cut = c.self.inside.heap; mode = c.self.inside.mode })
     c.self.invariant c.args.object.now
     (subst (λ (u : SegmentState). IsLocated u (ByHandle c.args.object.now.handle) c.args.object.now)
-    (sym c.self.view_is)
-    c.requires.object) g.T.Scalar.kind c.args.first (map g.T.Scalar.whole c.args.values.now)
+    (sym c.self.view_is) c.requires.object) g.T.Scalar.kind c.args.first (map g.T.Scalar.whole c.args.values.now)
     (array-kind c.args.object.now c.kind.ensures c.code.ensures c.code-2.ensures c.if-code.false)
     (row-test g.T.Scalar.whole c.args.values.now c.args.first c.from.ensures c.has_range.ensures
-    c.if-not-has_range.false)
-    c.value_at.ensures (c.SIZE.ensures ∙ g.met.T.Scalar.size)
+    c.if-not-has_range.false) c.value_at.ensures (c.SIZE.ensures ∙ g.met.T.Scalar.size)
     (λ i. g.met.T.Scalar.size i * sym (length-map c.args.values.now g.T.Scalar.whole) i)
 
 pub invariant_of-self : goal.invariant_of-self
@@ -64,5 +61,4 @@ returns-clause-frame g c = array-framed (of-vector g.met.T.Scalar) _ _ c.self.vi
     c.args.object.now c.requires.object c.args.first c.args.values.now
     (array-kind c.args.object.now c.kind.ensures c.code.ensures c.code-2.ensures c.if-code.false) c.requires.writing
     (row-test g.T.Scalar.whole c.args.values.now c.args.first c.from.ensures c.has_range.ensures
-    c.if-not-has_range.false)
-    c.value_at.ensures c.SIZE.ensures c.spell.ensures.values _ c.spell.ensures.changes
+    c.if-not-has_range.false) c.value_at.ensures c.SIZE.ensures c.spell.ensures.values _ c.spell.ensures.changes

@@ -1,9 +1,9 @@
 -- The values are written over those of the vector that is found, or it is of another kind.
-use Rattle.segment_manager.proofs.Common.{exit-is, ◌≡◌, sym, ap, ◌∙◌, Ok, Err, map, ByHandle, Located, Vector}
-use Rattle.segment_manager.proofs.{Common.refl, containers.ScalarTypes.of-vector, containers.VectorAnswers.some-vector}
-use Rattle.segment_manager.proofs.containers.{RangeCalls.vector-other, Safely.contains}
-use Rattle.segment_manager.proofs.containers.VectorAnswers.{vector-overwritten}
 use Rattle.segment_manager.proofs.segment.Segment.write_in_vector.Goals as goal
+use Rattle.segment_manager.proofs.Common.{exit-is, ◌∙◌, map, ByHandle, Vector}
+use Rattle.segment_manager.proofs.{containers.ScalarTypes.of-vector, containers.Safely.contains}
+use Rattle.segment_manager.proofs.containers.VectorAnswers.{some-vector, vector-overwritten}
+use Rattle.segment_manager.proofs.containers.RangeCalls.{vector-other}
 
 pub returns-in_err-place-clause-step : goal.returns-in_err-place-clause-step
 returns-in_err-place-clause-step g c = rw (exit-is c.from_residual.result _ c.from_residual.ensures.1)

@@ -1,9 +1,9 @@
 -- The kind of the object says which call it is, and what is written under its handle is written under the key.
-use Rattle.segment_manager.proofs.Common.{exit-is, sym, ◌∙◌, ap, length, map, done_answer}
-use Rattle.segment_manager.proofs.objects.Locating.{located-here}
-use Rattle.segment_manager.proofs.containers.RangeCalls.{but-by_key, on_ok, on_ok-map, range-by_key, range-nowhere}
-use Rattle.segment_manager.proofs.containers.RangeCalls.{range-reading, range-stays, vector-but, why-missing}
 use Rattle.segment_manager.proofs.segment.Segment.write_range.Goals as goal
+use Rattle.segment_manager.proofs.Common.{exit-is, sym, ◌∙◌, length, map, done_answer}
+use Rattle.segment_manager.proofs.objects.Locating.{located-here}
+use Rattle.segment_manager.proofs.containers.RangeCalls.{but-by_key, on_ok, on_ok-map, range-by_key, range-reading}
+use Rattle.segment_manager.proofs.containers.RangeCalls.{range-stays, vector-but, why-missing}
 
 pub returns-then-is_read_only-clause-step : goal.returns-then-is_read_only-clause-step
 returns-then-is_read_only-clause-step g c =

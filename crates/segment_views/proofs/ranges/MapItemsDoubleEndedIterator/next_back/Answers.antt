@@ -1,74 +1,19 @@
 -- The last pair is taken, and the others are left.
-use Rattle.std.proofs.Common.{subst, None, Some, ◌-◌}
-use Rattle.std.specs.declared.ops.Bound.TheVariants.{Excluded}
-use Rattle.std.specs.Range.Bound.{bound_map}
-use Rattle.seg_types.specs.Names.{ByHandle}
-use Rattle.segment_manager.specs.containers.Maps.{numbers_in}
-use Rattle.segment_manager.specs.State.{AnswersWith}
-use Rattle.segment_manager.specs.containers.Walks.{pairs_at_kinds}
-use Rattle.segment_views.specs.Ranged.{GoesBackPairs, PairWalk, last_between}
 use Rattle.segment_views.proofs.RangeReads.{fewer-back, finds-none-back, finds-one-back}
 use Rattle.segment_views.proofs.ranges.MapItemsDoubleEndedIterator.next_back.Goals as goal
 
 pub invariant_of-self : goal.invariant_of-self
-invariant_of-self g c =
-    let i = c.self.inside in
-    let w : PairWalk = record {
-      segment = i.segment.now;
-      key = ByHandle i.object.handle;
-      start = bound_map g.K.Scalar.whole i.start;
-      end = bound_map g.K.Scalar.whole i.end;
-      left = i.left;
-    } in
-    let one = subst (λ o. AnswersWith w.segment (λ d.
-    last_between w.start w.end (pairs_at_kinds d w.key g.K.Scalar.kind g.V.Scalar.kind))
-    (numbers_in g.K.Scalar.whole g.V.Scalar.whole o)) c.in_ok-pair.was c.last_between.ensures in
-    record {
-      here = c.self.invariant.here;
-      few = fewer-back g.K.Scalar.kind g.V.Scalar.kind w c.self.invariant.few (λ pair.
-          (g.K.Scalar.whole pair.0, g.V.Scalar.whole pair.1)) c.in_ok-pair.pair one;
-    }
+invariant_of-self g c = record {
+  here = c.self.invariant.here;
+  few = fewer-back c.self.invariant g.K.Scalar.whole g.V.Scalar.whole c.in_ok-pair.was c.last_between.ensures;
+}
 
 pub returns-in_err-pair-clause-steps : goal.returns-in_err-pair-clause-steps
 returns-in_err-pair-clause-steps g c =
-    let i = c.self.inside in
-    let w : PairWalk = record {
-      segment = i.segment.now;
-      key = ByHandle i.object.handle;
-      start = bound_map g.K.Scalar.whole i.start;
-      end = bound_map g.K.Scalar.whole i.end;
-      left = i.left;
-    } in
-    let none = subst (λ o. AnswersWith w.segment (λ d.
-    last_between w.start w.end (pairs_at_kinds d w.key g.K.Scalar.kind g.V.Scalar.kind))
-    (numbers_in g.K.Scalar.whole g.V.Scalar.whole o)) c.in_err-pair.was c.last_between.ensures in
-    rw c.from_residual.ensures (subst (λ (t : PairWalk).
-    GoesBackPairs g.K.Scalar.kind g.V.Scalar.kind (λ pair.
-    (g.K.Scalar.whole pair.0, g.V.Scalar.whole pair.1)) t None t) c.self.view_is
-    (finds-none-back g.K.Scalar.kind g.V.Scalar.kind w c.self.invariant.few (λ pair.
-    (g.K.Scalar.whole pair.0, g.V.Scalar.whole pair.1)) none))
+    rw c.from_residual.ensures (finds-none-back c.self.invariant g.K.Scalar.whole g.V.Scalar.whole c.self.view_is
+    c.in_err-pair.was c.last_between.ensures)
 
 pub returns-clause-steps : goal.returns-clause-steps
 returns-clause-steps g c =
-    let i = c.self.inside in
-    let w : PairWalk = record {
-      segment = i.segment.now;
-      key = ByHandle i.object.handle;
-      start = bound_map g.K.Scalar.whole i.start;
-      end = bound_map g.K.Scalar.whole i.end;
-      left = i.left;
-    } in
-    let new : PairWalk = record {
-      segment = i.segment.now;
-      key = ByHandle i.object.handle;
-      start = bound_map g.K.Scalar.whole i.start;
-      end = Excluded (g.K.Scalar.whole c.in_ok-pair.pair.0);
-      left = i.left - 1;
-    } in
-    let one = subst (λ o. AnswersWith w.segment (λ d.
-    last_between w.start w.end (pairs_at_kinds d w.key g.K.Scalar.kind g.V.Scalar.kind))
-    (numbers_in g.K.Scalar.whole g.V.Scalar.whole o)) c.in_ok-pair.was c.last_between.ensures in
-    subst (λ (t : PairWalk). GoesBackPairs g.K.Scalar.kind g.V.Scalar.kind (λ pair.
-    (g.K.Scalar.whole pair.0, g.V.Scalar.whole pair.1)) t (Some c.in_ok-pair.pair) new) c.self.view_is
-    (finds-one-back g.K.Scalar.kind g.V.Scalar.kind w c.self.invariant.few (λ pair.
-    (g.K.Scalar.whole pair.0, g.V.Scalar.whole pair.1)) c.in_ok-pair.pair one)
+    finds-one-back c.self.invariant g.K.Scalar.whole g.V.Scalar.whole c.self.view_is c.in_ok-pair.was
+    c.last_between.ensures

@@ -1,8 +1,8 @@
 -- Kinds are one where their codes are.
-use Rattle.segment_manager.proofs.Common.{◌≡◌, sym, ap, ◌∙◌, ℕ, Bool, true, Result, Ok, Err, eq-eqb, ne_eqb, Kind}
-use Rattle.segment_manager.proofs.Common.{Refusal, WrongKind, code_of, Located, Place, if◌then◌else◌}
-use Rattle.segment_manager.specs.objects.Located.{container_in, value_in}
 use Rattle.segment_manager.proofs.objects.object_ref.Object.container.Goals as goal
+use Rattle.segment_manager.proofs.Common.{sym, ap, ◌∙◌, ℕ, Bool, true, Result, Ok, Err, eq-eqb, ne_eqb, Refusal}
+use Rattle.segment_manager.proofs.Common.{WrongKind, code_of, Place, if◌then◌else◌}
+use Rattle.segment_manager.specs.objects.Located.{value_in}
 
 abbrev place : ℕ → ℕ → Place
 place h at = record { handle = h; at = at }

@@ -1,0 +1,14 @@
+use Rattle.best_fit.proofs.Common.{◌≡◌, subst, IsTrue, WindowState, is_live_in, live_of}
+use Rattle.best_fit.proofs.HintedBlocks.{noted-lead}
+use Rattle.best_fit.proofs.heap.Heap.insert_hint.Goals as goal
+
+pub invariant_of-self : goal.invariant_of-self
+invariant_of-self c =
+    let e : c.args.self.now ≡ c.self.inside.gaps.window = cc in
+    record {
+      heap = c.self.invariant.heap;
+      points = noted-lead c.self.inside.points c.insert.new.self c.self.inside.gaps.window.bytes c.args.handle
+          c.self.invariant.points
+          (subst (λ (v : WindowState). IsTrue (is_live_in (live_of v.bytes) c.args.handle)) e c.requires)
+          c.insert.ensures;
+    }

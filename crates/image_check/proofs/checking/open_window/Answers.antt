@@ -1,0 +1,104 @@
+-- Each row is a tile in use, and one visit more. The visits are the steps.
+use Rattle.std.proofs.Common.{◌≡◌, sym, subst, ◌∙◌, ℕ, true, arith}
+use Rattle.image_check.specs.declared.errors.ExamineError.{ExamineError}
+use Rattle.image_check.specs.declared.errors.OpenError.{OpenError}
+use Rattle.image_check.specs.Checking.{IsWhyRefused}
+use Rattle.image_check.specs.Opening.{IsImage, is_late}
+use Rattle.image_check.specs.OpeningAny.{UpgradesFormat}
+use Rattle.image_check.specs.Owners.{entries_of}
+use Rattle.image_check.specs.Passes.{Spends, tiles_in}
+use Rattle.image_check.specs.Reading.{HasFront}
+use Rattle.image_check.specs.Visits.{all_rates}
+use Rattle.image_check.proofs.Budget.{noted-raised}
+use Rattle.image_check.proofs.Filled.{HasFront-least, HasFront-version}
+use Rattle.image_check.proofs.Gathered.{frame-AreBlocks, tags-blocks}
+use Rattle.image_check.proofs.OwnedRows.{rows-count, rows-weigh}
+use Rattle.image_check.proofs.checking.open_window.Goals as goal
+
+pub version-format-requires : goal.version-format-requires
+version-format-requires c =
+    let least = HasFront-least c.requires.0 c.args.window c.requires.1.0 in omega arith
+
+pub pass_all-requires-clause-format : goal.pass_all-requires-clause-format
+pass_all-requires-clause-format c =
+    let same = HasFront-version c.requires.0 c.args.window c.version-format.result c.requires.1.0
+    c.version-format.ensures in
+    let few = c.requires.1.1 in
+    omega arith
+
+pub pass_all-requires-clause-front : goal.pass_all-requires-clause-front
+pass_all-requires-clause-front c =
+    subst (λ f. HasFront f c.args.window)
+    (sym (HasFront-version c.requires.0 c.args.window c.version-format.result c.requires.1.0 c.version-format.ensures))
+    c.requires.1.0
+
+pub into_segment-requires-clause-format : goal.into_segment-requires-clause-format
+into_segment-requires-clause-format c =
+    let same = HasFront-version c.requires.0 c.args.window c.version-format.result c.requires.1.0
+    c.version-format.ensures in
+    let few = c.requires.1.1 in
+    omega arith
+
+pub into_segment-requires-clause-blocks : goal.into_segment-requires-clause-blocks
+into_segment-requires-clause-blocks c =
+    let b = c.args.window.bytes in
+    let p = c.in-Ok.ensures.pass in
+    frame-AreBlocks (tiles_in b) c.in-Ok.owners.blocks.entries (entries_of (tiles_in b)) p.frame
+    (tags-blocks b p.tiles)
+
+pub returns-in-Ok-clause-opening : goal.returns-in-Ok-clause-opening
+returns-in-Ok-clause-opening c = λ format front.
+    let same = HasFront-version format c.args.window c.version-format.result front c.version-format.ensures in
+    record {
+      image = subst (λ f. IsImage f c.args.window.bytes) same c.in-Ok.ensures.outcome;
+      place = c.into_segment-segment.ensures.place;
+      upgrade = subst (λ f. UpgradesFormat f c.args.window.bytes c.into_segment-segment.result.cut.bytes) same
+          c.into_segment-segment.ensures.upgrade;
+      mode = c.into_segment-segment.ensures.mode;
+    }
+
+pub returns-in-Ok-clause-steps : goal.returns-in-Ok-clause-steps
+returns-in-Ok-clause-steps c =
+    let b = c.args.window.bytes in
+    let p = c.in-Ok.ensures.pass in
+    noted-raised c.args.window _ _ _ _ p.tiles
+    (subst (λ n. Spends all_rates 115 b n c.pass_all.new.visits) (c.new-visits.ensures ∙ c.replace.ensures.value)
+    p.spent)
+    (rows-weigh b c.in-Ok.owners.blocks.entries p.tiles p.frame)
+    (c.into_steps.ensures ∙ c.into_segment-segment.ensures.visits)
+
+pub returns-in-Ok-clause-tiles : goal.returns-in-Ok-clause-tiles
+returns-in-Ok-clause-tiles c =
+    let counted = c.in-Ok.ensures.pass.counted in
+    let one = c.into_segment-segment.ensures.visits in
+    let before = c.new-visits.ensures ∙ c.replace.ensures.value in
+    let after = c.into_steps.ensures in
+    omega arith
+
+pub returns-in-Ok-clause-blocks : goal.returns-in-Ok-clause-blocks
+returns-in-Ok-clause-blocks c =
+    let p = c.in-Ok.ensures.pass in
+    let counted = p.counted in
+    let all = rows-count c.args.window.bytes c.in-Ok.owners.blocks.entries p.frame in
+    let one = c.into_segment-segment.ensures.visits in
+    let before = c.new-visits.ensures ∙ c.replace.ensures.value in
+    let after = c.into_steps.ensures in
+    omega arith
+
+pub returns-in-Err-clause-opening : goal.returns-in-Err-clause-opening
+returns-in-Err-clause-opening c = λ format front.
+    let same = HasFront-version format c.args.window c.version-format.result front c.version-format.ensures in
+    record {
+      why = c.in-Err.cause;
+      holds = subst (λ f. IsWhyRefused f c.args.window.bytes c.in-Err.cause) same c.in-Err.ensures.outcome;
+      cause = c.into_error.ensures;
+      region = c.into_region.ensures;
+    }
+
+pub returns-in-Err-clause-visits_on_error : goal.returns-in-Err-clause-visits_on_error
+returns-in-Err-clause-visits_on_error c = λ late.
+    let counted = c.in-Err.ensures.visits_on_error
+    (subst (λ (e : OpenError). is_late e ≡ true) c.into_error.ensures late) in
+    let before = c.new-visits.ensures ∙ c.replace.ensures.value in
+    let after = c.into_steps-in-Err.ensures in
+    omega arith

@@ -1,0 +1,25 @@
+use Rattle.std.proofs.Common.{inr}
+use Rattle.segment_commands.proofs.Commanded.{written_whole, same_fault}
+use Rattle.segment_commands.proofs.changing.migrate_held.Goals as goal
+
+pub returns : goal.returns
+returns g c = inr (inr (record {
+  segment = c.in_ok-segment.segment;
+  read = c.open_any_segment.new.disk;
+  opens_file = c.in_ok-segment.ensures;
+  writes = written_whole g.D.Disk.step c.open_any_segment.new.disk c.write_image.new.disk _ c.args.path.now
+      c.in_ok-segment.segment.cut.bytes c.in_ok-write_image.ensures;
+  tells = c.in_ok-write_and_flush.ensures;
+  answer = λ fault e. absurd (cc);
+}))
+
+pub returns-in_err-write_and_flush : goal.returns-in_err-write_and_flush
+returns-in_err-write_and_flush g c = inr (inr (record {
+  segment = c.in_ok-segment.segment;
+  read = c.open_any_segment.new.disk;
+  opens_file = c.in_ok-segment.ensures;
+  writes = written_whole g.D.Disk.step c.open_any_segment.new.disk c.write_image.new.disk _ c.args.path.now
+      c.in_ok-segment.segment.cut.bytes c.in_ok-write_image.ensures;
+  tells = c.in_err-write_and_flush.ensures;
+  answer = λ fault e. same_fault _ fault e;
+}))

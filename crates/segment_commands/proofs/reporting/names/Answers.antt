@@ -1,0 +1,11 @@
+use Rattle.std.proofs.Common.{inr}
+use Rattle.segment_commands.proofs.Commanded.{same_fault}
+use Rattle.segment_commands.proofs.reporting.names.Goals as goal
+
+pub returns-in_err-tell_names : goal.returns-in_err-tell_names
+returns-in_err-tell_names g c = inr (record {
+  segment = c.in_ok-segment.segment;
+  opens = c.in_ok-segment.ensures;
+  tells = let value = c.as_bytes.ensures.value in rw value at c.in_err-tell_names.ensures;
+  answer = λ fault e. same_fault _ fault e;
+})

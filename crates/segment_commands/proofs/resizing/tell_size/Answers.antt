@@ -1,4 +1,0 @@
-use Rattle.segment_commands.proofs.resizing.tell_size.Goals as goal
-
-pub returns : goal.returns
-returns g c = record { size = c.size-size.result; reply = c.size-size.ensures; tells = c.tell_number.ensures }

@@ -1,0 +1,172 @@
+//! The commands that write the segment in a file anew: larger, smaller, or by the current format.
+ghost use Rattle.std.specs.Prelude.{◌≡◌, ◌^◌, ◌-◌, ◌<◌, OnOk};
+ghost use Rattle.grow_shrink.specs.Resized.{IsRefusedBy};
+ghost use Rattle.segment_manager.specs.blocks.Resized.{Resizes};
+ghost use Rattle.segment_commands.specs.{Changing.Changes, Holding.HoldsLock, Migrating.IsMigrate, Modes.making_of};
+ghost use Rattle.segment_commands.specs.Resizing.{IsResize, TellsAndWrites, TellsSize, more_by, next_by, refusal_by};
+ghost use Rattle.segment_commands.specs.{Resizing.size_line, Telling.WritesAndFlushes};
+
+use crate::command_faults::CommandFault;
+use crate::opening::{open_any_segment, open_segment};
+use crate::running::making_for;
+use crate::telling::write_and_flush;
+use grow_shrink::{GrowError, shrink_to_fit};
+use image_check::AcceptedVersions;
+use raw_region::DeviceFault;
+use segment_disk::{CreateMode, Disk, Output};
+use segment_file::write_image;
+use segment_invocation::{FileChange, SaveMode};
+use segment_lang::put_number_line;
+use segment_manager::{Mode, Segment};
+use std::alloc::Global;
+
+/// How the size of a segment changes.
+#[derive(Clone, Copy)]
+enum Resize {
+    /// By so many bytes more.
+    Grow(u64),
+    /// To what its last block needs.
+    Shrink,
+}
+
+/// Writes a size as a line, and gives it out.
+fn tell_number<O: Output>(out: &mut O, size: u64) -> Result<(), DeviceFault>
+    requires { (O.history out.old).failures < 2 ^ 64 - 1 }
+    ensures { WritesAndFlushes O.history O.flushes out.old out.new (size_line size) result }
+{
+    put_number_line(out, b"size ", size)?;
+    out.flush()
+}
+
+/// Writes the size of a segment as a line, and gives it out.
+fn tell_size<O: Output>(segment: &Segment, out: &mut O) -> Result<(), DeviceFault>
+    requires { (O.history out.old).failures < 2 ^ 64 - 1 }
+    ensures { TellsSize O.history O.flushes out.old out.new segment.now result }
+{
+    tell_number(out, segment.size())
+}
+
+/// Says the size of a segment, and then writes its image to the file that is emptied or made for it.
+fn tell_and_write<D: Disk, O: Output>(
+    disk: &mut D,
+    path: &str,
+    making: CreateMode,
+    hold: &mut D::Hold,
+    segment: &Segment,
+    out: &mut O,
+) -> Result<(), DeviceFault>
+    requires { (O.history out.old).failures < 2 ^ 64 - 1 }
+    ensures { TellsAndWrites D.step disk.old disk.new path.now making O.history O.flushes out.old out.new
+        segment.now result }
+{
+    tell_size(segment, out)?;
+    write_image(disk, path, making, hold, segment)
+}
+
+/// Makes a segment larger or smaller.
+fn resize_segment(segment: &mut Segment, how: Resize) -> Result<(), GrowError>
+    ensures refused { IsRefusedBy segment.old result (refusal_by how segment.old) }
+    ensures changes { OnOk result (Resizes segment.old segment.new (next_by how)) }
+{
+    match how {
+        Resize::Grow(extra) => grow_shrink::grow(segment, extra),
+        Resize::Shrink => shrink_to_fit(segment),
+    }
+}
+
+/// For how many bytes more the region of a segment is made that becomes larger.
+fn more_for(how: Resize) -> u64
+    ensures { result ≡ more_by how }
+{
+    match how {
+        Resize::Grow(extra) => extra,
+        Resize::Shrink => 0,
+    }
+}
+
+/// Makes the segment in a file larger or smaller, with the right to write the file.
+fn resize_held<D: Disk, O: Output>(
+    alloc: Global,
+    disk: &mut D,
+    path: &str,
+    how: Resize,
+    making: CreateMode,
+    hold: &mut D::Hold,
+    out: &mut O,
+) -> Result<(), CommandFault>
+    requires { (O.history out.old).failures < 2 ^ 64 - 1 }
+    ensures { IsResize D.step disk.old disk.new path.now making O.history O.flushes out.old out.new
+        (more_by how) (refusal_by how) (next_by how) result }
+{
+    let mut segment = open_segment(alloc, disk, path, Mode::Write, more_for(how))?;
+    resize_segment(&mut segment, how)?;
+    Ok(tell_and_write(disk, path, making, hold, &segment, out)?)
+}
+
+/// Writes the segment in a file by the current format, with the right to write the file, and then says `ok`.
+fn migrate_held<D: Disk, O: Output>(
+    alloc: Global,
+    disk: &mut D,
+    path: &str,
+    making: CreateMode,
+    hold: &mut D::Hold,
+    out: &mut O,
+) -> Result<(), CommandFault>
+    requires { (O.history out.old).failures < 2 ^ 64 - 1 }
+    ensures { IsMigrate D.step disk.old disk.new path.now making O.history O.flushes out.old out.new result }
+{
+    let segment = open_any_segment(alloc, disk, path, AcceptedVersions::All, Mode::Write, 0)?;
+    write_image(disk, path, making, hold, &segment)?;
+    Ok(write_and_flush(out, b"ok\n")?)
+}
+
+/// Changes the segment in a file, with the right to write the file.
+fn change_held<D: Disk, O: Output>(
+    alloc: Global,
+    disk: &mut D,
+    path: &str,
+    change: FileChange,
+    making: CreateMode,
+    hold: &mut D::Hold,
+    out: &mut O,
+) -> Result<(), CommandFault>
+    requires { (O.history out.old).failures < 2 ^ 64 - 1 }
+    ensures { Changes D.step disk.old disk.new path.now making O.history O.flushes out.old out.new result change }
+{
+    match change {
+        FileChange::Grow(extra) => {
+            resize_held(alloc, disk, path, Resize::Grow(extra), making, hold, out)
+        }
+        FileChange::Shrink => resize_held(alloc, disk, path, Resize::Shrink, making, hold, out),
+        FileChange::Migrate => migrate_held(alloc, disk, path, making, hold, out),
+    }
+}
+
+/// Makes the segment in a file larger by some bytes, or as small as its last block lets it be, and says its size; or
+/// writes it by the current format, whichever of the three it has, and says `ok`. The file is emptied or replaced for
+/// its image, as `saving` says: behind the size when that went out, and before the `ok`.
+///
+/// # Errors
+///
+/// `InUse` if another has the right to write the file. Those of opening it, `GrowthFault` if the segment does not
+/// grow: the file is as it was. `WriteFault` if the size does not go out, if the file can't be emptied or replaced,
+/// takes not the whole image or need not last, and if the `ok` does not go out.
+pub fn change<D: Disk, O: Output>(
+    alloc: Global,
+    disk: &mut D,
+    path: &str,
+    change: FileChange,
+    saving: SaveMode,
+    out: &mut O,
+) -> Result<(), CommandFault>
+    requires { (O.history out.old).failures < 2 ^ 64 - 1 }
+    ensures { HoldsLock D.step disk.old disk.new path.now (out.new ≡ out.old)
+        (λ held done. Changes D.step held done path.now (making_of saving) O.history O.flushes out.old out.new
+        result change) result }
+{
+    let making = making_for(saving);
+    let mut hold = disk.lock(path)?;
+    let answer = change_held(alloc, disk, path, change, making, &mut hold, out);
+    disk.unlock(hold);
+    answer
+}

@@ -7,8 +7,9 @@ use Rattle.best_fit.proofs.Common.{EncodesTiles, bits, nodes_of, is_in, leads, a
 use Rattle.best_fit.proofs.Common.{LiveSet}
 use Rattle.best_fit.proofs.Common.{gaps, added, fit, least, place, precedes, room, share, IsTreeOf, cells_of, is_red}
 use Rattle.best_fit.proofs.Common.{payloads, sorted_gaps, gap_of, gaps_of, gaps_in, len_in, links_among, plain}
-use Rattle.best_fit.proofs.Common.{tiles_in, IsGoodHeap, IsGoodHeap-is_good, is_good-IsGoodHeap, AreSome, HasGapTree}
-use Rattle.best_fit.proofs.Common.{IsUnlinkedGap, Regrown}
+use Rattle.best_fit.proofs.Common.{tiles_in, IsGoodHeap, IsGoodHeap-is_good, is_good-IsGoodHeap, AreSomeGaps}
+use Rattle.best_fit.proofs.Common.{HasGapTree}
+use Rattle.best_fit.proofs.Common.{IsUnlinkedGap, ChangesGapTree}
 use Rattle.best_fit.proofs.Common.{is_long, node_of, AllocatesOk, IsHeap, KeepsBlocks, EncodesLiveSet, live_of}
 use Rattle.std.proofs.lemmas.Int.Digits.{all_below_base_digits_of, length-digits_of-le, length-digits_of_step}
 use Rattle.std.proofs.lemmas.Int.Digits.{number_digits_of, number_lt}
@@ -169,7 +170,7 @@ found_by c wanted node h None e f = absurd (none_some node (sym f))
 found_by c wanted node h (Some g) e f =
     let i = least-IsOf (gaps_in c) wanted g e in
     let is = same_Some node (node_of g) f in
-    let whole = subst (λ (hs : List Gap). AreSome (gaps_in c) hs) i.list h.some in
+    let whole = subst (λ (hs : List Gap). AreSomeGaps (gaps_in c) hs) i.list h.some in
     record {
       gap = g;
       least_is = e;
@@ -206,7 +207,7 @@ round_it c n f = ap gaps_of f.list ∙ gaps_of-append f.front (f.tile ∷ f.back
 -- it is out of the tree
 pub out_of_tree : (c d : WindowState) (node at len : ℕ) → (f : FreeAt (tiles_in c) node) → at + 16 ≡ node
     → f.tile.len ≡ len
-    → Regrown c d → HasGapTree d (gaps_of f.front ++ gaps_of f.back) → IsUnlinkedGap d at len
+    → ChangesGapTree c d → HasGapTree d (gaps_of f.front ++ gaps_of f.back) → IsUnlinkedGap d at len
 out_of_tree c d node at len f o l r h =
     let s = splits_alike (tiles_in d) f.front f.tile f.back (r.tiles ∙ ap (λ (ts : List Tile). map plain ts) f.list) in
     let a = f.at in
@@ -226,7 +227,7 @@ out_of_tree c d node at len f o l r h =
 
 -- the request is met
 pub met : (c d e : WindowState) (n : ℕ) (role : Role) (wanted node at : ℕ) → IsHeap current c.bytes → wanted ≡ room n
-    → (f : Found c wanted node) → at + 16 ≡ node → (r : Regrown c d) → EncodesTiles d (tiles_in d)
+    → (f : Found c wanted node) → at + 16 ≡ node → (r : ChangesGapTree c d) → EncodesTiles d (tiles_in d)
     → EncodesLiveSet current e.bytes
     (added (live_of d.bytes) (record { offset = at; len = share f.gap.len wanted; role = role }))
     → is_red (bytes_of e.bytes) (at + 16) ≡ false → KeepsBlocks d e (live_of d.bytes).extents

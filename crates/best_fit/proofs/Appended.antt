@@ -3,7 +3,7 @@ use Rattle.best_fit.proofs.Common.{◌≡◌, refl, sym, ap, subst, ◌∙◌, �
 use Rattle.best_fit.proofs.Common.{[], ◌∷◌, ◌++◌, length, arith, IsTrue, ◌==◌, Some, list_any, append-nil, false≢true}
 use Rattle.best_fit.proofs.Common.{eq-eqb, or_left, or_right, WindowState, SameBytes, bytes_of, whole, current, Object}
 use Rattle.best_fit.proofs.Common.{Tile}
-use Rattle.best_fit.proofs.Common.{is_legal_size, free_tile, used_for, with_use_at, FrontSaysTiles, MayBeUsed}
+use Rattle.best_fit.proofs.Common.{is_legal_size, free_tile, used_for, with_use_at, FrontSaysTiles, CanTakeUse}
 use Rattle.best_fit.proofs.Common.{EncodesTiles, SameExceptTags, front_is_a_window, tiles_are_read_off, AppendsBlock}
 use Rattle.best_fit.proofs.Common.{MovesEnd, KeepsTo, of_size, Extent, Gap, LiveSet, end_of, handle, proper_from}
 use Rattle.best_fit.proofs.Common.{others, released, IsTreeOf, payloads, sorted_gaps, gaps_in, gaps_of, tiles_in}
@@ -87,7 +87,7 @@ module _ (c c1 : WindowState) (extra : ℕ) (heap : IsHeap current c.bytes) (lon
         (said_row c (tiles_in c) says.said) (omega arith)
 
     -- what the change of its use needs
-    pub can_use : MayBeUsed c2 (length c.bytes - 16) (Some Object)
+    pub can_use : CanTakeUse c2 (length c.bytes - 16) (Some Object)
     can_use = record {
       tiles = tiles_in c ++ free ∷ [];
       said = said2;
@@ -240,7 +240,7 @@ pub record LongerWindow (c : WindowState) (extra size : ℕ) (c1 : WindowState) 
       → EncodesTiles c2 (with_free us (size - 16) (length c1.bytes - 16)))
       → ((us : List Tile) → FrontSaysTiles c1 size us
       → SameExceptTags c1 c2 us (with_free us (size - 16) (length c1.bytes - 16)))
-      → MayBeUsed c2 (size - 16) (Some Object)
+      → CanTakeUse c2 (size - 16) (Some Object)
   pub block : (c2 : WindowState)
       → ((us : List Tile) → FrontSaysTiles c1 size us
       → EncodesTiles c2 (with_free us (size - 16) (length c1.bytes - 16)))

@@ -4,7 +4,7 @@ use Rattle.best_fit.proofs.Common.{inr, List, [], ◌∷◌, length, arith, nat_
 use Rattle.best_fit.proofs.Common.{lt-ltb, or_left, Memory, WindowState, SameBytes, bytes_of, word_at, current, Role}
 use Rattle.best_fit.proofs.Common.{Tile}
 use Rattle.best_fit.proofs.Common.{AreTags, is_free, tag_word, EncodesTiles, gaps, gap_of, gaps_of, lies_behind, plain}
-use Rattle.best_fit.proofs.Common.{true, tiles_in, Regrown, live_of, AreBytes, Gap, Option}
+use Rattle.best_fit.proofs.Common.{true, tiles_in, ChangesGapTree, live_of, AreBytes, Gap, Option}
 use Rattle.best_fit.specs.Rebuilding.{IsBesideGap}
 use Rattle.best_fit.proofs.TagsAndLiveSet.{SaysHeap, gaps-live_in, legal_size, said_row, says-live}
 use Rattle.best_fit.proofs.Regrowths.{empty_not, head_same, plain_used, regrown_block, regrown_gap, tail_same}
@@ -92,7 +92,7 @@ module _ (m m' : Memory) (small : (k : ℕ) → m k < 256) (small' : (k : ℕ) �
       ]
 
 module _ (old new : WindowState) (says : SaysHeap old (tiles_in old)) (said : EncodesTiles new (tiles_in new))
-    (r : Regrown old new) (small : AreBytes old.bytes) (small' : AreBytes new.bytes) where
+    (r : ChangesGapTree old new) (small : AreBytes old.bytes) (small' : AreBytes new.bytes) where
   gaps_old : gaps (live_of old.bytes) ≡ gaps_of (tiles_in old)
   gaps_old = ap gaps (says-live old (tiles_in old) says) ∙ gaps-live_in (length old.bytes) (tiles_in old)
       (said_row old (tiles_in old) says.said) says.apart

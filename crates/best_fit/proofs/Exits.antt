@@ -2,7 +2,7 @@
 use Rattle.best_fit.proofs.Common.{◌≡◌, sym, ap, ◌∙◌, ℕ, true, List, Option, Some, None, IfSome}
 use Rattle.best_fit.proofs.Common.{WindowState, bytes_of, Tree, IsSearchTree, nodes_of, first_not_before, is_in}
 use Rattle.best_fit.proofs.Common.{link_at, Gap, payloads}
-use Rattle.best_fit.proofs.Common.{comes_before, gap_cells, gaps_in, len_in, stands_before, HasGapTree, MayBegin}
+use Rattle.best_fit.proofs.Common.{comes_before, gap_cells, gaps_in, len_in, stands_before, HasGapTree, CanBeginRemoval}
 use Rattle.link_tree.specs.Ways.{remove_point_of}
 use Rattle.link_tree.proofs.Laws.{first_itself}
 use Rattle.best_fit.specs.GapLaws.{comes_irreflexive}
@@ -18,7 +18,7 @@ at_exit (Some n) o e = sym e
 pub may_begin : (c : WindowState) (found exit : Option ℕ)
     → ((t : Tree) → IsSearchTree (comes_before (gaps_in c)) (gap_cells c) (link_at (bytes_of c.bytes) 24) t
     → IfSome found (λ n. exit ≡ remove_point_of (comes_before (gaps_in c)) n t))
-    → IfSome found (λ n. MayBegin c n exit)
+    → IfSome found (λ n. CanBeginRemoval c n exit)
 may_begin c None exit says = tt
 may_begin c (Some n) exit says = record {
   begins = λ hs h. at_exit exit (remove_point_of (comes_before (gaps_in c)) n h.tree.tree)

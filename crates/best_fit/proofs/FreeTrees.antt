@@ -12,7 +12,8 @@ use Rattle.best_fit.proofs.Common.{GapTreeFrame}
 use Rattle.best_fit.proofs.Common.{comes_before, gap_cells, gap_of, gaps_of, gaps_in, is_gap_node, is_kept, kept_of}
 use Rattle.best_fit.proofs.Common.{len_in, links_among, plain, tiles_in, IsGoodHeap, GapNode-is_gap_node}
 use Rattle.best_fit.proofs.Common.{IsGoodHeap-is_good}
-use Rattle.best_fit.proofs.Common.{is_good-IsGoodHeap, links_at, cells_at, AreSome, HaveGapLengths, HasGapTree, Regrown}
+use Rattle.best_fit.proofs.Common.{is_good-IsGoodHeap, links_at, cells_at, AreSomeGaps, HaveGapLengths, HasGapTree}
+use Rattle.best_fit.proofs.Common.{ChangesGapTree}
 use Rattle.best_fit.proofs.Common.{AreAscending}
 use Rattle.link_tree.proofs.Laws.{root_in}
 use Rattle.best_fit.specs.GapLaws.{length-payloads}
@@ -108,7 +109,7 @@ rises_row low at (t ∷ ts) end l r =
     ]
 
 -- all gaps of a window
-pub all_gaps : (c : WindowState) → EncodesTiles c (tiles_in c) → AreSome (gaps_in c) (gaps_in c)
+pub all_gaps : (c : WindowState) → EncodesTiles c (tiles_in c) → AreSomeGaps (gaps_in c) (gaps_in c)
 all_gaps c said =
     let row = said_row c (tiles_in c) said in
     record {
@@ -196,7 +197,8 @@ in_here [] g ys = or_left ((g.offset + 16) == (g.offset + 16)) (is_in (g.offset 
 in_here (x ∷ xs) g ys = or_right ((g.offset + 16) == (x.offset + 16))
     (is_in (g.offset + 16) (payloads (xs ++ (g ∷ ys)))) (in_here xs g ys)
 
-pub some_drop : (gs xs : List Gap) (g : Gap) (ys : List Gap) → AreSome gs (xs ++ (g ∷ ys)) → AreSome gs (xs ++ ys)
+pub some_drop : (gs xs : List Gap) (g : Gap) (ys : List Gap) → AreSomeGaps gs (xs ++ (g ∷ ys))
+    → AreSomeGaps gs (xs ++ ys)
 some_drop gs xs g ys s =
     let few = s.few in
     record {
@@ -210,7 +212,7 @@ some_drop gs xs g ys s =
 
 -- a tree of gaps, and its root at word 24
 module _ (d e : WindowState) (hs : List Gap) (t : Tree) (root : Option ℕ) (good : IsGoodHeap d)
-    (some : AreSome (gaps_in d) hs)
+    (some : AreSomeGaps (gaps_in d) hs)
     (tree : IsSearchTree (comes_before (gaps_in d)) (gap_cells d) root t)
     (lists : nodes_of t ≡ payloads (sorted_gaps hs))
     (leads_to : link_at (bytes_of e.bytes) 24 ≡ root) (size : length e.bytes ≡ length d.bytes)
@@ -264,7 +266,7 @@ module _ (d e : WindowState) (hs : List Gap) (t : Tree) (root : Option ℕ) (goo
   rooted =
       record {
         good = IsGoodHeap-is_good e header_good;
-        some = subst (λ (gs : List Gap). AreSome gs hs) (sym header_gaps) some;
+        some = subst (λ (gs : List Gap). AreSomeGaps gs hs) (sym header_gaps) some;
         tree = record {
           tree = t;
           linked = subst (λ (o : Option ℕ). IsTree (cells_of (bytes_of e.bytes)) o t) (sym leads_to)
@@ -279,7 +281,7 @@ module _ (d e : WindowState) (hs : List Gap) (t : Tree) (root : Option ℕ) (goo
 
 -- and nothing else changes
 pub regrown : (c d e : WindowState) → kept_of d ≡ kept_of c → SameSurroundings d e → length e.bytes ≡ length d.bytes
-    → tiles_in e ≡ tiles_in d → SameBytesExcept (bytes_of d.bytes) (bytes_of e.bytes) 24 8 → Regrown c e
+    → tiles_in e ≡ tiles_in d → SameBytesExcept (bytes_of d.bytes) (bytes_of e.bytes) 24 8 → ChangesGapTree c e
 unfolding kept_of
 regrown c d e kept place size tiles same =
     let before : d.before ≡ c.before = ap (λ (k : GapTreeFrame). k.before) kept in

@@ -4,7 +4,8 @@ use Rattle.best_fit.proofs.Common.{◌&&◌, ◌||◌, not, List, [], ◌∷◌,
 use Rattle.best_fit.proofs.Common.{None, filter, find, option_map, if◌then◌else◌, list_all, AllByRecursion, both_ways}
 use Rattle.best_fit.proofs.Common.{cases_Bool, cases_eq, cases_lt, and_from, or_left, or_right, leb-true, le-leb}
 use Rattle.best_fit.proofs.Common.{eq-eqb, ne_eqb, cond-true, cond-false, cond_both, lt-ltb, le-ltb, lt-leb, is_sorted}
-use Rattle.best_fit.proofs.Common.{first_not_before, is_ordered_with, is_in, put, without, Gap, least, precedes}
+use Rattle.best_fit.proofs.Common.{first_not_before, is_ordered_with, is_in, insert_in_order, without, Gap, least}
+use Rattle.best_fit.proofs.Common.{precedes}
 use Rattle.best_fit.proofs.Common.{insert_gap}
 use Rattle.best_fit.proofs.Common.{payloads, sorted_gaps, comes_before, from_first, len_in, stands_before}
 use Rattle.best_fit.proofs.Common.{HaveGapLengths, AreAscending, is_long}
@@ -184,20 +185,21 @@ fits-sorted gs (h ∷ hs) f = fits-insert gs h (sorted_gaps hs) f.0 (fits-sorted
 
 -- a gap put in is a node put in
 pub put_is : (gs : List Gap) (g : Gap) (hs : List Gap) → len_in gs (node_of g) ≡ g.len → HaveGapLengths gs hs
-    → put (comes_before gs) (node_of g) (payloads hs) ≡ payloads (insert_gap g hs)
+    → insert_in_order (comes_before gs) (node_of g) (payloads hs) ≡ payloads (insert_gap g hs)
 put_is gs g [] a f = refl
 put_is gs g (h ∷ hs) a f =
     let ih = put_is gs g hs a f.1 in
     let e = before_is gs g h a f.0 in
-    ap (λ (b : Bool). if b then node_of g ∷ node_of h ∷ payloads hs else node_of h ∷ put (comes_before gs)
+    ap (λ (b : Bool). if b then node_of g ∷ node_of h ∷ payloads hs else node_of h ∷ insert_in_order (comes_before gs)
     (node_of g) (payloads hs)) e
     ∙ cond_both (precedes g h) (g ∷ h ∷ hs) (h ∷ insert_gap g hs)
-    (λ ks. (if precedes g h then node_of g ∷ node_of h ∷ payloads hs else node_of h ∷ put (comes_before gs)
+    (λ ks. (if precedes g h then node_of g ∷ node_of h ∷ payloads hs else node_of h ∷ insert_in_order (comes_before gs)
     (node_of g) (payloads hs)) ≡ payloads ks)
     (λ t. cond-true (precedes g h) (node_of g ∷ node_of h ∷ payloads hs)
-    (node_of h ∷ put (comes_before gs) (node_of g) (payloads hs)) t)
+    (node_of h ∷ insert_in_order (comes_before gs) (node_of g) (payloads hs)) t)
     (λ t. cond-false (precedes g h) (node_of g ∷ node_of h ∷ payloads hs)
-    (node_of h ∷ put (comes_before gs) (node_of g) (payloads hs)) t ∙ ap (λ (ks : List ℕ). node_of h ∷ ks) ih)
+    (node_of h ∷ insert_in_order (comes_before gs) (node_of g) (payloads hs)) t
+    ∙ ap (λ (ks : List ℕ). node_of h ∷ ks) ih)
 
 -- ---- the payloads rise
 

@@ -3,10 +3,11 @@ use Rattle.best_fit.proofs.Common.{◌≡◌, refl, sym, ap, subst, ◌∙◌, �
 use Rattle.best_fit.proofs.Common.{length, append_assoc, arith, Option, Some, None, map, WindowState, bytes_of, Tile}
 use Rattle.best_fit.proofs.Common.{current}
 use Rattle.best_fit.proofs.Common.{first_in, last_in, next_in, previous_in, with_red_at, with_use_at, without_last}
-use Rattle.best_fit.proofs.Common.{HasTileAt, MayBeUsed, MayHaveColour, EncodesTiles, SameExceptTags, IsTree, bits}
+use Rattle.best_fit.proofs.Common.{HasTileAt, CanTakeUse, MayHaveColour, EncodesTiles, SameExceptTags, IsTree, bits}
 use Rattle.best_fit.proofs.Common.{is_in, tree_same, link_at, target_of, Gap, LiveSet, others, released, IsTreeOf}
 use Rattle.best_fit.proofs.Common.{cells_of, payloads, sorted_gaps, gap_of, gaps_of, gaps_in, plain, tiles_in}
-use Rattle.best_fit.proofs.Common.{HasGapTree, LacksOne, Regrown, node_of, of_option, start_of, IsHeap, Deallocates}
+use Rattle.best_fit.proofs.Common.{HasGapTree, LacksGap, ChangesGapTree, node_of, tile_list, start_of, IsHeap}
+use Rattle.best_fit.proofs.Common.{Deallocates}
 use Rattle.best_fit.proofs.Common.{KeepsBlocks, EncodesLiveSet, live_of, joined_before, joined_free_at}
 use Rattle.best_fit.proofs.Allocating.{bits-le, heap_tree}
 use Rattle.best_fit.proofs.Around.{Away, away_front, next_in-around, previous_in-around}
@@ -24,12 +25,12 @@ use Rattle.best_fit.proofs.Writes.{Block}
 
 -- ---- lists in parts
 
-front_parts : (ts : List Tile) → ts ≡ without_last ts ++ of_option (last_in ts)
+front_parts : (ts : List Tile) → ts ≡ without_last ts ++ tile_list (last_in ts)
 front_parts [] = refl
 front_parts (t ∷ []) = refl
 front_parts (t ∷ u ∷ ts) = ap (λ (us : List Tile). t ∷ us) (front_parts (u ∷ ts))
 
-pub back_parts : (ts : List Tile) → ts ≡ of_option (first_in ts) ++ rest_of ts
+pub back_parts : (ts : List Tile) → ts ≡ tile_list (first_in ts) ++ rest_of ts
 back_parts [] = refl
 back_parts (t ∷ ts) = refl
 
@@ -59,7 +60,7 @@ same_start : (ts us : List Tile) (at : ℕ) → map plain us ≡ map plain ts
 same_start ts us at e = sym (start-plain us at) ∙ ap (λ (vs : List Tile). start_of (last_in vs) at) e
     ∙ start-plain ts at
 
-pub regrown-trans : (a b c : WindowState) → Regrown a b → Regrown b c → Regrown a c
+pub regrown-trans : (a b c : WindowState) → ChangesGapTree a b → ChangesGapTree b c → ChangesGapTree a c
 regrown-trans a b c r s =
     record {
       place = record { before = s.place.before ∙ r.place.before; after = s.place.after ∙ r.place.after };
@@ -76,10 +77,10 @@ pub record GivenBack (w four : WindowState) (at start : ℕ) : Type 0 where
   pub gap : Gap
   pub back : List Gap
   pub node : start + 16 ≡ node_of gap
-  pub lacks : LacksOne four front gap back
+  pub lacks : LacksGap four front gap back
   pub small : start + 16 ≤ 1073741824
   pub few : length (front ++ back) ≤ length (gaps_in w)
-  pub released : (e : WindowState) → HasGapTree e (front ++ (gap ∷ back)) → Regrown four e
+  pub released : (e : WindowState) → HasGapTree e (front ++ (gap ∷ back)) → ChangesGapTree four e
       → Deallocates current w e (at + 16)
 
 module _ (w : WindowState) (at : ℕ) (heap : IsHeap current w.bytes) (b : Block w (at + 16)) where
@@ -94,10 +95,10 @@ module _ (w : WindowState) (at : ℕ) (heap : IsHeap current w.bytes) (b : Block
   init = gaps_of (without_last b.front)
 
   abbrev last : List Gap
-  last = gaps_of (of_option (last_in b.front))
+  last = gaps_of (tile_list (last_in b.front))
 
   abbrev first : List Gap
-  first = gaps_of (of_option (first_in b.back))
+  first = gaps_of (tile_list (first_in b.back))
 
   abbrev tail : List Gap
   tail = gaps_of (rest_of b.back)
@@ -108,11 +109,11 @@ module _ (w : WindowState) (at : ℕ) (heap : IsHeap current w.bytes) (b : Block
   pub previous_is : previous_in (b.front ++ (b.tile ∷ b.back)) at ≡ last_in b.front
   previous_is = previous_in-around at b.tile b.back begins b.front away
 
-  front_gaps : gaps_of b.front ≡ gaps_of (without_last b.front) ++ gaps_of (of_option (last_in b.front))
-  front_gaps = ap gaps_of (front_parts b.front) ∙ gaps_of-append (without_last b.front) (of_option (last_in b.front))
+  front_gaps : gaps_of b.front ≡ gaps_of (without_last b.front) ++ gaps_of (tile_list (last_in b.front))
+  front_gaps = ap gaps_of (front_parts b.front) ∙ gaps_of-append (without_last b.front) (tile_list (last_in b.front))
 
-  back_gaps : gaps_of b.back ≡ gaps_of (of_option (first_in b.back)) ++ gaps_of (rest_of b.back)
-  back_gaps = ap gaps_of (back_parts b.back) ∙ gaps_of-append (of_option (first_in b.back)) (rest_of b.back)
+  back_gaps : gaps_of b.back ≡ gaps_of (tile_list (first_in b.back)) ++ gaps_of (rest_of b.back)
+  back_gaps = ap gaps_of (back_parts b.back) ∙ gaps_of-append (tile_list (first_in b.back)) (rest_of b.back)
 
   all_gaps : gaps_in w ≡ (init ++ last) ++ (first ++ tail)
   all_gaps =
@@ -127,10 +128,10 @@ module _ (w : WindowState) (at : ℕ) (heap : IsHeap current w.bytes) (b : Block
   -- the gap behind has left the tree, after so many touches from so many on
   pub record HalfUprooted (d : WindowState) (start count : ℕ) : Type 0 where
     pub tree : HasGapTree d (init ++ (last ++ tail))
-    pub rest : Regrown w d
+    pub rest : ChangesGapTree w d
     pub steps : count ≤ start + 32 * bits (length (gaps_in w) + 1) + 35
 
-  pub half_uprooted : (d : WindowState) (start n count : ℕ) → HasGapTree d ((init ++ last) ++ tail) → Regrown w d
+  pub half_uprooted : (d : WindowState) (start n count : ℕ) → HasGapTree d ((init ++ last) ++ tail) → ChangesGapTree w d
       → n ≤ start + 2
       → count ≤ n + 32 * bits (length ((init ++ last) ++ (first ++ tail)) + 1) + 33
       → HalfUprooted d start count
@@ -146,11 +147,11 @@ module _ (w : WindowState) (at : ℕ) (heap : IsHeap current w.bytes) (b : Block
   -- and so has the gap before
   pub record Uprooted (d : WindowState) (start count : ℕ) : Type 0 where
     pub tree : HasGapTree d (init ++ tail)
-    pub rest : Regrown w d
+    pub rest : ChangesGapTree w d
     pub steps : count ≤ start + 64 * bits (length (gaps_in w) + 1) + 68
 
   pub uprooted : (d1 d : WindowState) (start n count : ℕ) → HalfUprooted d1 start n → HasGapTree d (init ++ tail)
-      → Regrown d1 d
+      → ChangesGapTree d1 d
       → count ≤ n + 32 * bits (length (init ++ (last ++ tail)) + 1) + 33 → Uprooted d start count
   uprooted d1 d start n count half tree rest high =
       let few = half.tree.some.few in let low = half.steps in
@@ -162,7 +163,7 @@ module _ (w : WindowState) (at : ℕ) (heap : IsHeap current w.bytes) (b : Block
   pub few_steps : bits (length (gaps_in w) + 1) ≤ 41
   few_steps = few_bits w (gaps_in w) (heap_tree w heap)
 
-  module _ (d : WindowState) (h : HasGapTree d (init ++ tail)) (r : Regrown w d) where
+  module _ (d : WindowState) (h : HasGapTree d (init ++ tail)) (r : ChangesGapTree w d) where
     s : SplitsAlike (tiles_in d) b.front b.tile b.back
     s = splits_alike (tiles_in d) b.front b.tile b.back (r.tiles ∙ ap (λ (ts : List Tile). map plain ts) b.list)
 
@@ -188,7 +189,7 @@ module _ (w : WindowState) (at : ℕ) (heap : IsHeap current w.bytes) (b : Block
     module _ (one : WindowState) (paint : (ts : List Tile) → EncodesTiles d ts
         → EncodesTiles one (with_red_at at false ts))
         (paint_same : (ts : List Tile) → EncodesTiles d ts → SameExceptTags d one ts (with_red_at at false ts)) where
-      pub r_use : MayBeUsed one at None
+      pub r_use : CanTakeUse one at None
       r_use = use_may d says_d at s.front' s.tile' s.back' b.role s.list used_d begins_d one paint paint_same
 
       module _ (two : WindowState) (change : (ts : List Tile) → EncodesTiles one ts
@@ -223,7 +224,7 @@ module _ (w : WindowState) (at : ℕ) (heap : IsHeap current w.bytes) (b : Block
             new_node : start_of (last_in b.front) at + 16 ≡ node_of (gap_of f.whole)
             new_node = ap (λ k. k + 16) (sym (f.start ∙ same_start b.front s.front' at s.fronts))
 
-            lacks : LacksOne four xs (gap_of f.whole) ys
+            lacks : LacksGap four xs (gap_of f.whole) ys
             unfolding xs ys
             lacks =
                 let hs = gaps_of (without_last s.front') ++ gaps_of (rest_of s.back') in
@@ -260,7 +261,7 @@ module _ (w : WindowState) (at : ℕ) (heap : IsHeap current w.bytes) (b : Block
                 omega arith
 
             module _ (e : WindowState) (planted : HasGapTree e (xs ++ (gap_of f.whole ∷ ys)))
-                (regrown : Regrown four e) where
+                (regrown : ChangesGapTree four e) where
               says_e : SaysHeap e (tiles_in e)
               says_e = tree_says e (xs ++ (gap_of f.whole ∷ ys)) planted
 

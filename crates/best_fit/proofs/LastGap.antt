@@ -4,7 +4,8 @@ use Rattle.best_fit.proofs.Common.{length, arith, Option, Some, None, map, cond-
 use Rattle.best_fit.proofs.Common.{same_Some, none-some, WindowState, bytes_of, current, SameBytes-refl, Tile, last_in}
 use Rattle.best_fit.proofs.Common.{is_free}
 use Rattle.best_fit.proofs.Common.{is_in, MovesEnd, KeepsTo, last_end, least_size, of_size, Extent, Gap, LiveSet}
-use Rattle.best_fit.proofs.Common.{payloads, gap_of, gaps_in, gaps_of, plain, tiles_in, HasGapTree, Regrown, gap_offset}
+use Rattle.best_fit.proofs.Common.{payloads, gap_of, gaps_in, gaps_of, plain, tiles_in, HasGapTree, ChangesGapTree}
+use Rattle.best_fit.proofs.Common.{gap_offset}
 use Rattle.best_fit.proofs.Common.{node_of, IsHeap, EncodesLiveSet, live_of}
 use Rattle.best_fit.proofs.Allocating.{heap_tree}
 use Rattle.best_fit.proofs.Around.{last_in-EndsWith}
@@ -99,7 +100,7 @@ module _ (w : WindowState) (heap : IsHeap current w.bytes) (at : ℕ) (l : LastG
       absurd (omega arith)
 
   -- once it has left the tree
-  module _ (d : WindowState) (tree : HasGapTree d (gaps_of l.front ++ [])) (r : Regrown w d) where
+  module _ (d : WindowState) (tree : HasGapTree d (gaps_of l.front ++ [])) (r : ChangesGapTree w d) where
     alike : SplitsAlike (tiles_in d) l.front l.tile []
     alike = splits_alike (tiles_in d) l.front l.tile [] (r.tiles ∙ ap (λ (ts : List Tile). map plain ts) l.list)
 

@@ -2,11 +2,13 @@
 use Rattle.best_fit.proofs.Common.{◌≡◌, refl, sym, ap, subst, ◌∙◌, ℕ, ◌+◌, ◌-◌, ◌≤◌, inl, inr, Bool, true, false}
 use Rattle.best_fit.proofs.Common.{List, [], ◌∷◌, ◌++◌, length, arith, nat_le, length-append, Option, Some, WindowState}
 use Rattle.best_fit.proofs.Common.{bytes_of, Role, Tile, current, SameBytes-word, free_tile, of_colour, tile_in}
-use Rattle.best_fit.proofs.Common.{with_red_at, with_use_at, is_free, HasTileAt, MayBeUsed, MayHaveColour, EncodesTiles}
+use Rattle.best_fit.proofs.Common.{with_red_at, with_use_at, is_free, HasTileAt, CanTakeUse, MayHaveColour}
+use Rattle.best_fit.proofs.Common.{EncodesTiles}
 use Rattle.best_fit.proofs.Common.{SameExceptTags, one_tile_at_an_offset, tiles_are_read_off, IsTree, is_in}
 use Rattle.best_fit.proofs.Common.{tree_same, link_at, target_of, Extent, Gap, LiveSet, gaps, added, insert, share}
 use Rattle.best_fit.proofs.Common.{IsTreeOf, cells_of, is_red, payloads, sorted_gaps, gap_of, gaps_of, gaps_in}
-use Rattle.best_fit.proofs.Common.{tiles_in, GapNode, is_good-IsGoodHeap, HasGapTree, LacksOne, IsUnlinkedGap, Regrown}
+use Rattle.best_fit.proofs.Common.{tiles_in, GapNode, is_good-IsGoodHeap, HasGapTree, LacksGap, IsUnlinkedGap}
+use Rattle.best_fit.proofs.Common.{ChangesGapTree}
 use Rattle.best_fit.proofs.Common.{node_of}
 use Rattle.best_fit.proofs.Common.{KeepsBlocks, EncodesLiveSet, live_of}
 use Rattle.best_fit.specs.Tiling.{cut_at}
@@ -99,9 +101,9 @@ pub record Taken (c new : WindowState) (at len wanted : ℕ) (role : Role) (is_c
   pub back : List Gap
   pub node : at + wanted + 16 ≡ node_of gap
   pub count : length (gaps_in c) ≡ length (front ++ back) + 1
-  pub lacks : is_cut ≡ true → LacksOne new front gap back
+  pub lacks : is_cut ≡ true → LacksGap new front gap back
   pub whole : is_cut ≡ false → Planted c new at len wanted role
-  pub planted : is_cut ≡ true → (e : WindowState) → HasGapTree e (front ++ (gap ∷ back)) → Regrown new e
+  pub planted : is_cut ≡ true → (e : WindowState) → HasGapTree e (front ++ (gap ∷ back)) → ChangesGapTree new e
       → Planted c e at len wanted role
 
 module _ (c : WindowState) (at len : ℕ) (o : IsUnlinkedGap c at len) (wanted : ℕ) (role : Role) where
@@ -196,8 +198,8 @@ module _ (c : WindowState) (at len : ℕ) (o : IsUnlinkedGap c at len) (wanted :
       cuts_rest' = subst (λ k. (ts : List Tile) → EncodesTiles c1 ts → SameExceptTags c1 c2 ts (cut_at k wanted ts))
           (sym o.offset) cuts_rest
 
-      pub use_may : MayBeUsed c2 at (Some role)
-      use_may = subst (λ k. MayBeUsed c2 k (Some role)) o.offset
+      pub use_may : CanTakeUse c2 at (Some role)
+      use_may = subst (λ k. CanTakeUse c2 k (Some role)) o.offset
           (taking_used c1 says1 g1 o.front o.back tiles1 o.free refl wanted role t c2 cuts' cuts_rest')
 
       module _ (c3 : WindowState) (used_tags : (ts : List Tile) → EncodesTiles c2 ts
@@ -339,7 +341,7 @@ module _ (c : WindowState) (at len : ℕ) (o : IsUnlinkedGap c at len) (wanted :
         rest = free_tile (g1.offset + wanted) (g1.len - wanted)
 
         -- where a gap is left
-        rest_lacks : nat_le (wanted + 32) g1.len ≡ true → LacksOne c3 (gaps_of o.front) (gap_of rest) (gaps_of o.back)
+        rest_lacks : nat_le (wanted + 32) g1.len ≡ true → LacksGap c3 (gaps_of o.front) (gap_of rest) (gaps_of o.back)
         rest_lacks e =
             record {
               said = says3.said;
@@ -349,7 +351,7 @@ module _ (c : WindowState) (at len : ℕ) (o : IsUnlinkedGap c at len) (wanted :
             }
 
         module _ (e : WindowState) (planted : HasGapTree e (gaps_of o.front ++ (gap_of rest ∷ gaps_of o.back)))
-            (regrown : Regrown c3 e) (split : nat_le (wanted + 32) g1.len ≡ true) where
+            (regrown : ChangesGapTree c3 e) (split : nat_le (wanted + 32) g1.len ≡ true) where
           says_e : SaysHeap e (tiles_in e)
           says_e = tree_says e (gaps_of o.front ++ (gap_of rest ∷ gaps_of o.back)) planted
 

@@ -4,10 +4,11 @@ use Rattle.best_fit.proofs.Common.{◌++◌, length, append_assoc, length-append
 use Rattle.best_fit.proofs.Common.{false≢true, or_cases, or_left, or_right, append-nil, WindowState, SameBytesExcept}
 use Rattle.best_fit.proofs.Common.{bytes_of}
 use Rattle.best_fit.proofs.Common.{current, Tile, EncodesTiles, tiles_are_read_off, Tree, IsSearchTree, nodes_of}
-use Rattle.best_fit.proofs.Common.{is_ordered_with, is_in, put, link_at, Gap, payloads, sorted_gaps, comes_before}
+use Rattle.best_fit.proofs.Common.{is_ordered_with, is_in, insert_in_order, link_at, Gap, payloads, sorted_gaps}
+use Rattle.best_fit.proofs.Common.{comes_before}
 use Rattle.best_fit.proofs.Common.{gap_cells, gap_of, gaps_in, gaps_of, is_gap_node, kept_of, plain, tiles_in}
-use Rattle.best_fit.proofs.Common.{GapNode-is_gap_node, is_good-IsGoodHeap, AreSome, HaveGapLengths, HasGapTree}
-use Rattle.best_fit.proofs.Common.{Regrown, AreAscending, node_of}
+use Rattle.best_fit.proofs.Common.{GapNode-is_gap_node, is_good-IsGoodHeap, AreSomeGaps, HaveGapLengths, HasGapTree}
+use Rattle.best_fit.proofs.Common.{ChangesGapTree, AreAscending, node_of}
 use Rattle.best_fit.proofs.Common.{IsHeap, EncodesLiveSet, AreBytes}
 use Rattle.best_fit.specs.Rebuilding.{IsNextGap, RebuildsFreeTree}
 use Rattle.best_fit.proofs.BesideGaps.{beside_gaps, free_bytes}
@@ -43,7 +44,7 @@ in_longer n (x ∷ xs) ys i = by_place (or_cases (n == x.offset + 16) (is_in n (
     by_place (inl e) rest = or_left (n == x.offset + 16) (is_in n (payloads (xs ++ ys))) e
     by_place (inr e) rest = or_right (n == x.offset + 16) (is_in n (payloads (xs ++ ys))) (rest e)
 
-some_front : (gs xs ys : List Gap) → AreSome gs (xs ++ ys) → AreSome gs xs
+some_front : (gs xs ys : List Gap) → AreSomeGaps gs (xs ++ ys) → AreSomeGaps gs xs
 some_front gs xs ys s =
     let few = s.few in
     record {
@@ -64,18 +65,18 @@ module _ (c : WindowState) (xs : List Gap) (g : Gap) (node : ℕ) (is : node ≡
         (subst (λ (gs : List Gap). is_in (node_of g) (payloads gs) ≡ true) (sym n.gaps) (in_here xs g n.behind));
   })
 
-  with_next : AreSome (gaps_in c) (xs ++ (g ∷ []))
+  with_next : AreSomeGaps (gaps_in c) (xs ++ (g ∷ []))
   with_next =
       let all = all_gaps c (said_of c (is_good-IsGoodHeap c n.tree.good)) in
       let list : gaps_in c ≡ (xs ++ (g ∷ [])) ++ n.behind = n.gaps ∙ sym (append_assoc xs (g ∷ []) n.behind) in
-      some_front (gaps_in c) (xs ++ (g ∷ [])) n.behind (subst (λ (hs : List Gap). AreSome (gaps_in c) hs) list all)
+      some_front (gaps_in c) (xs ++ (g ∷ [])) n.behind (subst (λ (hs : List Gap). AreSomeGaps (gaps_in c) hs) list all)
 
   before_it : HasGapTree c (xs ++ [])
   before_it =
       let e : xs ≡ xs ++ [] = sym (append-nil xs) in
       record {
         good = n.tree.good;
-        some = subst (λ (hs : List Gap). AreSome (gaps_in c) hs) e n.tree.some;
+        some = subst (λ (hs : List Gap). AreSomeGaps (gaps_in c) hs) e n.tree.some;
         tree = record {
           tree = n.tree.tree.tree;
           linked = n.tree.tree.linked;
@@ -92,7 +93,7 @@ module _ (c : WindowState) (xs : List Gap) (g : Gap) (node : ℕ) (is : node ≡
   pub next_tree : (d e : WindowState) → (root : Option ℕ)
       → ((t : Tree) → IsSearchTree (comes_before (gaps_in c)) (gap_cells c) (link_at (bytes_of c.bytes) 24) t
       → (grown : Tree) × IsSearchTree (comes_before (gaps_in d)) (gap_cells d) root grown
-      × (nodes_of grown ≡ put (comes_before (gaps_in c)) node (nodes_of t)))
+      × (nodes_of grown ≡ insert_in_order (comes_before (gaps_in c)) node (nodes_of t)))
       → is_gap_node d ≡ is_gap_node c → kept_of d ≡ kept_of c
       → link_at (bytes_of e.bytes) 24 ≡ root → length e.bytes ≡ length d.bytes
       → SameBytesExcept (bytes_of d.bytes) (bytes_of e.bytes) 24 8 → HasGapTree e (xs ++ (g ∷ []))
@@ -104,7 +105,7 @@ module _ (c : WindowState) (xs : List Gap) (g : Gap) (node : ℕ) (is : node ≡
 
 -- the tree has the gaps among the tiles that are passed, and nothing else has changed
 pub record HasPlanted (old new : WindowState) (passed rest : List Tile) : Type 0 where
-  pub change : Regrown old new
+  pub change : ChangesGapTree old new
   pub tree : HasGapTree new (gaps_of passed)
 
 pub planted_start : (c : WindowState) → HasGapTree c [] → HasPlanted c c [] (tiles_in c)
@@ -145,7 +146,8 @@ module _ (old new : WindowState) (tile : Tile) (t : Turn new (HasPlanted old new
         tree = t.holds.tree;
       }
 
-  pub planted_gap : (next : WindowState) → HasGapTree next (gaps_of t.passed ++ (gap_of tile ∷ [])) → Regrown new next
+  pub planted_gap : (next : WindowState) → HasGapTree next (gaps_of t.passed ++ (gap_of tile ∷ []))
+      → ChangesGapTree new next
       → Passed next (HasPlanted old next) tile.offset
   planted_gap next h r =
       let says = tree_says next (gaps_of t.passed ++ (gap_of tile ∷ [])) h in
@@ -173,13 +175,13 @@ planted_all old new e = subst (λ (us : List Tile). HasGapTree new (gaps_of us))
 
 -- ---- the heap
 
-module _ (old mid new : WindowState) (says : SaysHeap old (tiles_in old)) (empty : Regrown old mid)
-    (change : Regrown mid new)
+module _ (old mid new : WindowState) (says : SaysHeap old (tiles_in old)) (empty : ChangesGapTree old mid)
+    (change : ChangesGapTree mid new)
     (h : HasGapTree new (gaps_in new)) where
   says_new : SaysHeap new (tiles_in new)
   says_new = tree_says new (gaps_in new) h
 
-  whole_change : Regrown old new
+  whole_change : ChangesGapTree old new
   whole_change = regrown-trans old mid new empty change
 
   pub rebuilt_heap : IsHeap current new.bytes

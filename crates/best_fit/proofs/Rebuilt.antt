@@ -11,7 +11,7 @@ use Rattle.best_fit.proofs.Common.{good_tags_say_tiles, header_may_change, one_t
 use Rattle.best_fit.proofs.Common.{tiles_are_read_off, leaf, IsSearchTree, is_in, leads, link_at, SameBytesExcept-link}
 use Rattle.best_fit.proofs.Common.{Gap}
 use Rattle.best_fit.proofs.Common.{cells_of, payloads, comes_before, gap_cells, gap_of, gaps_in, gaps_of, kept_of}
-use Rattle.best_fit.proofs.Common.{links_among, plain, tiles_in, IsGoodHeap, AreSome, HasGapTree, Regrown}
+use Rattle.best_fit.proofs.Common.{links_among, plain, tiles_in, IsGoodHeap, AreSomeGaps, HasGapTree, ChangesGapTree}
 use Rattle.block_tags.specs.Tiles.{are_tags, is_tile}
 use Rattle.best_fit.proofs.Around.{row_back, row_end, row_front, row_reaches}
 use Rattle.best_fit.proofs.FreeTrees.{regrown, rooted}
@@ -236,7 +236,7 @@ module _ (old c d : WindowState) (says : SaysHeap old (tiles_in old)) (end : End
             (sym tiles_c) end.holds.null);
       }
 
-  some : AreSome (gaps_in c) []
+  some : AreSomeGaps (gaps_in c) []
   some = record { fits = tt; rises = tt; listed = λ n i. absurd (false≢true i); few = omega arith }
 
   empty : IsSearchTree (comes_before (gaps_in c)) (gap_cells c) None leaf
@@ -249,7 +249,7 @@ module _ (old c d : WindowState) (says : SaysHeap old (tiles_in old)) (end : End
   pub emptied : HasGapTree d []
   emptied = rooted c d [] leaf None good some empty refl root size same
 
-  pub emptied_rest : Regrown old d
+  pub emptied_rest : ChangesGapTree old d
   emptied_rest =
       regrown old c d end.holds.kept place size
       (tiles_are_read_off d end.tiles (header_may_change c d end.tiles end.said size 24 8 (omega arith) same)

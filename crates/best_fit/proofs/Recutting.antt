@@ -6,7 +6,7 @@ use Rattle.best_fit.proofs.Common.{Tile, current, first_in, free_tile, next_in, 
 use Rattle.best_fit.proofs.Common.{SameExceptTags, IsTree, bits, is_in, tree_same, link_at, target_of, Extent, Gap}
 use Rattle.best_fit.proofs.Common.{LiveSet, handle, end_of, gap_after, others, resized, share, IsTreeOf, cells_of}
 use Rattle.best_fit.proofs.Common.{payloads, sorted_gaps, gap_of, gaps_of, gaps_in, plain, tiles_in, HasGapTree}
-use Rattle.best_fit.proofs.Common.{LacksOne, Regrown, node_of, of_option, IsHeap, KeepsBlocks, EncodesLiveSet}
+use Rattle.best_fit.proofs.Common.{LacksGap, ChangesGapTree, node_of, tile_list, IsHeap, KeepsBlocks, EncodesLiveSet}
 use Rattle.best_fit.proofs.Common.{SameBlock, live_of}
 use Rattle.best_fit.proofs.Common.{SplitsBlock, free_len, joined_free_at}
 use Rattle.raw_region.proofs.Laws.{SameBytes-part}
@@ -54,10 +54,10 @@ pub record Recut (w new : WindowState) (at wanted : ℕ) (is_cut : Bool) : Type 
   pub gap : Gap
   pub back : List Gap
   pub node : at + wanted + 16 ≡ node_of gap
-  pub lacks : is_cut ≡ true → LacksOne new front gap back
+  pub lacks : is_cut ≡ true → LacksGap new front gap back
   pub few : length (front ++ back) ≤ length (gaps_in w)
   pub whole : is_cut ≡ false → SplitsBlock current w new (at + 16) wanted
-  pub split : is_cut ≡ true → (e : WindowState) → HasGapTree e (front ++ (gap ∷ back)) → Regrown new e
+  pub split : is_cut ≡ true → (e : WindowState) → HasGapTree e (front ++ (gap ∷ back)) → ChangesGapTree new e
       → SplitsBlock current w e (at + 16) wanted
 
 module _ (w : WindowState) (at : ℕ) (heap : IsHeap current w.bytes) (b : Block w (at + 16)) (wanted : ℕ) where
@@ -71,14 +71,14 @@ module _ (w : WindowState) (at : ℕ) (heap : IsHeap current w.bytes) (b : Block
   pub behind_is : next_in (b.front ++ (b.tile ∷ b.back)) at ≡ first_in b.back
   behind_is = next_in-around at b.tile b.back begins b.front away
 
-  gaps_w : gaps_in w ≡ gaps_of b.front ++ (gaps_of (of_option (first_in b.back)) ++ gaps_of (rest_of b.back))
+  gaps_w : gaps_in w ≡ gaps_of b.front ++ (gaps_of (tile_list (first_in b.back)) ++ gaps_of (rest_of b.back))
   gaps_w =
       ap gaps_of b.list ∙ gaps_of-append b.front (b.tile ∷ b.back) ∙ ap (λ (hs : List Gap). gaps_of b.front ++ hs)
       (gaps_of-used b.tile b.back b.role b.in_use)
       ∙ ap (λ (hs : List Gap). gaps_of b.front ++ hs) (ap gaps_of (back_parts b.back)
-      ∙ gaps_of-append (of_option (first_in b.back)) (rest_of b.back))
+      ∙ gaps_of-append (tile_list (first_in b.back)) (rest_of b.back))
 
-  pub tree_w : HasGapTree w (gaps_of b.front ++ (gaps_of (of_option (first_in b.back)) ++ gaps_of (rest_of b.back)))
+  pub tree_w : HasGapTree w (gaps_of b.front ++ (gaps_of (tile_list (first_in b.back)) ++ gaps_of (rest_of b.back)))
   tree_w = subst (λ (hs : List Gap). HasGapTree w hs) gaps_w (heap_tree w heap)
 
   abbrev x : Extent
@@ -94,26 +94,27 @@ module _ (w : WindowState) (at : ℕ) (heap : IsHeap current w.bytes) (b : Block
   -- the gap behind has left the tree, after this many touches of some before
   pub record TailUprooted (d : WindowState) (before count : ℕ) : Type 0 where
     pub tree : HasGapTree d (gaps_of b.front ++ gaps_of (rest_of b.back))
-    pub rest : Regrown w d
+    pub rest : ChangesGapTree w d
     pub steps : count ≤ before + 32 * bits (length (gaps_in w) + 1) + 34
 
   pub tail_uprooted : (d : WindowState) (before n count : ℕ)
       → HasGapTree d (gaps_of b.front ++ gaps_of (rest_of b.back))
-      → Regrown w d → n ≤ before + 1
+      → ChangesGapTree w d → n ≤ before + 1
       → count ≤ n + 32
-      * bits (length (gaps_of b.front ++ (gaps_of (of_option (first_in b.back)) ++ gaps_of (rest_of b.back))) + 1)
+      * bits (length (gaps_of b.front ++ (gaps_of (tile_list (first_in b.back)) ++ gaps_of (rest_of b.back))) + 1)
       + 33 → TailUprooted d before count
   tail_uprooted d before n count tree rest low high =
       let few = tree_w.some.few in
       let most = bits-le
-      (length (gaps_of b.front ++ (gaps_of (of_option (first_in b.back)) ++ gaps_of (rest_of b.back))) + 1)
+      (length (gaps_of b.front ++ (gaps_of (tile_list (first_in b.back)) ++ gaps_of (rest_of b.back))) + 1)
       (length (gaps_in w) + 1) (omega arith) in
       record { tree = tree; rest = rest; steps = omega arith }
 
   pub few_steps : bits (length (gaps_in w) + 1) ≤ 41
   few_steps = few_bits w (gaps_in w) (heap_tree w heap)
 
-  module _ (d : WindowState) (h : HasGapTree d (gaps_of b.front ++ gaps_of (rest_of b.back))) (r : Regrown w d) where
+  module _ (d : WindowState) (h : HasGapTree d (gaps_of b.front ++ gaps_of (rest_of b.back)))
+      (r : ChangesGapTree w d) where
     s : SplitsAlike (tiles_in d) b.front b.tile b.back
     s = splits_alike (tiles_in d) b.front b.tile b.back (r.tiles ∙ ap (λ (ts : List Tile). map plain ts) b.list)
 
@@ -277,7 +278,7 @@ module _ (w : WindowState) (at : ℕ) (heap : IsHeap current w.bytes) (b : Block
         backs = gaps_of (rest_of s.back')
 
         c_lacks : nat_le (wanted + 32) (b.tile.len + gap_after (live_of w.bytes) (extent_of b.tile b.role)) ≡ true
-            → LacksOne new fronts rest_gap backs
+            → LacksGap new fronts rest_gap backs
         unfolding rest_gap fronts backs
         c_lacks e =
             record {
@@ -297,7 +298,8 @@ module _ (w : WindowState) (at : ℕ) (heap : IsHeap current w.bytes) (b : Block
             (same_gaps (tiles_in w) (tiles_in d) r.tiles) in
             omega arith
 
-        module _ (e : WindowState) (planted : HasGapTree e (fronts ++ (rest_gap ∷ backs))) (regrown : Regrown new e)
+        module _ (e : WindowState) (planted : HasGapTree e (fronts ++ (rest_gap ∷ backs)))
+            (regrown : ChangesGapTree new e)
             (split : nat_le (wanted + 32)
             (b.tile.len + gap_after (live_of w.bytes) (extent_of b.tile b.role)) ≡ true) where
           says_e : SaysHeap e (tiles_in e)

@@ -5,7 +5,8 @@ use Rattle.best_fit.proofs.Common.{true, false, ◌&&◌, not, List, [], ◌∷�
 use Rattle.best_fit.proofs.Common.{map, cons_option, and_from, or_left, or_right, le-leb, lt-ltb, WindowState, bytes_of}
 use Rattle.best_fit.proofs.Common.{word_at, Role, Tile, current, SameBytes-word, tile_in, is_free, EncodesTiles}
 use Rattle.best_fit.proofs.Common.{SameExceptTags, target_of, Gap, cells_of, lies_behind, own_from, plain, tiles_in}
-use Rattle.best_fit.proofs.Common.{is_good-IsGoodHeap, HasGapTree, Regrown, KeepsBlocks, SameBlock, as_extent, live_of}
+use Rattle.best_fit.proofs.Common.{is_good-IsGoodHeap, HasGapTree, ChangesGapTree, KeepsBlocks, SameBlock, as_extent}
+use Rattle.best_fit.proofs.Common.{live_of}
 use Rattle.best_fit.proofs.GapFacts.{apart_of, said_of, tile_colour}
 use Rattle.best_fit.proofs.GapSetters.{cell_stays}
 use Rattle.best_fit.proofs.TagsAndLiveSet.{SaysHeap, said_row}
@@ -24,7 +25,7 @@ pub same_extents : (ts us : List Tile) → map plain us ≡ map plain ts → ext
 same_extents ts us e = sym (extents-plain us) ∙ ap extents_of e ∙ extents-plain ts
 
 -- the live set stays
-pub regrown_live : (c d : WindowState) → Regrown c d → live_of d.bytes ≡ live_of c.bytes
+pub regrown_live : (c d : WindowState) → ChangesGapTree c d → live_of d.bytes ≡ live_of c.bytes
 unfolding live_of
 regrown_live c d r = let e = same_extents (tiles_in c) (tiles_in d) r.tiles in
     λ i. record { size = r.size i; extents = e i }
@@ -67,7 +68,7 @@ own_at : (t : Tile) (b : Bool) (k : ℕ) → is_free t ≡ b → t.offset + (if 
 own_at t b k e l = subst (λ (c : Bool). t.offset + (if c then 32 else 16) ≤ k) (sym e) l
 
 module _ (c d : WindowState) (said : EncodesTiles c (tiles_in c)) (says : EncodesTiles d (tiles_in d))
-    (r : Regrown c d) where
+    (r : ChangesGapTree c d) where
   row : Row 128 (tiles_in c) (length c.bytes - 16)
   row = said_row c (tiles_in c) said
 

@@ -5,13 +5,14 @@ use Rattle.best_fit.proofs.Common.{false≢true, both_ways, cases_eq, and_from, 
 use Rattle.best_fit.proofs.Common.{SameSurroundings, bytes_of, Tile}
 use Rattle.best_fit.proofs.Common.{is_legal_size, EncodesTiles, good_tags_say_tiles, header_may_change}
 use Rattle.best_fit.proofs.Common.{payload_may_change, tiles_are_read_off, Cell, Tree, leaf, fork, IsTree}
-use Rattle.best_fit.proofs.Common.{IsSearchTree, nodes_of, bits, is_in, leads, put, without, is_ordered_with, tree_same}
+use Rattle.best_fit.proofs.Common.{IsSearchTree, nodes_of, bits, is_in, leads, insert_in_order, without}
+use Rattle.best_fit.proofs.Common.{is_ordered_with, tree_same}
 use Rattle.best_fit.proofs.Common.{all_from, link_at, SameBytesExcept-link, Gap, cells_of, payloads, sorted_gaps}
 use Rattle.best_fit.proofs.Common.{GapTreeFrame}
 use Rattle.best_fit.proofs.Common.{comes_before, gap_cells, gaps_of, gaps_in, is_gap_node, kept_of, links_among}
 use Rattle.best_fit.proofs.Common.{plain, tiles_in, IsGoodHeap, GapNode-is_gap_node, IsGoodHeap-is_good}
 use Rattle.best_fit.proofs.Common.{is_good-IsGoodHeap}
-use Rattle.best_fit.proofs.Common.{is_gap_node-GapNode, AreSome, HasGapTree, LacksOne, Regrown, node_of}
+use Rattle.best_fit.proofs.Common.{is_gap_node-GapNode, AreSomeGaps, HasGapTree, LacksGap, ChangesGapTree, node_of}
 use Rattle.raw_region.proofs.Laws.{SameBytesExcept-wider}
 use Rattle.link_tree.specs.Tree.{root_of, AreCellsOf}
 use Rattle.link_tree.proofs.Laws.{bits_most, in_left, in_middle, in_parts, in_right}
@@ -58,8 +59,8 @@ module _ (c d e : WindowState) (xs : List Gap) (g : Gap) (ys : List Gap) (node :
   pub taken_good : IsGoodHeap d
   taken_good = good_of d node (ap (λ (p : ℕ → Bool). p node) nodes ∙ listed)
 
-  some_left : AreSome (gaps_in d) (xs ++ ys)
-  some_left = subst (λ (gs : List Gap). AreSome gs (xs ++ ys)) (sym (kept_gaps c d kept))
+  some_left : AreSomeGaps (gaps_in d) (xs ++ ys)
+  some_left = subst (λ (gs : List Gap). AreSomeGaps gs (xs ++ ys)) (sym (kept_gaps c d kept))
       (some_drop (gaps_in c) xs g ys h.some)
 
   left_nodes : without node (nodes_of h.tree.tree) ≡ payloads (sorted_gaps (xs ++ ys))
@@ -118,14 +119,14 @@ holds_closed f (fork red l n r) m h i =
 
 -- where the gap of a node lies whose links may be anything
 pub lacking_node : (c : WindowState) (xs : List Gap) (g : Gap) (ys : List Gap) (node : ℕ) → node ≡ node_of g
-    → LacksOne c xs g ys → NodeAt c node
+    → LacksGap c xs g ys → NodeAt c node
 lacking_node c xs g ys node is l =
     node_from c node l.said (is_merged-Apart (tiles_in c) l.merged)
     (subst (λ k. is_in k (payloads (gaps_in c)) ≡ true) (sym is)
     (subst (λ (gs : List Gap). is_in (node_of g) (payloads gs) ≡ true) (sym l.gaps) (in_here xs g ys)))
 
 module _ (c a b : WindowState) (xs : List Gap) (g : Gap) (ys : List Gap) (node : ℕ) (is : node ≡ node_of g)
-    (l : LacksOne c xs g ys)
+    (l : LacksGap c xs g ys)
     (left : link_at (bytes_of a.bytes) node ≡ None) (size1 : length a.bytes
     ≡ length c.bytes) (place1 : SameSurroundings c a)
     (same1 : SameBytesExcept (bytes_of c.bytes) (bytes_of a.bytes) node 8)
@@ -183,10 +184,10 @@ module _ (c a b : WindowState) (xs : List Gap) (g : Gap) (ys : List Gap) (node :
   tree_in : (m : ℕ) → is_in m (payloads (xs ++ ys)) ≡ true → is_in m (nodes_of l.tree.tree) ≡ true
   tree_in m i = ap (λ (ns : List ℕ). is_in m ns) l.tree.lists ∙ in_sorted m (xs ++ ys) ∙ i
 
-  some_all : AreSome (gaps_in c) (xs ++ (g ∷ ys))
-  some_all = subst (λ (hs : List Gap). AreSome (gaps_in c) hs) l.gaps (all_gaps c l.said)
+  some_all : AreSomeGaps (gaps_in c) (xs ++ (g ∷ ys))
+  some_all = subst (λ (hs : List Gap). AreSomeGaps (gaps_in c) hs) l.gaps (all_gaps c l.said)
 
-  pub some_rest : AreSome (gaps_in c) (xs ++ ys)
+  pub some_rest : AreSomeGaps (gaps_in c) (xs ++ ys)
   some_rest = some_drop (gaps_in c) xs g ys some_all
 
   not_node : (m : ℕ) → is_in m (payloads (xs ++ ys)) ≡ true → (m ≡ node → ⊥)
@@ -246,7 +247,7 @@ module _ (c a b : WindowState) (xs : List Gap) (g : Gap) (ys : List Gap) (node :
       let root = SameBytesExcept-link (bytes_of c.bytes) (bytes_of b.bytes) node 16 24 same (inl (omega arith)) in
       record {
         good = IsGoodHeap-is_good b good_b;
-        some = subst (λ (gs : List Gap). AreSome gs (xs ++ ys)) (sym gaps_b) some_rest;
+        some = subst (λ (gs : List Gap). AreSomeGaps gs (xs ++ ys)) (sym gaps_b) some_rest;
         tree = record {
           tree = l.tree.tree;
           linked = subst (λ (o : Option ℕ). IsTree (cells_of (bytes_of b.bytes)) o l.tree.tree) (sym root)
@@ -262,7 +263,7 @@ module _ (c a b : WindowState) (xs : List Gap) (g : Gap) (ys : List Gap) (node :
 
 -- a gap is put into a tree of some others
 module _ (b d e : WindowState) (xs : List Gap) (g : Gap) (ys : List Gap) (node : ℕ) (is : node ≡ node_of g)
-    (whole : AreSome (gaps_in b) (xs ++ (g ∷ ys))) (h : HasGapTree b (xs ++ ys)) where
+    (whole : AreSomeGaps (gaps_in b) (xs ++ (g ∷ ys))) (h : HasGapTree b (xs ++ ys)) where
   pub grown_place : is_ordered_with (comes_before (gaps_in b)) node (nodes_of h.tree.tree) ≡ true
   grown_place =
       subst (λ (ns : List ℕ). is_ordered_with (comes_before (gaps_in b)) node ns ≡ true) (sym h.tree.lists)
@@ -270,10 +271,11 @@ module _ (b d e : WindowState) (xs : List Gap) (g : Gap) (ys : List Gap) (node :
       (place_sorted (gaps_in b) g (xs ++ ys) (fits_one (gaps_in b) xs g ys whole.fits) h.some.fits
       (none_round 0 xs g ys whole.rises)))
 
-  grown_nodes : put (comes_before (gaps_in b)) node (nodes_of h.tree.tree) ≡ payloads (sorted_gaps (xs ++ (g ∷ ys)))
+  grown_nodes : insert_in_order (comes_before (gaps_in b)) node (nodes_of h.tree.tree)
+      ≡ payloads (sorted_gaps (xs ++ (g ∷ ys)))
   grown_nodes =
-      ap (put (comes_before (gaps_in b)) node) h.tree.lists
-      ∙ ap (λ k. put (comes_before (gaps_in b)) k (payloads (sorted_gaps (xs ++ ys)))) is
+      ap (insert_in_order (comes_before (gaps_in b)) node) h.tree.lists
+      ∙ ap (λ k. insert_in_order (comes_before (gaps_in b)) k (payloads (sorted_gaps (xs ++ ys)))) is
       ∙ put_is (gaps_in b) g (sorted_gaps (xs ++ ys)) (fits_one (gaps_in b) xs g ys whole.fits)
       (fits-sorted (gaps_in b) (xs ++ ys) h.some.fits)
       ∙ ap payloads (sym (sorted-around g xs ys (none_front 0 xs g ys whole.rises)))
@@ -281,7 +283,7 @@ module _ (b d e : WindowState) (xs : List Gap) (g : Gap) (ys : List Gap) (node :
   module _ (root : Option ℕ)
       (grows : (t : Tree) → IsSearchTree (comes_before (gaps_in b)) (gap_cells b) (link_at (bytes_of b.bytes) 24) t
       → (grown : Tree) × IsSearchTree (comes_before (gaps_in d)) (gap_cells d) root grown
-      × (nodes_of grown ≡ put (comes_before (gaps_in b)) node (nodes_of t)))
+      × (nodes_of grown ≡ insert_in_order (comes_before (gaps_in b)) node (nodes_of t)))
       (node_there : is_gap_node b node ≡ true) (nodes : is_gap_node d ≡ is_gap_node b) (kept : kept_of d ≡ kept_of b)
       (leads_to : link_at (bytes_of e.bytes) 24 ≡ root) (size : length e.bytes ≡ length d.bytes)
       (same : SameBytesExcept (bytes_of d.bytes) (bytes_of e.bytes) 24 8) where
@@ -291,18 +293,18 @@ module _ (b d e : WindowState) (xs : List Gap) (g : Gap) (ys : List Gap) (node :
     pub grown_tree : HasGapTree e (xs ++ (g ∷ ys))
     grown_tree =
         let s = grows h.tree.tree (search_tree b (xs ++ ys) h) in
-        let some = subst (λ (gs : List Gap). AreSome gs (xs ++ (g ∷ ys))) (sym (kept_gaps b d kept)) whole in
+        let some = subst (λ (gs : List Gap). AreSomeGaps gs (xs ++ (g ∷ ys))) (sym (kept_gaps b d kept)) whole in
         rooted d e (xs ++ (g ∷ ys)) s.0 root grown_good some s.1 (s.2 ∙ grown_nodes) leads_to size same
 
 -- the only gap that is not in the tree is put in
 module _ (c b d e : WindowState) (xs : List Gap) (g : Gap) (ys : List Gap) (node : ℕ) (is : node ≡ node_of g)
-    (l : LacksOne c xs g ys) (h : HasGapTree b (xs ++ ys)) (cleared : kept_of b ≡ kept_of c) where
+    (l : LacksGap c xs g ys) (h : HasGapTree b (xs ++ ys)) (cleared : kept_of b ≡ kept_of c) where
   gaps_c : gaps_in b ≡ xs ++ (g ∷ ys)
   gaps_c = kept_gaps c b cleared ∙ l.gaps
 
-  whole : AreSome (gaps_in b) (xs ++ (g ∷ ys))
+  whole : AreSomeGaps (gaps_in b) (xs ++ (g ∷ ys))
   whole = subst (λ (hs : List Gap).
-      AreSome (gaps_in b) hs) gaps_c (all_gaps b (said_of b (is_good-IsGoodHeap b h.good)))
+      AreSomeGaps (gaps_in b) hs) gaps_c (all_gaps b (said_of b (is_good-IsGoodHeap b h.good)))
 
   pub put_place : is_ordered_with (comes_before (gaps_in b)) node (nodes_of h.tree.tree) ≡ true
   put_place = grown_place b d e xs g ys node is whole h
@@ -310,7 +312,7 @@ module _ (c b d e : WindowState) (xs : List Gap) (g : Gap) (ys : List Gap) (node
   module _ (root : Option ℕ)
       (grows : (t : Tree) → IsSearchTree (comes_before (gaps_in b)) (gap_cells b) (link_at (bytes_of b.bytes) 24) t
       → (grown : Tree) × IsSearchTree (comes_before (gaps_in d)) (gap_cells d) root grown
-      × (nodes_of grown ≡ put (comes_before (gaps_in b)) node (nodes_of t)))
+      × (nodes_of grown ≡ insert_in_order (comes_before (gaps_in b)) node (nodes_of t)))
       (node_there : is_gap_node b node ≡ true) (nodes : is_gap_node d ≡ is_gap_node b) (kept : kept_of d ≡ kept_of b)
       (leads_to : link_at (bytes_of e.bytes) 24 ≡ root) (size : length e.bytes ≡ length d.bytes)
       (same : SameBytesExcept (bytes_of d.bytes) (bytes_of e.bytes) 24 8) where
@@ -338,7 +340,7 @@ node_inside d n h = let low = (legal_size (length d.bytes) (good_of d n h).size)
 
 -- the windows of the two calls differ as said
 pub taken_rest : (c d e : WindowState) (n : ℕ) → is_gap_node d n ≡ true → kept_of d ≡ kept_of c → SameSurroundings d e
-    → length e.bytes ≡ length d.bytes → SameBytesExcept (bytes_of d.bytes) (bytes_of e.bytes) 24 8 → Regrown c e
+    → length e.bytes ≡ length d.bytes → SameBytesExcept (bytes_of d.bytes) (bytes_of e.bytes) 24 8 → ChangesGapTree c e
 taken_rest c d e n h kept place size same =
     let said = said_of d (good_of d n h) in
     regrown c d e kept place size

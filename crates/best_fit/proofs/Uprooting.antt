@@ -2,8 +2,9 @@
 use Rattle.best_fit.proofs.Common.{◌≡◌, refl, sym, ap, subst, ◌∙◌, ℕ, ◌+◌, ◌≤◌, true, List, [], ◌∷◌, ◌++◌, length}
 use Rattle.best_fit.proofs.Common.{arith, Option, Some, None, cond-true, cond-false, same_Some, WindowState, Tile}
 use Rattle.best_fit.proofs.Common.{is_free}
-use Rattle.best_fit.proofs.Common.{is_in, none_some, Gap, payloads, gaps_of, is_good-IsGoodHeap, HasGapTree, Regrown}
-use Rattle.best_fit.proofs.Common.{gap_offset, of_option, offset_of}
+use Rattle.best_fit.proofs.Common.{is_in, none_some, Gap, payloads, gaps_of, is_good-IsGoodHeap, HasGapTree}
+use Rattle.best_fit.proofs.Common.{ChangesGapTree}
+use Rattle.best_fit.proofs.Common.{gap_offset, tile_list, offset_of}
 use Rattle.best_fit.proofs.FreeTrees.{in_here}
 use Rattle.best_fit.proofs.GapFacts.{node_at}
 use Rattle.best_fit.proofs.Rows.{unused, used, use_cases, unused-free, used-not_free, gaps_of-free, gaps_of-used}
@@ -19,7 +20,7 @@ one_gap (g ∷ []) at e l = record { gap = g; list = refl; offset = same_Some at
 one_gap (g ∷ h ∷ gs) at e l = absurd (omega arith)
 
 -- the gaps of a tile, or none
-pub option_offset : (o : Option Tile) → gap_offset o ≡ offset_of (gaps_of (of_option o))
+pub option_offset : (o : Option Tile) → gap_offset o ≡ offset_of (gaps_of (tile_list o))
 option_offset None = refl
 option_offset (Some t) =
     elim (use_cases t) [
@@ -29,7 +30,7 @@ option_offset (Some t) =
           ∙ sym (ap offset_of (gaps_of-used t [] role e))
     ]
 
-pub option_few : (o : Option Tile) → length (gaps_of (of_option o)) ≤ 1
+pub option_few : (o : Option Tile) → length (gaps_of (tile_list o)) ≤ 1
 option_few None = omega arith
 option_few (Some t) =
     elim (use_cases t) [
@@ -61,7 +62,7 @@ pub none_tree : (c : WindowState) (xs gs ys : List Gap) → gs ≡ [] → HasGap
 none_tree c xs gs ys e h = subst (λ (ks : List Gap). HasGapTree c (xs ++ (ks ++ ys))) e h
 
 -- what does not change is regrown
-pub regrown-refl : (c : WindowState) → Regrown c c
+pub regrown-refl : (c : WindowState) → ChangesGapTree c c
 regrown-refl c = record {
   place = record { before = refl; after = refl };
   size = refl;

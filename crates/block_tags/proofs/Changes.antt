@@ -9,7 +9,7 @@ use Rattle.block_tags.specs.declared.tile.Tile.{Tile}
 use Rattle.block_tags.specs.Format.{is_legal_size}
 use Rattle.block_tags.specs.Tiles.{AreTags, may_be_red, tag_word, tile_at}
 use Rattle.block_tags.specs.Lists.{tile_in, changed_at, used_for, of_colour, with_use_at, with_red_at, IsBesideTags}
-use Rattle.block_tags.specs.Windows.{EncodesTiles, HasTileAt, MayBeUsed, MayHaveColour, SameExceptTags, WritesWord}
+use Rattle.block_tags.specs.Windows.{EncodesTiles, HasTileAt, CanTakeUse, MayHaveColour, SameExceptTags, WritesWord}
 use Rattle.block_tags.proofs.ReadOff.{is_tile-IsWhole}
 use Rattle.block_tags.proofs.Puts.{put-word, put-SameBytes}
 use Rattle.block_tags.proofs.Standing.{Standing, is_tile-made, head_word, retag}
@@ -79,7 +79,7 @@ module _ (c d : WindowState) (at : ℕ) (t : Tile) (u : Option Role) (r : Bool) 
         (λ k o n l. let there = s.tags.0
         in p.rest.at k (elim o.0 [ inl a ↦ inl (omega arith) | inr a ↦ inr (omega arith) ]))
 
-module _ (c d : WindowState) (at : ℕ) (u : Option Role) (h : MayBeUsed c at u) (t : Tile) (e : t
+module _ (c d : WindowState) (at : ℕ) (u : Option Role) (h : CanTakeUse c at u) (t : Tile) (e : t
     ≡ tile_at (bytes_of c.bytes) at) (x : ℕ)
     (f : x ≡ tag_word (record { offset = t.offset; len = t.len; use_of = u; red = t.red }))
     (p : WritesWord c d (at + 8) x) (ts : List Tile) (said : EncodesTiles c ts) where

@@ -14,7 +14,7 @@ use Rattle.image_check.specs.declared.owners.Owner.{Owner}
 use Rattle.image_check.specs.EarlyTests.{is_among}
 use Rattle.image_check.specs.ObjectTests.{tile_of, good_for, are_distinct}
 use Rattle.image_check.specs.Owners.{Blocks, entry_in}
-use Rattle.image_check.specs.Entered.{AreAdded, EntersLink, are_enterable, are_new, can_enter, index_of, is_new_in}
+use Rattle.image_check.specs.Entered.{NotesEntries, EntersLink, are_enterable, are_new, can_enter, index_of, is_new_in}
 use Rattle.image_check.specs.Entered.{root_in}
 use Rattle.image_check.proofs.IndexEntries.{Distinct, distinct-append, distinct-passes}
 use Rattle.image_check.proofs.Members.{Mem, list_all_from, list_all_mem, is_among-Mem, Mem-is_among, mem_left}
@@ -86,7 +86,7 @@ targets-split front back link n e =
     ap (λ l. targets_of (front ++ l ∷ back)) e ∙ flat_map-append option_to_list front (Some n ∷ back)
 
 module _ (ts : List Tile) (old es : Blocks) (root place : ℕ) (front : List (Option ℕ)) (link : Option ℕ)
-    (a : AreAdded ts old es root (targets_of front)) (r : are_enterable ts old front ≡ true) where
+    (a : NotesEntries ts old es root (targets_of front)) (r : are_enterable ts old front ≡ true) where
   parts : (list_all (is_good ts) front ≡ true) × (are_new old (targets_of front) ≡ true)
   parts = and_parts (list_all (is_good ts) front) (are_new old (targets_of front)) r
 
@@ -114,7 +114,7 @@ module _ (ts : List Tile) (old es : Blocks) (root place : ℕ) (front : List (Op
         }
 
     pub one-entered : (are_enterable ts old (front ++ link ∷ []) ≡ true)
-        × AreAdded ts old new root (targets_of (front ++ link ∷ []))
+        × NotesEntries ts old new root (targets_of (front ++ link ∷ []))
     one-entered =
         let same = targets-split front [] link e.target e.leads in (
           and_from (list_all (is_good ts) (front ++ link ∷ [])) (are_new old (targets_of (front ++ link ∷ [])))
@@ -122,7 +122,8 @@ module _ (ts : List Tile) (old es : Blocks) (root place : ℕ) (front : List (Op
               ∙ and_from (list_all (is_good ts) front) (list_all (is_good ts) (link ∷ [])) parts.0
               (and_from (is_good ts link) true (good ts old es new root place (targets_of front) link a e) refl))
               (ap (are_new old) same ∙ new-from old (targets_of front ++ e.target ∷ []) new-more),
-          subst (AreAdded ts old new root) (sym same) (added-more ts old es new root place (targets_of front) link a e),
+          subst (NotesEntries ts old new root) (sym same)
+              (added-more ts old es new root place (targets_of front) link a e),
         )
 
 -- ---- an entry that is wrong
@@ -135,7 +136,7 @@ free-block b o e = no-owner b.owner (sym (ap root_in (cond-true (same_role b.rol
     no-owner (Some o) h = absurd (cc)
 
 module _ (ts : List Tile) (old es : Blocks) (root : ℕ) (front : List (Option ℕ))
-    (a : AreAdded ts old es root (targets_of front)) where
+    (a : NotesEntries ts old es root (targets_of front)) where
   -- an object that is none of those before and has no entry can be entered
   pub can : (n : ℕ) → is_some (tile_of ts Object n) ≡ true → is_among (targets_of front) n ≡ false
       → index_of old n ≡ None → can_enter es (Some n) ≡ true

@@ -16,7 +16,7 @@ use Rattle.image_check.specs.EarlyTests.{is_among}
 use Rattle.image_check.specs.ObjectTests.{tile_of, good_for}
 use Rattle.image_check.specs.Owners.{Blocks, block_at, entry_in, owner_at, owner_in, IsTileAt, IsBlockAt, frames}
 use Rattle.image_check.specs.Owners.{frame_of}
-use Rattle.image_check.specs.Entered.{AreAdded, EntersLink, index_of, is_new_block, root_in, with_entry}
+use Rattle.image_check.specs.Entered.{NotesEntries, EntersLink, index_of, is_new_block, root_in, with_entry}
 use Rattle.image_check.proofs.Members.{Mem-is_among, mem_right}
 use Rattle.image_check.proofs.Marking.{put-other, put-same}
 use Rattle.image_check.proofs.Standing.{same_role-is}
@@ -57,7 +57,7 @@ entry-of-object b h = cond-true (same_role b.role Object) b.owner None h
 -- ---- one entry more
 
 module _ (ts : List Tile) (old es new : Blocks) (root place : ℕ) (xs : List ℕ) (link : Option ℕ)
-    (a : AreAdded ts old es root xs) (e : EntersLink es new link place root) where
+    (a : NotesEntries ts old es root xs) (e : EntersLink es new link place root) where
   abbrev n : ℕ
   n = e.target
 
@@ -139,7 +139,7 @@ module _ (ts : List Tile) (old es new : Blocks) (root place : ℕ) (xs : List �
       only-one false y h = ap (λ z. z || false) h
 
   -- the object is noted, and all that was noted stays
-  pub added-more : AreAdded ts old new root (xs ++ n ∷ [])
+  pub added-more : NotesEntries ts old new root (xs ++ n ∷ [])
   added-more = record {
     blocks = record { tiles = tiles-after; blocks = blocks-after };
     frame = ap frames e.after ∙ frame-put n e.block w es refl refl e.is ∙ a.frame;

@@ -11,7 +11,8 @@ use Rattle.offset_link.specs.Link.{link_at}
 use Rattle.block_tags.specs.declared.tile.Role.TheVariants.{Object}
 use Rattle.block_tags.specs.declared.tile.Tile.{Tile}
 use Rattle.image_check.specs.EarlyTests.{is_among}
-use Rattle.image_check.specs.Entered.{AreAdded, HaveEntries, EntersLink, are_enterable, are_new, can_enter, index_of}
+use Rattle.image_check.specs.Entered.{NotesEntries, HaveEntries, EntersLink, are_enterable, are_new, can_enter}
+use Rattle.image_check.specs.Entered.{index_of}
 use Rattle.image_check.specs.Entered.{is_enterable, links_in}
 use Rattle.image_check.specs.IndexPlaces.{IsFirstWrong, IsWrongAt, earlier_targets, first_targets, is_head, is_new}
 use Rattle.image_check.specs.ObjectTests.{entries, good_for, has_index, are_distinct, targets, tile_of}
@@ -30,7 +31,7 @@ none-noted None e = refl
 none-noted (Some n) e = absurd (true≢false e)
 
 module _ (ts : List Tile) (old es : Blocks) (root : ℕ) (front : List (Option ℕ))
-    (a : AreAdded ts old es root (targets_of front)) (earlier : List ℕ) (have : HaveEntries old earlier) where
+    (a : NotesEntries ts old es root (targets_of front)) (earlier : List ℕ) (have : HaveEntries old earlier) where
   among-both : (n : ℕ) → is_among (earlier ++ targets_of front) n
       ≡ (is_among earlier n || is_among (targets_of front) n)
   among-both n = list_any-append (λ y. n == y) earlier (targets_of front)
@@ -95,13 +96,14 @@ module _ (m : Memory) (ts : List Tile) (es : Blocks) (at : ℕ) where
   pub index-entered : {A : Type 0} (new : Blocks) (block n : ℕ) (k : Result A ℕ) → is_head m ts at ≡ true
       → link_at m at ≡ Some block → n ≡ word_at m (at + 8) → HaveEntries es (earlier_targets m at)
       → MatchResult k (λ done. (are_enterable ts es (links_in m block n) ≡ true)
-      × AreAdded ts es new at (first_targets m block n)) (λ place. (are_enterable ts es (links_in m block n) ≡ false)
+      × NotesEntries ts es new at (first_targets m block n)) (λ place.
+      (are_enterable ts es (links_in m block n) ≡ false)
       × ((earlier : List ℕ) → HaveEntries es earlier → IsFirstWrong m ts earlier block n place))
-      → MatchResult k (λ done. (is_enterable m ts es at ≡ true) × AreAdded ts es new at (targets m at))
+      → MatchResult k (λ done. (is_enterable m ts es at ≡ true) × NotesEntries ts es new at (targets m at))
       (λ place. (is_enterable m ts es at ≡ false) × IsWrongAt m ts at place)
   index-entered new block n (Ok done) head link e have h = (
     some-entries block head link ∙ ap (λ c. are_enterable ts es (links_in m block c)) (sym e) ∙ h.0,
-    subst (AreAdded ts es new at) (ap (first_targets m block) e ∙ sym (some-targets m at block link)) h.1,
+    subst (NotesEntries ts es new at) (ap (first_targets m block) e ∙ sym (some-targets m at block link)) h.1,
   )
   index-entered new block n (Err place) head link e have h = (
     some-entries block head link ∙ ap (λ c. are_enterable ts es (links_in m block c)) (sym e) ∙ h.0,

@@ -18,7 +18,7 @@ use Rattle.image_check.specs.ObjectTests.{are_distinct, has_index, has_indexes, 
 use Rattle.image_check.specs.Owners.{Blocks, IsMarking, IsUnmarked, block_at, entries_of, entry_in, entry_of, frames}
 use Rattle.image_check.specs.Owners.{new_block, owner_at}
 use Rattle.image_check.specs.Passes.{HasTiles, tiles_in}
-use Rattle.image_check.specs.Entered.{AreAdded, AreEntered, HaveEntries, are_new, index_of, is_enterable, listed}
+use Rattle.image_check.specs.Entered.{NotesEntries, AreEntered, HaveEntries, are_new, index_of, is_enterable, listed}
 use Rattle.image_check.specs.Entered.{root_in}
 use Rattle.image_check.proofs.IndexEntries.{Distinct, distinct-append, distinct-passes}
 use Rattle.image_check.proofs.Members.{Mem, Mem-is_among, is_among-Mem}
@@ -72,7 +72,7 @@ none-entered ts es gathered n = ap is_some (ap (λ (es : Blocks). index_of es n)
 -- ---- both tests
 
 module _ (m : Memory) (ts : List Tile) (es0 es1 : Blocks) (gathered : es0
-    ≡ entries_of ts) (a : AreAdded ts es0 es1 32 (targets m 32)) where
+    ≡ entries_of ts) (a : NotesEntries ts es0 es1 32 (targets m 32)) where
   abbrev xs : List ℕ
   xs = targets m 32
 
@@ -138,7 +138,7 @@ module _ (m : Memory) (ts : List Tile) (es0 es1 : Blocks) (gathered : es0
         (distinct-passes (xs ++ ys) (distinct-append xs ys (new-parts es0 xs first.1).distinct
         (new-parts es1 ys second.1).distinct (λ x y h k e. apart x h (subst (λ z. Mem z ys) (sym e) k))))
 
-    pub both-entered : (es2 : Blocks) → AreAdded ts es1 es2 56 (targets m 56) → AreEntered m es2
+    pub both-entered : (es2 : Blocks) → NotesEntries ts es1 es2 56 (targets m 56) → AreEntered m es2
     both-entered es2 b = record {
       apart = apart_tests;
       at = λ n. b.entered n ∙ ap (λ (o : Option ℕ). cond (is_among ys n) (Some 56) o) (a.entered n
@@ -181,7 +181,7 @@ first-wrong m ts es0 gathered f = elim (cases_Bool (has_indexes m ts)) [
 
 -- where only entries of objects are noted no link of a block is
 pub entries-unmarked : (ts : List Tile) (es0 es1 es2 : Blocks) (xs ys : List ℕ) → es0 ≡ entries_of ts
-    → AreAdded ts es0 es1 32 xs → AreAdded ts es1 es2 56 ys → IsUnmarked ts es2
+    → NotesEntries ts es0 es1 32 xs → NotesEntries ts es1 es2 56 ys → IsUnmarked ts es2
 entries-unmarked ts es0 es1 es2 xs ys g a b = record {
   frame = b.frame ∙ a.frame ∙ ap frames g;
   none = λ n. b.owners n ∙ a.owners n ∙ ap (λ (es : Blocks). owner_at es n) g ∙ (gathered-unmarked ts).none n;

@@ -6,10 +6,10 @@ use Rattle.raw_region.specs.Memory.{bytes_of}
 use Rattle.seg_types.specs.declared.kinds.Kind.TheVariants.{Map, Strings}
 use Rattle.image_check.specs.Owners.{Blocks, IsMarkingOf}
 use Rattle.image_check.specs.Passes.{HasTiles, tiles_in}
-use Rattle.image_check.specs.Sharing.{AreValuesNoted}
+use Rattle.image_check.specs.Sharing.{NotesValues}
 use Rattle.std.specs.Prelude.{Result, Ok, Err, MatchResult, OnOk, not}
 use Rattle.image_check.specs.Fields.{is_shared}
-use Rattle.image_check.specs.Owners.{IsAllFollowed, IsSharedIn, IsUnmarked, IsWholeMarkingOf}
+use Rattle.image_check.specs.Owners.{FollowsAll, IsSharedIn, IsUnmarked, IsWholeMarkingOf}
 use Rattle.image_check.specs.Passes.{ChecksClass}
 use Rattle.image_check.specs.Sharing.{AreIndexesNoted, IsIndexNoted}
 use Rattle.image_check.proofs.Gathered.{unmarked-marking}
@@ -36,8 +36,8 @@ indexes-noted format b old waited es pending waiting fs p2 w2 u x y = record {
 }
 
 pub whole : (format : ℕ) (b : List ℕ) (es : Blocks) (p1 : Option ℕ) (w1 : ℕ) (fs : Blocks) (p2 : Option ℕ) (w2 : ℕ)
-    (gs : Blocks) (p3 : Option ℕ) (w3 : ℕ) → AreIndexesNoted format b es p1 w1 → AreValuesNoted format b es fs p2 w2
-    → IsAllFollowed format b fs gs p3 w3 → IsWholeMarkingOf format b gs w3
+    (gs : Blocks) (p3 : Option ℕ) (w3 : ℕ) → AreIndexesNoted format b es p1 w1 → NotesValues format b es fs p2 w2
+    → FollowsAll format b fs gs p3 w3 → IsWholeMarkingOf format b gs w3
 whole format b es p1 w1 fs p2 w2 gs p3 w3 x y z = record {
   marking = subst (λ p. IsMarkingOf format b None gs p w3) z.none z.marking;
   named = λ p n l. z.keeps n _ (y.keeps n _ (x.named p n l));

@@ -22,7 +22,7 @@ use Rattle.image_check.specs.Meaning.{IsCountedLink}
 use Rattle.image_check.specs.Owners.{Blocks, IsMarkingOf, IsStart, KeepsMarks, unspent_budget, debts, visit_budget}
 use Rattle.image_check.specs.Owners.{owner_at}
 use Rattle.image_check.specs.Passes.{HasTiles, tiles_in}
-use Rattle.image_check.specs.Sharing.{AllElements, AreValuesNoted, IsInStorage, IsPlaceOf, IsTileGrown, IsValueGrown}
+use Rattle.image_check.specs.Sharing.{AllElements, NotesValues, IsInStorage, IsPlaceOf, IsTileGrown, IsValueGrown}
 use Rattle.image_check.specs.Sharing.{IsValueNoted, IsValueReady, OfObject, has_link, object_cost, value_rates}
 use Rattle.image_check.specs.Visits.{Rates, rate_of, sharing_rates, weigh}
 use Rattle.image_check.proofs.CountedFields.{Contains-Mem, Mem-Contains}
@@ -412,7 +412,7 @@ value-if m t kind at (Some k) e =
 
 pub noting-end : (format : ℕ) (b : List ℕ) (old : Blocks) (owed seen : ℕ) (es : Blocks) (pending : Option ℕ)
     (waiting visits : ℕ) → Noting format b old owed seen es pending waiting visits (tiles_in b)
-    → AreValuesNoted format b old es pending waiting
+    → NotesValues format b old es pending waiting
 noting-end format b old owed seen es pending waiting visits n = record {
   marking = n.marking;
   keeps = n.keeps;

@@ -11,14 +11,14 @@ use Rattle.raw_region.proofs.Laws.{length-part, added, both_added}
 use Rattle.best_fit.proofs.Laws.{legal_size}
 use Rattle.image_check.specs.declared.errors.OpenError.{OpenError}
 use Rattle.image_check.specs.Opening.{IsHandedBack}
-use Rattle.image_check.specs.Reading.{HasFront, IsFrontRead, IsImageRead, IsNotRead, Stops}
+use Rattle.image_check.specs.Reading.{HasFront, ReadsFrontOk, IsImageRead, IsNotRead, Stops}
 use Rattle.image_check.proofs.Fronts.{IsRight, has_front-IsRight, IsRight-has_front, IsRight-append}
 use Rattle.image_check.proofs.HandedBack.{written-back}
 use Rattle.image_check.proofs.Stopping.{read_since}
 
 -- the window of a region that the first 24 bytes say, with these in front
 pub record IsBegun (format : ℕ) (old mid front region : List ℕ) (base size : ℕ) (w : WindowState) : Type 0 where
-  pub front_read : IsFrontRead format old mid front base (length region) size
+  pub front_read : ReadsFrontOk format old mid front base (length region) size
   pub is : w ≡ with_bytes (cut_at region base size) (patched (part region base size) 0 front)
 
 module _ (format : ℕ) (old mid front region : List ℕ) (base size : ℕ) (w : WindowState)

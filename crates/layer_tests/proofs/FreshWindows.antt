@@ -11,7 +11,7 @@ use Rattle.block_tags.specs.Format.{is_legal_size}
 use Rattle.block_tags.specs.Tiles.{is_free, may_be_red}
 use Rattle.block_tags.specs.Lists.{free_tile, tile_in, next_in, last_in, laid}
 use Rattle.block_tags.specs.Windows.{EncodesTiles, FrontSaysTiles, IsTiledWindow, HasTileAt, CanSplit, HasFreeNext}
-use Rattle.block_tags.specs.Windows.{MayBeUsed, MayHaveColour, HasFreeLast, CanAppend}
+use Rattle.block_tags.specs.Windows.{CanTakeUse, MayHaveColour, HasFreeLast, CanAppend}
 use Rattle.block_tags.proofs.Laws.{legal}
 
 pub length-fresh : (n : ℕ) (region : List ℕ) (c : WindowState) → region ≡ zeros n → c ≡ cut_at region 0 n
@@ -46,7 +46,7 @@ module _ (c : WindowState) (ts : List Tile) (said : EncodesTiles c ts) where
       record { tiles = ts; said = said; tile = t; stands = e; next = u; behind = f; free = free }
 
   pub may_be_used : (at : ℕ) (use_of : Option Role) (t : Tile) → tile_in ts at ≡ Some t
-      → IsTrue (not t.red || may_be_red current use_of) → MayBeUsed c at use_of
+      → IsTrue (not t.red || may_be_red current use_of) → CanTakeUse c at use_of
   may_be_used at use_of t e colour = record { tiles = ts; said = said; tile = t; stands = e; colour = colour }
 
   pub may_have_colour : (at : ℕ) (red : Bool) (t : Tile) → tile_in ts at ≡ Some t

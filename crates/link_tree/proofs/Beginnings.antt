@@ -5,7 +5,7 @@ use Rattle.link_tree.specs.Tree.{Cell, Tree, root_of, nodes_of, AreCellsOf, IsTr
 use Rattle.link_tree.specs.Tree.{has_black_root, height}
 use Rattle.link_tree.specs.Nodes.{is_in}
 use Rattle.link_tree.specs.Sides.{joined_at}
-use Rattle.link_tree.specs.Turning.{Turned, blackened}
+use Rattle.link_tree.specs.Turning.{BecomesTree, blackened}
 use Rattle.link_tree.specs.declared.cursor.Side.{Side}
 use Rattle.link_tree.specs.declared.cursor.Side.TheVariants.{Left, Right}
 use Rattle.link_tree.proofs.Orders.{IsStrict, is_in-append}
@@ -35,7 +35,7 @@ pub record Begins (lt : ℕ → ℕ → Bool) (h : ℕ → Cell) (xs : List ℕ)
   pub ordered : is_sorted lt (nodes_of below) ≡ true
   pub inside : (m : ℕ) → is_in m (nodes_of below) ≡ true → is_in m (nodes_of t) ≡ true
   pub lower : height below ≤ height t
-  pub carries : (h1 : ℕ → Cell) (to : Option ℕ) → Turned h h1 (xs ++ nodes_of below) to (change below)
+  pub carries : (h1 : ℕ → Cell) (to : Option ℕ) → BecomesTree h h1 (xs ++ nodes_of below) to (change below)
       → IsTree h1 (root_of t) (change t)
   pub colour : has_black_root (change t) ≡ has_black_root t
 
@@ -93,7 +93,7 @@ module _ {lt : ℕ → ℕ → Bool} (strict : IsStrict lt) (h : ℕ → Cell) (
   -- what is made of the whole tree
   pub begun : (lt' : ℕ → ℕ → Bool) (h1 h' : ℕ → Cell) (root link to : Option ℕ) (t : Tree) (b : ℕ) (ns : List ℕ)
       → IsSearchTree lt h root t → (g : Begins lt h xs change link t)
-      → Turned h h1 (xs ++ nodes_of g.below) to (change g.below) → IsEven (change t) b → nodes_of (change t) ≡ ns
+      → BecomesTree h h1 (xs ++ nodes_of g.below) to (change g.below) → IsEven (change t) b → nodes_of (change t) ≡ ns
       → is_sorted lt ns ≡ true → h' ≡ h1 → lt' ≡ lt → IsChanged lt' h h' root (xs ++ nodes_of t) ns
   begun lt' h1 h' root link to t b ns s g u even nodes o eh el =
       let new = g.carries h1 to u in
@@ -119,7 +119,7 @@ module _ {lt : ℕ → ℕ → Bool} (strict : IsStrict lt) (h : ℕ → Cell) (
 
 -- a change of a whole tree, whose root is made black
 pub blackened_whole : {lt : ℕ → ℕ → Bool} (lt' : ℕ → ℕ → Bool) (h h1 h2 h' : ℕ → Cell) (link : Option ℕ) (t : Tree)
-    (xs ns : List ℕ) → Turned h h1 xs link t → Makes lt h1 h2 link link blackened
+    (xs ns : List ℕ) → BecomesTree h h1 xs link t → Makes lt h1 h2 link link blackened
     → IsRedBlack (blackened t) → nodes_of t ≡ ns → is_sorted lt ns ≡ true
     → ((m : ℕ) → is_in m xs ≡ false → is_in m ns ≡ false) → h' ≡ h2 → lt' ≡ lt → IsChanged lt' h h' link xs ns
 blackened_whole {lt = lt} lt' h h1 h2 h' link t xs ns u black red_black nodes o out eh el =

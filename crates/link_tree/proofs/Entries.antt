@@ -4,9 +4,9 @@ use Rattle.std.proofs.Common.{inl, inr}
 use Rattle.std.proofs.lemmas.Bool.{true≢false, cases_Bool}
 use Rattle.link_tree.specs.Tree.{Cell, Tree, leaf, fork, nodes_of, AreCellsOf, IsSearchTree, is_sorted, has_black_root}
 use Rattle.link_tree.specs.Tree.{has_no_red_pair}
-use Rattle.link_tree.specs.Nodes.{is_in, is_ordered_with, put}
+use Rattle.link_tree.specs.Nodes.{is_in, is_ordered_with, insert_in_order}
 use Rattle.link_tree.specs.Sides.{joined_at, side_of}
-use Rattle.link_tree.specs.Turning.{Turned, rebalanced}
+use Rattle.link_tree.specs.Turning.{BecomesTree, rebalanced}
 use Rattle.link_tree.specs.Growing.{CanInsert, after_insert}
 use Rattle.link_tree.specs.Ways.{insert_point_of, entry_over}
 use Rattle.link_tree.specs.declared.cursor.Side.{Side}
@@ -179,12 +179,13 @@ module _ {lt : ℕ → ℕ → Bool} (strict : IsStrict lt) (h : ℕ → Cell) (
 
   pub entered : (lt' : ℕ → ℕ → Bool) (h1 h' : ℕ → Cell) (root : Option ℕ) (top : ℕ) (t : Tree) (p : ℕ)
       → IsSearchTree lt h root t → is_ordered_with lt x (nodes_of t) ≡ true → (g : IsBegun lt h x t p)
-      → Turned h h1 (x ∷ nodes_of g.begins.below) (Some top) (after_insert lt x g.begins.below) → h' ≡ h1
-      → lt' ≡ lt → IsChanged lt' h h' root (x ∷ nodes_of t) (put lt x (nodes_of t))
+      → BecomesTree h h1 (x ∷ nodes_of g.begins.below) (Some top) (after_insert lt x g.begins.below) → h' ≡ h1
+      → lt' ≡ lt → IsChanged lt' h h' root (x ∷ nodes_of t) (insert_in_order lt x (nodes_of t))
   entered lt' h1 h' root top t p s q g u eh el =
       let b = s.red_black.black.0 in
       let e = grown_even lt x t b (even_tree t s.red_black) in
-      begun strict h (x ∷ []) (after_insert lt x) lt' h1 h' root (Some p) (Some top) t b (put lt x (nodes_of t)) s
+      begun strict h (x ∷ []) (after_insert lt x) lt' h1 h' root (Some p) (Some top) t b
+      (insert_in_order lt x (nodes_of t)) s
       g.begins u
       (record { no_red_pair = g.even; black = e.nearly.black }) (nodes_of-after_insert strict x t s.ordered)
       (rises_put lt strict.transitive x (nodes_of t) s.ordered q) eh el

@@ -7,9 +7,9 @@ use Rattle.std.proofs.lemmas.Bool.{or_left, or_right, cases_Bool, eqb-true, ne_e
 use Rattle.std.proofs.lemmas.Bool.{false_from_ne_true}
 use Rattle.link_tree.specs.Tree.{Cell, Tree, leaf, fork, root_of, nodes_of, IsSearchTree, is_sorted, has_black_root}
 use Rattle.link_tree.specs.Tree.{has_no_red_pair, has_black_height, IsRedBlack, height}
-use Rattle.link_tree.specs.Nodes.{is_in, is_ordered_with, put, with_left, with_right, with_red}
+use Rattle.link_tree.specs.Nodes.{is_in, is_ordered_with, insert_in_order, with_left, with_right, with_red}
 use Rattle.link_tree.specs.Sides.{opposite, tree_on, child_of, with_child, joined_at, side_of}
-use Rattle.link_tree.specs.Turning.{Turned, blackened, rebalanced, is_red_tree, balanced_outer, balanced_inner}
+use Rattle.link_tree.specs.Turning.{BecomesTree, blackened, rebalanced, is_red_tree, balanced_outer, balanced_inner}
 use Rattle.link_tree.specs.Growing.{CanInsert, after_insert}
 use Rattle.link_tree.specs.declared.cursor.Side.{Side}
 use Rattle.link_tree.specs.declared.cursor.Side.TheVariants.{Left, Right}
@@ -26,7 +26,7 @@ use Rattle.link_tree.proofs.Colours.{rebalanced_red, red_of_join, nearly_even, u
 -- ---- lists
 
 pub put_in_left : (lt : ℕ → ℕ → Bool) (x : ℕ) (xs : List ℕ) (n : ℕ) (ys : List ℕ) → lt x n ≡ true
-    → put lt x (xs ++ n ∷ ys) ≡ put lt x xs ++ n ∷ ys
+    → insert_in_order lt x (xs ++ n ∷ ys) ≡ insert_in_order lt x xs ++ n ∷ ys
 put_in_left lt x [] n ys e = rw e refl
 put_in_left lt x (y ∷ xs) n ys e =
     elim (cases_Bool (lt x y)) [
@@ -35,14 +35,14 @@ put_in_left lt x (y ∷ xs) n ys e =
     ]
 
 pub put_in_right : (lt : ℕ → ℕ → Bool) (x : ℕ) (xs : List ℕ) (n : ℕ) (ys : List ℕ) → lt x n ≡ false
-    → list_all (λ y. not (lt x y)) xs ≡ true → put lt x (xs ++ n ∷ ys) ≡ xs ++ n ∷ put lt x ys
+    → list_all (λ y. not (lt x y)) xs ≡ true → insert_in_order lt x (xs ++ n ∷ ys) ≡ xs ++ n ∷ insert_in_order lt x ys
 put_in_right lt x [] n ys e a = rw e refl
 put_in_right lt x (y ∷ xs) n ys e a =
     let p = and_parts (not (lt x y)) (list_all (λ y. not (lt x y)) xs) a in
     let f = not-true (lt x y) p.0 in
     rw f (ap (λ zs. y ∷ zs) (put_in_right lt x xs n ys e p.1))
 
-pub put_parts : (lt : ℕ → ℕ → Bool) (x : ℕ) (xs : List ℕ) (m : ℕ) → is_in m (put lt x xs) ≡ true
+pub put_parts : (lt : ℕ → ℕ → Bool) (x : ℕ) (xs : List ℕ) (m : ℕ) → is_in m (insert_in_order lt x xs) ≡ true
     → (m ≡ x) ⊎ (is_in m xs ≡ true)
 put_parts lt x [] m i = elim (or_cases (nat_eq m x) false i) [
   | inl e ↦ inl (eqb-true m x e)
@@ -54,8 +54,8 @@ put_parts lt x (y ∷ xs) m i =
           let j : is_in m (x ∷ y ∷ xs) ≡ true = rw a at i in
           elim (or_cases (nat_eq m x) (is_in m (y ∷ xs)) j) [ inl e ↦ inl (eqb-true m x e) | inr e ↦ inr e ]
       | inr a ↦
-          let j : is_in m (y ∷ put lt x xs) ≡ true = rw a at i in
-          elim (or_cases (nat_eq m y) (is_in m (put lt x xs)) j) [
+          let j : is_in m (y ∷ insert_in_order lt x xs) ≡ true = rw a at i in
+          elim (or_cases (nat_eq m y) (is_in m (insert_in_order lt x xs)) j) [
             | inl e ↦ inr (or_left (nat_eq m y) (is_in m xs) e)
             | inr e ↦ elim (put_parts lt x xs m e) [
               | inl f ↦ inl f
@@ -65,9 +65,9 @@ put_parts lt x (y ∷ xs) m i =
     ]
 
 pub put_out : (lt : ℕ → ℕ → Bool) (x : ℕ) (xs : List ℕ) (m : ℕ) → (m ≡ x → ⊥) → is_in m xs ≡ false
-    → is_in m (put lt x xs) ≡ false
+    → is_in m (insert_in_order lt x xs) ≡ false
 put_out lt x xs m d o =
-    false_from_ne_true (is_in m (put lt x xs))
+    false_from_ne_true (is_in m (insert_in_order lt x xs))
     (λ i. elim (put_parts lt x xs m i) [ inl e ↦ d e | inr e ↦ true≢false (sym e ∙ o) ])
 
 -- a node has its place in each part of a list in which it has one
@@ -123,7 +123,7 @@ nodes_of-rebalanced Right false (fork true l m r) n far = nodes_of-outer Right r
 
 module _ (lt : ℕ → ℕ → Bool) (transitive : (a b c : ℕ) → lt a b ≡ true → lt b c ≡ true → lt a c ≡ true) where
   pub rises_put : (x : ℕ) (xs : List ℕ) → is_sorted lt xs ≡ true → is_ordered_with lt x xs ≡ true
-      → is_sorted lt (put lt x xs) ≡ true
+      → is_sorted lt (insert_in_order lt x xs) ≡ true
   rises_put x [] o p = refl
   rises_put x (y ∷ ys) o p =
       let q = and_parts (list_all (lt y) ys) (is_sorted lt ys) o in
@@ -134,23 +134,24 @@ module _ (lt : ℕ → ℕ → Bool) (transitive : (a b c : ℕ) → lt a b ≡ 
         | inr a ↦
             let b : lt y x ≡ true =
             elim (or_cases (lt x y) (lt y x) k.0) [ inl c ↦ absurd (true≢false (sym c ∙ a)) | inr c ↦ c ] in
-            rw a (and_from (list_all (lt y) (put lt x ys)) (is_sorted lt (put lt x ys)) (all_from (lt y) (put lt x ys)
+            rw a (and_from (list_all (lt y) (insert_in_order lt x ys)) (is_sorted lt (insert_in_order lt x ys))
+            (all_from (lt y) (insert_in_order lt x ys)
             (λ m i. elim (put_parts lt x ys m i) [ inl e ↦ rw e b | inr j ↦ all_at (lt y) ys m q.0 j ]))
             (rises_put x ys q.1 k.1))
       ]
 
 module _ {lt : ℕ → ℕ → Bool} (strict : IsStrict lt) where
   after_insert-nodes_left : (x : ℕ) (red : Bool) (l : Tree) (n : ℕ) (r : Tree) → lt x n ≡ true
-      → nodes_of (after_insert lt x l) ≡ put lt x (nodes_of l)
-      → nodes_of (after_insert lt x (fork red l n r)) ≡ put lt x (nodes_of (fork red l n r))
+      → nodes_of (after_insert lt x l) ≡ insert_in_order lt x (nodes_of l)
+      → nodes_of (after_insert lt x (fork red l n r)) ≡ insert_in_order lt x (nodes_of (fork red l n r))
   after_insert-nodes_left x red l n r e more =
       ap nodes_of (after_insert-joined lt x Left red l n r (ap side_of e))
       ∙ nodes_of-rebalanced Left red (after_insert lt x l) n r
       ∙ ap (λ zs. zs ++ n ∷ nodes_of r) more ∙ sym (put_in_left lt x (nodes_of l) n (nodes_of r) e)
 
   after_insert-nodes_right : (x : ℕ) (red : Bool) (l : Tree) (n : ℕ) (r : Tree) → lt x n ≡ false
-      → Splits lt (nodes_of l) n (nodes_of r) → nodes_of (after_insert lt x r) ≡ put lt x (nodes_of r)
-      → nodes_of (after_insert lt x (fork red l n r)) ≡ put lt x (nodes_of (fork red l n r))
+      → Splits lt (nodes_of l) n (nodes_of r) → nodes_of (after_insert lt x r) ≡ insert_in_order lt x (nodes_of r)
+      → nodes_of (after_insert lt x (fork red l n r)) ≡ insert_in_order lt x (nodes_of (fork red l n r))
   after_insert-nodes_right x red l n r e s more =
       let behind : list_all (λ y. not (lt x y)) (nodes_of l) ≡ true = all_from (λ y. not (lt x y)) (nodes_of l)
       (λ m i. not_from_false (lt x m) (false_from_ne_true (lt x m)
@@ -160,7 +161,7 @@ module _ {lt : ℕ → ℕ → Bool} (strict : IsStrict lt) where
       ∙ ap (λ zs. nodes_of l ++ n ∷ zs) more ∙ sym (put_in_right lt x (nodes_of l) n (nodes_of r) e behind)
 
   pub nodes_of-after_insert : (x : ℕ) (t : Tree) → is_sorted lt (nodes_of t) ≡ true
-      → nodes_of (after_insert lt x t) ≡ put lt x (nodes_of t)
+      → nodes_of (after_insert lt x t) ≡ insert_in_order lt x (nodes_of t)
   nodes_of-after_insert x leaf o = refl
   nodes_of-after_insert x (fork red l n r) o =
       let s = rises_split lt (nodes_of l) n (nodes_of r) o in
@@ -250,9 +251,9 @@ module _ {lt : ℕ → ℕ → Bool} (strict : IsStrict lt) where
   pub grow_step : (side : Side) (h h1 h2 h3 : ℕ → Cell) (x at : ℕ) (child result : ℕ) (t : Tree)
       → side_of (lt x at) ≡ side → CanInsert lt h (Some at) x t
       → ((u : Tree) → CanInsert lt h (child_of side (h at)) x u
-      → Turned h h1 (x ∷ nodes_of u) (Some child) (after_insert lt x u))
+      → BecomesTree h h1 (x ∷ nodes_of u) (Some child) (after_insert lt x u))
       → h2 ≡ with_child side h1 at (Some child) → Makes lt h2 h3 (Some at) (Some result) (rebalanced side)
-      → Turned h h3 (x ∷ nodes_of t) (Some result) (after_insert lt x t)
+      → BecomesTree h h3 (x ∷ nodes_of t) (Some result) (after_insert lt x t)
   grow_step side h h1 h2 h3 x at child result t before w below set balance =
       let o = parted strict side h at t w.tree w.ordered in
       let red = (h at).red in
@@ -279,7 +280,7 @@ module _ {lt : ℕ → ℕ → Bool} (strict : IsStrict lt) where
       let is_grown : after_insert lt x t ≡ rebalanced side (joined_at side red new at o.far) =
       ap (λ v. after_insert lt x v) o.is
       ∙ after_insert-joined lt x side red o.near at o.far before in
-      let grown_nodes : nodes_of (joined_at side red new at o.far) ≡ put lt x (nodes_of old) =
+      let grown_nodes : nodes_of (joined_at side red new at o.far) ≡ insert_in_order lt x (nodes_of old) =
       sym (nodes_of-rebalanced side red new at o.far)
       ∙ ap nodes_of (sym (after_insert-joined lt x side red o.near at o.far before))
       ∙ nodes_of-after_insert strict x old order in
@@ -298,7 +299,7 @@ module _ {lt : ℕ → ℕ → Bool} (strict : IsStrict lt) where
 
 -- a node alone
 pub lay_step : (h h1 h2 h3 : ℕ → Cell) (n : ℕ) → h1 ≡ with_left h n None → h2 ≡ with_right h1 n None
-    → h3 ≡ with_red h2 n true → Turned h h3 (n ∷ []) (Some n) (fork true leaf n leaf)
+    → h3 ≡ with_red h2 n true → BecomesTree h h3 (n ∷ []) (Some n) (fork true leaf n leaf)
 lay_step h h1 h2 h3 n e1 e2 e3 =
     let c1 : h1 n ≡ cell_at Left (h n).red None (h n).right = ap (λ (f : ℕ → Cell). f n) e1
     ∙ with_child-near Left h n (h n).red (h n).left (h n).right None refl in
@@ -352,10 +353,12 @@ frame_beside {x = x} {ns = ns} c m d o = c.frame m (or_from (nat_eq m x) (is_in 
 -- the whole insertion, its root made black
 pub inserted : {lt : ℕ → ℕ → Bool} → IsStrict lt → (lt' : ℕ → ℕ → Bool) (h h1 h2 h' : ℕ → Cell) (root : Option ℕ)
     (x top : ℕ) (t : Tree) → IsSearchTree lt h root t → is_ordered_with lt x (nodes_of t) ≡ true
-    → Turned h h1 (x ∷ nodes_of t) (Some top) (after_insert lt x t) → Makes lt h1 h2 (Some top) (Some top) blackened
-    → h' ≡ h2 → lt' ≡ lt → IsChanged lt' h h' (Some top) (x ∷ nodes_of t) (put lt x (nodes_of t))
+    → BecomesTree h h1 (x ∷ nodes_of t) (Some top) (after_insert lt x t)
+    → Makes lt h1 h2 (Some top) (Some top) blackened
+    → h' ≡ h2 → lt' ≡ lt → IsChanged lt' h h' (Some top) (x ∷ nodes_of t) (insert_in_order lt x (nodes_of t))
 inserted {lt = lt} strict lt' h h1 h2 h' root x top t k p g black eh el =
-    blackened_whole lt' h h1 h2 h' (Some top) (after_insert lt x t) (x ∷ nodes_of t) (put lt x (nodes_of t)) g black
+    blackened_whole lt' h h1 h2 h' (Some top) (after_insert lt x t) (x ∷ nodes_of t)
+    (insert_in_order lt x (nodes_of t)) g black
     (grown_red_black lt x t k.red_black) (nodes_of-after_insert strict x t k.ordered)
     (rises_put lt strict.transitive x (nodes_of t) k.ordered p)
     (λ m i. let out = outside_x m x (nodes_of t) i in put_out lt x (nodes_of t) m out.0 out.1) eh el

@@ -5,7 +5,7 @@ use Rattle.std.proofs.lemmas.Bool.{true≢false, eq-eqb, ne_eqb}
 use Rattle.link_tree.specs.Tree.{Cell, Tree, leaf, fork, root_of, nodes_of, AreCellsOf, IsTree, is_sorted, height}
 use Rattle.link_tree.specs.Nodes.{is_in, with_left, with_right, with_red}
 use Rattle.link_tree.specs.Sides.{opposite, child_of, with_child, tree_on, joined_at}
-use Rattle.link_tree.specs.Turning.{Turned, rotated, painted}
+use Rattle.link_tree.specs.Turning.{BecomesTree, rotated, painted}
 use Rattle.link_tree.specs.declared.cursor.Side.{Side}
 use Rattle.link_tree.specs.declared.cursor.Side.TheVariants.{Left, Right}
 use Rattle.link_tree.proofs.Orders.{IsStrict, rises_split, in_left, in_right, in_middle, outside_parts, not_left}
@@ -236,7 +236,7 @@ module _ {lt : ℕ → ℕ → Bool} (strict : IsStrict lt) where
 -- what a call makes of each ordered tree that the link leads to
 abbrev pub Makes : (ℕ → ℕ → Bool) → (h h' : ℕ → Cell) (link link' : Option ℕ) → (Tree → Tree) → Type 0
 Makes lt h h' link link' f =
-    (t : Tree) → IsTree h link t → is_sorted lt (nodes_of t) ≡ true → Turned h h' (nodes_of t) link' (f t)
+    (t : Tree) → IsTree h link t → is_sorted lt (nodes_of t) ≡ true → BecomesTree h h' (nodes_of t) link' (f t)
 
 -- ---- nodes
 

@@ -5,7 +5,8 @@ use Rattle.link_tree.specs.Tree.{has_black_root, Cell, Tree, leaf, fork, root_of
 use Rattle.link_tree.specs.Tree.{is_sorted}
 use Rattle.link_tree.specs.Nodes.{is_in, with_red}
 use Rattle.link_tree.specs.Sides.{opposite, child_of, with_child, tree_on, joined_at}
-use Rattle.link_tree.specs.Turning.{balanced_inner, balanced_outer, Turned, blackened, painted, rotated, rebalanced}
+use Rattle.link_tree.specs.Turning.{balanced_inner, balanced_outer, BecomesTree, blackened, painted, rotated}
+use Rattle.link_tree.specs.Turning.{rebalanced}
 use Rattle.link_tree.specs.Turning.{is_red_tree}
 use Rattle.link_tree.specs.declared.cursor.Side.{Side}
 use Rattle.link_tree.specs.declared.cursor.Side.TheVariants.{Left, Right}
@@ -18,7 +19,7 @@ use Rattle.link_tree.proofs.Joints.{nodes_of-painted, nodes_of-turn, rotated-joi
 
 -- the tree on one side is another now, and the root's link leads to it
 pub graft : (side : Side) (h h1 h2 : ℕ → Cell) (red : Bool) (near near' : Tree) (n : ℕ) (far : Tree) (link : Option ℕ)
-    (xs : List ℕ) → AreCellsOf h (joined_at side red near n far) → Turned h h1 xs link near'
+    (xs : List ℕ) → AreCellsOf h (joined_at side red near n far) → BecomesTree h h1 xs link near'
     → is_in n xs ≡ false → ((m : ℕ) → is_in m (nodes_of far) ≡ true → is_in m xs ≡ false)
     → is_in n (nodes_of near') ≡ false → is_in n (nodes_of far) ≡ false
     → h2 n ≡ cell_at side red link (root_of far) → ((m : ℕ) → (m ≡ n → ⊥) → h2 m ≡ h1 m)
@@ -41,7 +42,7 @@ with_red-cell Right h n old red near far e = with_red-same h n old red far near 
 pub recolour : (side : Side) (h h2 : ℕ → Cell) (n : ℕ) (old red : Bool) (near far : Tree)
     → AreCellsOf h (joined_at side old near n far)
     → is_in n (nodes_of near) ≡ false → is_in n (nodes_of far) ≡ false → h2 ≡ with_red h n red
-    → Turned h h2 (nodes_of (joined_at side old near n far)) (Some n) (joined_at side red near n far)
+    → BecomesTree h h2 (nodes_of (joined_at side old near n far)) (Some n) (joined_at side red near n far)
 recolour side h h2 n old red near far w nn nf set =
     let j = joint_of h side old near n far w in
     let at : (m : ℕ) → h2 m ≡ with_red h n red m = λ m. ap (λ (f : ℕ → Cell). f m) set in
@@ -60,7 +61,7 @@ module _ {lt : ℕ → ℕ → Bool} (strict : IsStrict lt) where
       → AreCellsOf h (joined_at side c (joined_at side d a m b) n far)
       → is_sorted lt (nodes_of (joined_at side c (joined_at side d a m b) n far)) ≡ true
       → h' ≡ with_child side (with_child (opposite side) h m (Some n)) n (root_of b)
-      → Turned h h' (nodes_of (joined_at side c (joined_at side d a m b) n far)) (Some m)
+      → BecomesTree h h' (nodes_of (joined_at side c (joined_at side d a m b) n far)) (Some m)
       (joined_at side d a m (joined_at side c b n far))
   lift_turns side h h' c d a m b n far w o e =
       let inner = joined_at side d a m b in
@@ -107,7 +108,7 @@ module _ {lt : ℕ → ℕ → Bool} (strict : IsStrict lt) where
       → IsTree h (Some top) t → is_sorted lt (nodes_of t) ≡ true
       → child_of side (h top) ≡ Some child → child_of (opposite side) (h child) ≡ middle
       → h' ≡ with_child side (with_child (opposite side) h child (Some top)) top middle
-      → Turned h h' (nodes_of t) (Some child) (rotated side t)
+      → BecomesTree h h' (nodes_of t) (Some child) (rotated side t)
   lift_step side h h' top child middle t w o e1 e2 e3 =
       let p = open_side h side top t w in
       let near_tree = rw e1 at p.near_tree in
@@ -123,7 +124,8 @@ module _ {lt : ℕ → ℕ → Bool} (strict : IsStrict lt) where
 
   -- what `paint` does
   pub paint_turns : (h h' : ℕ → Cell) (n : ℕ) (red : Bool) (t : Tree) → IsTree h (Some n) t
-      → is_sorted lt (nodes_of t) ≡ true → h' ≡ with_red h n red → Turned h h' (nodes_of t) (Some n) (painted red t)
+      → is_sorted lt (nodes_of t) ≡ true → h' ≡ with_red h n red
+      → BecomesTree h h' (nodes_of t) (Some n) (painted red t)
   paint_turns h h' n red leaf w o e = absurd (none_some n (sym w.root))
   paint_turns h h' n red (fork old l m r) w o e =
       let same = some_same n m w.root in
@@ -221,7 +223,7 @@ module _ {lt : ℕ → ℕ → Bool} (strict : IsStrict lt) where
       → is_sorted lt (nodes_of t) ≡ true → child_of side (h top) ≡ Some near → (h top).red ≡ false → (h near).red ≡ true
       → ((u : Tree) → IsTree h (child_of side (h near)) u → false ≡ is_red_tree u)
       → ((u : Tree) → IsTree h (child_of (opposite side) (h near)) u → false ≡ is_red_tree u)
-      → Turned h h (nodes_of t) (Some top) (rebalanced side t)
+      → BecomesTree h h (nodes_of t) (Some top) (rebalanced side t)
   balance_none side h top near t w o e1 e2 e3 v1 v2 =
       let s = black_red side h top near t w e1 e2 e3 in
       let e = rebalanced-none side s.a near s.b top s.far (sym (v1 s.a s.a_tree)) (sym (v2 s.b s.b_tree)) in
@@ -232,7 +234,7 @@ module _ {lt : ℕ → ℕ → Bool} (strict : IsStrict lt) where
       → IsTree h (Some top) t → is_sorted lt (nodes_of t) ≡ true
       → child_of side (h top) ≡ Some near → (h top).red ≡ false → (h near).red ≡ true → child_of side (h near) ≡ outer
       → ((u : Tree) → IsTree h outer u → true ≡ is_red_tree u) → Makes lt h h1 (Some top) (Some risen) (rotated side)
-      → Makes lt h1 h2 outer outer blackened → Turned h h2 (nodes_of t) (Some risen) (rebalanced side t)
+      → Makes lt h1 h2 outer outer blackened → BecomesTree h h2 (nodes_of t) (Some risen) (rebalanced side t)
   balance_outer side h h1 h2 top near risen outer t w o e1 e2 e3 e4 red lift blacken =
       let s = black_red side h top near t w e1 e2 e3 in
       let low = joined_at side false s.b top s.far in
@@ -276,7 +278,8 @@ module _ {lt : ℕ → ℕ → Bool} (strict : IsStrict lt) where
       ≡ true → Makes lt h h1 (Some near) (Some lower) (rotated (opposite side))
       → h2 ≡ with_child side h1 top (Some lower) → Makes lt h2 h3 (Some top) (Some risen) (rotated side)
       → h4 ≡ with_red h3 near false
-      → Turned h h4 (nodes_of (joined_at side false (joined_at side true a near (joined_at side true p k q)) top far))
+      → BecomesTree h h4 (nodes_of (joined_at side false (joined_at side true a near (joined_at side true p k q))
+      top far))
       (Some risen) (joined_at side true (joined_at side false a near p) k (joined_at side false q top far))
   balance_inner_at side h h1 h2 h3 h4 a near p k q top far lower risen w o lift1 set lift2 blacken =
       let old = joined_at side true a near (joined_at side true p k q) in
@@ -336,7 +339,7 @@ module _ {lt : ℕ → ℕ → Bool} (strict : IsStrict lt) where
       → ((u : Tree) → IsTree h inner u → true ≡ is_red_tree u)
       → Makes lt h h1 (Some near) (Some lower) (rotated (opposite side)) → h2 ≡ with_child side h1 top (Some lower)
       → Makes lt h2 h3 (Some top) (Some risen) (rotated side) → h4 ≡ with_red h3 near false
-      → Turned h h4 (nodes_of t) (Some risen) (rebalanced side t)
+      → BecomesTree h h4 (nodes_of t) (Some risen) (rebalanced side t)
   balance_inner side h h1 h2 h3 h4 top near lower risen inner t w o e1 e2 e3 e4 outer_black inner_red lift1 set lift2
       blacken =
       let s = black_red side h top near t w e1 e2 e3 in

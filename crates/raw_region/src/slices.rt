@@ -25,7 +25,7 @@ pub fn set_word_in(bytes: &mut [u8], at: usize, value: u64)
 /// States that the elements of a slice of type `u8` are below 256. It does nothing: a contract knows this of a
 /// parameter's type alone.
 #[inline(always)]
-pub fn hold_bytes(bytes: &[u8])
+pub fn bytes_are_octets(bytes: &[u8])
     ensures each_element { AreBytes bytes.now }
     ensures every { IsTrue (are_bytes bytes.now) }
 {}

@@ -15,7 +15,7 @@ use Rattle.segment_manager.specs.declared.modes.Mode.TheVariants.{Write}
 use Rattle.segment_manager.specs.Directory.{Directory, Object as SomeObject, Value, Numbers, Elements, Pairs, empty}
 use Rattle.segment_manager.specs.Directory.{live}
 use Rattle.segment_manager.specs.Denotes.{Denotes}
-use Rattle.segment_lang.specs.Language.{whole}
+use Rattle.segment_lang.specs.Language.{whole_language}
 use Rattle.segment_cli.specs.Run.{run}
 use Rattle.rows.proofs.OneGap.{denotes, one_node}
 
@@ -67,7 +67,7 @@ named_image =
 abbrev pub with_number : Directory
 with_number = directory (named (97 ∷ []) (Numbers I64 (pos 5 ∷ [])) (extent 176 48 Object) ∷ [])
 
-number_made : (run (whole 2) Write (empty 1024) (codes "construct i64 a 5\n")).1 ≡ with_number
+number_made : (run (whole_language 2) Write (empty 1024) (codes "construct i64 a 5\n")).1 ≡ with_number
 unfolding run
 number_made = refl
 
@@ -108,7 +108,7 @@ abbrev with_vectors : Directory
 with_vectors = directory (named (118 ∷ []) (vector 1 240) (extent 176 64 Object)
     ∷ named (119 ∷ []) (vector 2 336) (extent 272 64 Object) ∷ [])
 
-vectors_made : (run (whole 2) Write (empty 1024) (codes "construct vec<i64> v 1\nconstruct vec<i64> w 2\n")).1
+vectors_made : (run (whole_language 2) Write (empty 1024) (codes "construct vec<i64> v 1\nconstruct vec<i64> w 2\n")).1
     ≡ with_vectors
 unfolding run
 vectors_made = refl
@@ -160,7 +160,7 @@ map_of ps = directory (named (109 ∷ []) (Pairs I64 I64 ps) (extent 176 64 Obje
 abbrev with_pair : Directory
 with_pair = map_of (pair 1 240 ∷ [])
 
-pair_made : (run (whole 2) Write (empty 1024) (codes "construct map<i64,i64> m\nput m 1 10\n")).1 ≡ with_pair
+pair_made : (run (whole_language 2) Write (empty 1024) (codes "construct map<i64,i64> m\nput m 1 10\n")).1 ≡ with_pair
 unfolding run
 pair_made = refl
 
@@ -197,7 +197,7 @@ map_image =
 abbrev with_map : Directory
 with_map = map_of (pair 1 384 ∷ pair 2 288 ∷ pair 3 432 ∷ pair 4 240 ∷ pair 5 480 ∷ pair 6 336 ∷ pair 7 528 ∷ [])
 
-map_made : (run (whole 2) Write (empty 1024)
+map_made : (run (whole_language 2) Write (empty 1024)
     (codes
     "construct map<i64,i64> m\nput m 4 40\nput m 2 20\nput m 6 60\nput m 1 10\nput m 3 30\nput m 5 50\nput m 7 70\n")).1 ≡ with_map
 unfolding run

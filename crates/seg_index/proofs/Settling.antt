@@ -6,7 +6,8 @@ use common.{word_at, SameBytesExcept-word, link_at, KeepTargets, SameBytesExcept
 use common.{ChangesBytes, extent_at, live_of, BackingArray, room-less, KeepsOutsideIndex, beside_table, IsIndexOf}
 use common.{AreIndexEntries, AreLinksTo, refl, ap₂, ◌^◌, min, IsTrue, None, nat_lt, unwrap_or, and_from, and_parts}
 use common.{leb-true, same_Some, Memory, Role, holds, others, AllocatesOk, IsHeap, Deallocates, has_room, is_live_in}
-use common.{same_role, serves, found-room, room_block, IsBlockFor, unlinked, without_link, lt-ltb, IndexRole, ◌==◌}
+use common.{same_role, serves, found-room, room_block, IsBlockFor, without_index_block, without_link, lt-ltb, IndexRole}
+use common.{◌==◌}
 use common.{none-some, SameBytes-word, SameBytes-link, released, EncodesLiveSet, among, found-new, laid-heap}
 use common.{live-rises, rising-insert}
 use Rattle.seg_index.proofs.Changing.{changed_heap, same_live, keeps_both, InHeader, keeps_words, keeps_written}
@@ -15,7 +16,7 @@ use Rattle.seg_index.proofs.{Changing.taken_others, Entries.insert_all, Entries.
 use Rattle.seg_index.proofs.Entries.{links_moved, remove_all, Placed, beside, leads_from, no_entries, placed, bare}
 use Rattle.seg_index.proofs.Entries.{table_cases, remove_links, found_handle, found_live, inside, entry_here}
 use Rattle.seg_index.proofs.Staying.{still_released, still_taken, still_written, meant, not_its_own, taken_block}
-use Rattle.seg_index.specs.{Capacities.ShrinksIndex, Capacities.with_cut, Held.IsIndexIn}
+use Rattle.seg_index.specs.{Capacities.ShrinksIndex, Capacities.with_cut, Held.InstallsBlock}
 use Rattle.best_fit.proofs.Laws.{block_aligned, gaps-header, gaps-payload, gaps-then, keeps-refl, resized-live, Rising}
 use Rattle.best_fit.proofs.Laws.{found-less, found-more, released-live, shorter-IsShorter}
 use Rattle.seg_index.proofs.SortedEntries.{beside-stays, keeps-sorted, unchanged-sorted}
@@ -160,7 +161,7 @@ headed {a} {b} {c} {d} {place} {at} {count} {capacity} {to} e one leads two is t
 pub settled : {a d : WindowState} {at block count capacity : ℕ} (hs : List ℕ)
     → Headed a d at (Some block) count capacity → InHeader at → IsHeap current a.bytes
     → (f : IsBlockFor a block capacity) → count ≤ capacity → 0 < capacity → AreLinksTo (bytes_of a.bytes) block hs
-    → count ≡ length hs → AllByRecursion (λ h. h % 16 ≡ 0) hs → IsIndexIn a d at block capacity hs
+    → count ≡ length hs → AllByRecursion (λ h. h % 16 ≡ 0) hs → InstallsBlock a d at block capacity hs
 settled {a} {d} {at} {block} {count} {capacity} hs h w heap f within some links long whole =
     let A = bytes_of a.bytes in let D = bytes_of d.bytes in let x = f.extent in
     let lies = inside a block (8 * capacity) heap (block_room a block capacity f) in
@@ -185,9 +186,9 @@ settled {a} {d} {at} {block} {count} {capacity} hs h w heap f within some links 
 
 -- as many places as were meant, in a block that was in use before
 pub index_in : (b d e : WindowState) (h : ℕ) {at k places : ℕ} {hs : List ℕ}
-    → live_of d.bytes ≡ live_of b.bytes → k ≡ places → IsIndexIn d e at h k hs → IsIndexIn b e at h places hs
+    → live_of d.bytes ≡ live_of b.bytes → k ≡ places → InstallsBlock d e at h k hs → InstallsBlock b e at h places hs
 index_in b d e h {at} {places = places} {hs} same is i = subst (λ (l : LiveSet). IsIndexOf e at
-    (record { capacity = places; extent = extent_at l h }) hs) same (subst (λ n. IsIndexIn d e at h n hs) is i)
+    (record { capacity = places; extent = extent_at l h }) hs) same (subst (λ n. InstallsBlock d e at h n hs) is i)
 
 -- what is known of the block that they led to before
 pub gone : (c : WindowState) {link : Option ℕ} {block : ℕ} (old : ℕ) → link ≡ Some old
@@ -334,14 +335,14 @@ written_both {count = count} h one two l =
 
 -- the blocks but two: one is written, and then the index leaves the other
 pub written_keeps : {a d e : WindowState} {m : Move} {n : ℕ} → Offer a m → ChangesBytes current a d (m.block + 0) n
-    → n ≤ 8 * m.places → KeepsOutsideIndex d e m.at (unlinked d m.at).extents
-    → KeepsOutsideIndex a e m.at (others m.block (unlinked a m.at).extents)
+    → n ≤ 8 * m.places → KeepsOutsideIndex d e m.at (without_index_block d m.at).extents
+    → KeepsOutsideIndex a e m.at (others m.block (without_index_block a m.at).extents)
 written_keeps {a} {d} {e} {m} {n} o c few k =
     let l = live_of a.bytes in let to = link_at (bytes_of a.bytes) m.at in
     let less : LiveSet = record l { extents = others m.block l.extents } in
-    let alike : unlinked d m.at ≡ unlinked a m.at =
+    let alike : without_index_block d m.at ≡ without_index_block a m.at =
     ap₂ without_link (same_live c) ((written o c few).leads ∙ sym o.leads) in
-    let first : KeepsOutsideIndex a d m.at (others m.block (unlinked a m.at).extents) =
+    let first : KeepsOutsideIndex a d m.at (others m.block (without_index_block a m.at).extents) =
     subst (λ (zs : List Extent). KeepsOutsideIndex a d m.at zs) (sym (others_without m.block l less to refl))
     (rest_without less to (keeps_written m.block 0 c (target (0 + n) o (omega arith)) o.header)) in
     rest_trans first (rest_others m.block (subst (λ (s : LiveSet). KeepsOutsideIndex d e m.at s.extents) alike k))
@@ -349,7 +350,8 @@ written_keeps {a} {d} {e} {m} {n} o c few k =
 -- the one that is written was taken before
 pub taken_keeps : {a b e : WindowState} {at n h : ℕ} {role : Role} → InHeader at → AllocatesOk current a b n role h
     → link_at (bytes_of b.bytes) at ≡ link_at (bytes_of a.bytes) at
-    → KeepsOutsideIndex b e at (others h (unlinked b at).extents) → KeepsOutsideIndex a e at (unlinked a at).extents
+    → KeepsOutsideIndex b e at (others h (without_index_block b at).extents)
+    → KeepsOutsideIndex a e at (without_index_block a at).extents
 taken_keeps {a} {b} {e} {at} {h = h} w i same k =
     let l = live_of a.bytes in let to = link_at (bytes_of a.bytes) at in
     rest_trans (rest_without l to (rest_of i.keeps w)) (subst (λ (zs : List Extent). KeepsOutsideIndex b e at zs)

@@ -6,7 +6,8 @@ use common.{same_Some, Less, Greater, Ordering, ordering_reverse, slice_cmp, nat
 use common.{leb-true, holds, and_parts, slice_get-get_or, current, WindowState, Memory, bytes_of, SameBytes-word, Role}
 use common.{IndexRole, link_at, Extent, LiveSet, handle, others, AllocatesOk, Deallocates, EncodesLiveSet, KeepsBlocks}
 use common.{SameBlock, extent_at, live_of, BackingArray, same_role, serves, found-room, found-less, IsBlockFor}
-use common.{KeepsOutsideIndex, beside_table, unlinked, without_link, IsIndexOf, AreLinksTo, Entry, name_at, name_len_at}
+use common.{KeepsOutsideIndex, beside_table, without_index_block, without_link, IsIndexOf, AreLinksTo, Entry, name_at}
+use common.{name_len_at}
 use common.{released-live, nat_lt, order, ChangesBytes, Absent, changed-keeps, has_room, read, ◌*◌, ◌%◌, Equal, Found}
 use common.{Lookup, cases_lt}
 use Rattle.std.specs.{Cmp.IsTotalOrder, List.Sorted.IsStrictlySortedBy}
@@ -262,14 +263,14 @@ beside-stays {a} {t = t} i k found h = record {
 
 -- where an index moves into a block that was in use
 pub moved-stays : {a b : WindowState} {at : ℕ} {t : BackingArray} {hs : List ℕ} {g places : ℕ}
-    → IsIndexOf a at t hs → IsBlockFor a g places → live_of b.bytes ≡ unlinked a at
-    → KeepsOutsideIndex a b at (others g (unlinked a at).extents) → (h : ℕ) → ObjectStays a b h
+    → IsIndexOf a at t hs → IsBlockFor a g places → live_of b.bytes ≡ without_index_block a at
+    → KeepsOutsideIndex a b at (others g (without_index_block a at).extents) → (h : ℕ) → ObjectStays a b h
 moved-stays {a} {at = at} {g = g} {places} i block live k h = record {
   each = λ x e role.
       let f = unlinked-found i h x e role (live_of a.bytes) e in
       let y = block.extent in let two = and_parts (same_role y.role IndexRole) (holds y (8 * places)) block.fits in (
         ap (λ (l : LiveSet). extent_at l h) live ∙ f,
-        in-kept (others g (unlinked a at).extents) h x k (found-less h g x (unlinked a at).extents
+        in-kept (others g (without_index_block a at).extents) h x k (found-less h g x (without_index_block a at).extents
             (roles-apart (live_of a.bytes) h g x y e block.found role two.0) f),
       );
 }

@@ -9,7 +9,7 @@ use common.{place, serves, allocated-live, found-new, live-rises, rising-insert,
 use common.{capacity_at, grown_capacity, EncodesLiveSet, KeepsBlocks}
 use Rattle.seg_index.proofs.Entries.{all_found, first, links_moved, long_enough, table_cases, placed}
 use Rattle.seg_index.proofs.Changing.{InHeader, same_live}
-use Rattle.seg_index.specs.{Growth.CanGrow, Growth.IsGrowth, Held.entry_count}
+use Rattle.seg_index.specs.{Growth.CanGrow, Growth.PreparesOk, Held.entry_count}
 use Rattle.best_fit.proofs.Laws.{exchange-taken, kept-found, IsFresh, place-serves, too_long}
 use Rattle.best_fit.specs.{Extents.end_of, Fit.insert}
 
@@ -194,7 +194,7 @@ still_grows {b = b} {at} (Some h) w f can =
     (block, λ e. can.1 (sym w.link ∙ e))
 
 pub prepared : (a b : WindowState) (at : ℕ) (g : Option ℕ) (t : BackingArray) (hs : List ℕ)
-    → IsIndexOf a at t hs → IsGrowth a b at g → 32 ≤ at → at + 24 ≤ 128 → CanGrow b at g
+    → IsIndexOf a at t hs → PreparesOk a b at g → 32 ≤ at → at + 24 ≤ 128 → CanGrow b at g
 prepared a b at None t hs i k low head = subst (λ (c : WindowState). entry_count c at < capacity_at c at) (sym k.1) k.0
 prepared a b at (Some h) t hs i k low head =
     let places = grown_capacity (capacity_at a at) in

@@ -7,12 +7,12 @@
 
 mod adding;
 mod comparing;
-mod growing;
 mod index;
+mod index_capacity;
 mod keys;
 mod searching;
 pub mod theorems;
 
-pub use growing::Growth;
 pub use index::Index;
+pub use index_capacity::Growth;
 pub use keys::{Entry, Lookup};

@@ -4,7 +4,8 @@ use Rattle.seg_map.proofs.Common.{find, option_map, AllByRecursion, last_or, cas
 use Rattle.seg_map.proofs.Common.{if◌then◌else◌, and_parts, Chains, Pair, is_rising, pair_at, first_pair, ℕ, suc, ◌≢◌}
 use Rattle.seg_map.proofs.Common.{length, ◌==◌, both_ways, or_left, or_right, eq-eqb, ne_eqb, is_in, without, IsStrict}
 use Rattle.seg_map.proofs.Common.{is_key, remove_pair, nodes_of_pairs, pair_node, LiveSet, eqb-true, false≢true}
-use Rattle.seg_map.proofs.Common.{or_cases, ◌⊎◌, is_ordered_with, put, put_pair, before_key, comes_before, Plain}
+use Rattle.seg_map.proofs.Common.{or_cases, ◌⊎◌, is_ordered_with, insert_in_order, put_pair, before_key, comes_before}
+use Rattle.seg_map.proofs.Common.{Plain}
 use Rattle.seg_map.proofs.Common.{Memory}
 use Rattle.seg_map.proofs.Common.{IsPairAt, IsPairIn, IfSome, stands, stands_before, [], or_parts, false_from_ne_true}
 use Rattle.std.proofs.lemmas.{Bool.and_from, Bool.true≢false, Bool.not-false, List.map-append}
@@ -310,7 +311,8 @@ module _ {K V : Type 0} (less : K → K → Bool) where
         ∙ not-false (less p.key q.key || less q.key p.key) two.0) (place_of qs k.1 two.1)
 
     pub put_nodes : (ps : List (Pair K V)) → HaveKeys keys ps → pair_at less ps p.key ≡ None
-        → put (comes_before less keys) (pair_node p) (nodes_of_pairs ps) ≡ nodes_of_pairs (put_pair less p ps)
+        → insert_in_order (comes_before less keys) (pair_node p) (nodes_of_pairs ps)
+        ≡ nodes_of_pairs (put_pair less p ps)
     put_nodes [] k e = refl
     put_nodes (q ∷ qs) k e =
         let two = absent_here p.key q qs e in

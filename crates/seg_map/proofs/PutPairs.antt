@@ -3,11 +3,12 @@ use Rattle.seg_map.proofs.Common as common
 use common.{◌≡◌, true, Node, Bool, ◌||◌, List, Some, roomy, Pair, ◌&&◌, leads, IsGoodNodeSet, SameBytes, KeepsBlocks}
 use common.{refl, AllocatesOk, comes_before, is_pair_node, links_among, beside_cell, changed-room, subst, entry_in}
 use common.{eqb-true, or_cases, or_right, all_from, cells_of, Relinked, cases_eq, ◌∙◌, ◌+◌, ◌%◌, inl, WindowState, ◌≤◌}
-use common.{HasBytesAt, sym, ap, ◌≢◌, inr, not, ◌∷◌, Tree, put, ◌⊎◌, ℕ, arith, Plain, false, ne_eqb, is_in, Extent}
+use common.{HasBytesAt, sym, ap, ◌≢◌, inr, not, ◌∷◌, Tree, insert_in_order, ◌⊎◌, ℕ, arith, Plain, false, ne_eqb, is_in}
+use common.{Extent}
 use common.{handle, stands, length, eq-eqb, others, IsTrue, Option, EncodesLiveSet, live_of, AllocatesNodeOk, IfSome}
 use common.{pair_at, keys_in, IsUnlinkedPair, or_left, None, ChangesBytes, laid-heap, entry_same, SameBlock, live-rises}
 use common.{found-room, node_place, current, word_at, link_at, IsPairAt, put_pair, IsPairIn, PairNode, or_parts}
-use common.{not-true, bytes_of, extent_at, IsPlanted, and_parts, is_ordered_with, pair_node, own_nodes, IsKeyTree}
+use common.{not-true, bytes_of, extent_at, LinksPairOk, and_parts, is_ordered_with, pair_node, own_nodes, IsKeyTree}
 use common.{SameBytesExcept-word, SameBytesExcept-link, changed-live, SameBytesExcept-SameBytes, AllByRecursion}
 use common.{changed-keeps, SameSurroundings-trans, allocated-room, nodes_of_pairs, stands_before, PairNode-is_pair_node}
 use common.{leaf, has_room, WritesMapHeader, HasBytesAt-same, node_len, nodes_of, insert_point_of, HoldsMap, both_ways}
@@ -315,11 +316,11 @@ module _ {K V : Type 0} {kp : Plain K} {vp : Plain V} (kl : Laws kp) (c : Window
 
   -- the map with the pair
   pub planted : {d e : WindowState} {top : Option ℕ} {n steps : ℕ}
-      → Relinked kp lent c d root top (put (comes_before kp.order (keys_in kp lent c)) node) steps → Laws vp
-      → n ≡ length ps + 1 → WritesMapHeader d e (h + at) top n → IsPlanted kp vp c e h at ps p
+      → Relinked kp lent c d root top (insert_in_order (comes_before kp.order (keys_in kp lent c)) node) steps → Laws vp
+      → n ≡ length ps + 1 → WritesMapHeader d e (h + at) top n → LinksPairOk kp vp c e h at ps p
   planted u vl count head = relaid s planted_tree u kl vl (p ∷ ps) (l.block, s.pairs) (l.bytes, s.map.pairs)
       (ns_is ∙ ap (λ (ms : List ℕ). pair_node p ∷ ms) s.map.tree.lists) (rw ns_is good_all) head
-      ((λ i. put (comes_before kp.order (keys_in kp (ns_is i) c)) (sym here i) (s.map.tree.lists i))
+      ((λ i. insert_in_order (comes_before kp.order (keys_in kp (ns_is i) c)) (sym here i) (s.map.tree.lists i))
       ∙ put_nodes kp.order (keys_in kp all c) p own_key ps keys_all l.absent)
       (λ P a. put_all kp.order P p ps a.0 a.1) (put_rising kp.order kl.transitive p ps l.absent s.rising)
       (let more = put_length kp.order p ps l.absent in omega (arith, more, count))

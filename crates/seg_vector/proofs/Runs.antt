@@ -9,7 +9,7 @@ use W.{same_role, table_link, found-room, in_use-alone, live-rises, written-keep
 use W.{changed-live, written-but, IsFound, IsNone, SameSpread, all-found-in, all-in-use, found-none, exchanged-live}
 use W.{found-without, IsRoomy, kept, kept-found, exchange-next, exchange-same, spread-refl, exchange-wide}
 use W.{exchange-written, kept-beside, Place, IsStorageBlock, IsContainer, place_at, IsStorage, SameBytesExcept-link}
-use W.{IsSwapped, AreDistinct, [], rising-others, KeepsGaps, gaps-payload}
+use W.{SwapsBlocks, AreDistinct, [], rising-others, KeepsGaps, gaps-payload}
 
 abbrev pub table : ℕ → Option Extent → BackingArray
 table c o = record { capacity = c; extent = o }
@@ -110,7 +110,7 @@ words-same {m} {m'} {from} {to} {at} s f g w = record {
 }
 
 pub words-kept : {a b : WindowState} {p : Place} {n : ℕ} {t : BackingArray} {gone come : List Extent}
-    → IsHeap current a.bytes → IsHead a p → IsSwapped a b gone come → IsNone p.handle gone
+    → IsHeap current a.bytes → IsHead a p → SwapsBlocks a b gone come → IsNone p.handle gone
     → AreHeadWords (bytes_of a.bytes) (place_at p) n t → AreHeadWords (bytes_of b.bytes) (place_at p) n t
 words-kept {a} {b} {p} {gone} {come} heap w x d h =
     let s = kept a b p.handle _ gone come _ heap x w.found d in
@@ -151,7 +151,7 @@ pub record IsRun (old now : WindowState) (p : Place) (gone come : List Extent) (
 -- blocks are exchanged, not the head's
 pub run-swapped : {old a b : WindowState} {p : Place} {gone come again : List Extent} (left : List Extent)
     {more : List Extent} {n : ℕ} {t : BackingArray} → SameSpread come (again ++ left) → IsRun old a p gone come n t
-    → IsSwapped a b again more → IsNone p.handle again → IsRun old b p gone (more ++ left) n t
+    → SwapsBlocks a b again more → IsNone p.handle again → IsRun old b p gone (more ++ left) n t
 run-swapped {old} {a} {b} {p} {gone} {come} left {more} spread r x none = record {
   change = exchange-next _ old a b _ 24 gone come _ left more spread r.change
       (exchange-wide _ a b (place_at p) 24 _ more x);
@@ -196,14 +196,14 @@ came-others {a} {gone = gone} {come} x = rising-others come (without_all gone (l
 
 -- those that are not gone stay, and are in use still
 pub all-kept : {a b : WindowState} {gone come : List Extent} (xs : List Extent) → IsHeap current a.bytes
-    → IsSwapped a b gone
+    → SwapsBlocks a b gone
     come → AllByRecursion (IsFound (live_of a.bytes).extents) xs → AllByRecursion (λ (y : Extent). IsNone (handle y)
     gone) xs → AllByRecursion (SameBlock (bytes_of a.bytes) (bytes_of b.bytes)) xs
 all-kept [] heap x f n = tt
 all-kept {a} {b} {gone} {come} (y ∷ ys) heap x f n =
     (kept a b (handle y) y gone come _ heap x f.0 n.0, all-kept ys heap x f.1 n.1)
 
-pub all-found-kept : {a b : WindowState} {gone come : List Extent} (xs : List Extent) → IsSwapped a b gone come
+pub all-found-kept : {a b : WindowState} {gone come : List Extent} (xs : List Extent) → SwapsBlocks a b gone come
     → AllByRecursion (IsFound (live_of a.bytes).extents) xs → AllByRecursion (λ (y : Extent). IsNone (handle y) gone)
     xs → AllByRecursion (IsFound (live_of b.bytes).extents) xs
 all-found-kept [] x f n = tt
@@ -229,7 +229,7 @@ run-none {first} {p} {gone} {come} w d r =
 -- bytes written in a block
 pub block-written : {a b : WindowState} {x : Extent} {from n : ℕ} (k : ℕ) → IsHeap current a.bytes
     → extent_at (live_of a.bytes) (handle x) ≡ Some x → ChangesBytes current a b from n → handle x ≤ from
-    → from + n ≤ handle x + k → k + 16 ≤ x.len → IsSwapped a b (x ∷ []) (x ∷ [])
+    → from + n ≤ handle x + k → k + 16 ≤ x.len → SwapsBlocks a b (x ∷ []) (x ∷ [])
 block-written {a} {b} {x} {from} {n} k heap found c low high fits =
     let l = live_of a.bytes in let i = all-in-use (x ∷ []) l.extents (live-rises l heap.proper) (tt, tt) (found, tt) in
     exchange-written _ a b x (without_all (x ∷ []) l.extents) k from n 0 0 heap i.is

@@ -1,6 +1,6 @@
 -- The storage of a container that stands at a place: regrown, written in, and read.
 use Rattle.seg_vector.proofs.Words as W
-use W.{◌≡◌, list_any, read-same, laid-heap, room-less, IfSome_is, IsStorage, IsSwapped, gaps-refl, gaps-then}
+use W.{◌≡◌, list_any, read-same, laid-heap, room-less, IfSome_is, IsStorage, SwapsBlocks, gaps-refl, gaps-then}
 use W.{SetsStorage, refl, payload_at, table_link, found-room, live-sound, room_block, in_use-all, legal_size}
 use W.{IsStorageBlock, hole-order, sym, ◌∙◌, Bool, true, Some, None, List, arith, ◌==◌, ◌++◌, take, drop, ◌&&◌, read}
 use W.{holds, place, BackingArray, Place, ap, eqb-true, and_from, leb-true, ltb-true, or_cases, or_right, bytes_of}
@@ -119,7 +119,7 @@ storage-role each c (Some x) t = (and_parts (same_role x.role Storage) (holds x 
     (and_parts (nat_lt 0 c) (serves x Storage (each * c)) t).1).0
 
 regrown-swapped : {old mid : WindowState} {gone : List Extent} {y : Extent} → ReplacesBlocks current old mid gone y
-    → IsSwapped old mid gone (y ∷ [])
+    → SwapsBlocks old mid gone (y ∷ [])
 regrown-swapped {old} {mid} {gone} r = record {
   live = r.live;
   place = r.keeps.place;

@@ -13,7 +13,7 @@ use W.{middle-first, rising-others, roomy, spread-behind, all_of-inserted, but-a
 use W.{inserted-append, laid-heap, without-inserted, kept, kept-found, word-same, block_payload, room_block}
 use W.{exchange-next, exchange-released, exchange-same, spread-refl, IsSound, live-sound, HasBytesAt-same}
 use W.{SameBytesExcept-word, read-part, SameBytesExcept-link, Place, place_at, IsContainer, IsServed, FreesBlocks}
-use W.{KeepsGaps, IsSwapped, AreHeldElements, IsHeldElement, SameElements, IsSameElement, AreEvenLinks, IsHeldText}
+use W.{KeepsGaps, SwapsBlocks, AreHeldElements, IsHeldElement, SameElements, SameElement, AreEvenLinks, IsHeldText}
 use W.{IsTexts, text_blocks, ReplacesTexts, IsTextElement, AreInArray, IsOwnedText, OwnedText, AreTextLinks, []}
 use Rattle.seg_vector.proofs.Runs.{AreHeadWords, IsHead, IsRun, changed-both, none-some, same-some, came-found}
 use Rattle.seg_vector.proofs.Runs.{room-head, own-facts, facts-own, serves-full, table, table-full}
@@ -411,7 +411,7 @@ released-some {old} {new} {o = Some x} s link r =
     }
 
 -- nothing is exchanged
-pub swapped-none : (c : WindowState) → IsHeap current c.bytes → IsSwapped c c [] []
+pub swapped-none : (c : WindowState) → IsHeap current c.bytes → SwapsBlocks c c [] []
 swapped-none c heap = exchange-same _ c 0 0 [] (live_of c.bytes).extents heap refl
 
 pub released-none : (old : WindowState) {array at : ℕ} {bytes : List ℕ} {o : Option Extent}
@@ -433,7 +433,7 @@ one-of P (y ∷ ys) (suc i) a e = one-of P ys i (all-split P (option_to_list y.e
 -- ---- one after another
 
 pub releases-begin : (c : WindowState) {array n : ℕ} {ps : List OwnedText} → AreHeldElements c.bytes array n ps
-    → IsSwapped c c (text_blocks ps) (text_blocks ps)
+    → SwapsBlocks c c (text_blocks ps) (text_blocks ps)
 releases-begin c {ps} s =
     let i = all-in-use (text_blocks ps) (live_of c.bytes).extents (live-rises (live_of c.bytes) s.heap.proper) s.others
     s.live in
@@ -441,7 +441,7 @@ releases-begin c {ps} s =
 
 pub element-left : {old now : WindowState} {array n : ℕ} (i : ℕ) {ps : List OwnedText} {q : OwnedText}
     → AreHeldElements old.bytes array n ps → slice_get ps i ≡ Some q
-    → IsSwapped old now (text_blocks ps) (text_blocks (drop i ps)) → IsHeldElement now.bytes array (16 * i) q
+    → SwapsBlocks old now (text_blocks ps) (text_blocks (drop i ps)) → IsHeldElement now.bytes array (16 * i) q
 element-left {old} {now} {array} {n} i {ps} {q} s e x =
     let gone = text_blocks ps in let come = text_blocks (drop i ps) in let none = none-of array gone s.apart in
     let r = roomy old array (16 * n) s.heap s.room in let at = r.at in let big = r.room in
@@ -461,13 +461,13 @@ element-left {old} {now} {array} {n} i {ps} {q} s e x =
     }
 
 pub releases-next : {old now new : WindowState} (i : ℕ) (ps : List OwnedText) {q : OwnedText} → slice_get ps i ≡ Some q
-    → IsSwapped old now (text_blocks ps) (text_blocks (drop i ps)) → IsSwapped now new (option_to_list q.extent) []
-    → IsSwapped old new (text_blocks ps) (text_blocks (drop (i + 1) ps))
+    → SwapsBlocks old now (text_blocks ps) (text_blocks (drop i ps)) → SwapsBlocks now new (option_to_list q.extent) []
+    → SwapsBlocks old new (text_blocks ps) (text_blocks (drop (i + 1) ps))
 releases-next {old} {now} {new} i ps {q} e x y =
     let count : suc i ≡ i + 1 = omega arith in let left = text_blocks (drop (suc i) ps) in
     let spread = subst (λ (xs : List OwnedText). SameSpread (text_blocks xs) (option_to_list q.extent ++ left))
     (sym (drop-at ps i e)) (spread-refl (option_to_list q.extent ++ left)) in
-    subst (λ k. IsSwapped old new (text_blocks ps) (text_blocks (drop k ps))) count
+    subst (λ k. SwapsBlocks old new (text_blocks ps) (text_blocks (drop k ps))) count
     (exchange-next _ old now new 0 0 _ _ _ left [] spread x y)
 
 -- so far none of them has a block, and nothing has changed
@@ -484,14 +484,14 @@ released-nothing-next ps i {q} e none so_far next =
 -- ---- the elements of the array of a vector of texts, as a list: in parts, and put elsewhere
 
 pub element-in : {m m' : Memory} {x : Extent} (at : ℕ) → SameBlock m m' x → handle x ≤ at → at + 16 ≤ end_of x
-    → IsSameElement m m' at at
+    → SameElement m m' at at
 element-in {m} {m'} at s f g = record {
   link = ap (target_of at) (word-same m m' _ _ at s.payload f (omega (arith, g)));
   len_word = word-same m m' _ _ (at + 8) s.payload (omega (arith, f)) (omega (arith, g));
 }
 
-same-at : {m m' : Memory} {a b at to : ℕ} → a ≡ at → b ≡ to → IsSameElement m m' a b → IsSameElement m m' at to
-same-at {m} {m'} {a} {b} {at} {to} e f s = subst (λ k. IsSameElement m m' k to) e (subst (IsSameElement m m' a) f s)
+same-at : {m m' : Memory} {a b at to : ℕ} → a ≡ at → b ≡ to → SameElement m m' a b → SameElement m m' at to
+same-at {m} {m'} {a} {b} {at} {to} e f s = subst (λ k. SameElement m m' k to) e (subst (SameElement m m' a) f s)
 
 later : (m m' : Memory) (a b n : ℕ) → SameElements m m' a b (suc n) → SameElements m m' (a + 16) (b + 16) n
 later m m' a b n s j f = same-at (omega arith) (omega arith) (s (suc j) (omega arith))
@@ -501,7 +501,7 @@ pub links-moved : (m m' : Memory) (a b : ℕ) (ps : List OwnedText) → AreTextL
     → SameElements m m' a b (length ps) → AreTextLinks m' b ps
 links-moved m m' a b [] l s = tt
 links-moved m m' a b (q ∷ qs) l s =
-    let e : IsSameElement m m' a b = same-at (omega arith) (omega arith) (s 0 (omega arith)) in
+    let e : SameElement m m' a b = same-at (omega arith) (omega arith) (s 0 (omega arith)) in
     (e.link ∙ l.0, e.len_word ∙ l.1, links-moved m m' (a + 16) (b + 16) qs l.2 (later m m' a b (length qs) s))
 
 pub links-join : (m : Memory) (at : ℕ) (xs ys : List OwnedText) → AreTextLinks m at xs
@@ -586,7 +586,7 @@ pub record IsArrayLeft (c : WindowState) (array n : ℕ) : Type 0 where
   pub even : AreEvenLinks (bytes_of c.bytes) array n
 
 pub array-left : {old new : WindowState} {array n : ℕ} {ps : List OwnedText} {gone come : List Extent}
-    → AreHeldElements old.bytes array n ps → IsSwapped old new gone come → IsNone array gone → IsArrayLeft new array n
+    → AreHeldElements old.bytes array n ps → SwapsBlocks old new gone come → IsNone array gone → IsArrayLeft new array n
 array-left {old} {new} {array} {n} {gone} {come} s x none =
     let r = roomy old array (16 * n) s.heap s.room in
     let stays = kept old new array _ gone come _ s.heap x r.found none in let even = even-held old s in
@@ -602,7 +602,7 @@ array-left {old} {new} {array} {n} {gone} {come} s x none =
 
 -- an element beside what is written
 pub element-beside : {m m' : Memory} {from n : ℕ} (at : ℕ)
-    → SameBytesExcept m m' from n → (at + 16 ≤ from) ⊎ (from + n ≤ at) → IsSameElement m m' at at
+    → SameBytesExcept m m' from n → (at + 16 ≤ from) ⊎ (from + n ≤ at) → SameElement m m' at at
 element-beside {m} {m'} {from} {n} at s (inl f) = record {
   link = SameBytesExcept-link m m' from n at s (inl (omega arith));
   len_word = SameBytesExcept-word m m' from n (at + 8) s (inl (omega arith));
@@ -612,14 +612,14 @@ element-beside {m} {m'} {from} {n} at s (inr f) = record {
   len_word = SameBytesExcept-word m m' from n (at + 8) s (inr (omega arith));
 }
 
-pub element-trans : {m m' m'' : Memory} {a b c : ℕ} → IsSameElement m m' a b → IsSameElement m' m'' b c
-    → IsSameElement m m'' a c
+pub element-trans : {m m' m'' : Memory} {a b c : ℕ} → SameElement m m' a b → SameElement m' m'' b c
+    → SameElement m m'' a c
 element-trans p q = record { link = q.link ∙ p.link; len_word = q.len_word ∙ p.len_word }
 
 -- ---- the first one first
 
 pub source-stays : {old now : WindowState} (a : ℕ) {b : ℕ} (i n : ℕ) → ChangesBytes current old now b (16 * i) → (b ≤ a)
-    ⊎ (a + 16 * n ≤ b) → i < n → IsSameElement (bytes_of old.bytes) (bytes_of now.bytes) (a + 16 * i) (a + 16 * i)
+    ⊎ (a + 16 * n ≤ b) → i < n → SameElement (bytes_of old.bytes) (bytes_of now.bytes) (a + 16 * i) (a + 16 * i)
 source-stays a i n c (inl f) below = element-beside (a + 16 * i) c.rest (inr (omega arith))
 source-stays a i n c (inr f) below = element-beside (a + 16 * i) c.rest (inl (omega arith))
 
@@ -630,8 +630,8 @@ carried-changed {b} i c e d =
 
 -- one more is put in its place
 one-more : {m m' m'' : Memory} {at to : ℕ} (a b k j : ℕ)
-    → (j ≢ k → IsSameElement m m' (a + 16 * j) (b + 16 * j)) → SameBytesExcept m' m'' to 16 → IsSameElement m m'' at to
-    → at ≡ a + 16 * k → to ≡ b + 16 * k → (j < k) ⊎ ((k < j) ⊎ (j ≡ k)) → IsSameElement m m'' (a + 16 * j) (b + 16 * j)
+    → (j ≢ k → SameElement m m' (a + 16 * j) (b + 16 * j)) → SameBytesExcept m' m'' to 16 → SameElement m m'' at to
+    → at ≡ a + 16 * k → to ≡ b + 16 * k → (j < k) ⊎ ((k < j) ⊎ (j ≡ k)) → SameElement m m'' (a + 16 * j) (b + 16 * j)
 one-more a b k j s d e from is (inl f) = element-trans (s (λ g. omega (arith, f, g)))
     (element-beside (b + 16 * j) d (inl (omega (arith, f, is))))
 one-more a b k j s d e from is (inr (inl f)) = element-trans (s (λ g. omega (arith, f, g)))
@@ -643,12 +643,12 @@ sides j k = grind arith
 
 pub carried-next : {old now new : WindowState} {at to : ℕ} (a : ℕ) {b : ℕ} (i n : ℕ) → SameElements (bytes_of old.bytes)
     (bytes_of now.bytes) a b i → ChangesBytes current old now b (16 * i) → (b ≤ a) ⊎ (a + 16 * n ≤ b) → i < n
-    → at ≡ a + 16 * i → to ≡ b + 16 * i → ChangesBytes current now new to 16 → IsSameElement (bytes_of now.bytes)
+    → at ≡ a + 16 * i → to ≡ b + 16 * i → ChangesBytes current now new to 16 → SameElement (bytes_of now.bytes)
     (bytes_of new.bytes) at to → SameElements (bytes_of old.bytes) (bytes_of new.bytes) a b (i + 1)
 carried-next a {b} i n s c apart below from is d e j under = one-more a b i j (λ g. s j (omega (arith, g, under)))
     d.rest (element-trans (same-at (sym from) (sym from) (source-stays a i n c apart below)) e) from is (sides j i)
 
-pub even-now : {m m' : Memory} (a n i : ℕ) → AreEvenLinks m a n → i < n → IsSameElement m m' (a + 16 * i) (a + 16 * i)
+pub even-now : {m m' : Memory} (a n i : ℕ) → AreEvenLinks m a n → i < n → SameElement m m' (a + 16 * i) (a + 16 * i)
     → IfSome (link_at m' (a + 16 * i)) (λ target. target % 16 ≡ 0)
 even-now a n i e f s = subst (λ o. IfSome o (λ target. target % 16 ≡ 0)) (sym s.link) (e i f)
 
@@ -656,11 +656,11 @@ even-now a n i e f s = subst (λ o. IfSome o (λ target. target % 16 ≡ 0)) (sy
 
 -- those from k on have moved up
 abbrev pub AreUp : Memory → Memory → ℕ → ℕ → ℕ → Type 0
-AreUp m m' a k n = (j : ℕ) → k ≤ j → j < n → IsSameElement m m' (a + 16 * j) (a + 16 + 16 * j)
+AreUp m m' a k n = (j : ℕ) → k ≤ j → j < n → SameElement m m' (a + 16 * j) (a + 16 + 16 * j)
 
 pub up-source : {old now : WindowState} (a k i n : ℕ) → k + (i + 1) ≡ n
     → ChangesBytes current old now (a + 16 + 16 * (n - i))
-    (16 * i) → IsSameElement (bytes_of old.bytes) (bytes_of now.bytes) (a + 16 * k) (a + 16 * k)
+    (16 * i) → SameElement (bytes_of old.bytes) (bytes_of now.bytes) (a + 16 * k) (a + 16 * k)
 up-source a k i n e c = element-beside (a + 16 * k) c.rest (inl (omega arith))
 
 pub up-changed : {old now new : WindowState} {to : ℕ} (a k i n : ℕ) → k + (i + 1) ≡ n
@@ -672,7 +672,7 @@ up-changed a k i n e c is d = changed-both (a + 16 + 16 * (n - (i + 1))) (16 * (
 pub up-next : {old now new : WindowState} {at to : ℕ} (a k i n : ℕ) → k + (i + 1) ≡ n → AreUp (bytes_of old.bytes)
     (bytes_of now.bytes) a (n - i) n → ChangesBytes current old now (a + 16 + 16 * (n - i)) (16 * i) → at ≡ a + 16 * k
     → to ≡ a + 16 + 16 * k → ChangesBytes current now new to 16
-    → IsSameElement (bytes_of now.bytes) (bytes_of new.bytes)
+    → SameElement (bytes_of now.bytes) (bytes_of new.bytes)
     at to → AreUp (bytes_of old.bytes) (bytes_of new.bytes) a (n - (i + 1)) n
 up-next a k i n is s c from to d e j low below = one-more a (a + 16) k j (λ g. s j (omega (arith, g, is, low)) below)
     d.rest (element-trans (same-at (sym from) (sym from) (up-source a k i n is c)) e) from to (sides j k)

@@ -1,6 +1,6 @@
 -- A vector of texts without texts, with one less or another one, or cut; and a text in a block of its own.
 use Rattle.seg_vector.proofs.Words as W
-use W.{◌≡◌, bytes_of, target_of, ChangesBytes, SameBlock, laid-heap, word-same, IsSwapped, AreDistinct, IsStorage}
+use W.{◌≡◌, bytes_of, target_of, ChangesBytes, SameBlock, laid-heap, word-same, SwapsBlocks, AreDistinct, IsStorage}
 use W.{OwnedText, ◌≢◌, refl, sym, Some, None, List, ◌++◌, arith, take, drop, zero, SameBytes, read, BackingArray, kept}
 use W.{place, Place, IsContainer, ap, ◌∙◌, ℕ, ◌+◌, ◌*◌, ◌∷◌, inl, inr, ◌⊎◌, suc, ◌-◌, ◌<◌, ◌≤◌, ◌%◌, ⊤, WindowState}
 use W.{HasBytesAt, [], subst, option_map, slice_set, SameSpread, found-room, last-first, kept-found, IsStorageBlock}
@@ -93,7 +93,7 @@ given-up-all {old} {mid} {new} {o = o} blocks x g =
 -- ---- the word
 
 pub head-after : {old mid : WindowState} {p : Place} {ps : List OwnedText} {t : BackingArray} → IsTexts old.bytes p ps t
-    → IsSwapped old mid (text_blocks ps) [] → IsHead mid p
+    → SwapsBlocks old mid (text_blocks ps) [] → IsHead mid p
 head-after {old} {p} {ps} {t} s x =
     head-kept (room-head old p s.heap s.room) x (none-of p.handle (text_blocks ps) s.apart)
 
@@ -185,7 +185,7 @@ erased-by {s0} {s1} {s2} {s3} {p} {ps} {c} {g} i n {o = Some x} {q} s e link n_i
 pub record IsLeft (s0 s1 : WindowState) (p : Place) (ps : List OwnedText) (g i : ℕ) (q : OwnedText) : Type 0 where
   pub found : slice_get ps i ≡ Some q
   pub element : IsHeldElement s0.bytes g (16 * i) q
-  pub after : IsSwapped s0 s1 (option_to_list q.extent) [] → IsArrayLeft s1 g (length ps) × IsHead s1 p
+  pub after : SwapsBlocks s0 s1 (option_to_list q.extent) [] → IsArrayLeft s1 g (length ps) × IsHead s1 p
 
 pub left : (s0 s1 : WindowState) {p : Place} {ps : List OwnedText} {c g : ℕ} (i : ℕ) {o : Option Extent} {q : OwnedText}
     → IsTexts s0.bytes p ps (table c o) → slice_get ps i ≡ Some q → link_at (bytes_of s0.bytes) (place_at p) ≡ Some g
@@ -359,7 +359,8 @@ full-table c None t = tt
 full-table c (Some x) t = table-full 16 c x t
 
 still-array : {a b : WindowState} (h c : ℕ) (o : Option Extent) (ps : List OwnedText) {come : List Extent}
-    → IsHeap current a.bytes → IsSwapped a b [] come → IsStorageBlock (live_of a.bytes) h o → IfFull c o → length ps ≤ c
+    → IsHeap current a.bytes → SwapsBlocks a b [] come → IsStorageBlock (live_of a.bytes) h o → IfFull c o
+    → length ps ≤ c
     → AreInArray (bytes_of a.bytes) (table c o) ps → AreInArray (bytes_of b.bytes) (table c o) ps × IsStorageBlock
     (live_of b.bytes) h o
 still-array h c None ps heap x own full fits l = (l, tt)
@@ -372,7 +373,7 @@ still-array {a} {b} h c (Some y) ps {come} heap x own full fits l =
     )
 
 pub texts-still : {a b : WindowState} {p : Place} {ps : List OwnedText} {t : BackingArray} {come : List Extent}
-    → IsTexts a.bytes p ps t → IsSwapped a b [] come → IsTexts b.bytes p ps t
+    → IsTexts a.bytes p ps t → SwapsBlocks a b [] come → IsTexts b.bytes p ps t
 texts-still {a} {b} {p} {ps} {t} s x =
     let w = room-head a p s.heap s.room in
     let words = words-kept {n = (length ps)} {t = t} s.heap w x tt
@@ -402,7 +403,7 @@ texts-still {a} {b} {p} {ps} {t} s x =
     }
 
 -- the block of a text begins at a multiple of 16
-pub come-even : {a b : WindowState} (o : Option Extent) → IsSwapped a b [] (option_to_list o)
+pub come-even : {a b : WindowState} (o : Option Extent) → SwapsBlocks a b [] (option_to_list o)
     → IfSome (option_map handle o) (λ target. target % 16 ≡ 0)
 come-even {a} {b} o x = let heap = laid-heap _ _ x.live in even-block (live_of b.bytes) o heap.proper (came-found x)
 
@@ -417,7 +418,7 @@ run-others r = came-others r.change
 
 pub loose-kept : {a b : WindowState} (bytes : List ℕ) (o : Option Extent) {gone come : List Extent}
     → IsHeap current a.bytes
-    → IsSwapped a b gone come → AllByRecursion (IsFound (live_of a.bytes).extents) (option_to_list o)
+    → SwapsBlocks a b gone come → AllByRecursion (IsFound (live_of a.bytes).extents) (option_to_list o)
     → AllByRecursion (λ (y : Extent). AllByRecursion (λ (z : Extent). handle y ≢ handle z) gone) (option_to_list o)
     → IsServed (record { bytes = bytes; extent = o }) → IsOwnedText (bytes_of a.bytes)
     (record { bytes = bytes; extent = o }) → IsOwnedText (bytes_of b.bytes) (record { bytes = bytes; extent = o })

@@ -7,7 +7,7 @@ use W.{exchanged, Extent, LiveSet, handle, end_of, place, Refusal, AllocatesOk, 
 use W.{ResizesBlock, SameBlock, extent_at, live_of, has_room, BackingArray, serves, has_backing, IsFound, IsNone}
 use W.{SameBlock-trans, exchange-order, exchange-released, exchange-resized, exchange-taken, found-none, kept}
 use W.{kept-found, last-first, live-rises, middle-first, place-serves, regrow-serves, spread-refl, found-room}
-use W.{two-apart, laid-heap, Place, place_at, SameElements, IsAdopted, ReservesArray, LacksFit, IsSwapped, taken}
+use W.{two-apart, laid-heap, Place, place_at, SameElements, AdoptsOk, ReservesArray, LacksFit, SwapsBlocks, taken}
 use W.{widened, AreEvenLinks, IsArrayReserved, gaps-refl, TakesStorage, AreDistinct, IsTexts, ReplacesTexts}
 use W.{AreTextLinks, OwnedText, [], SetsStorage, blocks-trans}
 use Rattle.seg_vector.proofs.Runs.{AreHeadWords, IsHead, IsRun, beside-head, block-written, none-some, run-found}
@@ -96,7 +96,7 @@ pub record IsInPlace (first now : WindowState) (p : Place) (ps : List OwnedText)
 -- lengthened where it stood
 wide-place : {first mid now : WindowState} {p : Place} {ps : List OwnedText} {c g : ℕ} (n : ℕ) {x : Extent}
     {loose : List Extent} → IsTexts first.bytes p ps (table c (Some x)) → (w : WidensBlock current first mid g (16 * n))
-    → Some x ≡ Some w.before → IsSwapped mid now [] loose → (loose ≡ [] → now ≡ mid)
+    → Some x ≡ Some w.before → SwapsBlocks mid now [] loose → (loose ≡ [] → now ≡ mid)
     → IsInPlace first now p ps (table c (Some x)) g n loose
 wide-place {first} {mid} {now} {p} {ps} {c} n {x} {loose} s w is since still =
     let y = w.after in let same : w.before ≡ x = same-some (sym is) in
@@ -128,7 +128,7 @@ wide-place {first} {mid} {now} {p} {ps} {c} n {x} {loose} s w is since still =
 -- a first one
 first-place : {first mid now : WindowState} {p : Place} {ps : List OwnedText} {c g : ℕ} (n : ℕ) {loose : List Extent}
     → IsTexts first.bytes p ps (table c None) → (a : AllocatesOk current first mid (16 * n) Storage g)
-    → IsSwapped mid now [] loose → IsInPlace first now p ps (table c None) g n loose
+    → SwapsBlocks mid now [] loose → IsInPlace first now p ps (table c None) g n loose
 first-place {first} {mid} {now} {ps} {g} n s a since =
     let y = a.extent in
     let one = run-swapped [] (spread-refl []) (run-begin first [] [] ps refl s) (exchange-taken _ _ mid _ _ g 0 0 a)
@@ -145,7 +145,7 @@ first-place {first} {mid} {now} {ps} {g} n s a since =
 
 adopt-place : {first old new : WindowState} {p : Place} {ps : List OwnedText} {t : BackingArray} {g n : ℕ}
     {loose : List Extent} → IsTexts first.bytes p ps t → t.capacity < n
-    → IsInPlace first old p ps t g n loose → SetsStorage old new p g n → IsAdopted first old new p ps t g n loose
+    → IsInPlace first old p ps t g n loose → SetsStorage old new p g n → AdoptsOk first old new p ps t g n loose
 adopt-place {first} {old} {new} {p} {ps} {t} {g} {n} {loose} s more q d =
     let y = q.array in let r = q.run in let fits = s.fits in let c = d.change in
     let words : AreHeadWords (bytes_of new.bytes) (place_at p) (length ps) (table n (Some y)) =
@@ -174,8 +174,8 @@ adopt-place {first} {old} {new} {p} {ps} {t} {g} {n} {loose} s more q d =
 -- without another array
 pub adopt-none : {first mid old new : WindowState} {p : Place} {ps : List OwnedText} {c g : ℕ} (n : ℕ)
     {o : Option Extent} {loose : List Extent} → IsTexts first.bytes p ps (table c o) → c < n
-    → ReservesArray first mid o (16 * n) g → IsSwapped mid old [] loose → link_at (bytes_of first.bytes) (place_at p)
-    ≡ None → SetsStorage old new p g n → IsAdopted first old new p ps (table c o) g n loose
+    → ReservesArray first mid o (16 * n) g → SwapsBlocks mid old [] loose → link_at (bytes_of first.bytes) (place_at p)
+    ≡ None → SetsStorage old new p g n → AdoptsOk first old new p ps (table c o) g n loose
 adopt-none n {o = Some x} s more a since was d = none-some was s.words.link
 adopt-none n {o = None} s more (widened w is) since was d = absurd (cc)
 adopt-none n {o = None} s more (taken a e) since was d = adopt-place s more (first-place n s a since) d
@@ -184,8 +184,8 @@ adopt-none n {o = None} s more (taken a e) since was d = adopt-place s more (fir
 pub adopt-same : {first mid old new : WindowState} {p : Place} {ps : List OwnedText} {c g : ℕ} (n : ℕ)
     {o : Option Extent}
     {loose : List Extent} → IsTexts first.bytes p ps (table c o) → c < n → ReservesArray first mid o (16 * n) g
-    → IsSwapped mid old [] loose → (loose ≡ [] → old ≡ mid) → link_at (bytes_of first.bytes) (place_at p) ≡ Some g
-    → SetsStorage old new p g n → IsAdopted first old new p ps (table c o) g n loose
+    → SwapsBlocks mid old [] loose → (loose ≡ [] → old ≡ mid) → link_at (bytes_of first.bytes) (place_at p) ≡ Some g
+    → SetsStorage old new p g n → AdoptsOk first old new p ps (table c o) g n loose
 adopt-same n {o = None} s more a since still was d = none-some s.words.link was
 adopt-same n {o = Some x} s more (widened w is) since still was d =
     adopt-place s more (wide-place n s w is since still) d
@@ -215,7 +215,7 @@ pub record IsBeside (first old : WindowState) (p : Place) (ps : List OwnedText) 
 pub beside : {first mid old : WindowState} {p : Place} {ps : List OwnedText} {c g n : ℕ} {x : Extent}
     {loose : List Extent}
     → IsTexts first.bytes p ps (table c (Some x)) → (a : AllocatesOk current first mid n Storage g)
-    → IsSwapped mid old [] loose → IsBeside first old p ps (table c (Some x)) x a.extent loose
+    → SwapsBlocks mid old [] loose → IsBeside first old p ps (table c (Some x)) x a.extent loose
 beside {first} {mid} {old} {p} {ps} {c} {g} {n} {x} s a since =
     let x1 = exchange-taken _ _ mid n _ g 0 0 a in let r0 = run-begin first [] [] ps refl s in
     let r1 = run-swapped (x ∷ []) (spread-refl (x ∷ [])) r0 x1 tt in let found1 = run-found r1 in
@@ -232,10 +232,10 @@ beside {first} {mid} {old} {p} {ps} {c} {g} {n} {x} s a since =
 -- the elements are carried over, the words are written, and the old array is given back
 adopt-beside : {first mid old a1 a2 new : WindowState} {p : Place} {ps : List OwnedText} {c g : ℕ} (n : ℕ) {x : Extent}
     {loose : List Extent} → IsTexts first.bytes p ps (table c (Some x)) → c < n → (a : AllocatesOk current first mid
-    (16 * n) Storage g) → regrow (live_of first.bytes) (Some x) (16 * n) ≡ Some a.extent → IsSwapped mid old [] loose
+    (16 * n) Storage g) → regrow (live_of first.bytes) (Some x) (16 * n) ≡ Some a.extent → SwapsBlocks mid old [] loose
     → ChangesBytes current old a1 (g + 0) (16 * length ps) → SameElements (bytes_of old.bytes) (bytes_of a1.bytes)
     (handle x + 0) (g + 0) (length ps) → SetsStorage a1 a2 p g n → Deallocates current a2 new (handle x)
-    → IsAdopted first old new p ps (table c (Some x)) g n loose
+    → AdoptsOk first old new p ps (table c (Some x)) g n loose
 adopt-beside {first} {old} {a1} {a2} {new} {p} {ps} {c} {g} n {x} {loose} s more a grow since c1 carried d rel =
     let c2 = d.change in
     let t = table c (Some x) in let y = a.extent in let k = length ps in let u = table n (Some y) in
@@ -289,10 +289,10 @@ adopt-beside {first} {old} {a1} {a2} {new} {p} {ps} {c} {g} n {x} {loose} s more
 
 pub adopt-other : {first mid old a1 a2 new : WindowState} {p : Place} {ps : List OwnedText} {c g h : ℕ} (n : ℕ)
     {o : Option Extent} {loose : List Extent} → IsTexts first.bytes p ps (table c o) → c < n
-    → ReservesArray first mid o (16 * n) g → IsSwapped mid old [] loose → link_at (bytes_of first.bytes) (place_at p)
+    → ReservesArray first mid o (16 * n) g → SwapsBlocks mid old [] loose → link_at (bytes_of first.bytes) (place_at p)
     ≡ Some h → h ≢ g → ChangesBytes current old a1 (g + 0) (16 * length ps)
     → SameElements (bytes_of old.bytes) (bytes_of a1.bytes) (h + 0) (g + 0) (length ps)
-    → SetsStorage a1 a2 p g n → Deallocates current a2 new h → IsAdopted first old new p ps (table c o) g n loose
+    → SetsStorage a1 a2 p g n → Deallocates current a2 new h → AdoptsOk first old new p ps (table c o) g n loose
 adopt-other n {o = None} s more a since was differ c1 carried d rel = none-some s.words.link was
 adopt-other n {o = Some x} s more (widened w is) since was differ c1 carried d rel =
     let h_is = same-some (sym s.words.link ∙ was) in
@@ -327,7 +327,7 @@ ready-place {now} {n} {loose} q = record {
 
 pub ready-in : {first mid now : WindowState} {p : Place} {ps : List OwnedText} {c g : ℕ} (n : ℕ) {o : Option Extent}
     {loose : List Extent} → IsTexts first.bytes p ps (table c o) → ReservesArray first mid o (16 * n) g
-    → IsSwapped mid now [] loose → (loose ≡ [] → now ≡ mid) → IsReadyRun first now p ps (table c o) g n
+    → SwapsBlocks mid now [] loose → (loose ≡ [] → now ≡ mid) → IsReadyRun first now p ps (table c o) g n
 ready-in n {o = None} s (widened w is) since still = absurd (cc)
 ready-in n {o = None} s (taken a e) since still = ready-place (first-place n s a since)
 ready-in n {o = Some x} s (widened w is) since still = ready-place (wide-place n s w is since still)
@@ -344,7 +344,7 @@ ready-in {first} n {o = Some x} {loose} s (taken a e) since still =
 
 abbrev pub ready-of : {first mid now : WindowState} {p : Place} {ps : List OwnedText} {t : BackingArray} {g : ℕ} (n : ℕ)
     {loose : List Extent} → IsTexts first.bytes p ps t → t.capacity < n → ReservesArray first mid t.extent (16 * n) g
-    → IsSwapped mid now [] loose → (loose ≡ [] → now ≡ mid) → IsArrayReserved now p g n
+    → SwapsBlocks mid now [] loose → (loose ≡ [] → now ≡ mid) → IsArrayReserved now p g n
 ready-of {first} {mid} {ps = ps} {t} n {loose} s more a since still = record {
   first = first;
   mid = mid;
@@ -387,7 +387,7 @@ apart-of x y g h k e f big long (inr d) = inl (omega (arith, e, f))
 
 ready-new_in : {first mid now : WindowState} {p : Place} {ps : List OwnedText} {c g h : ℕ} (n : ℕ) {o : Option Extent}
     {loose : List Extent} → IsTexts first.bytes p ps (table c o) → c < n → ReservesArray first mid o (16 * n) g
-    → IsSwapped mid now [] loose
+    → SwapsBlocks mid now [] loose
     → link_at (bytes_of first.bytes) (place_at p) ≡ Some h → h ≢ g → IsReadyNew now g h n (length ps)
 ready-new_in n {o = None} s more a since was differ = none-some s.words.link was
 ready-new_in n {o = Some x} s more (widened w is) since was differ =
@@ -424,7 +424,7 @@ asked-heap (widened w is) = laid-heap _ _ w.change.live
 asked-heap (taken a e) = laid-heap _ _ a.live
 
 pub asked-alone : {first mid : WindowState} {o : Option Extent} {n g : ℕ} → ReservesArray first mid o n g
-    → IsSwapped mid mid [] []
+    → SwapsBlocks mid mid [] []
 asked-alone {mid} a = swapped-none mid (asked-heap a)
 
 pub new-table : (n : ℕ) (y : Extent) → 0 < n → IsTrue (serves y Storage (16 * n))
@@ -433,7 +433,7 @@ new-table n y f s = and_from (nat_lt 0 n) (serves y Storage (16 * n)) (lt-ltb 0 
 
 pub reserved : {first mid new : WindowState} {p : Place} {ps : List OwnedText} {t : BackingArray} {g n : ℕ}
     → IsTexts first.bytes p ps t → t.capacity < n
-    → IsAdopted first mid new p ps t g n [] → (w : BackingArray) × (grown_backing (live_of first.bytes) 16 n t ≡ Some w)
+    → AdoptsOk first mid new p ps t g n [] → (w : BackingArray) × (grown_backing (live_of first.bytes) 16 n t ≡ Some w)
     × ReplacesTexts first new p (option_to_list t.extent) (option_to_list w.extent) ps w
 reserved {new} {p} {ps} {t} {n} s more a =
     let u = table n (Some a.array) in let arr = option_to_list t.extent in

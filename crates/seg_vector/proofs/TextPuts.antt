@@ -3,12 +3,12 @@ use Rattle.seg_vector.proofs.Words as W
 use Rattle.best_fit.specs.Fit as fit
 use W.{◌≡◌, length-take, ShrinksInPlace, spread-refl, LacksFit, AreEvenLinks, RefusesPut, PlacesTextOk, AreTextLinks}
 use W.{◌≢◌, sym, None, List, arith, take, drop, Bool, true, false, handle, others, IsHeap, BackingArray, IsNone, Place}
-use W.{taken, refl, last-first, live-rises, found-room, taken-back, keeps-refl, IsPutAsked, IsPutReady, ReplacesTexts}
+use W.{taken, refl, last-first, live-rises, found-room, taken-back, keeps-refl, IsPutAsked, PreparesPut, ReplacesTexts}
 use W.{with_array, ap, word_at, current, link_at, LiveSet, resized, Refusal, live_of, IsFound, Differs, ReservesArray}
-use W.{PutsInto, one_more, subst, if◌then◌else◌, length-append, exchange-taken, widened-back, rising-insert}
+use W.{PutsInto, requested_text, subst, if◌then◌else◌, length-append, exchange-taken, widened-back, rising-insert}
 use W.{RefusesFirstBlock, exchanged-live, ◌∙◌, ℕ, ◌+◌, ◌*◌, ◌<◌, ◌≤◌, ◌∷◌, inl, inr, ◌%◌, ◌-◌, max, Ok, Err}
-use W.{WindowState, [], Option, eqb-true, bytes_of, exchanged, ChangesBytes, has_room, laid-heap, place_at, IsAdopted}
-use W.{IsSwapped, OwnedText, ExchangesBlocks, KeepsGaps, gaps-payload, gaps-refl, gaps-then, gaps-trans, Some, length}
+use W.{WindowState, [], Option, eqb-true, bytes_of, exchanged, ChangesBytes, has_room, laid-heap, place_at, AdoptsOk}
+use W.{SwapsBlocks, OwnedText, ExchangesBlocks, KeepsGaps, gaps-payload, gaps-refl, gaps-then, gaps-trans, Some, length}
 use W.{IsTrue, Result, IfSome, nat_lt, insert, lt-ltb, le-ltb, Extent, widened, room_of, IsTexts, NoSpace, append-nil}
 use W.{option_map, KeepsLiveSet, Deallocates, is_live_in, lay_out_one, others-past, InsertsTextOk, placed_text}
 use W.{option_to_list, AllByRecursion, length-drop, take-append-drop, exchange-order, SameElements, capacity_for_one}
@@ -32,7 +32,7 @@ pub none-array : (b : WindowState) {p : Place} {ps : List OwnedText} {t : Backin
 none-array b {p} {t} s = (own-facts (live_of b.bytes) p.handle t.extent s.own).2
 
 pub put-run : {first now : WindowState} {p : Place} {ps : List OwnedText} {t : BackingArray} {y : Extent} {m : ℕ}
-    {z : OwnedText} → IsPutReady first now p ps t y m z
+    {z : OwnedText} → PreparesPut first now p ps t y m z
     → IsRun first now p (option_to_list t.extent) (y ∷ option_to_list z.extent) (length ps) (table m (Some y))
 put-run {first} {t} {y} {z} r = record {
   change = r.change;
@@ -42,7 +42,7 @@ put-run {first} {t} {y} {z} r = record {
 }
 
 pub put-big : {first now : WindowState} {p : Place} {ps : List OwnedText} {t : BackingArray} {y : Extent} {m : ℕ}
-    {z : OwnedText} → IsPutReady first now p ps t y m z → 16 * m + 16 ≤ y.len
+    {z : OwnedText} → PreparesPut first now p ps t y m z → 16 * m + 16 ≤ y.len
 put-big {y} {m} r = table-full 16 m y r.table
 
 -- ---- the text
@@ -63,7 +63,7 @@ same-blocks {old} {mid} {t} {from} {n} s e x = same-storage (texts-stand s)
 
 pub put-by : {first now b1 b2 new : WindowState} {p : Place} {ps : List OwnedText} {t : BackingArray} {y : Extent}
     {m : ℕ} {z : OwnedText} (i : ℕ) {g : ℕ} (n len : ℕ) (block : Option ℕ)
-    → IsPutReady first now p ps t y m z → i ≤ length ps
+    → PreparesPut first now p ps t y m z → i ≤ length ps
     → block ≡ option_map handle z.extent → len ≡ length z.bytes → link_at (bytes_of now.bytes) (place_at p) ≡ Some g
     → n ≡ word_at (bytes_of now.bytes) (place_at p + 8) → ChangesBytes current now b1 (g + 16 * i + 16) (16 * (n - i))
     → SameElements (bytes_of now.bytes) (bytes_of b1.bytes) (g + 16 * i) (g + 16 * i + 16) (n - i)
@@ -205,7 +205,7 @@ pub record IsWithin (first now : WindowState) (p : Place) (ps : List OwnedText) 
     Type 0 where
   pub array : Extent
   pub extent : t.extent ≡ Some array
-  pub ready : IsPutReady first now p ps t array t.capacity z
+  pub ready : PreparesPut first now p ps t array t.capacity z
 
 pub within : {s0 s1 : WindowState} {p : Place} {ps : List OwnedText} {c : ℕ} {o : Option Extent} {bytes : List ℕ}
     {block : Option ℕ} → IsTexts s0.bytes p ps (table c o) → length ps < c → (pl : PlacesTextOk s0 s1 bytes block)
@@ -267,7 +267,7 @@ after l t bytes o = elim o [ None ↦ None | Some u ↦ placed_text (with_array 
 -- where nothing changes, nothing does at first
 refused-same : {s0 s1 : WindowState} {ps : List OwnedText} {t : BackingArray} {bytes : List ℕ} {e : Refusal}
     → IsHeap current s0.bytes
-    → e ≡ NoSpace → one_more (live_of s0.bytes) ps t bytes ≡ None → s1 ≡ s0 → RefusesPut s0 s1 ps t bytes e
+    → e ≡ NoSpace → requested_text (live_of s0.bytes) ps t bytes ≡ None → s1 ≡ s0 → RefusesPut s0 s1 ps t bytes e
 refused-same {s0} heap refusal none same = record {
   refusal = refusal;
   none = none;
@@ -311,7 +311,7 @@ first-answered old new p ps t i bytes (Err e) h = h.first
 pub growing-ready : {s0 s1 s2 s3 : WindowState} {p : Place} {ps : List OwnedText} {t : BackingArray} {g n : ℕ}
     {bytes : List ℕ}
     {block : Option ℕ} → IsTexts s0.bytes p ps t → length ps < n → (pl : PlacesTextOk s1 s2 bytes block)
-    → (ad : IsAdopted s0 s2 s3 p ps t g n (option_to_list pl.text.extent)) → IsPutReady s0 s3 p ps t ad.array n pl.text
+    → (ad : AdoptsOk s0 s2 s3 p ps t g n (option_to_list pl.text.extent)) → PreparesPut s0 s3 p ps t ad.array n pl.text
 growing-ready {s2} {s3} {ps} {n} s space pl ad = record {
   texts = s;
   table = new-table n ad.array (omega (arith, space)) ad.serves;
@@ -332,7 +332,7 @@ others-none y (z ∷ zs) d = others-past (handle y) z zs (λ e. d.0 (omega (arit
     ∙ ap (λ (ws : List Extent). z ∷ ws) (others-none y zs d.1)
 
 -- a block that is new is put in among the others
-pub came-alone : {a b : WindowState} {x : Extent} → IsSwapped a b [] (x ∷ [])
+pub came-alone : {a b : WindowState} {x : Extent} → SwapsBlocks a b [] (x ∷ [])
     → live_of b.bytes ≡ resized (live_of a.bytes) x
 came-alone {a} {b} {x} s =
     let l = live_of a.bytes in
@@ -365,7 +365,7 @@ same-block e = same-some (ap (λ (t : BackingArray). t.extent) (same-some e))
 pub growing-ok : {s0 s1 s2 s3 new : WindowState} {p : Place} {ps : List OwnedText} {t : BackingArray} {g n : ℕ}
     (i : ℕ) {bytes : List
     ℕ} {block : Option ℕ} → t.capacity < n → n ≡ capacity_for_one (length ps) t.capacity → ReservesArray s0 s1 t.extent
-    (16 * n) g → (pl : PlacesTextOk s1 s2 bytes block) → (ad : IsAdopted s0 s2 s3 p ps t g n (option_to_list
+    (16 * n) g → (pl : PlacesTextOk s1 s2 bytes block) → (ad : AdoptsOk s0 s2 s3 p ps t g n (option_to_list
     pl.text.extent)) → ReplacesTexts s0 new p (option_to_list t.extent) (ad.array ∷ option_to_list pl.text.extent)
     (insert ps i pl.text) (table n (Some ad.array)) → InsertsTextOk s0 new p ps t i bytes
 growing-ok {s0} {s1} {t} {n} i {bytes} more wanted a pl ad now =

@@ -8,9 +8,10 @@ use W.{Extent, LiveSet, handle, resized, place, ChangesBytes, IsHeap, SameBlock,
 use W.{AllocatesOk, NoSpace, Refusal, Deallocates, is_live_in, IsFound, IsNone, all-in-use, changed-live, exchange-next}
 use W.{exchange-order, exchange-same, exchanged-live, found-room, kept, laid-heap, last-first, live-rises, roomy}
 use W.{spread-refl, exchange-released, exchange-taken, keeps-refl, place-serves, too_long, kept-beside, Storage}
-use W.{BackingArray, no_backing, AreLaid, StoresArrayUpTo, StoresArrayOk, StoresArrayErr, SameElements, IsServed}
-use W.{IsSwapped, LacksFit, PlacesTextOk, AreHeldElements, AreDistinct, placed_text, placed_texts, text_blocks}
-use W.{with_text, all_texts, new_array, AssignsTextsOk, AssignsTexts, IsTexts, ReplacesTexts, ReleasesTexts}
+use W.{BackingArray, no_backing, StoresFirstTexts, StoresArrayUpTo, StoresArrayOk, StoresArrayErr, SameElements}
+use W.{IsServed}
+use W.{SwapsBlocks, LacksFit, PlacesTextOk, AreHeldElements, AreDistinct, placed_text, placed_texts, text_blocks}
+use W.{with_text, requested_texts, new_array, AssignsTextsOk, AssignsTexts, IsTexts, ReplacesTexts, ReleasesTexts}
 use W.{AreTextLinks, IsOwnedText, OwnedText, Place, place_at, [], SetsStorage, all-same-but, drop-map, drop-cons}
 use Rattle.seg_vector.proofs.Runs.{AreHeadWords, IsHead, block-written, changed-both, head-exchanged, len-written}
 use Rattle.seg_vector.proofs.Runs.{run-none, run-swapped, same-some, serves-full, table, all-as, came-found}
@@ -28,7 +29,7 @@ pub record AreCome (b : WindowState) (come : List Extent) : Type 0 where
   pub found : AllByRecursion (IsFound (live_of b.bytes).extents) come
   pub others : AreDistinct come
 
-pub are-come : {a b : WindowState} {gone come : List Extent} → IsSwapped a b gone come → AreCome b come
+pub are-come : {a b : WindowState} {gone come : List Extent} → SwapsBlocks a b gone come → AreCome b come
 are-come x = record { heap = laid-heap _ _ x.live; found = came-found x; others = came-others x }
 
 pub blocks-more : (qs : List OwnedText) (q : OwnedText)
@@ -38,7 +39,7 @@ blocks-more qs q = flat_map-append (λ (w : OwnedText). option_to_list w.extent)
 
 -- ---- the live set
 
-with-text_in : {a b : WindowState} (bytes : List ℕ) (o : Option Extent) → IsSwapped a b [] (option_to_list o)
+with-text_in : {a b : WindowState} (bytes : List ℕ) (o : Option Extent) → SwapsBlocks a b [] (option_to_list o)
     → live_of b.bytes ≡ with_text (live_of a.bytes) (record { bytes = bytes; extent = o })
 with-text_in {a} {b} bytes None s = exchanged-live a b 0 0 [] [] _ s
 with-text_in bytes (Some x) s = came-alone s
@@ -71,7 +72,7 @@ placed-stops l bytes more e = ap (placed_after l more) e
 -- ---- one after another
 
 pub laid-begin : (c : WindowState) {y : Extent} (more : List (List ℕ)) → IsHeap current c.bytes
-    → extent_at (live_of c.bytes) (handle y) ≡ Some y → AreLaid c c y 0 more
+    → extent_at (live_of c.bytes) (handle y) ≡ Some y → StoresFirstTexts c c y 0 more
 laid-begin c {y} more heap found =
     let l = live_of c.bytes in
     record {
@@ -86,8 +87,8 @@ laid-begin c {y} more heap found =
     }
 
 -- a text was placed: all blocks that came since the first
-beside-text : {old now mid : WindowState} {y : Extent} {tb oq : List Extent} → IsSwapped old now (y ∷ []) (y ∷ tb)
-    → IsSwapped now mid [] oq → IsSwapped old mid (y ∷ []) (y ∷ (tb ++ oq))
+beside-text : {old now mid : WindowState} {y : Extent} {tb oq : List Extent} → SwapsBlocks old now (y ∷ []) (y ∷ tb)
+    → SwapsBlocks now mid [] oq → SwapsBlocks old mid (y ∷ []) (y ∷ (tb ++ oq))
 beside-text {old} {now} {mid} {y} {tb} {oq} p q = exchange-order _ old mid 0 0 _ _ _ (last-first oq (y ∷ tb))
     (exchange-next _ old now mid 0 0 _ _ [] (y ∷ tb) oq (spread-refl (y ∷ tb)) p q)
 
@@ -107,10 +108,10 @@ laid-links now {new} {y} {g} i n ps q at long below big stays c link len l =
     (subst (λ k. AreTextLinks (bytes_of new.bytes) k (q ∷ [])) behind (link, len, tt))
 
 pub laid-put : {old now mid new : WindowState} {y : Extent} {i : ℕ} (n array : ℕ) {bytes : List ℕ}
-    {more : List (List ℕ)} {block : Option ℕ} → handle y ≡ array → AreLaid old now y i more
+    {more : List (List ℕ)} {block : Option ℕ} → handle y ≡ array → StoresFirstTexts old now y i more
     → drop i more ≡ bytes ∷ drop (i + 1) more → i < n → 16 * n + 16 ≤ y.len → PlacesTextOk now mid bytes block
     → ChangesBytes current mid new (array + 16 * i) 16 → link_at (bytes_of new.bytes) (array + 16 * i) ≡ block
-    → word_at (bytes_of new.bytes) (array + 16 * i + 8) ≡ length bytes → AreLaid old new y (i + 1) more
+    → word_at (bytes_of new.bytes) (array + 16 * i + 8) ≡ length bytes → StoresFirstTexts old new y (i + 1) more
 laid-put {old} {now} {mid} {new} {y} {i} n array {bytes} {more} at a split below big pl c link len =
     let q = pl.text in let oq = option_to_list q.extent in let tb = text_blocks a.texts in
     let rest = drop (i + 1) more in let here = are-come a.change in let x1 = beside-text a.change pl.change in
@@ -131,7 +132,7 @@ laid-put {old} {now} {mid} {new} {y} {i} n array {bytes} {more} at a split below
           (live_of now.bytes) xs)) split ∙ ap (option_map (λ (qs : List OwnedText). a.texts ++ qs))
           (placed-one (live_of now.bytes) (live_of new.bytes) bytes rest pl.placed live) ∙ one-before a.texts q
           (placed_texts (live_of new.bytes) rest);
-      change = subst (λ (xs : List Extent). IsSwapped old new (y ∷ []) (y ∷ xs)) (sym blocks) x3;
+      change = subst (λ (xs : List Extent). SwapsBlocks old new (y ∷ []) (y ∷ xs)) (sym blocks) x3;
       links = laid-links now i n a.texts q at a.long below big (kept now mid (handle y) y [] oq _ here.heap pl.change
           here.found.0 tt) c (link ∙ pl.at) (len ∙ ap length (sym pl.same)) a.links;
       owned = owned-same (bytes_of mid.bytes) (bytes_of new.bytes) (a.texts ++ (q ∷ [])) stay served
@@ -142,7 +143,7 @@ laid-put {old} {now} {mid} {new} {y} {i} n array {bytes} {more} at a split below
 -- ---- it ends
 
 pub laid-stops : {old now new : WindowState} {y : Extent} {i : ℕ} {bytes : List ℕ} {more : List (List ℕ)} {e : Refusal}
-    → AreLaid old now y i more → drop i more ≡ bytes ∷ drop (i + 1) more → i ≤ length more
+    → StoresFirstTexts old now y i more → drop i more ≡ bytes ∷ drop (i + 1) more → i ≤ length more
     → LacksFit now new (placed_text (live_of now.bytes) bytes) e → StoresArrayUpTo old new y i more
 laid-stops {old} {now} {y} {i} {bytes} {more} a split within r =
     subst (λ (c : WindowState). StoresArrayUpTo old c y i more) (sym r.same) (record {
@@ -153,9 +154,9 @@ laid-stops {old} {now} {y} {i} {bytes} {more} a split within r =
     })
 
 pub laid-all : {old now : WindowState} {y : Extent} {i : ℕ} (n : ℕ) {more : List (List ℕ)}
-    → AreLaid old now y i more → i ≡ n → n ≡ length more → StoresArrayUpTo old now y n more
+    → StoresFirstTexts old now y i more → i ≡ n → n ≡ length more → StoresArrayUpTo old now y n more
 laid-all {old} {now} {y} n {more} a e f = record {
-  laid = subst (λ k. AreLaid old now y k more) e a;
+  laid = subst (λ k. StoresFirstTexts old now y k more) e a;
   within = omega (arith, f);
   stopped = λ g. absurd (omega (arith, f, g));
 }
@@ -174,7 +175,7 @@ pub text-even : {a b : WindowState} {bytes : List ℕ} {block : Option ℕ} → 
 text-even pl = subst (λ o. IfSome o (λ target. target % 16 ≡ 0)) (sym pl.at) (come-even pl.text.extent pl.change)
 
 pub laid-room : {old now mid : WindowState} {y : Extent} {i : ℕ} (n array : ℕ) {bytes : List ℕ} {more : List (List ℕ)}
-    {block : Option ℕ} → handle y ≡ array → AreLaid old now y i more → PlacesTextOk now mid bytes block → i < n
+    {block : Option ℕ} → handle y ≡ array → StoresFirstTexts old now y i more → PlacesTextOk now mid bytes block → i < n
     → 16 * n + 16 ≤ y.len → IsTrue (has_room (live_of mid.bytes) array (16 * i + 16))
 laid-room {mid} {y} {i} n array at a pl below big =
     let there = are-come (beside-text a.change pl.change) in
@@ -204,7 +205,8 @@ texts_after l more o = elim o [
 ]
 
 in-array : (l : LiveSet) (more : List (List ℕ)) (o : Option Extent) → 0 < length more → place l (16 * length more)
-    Storage ≡ o → all_texts l more ≡ texts_after l more (option_map (λ (x : Extent). table (length more) (Some x)) o)
+    Storage ≡ o → requested_texts l more
+    ≡ texts_after l more (option_map (λ (x : Extent). table (length more) (Some x)) o)
 in-array l more o f e = ap (texts_after l more)
     (new-array l (length more) f ∙ ap (option_map (λ (x : Extent). table (length more) (Some x))) e)
 
@@ -218,7 +220,8 @@ laid-fitted l more {y} f e none =
 
 -- ---- nothing is laid out
 
-unchanged : (c : WindowState) (more : List (List ℕ)) → IsHeap current c.bytes → all_texts (live_of c.bytes) more ≡ None
+unchanged : (c : WindowState) (more : List (List ℕ)) → IsHeap current c.bytes
+    → requested_texts (live_of c.bytes) more ≡ None
     → StoresArrayErr c c more NoSpace
 unchanged c more heap e = record {
   refusal = refl;
@@ -245,7 +248,7 @@ pub record IsArrayTaken (old mid : WindowState) (n g : ℕ) : Type 0 where
   pub block : Extent
   pub placed : place (live_of old.bytes) (16 * n) Storage ≡ Some block
   pub at : handle block ≡ g
-  pub change : IsSwapped old mid [] (block ∷ [])
+  pub change : SwapsBlocks old mid [] (block ∷ [])
   pub heap : IsHeap current mid.bytes
   pub found : extent_at (live_of mid.bytes) g ≡ Some block
   pub big : 16 * n + 16 ≤ block.len
@@ -287,7 +290,7 @@ laid-out {old} {mid} {new} {k} {more} t e w all =
       long = a.long ∙ count;
       placed = ap (λ (l : LiveSet). placed_texts l more) (sym (came-alone t.change)) ∙ a.placed ∙ all-placed a.texts
           (live_of new.bytes) (drop k more) (drop_all k more (omega (arith, count)));
-      change = subst (IsSwapped old new []) (append-nil (t.block ∷ text_blocks a.texts))
+      change = subst (SwapsBlocks old new []) (append-nil (t.block ∷ text_blocks a.texts))
           (exchange-next _ old mid new 0 0 [] _ _ [] _ (spread-refl (t.block ∷ [])) t.change a.change);
       links = a.links;
       owned = a.owned;
@@ -313,8 +316,8 @@ laid-held {new} {k} t e w =
 
 -- the array alone is in use still
 array-alone : {old mid new left : WindowState} {n k g : ℕ} {more : List (List ℕ)} → (t : IsArrayTaken old mid n g)
-    → (w : StoresArrayUpTo mid new t.block k more) → IsSwapped new left (text_blocks w.laid.texts) []
-    → IsSwapped old left [] (t.block ∷ [])
+    → (w : StoresArrayUpTo mid new t.block k more) → SwapsBlocks new left (text_blocks w.laid.texts) []
+    → SwapsBlocks old left [] (t.block ∷ [])
 array-alone {old} {mid} {new} {left} t w x =
     let tb = text_blocks w.laid.texts in
     let back = exchange-next _ mid new left 0 0 _ _ tb (t.block ∷ []) [] (last-first (t.block ∷ []) tb) w.laid.change
@@ -322,7 +325,7 @@ array-alone {old} {mid} {new} {left} t w x =
     exchange-next _ old mid left 0 0 [] _ _ [] _ (spread-refl (t.block ∷ [])) t.change back
 
 pub array-live : {old mid new left : WindowState} {n k g : ℕ} {more : List (List ℕ)} → (t : IsArrayTaken old mid n g)
-    → (w : StoresArrayUpTo mid new t.block k more) → IsSwapped new left (text_blocks w.laid.texts) []
+    → (w : StoresArrayUpTo mid new t.block k more) → SwapsBlocks new left (text_blocks w.laid.texts) []
     → IsTrue (is_live_in (live_of left.bytes) g)
 array-live {left} t w x =
     let come = are-come (array-alone t w x) in
@@ -330,7 +333,7 @@ array-live {left} t w x =
     (found-live (handle t.block) (live_of left.bytes).extents come.found.0)
 
 -- nothing is exchanged
-swapped-back : {old new : WindowState} → IsSwapped old new [] [] → KeepsLiveSet current old new
+swapped-back : {old new : WindowState} → SwapsBlocks old new [] [] → KeepsLiveSet current old new
 swapped-back {old} {new} x = record {
   laid = x.live;
   keeps = record {
@@ -346,7 +349,7 @@ swapped-back {old} {new} x = record {
 
 pub taken-off : {old mid new left last : WindowState} {n k g : ℕ} {more : List (List ℕ)}
     → (t : IsArrayTaken old mid n g)
-    → n ≡ length more → 0 < n → (w : StoresArrayUpTo mid new t.block k more) → k ≢ n → IsSwapped new left
+    → n ≡ length more → 0 < n → (w : StoresArrayUpTo mid new t.block k more) → k ≢ n → SwapsBlocks new left
     (text_blocks w.laid.texts) [] → Deallocates current left last g → StoresArrayErr old last more NoSpace
 taken-off {old} {mid} {new} {left} {last} {n} {k} {more} t e some w short x r =
     let y = t.block in let a = w.laid in let alone = array-alone t w x in
@@ -465,7 +468,7 @@ some-texts (suc n) e = omega arith
 
 -- ---- a vector of texts stands where the same blocks are in use as before, with the same bytes
 
-nothing-swapped : {a b : WindowState} → KeepsLiveSet current a b → IsSwapped a b [] []
+nothing-swapped : {a b : WindowState} → KeepsLiveSet current a b → SwapsBlocks a b [] []
 nothing-swapped {a} {b} r = record {
   live = r.laid;
   place = r.keeps.place;

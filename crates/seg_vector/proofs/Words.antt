@@ -33,15 +33,16 @@ pub use Rattle.seg_vector.specs.Elements.{FreesStorageOk, ShrinksStorageOk, Eras
 pub use Rattle.seg_vector.specs.Elements.{FreesStorage, Inserts, RewritesElements, Overwrites, PutsAt, ReadsOne}
 pub use Rattle.seg_vector.specs.{Elements.Truncates, Containers.IsStanding, Vector.capacity_for_text}
 pub use Rattle.seg_vector.specs.Containers.{IsStorageBlock, IsContainer, place_at, ReservesStorageOk, ReservesStorage}
-pub use Rattle.seg_vector.specs.TextLists.{AreLaid, StoresArrayUpTo, StoresArrayOk, StoresArrayErr}
-pub use Rattle.seg_vector.specs.TextParts.{FreesBlocks, AreHeldElements, IsHeldElement, IsSameElement, AreEvenLinks}
-pub use Rattle.seg_vector.specs.TextParts.{IsAdopted, ReservesArray, taken, widened, IsArrayReserved, IsPutAsked}
-pub use Rattle.seg_vector.specs.TextParts.{IsPutReady, room_of, RefusesPut, PutsInto, SetsStorage, IsSwapped}
+pub use Rattle.seg_vector.specs.TextLists.{StoresFirstTexts, StoresArrayUpTo, StoresArrayOk, StoresArrayErr}
+pub use Rattle.seg_vector.specs.TextParts.{FreesBlocks, AreHeldElements, IsHeldElement, SameElement, AreEvenLinks}
+pub use Rattle.seg_vector.specs.TextParts.{AdoptsOk, ReservesArray, taken, widened, IsArrayReserved, IsPutAsked}
+pub use Rattle.seg_vector.specs.TextParts.{PreparesPut, room_of, RefusesPut, PutsInto, SetsStorage, SwapsBlocks}
 pub use Rattle.seg_vector.specs.TextParts.{SameElements, IsServed, TakesStorage, PlacesTextOk}
-pub use Rattle.seg_vector.specs.TextsCalls.{AreDistinct, placed_text, placed_texts, text_blocks, with_text, all_texts}
+pub use Rattle.seg_vector.specs.TextsCalls.{AreDistinct, placed_text, placed_texts, text_blocks, with_text}
+pub use Rattle.seg_vector.specs.TextsCalls.{requested_texts}
 pub use Rattle.seg_vector.specs.TextsCalls.{ReleasesTexts, IsHeldText, IsTextElement, RefusesFirstBlock, InsertsTextOk}
 pub use Rattle.seg_vector.specs.TextsCalls.{new_array, AssignsTextsOk, AssignsTexts, IsTexts, ReplacesTexts, with_array}
-pub use Rattle.seg_vector.specs.TextsCalls.{one_more, LacksFit}
+pub use Rattle.seg_vector.specs.TextsCalls.{requested_text, LacksFit}
 pub use Rattle.seg_vector.specs.Vector.{IsStorage, AreTextLinks, IsOwnedText, OwnedText, capacity_for_one, AreInArray}
 pub use Rattle.seg_vector.specs.VectorCalls.{IsVector, GrowsVectorOk, ReplacesVector, LacksSpace}
 pub use Rattle.seg_vector.specs.TextCalls.{ReplacesText, IsText, GrowsTextOk}

@@ -11,7 +11,7 @@ use Rattle.std.proofs.lemmas.Fmt.{decimal_digit, decimal-digits_of}
 use Rattle.std.proofs.lemmas.List.{append-nil, append_assoc, length-append, take-append-le}
 use Rattle.std.proofs.lemmas.List.Sums.{fold-append, fold_more}
 use Rattle.raw_region.specs.Answers.{AppendsProperPrefix}
-use Rattle.segment_answers.specs.Numbers.{in_text, is_in_text, text_part}
+use Rattle.segment_answers.specs.Numbers.{next_in_text, is_in_text, text_part}
 
 text-none : (t : Bool) → text_part t [] ≡ []
 text-none true = refl
@@ -20,11 +20,11 @@ text-none false = refl
 text-append : (t : Bool) (a b : List ℕ) → text_part t (a ++ b) ≡ text_part t a ++ text_part (is_in_text t a) b
 text-append true [] b = refl
 text-append false [] b = refl
-text-append true (c ∷ cs) b = ap (λ (l : List ℕ). c ∷ l) (text-append (in_text true c) cs b)
-text-append false (c ∷ cs) b = text-append (in_text false c) cs b
+text-append true (c ∷ cs) b = ap (λ (l : List ℕ). c ∷ l) (text-append (next_in_text true c) cs b)
+text-append false (c ∷ cs) b = text-append (next_in_text false c) cs b
 
 in-append : (t : Bool) (a b : List ℕ) → is_in_text t (a ++ b) ≡ is_in_text (is_in_text t a) b
-in-append t a b = fold-append in_text t a b
+in-append t a b = fold-append next_in_text t a b
 
 -- ---- bytes of one line
 
@@ -32,9 +32,9 @@ line-text : (k : ℕ) (bs : List ℕ) → ((j : ℕ) → j < k → is_in_text tr
     → text_part true (take k bs) ≡ take k bs
 line-text zero bs one = refl
 line-text (suc k) [] one = refl
-line-text (suc zero) (b ∷ bs) one = ap (λ (l : List ℕ). b ∷ l) (text-none (in_text true b))
+line-text (suc zero) (b ∷ bs) one = ap (λ (l : List ℕ). b ∷ l) (text-none (next_in_text true b))
 line-text (suc (suc k)) (b ∷ bs) one =
-    let first : in_text true b ≡ true = one (suc zero) (omega arith) in
+    let first : next_in_text true b ≡ true = one (suc zero) (omega arith) in
     let rest : (j : ℕ) → j < suc k → is_in_text true (take j bs) ≡ true =
     λ j h. sym (ap (λ (t : Bool). is_in_text t (take j bs)) first) ∙ one (suc j) (omega arith) in
     ap (λ (l : List ℕ). b ∷ l) (ap (λ (t : Bool). text_part t (take (suc k) bs)) first ∙ line-text (suc k) bs rest)
@@ -46,14 +46,14 @@ module _ (old new line : List ℕ) (n : ℕ) (begun : is_in_text false old ≡ t
       ∙ ap (λ (t : Bool). text_part false old ++ text_part t (take n line)) begun
       ∙ ap (λ (l : List ℕ). text_part false old ++ l) (line-text n line one)
 
-  pub line_end : is_in_text false new ≡ in_text true (slice_index line (n - 1))
+  pub line_end : is_in_text false new ≡ next_in_text true (slice_index line (n - 1))
   line_end =
       let before : n - 1 < n = omega arith in
       let all : n ≡ n - 1 + 1 = omega arith in
       ap (is_in_text false) took ∙ in-append false old (take n line)
       ∙ ap (λ (t : Bool). is_in_text t (take n line)) begun
-      ∙ ap (λ (m : ℕ). is_in_text true (take m line)) all ∙ fold_more in_text true line (n - 1) 0 (omega arith)
-      ∙ ap (λ (t : Bool). in_text t (slice_index line (n - 1))) (one (n - 1) before)
+      ∙ ap (λ (m : ℕ). is_in_text true (take m line)) all ∙ fold_more next_in_text true line (n - 1) 0 (omega arith)
+      ∙ ap (λ (t : Bool). next_in_text t (slice_index line (n - 1))) (one (n - 1) before)
 
 -- ---- a number
 

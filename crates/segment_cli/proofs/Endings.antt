@@ -11,13 +11,13 @@ use Rattle.segment_manager.specs.{State.SegmentState, State.DenotesCurrent, decl
 use Rattle.segment_manager.specs.{Directory.Directory}
 use Rattle.image_check.specs.{Opening.IsOutOfMemory, Opening.IsRefusedAs, Opening.IsUntouched, Passes.IsMapRefused}
 use Rattle.image_check.specs.{Saving.IsSaved}
-use Rattle.segment_lang.specs.Language.{whole}
+use Rattle.segment_lang.specs.Language.{whole_language}
 use Rattle.segment_cli.specs.declared.faults.SessionFault.TheVariants.{Image as Refused, RegionTooSmall, ScriptTooLong}
 use Rattle.segment_cli.specs.declared.faults.SessionFault.TheVariants.{BadSize, OutOfMemory, ReadFault, WriteFault}
 use Rattle.segment_cli.specs.Session.{SessionIo, KeepsZeros, SavesImage, IsSizeRefused, IsTooSmall, IsDone}
 use Rattle.segment_cli.specs.Session.{IsImageUnwritten}
 use Rattle.segment_cli.specs.Beginning.{BeginsSession, BeginsSessionOk, IsWhyNotBegun, run_fault}
-use Rattle.segment_cli.specs.Serving.{IsServed}
+use Rattle.segment_cli.specs.Serving.{ServesOk}
 use Rattle.segment_cli.specs.{declared.faults.SessionFault.SessionFault, Session.IsRefusedBefore, Session.AnswersFault}
 use Rattle.segment_cli.specs.{Session.RunsSession, declared.faults.Start.Start, declared.faults.Start.TheVariants.Image}
 use Rattle.segment_scripts.specs.declared.faults.RunFault.TheVariants.{ReadFault as ScriptNotRead}
@@ -77,7 +77,7 @@ at_first mode d s is stands = record { mode = is; denotes = stands; zeros = λ e
 
 -- a run to the end of its script executed all of it
 pub served : (s s' : SegmentState) (script : ReadDelta) (out : WriteDelta) (end : End)
-    → IsServed ToTheEnd s s' script out end
+    → ServesOk ToTheEnd s s' script out end
     → (at : MachineState) → IsMachineAt s at → RunsWhole answer_line at script out (IsMachineAt s')
 served s s' script out Whole h at there = (h.left at there).ran
 served s s' script out StoppedEarly h at there =
@@ -192,7 +192,7 @@ module _ (start : Start) (mode : Mode) (base capacity : ℕ) (t : SessionIo) whe
   done_session s s' u h leaves saves bytes saved =
       let b = h.answers in let ran = leaves (first mode b.from) (at_first mode b.from s b.mode b.stands) in
       let last = stands_done mode b.from false t (IsMachineAt s') ran in
-      let d = (run (whole current) mode b.from t.script.bytes).1 in
+      let d = (run (whole_language current) mode b.from t.script.bytes).1 in
       begun_session s (Ok u) h (done start mode t b.from false b.begins (IsMachineAt s') b.read saved ran
       (subst (λ (m : Mode). SavesImage m t.saved.bytes d) last.mode (saves d last.denotes))
       (λ writes. zeros_kept s s' b leaves t.saved.bytes (bytes (last.mode ∙ writes))))

@@ -9,7 +9,7 @@ use Rattle.std.proofs.Math.Seq.{take-suc}
 use Rattle.std.proofs.lemmas.List.Sums.{fold-append}
 use Rattle.raw_region.specs.Device.{WriterHistory, Writes}
 use Rattle.raw_region.proofs.Laws.{writes-cut, writes-then}
-use Rattle.segment_cli.specs.Reports.{Puts}
+use Rattle.segment_cli.specs.Reports.{WritesText}
 use Rattle.segment_cli.specs.declared.faults.SessionFault.{SessionFault}
 use Rattle.segment_cli.specs.declared.faults.SessionFault.TheVariants.{WriteFault}
 use Rattle.segment_commands.specs.declared.command_faults.CommandFault.{CommandFault}
@@ -56,7 +56,7 @@ fit-more quiet old mid new a result cs c w h =
     (writes-then old mid new a result (fit_lines quiet cs) (fit_line quiet c.path c.found) w h)
 
 puts : {E : Type 0} (old new : WriterHistory) (said : Result (Unit {0}) E) (text : List ℕ)
-    → Writes old new said text → Puts old new text
+    → Writes old new said text → WritesText old new text
 puts old new (Ok u) text w = inl ((let counted = w.counted in omega (arith, counted)), w.ok)
 puts old new (Err e) text w = inr (w.counted, w.err)
 

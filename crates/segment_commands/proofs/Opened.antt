@@ -16,7 +16,7 @@ use Rattle.segment_disk.specs.Events.{Event, After}
 use Rattle.image_check.specs.declared.versions.AcceptedVersions.TheVariants.{Current}
 use Rattle.segment_file.specs.declared.file_errors.FileError.{FileError}
 use Rattle.segment_file.specs.declared.file_errors.FileError.TheVariants.{ReadFault}
-use Rattle.segment_file.specs.Files.{opens}
+use Rattle.segment_file.specs.Files.{open_events}
 use Rattle.segment_file.specs.Opening.{OpensImageOk, OpensImage}
 use Rattle.segment_file.specs.Opening.{OpensFile as ReadsFile}
 use Rattle.segment_file.proofs.Laws.{read-fits}
@@ -58,7 +58,7 @@ module _ {D O : Type 0} (step : D → Event → D
         script = read_delta script script';
         out = write_delta (history out) (history out');
       }) flushes result) where
-    begun_run : (len : ℕ) (image : ReadDelta) → After step old (opens path len image) read
+    begun_run : (len : ℕ) (image : ReadDelta) → After step old (open_events path len image) read
         → OpensImageOk Current len 0 mode image s
         → RunsOpened step old new path mode how until script script' history flushes out out' result
     begun_run len image asked r = inr (record {

@@ -10,7 +10,7 @@ use Rattle.segment_manager.specs.declared.modes.Mode.TheVariants.{Write, ReadOnl
 use Rattle.segment_manager.specs.Directory.{Directory}
 use Rattle.segment_manager.specs.Layout.{magic_at}
 use Rattle.segment_manager.specs.State.{SegmentState, DenotesCurrent}
-use Rattle.segment_lang.specs.Language.{whole as whole_language}
+use Rattle.segment_lang.specs.Language.{whole_language as whole_language}
 use Rattle.segment_scripts.specs.declared.ends.End.{End}
 use Rattle.segment_scripts.specs.declared.ends.End.TheVariants.{Whole, Refused}
 use Rattle.segment_scripts.specs.declared.ends.Until.{Until}
@@ -28,10 +28,11 @@ use Rattle.segment_disk.specs.declared.presence.CreateMode.{CreateMode}
 use Rattle.segment_disk.specs.declared.presence.CreateMode.TheVariants.{New, Truncate, Replacement}
 use Rattle.segment_disk.specs.Events.{Event, After}
 use Rattle.segment_file.specs.Files.{WriteOutcome, Overtaken, NotMade, Closed, Offered, IsMade, IsUnwritten}
-use Rattle.segment_file.specs.Files.{WritesImage, writes, whole, all_of}
-use Rattle.segment_commands.specs.Running.{Act, IsAnswered, IsAnsweredAct, IsAnsweredTo, IsRefusedAct, StopsWithFault}
-use Rattle.segment_commands.specs.Running.{IsLost, IsUnrefusedAct}
-use Rattle.segment_commands.specs.Running.{IsUnsavedFor, EndsRun, Ran, saving}
+use Rattle.segment_file.specs.Files.{WritesImage, write_events, whole_outcome, all_of}
+use Rattle.segment_commands.specs.Running.{Act, AnswersScript, IsAnsweredAct, IsAnsweredTo, IsRefusedAct}
+use Rattle.segment_commands.specs.Running.{StopsWithFault}
+use Rattle.segment_commands.specs.Running.{LosesAnswers, IsUnrefusedAct}
+use Rattle.segment_commands.specs.Running.{LeavesUnsaved, EndsRun, Ran, saving}
 
 -- lines leave the mode as it is
 mode_kept : (at : MachineState) (ls : List (List ℕ)) → (answer_all answer_line at ls).1.mode ≡ at.mode
@@ -51,14 +52,15 @@ asks_nothing step old CopyOnWrite how path keeps = refl
 
 asks_to_save : {D : Type 0} (step : D → Event → D
     → Type 0) (old new : D) (m : Mode) (how : CreateMode) (path image : List ℕ) → m ≡ Write
-    → After step old (writes how path (whole how image)) new → After step old (saving m how path image) new
+    → After step old (write_events how path (whole_outcome how image)) new
+    → After step old (saving m how path image) new
 asks_to_save step old new m how path image e h =
     subst (λ (w : Mode). After step old (saving w how path image) new) (sym e) h
 
-whole-made : (how : CreateMode) (image : List ℕ) → IsMade (whole how image)
-whole-made New image = tt
-whole-made Truncate image = tt
-whole-made Replacement image = tt
+whole_outcome-made : (how : CreateMode) (image : List ℕ) → IsMade (whole_outcome how image)
+whole_outcome-made New image = tt
+whole_outcome-made Truncate image = tt
+whole_outcome-made Replacement image = tt
 
 -- a segment has bytes: a word at their front
 no_word : word_at (bytes_of []) magic_at ≡ 0
@@ -117,7 +119,7 @@ module _ {D : Type 0} (step : D → Event → D
   })
 
   -- it ended behind a line that was refused
-  refused_act : (ok : Bool) → IsAnswered until s s' script out Flushed Refused ok → IsRefusedAct act
+  refused_act : (ok : Bool) → AnswersScript until s s' script out Flushed Refused ok → IsRefusedAct act
   refused_act ok answered = record {
     from = h.answers.from;
     begins = h.answers.begins;
@@ -126,7 +128,7 @@ module _ {D : Type 0} (step : D → Event → D
         (at_first _ refl);
   }
 
-  module _ (ok : Bool) (answered : IsAnswered until s s' script out Flushed Whole ok) where
+  module _ (ok : Bool) (answered : AnswersScript until s s' script out Flushed Whole ok) where
     whole_run : (at : MachineState) → IsMachineAt s at → RunsWhole answer_line at script out (IsMachineAt s')
     whole_run at there = (answered.served.left at there).ran
 
@@ -176,12 +178,12 @@ module _ {D : Type 0} (step : D → Event → D
       written = ran.written;
     }
 
-  answered_to : (end : End) (ok : Bool) → IsAnswered until s s' script out Flushed end ok → IsAnsweredTo act end
+  answered_to : (end : End) (ok : Bool) → AnswersScript until s s' script out Flushed end ok → IsAnsweredTo act end
   answered_to Whole ok answered = answered_act ok answered
   answered_to Refused ok answered = refused_act ok answered
 
   pub stopped : (old : D) (fault : SessionFault) → StopsWithFault until s s' script out Flushed fault
-      ⊎ IsLost until s s' script out Flushed fault → EndsRun step old old how path act Flushed (Err fault)
+      ⊎ LosesAnswers until s s' script out Flushed fault → EndsRun step old old how path act Flushed (Err fault)
   stopped old fault (inl p) = inl (record {
     asked = refl;
     ran = rw p.unserved.why (stopped_session start mode 0 capacity (record {
@@ -202,11 +204,11 @@ module _ {D : Type 0} (step : D → Event → D
   }))
 
   -- it ended at a refusal
-  pub refusing_run : (old : D) → IsAnswered until s s' script out Flushed Refused true
+  pub refusing_run : (old : D) → AnswersScript until s s' script out Flushed Refused true
       → EndsRun step old old how path act Flushed (Ok Refused)
   refusing_run old answered = record { asked = refl; refused = refused_act true answered; flushed = answered.flushed }
 
-  module _ (old : D) (answered : IsAnswered until s s' script out Flushed Whole true) where
+  module _ (old : D) (answered : AnswersScript until s s' script out Flushed Whole true) where
     -- a mode that saves nothing
     pub unsaving : (s'.mode ≡ Write → ⊥) → EndsRun step old old how path act Flushed (Ok Whole)
     unsaving keeps = record {
@@ -243,21 +245,21 @@ module _ {D : Type 0} (step : D → Event → D
       saved w = record {
         image = s'.cut.bytes;
         asked = asks_to_save step old new mode how path s'.cut.bytes writing (subst (λ (x : WriteOutcome).
-            After step old (writes how path x) new) w.fate w.asked);
-        ran = done (w.accepted (subst IsMade (sym w.fate) (whole-made how s'.cut.bytes)));
+            After step old (write_events how path x) new) w.fate w.asked);
+        ran = done (w.accepted (subst IsMade (sym w.fate) (whole_outcome-made how s'.cut.bytes)));
         unrefused = unrefused true answered;
         flushed = answered.flushed;
       }
 
       unsaved_by : (written : WriteOutcome) → IsUnwritten how s'.cut.bytes written
           → (IsMade written → (d : Directory) → DenotesCurrent s'.cut.bytes d → IsSaved s'.cut.bytes d)
-          → IsUnsavedFor step old new how path act Flushed written
+          → LeavesUnsaved step old new how path act Flushed written
       unsaved_by written (inl o) good =
-          subst (IsUnsavedFor step old new how path act Flushed) (sym o.left) (answered_act true answered)
+          subst (LeavesUnsaved step old new how path act Flushed) (sym o.left) (answered_act true answered)
       unsaved_by written (inr (inl e)) good =
-          subst (IsUnsavedFor step old new how path act Flushed) (sym e) (answered_act true answered)
+          subst (LeavesUnsaved step old new how path act Flushed) (sym e) (answered_act true answered)
       unsaved_by written (inr (inr (inl c))) good =
-          subst (IsUnsavedFor step old new how path act Flushed) (sym c.closed)
+          subst (LeavesUnsaved step old new how path act Flushed) (sym c.closed)
           (inl (unsaved_session start mode 0 capacity (record {
             image = image;
             script = script;
@@ -265,12 +267,12 @@ module _ {D : Type 0} (step : D → Event → D
             saved = c.taken;
           }) s s' h (whole_run true answered) is c.is_part.part c.is_part.failed))
       unsaved_by written (inr (inr (inr (inl e)))) good =
-          subst (IsUnsavedFor step old new how path act Flushed) (sym e) (inr (
+          subst (LeavesUnsaved step old new how path act Flushed) (sym e) (inr (
             refl,
             done (good (subst IsMade (sym e) tt)),
           ))
       unsaved_by written (inr (inr (inr (inr u)))) good =
-          subst (IsUnsavedFor step old new how path act Flushed) (sym u.offered) (
+          subst (LeavesUnsaved step old new how path act Flushed) (sym u.offered) (
             u.beside,
             refl,
             done (good (subst IsMade (sym u.offered) tt)),

@@ -11,7 +11,7 @@ use Rattle.segment_dump.proofs.Common.{StandsFilling, DumpItem, count_of_content
 use Rattle.segment_dump.proofs.Common.{ReadsLine, all_needs, item_needs, HasNoEnd, ended, content_text, end_text}
 use Rattle.segment_dump.proofs.{Common.head_line, Common.item_text, Common.items_text, Found.never-ok, Found.ok-same}
 use Rattle.segment_dump.proofs.{Quotes.IsName, Quotes.name-is, Makes.items-rest, Orders.of-both}
-use Rattle.segment_dump.specs.{Builders.BuildsObject, Builders.IsAtItems, Builders.IsGone, Building.head_words}
+use Rattle.segment_dump.specs.{Builders.BuildsObject, Builders.IsAtItems, Builders.AcceptsEnd, Building.head_words}
 use Rattle.segment_dump.proofs.ContentLines.{no_end-both, quoted-no_end, word-no_end, no_end-test}
 use Rattle.segment_dump.proofs.LineTexts.{measure-no_end, measure-short, name-short}
 
@@ -233,7 +233,7 @@ module _ (old now : SegmentState) (text rest : List ℕ) (most room counter : �
 
   end-by : {E F : Type 0} (site : Site) (done left : List DumpItem) (after words : List ℕ)
       (result : Result (Unit {0}) F) → IsAtItems now rest site done left → AreLeft site room done left
-      → ReadsLine {E = E} rest after (Ok words) → words ≡ end_words → IsGone after result
+      → ReadsLine {E = E} rest after (Ok words) → words ≡ end_words → AcceptsEnd after result
       → (result ≡ Ok tt) × StandsBuilt now site (done ++ left) 0
   end-by {E} {F} site done [] after words result a l h w g = (
     g.gone (end-line {E = E} rest after (Ok words) a.text_is h).1,
@@ -280,7 +280,7 @@ module _ (old now : SegmentState) (text rest : List ℕ) (most room counter : �
       }
 
   pub build-end : {E F : Type 0} (after words : List ℕ) (result : Result (Unit {0}) F)
-      → ReadsLine {E = E} rest after (Ok words) → words ≡ end_words → IsGone after result
+      → ReadsLine {E = E} rest after (Ok words) → words ≡ end_words → AcceptsEnd after result
       → BuildsAllObjects old now text most room result
   build-end {E} {F} after words result h w g = record {
     builds = λ site items a l m.

@@ -3,9 +3,10 @@ use Rattle.segment_lang.specs.declared.words.Word.TheVariants as held
 use Rattle.segment_dump.proofs.Common.{◌≡◌, ◌≢◌, ℕ, ◌^◌, ◌<◌, true, List, [], ◌∷◌, ◌++◌, get_or, Option, Some, None}
 use Rattle.segment_dump.proofs.Common.{Result, Ok, Err, if◌then◌else◌, refl, sym, ap, subst, ◌∙◌, arith, append-nil}
 use Rattle.segment_dump.proofs.Common.{append_assoc, codes, decimal, current, Class, Anonymous, Named, Unique, Kind}
-use Rattle.segment_dump.proofs.Common.{Key, ByName, is_name, kind_text, name_text, whole, NumbersAreDecimals}
+use Rattle.segment_dump.proofs.Common.{Key, ByName, is_name, kind_text, name_text, whole_language, NumbersAreDecimals}
 use Rattle.segment_dump.proofs.Common.{TextsAreSpelled, kind_of_word, number, bytes_said, word_of, next_word, Word}
-use Rattle.segment_dump.proofs.Common.{Bare, SegmentState, ObjectLine, ReadsShape, StartsNext, StartsUnder, class_words}
+use Rattle.segment_dump.proofs.Common.{Bare, SegmentState, ObjectLine, ReadsKindAndCount, StartsNext, StartsUnder}
+use Rattle.segment_dump.proofs.Common.{class_words}
 use Rattle.segment_dump.proofs.Common.{key_in, measure_words, IsNameIn, DumpItem, count_of_content, kind_of_content}
 use Rattle.segment_dump.proofs.Common.{IsWordOf, ReadsEnd, ReadsWord, any_word, bare_word, text}
 use Rattle.seg_types.specs.Texts.{class_text}
@@ -25,7 +26,7 @@ count-there n = blank-next (decimal n) ∙ ap next_word (sym (append-nil (decima
 
 module _ {E : Type 0} (law : NumbersAreDecimals) (words : List ℕ) where
   pub shape-no_kind : (left : List ℕ) (e : E) (result : Result ObjectLine E)
-      → ReadsWord (kind_of_word (whole current)) words left (Err e) → ReadsShape words result
+      → ReadsWord (kind_of_word (whole_language current)) words left (Err e) → ReadsKindAndCount words result
   shape-no_kind left e result h =
       record {
         reads = λ kind n c t.
@@ -34,7 +35,7 @@ module _ {E : Type 0} (law : NumbersAreDecimals) (words : List ℕ) where
       }
 
   count-read : (left last : List ℕ) (k : Kind) (r : Result ℕ E)
-      → ReadsWord {E = E} (kind_of_word (whole current)) words left (Ok k) → ReadsWord number left last r
+      → ReadsWord {E = E} (kind_of_word (whole_language current)) words left (Ok k) → ReadsWord number left last r
       → (kind : Kind) (n : ℕ) → n < 2 ^ 64 → words ≡ 0x20 ∷ measure_words kind n → (k ≡ kind) × (r ≡ Ok n) × (last ≡ [])
   count-read left last k r h f kind n c t =
       let q = h.reads (Bare (kind_text kind)) (0x20 ∷ decimal n) kind (ap next_word t
@@ -43,14 +44,14 @@ module _ {E : Type 0} (law : NumbersAreDecimals) (words : List ℕ) where
       (ok-same {E = E} k kind q.0, u.0, u.1)
 
   pub shape-no_count : (left last : List ℕ) (k : Kind) (e : E) (result : Result ObjectLine E)
-      → ReadsWord {E = E} (kind_of_word (whole current)) words left (Ok k) → ReadsWord number left last (Err e)
-      → ReadsShape words result
+      → ReadsWord {E = E} (kind_of_word (whole_language current)) words left (Ok k) → ReadsWord number left last (Err e)
+      → ReadsKindAndCount words result
   shape-no_count left last k e result h f =
       record { reads = λ kind n c t. absurd (never-ok e n (count-read left last k (Err e) h f kind n c t).1) }
 
   pub shape-more : (left last : List ℕ) (k : Kind) (m : ℕ) (e : E) (result : Result ObjectLine E)
-      → ReadsWord {E = E} (kind_of_word (whole current)) words left (Ok k)
-      → ReadsWord {E = E} number left last (Ok m) → ReadsEnd last (Err e) → ReadsShape words result
+      → ReadsWord {E = E} (kind_of_word (whole_language current)) words left (Ok k)
+      → ReadsWord {E = E} number left last (Ok m) → ReadsEnd last (Err e) → ReadsKindAndCount words result
   shape-more left last k m e result h f g =
       record {
         reads = λ kind n c t.
@@ -58,8 +59,9 @@ module _ {E : Type 0} (law : NumbersAreDecimals) (words : List ℕ) where
       }
 
   pub shape-some : (left last : List ℕ) (k : Kind) (m at : ℕ)
-      → ReadsWord {E = E} (kind_of_word (whole current)) words left (Ok k) → ReadsWord {E = E} number left last (Ok m)
-      → ReadsShape {E = E} words (Ok (record { kind = k; count = m; at = at }))
+      → ReadsWord {E = E} (kind_of_word (whole_language current)) words left (Ok k)
+      → ReadsWord {E = E} number left last (Ok m)
+      → ReadsKindAndCount {E = E} words (Ok (record { kind = k; count = m; at = at }))
   shape-some left last k m at h f = record {
     reads = λ kind n c t.
         let q = count-read left last k (Ok m) h f kind n c t in

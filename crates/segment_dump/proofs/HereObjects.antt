@@ -5,7 +5,7 @@ use Rattle.seg_types.specs.Commands.{Content, Construct}
 use Rattle.segment_manager.specs.{Answers.Answer, Staying.is_elementwise, Step.step, Step.step_of_kind, State.IsSegment}
 use Rattle.segment_manager.specs.{State.handle_answer, declared.objects.object_ref.Object.Object as Located}
 use Rattle.segment_manager.proofs.Laws.{made-here, objects_stay}
-use Rattle.segment_dump.specs.Builders.{HasLocatedObject, IsHere}
+use Rattle.segment_dump.specs.Builders.{HasLocatedObject, HasObjectAt}
 
 module _ {old new : SegmentState} {o : Located} (i : HasLocatedObject old o) (c : Command) (answer : Answer) where
   pub still-here : TakesStep old new c answer → is_elementwise c ≡ true → HasLocatedObject new o
@@ -22,7 +22,8 @@ module _ {old new : SegmentState} {o : Located} (i : HasLocatedObject old o) (c 
   }
 
 pub begun_here : {old new : SegmentState} (key : Key) (c : Content) (called : Result ℕ Refusal)
-    → IsSegment old.cut.bytes → TakesStep old new (Construct key c) (handle_answer called) → IfOk called (IsHere new)
+    → IsSegment old.cut.bytes → TakesStep old new (Construct key c) (handle_answer called)
+    → IfOk called (HasObjectAt new)
 begun_here {old} key c (Ok h) g m = record {
   segment = ((step old.mode g.0 (Construct key c)).1, m.denotes g.0 g.1);
   object = made-here key c h g m;

@@ -4,7 +4,8 @@ use Rattle.segment_dump.proofs.Common.{arith, append_assoc, ◌<◌, ◌^◌, le
 use Rattle.segment_dump.proofs.Common.{Anonymous, Named, Unique, Kind, ScalarKind, is_value, kind_text, name_text}
 use Rattle.segment_dump.proofs.Common.{value_text, ValueContent, Scalars, Vector, String, Map, Strings, DumpItem}
 use Rattle.segment_dump.proofs.Common.{count_of_content, kind_of_content, content_text, element_line, head_line}
-use Rattle.segment_dump.proofs.Common.{item_text, measure_text, pair_line, text_lines, IsByteList, IsBuildableContent}
+use Rattle.segment_dump.proofs.Common.{item_text, kind_and_count_text, pair_line, text_lines, IsByteList}
+use Rattle.segment_dump.proofs.Common.{IsBuildableContent}
 use Rattle.segment_dump.proofs.{Common.IsNameIn, Common.IsTypedPair, Quotes.Any, Quotes.names-read}
 use Rattle.segment_dump.proofs.{TextPieces.texts-read, Words.decimal-word, Words.values-read, KindWords.kinds-read}
 use Rattle.segment_dump.proofs.Codes.{Breaks, IsRow, Stops, heads, row-reads, tails, words-read}
@@ -131,7 +132,7 @@ contents-read c d a b p q h f g e = absurd (cc)
 measure-apart : (k n a : List ℕ) → k ++ 0x20 ∷ n ++ 0x0A ∷ [] ++ a ≡ k ++ 0x20 ∷ (n ++ 0x0A ∷ a)
 measure-apart = pair-apart
 
-measures-read : (k l : Kind) (m n : ℕ) (a b : List ℕ) → measure_text k m ++ a ≡ measure_text l n ++ b
+measures-read : (k l : Kind) (m n : ℕ) (a b : List ℕ) → kind_and_count_text k m ++ a ≡ kind_and_count_text l n ++ b
     → (k ≡ l) × (a ≡ b)
 measures-read k l m n a b e =
     let r = kinds-read k l (0x20 ∷ (decimal m ++ 0x0A ∷ a)) (0x20 ∷ (decimal n ++ 0x0A ∷ b))
@@ -161,7 +162,7 @@ as-class : (c : Class) (i : DumpItem) → i.class ≡ c → item_text i ≡ text
 as-class c i h = ap (λ c. text_as c i) h
 
 abbrev measure_in : ValueContent → List ℕ
-measure_in c = measure_text (kind_of_content c) (count_of_content c)
+measure_in c = kind_and_count_text (kind_of_content c) (count_of_content c)
 
 bodies-read : (c d : ValueContent) (a b : List ℕ) → IsBuildableContent c → IsBuildableContent d → IsNoLine a
     → IsNoLine b → measure_in c ++ content_text c ++ a ≡ measure_in d ++ content_text d ++ b → (c ≡ d) × (a ≡ b)

@@ -1,7 +1,7 @@
 -- Kinds are words, and are found by them.
 use Rattle.segment_dump.proofs.Common.{◌≡◌, ℕ, true, Some, List, ◌++◌, refl, ◌<◌, length, sym, ap, ◌∙◌, arith, codes}
 use Rattle.segment_dump.proofs.Common.{list_all, current, Kind, Scalar, ScalarKind, U8, I32, I64, U64, kind_text}
-use Rattle.segment_dump.proofs.Common.{scalar_text, whole, kind_named, is_bare}
+use Rattle.segment_dump.proofs.Common.{scalar_text, whole_language, kind_named, is_bare}
 use Rattle.seg_types.specs.declared.kinds.Kind.TheVariants.{String, Vector, Map, Strings}
 use Rattle.seg_types.specs.declared.kinds.ScalarKind.TheVariants.{Bool as BoolKind}
 use Rattle.segment_dump.proofs.{Codes.IsWord, Codes.Breaks, Codes.words-read, Lists.AllByRecursion-append}
@@ -46,7 +46,7 @@ kind-long (Map k v) = omega arith
 
 -- ---- the kind of its word
 
-map-named : (k v : ScalarKind) → kind_named (whole current) (kind_text (Map k v)) ≡ Some (Map k v)
+map-named : (k v : ScalarKind) → kind_named (whole_language current) (kind_text (Map k v)) ≡ Some (Map k v)
 unfolding kind_named current
 map-named BoolKind BoolKind = refl
 map-named U8 U8 = refl
@@ -55,7 +55,7 @@ map-named I64 I64 = refl
 map-named U64 U64 = refl
 map-named k v = refl
 
-pub kind-named : (k : Kind) → kind_named (whole current) (kind_text k) ≡ Some k
+pub kind-named : (k : Kind) → kind_named (whole_language current) (kind_text k) ≡ Some k
 unfolding kind_named current
 kind-named (Scalar BoolKind) = refl
 kind-named (Scalar U8) = refl
@@ -76,4 +76,4 @@ pub kinds-read : (k l : Kind) (a b : List ℕ) → Breaks a → Breaks b → kin
     → (k ≡ l) × (a ≡ b)
 kinds-read k l a b f g e =
     let r = words-read (kind_text k) (kind_text l) a b (kind-word k) (kind-word l) f g e in
-    (same_Some k l (sym (kind-named k) ∙ ap (kind_named (whole current)) r.0 ∙ kind-named l), r.1)
+    (same_Some k l (sym (kind-named k) ∙ ap (kind_named (whole_language current)) r.0 ∙ kind-named l), r.1)

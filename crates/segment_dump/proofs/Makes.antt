@@ -5,7 +5,7 @@ use Rattle.segment_dump.proofs.Common.{◌≡◌, inl, ℕ, ◌+◌, ◌*◌, �
 use Rattle.segment_dump.proofs.Common.{refl, sym, ap, subst, ◌∙◌, arith, Class, Anonymous, Named, Unique, Kind, Refusal}
 use Rattle.segment_dump.proofs.Common.{size_of, Key, node_len, Made, Directory, object_len, padded, value_len, head_len}
 use Rattle.segment_dump.proofs.Common.{bare, class_of, name_of, TakesStep, SegmentState, ObjectLine, HasIndexSlot}
-use Rattle.segment_dump.proofs.Common.{CanBuildItem, ReadsShape, StartsUnder, content_need, first_content}
+use Rattle.segment_dump.proofs.Common.{CanBuildItem, ReadsKindAndCount, StartsUnder, content_need, first_content}
 use Rattle.segment_dump.proofs.Common.{HasBuiltItems, IsFilling, Site, item_key, key_in, IsBuildableContent, IsNameIn}
 use Rattle.segment_dump.proofs.Common.{StandsFilling, ValueContent, DumpItem, Map, Scalars, String, Strings, Vector}
 use Rattle.segment_dump.proofs.Common.{count_of_content, kind_of_content, block_room, body_len, elements_room}
@@ -158,7 +158,7 @@ new-object old new site done i more room called next moved =
 -- ---- behind its kind and its count
 
 module _ {E F : Type 0} (old new : SegmentState) (key : Kind → Key) (words : List ℕ) where
-  pub shape-unread : (e : E) (result : Result (ℕ × ObjectLine) F) → ReadsShape words (Err e)
+  pub shape-unread : (e : E) (result : Result (ℕ × ObjectLine) F) → ReadsKindAndCount words (Err e)
       → StartsUnder old new key words result
   shape-unread e result r = record {
     starts = λ site done i more room next k w.
@@ -172,7 +172,7 @@ module _ {E F : Type 0} (old new : SegmentState) (key : Kind → Key) (words : L
   }
 
   pub started : (shape : ObjectLine) (called : Result ℕ Refusal) (result : Result (ℕ × ObjectLine) F)
-      → ReadsShape {E = E} words (Ok shape) → (IsCountOf shape.kind shape.count
+      → ReadsKindAndCount {E = E} words (Ok shape) → (IsCountOf shape.kind shape.count
       → TakesStep old new (asked.Construct (key shape.kind) (first_content shape.kind shape.count))
       (handle_answer called))
       → ((h : ℕ) → called ≡ Ok h → result ≡ Ok (h, shape)) → StartsUnder old new key words result

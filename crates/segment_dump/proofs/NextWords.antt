@@ -14,7 +14,7 @@ use Rattle.std.specs.{Prelude.option_and_then, Result.result_ok, List.prefix_len
 use Rattle.seg_types.specs.{declared.kinds.ScalarKind.TheVariants.Bool as BoolKind, Texts.item_text}
 use Rattle.segment_dump.specs.Lines.{bare}
 use Rattle.segment_lang.specs.{Laws.IsItem, Laws.Spells, Reading.skip_blanks, Reading.value_for}
-use Rattle.segment_lang.specs.Words.{byte_of_digits, digit_of, is, is_blank, is_plain, literal_of_word, whole_of}
+use Rattle.segment_lang.specs.Words.{byte_of_digits, digit_of, is_word, is_blank, is_plain, literal_of_word, whole_of}
 use Rattle.segment_lang.specs.Tokens.{bare_at, behind_word, ends_word, text_at, up_to_blank, word_at}
 use Rattle.segment_dump.proofs.Words.{decimal-some, AreBare, IsWhole, bool-near, decimal-bare, in-range, value-bare}
 use Rattle.segment_dump.proofs.{Lists.all-tested, KindWords.kind-bare, KindWords.kind-long, Found.none-some}
@@ -95,8 +95,8 @@ digit-great d h l =
 quote-or : (c : ℕ) → ((c == 0x22) || (c == 0x5C)) ≡ true → (c ≡ 0x22) ⊎ (c ≡ 0x5C)
 quote-or c e = grind (arith, nat_tests)
 
-plain-is : (c : ℕ) → ((c == 0x22) || (c == 0x5C)) ≡ false → between 0x20 0x7E c ≡ true → is_plain c ≡ true
-plain-is c e f = grind (arith, nat_tests)
+plain-is_word : (c : ℕ) → ((c == 0x22) || (c == 0x5C)) ≡ false → between 0x20 0x7E c ≡ true → is_plain c ≡ true
+plain-is_word c e f = grind (arith, nat_tests)
 
 digit-if : (d : ℕ) (b : Bool) → nat_lt d 10 ≡ b → d < 16 → digit_of (if b then 0x30 + d else 0x57 + d) ≡ Some d
 digit-if d true e h = digit-small d (ltb-true d 10 e)
@@ -114,18 +114,18 @@ digits-byte c h =
     (digit-back (c / 16) high)
     ∙ ap (λ o. option_map (λ y. 16 * (c / 16) + y) o) (digit-back (c % 16) low) ∙ ap Some whole
 
-is-item : (c : ℕ) (q p : Bool) → ((c == 0x22) || (c == 0x5C)) ≡ q → between 0x20 0x7E c ≡ p → c < 256
+is_word-item : (c : ℕ) (q p : Bool) → ((c == 0x22) || (c == 0x5C)) ≡ q → between 0x20 0x7E c ≡ p → c < 256
     → IsItem (if q then 0x5C ∷ c ∷ [] else if p then c ∷ [] else escape_text c) c
-is-item c true p e f l = let either : (c ≡ 0x22) ⊎ (c ≡ 0x5C) = quote-or c e in inr (inl (either, refl))
-is-item c false true e f l = inl (plain-is c e f, refl)
-is-item c false false e f l = inr (inr (digit_text (c / 16), digit_text (c % 16), digits-byte c l, refl))
+is_word-item c true p e f l = let either : (c ≡ 0x22) ⊎ (c ≡ 0x5C) = quote-or c e in inr (inl (either, refl))
+is_word-item c false true e f l = inl (plain-is_word c e f, refl)
+is_word-item c false false e f l = inr (inr (digit_text (c / 16), digit_text (c % 16), digits-byte c l, refl))
 
 pub are-spelled : (bs : List ℕ) → AllByRecursion (λ b. b < 256) bs → Spells (flat_map item_text bs) bs
 are-spelled [] h = refl
 are-spelled (b ∷ bs) h = (
   item_text b,
   flat_map item_text bs,
-  is-item b ((b == 0x22) || (b == 0x5C)) (between 0x20 0x7E b) refl refl h.0,
+  is_word-item b ((b == 0x22) || (b == 0x5C)) (between 0x20 0x7E b) refl refl h.0,
   are-spelled bs h.1,
   refl,
 )
@@ -155,20 +155,20 @@ kind-next k a e = bare-long (kind_text k) a (kind-long k) (kind-bare k) e
 
 -- ---- values
 
-is-same : (w v : List ℕ) → is w v ≡ true → w ≡ v
-is-same [] [] e = refl
-is-same [] (d ∷ v) e = absurd (cc)
-is-same (c ∷ w) [] e = absurd (cc)
-is-same (c ∷ w) (d ∷ v) e =
-    let p = and_parts (nat_eq c d) (is w v) e in
+is_word-same : (w v : List ℕ) → is_word w v ≡ true → w ≡ v
+is_word-same [] [] e = refl
+is_word-same [] (d ∷ v) e = absurd (cc)
+is_word-same (c ∷ w) [] e = absurd (cc)
+is_word-same (c ∷ w) (d ∷ v) e =
+    let p = and_parts (nat_eq c d) (is_word w v) e in
     let one : c ≡ d = eqb-true c d p.0 in
-    let more = is-same w v p.1 in
+    let more = is_word-same w v p.1 in
     λ i. one i ∷ more i
 
 -- neither word is a number
-no-truth : (z : ℤ) (word : List ℕ) (b : Bool) → is (signed_decimal z) word ≡ b
+no-truth : (z : ℤ) (word : List ℕ) (b : Bool) → is_word (signed_decimal z) word ≡ b
     → whole_of (signed_decimal z) ≡ Some z → whole_of word ≡ None → b ≡ false
-no-truth z word true e f g = let same : signed_decimal z ≡ word = is-same (signed_decimal z) word e in absurd
+no-truth z word true e f g = let same : signed_decimal z ≡ word = is_word-same (signed_decimal z) word e in absurd
     (none-some z (sym g ∙ ap whole_of (sym same) ∙ f))
 no-truth z word false e f g = refl
 
@@ -177,9 +177,10 @@ whole-literal : WholesAreDecimals → (z : ℤ) → IsWhole z
 whole-literal law z h =
     let w = signed_decimal z in
     let found : whole_of w ≡ Some z = (law w z).1 (h.0, h.1, refl) in
-    let yes : is w (codes "true") ≡ false = no-truth z (codes "true") (is w (codes "true")) refl found refl in
-    let no : is w (codes "false") ≡ false = no-truth z (codes "false") (is w (codes "false")) refl found refl in
-    ap (λ b. if b then Some (asked.Truth true) else if is w (codes "false") then Some (asked.Truth false) else
+    let yes : is_word w (codes "true") ≡ false = no-truth z (codes "true") (is_word w (codes "true")) refl found refl in
+    let no : is_word w (codes "false") ≡ false =
+    no-truth z (codes "false") (is_word w (codes "false")) refl found refl in
+    ap (λ b. if b then Some (asked.Truth true) else if is_word w (codes "false") then Some (asked.Truth false) else
     option_map asked.Whole (whole_of w)) yes
     ∙ ap (λ b. if b then Some (asked.Truth false) else option_map asked.Whole (whole_of w)) no
     ∙ ap (option_map asked.Whole) found

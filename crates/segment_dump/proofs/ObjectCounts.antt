@@ -5,7 +5,7 @@ use Rattle.segment_dump.proofs.Common.{size_of, name_text, head_len, padded, Nee
 use Rattle.segment_dump.proofs.Common.{ValueContent, Scalars, Vector, String, Map, Strings, DumpItem, kind_of_content}
 use Rattle.segment_dump.proofs.Common.{count_of_content, IsSmall, body_len, both, item_needs, object_room, only_room}
 use Rattle.segment_dump.proofs.Common.{texts_needs, Any, ParsesPrefix, itself, content_text, head_line, item_text}
-use Rattle.segment_dump.proofs.{Common.measure_text, Counts.ContentReads, Found.none-some, Found.some-pair}
+use Rattle.segment_dump.proofs.{Common.kind_and_count_text, Counts.ContentReads, Found.none-some, Found.some-pair}
 use Rattle.segment_dump.specs.Leads.{IsLead, IsMeasure, lead_text, measured}
 use Rattle.segment_dump.proofs.Sums.{block-least, node-least, size-least}
 
@@ -24,10 +24,10 @@ lead-apart : (n m t a : List ℕ) → n ++ m ++ t ++ a ≡ n ++ (m ++ (t ++ a))
 lead-apart n m t a = simp append_assoc
 
 parts-by : (c : Class) (name : List ℕ) (k : Kind) (n : ℕ) (t a : List ℕ)
-    → head_line c name k n ++ t ++ a ≡ lead_text (c, name) ++ (measure_text k n ++ (t ++ a))
-parts-by Named name k n t a = named-apart (codes "named " ++ name_text name) (measure_text k n) t a
-parts-by Unique name k n t a = lead-apart (codes "unique ") (measure_text k n) t a
-parts-by Anonymous name k n t a = lead-apart (codes "anonymous ") (measure_text k n) t a
+    → head_line c name k n ++ t ++ a ≡ lead_text (c, name) ++ (kind_and_count_text k n ++ (t ++ a))
+parts-by Named name k n t a = named-apart (codes "named " ++ name_text name) (kind_and_count_text k n) t a
+parts-by Unique name k n t a = lead-apart (codes "unique ") (kind_and_count_text k n) t a
+parts-by Anonymous name k n t a = lead-apart (codes "anonymous ") (kind_and_count_text k n) t a
 
 item-parts : (i : DumpItem) (a : List ℕ) → item_text i
     ++ a ≡ lead_text (i.class, i.name) ++ (measured (kind_in i, count_in i) ++ (content_text i.content ++ a))

@@ -3,7 +3,7 @@ use Rattle.segment_dump.proofs.Common.{◌≡◌, ◌≢◌, ℕ, suc, ◌+◌, 
 use Rattle.segment_dump.proofs.Common.{get_or, refl, sym, ap, subst, ◌∙◌, arith, append_assoc, ◌^◌, Option, Some, None}
 use Rattle.segment_dump.proofs.Common.{decimal, flat_map, option_map, take_all, AllByRecursion, kind_text, name_text}
 use Rattle.segment_dump.proofs.Common.{IsSmall, closed_text, Any, AreLines, Breaks, HasNoEnd, IsWord, ParsesPrefix}
-use Rattle.segment_dump.proofs.Common.{Skips, ended, itself, lines_text, seen, seen_rest, current, Kind, whole}
+use Rattle.segment_dump.proofs.Common.{Skips, ended, itself, lines_text, seen, seen_rest, current, Kind, whole_language}
 use Rattle.segment_dump.proofs.Common.{NumbersAreDecimals, kind_named, number_text, number_of}
 use Rattle.std.specs.Borrow.{Bor}
 use Rattle.seg_types.specs.Texts.{item_text}
@@ -90,21 +90,23 @@ number-reads law text w rest o f s = record {
 }
 
 -- what was read is spelled there
-pub number-whole : NumbersAreDecimals → (text w rest : List ℕ) (n : ℕ) → number_of w ≡ Some n → text ≡ w ++ rest
+pub number-whole_language : NumbersAreDecimals → (text w rest : List ℕ) (n : ℕ) → number_of w ≡ Some n
+    → text ≡ w ++ rest
     → text ≡ number_text n ++ rest
-number-whole law text w rest n e s = s ∙ ap (λ v. v ++ rest) ((law w n).0 e).1
+number-whole_language law text w rest n e s = s ∙ ap (λ v. v ++ rest) ((law w n).0 e).1
 
 -- ---- kinds
 
 abbrev pub KindReads : List ℕ → Option (Kind × List ℕ) → Type 0
 KindReads = ParsesPrefix kind_text Any Breaks itself
 
-pub kind-reads : (text w rest : List ℕ) (o : Option Kind) → o ≡ kind_named (whole current) w → IsSplit text w rest
+pub kind-reads : (text w rest : List ℕ) (o : Option Kind) → o ≡ kind_named (whole_language current) w
+    → IsSplit text w rest
     → KindReads text (option_map (λ k. (k, rest)) o)
 kind-reads text w rest o f s = record {
   reads = λ k a said b e.
       let r = split-read text w rest (kind_text k) a s (kind-word k) b e in
-      let found : o ≡ Some k = f ∙ ap (kind_named (whole current)) r.0 ∙ kind-named k in
+      let found : o ≡ Some k = f ∙ ap (kind_named (whole_language current)) r.0 ∙ kind-named k in
       ap (option_map (λ j. (j, rest))) found ∙ ap (λ l. Some (k, l)) r.1;
 }
 

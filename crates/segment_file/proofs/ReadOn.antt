@@ -5,7 +5,7 @@ use Rattle.std.proofs.Common.{refl, sym, ap, subst, ◌∙◌, arith}
 use Rattle.std.proofs.lemmas.Bool.{lt-ltb}
 use Rattle.raw_region.specs.Device.{ReaderHistory, ReadDelta, AppendsBytes, read_delta}
 use Rattle.raw_region.specs.Format.{current}
-use Rattle.raw_region.specs.Refusals.{refusal_of}
+use Rattle.raw_region.specs.Refusals.{out_of_memory_of}
 use Rattle.image_check.specs.declared.classes.ImageClass.{ImageClass}
 use Rattle.image_check.specs.declared.classes.ImageClass.TheVariants.{BadSize, Truncated}
 use Rattle.image_check.specs.declared.errors.MemoryFault.{MemoryFault}
@@ -23,9 +23,9 @@ use Rattle.grow_shrink.specs.LargerRegion.{region_len}
 use Rattle.segment_disk.specs.Events.{nothing_given}
 use Rattle.segment_file.specs.declared.file_errors.FileError.{FileError}
 use Rattle.segment_file.specs.declared.file_errors.FileError.TheVariants.{OutOfMemory}
-use Rattle.segment_file.specs.declared.file_errors.Unfit.{Unfit}
-use Rattle.segment_file.specs.declared.file_errors.Unfit.TheVariants.{Image, OutOfMemory as NoMemory, ReadFault}
-use Rattle.segment_file.specs.Opening.{IsTold, IsWhyUnopened, IsWithoutMemory, file_region, unfit_error}
+use Rattle.segment_file.specs.declared.file_errors.OpenFault.{OpenFault}
+use Rattle.segment_file.specs.declared.file_errors.OpenFault.TheVariants.{Image, OutOfMemory as NoMemory, ReadFault}
+use Rattle.segment_file.specs.Opening.{IsTold, IsWhyUnopened, IsWithoutMemory, file_region, open_fault_error}
 use Rattle.segment_file.specs.ReadingOn.{IsWhole, IsWhyNotWhole, Says}
 use Rattle.segment_file.proofs.Fronts.{ends-early, format-grown, goes-past, passed, said-most, said-least, says-grown}
 use Rattle.segment_file.proofs.Fronts.{shown-is, too-small-says, undecided}
@@ -47,8 +47,8 @@ module _ (format : ℕ) (new : ReaderHistory) (said : ℕ) (s : Says format new.
   of-class : (c d : ImageClass) → c ≡ d → IsRefusedAs format image d → IsRefusedAs format image c
   of-class c d e = subst (IsRefusedAs format image) (sym e)
 
-  pub not-whole : (most : ℕ) (unfit : Unfit) → said ≤ most → IsWhyNotWhole said new unfit
-      → IsWhyUnopened format most image (unfit_error unfit)
+  pub not-whole : (most : ℕ) (unfit : OpenFault) → said ≤ most → IsWhyNotWhole said new unfit
+      → IsWhyUnopened format most image (open_fault_error unfit)
   not-whole most (Image v) fits (inl t) =
       of-class v.class BadSize t.0 (record {
         sound = sound t.2.sound;
@@ -74,7 +74,7 @@ module _ (format : ℕ) (new : ReaderHistory) (said : ℕ) (s : Says format new.
 
 -- and what is told of it
 module _ (new : ReaderHistory) (said : ℕ) (s : Says current new.bytes said) where
-  pub told-whole : (unfit : Unfit) → IsWhyNotWhole said new unfit → IsTold new.bytes unfit
+  pub told-whole : (unfit : OpenFault) → IsWhyNotWhole said new unfit → IsTold new.bytes unfit
   told-whole (Image v) (inl t) = (
     subst (λ (c : ImageClass). class_of current new.bytes
         ≡ Some c) (sym t.0) (passed current new.bytes said s t.2.long),
@@ -124,9 +124,9 @@ module _ (versions : AcceptedVersions) (old new : ReaderHistory) (len more : ℕ
       let holds = region-holds (size_word old.bytes) (size_word old.bytes + more) most (omega arith) in
       let same = room-on in omega (arith, holds, same)
 
-  pub unread-on : (unfit : Unfit) → IsWhyNotWhole (size_word old.bytes) new unfit
+  pub unread-on : (unfit : OpenFault) → IsWhyNotWhole (size_word old.bytes) new unfit
       → IsWhyUnopened (format_in versions new.bytes) (file_region len more new.bytes) (read_delta nothing_given new)
-      (unfit_error unfit)
+      (open_fault_error unfit)
   unread-on unfit why = not-whole (format_in versions new.bytes) new (size_word old.bytes) says-on
       (file_region len more new.bytes) unfit fits-on why
 
@@ -140,7 +140,7 @@ module _ (versions : AcceptedVersions) (old new : ReaderHistory) (len more : ℕ
 
     -- there was no memory for its region
     pub unroomed-on : IsWhyUnopened (format_in versions new.bytes) (file_region len more new.bytes)
-        (read_delta nothing_given new) (OutOfMemory (Bytes (refusal_of (region_len (length text + more)))))
+        (read_delta nothing_given new) (OutOfMemory (Bytes (out_of_memory_of (region_len (length text + more)))))
     unroomed-on =
         let same = room-on in
         let long = w.long in

@@ -5,8 +5,9 @@ use Rattle.std.proofs.lemmas.Slice.Eq.{bytes_eq-Decides}
 use Rattle.raw_region.specs.Device.{WriteDelta}
 use Rattle.segment_disk.specs.declared.presence.CreateMode.TheVariants.{New, Truncate, Replacement}
 use Rattle.segment_disk.specs.Events.{Event}
-use Rattle.segment_file.specs.Files.{WriteOutcome, Overtaken, NotMade, Closed, Offered, IsUnwritten, all_of, whole}
-use Rattle.segment_file.specs.Files.{writes}
+use Rattle.segment_file.specs.Files.{WriteOutcome, Overtaken, NotMade, Closed, Offered, IsUnwritten, all_of}
+use Rattle.segment_file.specs.Files.{whole_outcome}
+use Rattle.segment_file.specs.Files.{write_events}
 use Rattle.segment_file.specs.PathContents.{FileState, Whole, Neither, IsOneOf, ReplacingKeepsOneWhole}
 use Rattle.segment_file.specs.PathContents.{UnplacedLeavesTheOld, SavingEndsWhole, EmptyingTears, after_event, standing}
 
@@ -30,7 +31,7 @@ before old = record { named = Whole old; target = Neither; beside = None }
 
 module _ (path old image : List ℕ) where
   abbrev Kept : WriteOutcome → Type 0
-  Kept written = Along path old image (before old) (writes Replacement path written)
+  Kept written = Along path old image (before old) (write_events Replacement path written)
 
   kept-closed : (taken : WriteDelta) (lasts : Bool) → Kept (Closed taken lasts)
   kept-closed taken lasts = rw (same path) (inl refl, (inl refl, (inl refl, (inl refl, inl refl))))
@@ -44,7 +45,7 @@ module _ (path old image : List ℕ) where
     (inl refl, (inl refl, (inl refl, ((inl refl, inr refl), (inl refl, inr refl))))),
   )
 
-  kept : (written : WriteOutcome) → (written ≡ whole Replacement image) ⊎ IsUnwritten Replacement image written
+  kept : (written : WriteOutcome) → (written ≡ whole_outcome Replacement image) ⊎ IsUnwritten Replacement image written
       → Kept written
   kept written (inl e) = subst Kept (sym e) kept-placed
   kept written (inr (inl o)) = subst Kept (sym o.left) (inl refl, inl refl)
@@ -55,7 +56,7 @@ module _ (path old image : List ℕ) where
 
 pub replacing_keeps : ReplacingKeepsOneWhole
 replacing_keeps path old image written h k =
-    at_each path old image (writes Replacement path written) (before old) (kept path old image written h) k
+    at_each path old image (write_events Replacement path written) (before old) (kept path old image written h) k
 
 pub unplaced_leaves : UnplacedLeavesTheOld
 unplaced_leaves path old Overtaken h = refl

@@ -13,8 +13,8 @@ use Rattle.image_check.specs.Causes.{IsShown, error_for}
 use Rattle.image_check.specs.Classes.{class_of}
 use Rattle.image_check.specs.Opening.{IsRefusedAs, IsTooSmallFor, IsOpenCause}
 use Rattle.image_check.specs.OpeningBytes.{IsWhyNotOf, as_given}
-use Rattle.segment_file.specs.declared.file_errors.Unfit.{Unfit}
-use Rattle.segment_file.specs.declared.file_errors.Unfit.TheVariants.{Image, OutOfMemory, ReadFault}
+use Rattle.segment_file.specs.declared.file_errors.OpenFault.{OpenFault}
+use Rattle.segment_file.specs.declared.file_errors.OpenFault.TheVariants.{Image, OutOfMemory, ReadFault}
 use Rattle.segment_file.specs.Opening.{IsWhyUnfit, unfit_for}
 
 -- the class of an image that is refused
@@ -25,20 +25,20 @@ known image class r = elim r.right [
   | inr d ↦ subst (λ (b : List ℕ). class_of current b ≡ Some class) (append-nil image.bytes) (d [] refl)
 ]
 
-some_unfit : (a b : Unfit) → Some a ≡ Some b → b ≡ a
+some_unfit : (a b : OpenFault) → Some a ≡ Some b → b ≡ a
 some_unfit a b e = cc
 
-none_unfit : (a : Unfit) → (let none : Option Unfit = None in none ≡ Some a) → ⊥
+none_unfit : (a : OpenFault) → (let none : Option OpenFault = None in none ≡ Some a) → ⊥
 none_unfit a e = cc
 
-unfit_none : (a : Unfit) → (let none : Option Unfit = None in Some a ≡ none) → ⊥
+unfit_none : (a : OpenFault) → (let none : Option OpenFault = None in Some a ≡ none) → ⊥
 unfit_none a e = cc
 
 module _ (most capacity : ℕ) (image : ReadDelta) where
-  as_unfit : (a unfit : Unfit) → Some a ≡ Some unfit → IsWhyUnfit most image a → IsWhyUnfit most image unfit
+  as_unfit : (a unfit : OpenFault) → Some a ≡ Some unfit → IsWhyUnfit most image a → IsWhyUnfit most image unfit
   as_unfit a unfit e = subst (IsWhyUnfit most image) (sym (some_unfit a unfit e))
 
-  pub unfit-by : (cause : ExamineError) (unfit : Unfit) → IsOpenCause current image 0 capacity (error_for cause)
+  pub unfit-by : (cause : ExamineError) (unfit : OpenFault) → IsOpenCause current image 0 capacity (error_for cause)
       → IsShown current image.bytes cause → unfit_for cause ≡ Some unfit
       → IsWhyUnfit most image unfit
   unfit-by (Judged v) unfit w s e = as_unfit (Image v) unfit e (record { why = w; told = (known image v.class w, s) })

@@ -4,7 +4,7 @@ use Rattle.std.proofs.Math.Nat.{le-max_left}
 use Rattle.std.proofs.Common.{◌≡◌, ◌⊎◌, ℕ, ◌+◌, inl, inr, List, [], length, max, Option, Some, None, Result, Ok, Err}
 use Rattle.std.proofs.Common.{refl, sym, ap, subst, ◌∙◌, arith}
 use Rattle.raw_region.specs.Device.{ReaderHistory, ReadDelta, ReadsSource, read_delta}
-use Rattle.raw_region.specs.Refusals.{refusal_of}
+use Rattle.raw_region.specs.Refusals.{out_of_memory_of}
 use Rattle.raw_region.specs.Format.{current}
 use Rattle.raw_region.specs.Memory.{SameSurroundings, cut_at}
 use Rattle.segment_manager.specs.declared.modes.Mode.{Mode}
@@ -144,7 +144,7 @@ module _ (versions : AcceptedVersions) (more : ℕ) (mode : Mode) (len : ℕ) (i
 -- memory was refused before the image was read
 pub unread-image : (versions : AcceptedVersions) (more : ℕ) (mode : Mode) (len : ℕ)
     → OpensImage versions more mode len (read_delta nothing_given nothing_given)
-    (Err (OutOfMemory (Bytes (refusal_of (region_len (len + more))))))
+    (Err (OutOfMemory (Bytes (out_of_memory_of (region_len (len + more))))))
 unread-image versions more mode len = record {
   yet = inl (record { sound = refl; undecided = few-undecided (format_in versions []) [] (omega arith) });
   asked = region_len (len + more);

@@ -12,8 +12,9 @@ use Rattle.segment_disk.specs.declared.presence.CreateMode.{CreateMode}
 use Rattle.segment_disk.specs.declared.presence.CreateMode.TheVariants.{New, Truncate, Replacement}
 use Rattle.segment_disk.specs.Events.{Event, Compared, Made, Wrote, Discarded, After, nothing_taken}
 use Rattle.segment_file.specs.Files.{WriteOutcome, Overtaken, NotMade, Closed, Offered, IsPartialWrite, IsUnwritten}
-use Rattle.segment_file.specs.Files.{FillsFile, MakesImage, WritesImage, all_of, compares, is_same, makes, placing}
-use Rattle.segment_file.specs.Files.{whole}
+use Rattle.segment_file.specs.Files.{FillsFile, MakesImage, WritesImage, all_of, compare_events, is_same, make_events}
+use Rattle.segment_file.specs.Files.{place_events}
+use Rattle.segment_file.specs.Files.{whole_outcome}
 
 front_taken : (new image : List ℕ) → AppendsProperPrefix [] new image
     → IsProperPrefix (drop (length nothing_taken.bytes) new) image
@@ -43,7 +44,8 @@ module _ {D E : Type 0} (step : D → Event → D → Type 0) (old new : D) (ima
 -- ---- what became of it
 
 abbrev Fate : {E : Type 0} → CreateMode → List ℕ → WriteOutcome → Result (Unit {0}) E → Type 0
-Fate how image written result = MatchResult result (λ u. written ≡ whole how image) (λ e. IsUnwritten how image written)
+Fate how image written result =
+    MatchResult result (λ u. written ≡ whole_outcome how image) (λ e. IsUnwritten how image written)
 
 abbrev Filling : {E : Type 0} → List ℕ → WriteDelta → Bool → Result (Unit {0}) E → Type 0
 Filling image taken lasts result =
@@ -117,7 +119,7 @@ module _ {D E : Type 0} (step : D → Event → D → Type 0) (old made new : D)
     fate-placed (Err e) = inr (inr (inr (inr (record { beside = refl; offered = refl }))))
 
     pub placed : FillsFile {E = E} step made filled image (Ok tt) → (result : Result (Unit {0}) E)
-        → After step filled (placing path (is_ok result)) new
+        → After step filled (place_events path (is_ok result)) new
         → MakesImage {E = E} step old new Replacement path image result
     placed f result put = record {
       written = Offered image (is_ok result);
@@ -140,7 +142,8 @@ module _ {D E : Type 0} (step : D → Event → D → Type 0) (old made new : D)
 
 with_comparison : {D : Type 0} (step : D → Event → D → Type 0) (old same new : D) (path : List ℕ) (how : CreateMode)
     → how ≢ New → (b : Bool) (events : List Event)
-    → step old (Compared path b) same → After step same events new → After step old (compares how path b events) new
+    → step old (Compared path b) same → After step same events new
+    → After step old (compare_events how path b events) new
 with_comparison step old same new path New n b events asked rest = absurd (n refl)
 with_comparison step old same new path Truncate n b events asked rest = (same, asked, rest)
 with_comparison step old same new path Replacement n b events asked rest = (same, asked, rest)
@@ -157,8 +160,9 @@ module _ {D E : Type 0} (step : D → Event → D → Type 0) (old same new : D)
       → WritesImage {E = E} step old new how path image result
   made_over how n result asked m = record {
     written = m.written;
-    asked = subst (λ (b : Bool). After step old (compares how path b (makes how path m.written)) new) (sym m.same)
-        (with_comparison step old same new path how n true (makes how path m.written) asked m.asked);
+    asked = subst (λ (b : Bool). After step old (compare_events how path b (make_events how path m.written)) new)
+        (sym m.same)
+        (with_comparison step old same new path how n true (make_events how path m.written) asked m.asked);
     fate = m.fate;
     accepted = m.accepted;
   }

@@ -15,7 +15,8 @@ use Rattle.clap.specs.Takes.{turn_passes, walk_passes}
 use Rattle.clap.specs.Faults.{built_fault, fault_of, is_simple_and_free}
 use Rattle.clap.specs.declared.error.kind.ErrorKind.TheVariants.{DisplayVersion}
 use Rattle.segment_lang.specs.Words.{between, is_digit, is_numeral, number_after, number_of}
-use Rattle.segment_invocation.specs.Invocations.{Asked, Origin, change_with, create, run, run_with, ran, is_plain}
+use Rattle.segment_invocation.specs.Invocations.{InvocationValue, Origin, change_with, create, run, run_with, ran}
+use Rattle.segment_invocation.specs.Invocations.{is_plain}
 use Rattle.segment_invocation.specs.Invocations.{is_plain_run, check, check_all, explain, grow, shrink, migrate, tell}
 use Rattle.segment_invocation.specs.Invocations.{names, load, lint, language, version, input, from_file, from_lines}
 use Rattle.segment_invocation.specs.Invocations.{IsChangePart, IsChangeWritten, IsModePart, IsNumberPart, IsOriginPart}
@@ -131,7 +132,7 @@ prefix-option words (c ∷ cs) (t, e) =
 -- ---- the words behind the program's name
 
 -- they are taken, and say what is asked for
-record Behind (words : List Text) (a : Asked) : Type 0 where
+record Behind (words : List Text) (a : InvocationValue) : Type 0 where
   takes : built_takes (built command_line) nothing_held words ≡ true
   asks : asked_of (entered (built command_line)
       (stop_after (built command_line).top.rules (names_of (built command_line)) words)) ≡ Some a
@@ -200,7 +201,7 @@ sets true = refl
 sets false = refl
 
 -- a run of standard input in a mode, with a size where it wants one
-abbrev in_mode : Text → Option ModeName → Option (Option ℕ) → Option ℕ → SaveMode → Bool → Bool → Option Asked
+abbrev in_mode : Text → Option ModeName → Option (Option ℕ) → Option ℕ → SaveMode → Bool → Bool → Option InvocationValue
 in_mode f mode size wait saving strict numbered =
     option_and_then (λ m. option_and_then (λ n.
     option_and_then (λ w. if lacks_size m n then None else Some (ran f m n input saving w strict numbered)) wait)
@@ -265,40 +266,41 @@ module _ (name : Text) (s : Shape) (met : walked app.top.rules (names_of app) (w
   name-words words = ap₂ ◌&&◌ passes (ap (λ (w : Walk). walk_passes app.top (names_of app) w words) met
       ∙ stopped-passes app.top (names_of app) (walk_from nothing_held) name [] words)
 
-  behind-name : (words : List Text) (wanted : Option Asked) (a : Asked) → IsAsk s (asked_in name) words wanted
+  behind-name : (words : List Text) (wanted : Option InvocationValue) (a : InvocationValue)
+      → IsAsk s (asked_in name) words wanted
       → wanted ≡ Some a → Behind (name ∷ words) a
   behind-name words wanted a r e = record {
     takes = ap₂ takes_at (name-walk words) (name-words words) ∙ (taken words ∙ ap (λ b. b && true) r.passes);
     asks = ap (λ (w : Walk). asked_of (entered app w.stopped)) (name-walk words) ∙ (asked words ∙ (r.found ∙ e));
   }
 
-run-behind : (words : List Text) (wanted : Option Asked) (a : Asked)
+run-behind : (words : List Text) (wanted : Option InvocationValue) (a : InvocationValue)
     → IsAsk run_leaf (asked_in (codes "run")) words wanted → wanted ≡ Some a → Behind (codes "run" ∷ words) a
 unfolding clap_on_literals
 run-behind = behind-name (codes "run") run_leaf refl refl (λ words. refl) (λ words. refl)
 
-grow-behind : (words : List Text) (wanted : Option Asked) (a : Asked)
+grow-behind : (words : List Text) (wanted : Option InvocationValue) (a : InvocationValue)
     → IsAsk grow_leaf (asked_in (codes "grow")) words wanted → wanted ≡ Some a → Behind (codes "grow" ∷ words) a
 unfolding clap_on_literals
 grow-behind = behind-name (codes "grow") grow_leaf refl refl (λ words. refl) (λ words. refl)
 
-shrink-behind : (words : List Text) (wanted : Option Asked) (a : Asked)
+shrink-behind : (words : List Text) (wanted : Option InvocationValue) (a : InvocationValue)
     → IsAsk shrink_leaf (asked_in (codes "shrink")) words wanted → wanted ≡ Some a → Behind (codes "shrink" ∷ words) a
 unfolding clap_on_literals
 shrink-behind = behind-name (codes "shrink") shrink_leaf refl refl (λ words. refl) (λ words. refl)
 
-migrate-behind : (words : List Text) (wanted : Option Asked) (a : Asked)
+migrate-behind : (words : List Text) (wanted : Option InvocationValue) (a : InvocationValue)
     → IsAsk migrate_leaf (asked_in (codes "migrate")) words wanted → wanted ≡ Some a
     → Behind (codes "migrate" ∷ words) a
 unfolding clap_on_literals
 migrate-behind = behind-name (codes "migrate") migrate_leaf refl refl (λ words. refl) (λ words. refl)
 
-load-behind : (words : List Text) (wanted : Option Asked) (a : Asked)
+load-behind : (words : List Text) (wanted : Option InvocationValue) (a : InvocationValue)
     → IsAsk load_leaf (asked_in (codes "load")) words wanted → wanted ≡ Some a → Behind (codes "load" ∷ words) a
 unfolding clap_on_literals
 load-behind = behind-name (codes "load") load_leaf refl refl (λ words. refl) (λ words. refl)
 
-names-behind : (words : List Text) (wanted : Option Asked) (a : Asked)
+names-behind : (words : List Text) (wanted : Option InvocationValue) (a : InvocationValue)
     → IsAsk names_leaf (asked_in (codes "names")) words wanted → wanted ≡ Some a → Behind (codes "names" ∷ words) a
 unfolding clap_on_literals
 names-behind = behind-name (codes "names") names_leaf refl refl (λ words. refl) (λ words. refl)
@@ -352,7 +354,7 @@ behind-names f prefix most prefixes mosts p a m =
 -- ---- runs
 
 -- the words of a run ask for what they say
-behind-read : (words : List Text) (what : RunWords) (a : Asked) → IsAsk run_leaf run_words words what
+behind-read : (words : List Text) (what : RunWords) (a : InvocationValue) → IsAsk run_leaf run_words words what
     → asked_of_run what ≡ Some a → Behind (codes "run" ∷ words) a
 behind-read words what a r h =
     run-behind words (asked_of_run what) a (record { found = ap asked_of_run r.found; passes = r.passes }) h
@@ -372,7 +374,7 @@ behind-options f modes sizes waits mode size wait v t n p m (s, l) w =
     (sized f a.word o.word u.word mode size wait v t n a.value o.value u.value l))
 
 -- a run of a script that the command line names or has
-abbrev of_script : Text → Origin → Asked
+abbrev of_script : Text → Origin → InvocationValue
 of_script f origin = ran f OpenOnly None origin InPlace 0 false false
 
 behind-origin : (f : Text) (words : List Text) (origin : Origin) → IsPlain f → IsOriginPart words origin
@@ -409,7 +411,7 @@ behind-written f mode size (from_lines ls) saving wait strict numbered words p (
     behind-script f mode size (from_lines ls) saving wait strict numbered words origins p o m z s w t n e
 
 -- words that have no command
-pub record IsVersion (words : List Text) (a : Asked) : Type 0 where
+pub record IsVersion (words : List Text) (a : InvocationValue) : Type 0 where
   pub is : a ≡ version
   pub fault : built_fault (built command_line) nothing_held words ≡ DisplayVersion ∷ []
 
@@ -432,7 +434,7 @@ with-change : (f : Text) (c : FileChange) (saving : SaveMode) (wait : ℕ) (word
 with-change f c saving wait words h b =
     subst (Behind words) (ap (λ p. if p then plain_change f c else change_with f c saving wait) h) b
 
-behind : (words : List Text) (a : Asked) → IsWritten a words → Behind words a ⊎ IsVersion words a
+behind : (words : List Text) (a : InvocationValue) → IsWritten a words → Behind words a ⊎ IsVersion words a
 behind words (create f n) (p, d, h, e) = inl (rw e (behind-create f d n (path-plain f p) h))
 behind words (run f mode size) (p, r) =
     inl (behind-written f mode size input InPlace 0 false false words (path-plain f p) r)
@@ -462,12 +464,12 @@ behind words language e = inl (rw e behind-language)
 behind words version e = inr (rw e asks-version)
 
 -- the command is simple, takes the words, and they ask for this
-pub record IsUnderstood (words : List Text) (a : Asked) : Type 0 where
+pub record IsUnderstood (words : List Text) (a : InvocationValue) : Type 0 where
   pub takes : takes command_line words ≡ true
   pub asks : asked_of (subcommand_of command_line words) ≡ Some a
 
 -- the words want the version to be shown
-pub record WantsVersion (words : List Text) (a : Asked) : Type 0 where
+pub record WantsVersion (words : List Text) (a : InvocationValue) : Type 0 where
   pub is : a ≡ version
   pub fault : fault_of command_line words ≡ DisplayVersion ∷ []
 
@@ -479,7 +481,7 @@ pub simple : is_simple command_line ≡ true
 unfolding clap_on_literals
 simple = refl
 
-pub understood : (words : List Text) (a : Asked) → IsWritten a (drop 1 words)
+pub understood : (words : List Text) (a : InvocationValue) → IsWritten a (drop 1 words)
     → IsUnderstood words a ⊎ WantsVersion words a
 understood words a w = elim (behind (drop 1 words) a w) [
   | inl b ↦ inl (record { takes = ap₂ ◌&&◌ simple b.takes; asks = b.asks })

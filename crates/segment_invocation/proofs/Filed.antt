@@ -11,7 +11,7 @@ use Rattle.clap.specs.Walk.{Row, Text, first_of, rows_of}
 use Rattle.clap.specs.declared.parser.matches.Found.{Found}
 use Rattle.clap.proofs.WalkLemmas.{raw_values-rows}
 use Rattle.segment_lang.specs.Words.{number_of}
-use Rattle.segment_invocation.specs.Invocations.{Asked, language, lint, asked_in, list_of, size_of}
+use Rattle.segment_invocation.specs.Invocations.{InvocationValue, language, lint, asked_in, list_of, size_of}
 
 module _ (name : Text) (rows : List Row) where
   pub lint_asked : bytes_eq name (codes "lint") ≡ true → asked_in name rows ≡ Some lint
@@ -20,7 +20,7 @@ module _ (name : Text) (rows : List Row) where
   pub language_asked : bytes_eq name (codes "language") ≡ true → asked_in name rows ≡ Some language
   language_asked e = ap (λ n. asked_in n rows) ((bytes_eq-Decides name (codes "language")).0 e)
 
-neither : (b : Bool) (x y : Option Asked) → x ≡ None → y ≡ None → (if b then x else y) ≡ None
+neither : (b : Bool) (x y : Option InvocationValue) → x ≡ None → y ≡ None → (if b then x else y) ≡ None
 neither true x y h k = h
 neither false x y h k = k
 

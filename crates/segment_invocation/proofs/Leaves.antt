@@ -14,7 +14,7 @@ use Rattle.clap.specs.Takes.{walk_passes}
 use Rattle.clap.specs.declared.builder.value_parser.Reading.TheVariants as reading
 use Rattle.clap.specs.declared.parser.matches.ValueSource.TheVariants.{CommandLine}
 use Rattle.segment_lang.specs.Words.{number_of}
-use Rattle.segment_invocation.specs.Invocations.{Asked, RunWords, asked_change, asked_in, check, check_all}
+use Rattle.segment_invocation.specs.Invocations.{InvocationValue, RunWords, asked_change, asked_in, check, check_all}
 use Rattle.segment_invocation.specs.Invocations.{check_command, create, create_command, draw_command, dump_command}
 use Rattle.segment_invocation.specs.Invocations.{explain, file_command, flag_words, grow_command, kept_command}
 use Rattle.segment_invocation.specs.Invocations.{line_words, load, load_command, names, names_command, program}
@@ -333,7 +333,7 @@ abbrev pub load_leaf : Shape
 load_leaf = leaf load_command
 
 -- what a load is asked for, by its words
-abbrev pub loaded : Text → Option Text → Option Text → SaveMode → Option Asked
+abbrev pub loaded : Text → Option Text → Option Text → SaveMode → Option InvocationValue
 loaded f size wait saving = option_and_then (λ n. option_map (load f n saving) (seconds_of wait)) (size_of size)
 
 size-steps : (f d : Text) → IsPlain d
@@ -372,7 +372,7 @@ abbrev pub names_leaf : Shape
 names_leaf = leaf names_command
 
 -- what names are asked for, by their words
-abbrev pub listed : Text → Option Text → Option Text → Option Asked
+abbrev pub listed : Text → Option Text → Option Text → Option InvocationValue
 listed f prefix most = option_map (names f (unwrap_or prefix [])) (size_of most)
 
 prefix-steps : (f t : Text) → IsPlain t

@@ -19,7 +19,7 @@ use Rattle.clap.specs.declared.builder.command.Command.{Command}
 use Rattle.clap.specs.declared.error.Error.{Error}
 use Rattle.clap.specs.declared.error.kind.ErrorKind.{ErrorKind}
 use Rattle.clap.specs.declared.error.kind.ErrorKind.TheVariants.{DisplayVersion, OutOfMemory as NoMemory}
-use Rattle.segment_invocation.specs.Invocations.{Asked, IsAskedBy, IsWrongBy, asked_by, asked_in, asked_of}
+use Rattle.segment_invocation.specs.Invocations.{InvocationValue, IsAskedBy, IsWrongBy, asked_by, asked_in, asked_of}
 use Rattle.segment_invocation.specs.Invocations.{command_line, wrong_by, wrong_of}
 use Rattle.segment_invocation.specs.declared.invocations.Invocation.{Invocation}
 use Rattle.segment_invocation.specs.declared.invocations.Invocation.TheVariants.{Version}
@@ -68,7 +68,7 @@ module _ (words : List Text) (command : Command) (is : app_of command ≡ comman
       IfOk-weaker result _ _ (λ i h.
       inr (ap asked_by h.0, subst (IsAmong DisplayVersion) same-faults (shown _ other h.1 (kinds simple)))) only
 
-  module _ (a : Asked) (other : Error) (result : Result Invocation InvocationFault) (memory : kind_of other
+  module _ (a : InvocationValue) (other : Error) (result : Result Invocation InvocationFault) (memory : kind_of other
       ≡ NoMemory → result ≡ Err OutOfMemory) (version : kind_of other ≡ DisplayVersion → result ≡ Ok Version) where
     refused : kind_of other ≡ NoMemory → MatchResult result (λ i. asked_by i ≡ a) (λ e. e ≡ OutOfMemory)
     refused m = rw (memory m) refl
@@ -86,7 +86,7 @@ module _ (words : List Text) (command : Command) (is : app_of command ≡ comman
     unread_given (inl u) passes kinds = refused (passes (ap (λ (x : App). takes x words) is ∙ u.takes))
     unread_given (inr v) passes kinds = told v (subst (λ k. HasKind k other) (same-faults ∙ v.fault) (kinds simple))
 
-  pub read_given : (a : Asked) → IsUnderstood words a ⊎ WantsVersion words a
+  pub read_given : (a : InvocationValue) → IsUnderstood words a ⊎ WantsVersion words a
       → (is_simple_and_free (app_of command) ≡ true → fault_of (app_of command) words ≡ [])
       → asked_of (subcommand_of command_line words) ≡ Some a
   read_given a (inl u) kinds = u.asks

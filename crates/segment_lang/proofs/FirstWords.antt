@@ -7,7 +7,7 @@ use Rattle.std.specs.List.{find, list_all}
 use Rattle.std.proofs.lemmas.Bool.{eq-eqb}
 use Rattle.std.proofs.lemmas.List.{take-append-drop}
 use Rattle.std.proofs.lemmas.List.Sums.{take_while-cons}
-use Rattle.segment_lang.specs.Words.{is, is_blank}
+use Rattle.segment_lang.specs.Words.{is_word, is_blank}
 use Rattle.segment_lang.specs.Reading.{Form, Reader, form_of, forms, skip_blanks}
 use Rattle.segment_lang.specs.Seen.{with_rest}
 use Rattle.segment_lang.specs.Tokens.{ends_word, is_unbroken, up_to_blank}
@@ -19,7 +19,7 @@ first_cons c cs = take_while-cons (λ c. not (is_blank c)) c cs
 
 -- what is behind the first word, where it is this one
 abbrev pub BehindOf : List ℕ → List ℕ → List ℕ → Option (List ℕ)
-BehindOf first line word = cond (is first word) (Some (drop (length first) line)) None
+BehindOf first line word = cond (is_word first word) (Some (drop (length first) line)) None
 
 abbrev pub Behind : List ℕ → List ℕ → Option (List ℕ)
 Behind line word = BehindOf (up_to_blank line) line word
@@ -51,7 +51,8 @@ first_word line word rest b e u h = ap (λ b. cond b (Some rest) None) h ∙ sym
     ∙ ap (λ line. Behind line word) (sym e)
 
 -- a line that has a word in front
-pub in_front : (line word rest : List ℕ) → is (take (length word) line) word ≡ true → rest ≡ drop (length word) line
+pub in_front : (line word rest : List ℕ) → is_word (take (length word) line) word ≡ true
+    → rest ≡ drop (length word) line
     → line ≡ word ++ rest
 in_front line word rest h r =
     sym (take-append-drop (length word) line)
@@ -66,13 +67,14 @@ begins [] = false
 begins (c ∷ cs) = not (c == 0x23)
 
 begins_found : (fs : List Form) (w : List ℕ) (f : Form) → list_all (λ (f : Form). begins f.0) fs ≡ true
-    → find (λ (f : Form). is w f.0) fs ≡ Some f → begins w ≡ true
+    → find (λ (f : Form). is_word w f.0) fs ≡ Some f → begins w ≡ true
 begins_found [] w f h e = cc
-begins_found (g ∷ fs) w f h e = go (is w g.0) (begins g.0) refl refl h e (λ h e. begins_found fs w f h e)
+begins_found (g ∷ fs) w f h e = go (is_word w g.0) (begins g.0) refl refl h e (λ h e. begins_found fs w f h e)
   where
-    go : (b c : Bool) → is w g.0 ≡ b → begins g.0 ≡ c → (c && list_all (λ (f : Form). begins f.0) fs) ≡ true
-        → cond b (Some g) (find (λ (f : Form). is w f.0) fs) ≡ Some f
-        → (list_all (λ (f : Form). begins f.0) fs ≡ true → find (λ (f : Form). is w f.0) fs ≡ Some f → begins w ≡ true)
+    go : (b c : Bool) → is_word w g.0 ≡ b → begins g.0 ≡ c → (c && list_all (λ (f : Form). begins f.0) fs) ≡ true
+        → cond b (Some g) (find (λ (f : Form). is_word w f.0) fs) ≡ Some f
+        → (list_all (λ (f : Form). begins f.0) fs ≡ true → find (λ (f : Form). is_word w f.0) fs ≡ Some f
+        → begins w ≡ true)
         → begins w ≡ true
     go b false i k h e more = cc
     go true true i k h e more = ap begins (same_text w g.0 (sym i)) ∙ k

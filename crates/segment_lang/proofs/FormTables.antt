@@ -6,7 +6,7 @@ use Rattle.std.specs.Cmp.Lexicographic.{same_text}
 use Rattle.std.specs.List.{filter, find, list_all}
 use Rattle.std.proofs.lemmas.Bool.{eq-eqb}
 use denote.Ref.{Bor}
-use Rattle.segment_lang.specs.Words.{is, is_blank}
+use Rattle.segment_lang.specs.Words.{is_word, is_blank}
 use Rattle.segment_lang.specs.Reading.{Form, Reader, form_of, forms}
 use Rattle.segment_lang.specs.Seen.{KeywordRow, place_of, reader_of, found_in, with_rest}
 use Rattle.segment_lang.specs.Tokens.{up_to_blank}
@@ -27,11 +27,13 @@ lent_first true row x y h = refl
 lent_first false row x y h = h
 
 lent_row_of : {A : Type 0} (rows : List (LentRow A)) (w : List ℕ)
-    → option_map lent_row (find (λ (row : LentRow A). is w row.0.now) rows) ≡ find (λ (row : KeywordRow A). is w row.0)
+    → option_map lent_row (find (λ (row : LentRow A). is_word w row.0.now) rows)
+    ≡ find (λ (row : KeywordRow A). is_word w row.0)
     (map lent_row rows)
 lent_row_of [] w = refl
-lent_row_of {A} (row ∷ rows) w = lent_first (is w row.0.now) row (find (λ (row : LentRow A). is w row.0.now) rows)
-    (find (λ (row : KeywordRow A). is w row.0) (map lent_row rows)) (lent_row_of rows w)
+lent_row_of {A} (row ∷ rows) w =
+    lent_first (is_word w row.0.now) row (find (λ (row : LentRow A). is_word w row.0.now) rows)
+    (find (λ (row : KeywordRow A). is_word w row.0) (map lent_row rows)) (lent_row_of rows w)
 
 row_value : {A : Type 0} (x : Option (Bor (LentRow A)))
     → option_map (λ (row : KeywordRow A). row.1) (option_map lent_row (option_map (λ (y : Bor (LentRow A)). y.now) x))
@@ -40,7 +42,7 @@ row_value None = refl
 row_value (Some y) = refl
 
 pub found_row : {A : Type 0} (rows : List (LentRow A)) (w : List ℕ) (x : Option (Bor (LentRow A))) (value : Option A)
-    → option_map (λ (y : Bor (LentRow A)). y.now) x ≡ find (λ (row : LentRow A). is w row.0.now) rows
+    → option_map (λ (y : Bor (LentRow A)). y.now) x ≡ find (λ (row : LentRow A). is_word w row.0.now) rows
     → value ≡ option_map (λ (y : Bor (LentRow A)). y.now.1) x → value ≡ found_in (map lent_row rows) w
 found_row {A} rows w x value h e =
     e ∙ sym (row_value x) ∙ ap (λ (x : Option (LentRow A)).
@@ -65,10 +67,10 @@ first_row false row x y h = h
 
 form_in_rows : (rows : List FormRow) (w : List ℕ)
     → option_map reader_of (found_in rows w)
-    ≡ option_map (λ (f : Form). f.1) (find (λ (f : Form). is w f.0) (map form_row rows))
+    ≡ option_map (λ (f : Form). f.1) (find (λ (f : Form). is_word w f.0) (map form_row rows))
 form_in_rows [] w = refl
-form_in_rows (row ∷ rows) w = first_row (is w row.0) row (find (λ (row : FormRow). is w row.0) rows)
-    (find (λ (f : Form). is w f.0) (map form_row rows)) (form_in_rows rows w)
+form_in_rows (row ∷ rows) w = first_row (is_word w row.0) row (find (λ (row : FormRow). is_word w row.0) rows)
+    (find (λ (f : Form). is_word w f.0) (map form_row rows)) (form_in_rows rows w)
 
 -- ---- the words at one place
 
@@ -84,15 +86,16 @@ unless_true false f = refl
 
 -- a long word that has another place than a long word of this place is not that word
 other_place : (w v : List ℕ) (n : ℕ) → (3 ≤ length w → place_of w ≡ n) → nat_le 3 (length v) ≡ true
-    → (place_of v == n) ≡ false → is w v ≡ false
-other_place w v n p l h = unless_true (is w v) (λ e.
+    → (place_of v == n) ≡ false → is_word w v ≡ false
+other_place w v n p l h = unless_true (is_word w v) (λ e.
     let same : w ≡ v = same_text w v (sym e) in
     let long : 3 ≤ length w = rw same (grind arith) in
     sym h ∙ eq-eqb (place_of v) n (ap place_of (sym same) ∙ p long))
 
-of_place : (c b : Bool) (w : List ℕ) (f : Form) (kept all : List Form) → is w f.0 ≡ b → (c ≡ false → b ≡ false)
-    → find (λ (f : Form). is w f.0) kept ≡ find (λ (f : Form). is w f.0) all
-    → find (λ (f : Form). is w f.0) (cond c (f ∷ kept) kept) ≡ cond b (Some f) (find (λ (f : Form). is w f.0) all)
+of_place : (c b : Bool) (w : List ℕ) (f : Form) (kept all : List Form) → is_word w f.0 ≡ b → (c ≡ false → b ≡ false)
+    → find (λ (f : Form). is_word w f.0) kept ≡ find (λ (f : Form). is_word w f.0) all
+    → find (λ (f : Form). is_word w f.0) (cond c (f ∷ kept) kept)
+    ≡ cond b (Some f) (find (λ (f : Form). is_word w f.0) all)
 of_place true b w f kept all e k h = rw (e, h) refl
 of_place false true w f kept all e k h = cc (k refl)
 of_place false false w f kept all e k h = h
@@ -108,11 +111,12 @@ both false b h = cc
 
 -- of long words those at a place alone can be a word that has this place if it is long
 found_by_place : (fs : List Form) (w : List ℕ) (n : ℕ) → (3 ≤ length w → place_of w ≡ n) → are_long fs ≡ true
-    → find (λ (f : Form). is w f.0) (filter (λ (f : Form). place_of f.0 == n) fs) ≡ find (λ (f : Form). is w f.0) fs
+    → find (λ (f : Form). is_word w f.0) (filter (λ (f : Form). place_of f.0 == n) fs)
+    ≡ find (λ (f : Form). is_word w f.0) fs
 found_by_place [] w n p l = refl
 found_by_place (f ∷ fs) w n p l =
     let long = both (nat_le 3 (length f.0)) (are_long fs) l in
-    of_place (place_of f.0 == n) (is w f.0) w f (filter (λ (f : Form). place_of f.0 == n) fs) fs refl
+    of_place (place_of f.0 == n) (is_word w f.0) w f (filter (λ (f : Form). place_of f.0 == n) fs) fs refl
     (other_place w f.0 n p long.0) (found_by_place fs w n p long.1)
 
 -- the words at a place, each with what stands behind it
@@ -167,7 +171,7 @@ form_in_tables tables line h b =
     let e : 0 + place_of line ≡ place_of line = omega arith in
     let w : List ℕ = up_to_blank line in
     form_in_rows (get_or tables (place_of line) []) w
-    ∙ ap (λ (fs : List Form). option_map (λ (f : Form). f.1) (find (λ (f : Form). is w f.0) fs))
+    ∙ ap (λ (fs : List Form). option_map (λ (f : Form). f.1) (find (λ (f : Form). is_word w f.0) fs))
     (forms_at tables 0 (place_of line) h b ∙ ap forms_of e)
     ∙ ap (option_map (λ (f : Form). f.1)) (found_by_place forms w (place_of line) (place_of_front line) refl)
 

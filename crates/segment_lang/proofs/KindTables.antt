@@ -5,9 +5,9 @@ use Rattle.std.specs.List.{find, AllByRecursion}
 use Rattle.raw_region.specs.Format.{current}
 use Rattle.seg_types.specs.declared.kinds.Kind.{Kind}
 use Rattle.seg_types.specs.Kinds.{kinds}
-use Rattle.segment_lang.specs.Words.{is}
+use Rattle.segment_lang.specs.Words.{is_word}
 use Rattle.segment_lang.specs.Texts.{kind_text}
-use Rattle.segment_lang.specs.Language.{whole}
+use Rattle.segment_lang.specs.Language.{whole_language}
 use Rattle.segment_lang.specs.Reading.{kind_named}
 use Rattle.segment_lang.specs.Seen.{KeywordRow, found_in}
 
@@ -24,21 +24,21 @@ first_row false true row x y e h = cc
 first_row false false row x y e h = h
 
 kind_in_rows : (rows : List (KeywordRow Kind)) (w : List ℕ) → AreKinds rows
-    → found_in rows w ≡ find (λ k. is w (kind_text k)) (map (λ (row : KeywordRow Kind). row.1) rows)
+    → found_in rows w ≡ find (λ k. is_word w (kind_text k)) (map (λ (row : KeywordRow Kind). row.1) rows)
 kind_in_rows [] w h = refl
-kind_in_rows (row ∷ rows) w h = first_row (is w row.0) (is w (kind_text row.1)) row
-    (find (λ (row : KeywordRow Kind). is w row.0) rows)
-    (find (λ k. is w (kind_text k)) (map (λ (row : KeywordRow Kind). row.1) rows))
-    (ap (is w) h.0) (kind_in_rows rows w h.1)
+kind_in_rows (row ∷ rows) w h = first_row (is_word w row.0) (is_word w (kind_text row.1)) row
+    (find (λ (row : KeywordRow Kind). is_word w row.0) rows)
+    (find (λ k. is_word w (kind_text k)) (map (λ (row : KeywordRow Kind). row.1) rows))
+    (ap (is_word w) h.0) (kind_in_rows rows w h.1)
 
 -- the current format has all kinds
-kinds_now : (whole current).kinds ≡ kinds
+kinds_now : (whole_language current).kinds ≡ kinds
 unfolding current
 kinds_now = refl
 
 -- A table of all kinds has for a word the kind that is printed so.
 pub kind_in_table : (rows : List (KeywordRow Kind)) (w : List ℕ)
     → map (λ (row : KeywordRow Kind). row.1) rows ≡ kinds → AreKinds rows
-    → found_in rows w ≡ kind_named (whole current) w
+    → found_in rows w ≡ kind_named (whole_language current) w
 unfolding kind_named
-kind_in_table rows w same h = kind_in_rows rows w h ∙ ap (find (λ k. is w (kind_text k))) (same ∙ sym kinds_now)
+kind_in_table rows w same h = kind_in_rows rows w h ∙ ap (find (λ k. is_word w (kind_text k))) (same ∙ sym kinds_now)

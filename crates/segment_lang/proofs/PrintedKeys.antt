@@ -12,7 +12,7 @@ use Rattle.seg_types.specs.declared.kinds.ScalarKind.{ScalarKind}
 use Rattle.seg_types.specs.declared.kinds.ScalarKind.TheVariants.{Bool as BoolKind, U8, I32, I64, U64}
 use Rattle.seg_types.specs.Kinds.{kinds}
 use Rattle.seg_types.specs.Names.{ByKind, ByName, Key, is_name}
-use Rattle.segment_lang.specs.Words.{Bare, Text, bare_word, in_bare, in_text, is, is_bare, is_bare_name, is_blank}
+use Rattle.segment_lang.specs.Words.{Bare, Text, bare_word, in_bare, in_text, is_word, is_bare, is_bare_name, is_blank}
 use Rattle.segment_lang.specs.Words.{is_digit, is_letter, text_word, words}
 use Rattle.segment_lang.specs.Texts.{kind_text, quoted_text}
 use Rattle.segment_lang.specs.Language.{Language}
@@ -23,7 +23,7 @@ use Rattle.segment_lang.proofs.TextSpelling.{printed_texts_are_read}
 -- ---- kinds
 
 abbrev among : List Kind → Kind → Option Kind
-among ks k = find (λ j. is (kind_text k) (kind_text j)) ks
+among ks k = find (λ j. is_word (kind_text k) (kind_text j)) ks
 
 read-map : (k v : ScalarKind) → among kinds (Map k v) ≡ Some (Map k v)
 read-map BoolKind BoolKind = refl
@@ -43,7 +43,7 @@ read-kind k = refl
 printed-one : (k j : Kind) → kind_text k ≡ kind_text j → k ≡ j
 printed-one k j e =
     let same : ◌≡◌ {A = Option Kind} (Some k) (Some j) = sym (read-kind k)
-    ∙ ap (λ w. find (λ j. is w (kind_text j)) kinds) e ∙ read-kind j in
+    ∙ ap (λ w. find (λ j. is_word w (kind_text j)) kinds) e ∙ read-kind j in
     cc
 
 found-first : (b : Bool) (k j : Kind) (x : Option Kind) → (b ≡ true → j ≡ k) → (b ≡ false → x ≡ Some k)
@@ -51,17 +51,18 @@ found-first : (b : Bool) (k j : Kind) (x : Option Kind) → (b ≡ true → j �
 found-first true k j x f g = ap Some (f refl)
 found-first false k j x f g = g refl
 
-same-kind : (k j : Kind) → is (kind_text k) (kind_text j) ≡ true → j ≡ k
+same-kind : (k j : Kind) → is_word (kind_text k) (kind_text j) ≡ true → j ≡ k
 same-kind k j e = sym (printed-one k j (same_text (kind_text k) (kind_text j) (sym e)))
 
-other-kind : (k j : Kind) → j ≡ k → is (kind_text k) (kind_text j) ≡ false → ⊥
+other-kind : (k j : Kind) → j ≡ k → is_word (kind_text k) (kind_text j) ≡ false → ⊥
 other-kind k j e f = other_text (kind_text k) (kind_text j) (sym f) (ap kind_text (sym e))
 
 found-among : (ks : List Kind) (k : Kind) → Contains ks k → among ks k ≡ Some k
 found-among [] k h = absurd (omega (arith, h.1))
-found-among (j ∷ ks) k (zero, l, h) = found-first (is (kind_text k) (kind_text j)) k j (among ks k) (same-kind k j)
+found-among (j ∷ ks) k (zero, l, h) = found-first (is_word (kind_text k) (kind_text j)) k j (among ks k) (same-kind k j)
     (λ e. absurd (other-kind k j h e))
-found-among (j ∷ ks) k (suc i, l, h) = found-first (is (kind_text k) (kind_text j)) k j (among ks k) (same-kind k j)
+found-among (j ∷ ks) k (suc i, l, h) =
+    found-first (is_word (kind_text k) (kind_text j)) k j (among ks k) (same-kind k j)
     (λ e. found-among ks k (i, omega (arith, l), h))
 
 pub printed_kinds_are_read : PrintedKindsAreRead
@@ -133,12 +134,13 @@ read-bare l (c ∷ cs) name bare = record {
 
 read-quoted : (l : Language) (name : List ℕ) → AllByRecursion (λ b. b < 256) name → is_name l.format name ≡ true
     → IsReadAsName l name (quoted_text name)
-read-quoted l name small is = record { word = Text name; words = printed_texts_are_read name small; key = rw is refl }
+read-quoted l name small is_word =
+    record { word = Text name; words = printed_texts_are_read name small; key = rw is_word refl }
 
 read-name : (b : Bool) (l : Language) (name : List ℕ) → AllByRecursion (λ b. b < 256) name
     → is_name l.format name ≡ true → is_bare_name name ≡ b → IsReadAsName l name (cond b name (quoted_text name))
-read-name true l name small is bare = read-bare l name is bare
-read-name false l name small is bare = read-quoted l name small is
+read-name true l name small is_word bare = read-bare l name is_word bare
+read-name false l name small is_word bare = read-quoted l name small is_word
 
 pub printed_names_are_read : PrintedNamesAreRead
-printed_names_are_read l name small is = read-name (is_bare_name name) l name small is refl
+printed_names_are_read l name small is_word = read-name (is_bare_name name) l name small is_word refl

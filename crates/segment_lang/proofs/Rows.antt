@@ -11,13 +11,13 @@ use Rattle.seg_types.specs.Commands.{ConstructIt, Find, FindOrConstruct, Append,
 use Rattle.seg_types.specs.Commands.{Lookup, NoPairs, Numbers, Push, Put, Quoted, Remove, ReserveNamed, Set, Show}
 use Rattle.seg_types.specs.Commands.{Strings, Truth, Whole}
 use Rattle.segment_lang.specs.Words.{Bare, Text}
-use Rattle.segment_lang.specs.Language.{whole}
+use Rattle.segment_lang.specs.Language.{whole_language}
 use Rattle.segment_lang.specs.Reading.{reading}
 use Rattle.segment_lang.specs.Tokens.{next_word, word_at, text_at, bare_at, only_word}
 
 -- lines, each with what it means
 abbrev Means : List (List ℕ × Reading) → Type 0
-Means = AllByRecursion (λ row. reading (whole current) row.0 ≡ row.1)
+Means = AllByRecursion (λ row. reading (whole_language current) row.0 ≡ row.1)
 
 -- objects of scalars, arrays, vectors, strings and maps
 made : Means (
@@ -61,7 +61,7 @@ unfolding reading current
 changed = (refl, (refl, (refl, (refl, (refl, (refl, (refl, (refl, (refl, tt)))))))))
 
 -- other words than a command has behind it
-wrong : AllByRecursion (λ line. reading (whole current) line ≡ BadSyntax) (
+wrong : AllByRecursion (λ line. reading (whole_language current) line ≡ BadSyntax) (
     codes "append s b" ∷ codes "construct string[2] s \"a\"" ∷ codes "construct map<i64,i64> m 1"
     ∷ codes "construct map<string,i64> m" ∷ codes "construct map<i64,i64>[2] m" ∷ codes "put m 4" ∷ codes "put m 4 x"
     ∷ codes "find u8 @u64" ∷ [])
@@ -69,7 +69,7 @@ unfolding reading current
 wrong = (refl, (refl, (refl, (refl, (refl, (refl, (refl, (refl, tt))))))))
 
 -- values, counts and names that are none
-no_values : AllByRecursion (λ line. reading (whole current) line ≡ BadSyntax) (
+no_values : AllByRecursion (λ line. reading (whole_language current) line ≡ BadSyntax) (
     codes "construct_it i64[3] w 1 2" ∷ codes "construct i64[0] w 1" ∷ codes "construct u8 x 300"
     ∷ codes "construct u8 1x 3" ∷ codes "construct u8 \"\\x0a\" 3" ∷ codes "size x"
     ∷ codes "construct i64 - 9223372036854775808" ∷ [])
@@ -77,7 +77,7 @@ unfolding reading current
 no_values = (refl, (refl, (refl, (refl, (refl, (refl, (refl, tt)))))))
 
 -- vectors of strings are a kind from format 2 on
-strings_before : reading (whole 1) (codes "construct vec<string> v") ≡ BadSyntax
+strings_before : reading (whole_language 1) (codes "construct vec<string> v") ≡ BadSyntax
 unfolding reading
 strings_before = refl
 
@@ -85,11 +85,11 @@ comments : Means ((codes "#size", Nothing) ∷ (codes " #size", UnknownCommand) 
 unfolding reading
 comments = (refl, (refl, tt))
 
-longest : reading (whole current) (replicate 4096 97 ++ 0x0D ∷ []) ≡ UnknownCommand
+longest : reading (whole_language current) (replicate 4096 97 ++ 0x0D ∷ []) ≡ UnknownCommand
 unfolding reading
 longest = refl
 
-too_long : reading (whole current) (replicate 4097 97) ≡ LineTooLong
+too_long : reading (whole_language current) (replicate 4097 97) ≡ LineTooLong
 unfolding reading
 too_long = refl
 

@@ -12,7 +12,7 @@ use Rattle.raw_region.proofs.Laws.{writes-cut, writes-then}
 use Rattle.segment_manager.specs.Directory.{Directory}
 use Rattle.segment_manager.specs.indexes.Iterating.{names_of}
 use Rattle.segment_manager.specs.State.{SegmentState, DenotesCurrent}
-use Rattle.segment_report.specs.Names.{begins_with, left_behind, listed_line, name_line, names_text}
+use Rattle.segment_report.specs.Names.{begins_with, left_after, listed_line, name_line, names_text}
 use Rattle.segment_report.specs.Telling.{WritesReport}
 use Rattle.segment_report.proofs.Telling.{failures_in-err}
 
@@ -20,7 +20,7 @@ use Rattle.segment_report.proofs.Telling.{failures_in-err}
 
 abbrev pub listed : List ℕ → ℕ → List (List ℕ) → List ℕ
 listed prefix left [] = []
-listed prefix left (x ∷ xs) = listed_line prefix left x ++ listed prefix (left_behind prefix left x) xs
+listed prefix left (x ∷ xs) = listed_line prefix left x ++ listed prefix (left_after prefix left x) xs
 
 abbrev first_lines : List ℕ → ℕ → List (List ℕ) → List ℕ
 first_lines prefix left xs = flat_map name_line (take left (filter (λ name. begins_with name prefix) xs))
@@ -60,35 +60,36 @@ drop-none (x ∷ xs) (suc i) e = drop-none xs i e
 
 -- ---- what has gone out before the name at a place
 
-pub record IsSaid (old mid : WriterHistory) (prefix : List ℕ) (most left at : ℕ) (xs : List (List ℕ)) : Type 0 where
+pub record SaysFirstNames (old mid : WriterHistory) (prefix : List ℕ) (most left at : ℕ) (xs : List (List ℕ)) : Type
+    0 where
   pub said : List ℕ
   pub bytes : mid.bytes ≡ old.bytes ++ said
   pub rest : said ++ listed prefix left (drop at xs) ≡ listed prefix most xs
 
-pub record IsListed (b : List ℕ) (old mid : WriterHistory) (prefix : List ℕ) (most left at : ℕ) : Type 0 where
-  pub told : (d : Directory) → DenotesCurrent b d → IsSaid old mid prefix most left at (names_of d)
+pub record ListsFirstNames (b : List ℕ) (old mid : WriterHistory) (prefix : List ℕ) (most left at : ℕ) : Type 0 where
+  pub told : (d : Directory) → DenotesCurrent b d → SaysFirstNames old mid prefix most left at (names_of d)
   pub failures : mid.failures ≡ old.failures
 
 pub none_listed : (b : List ℕ) (old : WriterHistory) (prefix : List ℕ) (most : ℕ)
-    → IsListed b old old prefix most most 0
+    → ListsFirstNames b old old prefix most most 0
 none_listed b old prefix most = record {
   told = λ d k. record { said = []; bytes = sym (append-nil old.bytes); rest = refl };
   failures = refl;
 }
 
 module _ (s : SegmentState) (old mid new : WriterHistory) (prefix : List ℕ) (most left at : ℕ)
-    (was : IsListed s.cut.bytes old mid prefix most left at) where
+    (was : ListsFirstNames s.cut.bytes old mid prefix most left at) where
   module _ (name : List ℕ) (next : (d : Directory) → DenotesCurrent s.cut.bytes d
       → Some name ≡ slice_get (names_of d) at) where
     -- the line of the next name, and those behind it
     rest-here : (d : Directory) → DenotesCurrent s.cut.bytes d
         → listed prefix left (drop at (names_of d)) ≡ listed_line prefix left name
-        ++ listed prefix (left_behind prefix left name) (drop (at + 1) (names_of d))
+        ++ listed prefix (left_after prefix left name) (drop (at + 1) (names_of d))
     rest-here d k = ap (listed prefix left) (drop-here (names_of d) at name (sym (next d k)))
 
-    pub listed-more : {A E : Type 0} (a : A) (behind : ℕ) → behind ≡ left_behind prefix left name
+    pub listed-more : {A E : Type 0} (a : A) (behind : ℕ) → behind ≡ left_after prefix left name
         → Writes {E = E} mid new (Ok a) (listed_line prefix left name)
-        → IsListed s.cut.bytes old new prefix most behind (at + 1)
+        → ListsFirstNames s.cut.bytes old new prefix most behind (at + 1)
     listed-more a behind e w = record {
       told = λ d k.
           let t = was.told d k in
@@ -98,7 +99,7 @@ module _ (s : SegmentState) (old mid new : WriterHistory) (prefix : List ℕ) (m
                 ∙ append_assoc old.bytes t.said (listed_line prefix left name);
             rest = ap (λ n. (t.said ++ listed_line prefix left name) ++ listed prefix n (drop (at + 1) (names_of d))) e
                 ∙ (append_assoc t.said (listed_line prefix left name)
-                (listed prefix (left_behind prefix left name) (drop (at + 1) (names_of d)))
+                (listed prefix (left_after prefix left name) (drop (at + 1) (names_of d)))
                 ∙ (ap (λ l. t.said ++ l) (sym (rest-here d k)) ∙ t.rest));
           };
       failures = omega (arith, w.counted, was.failures);
@@ -111,7 +112,7 @@ module _ (s : SegmentState) (old mid new : WriterHistory) (prefix : List ℕ) (m
       writes = λ d k.
           let t = was.told d k in
           let line = listed_line prefix left name in
-          let rest = listed prefix (left_behind prefix left name) (drop (at + 1) (names_of d)) in
+          let rest = listed prefix (left_after prefix left name) (drop (at + 1) (names_of d)) in
           let front : Writes {A = Unit {0}} {E = E} old mid (Ok tt) t.said =
           record { ok = t.bytes; err = tt; counted = omega (arith, was.failures) } in
           subst (λ text. Writes old new result text)

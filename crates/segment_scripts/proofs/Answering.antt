@@ -28,7 +28,7 @@ use Rattle.segment_lang.specs.Seen.{deed_of}
 use Rattle.segment_scripts.specs.declared.replies.CommandAnswer.{CommandAnswer as Reply}
 use Rattle.segment_scripts.specs.declared.replies.CommandAnswer.TheVariants as said
 use Rattle.segment_scripts.specs.Replies.{Replies, answer_seen, shown_at, shown_of, told_at, told_of}
-use Rattle.segment_scripts.specs.ZeroGaps.{finds_nothing, has_places, is_zero_free}
+use Rattle.segment_scripts.specs.ZeroGaps.{has_nothing_to_do, has_places, is_zero_free}
 
 -- ---- what only reads
 
@@ -134,9 +134,9 @@ either-kept false b h k e = k e
 
 -- what a call finds to have nothing to do for it changes nothing
 abbrev pub KeepsFound : SegmentState → SegmentState → Command → Type 0
-KeepsFound old new c = (d : Directory) → DenotesCurrent old.cut.bytes d → finds_nothing d c ≡ true → new ≡ old
+KeepsFound old new c = (d : Directory) → DenotesCurrent old.cut.bytes d → has_nothing_to_do d c ≡ true → new ≡ old
 
-pub finds-none : (old new : SegmentState) (c : Command) → ((d : Directory) → finds_nothing d c ≡ false)
+pub finds-none : (old new : SegmentState) (c : Command) → ((d : Directory) → has_nothing_to_do d c ≡ false)
     → KeepsFound old new c
 finds-none old new c none d s e = absurd (false≢true (sym (none d) ∙ e))
 
@@ -151,7 +151,7 @@ replies-step f plain old new c result reply e same h refused found zeros = recor
   answers = λ d s. same (step old.mode d c).1 ∙ h.answers d s;
   denotes = h.denotes;
   reads = λ n. absurd (cc);
-  kept = λ d s. either-kept (is_untouched (step old.mode d c).0) (finds_nothing d c)
+  kept = λ d s. either-kept (is_untouched (step old.mode d c).0) (has_nothing_to_do d c)
       (λ r. kept-refused f plain result old new refused (ap is_untouched (h.answers d s) ∙ r)) (found d s);
   zeros = λ d s is done. done-zeros f result new (zeros is) (h.answers d s ∙ done);
 }
@@ -171,7 +171,7 @@ pub replies-plain : {A : Type 0} (f : A → Answer) → ((a : A) → is_untouche
     → {old new : SegmentState} {c : Command} {reply : Reply} (result : Result A Refusal)
     → is_changing c ≡ true → is_zero_free c ≡ false → ((d : Directory) → answer_seen d reply ≡ answer_of f result)
     → TakesStep old new c (answer_of f result) → UnchangedIfRefused old new result
-    → ((d : Directory) → finds_nothing d c ≡ false) → Replies old new c reply
+    → ((d : Directory) → has_nothing_to_do d c ≡ false) → Replies old new c reply
 replies-plain f plain {old} {new} {c} {reply} result e other same h refused none =
     replies-call f plain result e other same h refused (finds-none old new c none)
 
@@ -186,7 +186,7 @@ module _ {old new : SegmentState} {deed x : Deed} {reply : Reply} (is : deed ≡
       → is_changing (deed_of x) ≡ true → is_zero_free (deed_of x) ≡ false
       → ((d : Directory) → answer_seen d reply ≡ answer_of f result)
       → TakesStep old new (deed_of x) (answer_of f result) → UnchangedIfRefused old new result
-      → ((d : Directory) → finds_nothing d (deed_of x) ≡ false) → Replies old new (deed_of deed) reply
+      → ((d : Directory) → has_nothing_to_do d (deed_of x) ≡ false) → Replies old new (deed_of deed) reply
   replies-command f plain result e other same h refused none =
       replies-as (replies-plain f plain result e other same h refused none)
 

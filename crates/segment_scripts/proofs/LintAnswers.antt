@@ -9,7 +9,7 @@ use Rattle.seg_types.specs.Commands as asked
 use Rattle.seg_types.specs.Commands.{Reading, Nothing, Asked}
 use Rattle.seg_types.specs.declared.refusals.LineError.{LineError}
 use Rattle.seg_types.specs.declared.refusals.LineError.TheVariants.{UnknownCommand, LineTooLong, BadSyntax}
-use Rattle.segment_lang.specs.Language.{whole}
+use Rattle.segment_lang.specs.Language.{whole_language}
 use Rattle.segment_lang.specs.Reading.{reading, without_return}
 use Rattle.segment_lang.specs.Seen.{is_wrong, wrong_reading}
 use Rattle.segment_scripts.specs.Linting.{LintState, finding_text, is_at, lint_line, misses_line, respond, tells}
@@ -19,7 +19,7 @@ use Rattle.segment_scripts.specs.declared.language.CommandRow.{CommandRow}
 abbrev next : LintState → LintState
 next at = record at { line = min (at.line + 1) 18446744073709551615 }
 
-told : (e : LineError) (at : LintState) (line : List ℕ) → wrong_reading e ≡ reading (whole current) line
+told : (e : LineError) (at : LintState) (line : List ℕ) → wrong_reading e ≡ reading (whole_language current) line
     → lint_line at line ≡ tells (next at) e line
 told UnknownCommand at line h = ap (respond (next at) line) (sym h)
 told LineTooLong at line h = ap (respond (next at) line) (sym h)
@@ -35,7 +35,7 @@ module _ (line : ℕ) (found : Bool) (rows : List CommandRow) (after : ℕ) (byt
   counted at s = counts ∙ ap (λ (n : ℕ). min (n + 1) 18446744073709551615) s.0
 
   -- an error is told
-  pub finds : {A : Type 0} (e : LineError) → wrong_reading e ≡ reading (whole current) bytes
+  pub finds : {A : Type 0} (e : LineError) → wrong_reading e ≡ reading (whole_language current) bytes
       → (old new : WriterHistory) (result : Result A DeviceFault) (text : List ℕ)
       → text ≡ without_return bytes
       → Writes {A = A} {E = DeviceFault} old new result (finding_text rows after e text)
@@ -66,14 +66,14 @@ missed LineTooLong = refl
 missed BadSyntax = refl
 
 -- a line that is told of is no command
-pub told_missed : (e : LineError) (bytes : List ℕ) → wrong_reading e ≡ reading (whole current) bytes
+pub told_missed : (e : LineError) (bytes : List ℕ) → wrong_reading e ≡ reading (whole_language current) bytes
     → true ≡ misses_line bytes
 told_missed e bytes h = missed e ∙ ap is_wrong h
 
 -- a line that is a command, or has none
-pub quiet : (bytes : List ℕ) → is_wrong (reading (whole current) bytes) ≡ false → (at : LintState)
+pub quiet : (bytes : List ℕ) → is_wrong (reading (whole_language current) bytes) ≡ false → (at : LintState)
     → lint_line at bytes ≡ ([], next at)
-quiet bytes h at = silent (reading (whole current) bytes) h
+quiet bytes h at = silent (reading (whole_language current) bytes) h
   where
     silent : (r : Reading) → is_wrong r ≡ false → respond (next at) bytes r ≡ ([], next at)
     silent Nothing h = refl

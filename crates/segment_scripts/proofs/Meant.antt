@@ -16,9 +16,9 @@ use Rattle.seg_types.specs.Commands as asked
 use Rattle.seg_types.specs.Commands.{Command, Content, Literal, Whole, Truth, Quoted, Reading, Nothing, Asked}
 use Rattle.seg_types.specs.Commands.{UnknownCommand, LineTooLong, BadSyntax}
 use Rattle.segment_lang.specs.Words as word
-use Rattle.segment_lang.specs.Words.{Word, Bare, words, is, is_blank, literal_of_word, number_of, whole_of}
+use Rattle.segment_lang.specs.Words.{Word, Bare, words, is_word, is_blank, literal_of_word, number_of, whole_of}
 use Rattle.raw_region.specs.Format.{current}
-use Rattle.segment_lang.specs.Language.{Language, whole}
+use Rattle.segment_lang.specs.Language.{Language, whole_language}
 use Rattle.segment_lang.specs.Reading as reads
 use Rattle.segment_lang.specs.Reading.{Form, Reader, agrees, all, alone, as_reading, bracketed, command_line, content}
 use Rattle.segment_lang.specs.Reading.{counted, counted_kind, each, for_kind, form_of, forms, items, key_of, kind_named}
@@ -110,7 +110,7 @@ literals-room (Bare [] ∷ ws) = tt
 literals-room (Bare (c ∷ cs) ∷ ws) =
     then-holds IsBareValue (λ ls. bytes_taken ls ≤ room (Bare (c ∷ cs) ∷ ws)) (λ l.
     option_map (λ ls. l ∷ ls) (all literal_of_word ws)) (literal_of_word (Bare (c ∷ cs)))
-    (bare-if (is (c ∷ cs) (codes "true")) (is (c ∷ cs) (codes "false")) (whole_of (c ∷ cs)))
+    (bare-if (is_word (c ∷ cs) (codes "true")) (is_word (c ∷ cs) (codes "false")) (whole_of (c ∷ cs)))
     (λ l b. map-where (λ ls. bytes_taken ls ≤ room ws) (λ ls. bytes_taken ls ≤ room (Bare (c ∷ cs) ∷ ws)) (λ ls.
     l ∷ ls) (all literal_of_word ws) (literals-room ws)
     (λ ls h. let e = bare-taken l ls b in omega arith))
@@ -131,7 +131,7 @@ literal-room : (w : Word) → Holds (λ l. bytes_taken (l ∷ []) ≤ room (w �
 literal-room (Bare []) = tt
 literal-room (Bare (c ∷ cs)) =
     holds-map IsBareValue (λ l. bytes_taken (l ∷ []) ≤ room (Bare (c ∷ cs) ∷ [])) (literal_of_word (Bare (c ∷ cs)))
-    (bare-if (is (c ∷ cs) (codes "true")) (is (c ∷ cs) (codes "false")) (whole_of (c ∷ cs)))
+    (bare-if (is_word (c ∷ cs) (codes "true")) (is_word (c ∷ cs) (codes "false")) (whole_of (c ∷ cs)))
     (λ l b. let e = bare-taken l [] b in omega arith)
 literal-room (word.Text bs) = omega arith
 
@@ -165,8 +165,8 @@ kind-holds : (l : Language) (w : List ℕ) (r : Option Kind) → Counts (elim r 
 kind-holds l w (Some k) = (omega arith, omega arith)
 kind-holds l w None = then-all IsCounted _ (kind_named l (take_while (λ c. not (c == 0x5B)) w)) (λ k. counted-holds k _)
 
-kinds-count : (w : Word) → Counts (counted_kind (whole current) w)
-kinds-count (Bare w) = kind-holds (whole current) w (kind_named (whole current) w)
+kinds-count : (w : Word) → Counts (counted_kind (whole_language current) w)
+kinds-count (Bare w) = kind-holds (whole_language current) w (kind_named (whole_language current) w)
 kinds-count (word.Text bs) = tt
 
 key-agrees : (k : Kind) (key : Option Key) → Holds (λ (x : Key). IsTrue (agrees k x)) (for_kind k key)
@@ -196,7 +196,7 @@ content-holds Strings n ws key h f a =
 -- ---- the forms
 
 abbrev Meant : Reader → Type 0
-Meant r = (ws : List Word) → room ws ≤ 4097 → Holds IsMeant (r (whole current) ws)
+Meant r = (ws : List Word) → room ws ≤ 4097 → Holds IsMeant (r (whole_language current) ws)
 
 alone-meant : (c : Command) → IsMeant c → Meant (alone c)
 alone-meant c h [] room_is = h
@@ -205,7 +205,7 @@ alone-meant c h (w ∷ ws) room_is = tt
 key-meant : (f : Key → Command) (key_in : Language → Word → Option Key) → ((k : Key) → IsMeant (f k))
     → Meant (with_key f key_in)
 key-meant f key_in h [] room_is = tt
-key-meant f key_in h (w ∷ []) room_is = map-holds IsMeant f (key_in (whole current) w) h
+key-meant f key_in h (w ∷ []) room_is = map-holds IsMeant f (key_in (whole_language current) w) h
 key-meant f key_in h (w ∷ v ∷ ws) room_is = tt
 
 number-meant : (f : ℕ → Command) → ((n : ℕ) → IsMeant (f n)) → Meant (with_number f)
@@ -217,7 +217,7 @@ key-number-meant : (f : Key → ℕ → Command) → ((k : Key) (n : ℕ) → Is
 key-number-meant f h [] room_is = tt
 key-number-meant f h (w ∷ []) room_is = tt
 key-number-meant f h (w ∷ v ∷ []) room_is =
-    then-all IsMeant (λ key. option_map (f key) (number v)) (key_of (whole current) w) (λ k.
+    then-all IsMeant (λ key. option_map (f key) (number v)) (key_of (whole_language current) w) (λ k.
     map-holds IsMeant (f k) (number v) (h k))
 key-number-meant f h (w ∷ v ∷ u ∷ ws) room_is = tt
 
@@ -227,7 +227,7 @@ key-literal-meant f h [] room_is = tt
 key-literal-meant f h (w ∷ []) room_is = tt
 key-literal-meant f h (w ∷ v ∷ []) room_is =
     let tail = room-tail w (v ∷ []) in
-    then-all IsMeant (λ key. option_map (f key) (literal_of_word v)) (key_of (whole current) w)
+    then-all IsMeant (λ key. option_map (f key) (literal_of_word v)) (key_of (whole_language current) w)
     (λ k. map-where (λ l. bytes_taken (l ∷ []) ≤ room (v ∷ [])) IsMeant (f k) (literal_of_word v) (literal-room v)
     (λ m few. h k m (omega arith)))
 key-literal-meant f h (w ∷ v ∷ u ∷ ws) room_is = tt
@@ -242,7 +242,7 @@ key-number-literal-meant f h (w ∷ v ∷ u ∷ []) room_is =
     let first = room-tail w (v ∷ u ∷ []) in
     let second = room-tail v (u ∷ []) in
     then-all IsMeant (λ key. option_and_then (λ n. option_map (f key n) (literal_of_word u)) (number v))
-    (key_of (whole current) w)
+    (key_of (whole_language current) w)
     (λ k. then-all IsMeant (λ n. option_map (f k n) (literal_of_word u)) (number v)
     (λ n. map-where (λ l. bytes_taken (l ∷ []) ≤ room (u ∷ [])) IsMeant (f k n) (literal_of_word u) (literal-room u)
     (λ m few. h k n m (omega arith))))
@@ -252,7 +252,7 @@ assigning-meant : Meant reads.assigning
 assigning-meant [] room_is = tt
 assigning-meant (w ∷ ws) room_is =
     let tail = room-tail w ws in
-    then-all IsMeant (λ key. option_map (asked.Assign key) (all literal_of_word ws)) (key_of (whole current) w)
+    then-all IsMeant (λ key. option_map (asked.Assign key) (all literal_of_word ws)) (key_of (whole_language current) w)
     (λ k. map-where (λ ls. bytes_taken ls ≤ room ws) IsMeant (asked.Assign k) (all literal_of_word ws)
     (literals-room ws) (λ ls h. omega arith))
 
@@ -262,7 +262,7 @@ putting-meant (w ∷ []) room_is = tt
 putting-meant (w ∷ v ∷ []) room_is = tt
 putting-meant (w ∷ v ∷ u ∷ []) room_is =
     then-all IsMeant (λ key. option_and_then (λ k.
-    option_map (asked.Put key k) (literal_of_word u)) (literal_of_word v)) (key_of (whole current) w)
+    option_map (asked.Put key k) (literal_of_word u)) (literal_of_word v)) (key_of (whole_language current) w)
     (λ key. then-all IsMeant (λ k. option_map (asked.Put key k) (literal_of_word u)) (literal_of_word v) (λ k.
     map-holds IsMeant (asked.Put key k) (literal_of_word u) (λ m. tt)))
 putting-meant (w ∷ v ∷ u ∷ t ∷ ws) room_is = tt
@@ -273,16 +273,16 @@ appending-meant (w ∷ []) room_is = tt
 appending-meant (w ∷ Bare b ∷ ws) room_is = tt
 appending-meant (w ∷ word.Text bs ∷ []) room_is =
     let tail = room-tail w (word.Text bs ∷ []) in
-    map-holds IsMeant (λ key. asked.Append key bs) (key_of (whole current) w) (λ k. omega arith)
+    map-holds IsMeant (λ key. asked.Append key bs) (key_of (whole_language current) w) (λ k. omega arith)
 appending-meant (w ∷ word.Text bs ∷ v ∷ ws) room_is = tt
 
 finding-meant : Meant reads.finding
 finding-meant [] room_is = tt
 finding-meant (w ∷ []) room_is = tt
 finding-meant (w ∷ v ∷ []) room_is =
-    then-all IsMeant (λ k. option_map (λ key. asked.Find key k) (for_kind k (name_key (whole current) v)))
-    (kind_of_word (whole current) w)
-    (λ k. map-holds IsMeant (λ key. asked.Find key k) (for_kind k (name_key (whole current) v)) (λ key. tt))
+    then-all IsMeant (λ k. option_map (λ key. asked.Find key k) (for_kind k (name_key (whole_language current) v)))
+    (kind_of_word (whole_language current) w)
+    (λ k. map-holds IsMeant (λ key. asked.Find key k) (for_kind k (name_key (whole_language current) v)) (λ key. tt))
 finding-meant (w ∷ v ∷ u ∷ ws) room_is = tt
 
 handle-if : (b : Bool) (cs : List ℕ) → Holds IsMeant (if b then option_map asked.DestroyPtr (number_of cs) else None)
@@ -304,11 +304,11 @@ making-meant make key_in h (w ∷ v ∷ args) room_is =
     let tail = room-tail w (v ∷ args) in
     let fits = room-tail v args in
     then-holds IsCounted IsMeant (λ (k, n).
-    option_and_then (λ key. option_map (make key) (content k n args)) (for_kind k (key_in (whole current) v)))
-    (counted_kind (whole current) w) (kinds-count w)
+    option_and_then (λ key. option_map (make key) (content k n args)) (for_kind k (key_in (whole_language current) v)))
+    (counted_kind (whole_language current) w) (kinds-count w)
     (λ p count. then-holds (λ (x : Key). IsTrue (agrees p.0 x)) IsMeant (λ key.
-    option_map (make key) (content p.0 p.1 args)) (for_kind p.0 (key_in (whole current) v))
-    (key-agrees p.0 (key_in (whole current) v))
+    option_map (make key) (content p.0 p.1 args)) (for_kind p.0 (key_in (whole_language current) v))
+    (key-agrees p.0 (key_in (whole_language current) v))
     (λ key a. map-where (IsLineContent key) IsMeant (make key) (content p.0 p.1 args)
     (content-holds p.0 p.1 args key count (omega arith) a) (h key)))
 
@@ -328,10 +328,11 @@ making_each-meant [] room_is = tt
 making_each-meant (w ∷ []) room_is = tt
 making_each-meant (w ∷ v ∷ vs) room_is =
     then-holds IsCounted IsMeant (λ (k, n).
-    option_and_then (λ key. each vs k n key) (for_kind k (new_key (whole current) v)))
-    (counted_kind (whole current) w) (kinds-count w)
+    option_and_then (λ key. each vs k n key) (for_kind k (new_key (whole_language current) v)))
+    (counted_kind (whole_language current) w) (kinds-count w)
     (λ p count. then-holds (λ (x : Key). IsTrue (agrees p.0 x)) IsMeant (λ key.
-    each vs p.0 p.1 key) (for_kind p.0 (new_key (whole current) v)) (key-agrees p.0 (new_key (whole current) v))
+    each vs p.0 p.1 key) (for_kind p.0 (new_key (whole_language current) v))
+    (key-agrees p.0 (new_key (whole_language current) v))
     (λ key a. each-meant vs p.0 p.1 key count a))
 
 abbrev IsFormMeant : Form → Type 0
@@ -391,20 +392,20 @@ as-meant (Some c) h = h
 words-if : (rest : List ℕ) (r : Option Form) → length rest ≤ 4096 → Holds IsFormMeant r
     → IsReadingMeant (elim r as (λ _. Reading) [
       | None ↦ UnknownCommand
-      | Some form ↦ as_reading (option_and_then (form.1 (whole current)) (words rest))
+      | Some form ↦ as_reading (option_and_then (form.1 (whole_language current)) (words rest))
     ])
 words-if rest None short h = tt
 words-if rest (Some f) short h =
-    as-meant (option_and_then (f.1 (whole current)) (words rest))
-    (then-holds (λ ws. room ws ≤ 4097) IsMeant (f.1 (whole current)) (words rest)
+    as-meant (option_and_then (f.1 (whole_language current)) (words rest))
+    (then-holds (λ ws. room ws ≤ 4097) IsMeant (f.1 (whole_language current)) (words rest)
     (words-fit rest (words rest) refl short) (λ ws fits. h ws fits))
 
-command-meant : (line : List ℕ) → length line ≤ 4096 → IsReadingMeant (command_line (whole current) line)
+command-meant : (line : List ℕ) → length line ≤ 4096 → IsReadingMeant (command_line (whole_language current) line)
 command-meant [] short = tt
 command-meant (c ∷ cs) short =
     let first = take_while (λ c. not (is_blank c)) (c ∷ cs) in
     words-if (drop (length first) (c ∷ cs)) (form_of first) (omega (arith, length-drop (length first) (c ∷ cs)))
-    (found-meant (λ (f : Form). is first f.0) forms forms-meant)
+    (found-meant (λ (f : Form). is_word first f.0) forms forms-meant)
 
 meant-if : (b : Bool) (x y : Reading) → IsReadingMeant x → (b ≡ false → IsReadingMeant y)
     → IsReadingMeant (if b then x else y)
@@ -420,7 +421,7 @@ blanks-short : (line : List ℕ) → length (skip_blanks line) ≤ length line
 blanks-short [] = omega arith
 blanks-short (c ∷ cs) = blank-if (is_blank c) c cs (blanks-short cs)
 
-line-meant : (line : List ℕ) → IsReadingMeant (reading (whole current) line)
+line-meant : (line : List ℕ) → IsReadingMeant (reading (whole_language current) line)
 unfolding reading
 line-meant line =
     let line = without_return line in
@@ -429,5 +430,5 @@ line-meant line =
     (λ _. command-meant (skip_blanks line) (omega (arith, blanks-short line, ltb-false 4096 (length line) few))))
 
 -- what a line asks for can be
-pub asked-meant : (c : Command) (line : List ℕ) → Asked c ≡ reading (whole current) line → IsMeant c
+pub asked-meant : (c : Command) (line : List ℕ) → Asked c ≡ reading (whole_language current) line → IsMeant c
 asked-meant c line e = subst IsReadingMeant (sym e) (line-meant line)

@@ -16,7 +16,7 @@ use Rattle.seg_map.specs.Places.{item_of}
 use Rattle.segment_manager.specs.declared.objects.object_ref.Object.{Object as Located}
 use Rattle.segment_manager.specs.Directory.{Directory}
 use Rattle.segment_manager.specs.objects.ElementLists.{length_at_kind, number_or_none}
-use Rattle.segment_manager.specs.containers.Maps.{numbers_in, pair_from, pair_result, told_of_map}
+use Rattle.segment_manager.specs.containers.Maps.{numbers_in, pair_from, pair_result, answer_of_map}
 use Rattle.segment_manager.specs.State.{AnswersWith, SegmentState, DenotesCurrent}
 use Rattle.segment_manager.specs.containers.Walks.{first_of, pairs_at_kinds}
 use Rattle.segment_manager.proofs.Laws.{map-least, map-length, map-rises, map-told}
@@ -45,7 +45,7 @@ module _ (s : SegmentState) (key : Key) (k v : ScalarKind) where
 
   pub reads-told : {K V : Type 0} (kw : K → ℤ) (vw : V → ℤ) (say see : List NumberPair → Option (ℤ × ℤ))
       → ((ps : List NumberPair) → say ps ≡ see ps) → see [] ≡ None
-      → (r : Result (Option (K × V)) Refusal) → AnswersWith s (λ d. told_of_map d key k v say) (pair_result kw vw r)
+      → (r : Result (Option (K × V)) Refusal) → AnswersWith s (λ d. answer_of_map d key k v say) (pair_result kw vw r)
       → AnswersWith s (λ d. see (pairs_at_kinds d key k v)) (numbers_in kw vw (pair_or_none r))
   reads-told kw vw say see same empty r a = record {
     answers = λ d h. told-if kw vw say see same empty (pairs_at_kinds d key k v) r
@@ -54,8 +54,8 @@ module _ (s : SegmentState) (key : Key) (k v : ScalarKind) where
 
   -- from the least key on the first pair comes
   pub reads-least : (r : Result (Option (ℤ × ℤ)) Refusal)
-      → AnswersWith s (λ d. told_of_map d key k v (pair_from (lowest k))) r
-      → AnswersWith s (λ d. told_of_map d key k v (λ ps. option_map item_of (first_of ps))) r
+      → AnswersWith s (λ d. answer_of_map d key k v (pair_from (lowest k))) r
+      → AnswersWith s (λ d. answer_of_map d key k v (λ ps. option_map item_of (first_of ps))) r
   reads-least r a = record { answers = λ d h. a.answers d h ∙ map-least d key k v s.cut.bytes h.denotes }
 
   -- the first that the lower bound admits is the first between the bounds, if the upper one admits it

@@ -12,7 +12,7 @@ use common.{container_place, Reply, SegmentState, effect, map_of, Answer, Extent
 use common.{nodes_of_pairs, value_of_pair, AnswersSafely, value_or_absent, current, Refusal, NoSpace, code_of, size_of}
 use common.{Command, Literal, pair_at, Element, Refused, Denotes, kind_of, SameSurroundings, remove_pair, container_at}
 use common.{AnswersQueryOfKind, TakesStepOfKind, is_read_only, step_of_kind, truth_answer, ScalarKind, same_kind}
-use common.{literal_of, transitive, OverwritesPair, NumberPair, FindsValue, numbers_of, told_of_map}
+use common.{literal_of, transitive, OverwritesPair, NumberPair, FindsValue, numbers_of, answer_of_map}
 use Rattle.segment_manager.proofs.containers.MapSteps.{IsMapObject, again-denotes, erased-denotes, map-only, object-map}
 use Rattle.segment_manager.proofs.{containers.MapSteps.put-denotes, Calling.denotes-live, objects.ObjectLists.key-found}
 use Rattle.segment_manager.proofs.{objects.Here.standing, objects.Stored.literal-read}
@@ -166,7 +166,7 @@ module _ (s : SegmentState) (key : Key) (k v : ScalarKind) (p : Place) (b : IsSe
 
   -- what is said of the pairs is said of those of the object
   pub map-told : {A : Type 0} (say : List NumberPair → A) (r : A) → ((ps : List NumberPair) → IsPairs k v s.cut.bytes p
-      ps → r ≡ say ps) → AnswersWith s (λ d. told_of_map d key k v say) (Ok r)
+      ps → r ≡ say ps) → AnswersWith s (λ d. answer_of_map d key k v say) (Ok r)
   map-told {A} say r each = record {
     answers = λ d l.
         let h : Holds d = map_in d l in

@@ -19,7 +19,7 @@ use Rattle.segment_manager.proofs.{objects.Exchanged.denotes-rewritten, Frame.ob
 use Rattle.segment_manager.proofs.{objects.Rewritten.value_start, containers.Safely.Performed}
 use Rattle.segment_manager.proofs.{containers.Safely.performed}
 use Rattle.std.proofs.{lemmas.Bool.leb-false, lemmas.Bool.and_parts, lemmas.List.Folds.list_all-append}
-use Rattle.segment_manager.specs.objects.Located.{container_in, located, value_in}
+use Rattle.segment_manager.specs.objects.Located.{container_in, located, value_offset}
 use Rattle.std.specs.Prelude.{IfOk, OnOk}
 use Rattle.raw_region.proofs.Bytes.{HasBytesAt-patched}
 use Rattle.seg_vector.proofs.Typed.{all-both, flat-replaced}
@@ -268,7 +268,7 @@ module _ (s : SegmentState) (o : Located) (l : IsLocated s (ByHandle o.handle) o
 
     -- where they stand
     abbrev pub row_spot : ℕ
-    row_spot = o.handle + (value_in o + size_of k * first)
+    row_spot = o.handle + (value_offset o + size_of k * first)
 
     module _ (t : SegmentState) (view : s ≡ t) (b : IsSegment s.cut.bytes) (new : WindowState)
         (writing : is_read_only t.mode ≡ false)
@@ -279,7 +279,7 @@ module _ (s : SegmentState) (o : Located) (l : IsLocated s (ByHandle o.handle) o
       inside h = let l = leb-true (first + length zs) o.count fits in omega (arith, l, many h)
 
       same-spot : {d : Directory} (h : HasNumbers d o k) → row_spot ≡ value_start h.object + size_of k * first
-      same-spot h = ap (λ (q : Located). q.handle + (value_in q + size_of k * first)) h.said
+      same-spot h = ap (λ (q : Located). q.handle + (value_offset q + size_of k * first)) h.said
           ∙ (let e : handle h.object.extent + (head_len + padded (length h.object.name) + size_of k * first)
           ≡ value_start h.object + size_of k * first = omega arith in e)
 
@@ -310,12 +310,12 @@ module _ (s t : SegmentState) (o : Located) (l : IsLocated s (ByHandle o.handle)
   but-if d st each (Err why) e = tt
 
   pub array-but : SameBytesExcept (bytes_of s.cut.bytes) (bytes_of t.cut.bytes)
-      (o.handle + (value_in o + size_of k * first)) (size_of k * n) → ChangesRange s t (ByHandle o.handle) k first n
+      (o.handle + (value_offset o + size_of k * first)) (size_of k * n) → ChangesRange s t (ByHandle o.handle) k first n
   array-but but d st = but-if d st (λ p x.
       let q = said-at s (ByHandle o.handle) o l d st in
       let same : o ≡ located x.object = q.said ∙ ap located (same_Some q.object x.object (sym q.is ∙ x.is)) in
       subst (λ at. SameBytesExcept (bytes_of s.cut.bytes) (bytes_of t.cut.bytes) at (size_of k * n))
-      (ap (λ (q : Located). q.handle + (value_in q + size_of k * first)) same
+      (ap (λ (q : Located). q.handle + (value_offset q + size_of k * first)) same
       ∙ (λ j. sym x.stands.at j + sym x.at j)) but) (place_at d (ByHandle o.handle) k first) refl
 
   -- what is no array has no such element
@@ -390,13 +390,13 @@ array-empty s o l k first zs is writing fits none =
 -- its block has the room
 pub array-room : (s : SegmentState) (b : IsSegment s.cut.bytes) (o : Located) → IsLocated s (ByHandle o.handle) o
     → (k : ScalarKind) (first : ℕ) (zs : List ℤ) → o.kind ≡ Scalar k → nat_le (first + length zs) o.count ≡ true
-    → {at size n : ℕ} → at ≡ value_in o → size ≡ size_of k → n ≡ size_of k * length zs
+    → {at size n : ℕ} → at ≡ value_offset o → size ≡ size_of k → n ≡ size_of k * length zs
     → IsTrue (has_room (live_of s.cut.bytes) o.handle (at + size * first + n))
 array-room s b o loc k first zs is fits {at} {size} {n} e f g =
     let h = numbers-of s o loc k first zs is b.0 b.1 in
     let stands = standing s.cut.bytes b.0 (ByHandle o.handle) h.object b.1.denotes h.is in
     let own : o.handle ≡ handle h.object.extent = ap (λ (q : Located). q.handle) h.said in
-    let at_is : at ≡ head_len + padded (length h.object.name) = e ∙ ap value_in h.said in
+    let at_is : at ≡ head_len + padded (length h.object.name) = e ∙ ap value_offset h.said in
     let long : value_len h.object.value ≡ size_of k * length h.numbers = ap value_len h.value in
     let few = leb-true (first + length zs) o.count fits in let all = many s o loc k first zs is h in
     let inside = mul-le-mul_left (size_of k) (let j : first + length zs ≤ length h.numbers = omega arith in j) in
@@ -411,19 +411,19 @@ module _ {T : Type 0} {k : ScalarKind} {w : T → ℤ} {size : ℕ} {test : T �
     (law : IsOfKind k w size test sp) (s t : SegmentState) (view : s ≡ t) (b : IsSegment s.cut.bytes) (o : Located)
     (l : IsLocated t (ByHandle o.handle) o) (first : ℕ) (values : List T) (is : o.kind ≡ Scalar k)
     (writing : is_read_only t.mode ≡ false) (fits : nat_le (first + length (map w values)) o.count ≡ true)
-    {at each : ℕ} (at_is : at ≡ value_in o) (each_is : each ≡ size) (good : IsTrue (list_all test values))
+    {at each : ℕ} (at_is : at ≡ value_offset o) (each_is : each ≡ size) (good : IsTrue (list_all test values))
     (new : WindowState) (c : ChangesBytes current s.cut new (o.handle + (at + each * first))
     (size * length values)) where
   abbrev wholes : List ℤ
   wholes = map w values
 
-  spot-is : o.handle + (at + each * first) ≡ o.handle + (value_in o + size_of k * first)
+  spot-is : o.handle + (at + each * first) ≡ o.handle + (value_offset o + size_of k * first)
   spot-is = λ i. o.handle + (at_is i + (each_is ∙ law.long) i * first)
 
   long-is : size * length values ≡ size_of k * length wholes
   long-is = λ i. law.long i * sym (length-map values w) i
 
-  change : ChangesBytes current s.cut new (o.handle + (value_in o + size_of k * first)) (size_of k * length wholes)
+  change : ChangesBytes current s.cut new (o.handle + (value_offset o + size_of k * first)) (size_of k * length wholes)
   change = subst (λ m. ChangesBytes current s.cut new m (size_of k * length wholes)) spot-is
       (subst (λ n. ChangesBytes current s.cut new (o.handle + (at + each * first)) n) long-is c)
 
@@ -440,9 +440,9 @@ module _ {T : Type 0} {k : ScalarKind} {w : T → ℤ} {size : ℕ} {test : T �
   pub array-framed : ChangesRange t (record s { cut = new }) (ByHandle o.handle) k first (length values)
   array-framed = array-but t (record s { cut = new }) o l k first (length values)
       (subst (λ (u : SegmentState). SameBytesExcept (bytes_of u.cut.bytes) (bytes_of new.bytes)
-      (o.handle + (value_in o + size_of k * first)) (size_of k * length values)) view
+      (o.handle + (value_offset o + size_of k * first)) (size_of k * length values)) view
       (subst (λ n. SameBytesExcept (bytes_of s.cut.bytes) (bytes_of new.bytes)
-      (o.handle + (value_in o + size_of k * first)) (size_of k * n)) (length-map values w) change.rest))
+      (o.handle + (value_offset o + size_of k * first)) (size_of k * n)) (length-map values w) change.rest))
 
 -- a vector of another kind
 pub vector-other : (s : SegmentState) (o : Located) → IsLocated s (ByHandle o.handle) o → (k : ScalarKind) (first : ℕ)
@@ -453,7 +453,7 @@ vector-other s o l k first zs {m} same j is writing {why} e =
     other-if (same_kind (Vector m) o.kind) refl e
   where
     other-if : (b : Bool) → same_kind (Vector m) o.kind ≡ b → Err why
-        ≡ (if b then Ok (let p : Place = record { handle = o.handle; at = value_in o } in p) else Err WrongKind)
+        ≡ (if b then Ok (let p : Place = record { handle = o.handle; at = value_offset o } in p) else Err WrongKind)
         → WritesRange s s (ByHandle o.handle) k first zs (Refused why)
     other-if true f g = absurd (cc)
     other-if false f g =

@@ -15,7 +15,7 @@ use Rattle.segment_manager.proofs.containers.AnyStorage.{kind-told, of_kind-same
 use Rattle.segment_manager.proofs.{Calling.denotes-live, objects.Constructed.restored-denotes}
 use Rattle.segment_manager.proofs.{containers.Safely.seen-refused, containers.TextBlocks.IsPartOther}
 use Rattle.std.proofs.lemmas.Result.{IfErr-weaker}
-use Rattle.seg_vector.specs.TextsCalls.{RemovesTextOk}
+use Rattle.seg_vector.specs.TextsCalls.{ErasesTextOk}
 use Rattle.best_fit.specs.Exchange.{KeepsLiveSet}
 
 -- ---- one directory
@@ -54,7 +54,7 @@ all-other {ps = ps} {qs = qs} small e now = moved (part-all ps qs) small refl e 
 
 -- one of them is left out
 pub left-out : {old new : WindowState} {p : Place} {i : ℕ} {ps : List OwnedText} {t : BackingArray}
-    → (r : RemovesTextOk old new p ps t i) → IsTextsMove old new p ps t (remove ps i) t
+    → (r : ErasesTextOk old new p ps t i) → IsTextsMove old new p ps t (remove ps i) t
 left-out {i = i} {ps = ps} {t = t} r = moved (part-removed ps i r.before r.found) tt
     (one-block (option_to_list t.extent) r.before.extent) (sym (append-nil (option_to_list t.extent))) r.now
 

@@ -5,7 +5,7 @@ use Rattle.segment_manager.specs.Step as step
 use common.{◌≡◌, refl, sym, ap, ◌∙◌, ℕ, ◌-◌, ◌*◌, Bool, true, false, Option, Some, None, Result, Ok, Err, List, [], ◌∷◌}
 use common.{length, ◌==◌, if◌then◌else◌, insert, remove, slice_get, slice_set, nat_lt, option_map, Storage, LiveSet}
 use common.{place, resized, BackingArray, shrunk_backing, no_backing, Refusal, NoSpace, OutOfRange, Key, Literal, Place}
-use common.{all_texts, new_array, one_more, placed_text, placed_texts, with_array, with_text, OwnedText}
+use common.{requested_texts, new_array, requested_text, placed_text, placed_texts, with_array, with_text, OwnedText}
 use common.{capacity_for_one, grown_backing, Answer, Done, Refused, TextElement, Texts, Object, Directory, Value}
 use common.{found_at, live, New, Plan, Refuse, Reply, Request, perform, with, with_capacity, with_owned_text}
 use common.{with_owned_texts, with_storage, changed, effect, storage_of, texts_of, with_items}
@@ -97,7 +97,7 @@ module _ (d : Directory) (l : LiveSet) (ps : List OwnedText) (t : BackingArray) 
   none-if None h = refl
   none-if (Some u) h = text-placed d (with_array l t u) bs (next u) ∙ ap (then_text d (with_array l t u) (next u)) h
 
-  pub one-more-unmet : one_more l ps t bs ≡ None → perform d l (one_more_plan ps t bs next) ≡ (Refused NoSpace, d)
+  pub one-more-unmet : requested_text l ps t bs ≡ None → perform d l (one_more_plan ps t bs next) ≡ (Refused NoSpace, d)
   one-more-unmet h = room-grown d l 16 t (capacity_for_one (length ps) t.capacity) (λ u. with_owned_text bs (next u))
       ∙ none-if (grown_backing l 16 (capacity_for_one (length ps) t.capacity) t) h
 
@@ -121,7 +121,7 @@ module _ (d : Directory) (l : LiveSet) (bss : List (List ℕ)) (next : BackingAr
   all-none-if (Some u) h =
       texts-placed d (beside_array l u) bss (next u) ∙ ap (then_texts d (beside_array l u) (next u)) h
 
-  pub all-unmet : all_texts l bss ≡ None → perform d l (all_plan bss next) ≡ (Refused NoSpace, d)
+  pub all-unmet : requested_texts l bss ≡ None → perform d l (all_plan bss next) ≡ (Refused NoSpace, d)
   all-unmet h =
       array-placed d l (length bss) (λ u. with_owned_texts bss (next u)) ∙ all-none-if (new_array l (length bss)) h
 

@@ -5,7 +5,8 @@ use common.{◌≡◌, SameBytes-part, IndexRole, is_proper, SameBlock, entries_
 use common.{objects_of, refl, Option, IsTrue, Memory, Extent, LiveSet, handle, EncodesLiveSet, live_of, Denotes}
 use common.{resized, link_at, handles, sym, ◌∙◌, ◌+◌, ◌≤◌, Some, None, List, WindowState, live, ◌*◌, Bool, true, ◌&&◌}
 use common.{◌==◌, [], ◌||◌, place, ◌∷◌, ap, subst, arith, added, KeepsBlocks, BackingArray, Index, Object, false}
-use common.{length, nat_le, nat_lt, eq-eqb, serves, ℕ, flat_map, bytes_of, no_backing, unlinked, IsIndexOf, Directory}
+use common.{length, nat_le, nat_lt, eq-eqb, serves, ℕ, flat_map, bytes_of, no_backing, without_index_block, IsIndexOf}
+use common.{Directory}
 use common.{is_object, shrunk_backing, KeepsOutsideIndex, IsIndexAt, AllByRecursion, class_of_index, with_table_of}
 use common.{if◌then◌else◌, placed_is_proper, lay_out_one, without_object, current, place_of, table_of, list_all}
 use common.{eqb-true, released, has_backing, ShrinksIndex, IsHeader, is_index, order_of, SameBytes-trans, blocks-trans}
@@ -93,7 +94,7 @@ reserved-tabled {i} {a} {c} {d} {n} k r =
     (with_table_of i d (places_in n r.extent)) = (λ j. without_link (added (now j) r.extent) (x.stands.link j))
     ∙ live-moved_index i d (places_in n r.extent) r.extent [] refl (placed_is_proper (live d) (8 * n) IndexRole
     r.extent k.directory.proper (sym (ap (λ l. place l (8 * n) IndexRole) now) ∙ r.placed)) in
-    let left : (unlinked a (place_of i)).extents ≡ (live (with_table_of i d no_backing)).extents =
+    let left : (without_index_block a (place_of i)).extents ≡ (live (with_table_of i d no_backing)).extents =
     (λ j. (without_link (now j) (x.stands.link j)).extents) ∙ left-link (live d) (table_of i d).extent
     ∙ index-left_out i d [] (live-rises (live d) k.directory.proper) in
     record {

@@ -5,7 +5,8 @@ use common.{◌≡◌, refl, sym, ap, subst, ◌∙◌, ℕ, ◌+◌, ◌≤◌,
 use common.{AllByRecursion, WindowState, SameBytes, SameSurroundings, bytes_of, current, SameBytes-part}
 use common.{SameBytes-trans, IndexRole, Extent, LiveSet, handle, is_proper, added, others, AllocatesOk, KeepsBlocks}
 use common.{EncodesLiveSet, SameBlock, extent_at, live_of, BackingArray, no_backing, allocated-live, blocks-trans}
-use common.{Index, AddKeeps, AddsEntry, beside_table, unlinked, without_link, IsIndexOf, place_of, grown_capacity}
+use common.{Index, AddKeeps, AddsEntry, beside_table, without_index_block, without_link, IsIndexOf, place_of}
+use common.{grown_capacity}
 use common.{Object, Directory, extents_of, is_object, live, object_at, with_object, Denotes, IsObjectAt, class_of_index}
 use common.{entries_of, table_of, with_table_of}
 use Rattle.segment_manager.proofs.objects.Taking.{IsMade, allocated-found, taken-found, taken-live}
@@ -111,19 +112,21 @@ pub entered-some : {i : Index} {a m b : WindowState} {c : WindowState} {d : Dire
     → Denotes current a.bytes d → (g : AllocatesOk current a m n IndexRole h) → IsMade m b o → IsIndexOf b (place_of i)
     (table_of i d) (entries_of i d) → insert (entries_of i d) at (handle o.extent) ≡ entries_of i (with_object d o)
     → AddsEntry b c (place_of i) (table_of i d) (insert (entries_of i d) at (handle o.extent)) (Some h)
-    → EncodesLiveSet current c.bytes (unlinked b (place_of i)) → AddKeeps b c (place_of i) (table_of i d) (Some h)
+    → EncodesLiveSet current c.bytes (without_index_block b (place_of i))
+    → AddKeeps b c (place_of i) (table_of i d) (Some h)
     → IsEntered i b c d (grown_into i d g.extent) o
 entered-some {i} {a} {m} {b} {c} {d} {o} at {n} {h} k g made x e adds laid keeps =
     let ys = extents_of o in let t = grown_into i d g.extent in
     let mid =
     allocated-live current a m n IndexRole h g ∙ ap (λ l. added l g.extent) (denotes-live current a.bytes d k) in
-    let left : unlinked b (place_of i) ≡ adding (live (with_table_of i d t)) ys =
+    let left : without_index_block b (place_of i) ≡ adding (live (with_table_of i d t)) ys =
     (λ j. without_link ((taken-live m b (extents_of o) made.taken ∙ ap (λ l. adding l ys) mid) j) (x.stands.link j))
     ∙ live-moved_index i d t g.extent ys refl
     (subst (λ l. IsTrue (is_proper (adding l ys))) mid made.taken.live.proper) in
     let laid' : EncodesLiveSet current c.bytes (adding (live (with_table_of i d t)) ys) =
     subst (EncodesLiveSet current c.bytes) left laid in
-    let all : others h (unlinked b (place_of i)).extents ≡ inserted ys (live (with_table_of i d no_backing)).extents =
+    let all : others h (without_index_block b (place_of i)).extents
+    ≡ inserted ys (live (with_table_of i d no_backing)).extents =
     (λ j. others (g.at j) (left j).extents)
     ∙ (ap (λ (u : BackingArray). left_out u.extent (inserted ys (live (with_table_of i d t)).extents))
     (sym (table-of i d))

@@ -8,7 +8,8 @@ use common.{subst, Directory, object_at, IsSegment, replicate, SameSurroundings,
 use common.{RestoresBlocks, ℕ, Option, Result, Exists, Object, TakesStep, effect, length, IsTrue, nat_lt, lt-ltb}
 use common.{le-ltb, perform, false, PendingEntry, list_all, take_all, Anonymous, ReadOnly, is_value, head_len, room_for}
 use common.{DenotesCurrent, Refusal, NoSpace, Command, Refused, current, resized, size_of, BeginsObjectOk}
-use common.{IsUnindexedObject, Denotes, Numbers, IsNotBegun, length-map, ObjectRole, ScalarKind, OutOfRange, RefusesKey}
+use common.{WritesUnindexedObject, Denotes, Numbers, BeginsObjectErr, length-map, ObjectRole, ScalarKind, OutOfRange}
+use common.{RefusesKey}
 use common.{LeadsThere, object_len, with_object, is_read_only, with_new_object, if◌then◌else◌, mul-le-mul_left}
 use common.{length-replicate, AllocatesOk, is_good_value, inl, inr, option_map, Mode, AnswersWith, IsObjectInBlock}
 use common.{handle_at, pair_of_kind, with_count, Index, Kind, IsAbsentAt, IsNewKeyOf, Write}
@@ -194,7 +195,7 @@ module _ (S : Type 0) {A : Type 0} (gives : S → Option A → S → Type 0) (wh
 
   loose : (entry : Option PendingEntry) (filled : Result (Unit {0}) Refusal) (m w : WindowState) (h at : ℕ)
       → BeginsObjectOk s.cut m key (Scalar k) count (size_of k * count) h at entry
-      → Fills gives whole m w k (h + at) count before after filled → IsUnindexedObject s.cut w h entry
+      → Fills gives whole m w k (h + at) count before after filled → WritesUnindexedObject s.cut w h entry
   loose None filled m w h at g f = record {
     len = room_for [] (size_of k * count);
     taken = g.taken;
@@ -252,15 +253,16 @@ module _ (S : Type 0) {A : Type 0} (gives : S → Option A → S → Type 0) (wh
       TakesStep s (record s { cut = u }) (asked.ConstructIt key k count [])
       (Refused Exists)) (sym t.same) (items-exists s key k count [] writing (key-taken key (asked.Numbers k []) t))
 
-  none-step : (c : WindowState) → is_read_only s.mode ≡ false → 1 ≤ count → IsNotBegun s.cut c key (Scalar k)
+  none-step : (c : WindowState) → is_read_only s.mode ≡ false → 1 ≤ count → BeginsObjectErr s.cut c key (Scalar k)
       (size_of k * count) NoSpace → TakesStep s (record s { cut = c }) (asked.ConstructIt key k count [])
       (Refused NoSpace)
   none-step c writing low t =
       let never = value-not_begun key (asked.Numbers k (asked_for count []))
-      (subst (λ n. IsNotBegun s.cut c key (Scalar k) (size_of k * n) NoSpace) (sym (asked-long low)) t) in
+      (subst (λ n. BeginsObjectErr s.cut c key (Scalar k) (size_of k * n) NoSpace) (sym (asked-long low)) t) in
       items-none s key k count [] writing never.place never.each
 
-  pub takes-none : (why : Refusal) (c : WindowState) → is_read_only s.mode ≡ false → 1 ≤ count → IsNotBegun s.cut c key
+  pub takes-none : (why : Refusal) (c : WindowState) → is_read_only s.mode ≡ false → 1 ≤ count
+      → BeginsObjectErr s.cut c key
       (Scalar k) (size_of k * count) why
       → ConstructsFromItems gives whole s (record s { cut = c }) key k count at at (Err why)
   takes-none Exists c writing low t = record {
@@ -294,17 +296,17 @@ module _ (S : Type 0) {A : Type 0} (gives : S → Option A → S → Type 0) (wh
   writes : is_read_only s.mode ≡ false
   writes = subst (λ (u : SegmentState). is_read_only u.mode ≡ false) (sym view) writing
 
-  none-taken : {why : Refusal} (c : WindowState) → IsNotBegun s.cut c key shape.kind shape.len why
+  none-taken : {why : Refusal} (c : WindowState) → BeginsObjectErr s.cut c key shape.kind shape.len why
       → ConstructsFromItems gives whole s (record s { cut = c }) key k count before before (Err why)
   none-taken {why} c not = takes-none S gives whole key k count before why c writes low
-      (subst (λ (j : ObjectShape). IsNotBegun s.cut c key j.kind j.len why) same not)
+      (subst (λ (j : ObjectShape). BeginsObjectErr s.cut c key j.kind j.len why) same not)
 
-  pub refused-segment : (why : Refusal) (c : WindowState) → IsNotBegun s.cut c key shape.kind shape.len why
+  pub refused-segment : (why : Refusal) (c : WindowState) → BeginsObjectErr s.cut c key shape.kind shape.len why
       → IsSegment c.bytes
   refused-segment why c not = step-segment s (record s { cut = c }) _ _ (none-taken c not).step b
 
   pub refused-items : {why : Refusal} (c : WindowState) {r : Result ℕ Refusal} → r ≡ Err why
-      → IsNotBegun s.cut c key shape.kind
+      → BeginsObjectErr s.cut c key shape.kind
       shape.len why → ConstructsFromItems gives whole t (record s { cut = c }) key k count before before r
   refused-items {why} c is not =
       subst (λ (q : Result ℕ Refusal). ConstructsFromItems gives whole t (record s { cut = c }) key k
@@ -363,11 +365,12 @@ module _ (S : Type 0) {A : Type 0} (gives : S → Option A → S → Type 0) (wh
   -- it is not begun, with a shape of so many numbers
   pub none-items : {c : WindowState} {shape : ObjectShape} {j : ScalarKind} {why : Refusal}
       → shape ≡ numbers_shape j count → j ≡ k → 1 ≤ count
-      → IsNotBegun a c key shape.kind shape.len why → TakesItemsIn gives whole a c key k count before before (Err why)
+      → BeginsObjectErr a c key shape.kind shape.len why
+      → TakesItemsIn gives whole a c key k count before before (Err why)
   none-items {c} {why = why} same is low not mode writing =
       takes-none S gives whole key k count before why c writing low
-      (subst (λ (l : ScalarKind). IsNotBegun a c key (Scalar l) (size_of l * count) why) is
-      (subst (λ (q : ObjectShape). IsNotBegun a c key q.kind q.len why) same not))
+      (subst (λ (l : ScalarKind). BeginsObjectErr a c key (Scalar l) (size_of l * count) why) is
+      (subst (λ (q : ObjectShape). BeginsObjectErr a c key q.kind q.len why) same not))
 
 -- the key of an entry suits it
 pub shaped-key : (i : Index) (e : Entry) (key : names.Key) (name : List ℕ) {shape : ObjectShape} {j k : ScalarKind}

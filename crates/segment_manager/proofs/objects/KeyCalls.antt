@@ -6,7 +6,7 @@ use common.{Refusal, refl, none-some, same_Some, extent_at, same_role, IsIndexOf
 use common.{IsSegment, sym, ◌∙◌, ℕ, ◌+◌, ◌<◌, [], ◌∷◌, WindowState, Key, live, Kind, Plan, Mode, step, Err, Ok, ap}
 use common.{Bool, true, ◌&&◌, ◌||◌, ◌==◌, Some, None, List, cond, find, Role, SegmentState, subst, Named, Reply, found}
 use common.{false, arith, BackingArray, Index, Entry, Found, Seeks, Answer, Number, Refuse, Result, effect, SaysAt}
-use common.{SaysOf, is_some, option_map, slice_get, ObjectRole, is_live_in, entries_of, objects_of, pair_answer}
+use common.{SaysOf, is_some, option_map, slice_get, ObjectRole, is_live_in, entries_of, objects_of, found_object_answer}
 use common.{IsInstance, list_any, eqb-true, bytes_of, ByHandle, HasIndex, place_of, DenotesCurrent, WrongKind}
 use common.{same_kind, HasObject, slice_get_within, entry_count, is_object_at, if◌then◌else◌, named_objects}
 use common.{unique_objects, pair_of_kind, current, live_of, FindsPosition, has_key, Denotes, table_of, AnswersWith}
@@ -190,24 +190,24 @@ find-absent {s} key kind a = record {
 -- A command that asks of which kind an object is: it is found, or of another kind.
 kind-if : (mode : Mode) (d : Directory) (c : Command) (o : Object) (b : Bool) → IsOpenFor mode c
     → effect d c ≡ (if b then Reply (found o) d else Refuse WrongKind)
-    → step mode d c ≡ (pair_answer (if b then Ok (handle o.extent, count_of o.value) else Err WrongKind), d)
+    → step mode d c ≡ (found_object_answer (if b then Ok (handle o.extent, count_of o.value) else Err WrongKind), d)
 kind-if mode d c o true may e = step-reply mode d c (found o) d may e
 kind-if mode d c o false may e = step-refuse mode d c WrongKind may e
 
 pub kind-step : (mode : Mode) (d : Directory) (c : Command) (o : Object) (kind : Kind) → IsOpenFor mode c
     → effect d c ≡ (if same_kind kind (kind_of o.value) then Reply (found o) d else Refuse WrongKind)
-    → step mode d c ≡ (pair_answer (pair_of_kind o kind), d)
+    → step mode d c ≡ (found_object_answer (pair_of_kind o kind), d)
 kind-step mode d c o kind may e = kind-if mode d c o (same_kind kind (kind_of o.value)) may e
 
 -- an object has it, of the kind or of another
 pub find-there : {s t : SegmentState} (view : s ≡ t) (key : Key) (kind : Kind) {h : ℕ} {r : Result (ℕ × ℕ) Refusal}
     → AnswersWith t (λ d. handle_at d key) (Some h)
     → ((o : Object) → IsObjectInBlock s.cut.bytes h o → r ≡ pair_of_kind o kind)
-    → AnswersQuery t (asked.Find key kind) (pair_answer r)
+    → AnswersQuery t (asked.Find key kind) (found_object_answer r)
 find-there {t} view key kind {h} a each = record {
   answers = λ d k.
       let o = here t.cut.bytes d key h k.denotes (a.answers d k) in
-      ap pair_answer (each o.object (subst (λ (u : SegmentState).
+      ap found_object_answer (each o.object (subst (λ (u : SegmentState).
       IsObjectInBlock u.cut.bytes h o.object) (sym view) o.stands))
       ∙ sym (ap (λ (q : Answer × Directory). q.0) (kind-step t.mode d (asked.Find key kind) o.object kind
       (open-reading t.mode (asked.Find key kind) refl) (ap (finds d kind) o.is)));

@@ -1,10 +1,11 @@
 -- The blocks of an object that no entry leads to yet: what an index wants to lead there, and how they are given back.
 use Rattle.segment_manager.proofs.Common.{sym, subst, ◌+◌, Some, None, List, arith, IsTrue, WindowState, IsHeap, Kind}
 use Rattle.segment_manager.proofs.Common.{Class, Key, Role, ℕ, Option, IfSome, current, LiveSet, live_of}
-use Rattle.segment_manager.proofs.Common.{BeginsObjectOk, WritesObjectHeader, IsUnindexedObject, room_for, IsGrowth, []}
+use Rattle.segment_manager.proofs.Common.{BeginsObjectOk, WritesObjectHeader, WritesUnindexedObject, room_for}
+use Rattle.segment_manager.proofs.Common.{PreparesOk, []}
 use Rattle.segment_manager.proofs.Common.{ObjectRole, Deallocates, has_room, is_live_in, FreesGrowth, place_of}
 use Rattle.segment_manager.proofs.Common.{PendingEntry, RestoresBlocks, AllocatesOk, allocated-is_live, allocated-room}
-use Rattle.segment_manager.proofs.Common.{changed-room, lay_out_one, IsLooseAlone, IsLooseEntry}
+use Rattle.segment_manager.proofs.Common.{changed-room, lay_out_one, WritesUnindexedAlone, WritesUnindexedForEntry}
 use Rattle.segment_manager.proofs.objects.Taking.{growth-held, restored-taken, written-taken}
 use Rattle.segment_manager.proofs.objects.Pieces.{changed-heap}
 use Rattle.best_fit.proofs.Laws.{taken-back}
@@ -40,30 +41,30 @@ back-again {a} {b} {c} {n} {role} {h} took gone =
 
 -- what an index took to grow into goes back, after what was taken behind it
 growth-back : {a : WindowState} {b c : WindowState} {e : WindowState} (at : ℕ) (g : Option ℕ)
-    → IsGrowth a b at g → RestoresBlocks b c → FreesGrowth c e g → RestoresBlocks a e
+    → PreparesOk a b at g → RestoresBlocks b c → FreesGrowth c e g → RestoresBlocks a e
 growth-back {a} {c} at None grows r back =
     subst (RestoresBlocks a) (sym back) (subst (λ (s : WindowState). RestoresBlocks s c) grows.1 r)
 growth-back at (Some h) grows r back = back-again (restored-taken grows.1 r) back
 
 -- the object's block is in use, with an entry to come or without
-alone-taken : {old now : WindowState} {h : ℕ} → (l : IsLooseAlone old now h)
+alone-taken : {old now : WindowState} {h : ℕ} → (l : WritesUnindexedAlone old now h)
     → AllocatesOk current old now l.len ObjectRole h
 alone-taken l = written-taken l.takes l.change
 
-entry-taken : {old now : WindowState} {h : ℕ} {e : PendingEntry} → (l : IsLooseEntry old now h e)
+entry-taken : {old now : WindowState} {h : ℕ} {e : PendingEntry} → (l : WritesUnindexedForEntry old now h e)
     → AllocatesOk current l.requested.between now l.len ObjectRole h
 entry-taken l = written-taken l.requested.takes l.change
 
-pub loose-live : (entry : Option PendingEntry) (old now : WindowState) (h : ℕ) → IsUnindexedObject old now h entry
+pub loose-live : (entry : Option PendingEntry) (old now : WindowState) (h : ℕ) → WritesUnindexedObject old now h entry
     → IsTrue (is_live_in (live_of now.bytes) h)
 loose-live None old now h l = allocated-is_live current old now l.len ObjectRole h (alone-taken l)
 loose-live (Some e) old now h l = allocated-is_live current l.requested.between now l.len ObjectRole h (entry-taken l)
 
-pub alone-back : {old now new : WindowState} {h : ℕ} → IsLooseAlone old now h → Deallocates current now new h
+pub alone-back : {old now new : WindowState} {h : ℕ} → WritesUnindexedAlone old now h → Deallocates current now new h
     → RestoresBlocks old new
 alone-back l gone = back-again (alone-taken l) gone
 
-module _ {old now new : WindowState} {h : ℕ} {e : PendingEntry} (l : IsLooseEntry old now h e)
+module _ {old now new : WindowState} {h : ℕ} {e : PendingEntry} (l : WritesUnindexedForEntry old now h e)
     (gone : Deallocates current now new h) where
   -- once it is given back, what the index took is in use still
   object-back : RestoresBlocks l.requested.between new
@@ -76,7 +77,8 @@ module _ {old now new : WindowState} {h : ℕ} {e : PendingEntry} (l : IsLooseEn
       (sym (lay_out_one current new.bytes (live_of mid.bytes) (object-back).laid))
       (growth-held old mid (place_of e.index) e.growth.block l.requested.grows)
 
-pub entry-back : {old now mid : WindowState} {new : WindowState} {h : ℕ} {e : PendingEntry} → IsLooseEntry old now h e
+pub entry-back : {old now mid : WindowState} {new : WindowState} {h : ℕ} {e : PendingEntry}
+    → WritesUnindexedForEntry old now h e
     → Deallocates current now mid h → FreesGrowth mid new e.growth.block → RestoresBlocks old new
 entry-back {old} {e} l gone back =
     growth-back (place_of e.index) e.growth.block l.requested.grows (object-back l gone) back

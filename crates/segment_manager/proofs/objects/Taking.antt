@@ -5,7 +5,7 @@ use common.{◌≡◌, sym, ap, subst, ◌∙◌, ℕ, ◌+◌, ◌-◌, ◌/◌
 use common.{SameBlock, allocated-live, bytes_of, keeps-trans, word_at, IfSome, IsTrue, WindowState, current, ObjectRole}
 use common.{IndexRole, AllocatesOk, ChangesBytes, IsHeap, AllocatesNoSpace, KeepsBlocks, EncodesLiveSet, is_live_in}
 use common.{live_of, BackingArray, added, allocated-is_live, allocated-room, keeps-refl, laid-heap, Index, CanGrow}
-use common.{FreesGrowth, IsGrowth, grown_bytes, IsIndexOf, place_of, RequestsBlocksOk, RestoresBlocks}
+use common.{FreesGrowth, PreparesOk, grown_bytes, IsIndexOf, place_of, RequestsBlocksOk, RestoresBlocks}
 use common.{RequestsBlocksErr, ◌≤◌, Bool, [], ◌∷◌, find, SameBytes-part, SameBytes-word, SameBytes-link, Extent, handle}
 use common.{extent_at, lay_out_one, grown_capacity, Object, extents_of, is_object, IsObjectAt, value_extents}
 use Rattle.segment_manager.proofs.Order.{all_of-insert, live-rises, rising-insert, inserted}
@@ -93,7 +93,7 @@ requested-taken a = record { live = a.live; keeps = a.keeps }
 -- ---- a request
 
 -- what an index has taken to grow into is in use
-pub growth-held : (a b : WindowState) (at : ℕ) (g : Option ℕ) → IsGrowth a b at g
+pub growth-held : (a b : WindowState) (at : ℕ) (g : Option ℕ) → PreparesOk a b at g
     → IfSome g (λ h. IsTrue (is_live_in (live_of b.bytes) h))
 growth-held a b at None h = tt
 growth-held a b at (Some g) h = allocated-is_live current a b _ IndexRole g h.1
@@ -103,7 +103,7 @@ unchanged {a} heap e =
     subst (RestoresBlocks a) (sym e) (record { laid = heap; keeps = keeps-refl a (live_of a.bytes).extents })
 
 -- what was taken before a refusal is given back
-pub request-unmet : (a b c d : WindowState) (at n : ℕ) (g : Option ℕ) → IsHeap current a.bytes → IsGrowth a b at g
+pub request-unmet : (a b c d : WindowState) (at n : ℕ) (g : Option ℕ) → IsHeap current a.bytes → PreparesOk a b at g
     → AllocatesNoSpace b c n ObjectRole → FreesGrowth c d g
     → IfSome g (λ h. (before : WindowState) (n : ℕ) → AllocatesOk current before c n IndexRole h
     → EncodesLiveSet current d.bytes (live_of before.bytes) × KeepsBlocks before d (live_of before.bytes).extents)
@@ -120,7 +120,7 @@ request-unmet a b c d at n (Some h) heap grows refused back restored =
 -- ---- an index while an object is made
 
 pub growth-index : (i : Index) {a : WindowState} {b : WindowState} (g : Option ℕ) {t : BackingArray} {hs : List ℕ}
-    → IsGrowth a b (place_of i) g → IsIndexOf a (place_of i) t hs → IsIndexOf b (place_of i) t hs
+    → PreparesOk a b (place_of i) g → IsIndexOf a (place_of i) t hs → IsIndexOf b (place_of i) t hs
 growth-index i None {t} {hs} g x = subst (λ (c : WindowState). IsIndexOf c (place_of i) t hs) (sym g.1) x
 growth-index i (Some h) g x = taken-index _ (requested-taken g.1) (place_behind i) (place_small i) x
 
@@ -136,7 +136,7 @@ pub meant : {a b : WindowState} {at m n : ℕ} {g : Option ℕ} {h : ℕ} → m 
 meant {a} {b} {at} {g} {h} e r = subst (λ (k : ℕ). RequestsBlocksOk a b at k g h) e r
 
 -- the objects stay where the index takes its block, and where the object's own are taken
-pub growth-stays : {a b : WindowState} (at : ℕ) (g : Option ℕ) → IsGrowth a b at g → (h : ℕ) → ObjectStays a b h
+pub growth-stays : {a b : WindowState} (at : ℕ) (g : Option ℕ) → PreparesOk a b at g → (h : ℕ) → ObjectStays a b h
 growth-stays {a} at None g h = subst (λ (c : WindowState). ObjectStays a c h) (sym g.1) (stays-itself {a = a} h)
 growth-stays at (Some k) g h = taken-stays g.1 h
 

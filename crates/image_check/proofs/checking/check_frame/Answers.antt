@@ -68,7 +68,7 @@ pub returns-clause-steps_lower : goal.returns-clause-steps_lower
 returns-clause-steps_lower c = c.in-Some.ensures.steps_lower
 
 pub returns-clause-bytes : goal.returns-clause-bytes
-returns-clause-bytes c = c.hold_bytes.ensures
+returns-clause-bytes c = c.bytes_are_octets.ensures
 
 pub returns-clause-visits : goal.returns-clause-visits
 returns-clause-visits c =

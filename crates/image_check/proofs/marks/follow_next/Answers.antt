@@ -70,7 +70,7 @@ mark-requires-in-Ok-clause-room g c =
     let r = its-root g.format b o.blocks.entries o.pending o.waiting c.requires.1.0 c.args.node c.requires.1.1
     c.block_of-block.result c.root_in-root.result c.block_of-block.ensures.value c.root_in-root.ensures in
     let first = c.mark.ensures.marks g.format (bytes_of b) (tiles_in b) (Some c.args.node) k
-    c.links-children.ensures.remainder
+    c.links-children.ensures.left
     (left-counts g.format (bytes_of b) (tiles_in b) o.blocks.entries o.pending o.waiting c.requires.1.0 c.args.node
     c.requires.1.1)
     (left-rooted g.format (bytes_of b) (tiles_in b) o.blocks.entries o.pending o.waiting c.requires.1.0 c.args.node
@@ -91,7 +91,7 @@ returns-in-Err-clause-turn g c =
     let r = its-root g.format b o.blocks.entries o.pending o.waiting c.requires.1.0 c.args.node c.requires.1.1
     c.block_of-block.result c.root_in-root.result c.block_of-block.ensures.value c.root_in-root.ensures in
     let first = c.mark.ensures.marks g.format (bytes_of b) (tiles_in b) (Some c.args.node) k
-    c.links-children.ensures.remainder
+    c.links-children.ensures.left
     (left-counts g.format (bytes_of b) (tiles_in b) o.blocks.entries o.pending o.waiting c.requires.1.0 c.args.node
     c.requires.1.1)
     (left-rooted g.format (bytes_of b) (tiles_in b) o.blocks.entries o.pending o.waiting c.requires.1.0 c.args.node
@@ -113,7 +113,7 @@ returns-in-Ok-clause-turn g c =
     let r = its-root g.format b o.blocks.entries o.pending o.waiting c.requires.1.0 c.args.node c.requires.1.1
     c.block_of-block.result c.root_in-root.result c.block_of-block.ensures.value c.root_in-root.ensures in
     let first = c.mark.ensures.marks g.format (bytes_of b) (tiles_in b) (Some c.args.node) k
-    c.links-children.ensures.remainder
+    c.links-children.ensures.left
     (left-counts g.format (bytes_of b) (tiles_in b) o.blocks.entries o.pending o.waiting c.requires.1.0 c.args.node
     c.requires.1.1)
     (left-rooted g.format (bytes_of b) (tiles_in b) o.blocks.entries o.pending o.waiting c.requires.1.0 c.args.node

@@ -18,7 +18,7 @@ returns-then-has_odd g c =
     (c.args.at - c.args.by) (8 * c.args.n)
     (omega (arith, c.requires.source)) (omega (arith, c.requires.source)) (omega (arith, c.requires.source))
     c.all_turns_down-seen.ensures.changes
-    c.hold_bytes.ensures.each_element c.put_right.ensures
+    c.bytes_are_octets.ensures.each_element c.put_right.ensures
 
 pub returns-else-has_odd : goal.returns-else-has_odd
 returns-else-has_odd g c =

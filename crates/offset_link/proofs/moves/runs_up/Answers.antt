@@ -20,7 +20,7 @@ returns-then-has_odd g c =
       arith,
       c.requires.in_bounds,
     )) c.all_turns_up-seen.ensures.changes
-    c.hold_bytes.ensures.each_element c.put_right.ensures
+    c.bytes_are_octets.ensures.each_element c.put_right.ensures
 
 pub returns-else-has_odd : goal.returns-else-has_odd
 returns-else-has_odd g c =

@@ -42,7 +42,7 @@ pub fn store(w: &mut Window, at: u64, target: u64)
 }
 
 /// Makes the link at `at` null.
-#[tactic(auto, using(crate::proofs::Links::links))]
+#[tactic(auto, using(crate::proofs::link::Targets::links))]
 pub fn store_null(w: &mut Window, at: u64)
     requires aligned { at % 8 ≡ 0 }
     requires in_bounds { at + 8 ≤ length w.old.bytes }

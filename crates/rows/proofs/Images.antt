@@ -19,6 +19,7 @@ use Rattle.segment_lang.specs.Language.{whole_language}
 use Rattle.segment_cli.specs.Run.{run}
 use Rattle.rows.proofs.OneGap.{denotes, one_node}
 
+-- the bytes of words
 abbrev pub words : List ℕ → List ℕ
 words = flat_map word_bytes
 
@@ -26,9 +27,11 @@ words = flat_map word_bytes
 abbrev pub magic_word : ℕ
 magic_word = 4993446653039301453
 
+-- an extent of an object's block
 abbrev pub extent : ℕ → ℕ → Role → Extent
 extent offset len role = record { offset = offset; len = len; role = role }
 
+-- the storage in a block
 abbrev pub table : ℕ → Extent → BackingArray
 table capacity x = record { capacity = capacity; extent = Some x }
 
@@ -40,6 +43,7 @@ directory os = record { size = 1024; objects = os; named = table 4 (extent 128 4
 
 -- ---- a fresh segment of 176 bytes
 
+-- the image of an empty segment
 abbrev pub fresh_image : List ℕ
 fresh_image =
     words (magic_word ∷ 2 ∷ 176 ∷ 120 ∷ 1 ∷ 0 ∷ 0 ∷ 1 ∷ []) ++ zeros 72 ++ words (32 ∷ 1 ∷ 1 ∷ 32 ∷ 1 ∷ [])
@@ -58,12 +62,14 @@ fresh_denotes = denotes fresh_image (empty 176) 144 (record {
 
 -- ---- the segment of 1024 bytes with the number 5 under the name a
 
+-- an image with one named object
 abbrev pub named_image : List ℕ
 named_image =
     words (magic_word ∷ 2 ∷ 1024 ∷ 216 ∷ 112 ∷ 1 ∷ 4 ∷ 1 ∷ []) ++ zeros 72
     ++ words (53 ∷ 48 ∷ 0 ∷ 0 ∷ 0 ∷ 48 ∷ 49 ∷ 4294967300 ∷ 4294967297 ∷ 97 ∷ 5 ∷ 48 ∷ 784 ∷ 1 ∷ 1 ∷ [])
     ++ zeros 752 ++ words (784 ∷ 1 ∷ [])
 
+-- the directory with one number
 abbrev pub with_number : Directory
 with_number = directory (named (97 ∷ []) (Numbers I64 (pos 5 ∷ [])) (extent 176 48 Object) ∷ [])
 
@@ -85,6 +91,7 @@ named_denotes = denotes named_image with_number 240 (record {
 
 -- ---- two names
 
+-- an image with two names
 abbrev pub two_names_image : List ℕ
 two_names_image =
     words (magic_word ∷ 2 ∷ 1024 ∷ 264 ∷ 112 ∷ 2 ∷ 4 ∷ 1 ∷ []) ++ zeros 72
@@ -94,6 +101,7 @@ two_names_image =
 
 -- ---- two vectors
 
+-- an image with two vectors
 abbrev pub vectors_image : List ℕ
 vectors_image =
     words (magic_word ∷ 2 ∷ 1024 ∷ 360 ∷ 112 ∷ 2 ∷ 4 ∷ 1 ∷ []) ++ zeros 72
@@ -144,6 +152,7 @@ vectors_denote = denotes vectors_image with_vectors 384 (record {
 
 -- ---- a map of one pair, and one of seven
 
+-- an image with a pair
 abbrev pub pair_image : List ℕ
 pair_image =
     words (magic_word ∷ 2 ∷ 1024 ∷ 280 ∷ 112 ∷ 1 ∷ 4 ∷ 1 ∷ []) ++ zeros 72
@@ -185,6 +194,7 @@ pair_denotes = denotes pair_image with_pair 304 (record {
   tt,
 )
 
+-- an image with a map
 abbrev pub map_image : List ℕ
 map_image =
     words (magic_word ∷ 2 ∷ 1024 ∷ 568 ∷ 112 ∷ 1 ∷ 4 ∷ 1 ∷ []) ++ zeros 72

@@ -63,7 +63,7 @@ impl SegTexts {
     /// # Errors
     ///
     /// `OutOfRange` if there are not so many.
-    #[tactic(auto, using(crate::proofs::Storage::sizes, crate::proofs::TextPuts::few_places))]
+    #[tactic(auto, using(crate::proofs::storage::Storage::sizes, crate::proofs::texts::Puts::few_places))]
     pub fn get(self, heap: &Heap, index: u64) -> Result<&[u8], Refusal>
         requires { IsTextsContainer heap.now.bytes self.place }
         ensures { GetsText heap.now self.place index result }
@@ -91,7 +91,7 @@ impl SegTexts {
     ///
     /// `OutOfRange` if there are not so many; otherwise `NoSpace` if no gap is long enough for the text. Nothing
     /// changes.
-    #[tactic(auto, using(crate::proofs::Storage::sizes, crate::proofs::TextPuts::few_places))]
+    #[tactic(auto, using(crate::proofs::storage::Storage::sizes, crate::proofs::texts::Puts::few_places))]
     pub fn set(self, heap: &mut Heap, index: u64, text: &[u8]) -> Result<(), Refusal>
         requires { IsTextsContainer heap.old.bytes self.place }
         ensures { SetsText heap.old heap.new self.place index text.now result }
@@ -155,7 +155,7 @@ impl SegTexts {
     /// # Errors
     ///
     /// `OutOfRange` if there are not so many. Nothing changes.
-    #[tactic(auto, using(crate::proofs::Storage::sizes, crate::proofs::TextPuts::few_places))]
+    #[tactic(auto, using(crate::proofs::storage::Storage::sizes, crate::proofs::texts::Puts::few_places))]
     pub fn erase(self, heap: &mut Heap, index: u64) -> Result<(), Refusal>
         requires { IsTextsContainer heap.old.bytes self.place }
         ensures { ErasesText heap.old heap.new self.place index result }

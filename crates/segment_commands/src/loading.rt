@@ -43,7 +43,7 @@ fn fault_of(error: LoadError, needed: u64) -> CommandFault
 }
 
 /// How many bytes a segment has at the least that has the objects of a dump.
-#[tactic(auto, using(crate::proofs::Loads::needs_counted, crate::proofs::Loads::needs_uncounted))]
+#[tactic(auto, using(crate::proofs::loading::Loads::needs_counted, crate::proofs::loading::Loads::needs_uncounted))]
 fn needed_by(text: &[u8]) -> u64
     ensures { NeedsRoom text.now result }
 {

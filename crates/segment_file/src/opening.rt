@@ -22,7 +22,7 @@ use segment_manager::{Mode, Segment};
 use std::alloc::Global;
 
 /// A region with room for a segment of so many bytes, and for more.
-#[tactic(auto, using(crate::proofs::Rooms::region_capped))]
+#[tactic(auto, using(crate::proofs::opening::Rooms::region_capped))]
 pub(crate) fn file_region(alloc: Global, bytes: u64, more: u64) -> Result<RawRegion, OutOfMemory>
     ensures len { IfOk result (λ region. length region ≡ region_len (bytes + more)) }
     ensures refused { IfErr result (λ refusal. refusal ≡ out_of_memory_of (region_len (bytes + more))) }

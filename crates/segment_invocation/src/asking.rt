@@ -36,7 +36,7 @@ fn word_of<'a>(words: &ArgMatches<'a>, id: &str) -> Option<&'a str>
 }
 
 /// Returns the values of an operand or an option that may stand there more than once.
-#[tactic(auto, using(crate::proofs::Filed::all_listed, crate::proofs::Filed::none_listed))]
+#[tactic(auto, using(crate::proofs::asking::NamedFiles::all_listed, crate::proofs::asking::NamedFiles::none_listed))]
 fn texts_in<'a>(alloc: Global, words: &ArgMatches<'a>, id: &str) -> Result<Vec<&'a str>, AllocError>
     ensures { IfOk result (λ texts. map (λ s. s.now) texts.items ≡ list_of id.now (rows_of (found_of words.now))) }
 {
@@ -77,7 +77,7 @@ fn count_in(words: &ArgMatches<'_>, id: &str) -> Result<Option<u64>, UsageError>
 }
 
 /// Returns the number of a command.
-#[tactic(auto, using(crate::proofs::Filed::number_read, crate::proofs::Filed::no_number_read, crate::proofs::Filed::number_unread))]
+#[tactic(auto, using(crate::proofs::asking::NamedFiles::number_read, crate::proofs::asking::NamedFiles::no_number_read, crate::proofs::asking::NamedFiles::number_unread))]
 fn number_in(words: &ArgMatches<'_>) -> Result<u64, UsageError>
     ensures read { ParsesTo (option_and_then number_of (first_of (codes "number") (rows_of (found_of words.now))))
         result }
@@ -197,7 +197,7 @@ fn change_of<'a>(file: &'a str, change: FileChange, keeping: FileOptions) -> Inv
 }
 
 /// Returns what the words of a command ask for.
-#[tactic(auto, using(crate::proofs::Filed::lint_asked, crate::proofs::Filed::language_asked, crate::proofs::Filed::without_file))]
+#[tactic(auto, using(crate::proofs::asking::NamedFiles::lint_asked, crate::proofs::asking::NamedFiles::language_asked, crate::proofs::asking::NamedFiles::without_file))]
 fn read_command<'a>(
     alloc: Global,
     name: &str,

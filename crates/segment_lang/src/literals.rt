@@ -86,7 +86,7 @@ impl WrittenValue for Literal<'_> {
 }
 
 /// The value of the kind that a word spells.
-#[tactic(auto, using(crate::proofs::WrittenValues::ok_value))]
+#[tactic(auto, using(crate::proofs::values::Literals::ok_value))]
 pub fn scalar_of(kind: ScalarKind, word: Word<'_>) -> Option<ScalarValue>
     ensures { result ≡ option_map (scalar_in kind) (value_for kind (word_of word.entry)) }
 {

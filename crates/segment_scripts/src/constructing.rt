@@ -23,7 +23,7 @@ use segment_manager::Segment;
 /// # Errors
 ///
 /// As the segment's call. The objects are as before.
-#[tactic(auto, using(crate::proofs::NewKinds::content_kind, crate::proofs::NewKinds::content_some, crate::proofs::NewKinds::content_few))]
+#[tactic(auto, using(crate::proofs::values::Keys::content_kind, crate::proofs::values::Keys::content_some, crate::proofs::values::Keys::content_few))]
 #[inline(never)]
 pub fn construct(
     segment: &mut Segment,
@@ -139,7 +139,7 @@ pub fn construct_it(
 /// # Errors
 ///
 /// As the segment's call. The objects are as before.
-#[tactic(auto, using(crate::proofs::NewKinds::index_kind, crate::proofs::NewKinds::index_some, crate::proofs::NewKinds::index_few))]
+#[tactic(auto, using(crate::proofs::values::Keys::index_kind, crate::proofs::values::Keys::index_some, crate::proofs::values::Keys::index_few))]
 #[inline(never)]
 pub fn find_or_construct(
     segment: &mut Segment,

@@ -38,6 +38,7 @@ module _ (d : Directory) (key : Key) (k v : ScalarKind) where
 
   -- ---- what is told of the map is told of the pairs that are listed, and where it is refused none are listed
 
+  -- what is told of a map is said of its pairs
   pub map-told : {A : Type 0} (say : List NumberPair → A) (r : Result A Refusal) → r ≡ answer_of_map d key k v say
       → MatchResult r (λ a. a ≡ say (pairs_at_kinds d key k v)) (λ why. pairs_at_kinds d key k v ≡ [])
   map-told say r f = by-kind d key (Map k v) (λ e. refused-told (λ a. a ≡ say listed) (listed ≡ []) r NotFound
@@ -55,6 +56,7 @@ module _ (d : Directory) (key : Key) (k v : ScalarKind) where
       let is = map-only k v w e in ap (λ (w : Value). first_size (sizes_of w)) is.1
       ∙ sym (ap (λ (w : Value). Ok (length (pairs_of w))) is.1)
 
+  -- the length of a map is the number of its pairs
   pub map-length : (r : Result ℕ Refusal) → r ≡ length_at_kind d key (Map k v)
       → number_or_none r ≡ length (pairs_at_kinds d key k v)
   map-length r e = listed-length pairs_of d key (Map k v) map-many r e
@@ -62,6 +64,7 @@ module _ (d : Directory) (key : Key) (k v : ScalarKind) where
   -- ---- their keys rise, and from the least key of the kind on the first of them comes
 
   module _ (b : List ℕ) (den : Denotes current b d) where
+    -- the keys of a map rise
     pub map-rises : is_rising int_lt (pairs_at_kinds d key k v) ≡ true
     map-rises = by-kind d key (Map k v) (λ e. ap (is_rising int_lt) (none-of e))
         (λ o e g. ap (is_rising int_lt) (other-of o e g)) (λ o e g. ap (is_rising int_lt) (those-of o e g)
@@ -73,6 +76,7 @@ module _ (d : Directory) (key : Key) (k v : ScalarKind) where
     abbrev the_first : List NumberPair → Option (ℤ × ℤ)
     the_first ps = option_map item_of (first_of ps)
 
+    -- the pair from the least key on is the first
     pub map-least : answer_of_map d key k v (pair_from (lowest k))
         ≡ answer_of_map d key k v (λ ps. option_map item_of (first_of ps))
     map-least = by-kind d key (Map k v) (λ e. told-none d key (Map k v) (λ o. told_of from_least o.value) e

@@ -16,11 +16,13 @@ use Rattle.segment_manager.specs.containers.Walks.{AreOfKinds, numbers_read}
 
 -- ---- the pairs of a good value
 
+-- an object of the format has a good value
 pub good-value : (o : Object) → IsTrue (is_object current o) → IsTrue (is_good_value o.value)
 good-value o h = second (has_good_name current o && is_kind_of current (kind_of o.value)) (is_good_value o.value)
     (first (has_good_name current o && is_kind_of current (kind_of o.value) && is_good_value o.value)
     (serves o.extent ObjectRole (object_len o.name o.value)) h)
 
+-- the keys of a good value rise
 pub rising-if : (v : Value) → IsTrue (is_good_value v) → is_rising int_lt (pairs_of v) ≡ true
 rising-if (Pairs k v ps) h = first (is_rising int_lt ps) (list_all (is_number_pair k v) ps) h
 rising-if v h = refl
@@ -87,6 +89,7 @@ module _ (s : SegmentState) (key : Key) (k v : ScalarKind) (is : IsMap s key k v
   map-known : (d : Directory) → DenotesCurrent s.cut.bytes d → IsOfKindAt d key (Map k v)
   map-known d l = kind-told d key (Map k v) (is.answers d l)
 
+  -- the first pair is the one from the least key on
   pub first-seen : (o : Option (ScalarValue × ScalarValue)) → AreOfKinds k v (Ok o)
       → AnswersWith s (λ d. answer_of_map d key
       k v (pair_from (lowest k))) (numbers_read value_of_scalar value_of_scalar (Ok o))
@@ -100,10 +103,12 @@ module _ (s : SegmentState) (key : Key) (k v : ScalarKind) (is : IsMap s key k v
 
 -- the same by the least value, whose kind is that of the keys
 module _ (x : ScalarValue) (k : ScalarKind) (e : kind_of_scalar x ≡ k) where
+  -- what is of the kind of the least key is of the kind of the map
   pub least-kinds : (v : ScalarKind) (o : Option (ScalarValue × ScalarValue)) → AreOfKinds (kind_of_scalar x) v (Ok o)
       → AreOfKinds k v (Ok o)
   least-kinds v o h = subst (λ j. AreOfKinds j v (Ok o)) e h
 
+  -- what is told from the least key on is told of the whole map
   pub least-told : value_of_scalar x ≡ lowest k
       → (s : SegmentState) (key : Key) (v : ScalarKind) (r : Result (Option (ℤ × ℤ))
       Refusal) → AnswersWith s (λ d. answer_of_map d key (kind_of_scalar x) v (pair_from (value_of_scalar x))) r

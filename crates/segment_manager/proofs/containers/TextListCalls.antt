@@ -22,8 +22,9 @@ use Rattle.segment_manager.proofs.containers.TextPlans.{text-placed, assign_in, 
 use Rattle.segment_manager.proofs.containers.Safely.{pick-outside, pick-space, Answered, answered, done-so, stays}
 use Rattle.segment_manager.proofs.containers.PlacedTexts.{text-bytes, texts-bytes}
 use Rattle.segment_manager.proofs.containers.TextsHeld.{some-texts, HoldsTexts}
-use Rattle.segment_manager.proofs.{Steps.open-reading, Steps.open-writing, containers.TextAnswers.fits-bytes}
-use Rattle.segment_manager.proofs.{Calling.denotes-live, containers.ToChange.seen-found}
+use Rattle.segment_manager.proofs.{directory.CommandSteps.open-reading, directory.CommandSteps.open-writing}
+use Rattle.segment_manager.proofs.{containers.TextAnswers.fits-bytes}
+use Rattle.segment_manager.proofs.{directory.HeapCalls.denotes-live, containers.ToChange.seen-found}
 use Rattle.segment_manager.proofs.containers.TextLists.{part-inserted, part-set}
 use Rattle.segment_manager.proofs.containers.Refilled.{then_room, room-grown}
 use Rattle.std.proofs.Common.{Fits, w8}
@@ -53,6 +54,7 @@ module _ {s t : SegmentState} (view : s ≡ t) (key : Key) (p : Place) (b : IsSe
   pub texts-standing : IsTextsContainer s.cut.bytes p
   texts-standing = some-texts s key p b there-too
 
+  -- a string that was read is the directory's
   pub text-got : (i : ℕ) (r : Result (Bor (List ℕ)) Refusal) → GetsText s.cut p i r
       → TakesStepOfKind s s key StringsKind (asked.Get key i) (answer_of (λ (x : Bor (List ℕ)). TextElement x.now) r)
   text-got i (Ok x) a = texts-stay s key p b there-too _ _ (open-reading s.mode (asked.Get key i) refl) (λ d h.
@@ -127,6 +129,7 @@ module _ {s t : SegmentState} (view : s ≡ t) (b : IsSegment s.cut.bytes) {key 
   set-comes {d} h i bs found e = ap (perform d heap) (set-text h i bs _ found) ∙ text-placed d heap bs (set_in h i)
       ∙ ap (then_text d heap (set_in h i)) e
 
+  -- a string that was set is the step of the directory
   pub text-set : (i : ℕ) (bs : List ℕ) (r : Result (Unit {0}) Refusal) → ((k : ℕ) → Fits w8 (get_or bs k 0))
       → SetsText s.cut new p i bs r → Answered done_answer s t new key StringsKind (asked.Set key i (asked.Quoted bs)) r
   text-set i bs (Ok u) small a = seen (done-so (does (λ d l h.
@@ -174,6 +177,7 @@ module _ {s t : SegmentState} (view : s ≡ t) (b : IsSegment s.cut.bytes) {key 
       → perform d heap (insert_plan h i bs) ≡ (Refused NoSpace, d)
   put-unmet {d} h i bs none = one-more-unmet d heap h.texts h.table bs (insert_in h i) none
 
+  -- a string that was pushed is the step of the directory
   pub text-pushed : (bs : List ℕ) (r : Result (Unit {0}) Refusal) → ((k : ℕ) → Fits w8 (get_or bs k 0))
       → PushesText s.cut new p bs r → Kept s t new key (asked.Push key (asked.Quoted bs)) r
   text-pushed bs (Ok u) small a =
@@ -205,6 +209,7 @@ module _ {s t : SegmentState} (view : s ≡ t) (b : IsSegment s.cut.bytes) {key 
       ] in
       (λ i. record s { cut = same i }))
 
+  -- no space for an array: the segment stays
   pub array-first : (n : ℕ) → (new_array heap n ≡ None → new ≡ s.cut)
       → UnchangedWhere t (record s { cut = new }) (LacksArray n)
   array-first n a = subst (λ (u : SegmentState). UnchangedWhere u (record s { cut = new }) (LacksArray n)) view
@@ -217,6 +222,7 @@ module _ {s t : SegmentState} (view : s ≡ t) (b : IsSegment s.cut.bytes) {key 
       → effect d (asked.Insert key i (asked.Quoted bs)) ≡ insert_plan h i bs
   insert-put h i bs within = insert-text h i bs false (le-ltb (length h.texts) i within)
 
+  -- a string that was inserted is the step of the directory
   pub text-inserted : (i : ℕ) (bs : List ℕ) (r : Result (Unit {0}) Refusal) → ((k : ℕ) → Fits w8 (get_or bs k 0))
       → InsertsText s.cut new p i bs r → Kept s t new key (asked.Insert key i (asked.Quoted bs)) r
   text-inserted i bs (Ok u) small a = seen-kept (put-steps _ (λ ps. i) bs small (λ d h.
@@ -239,6 +245,7 @@ module _ {s t : SegmentState} (view : s ≡ t) (b : IsSegment s.cut.bytes) {key 
 
   -- ---- one less
 
+  -- a string that was erased is the step of the directory
   pub text-erased : (i : ℕ) (r : Result (Unit {0}) Refusal) → ErasesText s.cut new p i r
       → Answered done_answer s t new key StringsKind (asked.Erase key i) r
   text-erased i (Ok u) a = seen (done-so (does (λ d l h.
@@ -253,6 +260,7 @@ module _ {s t : SegmentState} (view : s ≡ t) (b : IsSegment s.cut.bytes) {key 
       seen (turned-down o.refusal o.same (λ d h.
       ap (perform d heap) (erase-text h i None (slice_get_past h.texts i (a h.texts h.table h.stand).outside))))
 
+  -- a string that was popped is the step of the directory
   pub text-popped : (r : Result (Unit {0}) Refusal) → PopsText s.cut new p r
       → Led s t new key (asked.Pop key) r (refusal_in r)
   text-popped (Ok u) a =
@@ -290,6 +298,7 @@ module _ {s t : SegmentState} (view : s ≡ t) (b : IsSegment s.cut.bytes) {key 
       → effect d (asked.Assign key (map asked.Quoted (bs ∷ bss))) ≡ all_plan (bs ∷ bss) (assign_in h)
   assign-plan h bs bss = assign-some h (asked.Quoted bs) (map asked.Quoted bss) (bs ∷ bss) (texts-read (bs ∷ bss))
 
+  -- strings that were assigned are the step of the directory
   pub texts-assigned : (bss : List (List ℕ)) (r : Result (Unit {0}) Refusal) → IsTrue (list_all are_bytes bss)
       → AssignsTexts s.cut new p bss r → Kept s t new key (asked.Assign key (map asked.Quoted bss)) r
   texts-assigned [] r small a =

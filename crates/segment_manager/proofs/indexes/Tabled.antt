@@ -13,9 +13,10 @@ use Rattle.segment_manager.proofs.objects.Taking.{IsMade, allocated-found, taken
 use Rattle.segment_manager.proofs.indexes.Entered.{HasOne, OfRest, entered-other, entered-own, has_both, key_in, of_all}
 use Rattle.segment_manager.proofs.indexes.Entered.{of_rest, other, other-stays, other-words}
 use Rattle.segment_manager.proofs.indexes.Tables.{index-left_out, last-table, left_out, live-moved_index, same-table}
-use Rattle.segment_manager.proofs.{indexes.Tables.table-of, Live.adding, Calling.denotes-live, Frame.any_object-same}
-use Rattle.segment_manager.proofs.Denoted.{KeepsFront, denotes-put}
-use Rattle.segment_manager.proofs.Order.{inserted, live-rises, all_of-inserted}
+use Rattle.segment_manager.proofs.{indexes.Tables.table-of, directory.LiveSet.adding, directory.HeapCalls.denotes-live}
+use Rattle.segment_manager.proofs.{directory.Frame.any_object-same}
+use Rattle.segment_manager.proofs.directory.OneObject.{KeepsFront, denotes-put}
+use Rattle.segment_manager.proofs.directory.ExtentOrder.{inserted, live-rises, all_of-inserted}
 use Rattle.seg_index.proofs.Laws.{place_behind}
 
 -- ---- the bytes once the entry is there
@@ -32,18 +33,22 @@ pub record IsEntered (i : Index) (old new : WindowState) (d : Directory) (t : Ba
   pub behind : SameBytes (bytes_of old.bytes) (bytes_of new.bytes) (place_of i + 24) 128
   pub stands : IsIndexOf new (place_of i) t (entries_of i (with_object d o))
 
+-- the size stays with another table
 pub same-size : (i : Index) (d : Directory) (t : BackingArray) → (with_table_of i d t).size ≡ d.size
 same-size index.Named d t = refl
 same-size index.Unique d t = refl
 
+-- the objects stay with another table
 pub same-objects : (i : Index) (d : Directory) (t : BackingArray) → (with_table_of i d t).objects ≡ d.objects
 same-objects index.Named d t = refl
 same-objects index.Unique d t = refl
 
+-- the bytes have one index
 pub has-one : (i : Index) {b : List ℕ} {d : Directory} → Denotes current b d → HasOne i (bytes_of b) d
 has-one index.Named k = record { is = k.directory.named; at = k.named }
 has-one index.Unique k = record { is = k.directory.unique; at = k.unique }
 
+-- the words of an index lie below offset 80
 pub place-high : (i : Index) → place_of i + 24 ≤ 80
 place-high index.Named = omega arith
 place-high index.Unique = omega arith

@@ -14,7 +14,8 @@ use Rattle.segment_manager.proofs.objects.FoundOrMade.{makes, makes-nothing}
 use Rattle.segment_manager.proofs.objects.NewValues.{IsMadeNever, IsMadeNow, away-in, value-built, value-loose}
 use Rattle.segment_manager.proofs.objects.NewValues.{value-not_built, value-ready}
 use Rattle.segment_manager.proofs.objects.NotBegun.{key-taken, value-not_begun}
-use Rattle.segment_manager.proofs.{Steps.step-segment, indexes.Bridge.lookup-absent, objects.NewKeys.key-seeks}
+use Rattle.segment_manager.proofs.{directory.CommandSteps.step-segment, indexes.Bridge.lookup-absent}
+use Rattle.segment_manager.proofs.{objects.NewKeys.key-seeks}
 use Rattle.segment_manager.specs.containers.Filled.{HasBegun, FillsObject, IsShapeOf}
 use Rattle.segment_manager.specs.objects.PendingObjects.{Ends, IsEnding}
 use Rattle.segment_manager.specs.{objects.Found.found_object, Answers.Found}
@@ -32,6 +33,7 @@ begun-for old new key {content} {s} r is g = subst (λ (k : Kind). BeginsObject 
     (value_len (bare content)) r) is.kind (subst (λ n. BeginsObject old new key s.kind n (value_len (bare content)) r)
     is.count (subst (λ n. BeginsObject old new key s.kind s.count n r) is.len g))
 
+-- an object that was begun has the shape of its content
 pub has-begun : (old new : WindowState) (key : names.Key) {content : Content} {s : ObjectShape} (r : PendingObject)
     → IsSegment old.bytes → IsShapeOf content s
     → BeginsObject old new key s.kind s.count s.len (Ok r) → HasBegun new content r.handle r.at r.entry
@@ -102,6 +104,7 @@ module _ {a : WindowState} (b : IsSegment a.bytes) (key : names.Key) (content : 
         }
     construct-built (Err why) g r = none-constructed c why r.none.refusal (made-never why g r)
 
+    -- an object that was begun and filled is constructed
     pub found-built : (r : Result ℕ Refusal) → BeginsObjectFor a m key content h at entry
         → FillsObject m c h at entry content r
         → Constructs a c (asked.FindOrConstruct key content) found_object_answer
@@ -173,10 +176,12 @@ found-absent {a} i e at {key} name kind new away done = record {
 
 module _ {A : Type 0} {s t : SegmentState} (view : s ≡ t) {c : WindowState} {command : Command}
     {answer : Result A Refusal → Answer} {r : Result A Refusal} (done : Constructs s.cut c command answer r) where
+  -- the constructed object is the step of the directory
   pub made-step : is_read_only t.mode ≡ false → TakesStep t (record s { cut = c }) command (answer r)
   made-step writing = subst (λ (u : SegmentState). TakesStep u (record s { cut = c }) command (answer r)) view
       (done.step s.mode (ap (λ (u : SegmentState). is_read_only u.mode) view ∙ writing))
 
+  -- a segment with the object is a segment
   pub made-segment : is_read_only t.mode ≡ false → IsSegment s.cut.bytes → IsSegment c.bytes
   made-segment writing b = step-segment s (record s { cut = c }) command (answer r)
       (done.step s.mode (ap (λ (u : SegmentState). is_read_only u.mode) view ∙ writing)) b

@@ -7,7 +7,8 @@ use Rattle.segment_manager.proofs.Common.{pair_of_kind, is_read_only, false, Opt
 use Rattle.segment_manager.proofs.Common.{Object, Refuse, TakesStep, effect, Some, Refusal, NoSpace, Content, Refused}
 use Rattle.segment_manager.proofs.Common.{kind_of, IsObjectInBlock, AnswersWith, Command, SameSurroundings, WrongKind}
 use Rattle.segment_manager.proofs.Common.{same_kind, Directory, object_at, handle_at, DenotesCurrent}
-use Rattle.segment_manager.proofs.Steps.{by_no_change, by_step, lands, open-writing, step-plan, step-refuse}
+use Rattle.segment_manager.proofs.directory.CommandSteps.{by_no_change, by_step, lands, open-writing, step-plan}
+use Rattle.segment_manager.proofs.directory.CommandSteps.{step-refuse}
 use Rattle.segment_manager.proofs.objects.Constructed.{IsNewObject, IsNoObject}
 use Rattle.segment_manager.proofs.{objects.Here.here, objects.KeyCalls.kind-step}
 
@@ -45,6 +46,7 @@ module _ {old : SegmentState} {new : WindowState} {key : Key} {content : Content
     denotes = (each d k).1.denotes;
   }))
 
+-- the answer with the handle of a constructed object
 abbrev pub made_handle : Object → Answer
 made_handle o = Made (handle o.extent)
 

@@ -14,15 +14,16 @@ use common.{LeadsThere, object_len, with_object, is_read_only, with_new_object, 
 use common.{length-replicate, AllocatesOk, is_good_value, inl, inr, option_map, Mode, AnswersWith, IsObjectInBlock}
 use common.{handle_at, pair_of_kind, with_count, Index, Kind, IsAbsentAt, IsNewKeyOf, Write}
 use Rattle.seg_index.specs.declared.keys.Entry.{Entry}
-use Rattle.segment_manager.proofs.Steps.{step-segment, perform-new, refuses-read_only, by_no_change, by_step, lands}
-use Rattle.segment_manager.proofs.Steps.{open-writing, step-plan, step-refuse}
+use Rattle.segment_manager.proofs.directory.CommandSteps.{step-segment, perform-new, refuses-read_only, by_no_change}
+use Rattle.segment_manager.proofs.directory.CommandSteps.{by_step, lands}
+use Rattle.segment_manager.proofs.directory.CommandSteps.{open-writing, step-plan, step-refuse}
 use Rattle.segment_manager.proofs.objects.Constructed.{IsMet, IsNewObject, numbers-met, restored-denotes, IsNoObject}
 use Rattle.segment_manager.proofs.objects.NewValues.{away-in, value-built, value-ready, no_key-none}
 use Rattle.segment_manager.proofs.objects.NotBegun.{key-taken, value-not_begun}
 use Rattle.segment_manager.proofs.objects.ArrayItems.{by-items, from-items}
 use Rattle.segment_manager.proofs.objects.FoundOrMade.{made_handle, makes}
 use Rattle.segment_manager.proofs.{objects.NewNumbers.numbers-made, objects.MadeValues.headed-change, objects.Here.here}
-use Rattle.segment_manager.proofs.{indexes.Bridge.lookup-absent, Calling.denotes-live}
+use Rattle.segment_manager.proofs.{indexes.Bridge.lookup-absent, directory.HeapCalls.denotes-live}
 use Rattle.segment_manager.proofs.objects.NewKeys.{key-seeks, numbers-value}
 use Rattle.segment_manager.specs.objects.PendingObjects.{Ends, IsEnding, Fills}
 use Rattle.segment_manager.specs.objects.Items.{FindsOrTakes, FindsOrTakesIn, TakesItemsIn}
@@ -239,6 +240,7 @@ module _ (S : Type 0) {A : Type 0} (gives : S → Option A → S → Type 0) (wh
 
 module _ (S : Type 0) {A : Type 0} (gives : S → Option A → S → Type 0) (whole : A
     → ℤ) {s : SegmentState} (key : names.Key) (k : ScalarKind) (count : ℕ) (at : S) where
+  -- a segment that is only read takes no items
   pub takes-nothing : is_read_only s.mode ≡ true → ConstructsFromItems gives whole s s key k count at at (Err ReadOnly)
   takes-nothing e = record {
     items = [];
@@ -301,10 +303,12 @@ module _ (S : Type 0) {A : Type 0} (gives : S → Option A → S → Type 0) (wh
   none-taken {why} c not = takes-none S gives whole key k count before why c writes low
       (subst (λ (j : ObjectShape). BeginsObjectErr s.cut c key j.kind j.len why) same not)
 
+  -- a refused construction leaves a segment
   pub refused-segment : (why : Refusal) (c : WindowState) → BeginsObjectErr s.cut c key shape.kind shape.len why
       → IsSegment c.bytes
   refused-segment why c not = step-segment s (record s { cut = c }) _ _ (none-taken c not).step b
 
+  -- a refused construction takes no items
   pub refused-items : {why : Refusal} (c : WindowState) {r : Result ℕ Refusal} → r ≡ Err why
       → BeginsObjectErr s.cut c key shape.kind
       shape.len why → ConstructsFromItems gives whole t (record s { cut = c }) key k count before before r
@@ -316,6 +320,7 @@ module _ (S : Type 0) {A : Type 0} (gives : S → Option A → S → Type 0) (wh
 
   module _ (m : WindowState) (h at : ℕ) (entry : Option PendingEntry)
       (begun : BeginsObjectOk s.cut m key shape.kind shape.count shape.len h at entry) where
+    -- the array was begun
     pub begun-so : BeginsObjectOk s.cut m key (Scalar k) count (size_of k * count) h at entry
     begun-so = begun-numbers s.cut m key h at entry same begun
 
@@ -388,6 +393,7 @@ no-objects {a} i e at key name kind new away d st =
 
 -- ---- the segment afterwards
 
+-- a segment in which the object was found or constructed
 pub found-segment : {S A : Type 0} {gives : S → Option A → S → Type 0} {whole : A
     → ℤ} {a c : WindowState} {key : names.Key}
     {k : ScalarKind} {count : ℕ} {before after : S} {r : Result (ℕ × ℕ) Refusal} → IsSegment a.bytes
@@ -400,6 +406,7 @@ found-segment b done = elim (done Write refl) [
   ]
 ]
 
+-- the object was found: no items are taken
 pub seen-found_items : {S A : Type 0} {gives : S → Option A → S → Type 0} {whole : A
     → ℤ} {s t : SegmentState} (view : s ≡ t)
     {c : WindowState} {key : names.Key} {k : ScalarKind} {count : ℕ} {before after : S} {r : Result (ℕ × ℕ) Refusal}

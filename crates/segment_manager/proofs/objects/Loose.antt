@@ -18,6 +18,7 @@ headed-room : {a b : WindowState} {kind : Kind} {class : Class} {name : List ℕ
 headed-room {a} {b} {name} body {h} p room = subst (λ n. IsTrue (has_room (live_of b.bytes) h (n + body))) (sym p.start)
     (changed-room current a b h _ h (room_for name body) p.change room)
 
+-- an object that was begun has room for its value
 pub begun-room : (entry : Option PendingEntry) (a m : WindowState) (key : Key) (kind : Kind) (count body h at : ℕ)
     → BeginsObjectOk a m key kind count body h at entry → IsTrue (has_room (live_of m.bytes) h (at + body))
 begun-room None a m key kind count body h at g = headed-room body g.headed
@@ -26,6 +27,7 @@ begun-room (Some e) a m key kind count body h at g =
     headed-room body g.headed (allocated-room current g.requested.between g.taken (room_for g.name body) ObjectRole h
     (room_for g.name body) g.requested.takes (omega arith))
 
+-- the segment with a begun object is a heap
 pub begun-heap : (entry : Option PendingEntry) (a m : WindowState) (key : Key) (kind : Kind) (count body h at : ℕ)
     → BeginsObjectOk a m key kind count body h at entry → IsHeap current m.bytes
 begun-heap None a m key kind count body h at g = changed-heap g.headed.change
@@ -55,11 +57,13 @@ entry-taken : {old now : WindowState} {h : ℕ} {e : PendingEntry} → (l : Writ
     → AllocatesOk current l.requested.between now l.len ObjectRole h
 entry-taken l = written-taken l.requested.takes l.change
 
+-- the block of an object without an entry is in use
 pub loose-live : (entry : Option PendingEntry) (old now : WindowState) (h : ℕ) → WritesUnindexedObject old now h entry
     → IsTrue (is_live_in (live_of now.bytes) h)
 loose-live None old now h l = allocated-is_live current old now l.len ObjectRole h (alone-taken l)
 loose-live (Some e) old now h l = allocated-is_live current l.requested.between now l.len ObjectRole h (entry-taken l)
 
+-- an object without an entry is deallocated: all is as before
 pub alone-back : {old now new : WindowState} {h : ℕ} → WritesUnindexedAlone old now h → Deallocates current now new h
     → RestoresBlocks old new
 alone-back l gone = back-again (alone-taken l) gone
@@ -70,6 +74,7 @@ module _ {old now new : WindowState} {h : ℕ} {e : PendingEntry} (l : WritesUni
   object-back : RestoresBlocks l.requested.between new
   object-back = back-again (entry-taken l) gone
 
+  -- the block of the index's growth is in use
   pub loose-held : IfSome e.growth.block (λ g. IsTrue (is_live_in (live_of new.bytes) g))
   loose-held =
       let mid : WindowState = l.requested.between in
@@ -77,6 +82,7 @@ module _ {old now new : WindowState} {h : ℕ} {e : PendingEntry} (l : WritesUni
       (sym (lay_out_one current new.bytes (live_of mid.bytes) (object-back).laid))
       (growth-held old mid (place_of e.index) e.growth.block l.requested.grows)
 
+-- an object and the growth of its index are deallocated: all is as before
 pub entry-back : {old now mid : WindowState} {new : WindowState} {h : ℕ} {e : PendingEntry}
     → WritesUnindexedForEntry old now h e
     → Deallocates current now mid h → FreesGrowth mid new e.growth.block → RestoresBlocks old new

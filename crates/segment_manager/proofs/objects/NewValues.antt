@@ -16,9 +16,12 @@ use Rattle.segment_manager.proofs.objects.Taking.{IsMade, IsTaken, taken-growth,
 use Rattle.segment_manager.proofs.objects.Taking.{growth-stays, made-key, made-stays, restored-taken}
 use Rattle.segment_manager.proofs.objects.MadeValues.{empty-taken, made-object, made-taken, placed-next}
 use Rattle.segment_manager.proofs.objects.Constructed.{IsNewObject, IsNoObject, content-denied, content-entered}
-use Rattle.segment_manager.proofs.{objects.Constructed.restored-denotes, Codes.known-kind, indexes.Bridge.lookup-absent}
-use Rattle.segment_manager.proofs.{Calling.denotes-live, Denoted.denotes-with, objects.Heads.object-entry}
-use Rattle.segment_manager.proofs.{blocks.NewBlocks.allocated-serves, Live.adding, Steps.perform-new}
+use Rattle.segment_manager.proofs.{objects.Constructed.restored-denotes, objects.KindCodes.known-kind}
+use Rattle.segment_manager.proofs.{indexes.Bridge.lookup-absent}
+use Rattle.segment_manager.proofs.{directory.HeapCalls.denotes-live, directory.OneObject.denotes-with}
+use Rattle.segment_manager.proofs.{objects.Heads.object-entry}
+use Rattle.segment_manager.proofs.{blocks.NewBlocks.allocated-serves, directory.LiveSet.adding}
+use Rattle.segment_manager.proofs.{directory.CommandSteps.perform-new}
 use Rattle.segment_manager.proofs.indexes.HeldIndexes.{denotes-index, denotes-sorted}
 use Rattle.segment_manager.proofs.objects.NewKeys.{key-object, key-of, key-seeks, key-short, key-sort, object_of}
 use Rattle.seg_index.specs.{declared.keys.Entry.Entry, Sorted.BelongsAt}
@@ -244,11 +247,13 @@ module _ (content : Content) where
           growth = taken-growth mid w _ (place_of i) e.growth.block taken (place_behind i) (place_small i) grown;
         }
 
+    -- a made value: the object is ready
     pub value-ready : (entry : Option PendingEntry) {w : WindowState} → BeginsObjectOk a m key kind many long h at entry
         → MakesValueOk content m w (record { handle = h; at = at }) → IsReadyFor w h entry
     value-ready None g r = tt
     value-ready (Some e) g r = entry-wanted g r
 
+    -- a value that was not made: the object has no entry
     pub value-loose : (entry : Option PendingEntry) (w : WindowState) (why : Refusal)
         → BeginsObjectOk a m key kind many long h at entry
         → MakesValueErr content m w (record { handle = h; at = at }) why → WritesUnindexedObject a w h entry
@@ -314,6 +319,7 @@ module _ (content : Content) where
 
   -- the same whatever the key
   module _ {a m : WindowState} (b : IsSegment a.bytes) {key : names.Key} (h at : ℕ) where
+    -- a made value: the object is constructed
     pub value-built : (entry : Option PendingEntry) {w : WindowState} {c : WindowState}
         → BeginsObjectOk a m key kind many long h at entry
         → MakesValueOk content m w (record { handle = h; at = at }) → LeadsThere w c h entry
@@ -323,6 +329,7 @@ module _ (content : Content) where
         (alone-made h at (record { is = refl; taken = g.taken; takes = g.takes; headed = g.headed }) r))
     value-built (Some e) g r added = value-made a b key h at g r added
 
+    -- a value that was not made: the object is not constructed
     pub value-not_built : (entry : Option PendingEntry) {w : WindowState} {c : WindowState} {why : Refusal}
         → BeginsObjectOk a m key kind many long h at entry
         → MakesValueErr content m w (record { handle = h; at = at }) why

@@ -6,8 +6,9 @@ use Rattle.segment_manager.proofs.Common.{with_object}
 use Rattle.segment_manager.proofs.Common.{entries_of, current, NoSpace, Content, Denotes, kind_of, table_of, room_for}
 use Rattle.segment_manager.proofs.Common.{DenotesCurrent, SameSurroundings, AllocatesNoSpace, Anonymous, Directory}
 use Rattle.segment_manager.proofs.{Common.object_at, Common.value_len, Common.with_value, indexes.Bridge.lookup-absent}
-use Rattle.segment_manager.proofs.{indexes.Bridge.lookup-found, Calling.denotes-live, indexes.HeldIndexes.denotes-index}
-use Rattle.segment_manager.proofs.{objects.NewKeys.key-seeks, Steps.perform-no_space}
+use Rattle.segment_manager.proofs.{indexes.Bridge.lookup-found, directory.HeapCalls.denotes-live}
+use Rattle.segment_manager.proofs.{indexes.HeldIndexes.denotes-index}
+use Rattle.segment_manager.proofs.{objects.NewKeys.key-seeks, directory.CommandSteps.perform-no_space}
 use Rattle.segment_manager.proofs.objects.Constructed.{content-none, restored-denotes}
 use Rattle.segment_manager.proofs.objects.NewValues.{no_key-none, away-in, IsMadeNever}
 use Rattle.segment_manager.specs.objects.PendingObjects.{BeginsEntryErr}

@@ -8,8 +8,8 @@ use common.{live_of, BackingArray, added, allocated-is_live, allocated-room, kee
 use common.{FreesGrowth, PreparesOk, grown_bytes, IsIndexOf, place_of, RequestsBlocksOk, RestoresBlocks}
 use common.{RequestsBlocksErr, ◌≤◌, Bool, [], ◌∷◌, find, SameBytes-part, SameBytes-word, SameBytes-link, Extent, handle}
 use common.{extent_at, lay_out_one, grown_capacity, Object, extents_of, is_object, IsObjectAt, value_extents}
-use Rattle.segment_manager.proofs.Order.{all_of-insert, live-rises, rising-insert, inserted}
-use Rattle.segment_manager.proofs.{Live.adding, indexes.HeldIndexes.key-fits}
+use Rattle.segment_manager.proofs.directory.ExtentOrder.{all_of-insert, live-rises, rising-insert, inserted}
+use Rattle.segment_manager.proofs.{directory.LiveSet.adding, indexes.HeldIndexes.key-fits}
 use Rattle.best_fit.proofs.Laws.{still_allocated-block, found-inserted, found-new, found-none}
 use Rattle.seg_index.proofs.Laws.{ObjectStays, all_found, place_behind, place_small, stays-itself, taken-stays}
 use Rattle.seg_index.proofs.Laws.{Around-kept, stays}
@@ -43,10 +43,12 @@ allocated-found {old} {new} {h} a = ap (λ (l : LiveSet). find (has_handle h) l.
 
 -- ---- after blocks are taken
 
+-- blocks that were taken are in the live set
 pub taken-live : (old new : WindowState) (xs : List Extent) → IsTaken old new xs
     → live_of new.bytes ≡ adding (live_of old.bytes) xs
 taken-live old new xs m = lay_out_one current new.bytes (adding (live_of old.bytes) xs) m.live
 
+-- a block in use is found after others were taken
 pub taken-found : (old new : WindowState) (xs : List Extent) (h : ℕ) {x : Extent} → IsTaken old new xs
     → extent_at (live_of old.bytes) h ≡ Some x → extent_at (live_of new.bytes) h ≡ Some x
 taken-found old new xs h {x} m e =
@@ -119,6 +121,7 @@ request-unmet a b c d at n (Some h) heap grows refused back restored =
 
 -- ---- an index while an object is made
 
+-- the index stays while it may grow
 pub growth-index : (i : Index) {a : WindowState} {b : WindowState} (g : Option ℕ) {t : BackingArray} {hs : List ℕ}
     → PreparesOk a b (place_of i) g → IsIndexOf a (place_of i) t hs → IsIndexOf b (place_of i) t hs
 growth-index i None {t} {hs} g x = subst (λ (c : WindowState). IsIndexOf c (place_of i) t hs) (sym g.1) x
@@ -140,6 +143,7 @@ pub growth-stays : {a b : WindowState} (at : ℕ) (g : Option ℕ) → PreparesO
 growth-stays {a} at None g h = subst (λ (c : WindowState). ObjectStays a c h) (sym g.1) (stays-itself {a = a} h)
 growth-stays at (Some k) g h = taken-stays g.1 h
 
+-- objects stay while blocks are taken
 pub made-stays : {a b : WindowState} (xs : List Extent) → IsTaken a b xs → (h : ℕ) → ObjectStays a b h
 made-stays {a} {b} xs m h = record {
   each = λ x e role. (

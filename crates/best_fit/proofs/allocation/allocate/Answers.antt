@@ -2,13 +2,13 @@
 use Rattle.best_fit.proofs.Common.{◌≡◌, refl, sym, ap, subst, ◌∙◌, ◌+◌, ◌-◌, ◌%◌, List, ◌++◌, ◌∷◌, length, arith}
 use Rattle.best_fit.proofs.Common.{None, filter, bits, Gap, least, gap_of, gaps_in, gaps_of, tiles_in, HasGapTree}
 use Rattle.best_fit.proofs.Common.{IsUnlinkedGap, ChangesGapTree, is_long}
-use Rattle.best_fit.proofs.Allocating.{Found, bits-le, bits_some, found, found_node, heap_bits, heap_tree, met}
-use Rattle.best_fit.proofs.Allocating.{none_found, out_of_tree, place_is, round_it, too_long}
-use Rattle.best_fit.proofs.GapFacts.{NodeAt, node_len}
-use Rattle.best_fit.proofs.GapSteps.{same_gaps}
-use Rattle.best_fit.proofs.Placing.{room-IsRoom}
-use Rattle.best_fit.proofs.Regrowths.{tree_says}
-use Rattle.best_fit.proofs.Replanting.{few_bits}
+use Rattle.best_fit.proofs.allocation.LeastGap.{Found, bits-le, bits_some, found, found_node, heap_bits, heap_tree, met}
+use Rattle.best_fit.proofs.allocation.LeastGap.{none_found, out_of_tree, place_is, round_it, too_long}
+use Rattle.best_fit.proofs.gaps.Nodes.{NodeAt, node_len}
+use Rattle.best_fit.proofs.gaps.OneField.{same_gaps}
+use Rattle.best_fit.proofs.extents.FirstFit.{room-IsRoom}
+use Rattle.best_fit.proofs.gaps.LinksOnly.{tree_says}
+use Rattle.best_fit.proofs.free_tree.LinkAndUnlink.{few_bits}
 use Rattle.best_fit.proofs.allocation.allocate.Goals.{After-unlink_gap, In-Some}
 use Rattle.best_fit.proofs.allocation.allocate.Goals as goal
 

@@ -2,13 +2,15 @@
 use Rattle.best_fit.proofs.Common.{◌≡◌, ap, ◌∙◌, ◌+◌, ◌*◌, ◌≤◌, ◌∷◌, ◌++◌, length, arith, refl, Option, Tile}
 use Rattle.best_fit.proofs.Common.{first_in, last_in, without_last, HasTileAt, EncodesTiles, bits, gaps_of, gaps_in}
 use Rattle.best_fit.proofs.Common.{HasGapTree, ChangesGapTree, gap_offset, tile_list, offset_of, start_of}
-use Rattle.best_fit.proofs.Allocating.{bits-le}
-use Rattle.best_fit.proofs.GivingBack.{GivenBack, HalfUprooted, Uprooted, few_steps, first_tree, given_back}
-use Rattle.best_fit.proofs.GivingBack.{half_uprooted, next_is, previous_is, r_colour, r_stands2, r_stands3, r_use}
-use Rattle.best_fit.proofs.GivingBack.{uprooted}
-use Rattle.best_fit.proofs.Joins.{rest_of}
-use Rattle.best_fit.proofs.Uprooting.{option_few, option_offset}
-use Rattle.best_fit.proofs.Writes.{Block, block_tile, live_block}
+use Rattle.best_fit.proofs.allocation.LeastGap.{bits-le}
+use Rattle.best_fit.proofs.deallocation.Coalescing.{GivenBack, HalfUprooted, Uprooted, few_steps, first_tree}
+use Rattle.best_fit.proofs.deallocation.Coalescing.{given_back}
+use Rattle.best_fit.proofs.deallocation.Coalescing.{half_uprooted, next_is, previous_is, r_colour, r_stands2, r_stands3}
+use Rattle.best_fit.proofs.deallocation.Coalescing.{r_use}
+use Rattle.best_fit.proofs.deallocation.Coalescing.{uprooted}
+use Rattle.best_fit.proofs.tags.TileJoins.{rest_of}
+use Rattle.best_fit.proofs.free_tree.UnlinkIfGap.{option_few, option_offset}
+use Rattle.best_fit.proofs.tags.Writes.{Block, block_tile, live_block}
 use Rattle.best_fit.proofs.deallocation.release.Goals.{After-next-behind, After-previous-before, After-gap_at}
 use Rattle.best_fit.proofs.deallocation.release.Goals.{After-unlink_if_gap, After-gap_at-2, After-unlink_if_gap-2}
 use Rattle.best_fit.proofs.deallocation.release.Goals.{After-coalesce_previous}

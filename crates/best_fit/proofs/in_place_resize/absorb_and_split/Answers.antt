@@ -1,12 +1,13 @@
 -- The gap behind leaves the tree, the block takes it and is cut, and what is cut off enters the tree.
 use Rattle.best_fit.proofs.Common.{◌≡◌, refl, ap, ◌∙◌, ◌+◌, ◌++◌, ◌∷◌, length, arith, first_in, gaps_of, gaps_in}
 use Rattle.best_fit.proofs.Common.{HasGapTree, ChangesGapTree, gap_offset, tile_list, offset_of}
-use Rattle.best_fit.proofs.Allocating.{bits-le}
-use Rattle.best_fit.proofs.Joins.{rest_of}
-use Rattle.best_fit.proofs.Recutting.{Recut, TailUprooted, behind_is, c_stands0, c_stands1, few_steps, recut}
-use Rattle.best_fit.proofs.Recutting.{tail_uprooted, tree_w}
-use Rattle.best_fit.proofs.Uprooting.{option_few, option_offset}
-use Rattle.best_fit.proofs.Writes.{Block, block_tile, live_block}
+use Rattle.best_fit.proofs.allocation.LeastGap.{bits-le}
+use Rattle.best_fit.proofs.tags.TileJoins.{rest_of}
+use Rattle.best_fit.proofs.in_place_resize.CutOff.{Recut, TailUprooted, behind_is, c_stands0, c_stands1, few_steps}
+use Rattle.best_fit.proofs.in_place_resize.CutOff.{recut}
+use Rattle.best_fit.proofs.in_place_resize.CutOff.{tail_uprooted, tree_w}
+use Rattle.best_fit.proofs.free_tree.UnlinkIfGap.{option_few, option_offset}
+use Rattle.best_fit.proofs.tags.Writes.{Block, block_tile, live_block}
 use Rattle.best_fit.proofs.in_place_resize.absorb_and_split.Goals.{After-next-behind, After-gap_at, After-unlink_if_gap}
 use Rattle.best_fit.proofs.in_place_resize.absorb_and_split.Goals.{After-split_tail-is_cut}
 use Rattle.best_fit.proofs.in_place_resize.absorb_and_split.Goals as goal

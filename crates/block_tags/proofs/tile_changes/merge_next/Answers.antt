@@ -1,6 +1,6 @@
 use Rattle.std.proofs.Common.{arith}
-use Rattle.block_tags.proofs.Saying.{fits_in, fits}
-use Rattle.block_tags.proofs.Joining.{there_to_join, joins, joined_says, joined_rest}
+use Rattle.block_tags.proofs.tiles.TagsSayTiles.{fits_in, fits}
+use Rattle.block_tags.proofs.changes.Merge.{there_to_join, joins, joined_says, joined_rest}
 use Rattle.block_tags.proofs.tile_changes.merge_next.Goals as goal
 
 pub tile_there-tile-requires : goal.tile_there-tile-requires

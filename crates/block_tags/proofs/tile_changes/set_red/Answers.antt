@@ -1,6 +1,6 @@
 use Rattle.std.proofs.Common.{arith}
-use Rattle.block_tags.proofs.Saying.{fits_in, fits}
-use Rattle.block_tags.proofs.Changes.{coloured_says, coloured_rest}
+use Rattle.block_tags.proofs.tiles.TagsSayTiles.{fits_in, fits}
+use Rattle.block_tags.proofs.changes.WrittenTags.{coloured_says, coloured_rest}
 use Rattle.block_tags.proofs.tile_changes.set_red.Goals as goal
 
 pub tile_there-tile-requires : goal.tile_there-tile-requires

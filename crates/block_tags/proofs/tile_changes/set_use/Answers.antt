@@ -1,6 +1,6 @@
 use Rattle.std.proofs.Common.{arith}
-use Rattle.block_tags.proofs.Saying.{fits_in, fits}
-use Rattle.block_tags.proofs.Changes.{used_says, used_rest}
+use Rattle.block_tags.proofs.tiles.TagsSayTiles.{fits_in, fits}
+use Rattle.block_tags.proofs.changes.WrittenTags.{used_says, used_rest}
 use Rattle.block_tags.proofs.tile_changes.set_use.Goals as goal
 
 pub tile_there-tile-requires : goal.tile_there-tile-requires

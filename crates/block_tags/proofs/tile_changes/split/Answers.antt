@@ -1,6 +1,6 @@
 use Rattle.std.proofs.Common.{arith}
-use Rattle.block_tags.proofs.Saying.{fits_in}
-use Rattle.block_tags.proofs.Cutting.{splits, split_says, split_rest}
+use Rattle.block_tags.proofs.tiles.TagsSayTiles.{fits_in}
+use Rattle.block_tags.proofs.changes.Split.{splits, split_says, split_rest}
 use Rattle.block_tags.proofs.tile_changes.split.Goals as goal
 
 pub tile_there-tile-requires : goal.tile_there-tile-requires

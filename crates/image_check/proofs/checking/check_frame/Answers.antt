@@ -2,10 +2,10 @@ use Rattle.std.proofs.Common.{refl, ap, sym, ◌∙◌}
 use Rattle.std.specs.Prelude.{is_some}
 use Rattle.std.proofs.lemmas.Bool.{not-true, not-false}
 use Rattle.image_check.specs.Visits.{tag_rates, tree_rates}
-use Rattle.image_check.proofs.Budget.{frame-raised, spend-both, tags-raised, tags-spend}
-use Rattle.image_check.proofs.Checked.{IsChecked, checked-tags, checked-tiles, checked-tree, checked-frame}
-use Rattle.image_check.proofs.CountedTiles.{not-given}
-use Rattle.image_check.proofs.FirstClass.{first-reserved}
+use Rattle.image_check.proofs.budget.Visits.{frame-raised, spend-both, tags-raised, tags-spend}
+use Rattle.image_check.proofs.frame.WholeCheck.{IsChecked, checked-tags, checked-tiles, checked-tree, checked-frame}
+use Rattle.image_check.proofs.walks.Counts.{not-given}
+use Rattle.image_check.proofs.frame.FirstClass.{first-reserved}
 use Rattle.image_check.proofs.checking.check_frame.Goals as goal
 
 pub returns-in-Err-clause-verdict : goal.returns-in-Err-clause-verdict

@@ -1,5 +1,5 @@
 use Rattle.std.proofs.Common.{inl, inr}
-use Rattle.image_check.proofs.Reserved.{all-reserved, not-reserved}
+use Rattle.image_check.proofs.frame.ReservedBytes.{all-reserved, not-reserved}
 use Rattle.image_check.proofs.checking.check_reserved.Goals as goal
 
 pub returns-in-Some : goal.returns-in-Some

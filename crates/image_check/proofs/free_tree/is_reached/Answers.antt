@@ -4,8 +4,8 @@ use Rattle.link_tree.specs.Tree.{nodes_of}
 use Rattle.best_fit.specs.GapLaws.{comes}
 use Rattle.image_check.specs.FreeNodes.{is_before, len_at, stands_before}
 use Rattle.image_check.specs.FreeLaws.{before_irreflexive}
-use Rattle.image_check.proofs.FreePlaces.{found-tells, nothing-tells}
-use Rattle.image_check.proofs.Budget.{search-short}
+use Rattle.image_check.proofs.free_tree.Places.{found-tells, nothing-tells}
+use Rattle.image_check.proofs.budget.Visits.{search-short}
 use Rattle.image_check.proofs.free_tree.is_reached.Goals as goal
 
 pub returns-in-Some-clause-value : goal.returns-in-Some-clause-value

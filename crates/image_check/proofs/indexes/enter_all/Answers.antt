@@ -6,10 +6,10 @@ use Rattle.raw_region.specs.Memory.{bytes_of}
 use Rattle.offset_link.specs.Link.{link_at}
 use Rattle.image_check.specs.Entered.{NotesEntries, are_enterable, can_enter, links_in}
 use Rattle.image_check.specs.IndexPlaces.{first_targets, is_new}
-use Rattle.image_check.proofs.EntryPlaces.{entered-new, not-new}
-use Rattle.image_check.proofs.Numbered.{one-more}
-use Rattle.image_check.proofs.Ranges.{split}
-use Rattle.image_check.proofs.EntriesNoted.{one-entered, wrong-entry, targets_of}
+use Rattle.image_check.proofs.indexes.EntryPlaces.{entered-new, not-new}
+use Rattle.image_check.proofs.block_collection.ByNumber.{one-more}
+use Rattle.image_check.proofs.bytes.Ranges.{split}
+use Rattle.image_check.proofs.indexes.AllEntries.{one-entered, wrong-entry, targets_of}
 use Rattle.image_check.proofs.indexes.enter_all.Goals as goal
 
 pub overflow_mul-place : goal.overflow_mul-place

@@ -7,10 +7,12 @@ use Rattle.image_check.specs.declared.owners.Block.{Block}
 use Rattle.image_check.specs.Passes.{HasTiles, tiles_in}
 use Rattle.image_check.specs.Owners.{IsMarkingOf, MarksLink, IsSharedIn, IsTurn, Blocks, block_at, next_in, root_in}
 use Rattle.image_check.specs.Owners.{owner}
-use Rattle.image_check.proofs.Inside.{IsInside, legal-small, payload-inside}
-use Rattle.image_check.proofs.Following.{leader, left-counts, left-rooted, map-ok, node-there, node-tile, of-err, of-ok}
-use Rattle.image_check.proofs.Following.{right-counts, right-rooted, root-is, taken, turn-keeps, turn-less, turned}
-use Rattle.image_check.proofs.Following.{debts-small}
+use Rattle.image_check.proofs.block_collection.Places.{IsInside, legal-small, payload-inside}
+use Rattle.image_check.proofs.shared_blocks.Worklist.{leader, left-counts, left-rooted, map-ok, node-there, node-tile}
+use Rattle.image_check.proofs.shared_blocks.Worklist.{of-err, of-ok}
+use Rattle.image_check.proofs.shared_blocks.Worklist.{right-counts, right-rooted, root-is, taken, turn-keeps, turn-less}
+use Rattle.image_check.proofs.shared_blocks.Worklist.{turned}
+use Rattle.image_check.proofs.shared_blocks.Worklist.{debts-small}
 use Rattle.image_check.proofs.marks.follow_next.Goals as goal
 
 -- the node lies in the window

@@ -3,10 +3,10 @@ use Rattle.image_check.specs.Owners.{FollowsAll, IsSharedIn, IsWholeMarkingOf, u
 use Rattle.image_check.specs.Passes.{tiles_in}
 use Rattle.image_check.specs.Sharing.{AreIndexesNoted, NotesValues, value_rates}
 use Rattle.image_check.specs.Visits.{weigh}
-use Rattle.image_check.proofs.Following.{of-err, of-ok}
-use Rattle.image_check.proofs.NotedAll.{finds-from, on-ok, whole}
-use Rattle.image_check.proofs.NotedTiles.{sharing-weigh}
-use Rattle.image_check.proofs.Owned.{none-shared-in, some-shared-in}
+use Rattle.image_check.proofs.shared_blocks.Worklist.{of-err, of-ok}
+use Rattle.image_check.proofs.shared_blocks.AllNoted.{finds-from, on-ok, whole}
+use Rattle.image_check.proofs.shared_blocks.Tiles.{sharing-weigh}
+use Rattle.image_check.proofs.shared_blocks.Meaning.{none-shared-in, some-shared-in}
 use Rattle.image_check.proofs.shared_blocks.check_sharing.Goals as goal
 
 pub returns-in-Err-clause-verdict : goal.returns-in-Err-clause-verdict

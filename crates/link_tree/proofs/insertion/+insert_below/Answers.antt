@@ -3,8 +3,8 @@ use Rattle.link_tree.specs.Tree.{Tree, height}
 use Rattle.link_tree.specs.Sides.{child_of, side_of, with_child}
 use Rattle.link_tree.specs.Growing.{CanInsert}
 use Rattle.link_tree.specs.declared.cursor.Side.{Side}
-use Rattle.link_tree.proofs.Growth.{grow_step, GrowsBelow, grows_below}
-use Rattle.link_tree.proofs.Keepers.{strict}
+use Rattle.link_tree.proofs.inserting.Insertion.{grow_step, GrowsBelow, grows_below}
+use Rattle.link_tree.proofs.trees.NodeLaws.{strict}
 use Rattle.link_tree.proofs.insertion.+insert_below.Goals as goal
 use Rattle.link_tree.proofs.insertion.+insert_below.Given.{Over}
 

@@ -1,7 +1,7 @@
 use Rattle.std.proofs.Common.{ℕ, ◌+◌, ◌*◌, ◌<◌, ◌≤◌, ◌^◌, arith, length}
 use Rattle.link_tree.specs.Tree.{nodes_of, bits}
-use Rattle.link_tree.proofs.Heights.{bits_most}
-use Rattle.link_tree.proofs.Keepers.{low_tree}
+use Rattle.link_tree.proofs.trees.Heights.{bits_most}
+use Rattle.link_tree.proofs.trees.NodeLaws.{low_tree}
 use Rattle.link_tree.proofs.insertion.insert.Goals as goal
 use Rattle.link_tree.proofs.insertion.insert.Goals.{After-insert_at-changed}
 use Rattle.link_tree.proofs.insertion.insert.Given.{Over}

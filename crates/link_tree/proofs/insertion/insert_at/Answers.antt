@@ -5,11 +5,11 @@ use Rattle.link_tree.specs.Nodes.{is_ordered_with, insert_in_order}
 use Rattle.link_tree.specs.Turning.{BecomesTree, blackened}
 use Rattle.link_tree.specs.Growing.{CanInsert, after_insert}
 use Rattle.link_tree.specs.Ways.{insert_point_of}
-use Rattle.link_tree.proofs.Trees.{IsChanged, one_tree, root_in}
-use Rattle.link_tree.proofs.Heights.{height_bits}
-use Rattle.link_tree.proofs.Keepers.{low_tree, node_of, strict}
-use Rattle.link_tree.proofs.Growth.{frame_beside, inserted}
-use Rattle.link_tree.proofs.Entries.{IsBegun, begun_whole, entered, grows_begun}
+use Rattle.link_tree.proofs.trees.Linked.{IsChanged, one_tree, root_in}
+use Rattle.link_tree.proofs.trees.Heights.{height_bits}
+use Rattle.link_tree.proofs.trees.NodeLaws.{low_tree, node_of, strict}
+use Rattle.link_tree.proofs.inserting.Insertion.{frame_beside, inserted}
+use Rattle.link_tree.proofs.inserting.EntryPoint.{IsBegun, begun_whole, entered, grows_begun}
 use Rattle.link_tree.proofs.insertion.insert_at.Goals as goal
 use Rattle.link_tree.proofs.insertion.insert_at.Given.{Over}
 

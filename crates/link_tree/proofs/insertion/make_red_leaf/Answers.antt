@@ -1,4 +1,4 @@
-use Rattle.link_tree.proofs.Growth.{lay_step}
+use Rattle.link_tree.proofs.inserting.Insertion.{lay_step}
 use Rattle.link_tree.proofs.insertion.make_red_leaf.Goals as goal
 
 pub returns-clause-layout : goal.returns-clause-layout

@@ -1,7 +1,7 @@
 use Rattle.std.proofs.Common.{◌≡◌, ℕ, ◌+◌, ◌-◌, ◌*◌, ◌≤◌, List, length, ap, subst, sym, ◌∙◌, arith}
 use Rattle.raw_region.specs.Memory.{bytes_of, patched}
 use Rattle.offset_link.specs.Relinked.{word_by_distance, reworded, HasNoNullLink}
-use Rattle.offset_link.proofs.Shifting.{non_null-join, non_null-same, run_after, words-after}
+use Rattle.offset_link.proofs.moves.ShiftedWords.{non_null-join, non_null-same, run_after, words-after}
 use Rattle.offset_link.proofs.moves.all_turns_down.Goals as goal
 
 -- all runs but the last eight, and then these

@@ -2,7 +2,7 @@ use Rattle.std.proofs.Common.{◌≡◌, ℕ, ◌+◌, ◌-◌, ◌*◌, ◌/◌
 use Rattle.std.proofs.Common.{arith}
 use Rattle.raw_region.specs.Memory.{bytes_of, patched}
 use Rattle.offset_link.specs.Relinked.{word_by_distance, reworded, BothEven, HasNoNullLink}
-use Rattle.offset_link.proofs.Shifting.{non_null-join, non_null-same, run_after, words-after}
+use Rattle.offset_link.proofs.moves.ShiftedWords.{non_null-join, non_null-same, run_after, words-after}
 use Rattle.offset_link.proofs.moves.move_runs_down.Goals as goal
 
 -- the runs below number k have moved

@@ -2,7 +2,7 @@ use Rattle.std.proofs.Common.{◌≡◌, ℕ, suc, ◌+◌, ◌-◌, ◌*◌, �
 use Rattle.std.proofs.Common.{◌∙◌, arith}
 use Rattle.raw_region.specs.Memory.{bytes_of, patched}
 use Rattle.offset_link.specs.Relinked.{word_by_distance, reworded, BothEven, HasNoNullLink}
-use Rattle.offset_link.proofs.Shifting.{no_links, non_null-join, non_null-same, run_before, words-before}
+use Rattle.offset_link.proofs.moves.ShiftedWords.{no_links, non_null-join, non_null-same, run_before, words-before}
 use Rattle.offset_link.proofs.moves.move_runs_up.Goals as goal
 
 -- the runs from number k on have moved

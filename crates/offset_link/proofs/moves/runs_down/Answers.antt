@@ -3,7 +3,7 @@ use Rattle.std.proofs.Common.{refl, arith, ◌==◌, not}
 use Rattle.std.specs.Prelude.{IsTrue, slice_index}
 use Rattle.raw_region.specs.Memory.{bytes_of, patched}
 use Rattle.offset_link.specs.Relinked.{relinked, BothEven, HasNoNullLink}
-use Rattle.offset_link.proofs.Shifting.{put_right, straight}
+use Rattle.offset_link.proofs.moves.ShiftedWords.{put_right, straight}
 use Rattle.offset_link.proofs.moves.runs_down.Goals as goal
 
 -- that none is null was known, or seen

@@ -31,8 +31,8 @@ use Rattle.std.proofs.alloc.Shapes.{after, head, arm_body}
 use Rattle.std.proofs.option.Made.{Some-of, none_of}
 use Rattle.std.proofs.raw_atomic.Walks.{proved_at, leaves}
 use Rattle.raw_region.specs.Ownership.{IsNonNull, bytes_type}
-use Rattle.raw_region.proofs.Values.{none, mark, three, none_made, mark_made, three_made}
-use Rattle.raw_region.proofs.Bodies.{slot_at, then_runs}
+use Rattle.raw_region.proofs.block.Values.{none, mark, three, none_made, mark_made, three_made}
+use Rattle.raw_region.proofs.block.Signatures.{slot_at, then_runs}
 use Rattle.raw_region.specs.contracts.block.Space as space
 use Rattle.raw_region.specs.contracts.block.Lease as lease
 use Rattle.raw_region.specs.contracts.block.allocate.{ended, clauses}

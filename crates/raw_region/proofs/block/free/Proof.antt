@@ -29,8 +29,8 @@ use Rattle.std.proofs.alloc.Shapes.{after}
 use denote.Triple.Table.{framed}
 use Rattle.std.proofs.raw_atomic.Walks.{proved_at, leaves}
 use Rattle.raw_region.specs.Ownership.{IsNonNull, bytes_type, block_owns}
-use Rattle.raw_region.proofs.Values.{none, mark, none_had, mark_had}
-use Rattle.raw_region.proofs.Bodies.{slot_at}
+use Rattle.raw_region.proofs.block.Values.{none, mark, none_had, mark_had}
+use Rattle.raw_region.proofs.block.Signatures.{slot_at}
 use Rattle.raw_region.specs.contracts.block.free.{ended, clauses}
 use Rattle.raw_region.specs.contracts.block.free.Key.{name as #self}
 use Rattle.raw_region.proofs.block.free.Statement.{statement}

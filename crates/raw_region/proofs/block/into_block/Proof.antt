@@ -16,7 +16,7 @@ use denote.Steps.{nothing}
 use denote.Triple.Walked.{Stays, stay_dropped, walk_of}
 use Rattle.std.proofs.alloc.Calls.{Goes-blank}
 use Rattle.std.proofs.raw_atomic.Walks.{proved_at, leaves}
-use Rattle.raw_region.proofs.Values.{none, none_had, none_made}
+use Rattle.raw_region.proofs.block.Values.{none, none_had, none_made}
 use Rattle.raw_region.specs.contracts.block.LentBytes as from
 use Rattle.raw_region.specs.contracts.block.into_block as f
 use Rattle.raw_region.proofs.block.into_block.Statement.{statement}

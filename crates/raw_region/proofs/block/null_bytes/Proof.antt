@@ -16,7 +16,7 @@ use denote.RawPtr.{null_ptr, ptr_val}
 use denote.Steps.{nothing}
 use denote.Triple.Walked.{Stays, walk_of}
 use Rattle.std.proofs.raw_atomic.Walks.{proved_at, leaves}
-use Rattle.raw_region.proofs.Values.{none, none_made, two, two_made}
+use Rattle.raw_region.proofs.block.Values.{none, none_made, two, two_made}
 use Rattle.raw_region.specs.contracts.block.LentBytes as lent
 use Rattle.raw_region.specs.contracts.block.null_bytes as f
 use Rattle.raw_region.proofs.block.null_bytes.Statement.{statement}

@@ -42,7 +42,7 @@ use denote.Triple.Walked.{says, Stays, stay_dropped, walk_of, ends_at, walk_Meet
 use Rattle.std.proofs.alloc.Calls.{Goes-blank}
 use Rattle.std.proofs.alloc.Shapes.{after}
 use Rattle.raw_region.specs.Ownership.{IsNonNull, bytes_type, space_owns}
-use Rattle.raw_region.proofs.Values.{none, none_had, none_made}
+use Rattle.raw_region.proofs.block.Values.{none, none_had, none_made}
 use Rattle.raw_region.specs.contracts.block.Space as Space
 use Rattle.raw_region.specs.contracts.block.zero as F
 use Rattle.raw_region.specs.contracts.block.zero.Key.{name as #self}

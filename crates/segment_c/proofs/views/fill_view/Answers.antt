@@ -1,7 +1,7 @@
 -- What is said of the elements.
 use Rattle.std.proofs.Common.{refl}
 use Rattle.seg_types.specs.Keys.{key_seen}
-use Rattle.segment_c.proofs.ElementViews.{has-view}
+use Rattle.segment_c.proofs.views.Places.{has-view}
 use Rattle.segment_c.proofs.views.fill_view.Goals as goal
 
 pub returns-in-Ok-clause-bytes : goal.returns-in-Ok-clause-bytes

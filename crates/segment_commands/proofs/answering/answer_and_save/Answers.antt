@@ -5,7 +5,7 @@ use Rattle.segment_manager.specs.declared.modes.Mode.TheVariants.{Write}
 use Rattle.segment_disk.specs.Events.{IsFlushed}
 use Rattle.segment_scripts.specs.declared.ends.End.{End}
 use Rattle.segment_commands.specs.Running.{AnswersScript}
-use Rattle.segment_commands.proofs.Ran.{refusing_run, stopped, unsaving, saved, unsaved}
+use Rattle.segment_commands.proofs.running.Ends.{refusing_run, stopped, unsaving, saved, unsaved}
 use Rattle.segment_commands.proofs.answering.answer_and_save.Goals as goal
 
 pub returns-in_err-run_script : goal.returns-in_err-run_script

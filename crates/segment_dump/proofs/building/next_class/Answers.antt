@@ -1,5 +1,5 @@
 use Rattle.segment_dump.proofs.Common.{refl, false≢true, Anonymous, Named, Unique}
-use Rattle.segment_dump.proofs.HeadReads.{class-is, class-none, class-unread}
+use Rattle.segment_dump.proofs.reading.ObjectHeads.{class-is, class-none, class-unread}
 use Rattle.segment_dump.proofs.building.next_class.Goals as goal
 
 pub returns-in_err-word : goal.returns-in_err-word

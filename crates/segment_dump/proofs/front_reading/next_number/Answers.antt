@@ -1,5 +1,5 @@
 use Rattle.segment_dump.proofs.Common.{◌^◌, ◌<◌, ◌∙◌, Some, None, sym, number_text, Breaks, itself}
-use Rattle.segment_dump.proofs.Readers.{as-seen, number-reads, number-whole_language}
+use Rattle.segment_dump.proofs.reading.Prefixes.{as-seen, number-reads, number-whole_language}
 use Rattle.segment_dump.proofs.front_reading.next_number.Goals as goal
 
 pub returns-in_err-number-clause-value : goal.returns-in_err-number-clause-value

@@ -3,7 +3,7 @@ use Rattle.std.proofs.lemmas.Iterator.{YieldsList-from_slice}
 use Rattle.std.proofs.lemmas.Iterator.Search.{find_from_yields_List}
 use Rattle.segment_lang.specs.Words.{is_word}
 use Rattle.seg_types.specs.declared.kinds.Kind.{Kind}
-use Rattle.segment_lang.proofs.FormTables.{LentRow, found_row}
+use Rattle.segment_lang.proofs.commands.Forms.{LentRow, found_row}
 use Rattle.segment_lang.proofs.kinds.find_kind.Goals as goal
 
 pub returns : goal.returns

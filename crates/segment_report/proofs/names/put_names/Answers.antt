@@ -2,7 +2,7 @@ use Rattle.std.proofs.Common.{◌≡◌, ◌∙◌, Some, None, slice_get, sym, 
 use Rattle.segment_manager.specs.Directory.{Directory}
 use Rattle.segment_manager.specs.indexes.Iterating.{names_of}
 use Rattle.segment_manager.specs.State.{SegmentState, DenotesCurrent}
-use Rattle.segment_report.proofs.ListedNames.{ListsFirstNames, listed-all, listed-cut, listed-more, none_listed}
+use Rattle.segment_report.proofs.page.Names.{ListsFirstNames, listed-all, listed-cut, listed-more, none_listed}
 use Rattle.segment_report.proofs.names.put_names.Goals as goal
 
 pub names-init : goal.names-init

@@ -1,6 +1,6 @@
 -- The names that came have gone out, those of them that begin with the text.
 use Rattle.std.proofs.Common.{◌≡◌}
-use Rattle.segment_report.proofs.ListedNames.{ListsFirstNames}
+use Rattle.segment_report.proofs.page.Names.{ListsFirstNames}
 use Rattle.segment_report.proofs.names.put_names.Given as goal
 
 abbrev pub invariant-names : goal.invariant-names

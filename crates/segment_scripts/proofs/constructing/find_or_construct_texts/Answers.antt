@@ -3,7 +3,7 @@ use Rattle.seg_types.specs.Commands.{FindOrConstruct, Strings}
 use Rattle.seg_types.specs.Keys.{index_key_seen}
 use Rattle.segment_manager.specs.objects.Found.{found_object_answer}
 use Rattle.segment_manager.specs.State.{TakesStep}
-use Rattle.segment_scripts.proofs.NewKinds.{index_strings_kind}
+use Rattle.segment_scripts.proofs.values.Keys.{index_strings_kind}
 use Rattle.segment_scripts.proofs.constructing.find_or_construct_texts.Goals as goal
 
 pub find_or_construct_texts-requires : goal.find_or_construct_texts-requires

@@ -8,12 +8,14 @@ use Rattle.segment_manager.specs.objects.Found.{found_answer, found_object}
 use Rattle.segment_manager.specs.containers.Maps.{any_value_answer}
 use Rattle.segment_manager.specs.State.{AnswersQuery}
 use Rattle.segment_scripts.specs.declared.replies.CommandAnswer.TheVariants as said
-use Rattle.segment_scripts.proofs.Answering.{keeps-refused, replies-as, replies-blocks, replies-command, replies-found}
-use Rattle.segment_scripts.proofs.Answering.{replies-info}
-use Rattle.segment_scripts.proofs.Answering.{has-found, lacks-found, named-found, places-found, unique-found}
-use Rattle.segment_scripts.proofs.Answering.{replies-kinds, replies-names, replies-read, replies-show}
+use Rattle.segment_scripts.proofs.segments.CommandSteps.{keeps-refused, replies-as, replies-blocks, replies-command}
+use Rattle.segment_scripts.proofs.segments.CommandSteps.{replies-found}
+use Rattle.segment_scripts.proofs.segments.CommandSteps.{replies-info}
+use Rattle.segment_scripts.proofs.segments.CommandSteps.{has-found, lacks-found, named-found, places-found}
+use Rattle.segment_scripts.proofs.segments.CommandSteps.{unique-found}
+use Rattle.segment_scripts.proofs.segments.CommandSteps.{replies-kinds, replies-names, replies-read, replies-show}
 use Rattle.segment_scripts.specs.Replies.{IsMeant}
-use Rattle.segment_scripts.proofs.TextElements.{has-room}
+use Rattle.segment_scripts.proofs.changing.Texts.{has-room}
 use Rattle.segment_scripts.proofs.replies.reply.Goals as goal
 
 pub returns-in-Construct : goal.returns-in-Construct

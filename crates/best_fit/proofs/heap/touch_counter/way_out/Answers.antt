@@ -4,10 +4,10 @@ use Rattle.best_fit.proofs.Common.{Tile}
 use Rattle.best_fit.proofs.Common.{IsSearchTree, comes_before, gap_cells, gaps_in, len_in, is_gap_node-GapNode}
 use Rattle.best_fit.proofs.Common.{CanBeginRemoval}
 use Rattle.best_fit.specs.declared.heap.nodes.GapProbe.{GapProbe}
-use Rattle.best_fit.proofs.Exits.{found_itself, may_begin}
-use Rattle.best_fit.proofs.FreeTrees.{root_leads, search_tree, tree_size}
-use Rattle.best_fit.proofs.GapFacts.{NodeAt, node_at, node_len, node_read, node_tile}
-use Rattle.best_fit.proofs.Replanting.{few_bits, node_of_tree}
+use Rattle.best_fit.proofs.free_tree.ExitPoint.{found_itself, may_begin}
+use Rattle.best_fit.proofs.free_tree.Trees.{root_leads, search_tree, tree_size}
+use Rattle.best_fit.proofs.gaps.Nodes.{NodeAt, node_at, node_len, node_read, node_tile}
+use Rattle.best_fit.proofs.free_tree.LinkAndUnlink.{few_bits, node_of_tree}
 use Rattle.best_fit.proofs.heap.touch_counter.way_out.Goals as goal
 use Rattle.best_fit.proofs.heap.touch_counter.way_out.Goals.{After-tile_at-len, Start}
 

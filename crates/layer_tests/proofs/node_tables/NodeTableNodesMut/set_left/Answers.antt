@@ -1,6 +1,6 @@
 use Rattle.std.proofs.Common.{◌<◌, length, rules}
 use Rattle.std.proofs.lemmas.Bool.{ltb-true}
-use Rattle.layer_tests.proofs.Tables.{table_set_left}
+use Rattle.layer_tests.proofs.calls.NodeTable.{table_set_left}
 use Rattle.layer_tests.proofs.node_tables.NodeTableNodesMut.set_left.Goals as goal
 
 pub returns-clause-cells : goal.returns-clause-cells

@@ -32,7 +32,7 @@ use denote.Triple.Table.{entered}
 use denote.Triple.Walked.{says, Stays, stay_dropped, walk_of, ends_at, walk_Meets, Goes-dropped}
 use Rattle.raw_region.specs.Memory.{part}
 use Rattle.raw_region.specs.Ownership.{IsNonNull, block_shares}
-use Rattle.raw_region.proofs.Parts.{seen_part}
+use Rattle.raw_region.proofs.block.Parts.{seen_part}
 use Rattle.raw_region.specs.contracts.block.Block as Block
 use Rattle.raw_region.specs.contracts.block.Block.slice as F
 use Rattle.raw_region.specs.contracts.block.Block.slice.Key.{name as #self}

@@ -46,7 +46,7 @@ use Rattle.std.specs.List.{refill}
 use Rattle.raw_region.specs.Memory.{part, patched}
 use Rattle.raw_region.specs.Ownership.{IsNonNull, block_owns}
 use Rattle.raw_region.specs.Loans.{rewritten}
-use Rattle.raw_region.proofs.Parts.{Bytes, Around, part_out, part_in}
+use Rattle.raw_region.proofs.block.Parts.{Bytes, Around, part_out, part_in}
 use Rattle.raw_region.specs.contracts.block.Block as Block
 use Rattle.raw_region.specs.contracts.block.Block.slice_mut as F
 use Rattle.raw_region.specs.contracts.block.Block.slice_mut.Key.{name as #self}

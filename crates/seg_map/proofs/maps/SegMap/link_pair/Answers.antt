@@ -1,7 +1,7 @@
 -- The node enters the tree, and the three words say so.
 use Rattle.seg_map.proofs.{sym, ap, ◌∙◌, ◌+◌, ◌-◌, Some, arith, bits, laws, can_link, few_steps, fewer, kept_proper}
 use Rattle.seg_map.proofs.{kept_room, own_nodes, planted, planted_tree, relinked, rules, top_whole, Relinked}
-use Rattle.seg_map.proofs.{Entering.few_in_map, maps.SegMap.link_pair.Goals.After-add}
+use Rattle.seg_map.proofs.{pairs.SearchTree.few_in_map, maps.SegMap.link_pair.Goals.After-add}
 use Rattle.link_tree.specs.Nodes.{insert_in_order}
 use Rattle.seg_map.specs.{Linking.keys_in, PairNodes.comes_before}
 use Rattle.seg_map.proofs.maps.SegMap.link_pair.Goals as goal

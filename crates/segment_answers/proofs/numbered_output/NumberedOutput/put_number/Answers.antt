@@ -1,6 +1,6 @@
 use Rattle.std.proofs.Common.{◌≡◌, ◌<◌, ◌^◌, false, ap, rules, ◌∙◌, arith}
 use Rattle.segment_answers.specs.Numbers.{has_number, is_in_text}
-use Rattle.segment_answers.proofs.NumberLaws.{number_end, number_text, part_end, part_text}
+use Rattle.segment_answers.proofs.numbering.Texts.{number_end, number_text, part_end, part_text}
 use Rattle.segment_answers.proofs.numbered_output.NumberedOutput.put_number.Goals as goal
 
 pub invariant_of-self : goal.invariant_of-self

@@ -1,6 +1,6 @@
 use Rattle.std.proofs.Common.{◌≡◌, ◌<◌, ◌++◌, ℕ, true, false, ap, sym, rules, take, ◌∙◌, arith}
 use Rattle.segment_answers.specs.Numbers.{is_in_text}
-use Rattle.segment_answers.proofs.NumberLaws.{line_end, line_text, passed}
+use Rattle.segment_answers.proofs.numbering.Texts.{line_end, line_text, passed}
 use Rattle.segment_answers.proofs.numbered_output.NumberedOutput.take.Goals as goal
 
 pub invariant_of-self-2 : goal.invariant_of-self-2

@@ -1,5 +1,5 @@
 use Rattle.segment_dump.proofs.Common.{sym, ◌∙◌, current, whole_language, kind_of_word, word_of}
-use Rattle.segment_dump.proofs.LineReads.{no-word, other-word, this-word}
+use Rattle.segment_dump.proofs.reading.Lines.{no-word, other-word, this-word}
 use Rattle.segment_dump.proofs.tokens.Words.next_kind.Goals as goal
 
 pub returns-in_err-next_word : goal.returns-in_err-next_word

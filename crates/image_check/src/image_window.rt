@@ -12,7 +12,7 @@ ghost use Rattle.block_tags.specs.Tiles.{has_tags};
 ghost use Rattle.block_tags.specs.Windows.{HasTileAt, IsTiledWindow, EncodesTiles};
 ghost use Rattle.block_tags.specs.declared.tile.Tile.{Tile as ATile};
 ghost use Rattle.image_check.specs.Formats.{version_word};
-ghost use Rattle.image_check.specs.HeaderPlaces.{IsFirstFilled};
+ghost use Rattle.image_check.specs.HeaderPlaces.{IsFirstNonzero};
 
 mod blocks;
 mod objects;
@@ -26,10 +26,10 @@ use crate::versions::version_in;
 use block_tags::{CheckedTags, Tile, check_counted, first, next};
 pub(crate) use blocks::BlockTable;
 pub(crate) use objects::{Object, Value};
-use offset_link::{BadLink, checked, load};
+use offset_link::{BadLink, load, load_checked};
 pub(crate) use pairs::check_pairs;
-pub(crate) use places::{TileProbe, check_places, find_place, has_good_links};
-use raw_region::{RawRegion, Window, hold_bytes};
+pub(crate) use places::{TileProbe, check_places, find_tile, has_good_links};
+use raw_region::{RawRegion, Window, bytes_are_octets};
 use std::marker::Model;
 
 /// The window of an image that is checked.
@@ -106,13 +106,13 @@ impl ImageWindow {
     /// # Errors
     ///
     /// `BadLink` where it is no place of a payload.
-    fn checked(&self, at: u64) -> Result<Option<u64>, BadLink>
+    fn load_checked(&self, at: u64) -> Result<Option<u64>, BadLink>
         requires aligned { at % 8 ≡ 0 }
         requires in_bounds { at + 8 ≤ length self.now.bytes }
         ensures on_ok { IfOk result (λ target. target ≡ link_at (bytes_of self.now.bytes) at) }
         ensures on_error { is_err result ≡ is_bad (length self.now.bytes) (link_at (bytes_of self.now.bytes) at) }
     {
-        checked(&self.window, at)
+        load_checked(&self.window, at)
     }
 
     /// The version that the first bytes say.
@@ -154,24 +154,24 @@ impl ImageWindow {
         ensures on_ok { IfOk result (λ target. target ≡ link_at (bytes_of self.now.bytes) at) }
         ensures on_error { is_err result ≡ is_bad (length self.now.bytes) (link_at (bytes_of self.now.bytes) at) }
     {
-        checked(&self.window, at)
+        load_checked(&self.window, at)
     }
 
     /// The first byte of the header from `from` on, below `to`, that is not 0.
-    pub fn first_filled(&self, from: u64, to: u64) -> Option<u64>
+    pub fn first_nonzero(&self, from: u64, to: u64) -> Option<u64>
         requires header { to ≤ 128 }
         requires in_bounds { to ≤ length self.now.bytes }
         ensures { MatchOption result (AreZero (bytes_of self.now.bytes) from to)
-            (IsFirstFilled (bytes_of self.now.bytes) from to) }
+            (IsFirstNonzero (bytes_of self.now.bytes) from to) }
     {
-        first_filled(self.bytes(0, self.size()), from, to)
+        first_nonzero(self.bytes(0, self.size()), from, to)
     }
 
     /// Bytes are below 256. None is read.
-    pub fn hold_bytes(&self)
+    pub fn bytes_are_octets(&self)
         ensures { IsTrue (are_bytes self.now.bytes) }
     {
-        hold_bytes(self.window.bytes(0, self.window.size()));
+        bytes_are_octets(self.window.bytes(0, self.window.size()));
     }
 
     /// The `len` bytes of an element at `from`, at most 8. One visit.
@@ -214,7 +214,7 @@ impl ImageWindow {
         requires size { IsTrue (is_legal_size (length self.now.bytes)) }
         requires aligned { at % 8 ≡ 0 }
         requires in_bounds { at + 16 ≤ length self.now.bytes }
-        ensures remainder { result.0 ≡ link_at (bytes_of self.now.bytes) at }
+        ensures left { result.0 ≡ link_at (bytes_of self.now.bytes) at }
         ensures right { result.1 ≡ link_at (bytes_of self.now.bytes) (at + 8) }
         ensures visits { visits.new ≡ visits.old + 1 }
     {
@@ -236,32 +236,32 @@ impl ImageWindow {
     }
 
     /// The tile behind the header, or nothing where there is none.
-    pub fn first(&self) -> Option<Unread>
+    pub fn first(&self) -> Option<UnreadTile>
         requires { IsTiledWindow self.now }
         ensures { (ts : List ATile) → EncodesTiles self.now ts → result ≡ first_in ts }
     {
         match first(&self.window) {
-            Some(tile) => Some(Unread { tile }),
+            Some(tile) => Some(UnreadTile { tile }),
             None => None,
         }
     }
 
     /// The tile behind the one at `at`, or nothing where that is the last.
-    pub fn next(&self, at: u64) -> Option<Unread>
+    pub fn next(&self, at: u64) -> Option<UnreadTile>
         requires { HasTileAt self.now at }
         ensures { (ts : List ATile) → EncodesTiles self.now ts → result ≡ next_in ts at }
     {
         match next(&self.window, at) {
-            Some(tile) => Some(Unread { tile }),
+            Some(tile) => Some(UnreadTile { tile }),
             None => None,
         }
     }
 }
 
 /// The first byte from `from` on, below `to`, that is not 0.
-fn first_filled(bytes: &[u8], from: u64, to: u64) -> Option<u64>
+fn first_nonzero(bytes: &[u8], from: u64, to: u64) -> Option<u64>
     requires { to ≤ length bytes.now }
-    ensures { MatchOption result (AreZero (bytes_of bytes.now) from to) (IsFirstFilled (bytes_of bytes.now) from to) }
+    ensures { MatchOption result (AreZero (bytes_of bytes.now) from to) (IsFirstNonzero (bytes_of bytes.now) from to) }
 {
     'bytes: for at in from..to {
         if bytes[at as usize] != 0 {
@@ -273,11 +273,11 @@ fn first_filled(bytes: &[u8], from: u64, to: u64) -> Option<u64>
 
 /// A tile whose tags nobody has looked at. What they say is told by `read` alone, which counts it.
 #[derive(Drop)]
-pub struct Unread {
+pub struct UnreadTile {
     tile: Tile,
 }
 
-impl Model for Unread {
+impl Model for UnreadTile {
     ghost use Rattle.block_tags.specs.declared.tile.Tile.{Tile};
 
     ghost Value = { Tile };
@@ -285,7 +285,7 @@ impl Model for Unread {
     ghost view = { λ u. u.tile };
 }
 
-impl Unread {
+impl UnreadTile {
     /// What the tags say. One visit.
     pub fn read(self, visits: &mut VisitCounter) -> Tile
         ensures tile { result ≡ self }

@@ -49,7 +49,11 @@ pub extern "C" fn zx_view(
     ensures marks { h.new.marks ≡ h.old.marks }
 {
     let (which, segment) = passed!(enter(alloc, h, key));
-    put(look(&segment, &which, h.marks.changes, view), h, segment)
+    put(
+        fill_view(&segment, &which, h.marks.changes, view),
+        h,
+        segment,
+    )
 }
 
 /// The same of elements that C is to write there, which the handle notes.
@@ -69,7 +73,7 @@ pub extern "C" fn zx_view_mut(
     ensures marks { LendsRange result h.old.marks h.new.marks }
 {
     let (which, segment) = passed!(enter(alloc, h, key));
-    let code = look_mut(&segment, &which, h.marks.changes, view);
+    let code = fill_view_mut(&segment, &which, h.marks.changes, view);
     if code == DONE {
         h.marks.is_shared = true;
     }
@@ -77,7 +81,7 @@ pub extern "C" fn zx_view_mut(
 }
 
 /// The same of a segment.
-fn look_mut(segment: &Segment, key: &Key, changes: u64, view: &mut CView) -> u32
+fn fill_view_mut(segment: &Segment, key: &Key, changes: u64, view: &mut CView) -> u32
     ensures read { (d : Directory) → DenotesCurrent segment.now.cut.bytes d
         → IsCoded (IsView view.new) result (writable segment.now.mode (run_at d (key_seen key.now))) }
     ensures bytes { result ≡ 0 → HasView segment.now (key_seen key.now) view.new }
@@ -87,11 +91,11 @@ fn look_mut(segment: &Segment, key: &Key, changes: u64, view: &mut CView) -> u32
     if segment.mode() == Mode::ReadOnly {
         return READ_ONLY;
     }
-    look(segment, key, changes, view)
+    fill_view(segment, key, changes, view)
 }
 
 /// Where the elements of an object of a segment stand.
-fn look(segment: &Segment, key: &Key, changes: u64, view: &mut CView) -> u32
+fn fill_view(segment: &Segment, key: &Key, changes: u64, view: &mut CView) -> u32
     ensures read { (d : Directory) → DenotesCurrent segment.now.cut.bytes d
         → IsCoded (IsView view.new) result (run_at d (key_seen key.now)) }
     ensures bytes { result ≡ 0 → HasView segment.now (key_seen key.now) view.new }

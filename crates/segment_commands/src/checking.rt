@@ -2,7 +2,7 @@
 ghost use Rattle.std.specs.Prelude.{◌≡◌, ◌^◌, ◌-◌, ◌<◌, IsErr, IsOk, MatchResult, map};
 ghost use Rattle.raw_region.specs.Device.{Writes};
 ghost use Rattle.segment_commands.specs.Checking.{ChecksAll, TellsFit, reason_lines, status_in, unfit_lines};
-ghost use Rattle.segment_commands.specs.Commands.{IsCheck};
+ghost use Rattle.segment_commands.specs.Commands.{RunsCheck};
 
 use crate::command_faults::{CommandFault, WRITE_FAULT};
 use crate::opening::verify_segment;
@@ -27,7 +27,7 @@ pub fn check<D: Disk, O: Output>(
     out: &mut O,
 ) -> Result<(), CommandFault>
     requires { (O.history out.old).failures < 2 ^ 64 - 1 }
-    ensures { IsCheck D.step disk.old disk.new path.now O.history O.flushes out.old out.new result }
+    ensures { RunsCheck D.step disk.old disk.new path.now O.history O.flushes out.old out.new result }
 {
     verify_segment(alloc, disk, path)?;
     Ok(write_and_flush(out, b"ok\n")?)
@@ -108,7 +108,7 @@ fn status_in(found: Result<(), SessionFault>) -> u8
 
 /// Checks files one after another, and answers the worst status. Each line that is said of one begins with its path, as
 /// a text of the language: of one that holds a segment on standard output, unless the check is quiet, and of one that
-/// holds none on standard error; behind that line stands what `trouble_of` tells of the disk, if anything.
+/// holds none on standard error; behind that line stands what `problem_of` tells of the disk, if anything.
 ///
 /// # Errors
 ///

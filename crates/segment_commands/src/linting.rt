@@ -5,7 +5,7 @@ ghost use Rattle.segment_commands.specs.Linting.{Lints, answer_of};
 use crate::answering::Flushing;
 use crate::command_faults::{CommandFault, WRITE_FAULT};
 use raw_region::Source;
-use segment_answers::Lined;
+use segment_answers::LineOutput;
 use segment_cli::{ProgramFault, SessionFault};
 use segment_scripts::{CommandRow, Lint, RunFault, run_followed};
 
@@ -16,7 +16,7 @@ use segment_scripts::{CommandRow, Lint, RunFault, run_followed};
 ///
 /// `Misspelled` where a line is no command, `ReadFault` and `ScriptTooLong` of the script, and `WriteFault` where the
 /// output fails.
-pub fn lint<S: Source, O: Lined>(
+pub fn lint<S: Source, O: LineOutput>(
     rows: &[CommandRow],
     script: &mut S,
     out: &mut O,

@@ -2,8 +2,9 @@
 ghost use Rattle.std.specs.Prelude.{◌≡◌, ◌^◌, ◌-◌, ◌<◌, ℕ, true, false, Some};
 ghost use Rattle.block_tags.specs.Format.{is_legal_size};
 ghost use Rattle.segment_dump.specs.Loading.{IsRequestedSize};
-ghost use Rattle.segment_commands.specs.LoadOver.{IsLoadOver, LoadsOver};
-ghost use Rattle.segment_commands.specs.Loading.{IsFitting, IsLoad, IsMadeIfGiven, IsSizeFit, IsWantedSize, LoadsDump};
+ghost use Rattle.segment_commands.specs.LoadOver.{RunsLoadOver, LoadsOver};
+ghost use Rattle.segment_commands.specs.Loading.{IsFitting, RunsLoad, IsMadeIfGiven, IsSizeFit, IsWantedSize};
+ghost use Rattle.segment_commands.specs.Loading.{LoadsDump};
 ghost use Rattle.segment_commands.specs.Loading.{LoadsSegment, LoadsWhatFits, NeedsRoom, load_fault};
 
 use crate::command_faults::CommandFault;
@@ -42,7 +43,7 @@ fn fault_of(error: LoadError, needed: u64) -> CommandFault
 }
 
 /// How many bytes a segment has at the least that has the objects of a dump.
-#[tactic(auto, using(crate::proofs::Loads::needs_counted, crate::proofs::Loads::needs_uncounted))]
+#[tactic(auto, using(crate::proofs::loading::Loads::needs_counted, crate::proofs::loading::Loads::needs_uncounted))]
 fn needed_by(text: &[u8]) -> u64
     ensures { NeedsRoom text.now result }
 {
@@ -111,7 +112,7 @@ pub fn load<D: Disk, S: Source>(
     script: &mut S,
 ) -> Result<(), CommandFault>
     requires { (S.history script.old).failures < 2 ^ 64 - 1 }
-    ensures effect { IsLoad D.step disk.old disk.new path.now size (S.history script.old) (S.history script.new)
+    ensures effect { RunsLoad D.step disk.old disk.new path.now size (S.history script.old) (S.history script.new)
         result }
     ensures success { LoadsWhatFits D.step disk.old disk.new path.now size (S.history script.old)
         (S.history script.new) result }
@@ -155,7 +156,7 @@ pub fn load_over<D: Disk, S: Source>(
     script: &mut S,
 ) -> Result<(), CommandFault>
     requires { (S.history script.old).failures < 2 ^ 64 - 1 }
-    ensures { IsLoadOver D.step disk.old disk.new path.now size (S.history script.old) (S.history script.new) result }
+    ensures { RunsLoadOver D.step disk.old disk.new path.now size (S.history script.old) (S.history script.new) result }
 {
     if disk.path_status(path) != Presence::There {
         return load(alloc, disk, path, size, script);

@@ -2,12 +2,12 @@
 ghost use Rattle.std.specs.Prelude.{⊤};
 
 use crate::disk::{Disk, OpenedFile};
+use crate::file_problems::{creation_problem, problem_of};
 use crate::locks::{Identity, PAUSE, lock, lock_made, open_to_write, sync_file};
 use crate::presence::{AlreadyLocked, CreateMode, FileProblem, Presence};
 use crate::replacement_file::ReplacementFile;
 use crate::sparse::{SparseFile, longest_file};
 use crate::std_output::StdOutput;
-use crate::troubles::{making_trouble, trouble_of};
 use raw_region::DeviceFault;
 use raw_region::std_io::StdSource;
 use std::fs::{self, File, Metadata};
@@ -48,11 +48,11 @@ impl HostLock {
 impl<'a, R: Files> HostDisk<'a, R> {
     /// The files, none of which was asked for yet.
     pub fn new(files: &'a R) -> HostDisk<'a, R> {
-        HostDisk::patient(files, 0)
+        HostDisk::with_wait(files, 0)
     }
 
     /// The same, which wait up to so many seconds for the right to write a file that another has.
-    pub fn patient(files: &'a R, wait: u64) -> HostDisk<'a, R> {
+    pub fn with_wait(files: &'a R, wait: u64) -> HostDisk<'a, R> {
         HostDisk {
             files,
             wait,
@@ -171,7 +171,7 @@ impl<'a, R: Files<File = File> + AllocGlobal + Clock> Disk for HostDisk<'a, R> {
                 Ok(OpenedFile { reader, len })
             }
             Err(error) => {
-                self.trouble = trouble_of(error.kind());
+                self.trouble = problem_of(error.kind());
                 Err(DeviceFault)
             }
         }
@@ -181,7 +181,7 @@ impl<'a, R: Files<File = File> + AllocGlobal + Clock> Disk for HostDisk<'a, R> {
 
     fn compare(&mut self, path: &str, hold: &HostLock) -> Result<(), DeviceFault> {
         if self.is_taken(path, hold) {
-            self.trouble = Some(FileProblem::Taken);
+            self.trouble = Some(FileProblem::Exists);
             return Err(DeviceFault);
         }
         Ok(())
@@ -200,7 +200,7 @@ impl<'a, R: Files<File = File> + AllocGlobal + Clock> Disk for HostDisk<'a, R> {
                 Ok(StdOutput::new(SparseFile::new(file, longest)))
             }
             Err(error) => {
-                self.trouble = making_trouble(error.kind(), path, how);
+                self.trouble = creation_problem(error.kind(), path, how);
                 Err(DeviceFault)
             }
         }

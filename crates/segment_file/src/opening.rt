@@ -1,6 +1,6 @@
 //! The opening of the image in a file, whatever it says of its size.
 ghost use Rattle.std.specs.Prelude.{◌≡◌, ◌+◌, IfErr, IfOk, length};
-ghost use Rattle.raw_region.specs.{Device.read_delta, Refusals.refusal_of};
+ghost use Rattle.raw_region.specs.{Device.read_delta, Refusals.out_of_memory_of};
 ghost use Rattle.image_check.specs.{declared.errors.OpenError.TheVariants.RegionTooSmall, Formats.format_in};
 ghost use Rattle.image_check.specs.{Opening.IsTooSmallFor, OpeningBytes.as_given};
 ghost use Rattle.grow_shrink.specs.LargerRegion.{region_len};
@@ -22,10 +22,10 @@ use segment_manager::{Mode, Segment};
 use std::alloc::Global;
 
 /// A region with room for a segment of so many bytes, and for more.
-#[tactic(auto, using(crate::proofs::Rooms::region_capped))]
+#[tactic(auto, using(crate::proofs::opening::Rooms::region_capped))]
 pub(crate) fn file_region(alloc: Global, bytes: u64, more: u64) -> Result<RawRegion, OutOfMemory>
     ensures len { IfOk result (λ region. length region ≡ region_len (bytes + more)) }
-    ensures refused { IfErr result (λ refusal. refusal ≡ refusal_of (region_len (bytes + more))) }
+    ensures refused { IfErr result (λ refusal. refusal ≡ out_of_memory_of (region_len (bytes + more))) }
 {
     region_for(alloc, bytes.saturating_add(more))
 }

@@ -24,7 +24,7 @@ fn are_digits(bytes: &[u8]) -> bool
 }
 
 /// Whether a word is `0`, or digits without a leading zero.
-#[tactic(auto, using(crate::proofs::Decimals::long_numeral))]
+#[tactic(auto, using(crate::proofs::values::Decimals::long_numeral))]
 fn is_numeral(word: &[u8]) -> bool
     ensures { result ≡ is_numeral word.now }
 {
@@ -36,7 +36,7 @@ fn is_numeral(word: &[u8]) -> bool
 }
 
 /// The number that digits spell, from 0 to 18446744073709551615, or `None` where it is greater.
-#[tactic(auto, using(crate::proofs::Decimals::digits))]
+#[tactic(auto, using(crate::proofs::values::Decimals::digits))]
 fn value_of_digits(digits: &[u8]) -> Option<u64>
     requires { IsTrue (list_all is_digit digits.now) }
     ensures { result ≡ (if nat_le (number_after 0 digits.now) 18446744073709551615

@@ -126,7 +126,7 @@ fn answer_push<W: Sink>(
     }
 }
 
-/// Answers `put`, with what stands behind it.
+/// Answers `insert_in_order`, with what stands behind it.
 #[inline(never)]
 fn answer_put<W: Sink>(
     segment: &mut Segment,

@@ -12,7 +12,7 @@ ghost use Rattle.segment_manager.specs.Step.{is_read_only};
 ghost use Rattle.segment_values.specs.Changes.{IsChangeable};
 
 use crate::objects::object_to_change;
-use seg_types::{Key, Kind, Refusal, ScalarKind, Written};
+use seg_types::{Key, Kind, Refusal, ScalarKind, WrittenValue};
 use segment_manager::unchecked::set_any;
 use segment_manager::{Object, Segment};
 
@@ -25,7 +25,7 @@ use segment_manager::{Object, Segment};
 /// it has no elements or the value has not their form, `OutOfRange` where the value is not in their range or there is
 /// no such element, `NoSpace` where a text has no fit. Nothing changes.
 #[inline(never)]
-pub fn set<L: Written>(
+pub fn set<L: WrittenValue>(
     segment: &mut Segment,
     key: &Key,
     index: u64,
@@ -51,7 +51,7 @@ pub fn set<L: Written>(
 }
 
 /// The same of an object whose elements are scalars of a kind.
-fn set_scalar<L: Written>(
+fn set_scalar<L: WrittenValue>(
     segment: &mut Segment,
     object: Object,
     kind: ScalarKind,
@@ -71,7 +71,7 @@ fn set_scalar<L: Written>(
 }
 
 /// The same of a vector of strings.
-fn set_text<L: Written>(
+fn set_text<L: WrittenValue>(
     segment: &mut Segment,
     object: Object,
     index: u64,

@@ -11,7 +11,7 @@ ghost use Rattle.segment_manager.specs.State.{TakesStep, TakesStepOfKind, Unchan
 ghost use Rattle.segment_values.specs.Changes.{IsNewScalar, IsNoElement, command_at};
 
 use crate::objects::object_to_change;
-use seg_types::{Key, Kind, Refusal, ScalarKind, ScalarValue, Written, by_kind, by_value};
+use seg_types::{Key, Kind, Refusal, ScalarKind, ScalarValue, WrittenValue, by_kind, by_value};
 use segment_manager::{Object, Segment};
 
 /// Where a new element of a vector goes.
@@ -41,7 +41,7 @@ pub enum NewElement<'a> {
 /// there are not so many others, and nothing changes; `NoSpace` where the vector is full and its storage cannot be
 /// regrown, or a text has no fit: the objects are as before, and nothing changes where the value is no text.
 #[inline(never)]
-pub fn add<L: Written>(
+pub fn add<L: WrittenValue>(
     segment: &mut Segment,
     key: &Key,
     spot: InsertSpot,
@@ -67,7 +67,7 @@ pub fn add<L: Written>(
 ///
 /// `ReadOnly` where the segment is open for reading, and else `NotFound` where no object has the key, `WrongKind` where
 /// it is no vector or the value has not the form of its elements, `OutOfRange` where the value is not in their range.
-fn new_element<'a, L: Written>(
+fn new_element<'a, L: WrittenValue>(
     segment: &Segment,
     key: &Key,
     value: &'a L,

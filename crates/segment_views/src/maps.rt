@@ -4,7 +4,7 @@ ghost use Rattle.seg_types.specs.declared.kinds.Kind.TheVariants.{Map as MapOf};
 ghost use Rattle.seg_types.specs.Commands.{Lookup, Put, Remove, literal_of};
 ghost use Rattle.segment_manager.specs.objects.ElementLists.{length_at_kind};
 ghost use Rattle.segment_manager.specs.Keeping.{UnchangedWhere, LacksPair};
-ghost use Rattle.segment_manager.specs.containers.Maps.{pair_above, pair_at_end, pair_from, pair_result, told_of_map};
+ghost use Rattle.segment_manager.specs.containers.Maps.{pair_above, pair_at_end, pair_from, pair_result, answer_of_map};
 ghost use Rattle.segment_manager.specs.containers.Maps.{value_answer};
 ghost use Rattle.segment_manager.specs.containers.Walks.{first_of};
 ghost use Rattle.seg_map.specs.Places.{item_of};
@@ -74,7 +74,7 @@ impl<'a, K: Scalar, V: Scalar> View<'a, Pairs<K, V>> {
     /// `WrongKind` where the object is no such map.
     pub fn first(&self) -> Result<Option<(K, V)>, Refusal>
         ensures { AnswersWith (segment_of self.now) (λ d.
-            told_of_map d (key_of self.now) K.kind V.kind (λ ps. option_map item_of (first_of ps)))
+            answer_of_map d (key_of self.now) K.kind V.kind (λ ps. option_map item_of (first_of ps)))
             (pair_result K.whole V.whole result) }
     {
         first_of_all(self.segment, &self.object)
@@ -89,7 +89,7 @@ impl<'a, K: Scalar, V: Scalar> View<'a, Pairs<K, V>> {
     /// `WrongKind` where the object is no such map.
     pub fn last(&self) -> Result<Option<(K, V)>, Refusal>
         ensures { AnswersWith (segment_of self.now) (λ d.
-            told_of_map d (key_of self.now) K.kind V.kind pair_at_end) (pair_result K.whole V.whole result) }
+            answer_of_map d (key_of self.now) K.kind V.kind pair_at_end) (pair_result K.whole V.whole result) }
     {
         self.segment.map_last::<K, V, Object>(&self.object)
     }
@@ -104,8 +104,8 @@ impl<'a, K: Scalar, V: Scalar> View<'a, Pairs<K, V>> {
         ensures start { R.has_bounds range → result.start ≡ bound_map K.whole (R.start_bound range) }
         ensures end { R.has_bounds range → result.end ≡ bound_map K.whole (R.end_bound range) }
     {
-        let start = held(range.start_bound());
-        let end = held(range.end_bound());
+        let start = bound_by_value(range.start_bound());
+        let end = bound_by_value(range.end_bound());
         MapItems::new(self.segment, self.object, start, end)
     }
 
@@ -134,7 +134,7 @@ impl<'a, K: Scalar, V: Scalar> View<'a, Pairs<K, V>> {
     /// `WrongKind` where the object is no such map.
     pub fn first_from(&self, from: K) -> Result<Option<(K, V)>, Refusal>
         ensures { AnswersWith (segment_of self.now) (λ d.
-            told_of_map d (key_of self.now) K.kind V.kind (pair_from (K.whole from)))
+            answer_of_map d (key_of self.now) K.kind V.kind (pair_from (K.whole from)))
             (pair_result K.whole V.whole result) }
     {
         self.segment
@@ -148,7 +148,7 @@ impl<'a, K: Scalar, V: Scalar> View<'a, Pairs<K, V>> {
     /// `WrongKind` where the object is no such map.
     pub fn next_after(&self, after: K) -> Result<Option<(K, V)>, Refusal>
         ensures { AnswersWith (segment_of self.now) (λ d.
-            told_of_map d (key_of self.now) K.kind V.kind (pair_above (K.whole after)))
+            answer_of_map d (key_of self.now) K.kind V.kind (pair_above (K.whole after)))
             (pair_result K.whole V.whole result) }
     {
         self.segment
@@ -190,7 +190,7 @@ impl<'a, K: Scalar, V: Scalar> View<'a, Pairs<K, V>> {
 }
 
 /// A bound of a value that is lent, as one that has it.
-fn held<K: Scalar>(bound: Bound<&K>) -> Bound<K>
+fn bound_by_value<K: Scalar>(bound: Bound<&K>) -> Bound<K>
     ensures { result ≡ bound_map (λ key. key.now) bound.entry }
 {
     match bound {

@@ -46,7 +46,7 @@ fn placed_link(window: &ImageWindow, at: u64) -> Option<u64>
     requires in_bounds { at + 8 ≤ length window.now.bytes }
     ensures { result ≡ placed (length window.now.bytes) (link_at (bytes_of window.now.bytes) at) }
 {
-    match window.checked(at) {
+    match window.load_checked(at) {
         Ok(target) => target,
         Err(_) => None,
     }
@@ -121,7 +121,7 @@ pub(crate) fn check_places(
 }
 
 /// The first node of the tree that does not stand before the one that is sought. One visit for each step.
-pub(crate) fn find_place(
+pub(crate) fn find_tile(
     window: &ImageWindow,
     root: Option<u64>,
     sought: TileProbe,
@@ -150,5 +150,5 @@ pub(crate) fn has_good_links(window: &ImageWindow, node: u64, visits: &mut Visit
     ensures visits { visits.new ≡ visits.old + 1 }
 {
     visits.visit();
-    window.checked(node).is_ok() && window.checked(node + RIGHT_LINK).is_ok()
+    window.load_checked(node).is_ok() && window.load_checked(node + RIGHT_LINK).is_ok()
 }

@@ -16,7 +16,7 @@ use raw_region::{Source, Steps};
 use segment_disk::{Disk, OpenedFile};
 use std::alloc::Global;
 
-/// Why there is no segment of an image. `None` is want of room.
+/// Returns why there is no segment of an image. `None` is want of room.
 fn unexamined(error: ExamineError) -> Option<Unfit>
     ensures { result ≡ unfit_for error }
 {
@@ -30,7 +30,7 @@ fn unexamined(error: ExamineError) -> Option<Unfit>
     }
 }
 
-/// Whether an image that says more bytes than there was room for has a segment. It is read first.
+/// Tells whether an image that says more bytes than there was room for has a segment. It is read first.
 fn examine_behind<S: Source>(alloc: Global, reader: &mut Headed<S>, len: u64) -> Result<(), Unfit>
     requires exclusive { IsFrontGiven (S.history reader.old.inner) }
     requires max_size { IsTooSmallFor current (read_delta nothing_given (S.history reader.old.inner)) 0
@@ -56,7 +56,7 @@ fn examine_behind<S: Source>(alloc: Global, reader: &mut Headed<S>, len: u64) ->
     }
 }
 
-/// Whether the image of a reader that was told to give `len` bytes has a segment.
+/// Tells whether the image of a reader that was told to give `len` bytes has a segment.
 fn examine_image<S: Source>(alloc: Global, reader: &mut Headed<S>, len: u64) -> Result<(), Unfit>
     requires fresh { S.history reader.old.inner ≡ nothing_given }
     ensures { ExaminesImage len (read_delta nothing_given (S.history reader.new.inner)) result }
@@ -71,7 +71,7 @@ fn examine_image<S: Source>(alloc: Global, reader: &mut Headed<S>, len: u64) -> 
     }
 }
 
-/// Whether the image in a file has a segment. None is made, and the file is closed.
+/// Tells whether the image in a file has a segment. None is made, and the file is closed.
 ///
 /// # Errors
 ///

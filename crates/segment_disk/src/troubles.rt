@@ -5,7 +5,7 @@ ghost use Rattle.segment_disk.specs.Troubles.{making_trouble, names_none, troubl
 use crate::presence::{CreateMode, FileProblem};
 use std::io::ErrorKind;
 
-/// What an error says of a file that was to be opened.
+/// Returns what an error says of a file that was to be opened.
 pub(crate) fn trouble_of(kind: ErrorKind) -> Option<FileProblem>
     ensures { result ≡ trouble_of kind }
 {
@@ -18,7 +18,7 @@ pub(crate) fn trouble_of(kind: ErrorKind) -> Option<FileProblem>
     }
 }
 
-/// Whether no file can be made by a path, whatever there is: it is empty, or ends as that of a folder does.
+/// Tells whether no file can be made by a path, whatever there is: it is empty, or ends as that of a folder does.
 fn names_none(path: &str) -> bool
     ensures { result ≡ names_none path.now }
 {
@@ -28,7 +28,7 @@ fn names_none(path: &str) -> bool
     }
 }
 
-/// What an error says of a file that was to be made.
+/// Returns what an error says of a file that was to be made.
 pub(crate) fn making_trouble(kind: ErrorKind, path: &str, how: CreateMode) -> Option<FileProblem>
     ensures { result ≡ making_trouble kind path.now how }
 {

@@ -19,13 +19,13 @@ pub use Rattle.block_tags.specs.Format.{is_legal_size}
 pub use Rattle.block_tags.specs.Lists.{IsBesideTags, first_in, free_tile, in_two, last_in, next_in, of_colour}
 pub use Rattle.block_tags.specs.Lists.{previous_in, tile_in, used_for, with_red_at, with_use_at, without_last}
 pub use Rattle.block_tags.specs.Tiles.{AreTags, has_tags, is_free, is_merged, may_be_red, tag_word, tile_at, tiles_of}
-pub use Rattle.block_tags.specs.Windows.{FrontSaysTiles, HasFreeNext, HasTileAt, MayBeUsed, MayHaveColour}
+pub use Rattle.block_tags.specs.Windows.{FrontSaysTiles, HasFreeNext, HasTileAt, CanTakeUse, MayHaveColour}
 pub use Rattle.block_tags.specs.Windows.{SameExceptTags, EncodesTiles}
 pub use Rattle.block_tags.specs.declared.tile.Role.{Role}
 pub use Rattle.block_tags.specs.declared.tile.Role.TheVariants.{Index, Node, Object, Storage}
 pub use Rattle.block_tags.specs.declared.tile.Tile.{Tile}
 pub use Rattle.link_tree.proofs.Laws.{all_from, none_some, tree_same}
-pub use Rattle.link_tree.specs.Nodes.{first_not_before, is_ordered_with, is_in, leads, put, without}
+pub use Rattle.link_tree.specs.Nodes.{first_not_before, is_ordered_with, is_in, leads, insert_in_order, without}
 pub use Rattle.link_tree.specs.Tree.{Cell, IsSearchTree, IsTree, Tree, bits, fork, leaf, nodes_of, is_sorted}
 pub use Rattle.offset_link.proofs.Laws.{SameBytesExcept-link}
 pub use Rattle.offset_link.specs.Link.{link_at, target_of}
@@ -58,9 +58,10 @@ pub use Rattle.best_fit.specs.GapNodes.{GapTreeFrame, as_gap, comes_before, from
 pub use Rattle.best_fit.specs.GapNodes.{gaps_of, is_kept}
 pub use Rattle.best_fit.specs.GapNodes.{len_in, lies_behind, own_from, links_among, plain, stands_before, tiles_in}
 unfoldable pub use Rattle.best_fit.specs.GapNodes.{is_gap_node, kept_of}
-pub use Rattle.best_fit.specs.GapTrees.{AreSome, HaveGapLengths, HasGapTree, LacksOne, MayBegin, IsUnlinkedGap, Regrown}
+pub use Rattle.best_fit.specs.GapTrees.{AreSomeGaps, HaveGapLengths, HasGapTree, LacksGap, CanBeginRemoval}
+pub use Rattle.best_fit.specs.GapTrees.{IsUnlinkedGap, ChangesGapTree}
 pub use Rattle.best_fit.specs.GapTrees.{AreAscending, gap_offset}
-pub use Rattle.best_fit.specs.GapTrees.{is_long, node_of, of_option, offset_of, start_of}
+pub use Rattle.best_fit.specs.GapTrees.{is_long, node_of, tile_list, offset_of, start_of}
 pub use Rattle.best_fit.specs.Heap.{Allocates, AllocatesOk, ChangesBytes, TryExtends, IsHeap, Recolours, Deallocates}
 pub use Rattle.best_fit.specs.Heap.{ResizesBlock, ShrinksInPlace, ZeroesFree, KeepsBlocks, EncodesLiveSet, SameBlock}
 pub use Rattle.best_fit.specs.Heap.{as_extent, extent_at}

@@ -1,85 +1,102 @@
 -- The laws of live sets, gaps and the bytes that lay them out for other crates.
 
 -- bytes lay out one live set, and the four changes keep a proper live set proper
-pub use Rattle.best_fit.proofs.LayOut.{lay_out_one}
-pub use Rattle.best_fit.proofs.Changes.{all_keep_proper, is_proper-IsProper}
+pub use Rattle.best_fit.proofs.tags.OneLiveSet.{lay_out_one}
+pub use Rattle.best_fit.proofs.extents.Changes.{all_keep_proper, is_proper-IsProper}
 -- a live set with a placed extent is proper, and what is known of an answer that may be none
-pub use Rattle.best_fit.proofs.Restoring.{placed_is_proper}
-pub use Rattle.best_fit.proofs.Placing.{IfSome_is, place-holds, shorter-IsShorter}
-pub use Rattle.best_fit.proofs.Serving.{place-serves}
+pub use Rattle.best_fit.proofs.extents.Inverse.{placed_is_proper}
+pub use Rattle.best_fit.proofs.extents.FirstFit.{IfSome_is, place-holds, shorter-IsShorter}
+pub use Rattle.best_fit.proofs.extents.Requests.{place-serves}
 -- a legal size, and what a proper live set says of its first extent and of the holes
-pub use Rattle.best_fit.proofs.TagsAndLiveSet.{IsLegal, legal_size}
-pub use Rattle.best_fit.proofs.Proper.{IsBlock, IsFirst, IsFirst-proper_from, insert-here, insert-past, is_hole-IsHole}
-pub use Rattle.best_fit.proofs.Proper.{proper_from-IsFirst, proper_from-others}
-unfoldable pub use Rattle.best_fit.proofs.Proper.{IsHole}
+pub use Rattle.best_fit.proofs.tags.TagsAndLiveSet.{IsLegal, legal_size}
+pub use Rattle.best_fit.proofs.extents.Proper.{IsBlock, IsFirst, IsFirst-proper_from, insert-here, insert-past}
+pub use Rattle.best_fit.proofs.extents.Proper.{is_hole-IsHole}
+pub use Rattle.best_fit.proofs.extents.Proper.{proper_from-IsFirst, proper_from-others}
+unfoldable pub use Rattle.best_fit.proofs.extents.Proper.{IsHole}
 -- extents in order: one is put in or taken out
-pub use Rattle.best_fit.proofs.Order.{AllByRecursion-insert, AllByRecursion-insert_from, AllByRecursion-insert_new}
-pub use Rattle.best_fit.proofs.Order.{AllByRecursion-others, insert-comm, list_any-insert, others-comm, others-insert}
-pub use Rattle.best_fit.proofs.Order.{others-insert_same}
-pub use Rattle.best_fit.proofs.Proper.{others-here, others-past, proper_from-hole, proper_from-reaches}
+pub use Rattle.best_fit.proofs.extents.Order.{AllByRecursion-insert, AllByRecursion-insert_from}
+pub use Rattle.best_fit.proofs.extents.Order.{AllByRecursion-insert_new}
+pub use Rattle.best_fit.proofs.extents.Order.{AllByRecursion-others, insert-comm, list_any-insert, others-comm}
+pub use Rattle.best_fit.proofs.extents.Order.{others-insert}
+pub use Rattle.best_fit.proofs.extents.Order.{others-insert_same}
+pub use Rattle.best_fit.proofs.extents.Proper.{others-here, others-past, proper_from-hole, proper_from-reaches}
 -- what stays twice stays, and what of it is kept with a block less
-pub use Rattle.best_fit.proofs.Frames.{AllByRecursion-beside, IsBeside, SameBlock-trans, blocks-trans, keeps-insert}
-pub use Rattle.best_fit.proofs.Frames.{keeps-others, keeps-refl, keeps-trans}
+pub use Rattle.best_fit.proofs.tags.Frames.{AllByRecursion-beside, IsBeside, SameBlock-trans, blocks-trans}
+pub use Rattle.best_fit.proofs.tags.Frames.{keeps-insert}
+pub use Rattle.best_fit.proofs.tags.Frames.{keeps-others, keeps-refl, keeps-trans}
 -- a block that was placed is live, with room for what was asked for, and so are those before it; and still where
 -- payloads change
-pub use Rattle.best_fit.proofs.Allocated.{changed-header_blocks, allocated-is_live, allocated-live, allocated-room}
-pub use Rattle.best_fit.proofs.Allocated.{allocated-room_before, changed-keeps, changed-keeps_block, changed-live}
-pub use Rattle.best_fit.proofs.Allocated.{changed-room, holds-fewer, is_red-payload, names-has_room, released-live}
-pub use Rattle.best_fit.proofs.Allocated.{resized-live, still_allocated, still_allocated-block}
+pub use Rattle.best_fit.proofs.allocation.NewBlock.{changed-header_blocks, allocated-is_live, allocated-live}
+pub use Rattle.best_fit.proofs.allocation.NewBlock.{allocated-room}
+pub use Rattle.best_fit.proofs.allocation.NewBlock.{allocated-room_before, changed-keeps, changed-keeps_block}
+pub use Rattle.best_fit.proofs.allocation.NewBlock.{changed-live}
+pub use Rattle.best_fit.proofs.allocation.NewBlock.{changed-room, holds-fewer, is_red-payload, names-has_room}
+pub use Rattle.best_fit.proofs.allocation.NewBlock.{released-live}
+pub use Rattle.best_fit.proofs.allocation.NewBlock.{resized-live, still_allocated, still_allocated-block}
 -- a tile is free or in use, and what the gaps and the live set of tiles are then
-pub use Rattle.best_fit.proofs.Rows.{AreContiguous-Row, free-unused, gaps_of-append, gaps_of-free, gaps_of-used}
-pub use Rattle.best_fit.proofs.Rows.{span_between-none, span_between-some, spans_from-row, unused, use_cases, used}
-unfoldable pub use Rattle.best_fit.proofs.Rows.{Row, extents_of}
-pub use Rattle.best_fit.proofs.TagsAndLiveSet.{gaps-live_in, proper_live}
+pub use Rattle.best_fit.proofs.tags.TileRows.{AreContiguous-Row, free-unused, gaps_of-append, gaps_of-free}
+pub use Rattle.best_fit.proofs.tags.TileRows.{gaps_of-used}
+pub use Rattle.best_fit.proofs.tags.TileRows.{span_between-none, span_between-some, spans_from-row, unused, use_cases}
+pub use Rattle.best_fit.proofs.tags.TileRows.{used}
+unfoldable pub use Rattle.best_fit.proofs.tags.TileRows.{Row, extents_of}
+pub use Rattle.best_fit.proofs.tags.TagsAndLiveSet.{gaps-live_in, proper_live}
 -- no two free tiles are neighbours
-pub use Rattle.best_fit.proofs.Rows.{is_merged-Apart}
-unfoldable pub use Rattle.best_fit.proofs.Rows.{Apart}
+pub use Rattle.best_fit.proofs.tags.TileRows.{is_merged-Apart}
+unfoldable pub use Rattle.best_fit.proofs.tags.TileRows.{Apart}
 -- a gap that a number names as a node: its tile and its length
-pub use Rattle.best_fit.proofs.GapFacts.{NodeAt, node_from, node_len}
+pub use Rattle.best_fit.proofs.gaps.Nodes.{NodeAt, node_from, node_len}
 -- gaps in the order of the tree: the same gaps, each once, and rising
-pub use Rattle.best_fit.proofs.GapOrder.{in_sorted, sorted-is_sorted}
-pub use Rattle.best_fit.proofs.FreeTrees.{length-inserted, length-sorted}
+pub use Rattle.best_fit.proofs.gaps.Order.{in_sorted, sorted-is_sorted}
+pub use Rattle.best_fit.proofs.free_tree.Trees.{length-inserted, length-sorted}
 -- the gaps of a heap are those of its live set, and links among them hold a tree
-pub use Rattle.best_fit.proofs.FreeTrees.{all_gaps}
-pub use Rattle.best_fit.proofs.Replanting.{holds_closed}
+pub use Rattle.best_fit.proofs.free_tree.Trees.{all_gaps}
+pub use Rattle.best_fit.proofs.free_tree.LinkAndUnlink.{holds_closed}
 -- a walk over the tiles of a window, from one to the next
-pub use Rattle.best_fit.proofs.Walks.{Here, Meets, first_here, meets, next_here, next_nearer, none_left, passed_on}
-unfoldable pub use Rattle.best_fit.proofs.Walks.{to_go}
-pub use Rattle.best_fit.proofs.TagsAndLiveSet.{said_row}
+pub use Rattle.best_fit.proofs.tile_walk.Walk.{Here, Meets, first_here, meets, next_here, next_nearer, none_left}
+pub use Rattle.best_fit.proofs.tile_walk.Walk.{passed_on}
+unfoldable pub use Rattle.best_fit.proofs.tile_walk.Walk.{to_go}
+pub use Rattle.best_fit.proofs.tags.TagsAndLiveSet.{said_row}
 -- the fields of a node of a tree away from what changes
-pub use Rattle.best_fit.proofs.GapSetters.{cell_stays, beside_cell}
+pub use Rattle.best_fit.proofs.gaps.Setters.{cell_stays, beside_cell}
 -- the payload of a block in use: where it lies, what stays beside it, and bytes that lay out what they say
-pub use Rattle.best_fit.proofs.Linked.{block_aligned}
-pub use Rattle.best_fit.proofs.Writes.{block_payload, laid-heap, room_block}
+pub use Rattle.best_fit.proofs.heap.BlockLinks.{block_aligned}
+pub use Rattle.best_fit.proofs.tags.Writes.{block_payload, laid-heap, room_block}
 -- no gap is longer than the largest segment, and a number has no more digits than a greater one
-pub use Rattle.best_fit.proofs.Allocating.{bits-le, too_long}
+pub use Rattle.best_fit.proofs.allocation.LeastGap.{bits-le, too_long}
 -- what stays and what is found where blocks are gone and others came
-pub use Rattle.best_fit.proofs.Spacing.{LiesBeside, above, apart-inserted, below, hole-order, insert-inserted}
-pub use Rattle.best_fit.proofs.Spacing.{inserted-comm, live-spaced, rising-inserted, rising-weak, spaced-insert}
-unfoldable pub use Rattle.best_fit.proofs.Spacing.{Differs, Rising}
-pub use Rattle.best_fit.proofs.Spacing.{all_of-inserted, among, IsAlone, IsAmong, IsFresh, IsSound, all_of-insert}
-pub use Rattle.best_fit.proofs.Spacing.{exchange-back, found-less, found-more, found-new, found-room, in_use-all}
-pub use Rattle.best_fit.proofs.Spacing.{in_use-alone, live-rises, live-sound, rising-insert, room-less}
-pub use Rattle.best_fit.proofs.Spacing.{without-inserted, written-keeps}
-pub use Rattle.best_fit.proofs.Frames.{keeps-refl as keeps-all}
+pub use Rattle.best_fit.proofs.extents.Spacing.{LiesBeside, above, apart-inserted, below, hole-order, insert-inserted}
+pub use Rattle.best_fit.proofs.extents.Spacing.{inserted-comm, live-spaced, rising-inserted, rising-weak, spaced-insert}
+unfoldable pub use Rattle.best_fit.proofs.extents.Spacing.{Differs, Rising}
+pub use Rattle.best_fit.proofs.extents.Spacing.{all_of-inserted, among, IsAlone, IsAmong, IsFresh, IsSound}
+pub use Rattle.best_fit.proofs.extents.Spacing.{all_of-insert}
+pub use Rattle.best_fit.proofs.extents.Spacing.{exchange-back, found-less, found-more, found-new, found-room}
+pub use Rattle.best_fit.proofs.extents.Spacing.{in_use-all}
+pub use Rattle.best_fit.proofs.extents.Spacing.{in_use-alone, live-rises, live-sound, rising-insert, room-less}
+pub use Rattle.best_fit.proofs.extents.Spacing.{without-inserted, written-keeps}
+pub use Rattle.best_fit.proofs.tags.Frames.{keeps-refl as keeps-all}
 pub use Rattle.raw_region.proofs.Laws.{SameBytes-read as read-same, SameBytes-trans as same-trans}
 pub use Rattle.raw_region.proofs.Laws.{SameBytes-word as word-same}
-pub use Rattle.best_fit.proofs.Writes.{Room}
-pub use Rattle.best_fit.proofs.Exchanges.{IsRoomy, all-same-but, but-trans, exchanged-written, regrow-serves}
-pub use Rattle.best_fit.proofs.Exchanges.{regrown-live, roomy, written-but}
+pub use Rattle.best_fit.proofs.tags.Writes.{Room}
+pub use Rattle.best_fit.proofs.exchange.OneExchange.{IsRoomy, all-same-but, but-trans, exchanged-written, regrow-serves}
+pub use Rattle.best_fit.proofs.exchange.OneExchange.{regrown-live, roomy, written-but}
 -- several exchanges, one after another, and what stays through them
-pub use Rattle.best_fit.proofs.Exchanging.{AreInUse, IsFound, IsNone, SameSpread, all-found-in, all-in-use, back-again}
-pub use Rattle.best_fit.proofs.Exchanging.{but-apart, exchange-next, exchange-order, exchange-released}
-pub use Rattle.best_fit.proofs.Exchanging.{exchange-resized, exchange-same, exchange-taken, exchange-wide}
-pub use Rattle.best_fit.proofs.Exchanging.{exchange-written, exchanged-live, exchanged-twice, found-inserted}
-pub use Rattle.best_fit.proofs.Exchanging.{found-none, found-without, inserted-append, kept, kept-beside, kept-but}
-pub use Rattle.best_fit.proofs.Exchanging.{kept-found, last-first, middle-first, rest-rises, rising-others}
-pub use Rattle.best_fit.proofs.Exchanging.{spread-before, spread-behind, spread-refl, spread-trans, two-apart}
+pub use Rattle.best_fit.proofs.exchange.ManyExchanges.{AreInUse, IsFound, IsNone, SameSpread, all-found-in, all-in-use}
+pub use Rattle.best_fit.proofs.exchange.ManyExchanges.{back-again}
+pub use Rattle.best_fit.proofs.exchange.ManyExchanges.{but-apart, exchange-next, exchange-order, exchange-released}
+pub use Rattle.best_fit.proofs.exchange.ManyExchanges.{exchange-resized, exchange-same, exchange-taken, exchange-wide}
+pub use Rattle.best_fit.proofs.exchange.ManyExchanges.{exchange-written, exchanged-live, exchanged-twice}
+pub use Rattle.best_fit.proofs.exchange.ManyExchanges.{found-inserted}
+pub use Rattle.best_fit.proofs.exchange.ManyExchanges.{found-none, found-without, inserted-append, kept, kept-beside}
+pub use Rattle.best_fit.proofs.exchange.ManyExchanges.{kept-but}
+pub use Rattle.best_fit.proofs.exchange.ManyExchanges.{kept-found, last-first, middle-first, rest-rises, rising-others}
+pub use Rattle.best_fit.proofs.exchange.ManyExchanges.{spread-before, spread-behind, spread-refl, spread-trans}
+pub use Rattle.best_fit.proofs.exchange.ManyExchanges.{two-apart}
 -- a block that is lengthened where it stands, and how that is undone
-pub use Rattle.best_fit.proofs.Undone.{not-wide, taken-back, wide-longer, wide-same, widened-back}
+pub use Rattle.best_fit.proofs.in_place_resize.Inverse.{not-wide, taken-back, wide-longer, wide-same, widened-back}
 -- the end of a window moves, and then bytes of it change
-pub use Rattle.best_fit.proofs.Carrying.{ends-then}
+pub use Rattle.best_fit.proofs.ending.TwoMemories.{ends-then}
 -- a change of header words lays out the same live set
-pub use Rattle.best_fit.proofs.Writes.{header_changed}
+pub use Rattle.best_fit.proofs.tags.Writes.{header_changed}
 -- no byte of a gap changes where bytes of the header or of a payload do, and through several such changes
-pub use Rattle.best_fit.proofs.KeptGaps.{free-refl, gaps-header, gaps-payload, gaps-refl, gaps-then, gaps-trans}
+pub use Rattle.best_fit.proofs.gaps.UnchangedGaps.{free-refl, gaps-header, gaps-payload, gaps-refl, gaps-then}
+pub use Rattle.best_fit.proofs.gaps.UnchangedGaps.{gaps-trans}

@@ -30,7 +30,7 @@ AreAscending at [] = Unit {0}
 AreAscending at (h ∷ hs) = (at ≤ h.offset) × AreAscending (h.offset + 1) hs
 
 -- some of the gaps, in order of offset
-pub record AreSome (gs hs : List Gap) : Type 0 where
+pub record AreSomeGaps (gs hs : List Gap) : Type 0 where
   pub fits : HaveGapLengths gs hs
   pub rises : AreAscending 0 hs
   pub listed : (n : ℕ) → is_in n (payloads hs) ≡ true → is_in n (payloads gs) ≡ true
@@ -39,7 +39,7 @@ pub record AreSome (gs hs : List Gap) : Type 0 where
 -- good tags and links, and a tree of some of the gaps
 pub record HasGapTree (c : WindowState) (hs : List Gap) : Type 0 where
   pub good : IsTrue (is_good c)
-  pub some : AreSome (gaps_in c) hs
+  pub some : AreSomeGaps (gaps_in c) hs
   pub tree : IsTreeOf (bytes_of c.bytes) 24 (payloads (sorted_gaps hs))
 
 -- where the link to the tree leads
@@ -47,19 +47,19 @@ abbrev pub root_of_gaps : WindowState → Option ℕ
 root_of_gaps c = link_at (bytes_of c.bytes) 24
 
 -- where the removal of a node of the tree may begin: at the root, or at its exit
-pub record MayBegin (c : WindowState) (node : ℕ) (exit : Option ℕ) : Type 0 where
+pub record CanBeginRemoval (c : WindowState) (node : ℕ) (exit : Option ℕ) : Type 0 where
   pub begins : (hs : List Gap) (h : HasGapTree c hs)
       → IfSome exit (λ n. remove_point_of (comes_before (gaps_in c)) node h.tree.tree ≡ Some n)
 
 -- good tags, and a tree of all gaps but one, whose links may be anything
-pub record LacksOne (c : WindowState) (xs : List Gap) (g : Gap) (ys : List Gap) : Type 0 where
+pub record LacksGap (c : WindowState) (xs : List Gap) (g : Gap) (ys : List Gap) : Type 0 where
   pub said : EncodesTiles c (tiles_in c)
   pub merged : IsTrue (is_merged (tiles_in c))
   pub gaps : gaps_in c ≡ xs ++ (g ∷ ys)
   pub tree : IsTreeOf (bytes_of c.bytes) 24 (payloads (sorted_gaps (xs ++ ys)))
 
 -- nothing changes but word 24, and the links and the colours of gaps
-pub record Regrown (old new : WindowState) : Type 0 where
+pub record ChangesGapTree (old new : WindowState) : Type 0 where
   pub place : SameSurroundings old new
   pub size : length new.bytes ≡ length old.bytes
   pub tiles : map plain (tiles_in new) ≡ map plain (tiles_in old)
@@ -78,9 +78,9 @@ pub record IsUnlinkedGap (c : WindowState) (at len : ℕ) : Type 0 where
   pub tree : HasGapTree c (gaps_of front ++ gaps_of back)
 
 -- a tile, or none
-abbrev pub of_option : Option Tile → List Tile
-of_option None = []
-of_option (Some t) = t ∷ []
+abbrev pub tile_list : Option Tile → List Tile
+tile_list None = []
+tile_list (Some t) = t ∷ []
 
 -- where a tile begins with the free one before it
 abbrev pub start_of : Option Tile → ℕ → ℕ

@@ -6,7 +6,7 @@ ghost use Rattle.block_tags.specs.Windows.{HasTileAt, SameExceptTags, EncodesTil
 ghost use Rattle.link_tree.specs.Tree.{bits};
 ghost use Rattle.best_fit.specs.Extents.{Gap};
 ghost use Rattle.best_fit.specs.GapNodes.{gaps_in};
-ghost use Rattle.best_fit.specs.GapTrees.{HasGapTree, Regrown, gap_offset, offset_of, start_of};
+ghost use Rattle.best_fit.specs.GapTrees.{HasGapTree, ChangesGapTree, gap_offset, offset_of, start_of};
 ghost use Rattle.best_fit.specs.Heap.{IsHeap, Deallocates, is_live_in, live_of};
 ghost use Rattle.best_fit.specs.Tiling.{free_behind, joined_before, joined_free_at};
 
@@ -44,7 +44,7 @@ pub fn unlink_if_gap(touches: &mut TouchCounter, gap: Option<u64>)
     ensures tree { (xs gs ys : List Gap) → gap ≡ offset_of gs → length gs ≤ 1
         → HasGapTree touches.old.gaps.now.window (xs ++ (gs ++ ys))
         → HasGapTree touches.new.gaps.now.window (xs ++ ys) }
-    ensures frame { Regrown touches.old.gaps.now.window touches.new.gaps.now.window }
+    ensures frame { ChangesGapTree touches.old.gaps.now.window touches.new.gaps.now.window }
     ensures steps { (hs : List Gap) → HasGapTree touches.old.gaps.now.window hs
         → touches.new.count ≤ touches.old.count + 32 * bits (length hs + 1) + 33 }
     ensures steps_lower { touches.old.count ≤ touches.new.count }

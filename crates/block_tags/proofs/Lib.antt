@@ -1,13 +1,3 @@
-mod ReadOff
-mod Puts
-mod Standing
-mod Saying
-mod Changes
-mod Cutting
-mod Joining
-mod Limits
-mod Lasting
-mod Walk
-mod Lists
-mod Stays
+mod tiles
+mod changes
 pub mod Laws

@@ -59,7 +59,7 @@ pub record HasFreeNext (c : WindowState) (at : ℕ) : Type 0 where
   pub free : IsTrue (is_free next)
 
 -- the tile there may keep its colour where it is used for this
-pub record MayBeUsed (c : WindowState) (at : ℕ) (use_of : Option Role) : Type 0 where
+pub record CanTakeUse (c : WindowState) (at : ℕ) (use_of : Option Role) : Type 0 where
   pub tiles : List Tile
   pub said : EncodesTiles c tiles
   pub tile : Tile

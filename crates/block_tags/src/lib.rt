@@ -5,18 +5,18 @@
 //! of this crate's stands beside them.
 #![tactic(auto)]
 
-mod changing;
 mod checking;
 mod ends;
 mod reading;
 mod sizes;
 pub mod theorems;
 mod tile;
+mod tile_changes;
 mod words;
 
-pub use changing::{merge_next, set_red, set_use, split};
 pub use checking::{CheckedTags, check, check_counted};
 pub use ends::{append_free, drop_last, lay};
 pub use reading::{first, last, next, previous, red, tile_at};
 pub use sizes::{HEADER_LEN, MAX_SEGMENT_LEN, TAG_LEN, is_legal_size};
 pub use tile::{BadTag, Role, Tile};
+pub use tile_changes::{merge_next, set_red, set_use, split};

@@ -25,20 +25,24 @@ use Rattle.std.specs.Box.Ownership.{box_owns}
 use Rattle.std.proofs.ResultValues.{and_tt}
 use Rattle.boxed.specs.contracts.RawBox as row
 
+-- the value of a box: its pointer and its handle
 abbrev pub both : Val → Val → Val
 both v w = vstruct (vcons v (vcons w vnil))
 
 module _ (R Z : RattleType) (L : Laws Z) (g : Ghosts Z.Denot) where
+  -- the type of the row that holds a block's place, its allocator and its value
   abbrev pub LooseRow : RattleType
   LooseRow = row.the_row R Z g
 
   abbrev al : Al
   al = record { row = Z; laws = L; g = g; d = impl [] tnil dnil; drops = impl [] tnil dnil }
 
+  -- a block's pointer beside a good handle is a value of the row
   pub fits_pair : (b o : ℕ) (h : Val) → Good (layout Z) h → T (has_ty (layout Z) h && true) × WT (both (vptr b o) h)
   fits_pair b o h fits = (and_tt (has_ty (layout Z) h) fits.0, (tt, (fits.1, tt)))
 
   module _ {M : Type 1} {𝓤 : Ura M} {𝓛 : Logic 𝓤} {K : Type 0} {Γ : List (Item 𝓤)} {G : Goal 𝓤 𝓛.H} where
+    -- a row that is owned is taken apart into its block, its handle and its value
     pub loose_apart : K → (d : LooseRow.Denot) (vs : List Val)
         → ((b o : ℕ) (h : Val) → d.at ≡ block_ptr b o → vs ≡ both (vptr b o) h ∷ [] → Good (layout Z) h
         → Seq K 𝓛 (‵ (box_owns (g.dealloc_token d.alloc) R (block_ptr b o) d.value) ∷ ‵ (Z.own_val d.alloc (h ∷ []))
@@ -54,6 +58,7 @@ module _ (R Z : RattleType) (L : Laws Z) (g : Ghosts Z.Denot) where
         (subst (λ (ws : List Val). vs ≡ vstruct (of_list (ptr_val d.at ∷ (ws ++ []))) ∷ []) ea
         (subst (λ (ps : List Val). vs ≡ vstruct (of_list (ps ++ (vss.1.0 ++ []))) ∷ []) ep ev))) fits)))))
 
+    -- a row is made of a block, a handle and a value that are owned
     pub loose_made : K → (b o : ℕ) (h : Val) (a : Z.Denot) (x : R.Denot)
         → Step K 𝓛 (‵ (LooseRow.own_val (record { at = block_ptr b o; alloc = a; value = x })
         (both (vptr b o) h ∷ [])) ∷ Γ) G (‵ (box_owns (g.dealloc_token a) R (block_ptr b o) x)

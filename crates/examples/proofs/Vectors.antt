@@ -6,6 +6,7 @@ use Rattle.seg_types.specs.declared.refusals.Refusal.{Refusal}
 use Rattle.best_fit.specs.declared.places.Place.{Place}
 use Rattle.seg_vector.specs.VectorCalls.{IsSomeVector, Pushes}
 
+-- a vector stands after a push
 pub after_push :
     {T : Type 0} → (size : ℕ) (v : T → Bool) (s : T
     → List ℕ) (a b : WindowState) (p : Place) (x : T) (r : Result (Unit {0}) Refusal)

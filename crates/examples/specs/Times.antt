@@ -17,8 +17,8 @@ abbrev pub are_bytes : ℕ → ℕ → Bool
 are_bytes hour minute = nat_lt hour 256 && nat_lt minute 256
 
 -- the order: by hours, and then by minutes
-abbrev pub minutes : ℕ → ℕ → ℕ
-minutes hour minute = hour * 256 + minute
+abbrev pub time_rank : ℕ → ℕ → ℕ
+time_rank hour minute = hour * 256 + minute
 
 pub time_differs : (g h m n : ℕ) → time_bytes g m ≡ time_bytes h n → (g ≡ h) × (m ≡ n)
 time_differs g h m n e = grind arith
@@ -29,9 +29,11 @@ time_irreflexive x = grind arith
 pub time_transitive : (x y z : ℕ) → nat_lt x y ≡ true → nat_lt y z ≡ true → nat_lt x z ≡ true
 time_transitive x y z h k = grind arith
 
-one_time : (g h m n : ℕ) → are_bytes g m ≡ true → are_bytes h n ≡ true → minutes g m ≡ minutes h n → (g ≡ h) × (m ≡ n)
+one_time : (g h m n : ℕ) → are_bytes g m ≡ true → are_bytes h n ≡ true → time_rank g m ≡ time_rank h n
+    → (g ≡ h) × (m ≡ n)
 one_time g h m n a b e = grind arith
 
 pub time_total : (g h m n : ℕ) → are_bytes g m ≡ true → are_bytes h n ≡ true
-    → nat_lt (minutes g m) (minutes h n) ≡ false → nat_lt (minutes h n) (minutes g m) ≡ false → (g ≡ h) × (m ≡ n)
+    → nat_lt (time_rank g m) (time_rank h n) ≡ false → nat_lt (time_rank h n) (time_rank g m) ≡ false
+    → (g ≡ h) × (m ≡ n)
 time_total g h m n a b e f = one_time g h m n a b (grind arith)

@@ -1,7 +1,7 @@
 //! A caller's own plain type: a time of day in two bytes.
 ghost use Rattle.std.specs.Prelude.{◌≡◌, ◌&&◌, nat_lt, refl, Some};
 ghost use Rattle.std.proofs.Common.{lit≤};
-ghost use Rattle.examples.specs.Times.{are_bytes, minutes, said_hour, said_minute, time_bytes};
+ghost use Rattle.examples.specs.Times.{are_bytes, time_rank, said_hour, said_minute, time_bytes};
 ghost use Rattle.examples.specs.Times as laws;
 
 use zaluxhoni::Plain;
@@ -35,7 +35,7 @@ impl Plain for Time {
 
     ghost reading = { λ b. Some (record { hour = said_hour b; minute = said_minute b }) };
 
-    ghost order = { λ s t. nat_lt (minutes s.hour s.minute) (minutes t.hour t.minute) };
+    ghost order = { λ s t. nat_lt (time_rank s.hour s.minute) (time_rank t.hour t.minute) };
 
     fn write(self, to: &mut [u8]) {
         to.copy_from_slice(&[self.hour, self.minute]);
@@ -61,10 +61,10 @@ impl Plain for Time {
     ghost differs = { λ s t h k e. let same = laws.time_differs s.hour t.hour s.minute t.minute e
         in λ j. record { hour = same.0 j; minute = same.1 j } };
 
-    ghost irreflexive = { λ t. laws.time_irreflexive (minutes t.hour t.minute) };
+    ghost irreflexive = { λ t. laws.time_irreflexive (time_rank t.hour t.minute) };
 
-    ghost transitive = { λ s t u. laws.time_transitive (minutes s.hour s.minute) (minutes t.hour t.minute)
-        (minutes u.hour u.minute) };
+    ghost transitive = { λ s t u. laws.time_transitive (time_rank s.hour s.minute) (time_rank t.hour t.minute)
+        (time_rank u.hour u.minute) };
 
     ghost total = { λ s t h k e f. let same = laws.time_total s.hour t.hour s.minute t.minute h k e f
         in λ j. record { hour = same.0 j; minute = same.1 j } };

@@ -9,7 +9,8 @@ use Rattle.grow_shrink.specs.declared.refusals.GrowError.{GrowError}
 use Rattle.grow_shrink.specs.declared.refusals.GrowError.TheVariants.{ReadOnly, BadGrow, TooLarge, RegionTooSmall}
 use Rattle.grow_shrink.specs.Resized.{IsRefusedBy, growth_refusal, room_of}
 use Rattle.grow_shrink.specs.LargerRegion.{IsShortOfRoom, growth_reason}
-use Rattle.grow_shrink.proofs.Reasons.{by_none, first_of, good-long, good-whole, is_bad, not-large, stands-size}
+use Rattle.grow_shrink.proofs.resizing.Refusals.{by_none, first_of, good-long, good-whole, is_bad, not-large}
+use Rattle.grow_shrink.proofs.resizing.Refusals.{stands-size}
 
 -- the reasons before the region's, none of which holds
 record AreNot (a b c : Bool) : Type 0 where
@@ -43,6 +44,7 @@ module _ (s : SegmentState) (extra : ℕ) (why : GrowError) (is : why ≡ Region
   are_short d h = region_alone (is_read_only s.mode) (is_bad extra) (nat_lt 1073741824 (d.size + extra))
       (nat_lt (room_of s.cut) (d.size + extra)) (ap (λ (e : GrowError). Some e) (sym is) ∙ refused.refused d h)
 
+  -- a segment that is refused by its region alone is short of room
   pub short_of_room : IsSegment s.cut.bytes → IsShortOfRoom s extra
   short_of_room (d, h) =
       let none = (are_short d h).0 in

@@ -1,7 +1,7 @@
 -- A segment that grows, in a larger region where its own has no room.
 use Rattle.std.specs.Prelude.{◌≡◌, ◌≤◌, ◌<◌, ◌⊎◌, ℕ, ◌+◌, ◌*◌, ◌/◌, ◌%◌, false, Option, Some, None, Result, MatchResult}
 use Rattle.std.specs.Prelude.{length, max, min}
-use Rattle.raw_region.specs.Refusals.{refusal_of}
+use Rattle.raw_region.specs.Refusals.{out_of_memory_of}
 use Rattle.segment_manager.specs.declared.modes.Mode.{Mode}
 use Rattle.segment_manager.specs.Directory.{Directory}
 use Rattle.segment_manager.specs.blocks.Resized.{Resizes, grown}
@@ -52,7 +52,7 @@ pub record HasGrowthReason (s : SegmentState) (extra : ℕ) (reason : GrowError)
 abbrev pub GrowsOrMovesErr : SegmentState → SegmentState → ℕ → GrowOrMoveError → Type 0
 GrowsOrMovesErr old new extra (Growth reason) = (new ≡ old) × HasGrowthReason old extra reason
 GrowsOrMovesErr old new extra (OutOfMemory refusal) =
-    (new ≡ old) × IsShortOfRoom old extra × (refusal ≡ refusal_of (region_len (length old.cut.bytes + extra)))
+    (new ≡ old) × IsShortOfRoom old extra × (refusal ≡ out_of_memory_of (region_len (length old.cut.bytes + extra)))
 
 -- `grow_or_move`
 abbrev pub GrowsOrMoves : SegmentState → SegmentState → ℕ → Result (Unit {0}) GrowOrMoveError → Type 0

@@ -29,14 +29,14 @@ abbrev pub shrink_refusal : Mode → Option GrowError
 shrink_refusal mode = if is_read_only mode then Some ReadOnly else None
 
 -- why a call was refused, if it was
-abbrev pub refusal_of : Result (Unit {0}) GrowError → Option GrowError
-refusal_of (Ok u) = None
-refusal_of (Err why) = Some why
+abbrev pub growth_error_of : Result (Unit {0}) GrowError → Option GrowError
+growth_error_of (Ok u) = None
+growth_error_of (Err why) = Some why
 
 -- the call is refused exactly where this says so of the directory, and for this reason
 pub record IsRefusedBy (old : SegmentState) (result : Result (Unit {0}) GrowError) (why : Directory
     → Option GrowError) : Type 0 where
-  pub refused : (d : Directory) → DenotesCurrent old.cut.bytes d → refusal_of result ≡ why d
+  pub refused : (d : Directory) → DenotesCurrent old.cut.bytes d → growth_error_of result ≡ why d
 
 -- the law: where a segment may be so much larger, its directory is one there
 abbrev pub GrownIsDirectory : Type 0

@@ -2,7 +2,7 @@
 //! read into.
 ghost use Rattle.std.specs.Prelude.{◌≡◌, ◌≤◌, ◌+◌, length, min, IfErr, IfOk, MatchResult};
 ghost use Rattle.raw_region.specs.Memory.{SameSurroundings, cut_at, zeros};
-ghost use Rattle.raw_region.specs.{Refusals.refusal_of, Regions.IsCapacity};
+ghost use Rattle.raw_region.specs.{Refusals.out_of_memory_of, Regions.IsCapacity};
 ghost use Rattle.segment_manager.specs.State.{IsSegment};
 ghost use Rattle.grow_shrink.specs.LargerRegion.{GrowsOrMoves, GrowsOrMovesOk, IsShortOfRoom, region_len};
 
@@ -47,7 +47,7 @@ pub fn region_for(alloc: Global, bytes: u64) -> Result<RawRegion, OutOfMemory>
     ensures bytes { IfOk result (λ region. region ≡ zeros (region_len bytes)) }
     ensures len { IfOk result (λ region. length region ≡ region_len bytes) }
     ensures room { IfOk result (λ region. min bytes 1073741824 ≤ length region) }
-    ensures refused { IfErr result (λ refusal. refusal ≡ refusal_of (region_len bytes)) }
+    ensures refused { IfErr result (λ refusal. refusal ≡ out_of_memory_of (region_len bytes)) }
 {
     RawRegion::new(alloc, capacity_for(bytes))
 }
@@ -111,7 +111,7 @@ fn grown_copy(
     requires size { size ≡ length segment.now.cut.bytes }
     requires max_len { IsShortOfRoom segment.now extra }
     ensures changes { IfOk result (λ copy. GrowsOrMovesOk segment.now copy extra) }
-    ensures refused { IfErr result (λ refusal. refusal ≡ refusal_of (region_len (size + extra))) }
+    ensures refused { IfErr result (λ refusal. refusal ≡ out_of_memory_of (region_len (size + extra))) }
 {
     let region = region_for(alloc, size + extra)?;
     let mut copy = copy_into(segment, region);

@@ -12,7 +12,7 @@ use Rattle.segment_manager.specs.Directory.{Numbers, Bytes, Pairs, Texts}
 use Rattle.image_check.specs.declared.classes.ImageClass.TheVariants.{BadObject}
 use Rattle.image_check.specs.Classes.{class_of}
 use Rattle.image_check.specs.Counting.{AreCounted}
-use Rattle.image_check.proofs.ReadOff.{read_off}
+use Rattle.image_check.proofs.read_off.Directory.{read_off}
 
 -- bytes from words
 abbrev words : List ℕ → List ℕ

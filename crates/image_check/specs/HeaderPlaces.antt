@@ -15,7 +15,7 @@ pub record IsFirstOther (b wanted : List ℕ) (at : ℕ) : Type 0 where
   pub same : (i : ℕ) → i < at → slice_index b i ≡ slice_index wanted i
 
 -- the first byte of those from an offset on, below another, that is not 0
-pub record IsFirstFilled (m : Memory) (from to at : ℕ) : Type 0 where
+pub record IsFirstNonzero (m : Memory) (from to at : ℕ) : Type 0 where
   pub above : from ≤ at
   pub below : at < to
   pub filled : m at ≢ 0
@@ -23,8 +23,8 @@ pub record IsFirstFilled (m : Memory) (from to at : ℕ) : Type 0 where
 
 -- the first reserved byte that is not 0
 abbrev pub IsFirstReserved : List ℕ → ℕ → Type 0
-IsFirstReserved b at = IsFirstFilled (bytes_of b) 12 16 at
-    ⊎ (AreZero (bytes_of b) 12 16 × IsFirstFilled (bytes_of b) 80 128 at)
+IsFirstReserved b at = IsFirstNonzero (bytes_of b) 12 16 at
+    ⊎ (AreZero (bytes_of b) 12 16 × IsFirstNonzero (bytes_of b) 80 128 at)
 
 -- the size that is none of a segment, or else the first byte behind a segment of that size
 abbrev pub shown_size : List ℕ → ℕ

@@ -238,7 +238,7 @@ pub record IsTurn (format : ℕ) (b : List ℕ) (old : Blocks) (waited : ℕ) (e
   pub less : 6 * waiting + unspent_budget es + 6 ≤ 6 * waited + unspent_budget old
 
 -- no node waits any more
-pub record IsAllFollowed (format : ℕ) (b : List ℕ) (old es : Blocks) (pending : Option ℕ) (waiting : ℕ) : Type 0 where
+pub record FollowsAll (format : ℕ) (b : List ℕ) (old es : Blocks) (pending : Option ℕ) (waiting : ℕ) : Type 0 where
   pub marking : IsMarkingOf format b None es pending waiting
   pub none : pending ≡ None
   pub keeps : KeepsMarks old es

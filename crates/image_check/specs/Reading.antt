@@ -43,7 +43,7 @@ pub record Stops (format : ℕ) (image : ReadDelta) (base capacity : ℕ) (cause
   pub early : is_late cause ≡ false
 
 -- the first 24 bytes were read and say a size for which there is room
-pub record IsFrontRead (format : ℕ) (old new front : List ℕ) (base capacity size : ℕ) : Type 0 where
+pub record ReadsFrontOk (format : ℕ) (old new front : List ℕ) (base capacity size : ℕ) : Type 0 where
   pub read : new ≡ old ++ front
   pub long : length front ≡ 24
   pub right : IsTrue (has_front format front)

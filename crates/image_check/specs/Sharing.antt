@@ -147,7 +147,7 @@ pub record IsTileGrown (format : ℕ) (b : List ℕ) (t : Tile) (old : Blocks) (
   pub noted : OfObject format (bytes_of b) t (λ kind at. IsValueNoted (bytes_of b) (tiles_in b) kind at es)
 
 -- the links behind all values are noted, but those of nodes
-pub record AreValuesNoted (format : ℕ) (b : List ℕ) (old es : Blocks) (pending : Option ℕ) (waiting : ℕ) : Type 0 where
+pub record NotesValues (format : ℕ) (b : List ℕ) (old es : Blocks) (pending : Option ℕ) (waiting : ℕ) : Type 0 where
   pub marking : IsMarkingOf format b None es pending waiting
   pub keeps : KeepsMarks old es
   pub noted : (kind : Kind) (at : ℕ) → Contains (values format (bytes_of b) (tiles_in b)) (kind, at)

@@ -162,7 +162,7 @@ fn check_frame(
     ensures visits_on_error { OnErr result (IsRaisedFor (length window.now.bytes) visits.old visits.new) }
     ensures early_stop { IfErr result (λ verdict. is_late (Image verdict.class) ≡ false) }
 {
-    window.hold_bytes();
+    window.bytes_are_octets();
     if let Err(place) = check_reserved(window) {
         let class = ImageClass::BadReserved;
         return Err(Verdict { class, place });
@@ -236,10 +236,10 @@ fn check_reserved(window: &ImageWindow) -> Result<(), Offset>
     requires { 128 ≤ length window.now.bytes }
     ensures { ChecksClass (is_reserved window.now.bytes) (IsFirstReserved window.now.bytes) result }
 {
-    if let Some(place) = window.first_filled(FORMAT_AT + 4, FORMAT_AT + 8) {
+    if let Some(place) = window.first_nonzero(FORMAT_AT + 4, FORMAT_AT + 8) {
         return Err(place);
     }
-    if let Some(place) = window.first_filled(RESERVED_AT, HEADER_LEN) {
+    if let Some(place) = window.first_nonzero(RESERVED_AT, HEADER_LEN) {
         return Err(place);
     }
     Ok(())

@@ -21,7 +21,7 @@ ghost use Rattle.image_check.specs.FreeLaws.{places_left, places_right};
 
 use crate::checking::VisitCounter;
 use crate::counting::Counts;
-use crate::image_window::{ImageWindow, TileProbe, check_places, find_place, has_good_links};
+use crate::image_window::{ImageWindow, TileProbe, check_places, find_tile, has_good_links};
 use best_fit::FREE_TREE_ROOT;
 use block_tags::{TAG_LEN, Tile};
 use offset_link::NULL;
@@ -169,7 +169,7 @@ fn is_reached(
     ensures visits { visits.old ≤ visits.new }
     ensures visits_on_error { visits.new ≤ visits.old + 52 }
 {
-    match find_place(window, root, sought, visits).node {
+    match find_tile(window, root, sought, visits).node {
         Some(found) => found == sought.node,
         None => false,
     }

@@ -9,7 +9,7 @@ ghost use Rattle.image_check.specs.Causes.{IsNodeLink, IsEnd, IsShown, error_for
 ghost use Rattle.image_check.specs.Formats.{format_in};
 ghost use Rattle.image_check.specs.declared.errors.OpenError.TheVariants.{RegionTooSmall};
 ghost use Rattle.image_check.specs.Opening.{AsksToTheEnd, ReadsFrontAlone, cause_of, failed_reads};
-ghost use Rattle.image_check.specs.Reading.{ReadsPastEnd, HasFront, IsFrontRead, IsReadBy, IsNotReadBy, IsShort};
+ghost use Rattle.image_check.specs.Reading.{ReadsPastEnd, HasFront, ReadsFrontOk, IsReadBy, IsNotReadBy, IsShort};
 ghost use Rattle.image_check.specs.Reading.{IsShownBy, Stops, StopsBy};
 
 use crate::classes::ImageClass;
@@ -75,7 +75,7 @@ fn read_front<S: Source>(
     base: u64,
 ) -> Result<u64, ExamineError>
     requires { (S.history reader.old).failures < 2 ^ 64 - 1 }
-    ensures on_ok { IfOk result (IsFrontRead (format_in versions front.new) (S.history reader.old).bytes
+    ensures on_ok { IfOk result (ReadsFrontOk (format_in versions front.new) (S.history reader.old).bytes
         (S.history reader.new).bytes front.new base (length region.now)) }
     ensures on_error { IfErr result (λ cause.
         StopsBy versions (read_delta (S.history reader.old) (S.history reader.new)) base (length region.now)

@@ -12,7 +12,7 @@ ghost use Rattle.block_tags.specs.Tiles.{has_tags};
 ghost use Rattle.block_tags.specs.Windows.{HasTileAt, IsTiledWindow, EncodesTiles};
 ghost use Rattle.block_tags.specs.declared.tile.Tile.{Tile as ATile};
 ghost use Rattle.image_check.specs.Formats.{version_word};
-ghost use Rattle.image_check.specs.HeaderPlaces.{IsFirstFilled};
+ghost use Rattle.image_check.specs.HeaderPlaces.{IsFirstNonzero};
 
 mod blocks;
 mod objects;
@@ -26,10 +26,10 @@ use crate::versions::version_in;
 use block_tags::{CheckedTags, Tile, check_counted, first, next};
 pub(crate) use blocks::BlockTable;
 pub(crate) use objects::{Object, Value};
-use offset_link::{BadLink, checked, load};
+use offset_link::{BadLink, load, load_checked};
 pub(crate) use pairs::check_pairs;
-pub(crate) use places::{TileProbe, check_places, find_place, has_good_links};
-use raw_region::{RawRegion, Window, hold_bytes};
+pub(crate) use places::{TileProbe, check_places, find_tile, has_good_links};
+use raw_region::{RawRegion, Window, bytes_are_octets};
 use std::marker::Model;
 
 /// The window of an image that is checked.
@@ -47,35 +47,35 @@ impl Model for ImageWindow {
 }
 
 impl ImageWindow {
-    /// Makes the image in a window.
+    /// The image in a window.
     pub fn new(window: Window) -> ImageWindow
         ensures { result ≡ window }
     {
         ImageWindow { window }
     }
 
-    /// Returns the whole region, with the bytes that it has now.
+    /// The whole region, with the bytes that it has now.
     pub fn into_region(self) -> RawRegion
         ensures { result ≡ whole self }
     {
         self.window.into_region()
     }
 
-    /// Returns the number of bytes.
+    /// The number of bytes.
     pub fn size(&self) -> u64
         ensures { result ≡ length self.now.bytes }
     {
         self.window.size()
     }
 
-    /// Tells whether `len` bytes from `from` on lie inside.
+    /// Whether `len` bytes from `from` on lie inside.
     pub fn in_range(&self, from: u64, len: u64) -> bool
         ensures { IsTrue result ↔ (from + len ≤ length self.now.bytes) }
     {
         self.window.in_range(from, len)
     }
 
-    /// Returns the `len` bytes from `from` on.
+    /// The `len` bytes from `from` on.
     fn bytes(&self, from: u64, len: u64) -> &[u8]
         requires { from + len ≤ length self.now.bytes }
         ensures bytes { result.now ≡ part self.now.bytes from len }
@@ -84,7 +84,7 @@ impl ImageWindow {
         self.window.bytes(from, len)
     }
 
-    /// Returns the number in the 8 bytes at `at`.
+    /// The number in the 8 bytes at `at`.
     fn read_u64(&self, at: u64) -> u64
         requires { at + 8 ≤ length self.now.bytes }
         ensures { result ≡ word_at (bytes_of self.now.bytes) at }
@@ -92,7 +92,7 @@ impl ImageWindow {
         self.window.read_u64(at)
     }
 
-    /// Returns where the link at `at` leads.
+    /// Where the link at `at` leads.
     fn load(&self, at: u64) -> Option<u64>
         requires aligned { at % 8 ≡ 0 }
         requires in_bounds { at + 8 ≤ length self.now.bytes }
@@ -101,21 +101,21 @@ impl ImageWindow {
         load(&self.window, at)
     }
 
-    /// Returns where the link at `at` leads, if that is nowhere or a place of a payload.
+    /// The same, where that is nowhere or a place of a payload.
     ///
     /// # Errors
     ///
-    /// `BadLink` if it is no place of a payload.
-    fn checked(&self, at: u64) -> Result<Option<u64>, BadLink>
+    /// `BadLink` where it is no place of a payload.
+    fn load_checked(&self, at: u64) -> Result<Option<u64>, BadLink>
         requires aligned { at % 8 ≡ 0 }
         requires in_bounds { at + 8 ≤ length self.now.bytes }
         ensures on_ok { IfOk result (λ target. target ≡ link_at (bytes_of self.now.bytes) at) }
         ensures on_error { is_err result ≡ is_bad (length self.now.bytes) (link_at (bytes_of self.now.bytes) at) }
     {
-        checked(&self.window, at)
+        load_checked(&self.window, at)
     }
 
-    /// Returns the version that the first bytes say.
+    /// The version that the first bytes say.
     pub fn version(&self) -> u64
         requires { 24 ≤ length self.now.bytes }
         ensures { result ≡ version_word self.now.bytes }
@@ -123,7 +123,7 @@ impl ImageWindow {
         version_in(self.bytes(0, FRONT as u64))
     }
 
-    /// Returns the number in the 8 bytes of the header at `at`.
+    /// The number in the 8 bytes of the header at `at`.
     pub fn header_word(&self, at: u64) -> u64
         requires header { at + 8 ≤ 128 }
         requires in_bounds { at + 8 ≤ length self.now.bytes }
@@ -132,7 +132,7 @@ impl ImageWindow {
         self.window.read_u64(at)
     }
 
-    /// Returns where the link of the header at `at` leads.
+    /// Where the link of the header at `at` leads.
     pub fn header_link(&self, at: u64) -> Option<u64>
         requires header { at + 8 ≤ 128 }
         requires aligned { at % 8 ≡ 0 }
@@ -142,11 +142,11 @@ impl ImageWindow {
         load(&self.window, at)
     }
 
-    /// Returns where the link of the header at `at` leads, if that is nowhere or a place of a payload.
+    /// The same, where that is nowhere or a place of a payload.
     ///
     /// # Errors
     ///
-    /// `BadLink` if it is no place of a payload.
+    /// `BadLink` where it is no place of a payload.
     pub fn checked_header_link(&self, at: u64) -> Result<Option<u64>, BadLink>
         requires header { at + 8 ≤ 128 }
         requires aligned { at % 8 ≡ 0 }
@@ -154,27 +154,27 @@ impl ImageWindow {
         ensures on_ok { IfOk result (λ target. target ≡ link_at (bytes_of self.now.bytes) at) }
         ensures on_error { is_err result ≡ is_bad (length self.now.bytes) (link_at (bytes_of self.now.bytes) at) }
     {
-        checked(&self.window, at)
+        load_checked(&self.window, at)
     }
 
-    /// Returns the first byte of the header from `from` on, below `to`, that is not 0.
-    pub fn first_filled(&self, from: u64, to: u64) -> Option<u64>
+    /// The first byte of the header from `from` on, below `to`, that is not 0.
+    pub fn first_nonzero(&self, from: u64, to: u64) -> Option<u64>
         requires header { to ≤ 128 }
         requires in_bounds { to ≤ length self.now.bytes }
         ensures { MatchOption result (AreZero (bytes_of self.now.bytes) from to)
-            (IsFirstFilled (bytes_of self.now.bytes) from to) }
+            (IsFirstNonzero (bytes_of self.now.bytes) from to) }
     {
-        first_filled(self.bytes(0, self.size()), from, to)
+        first_nonzero(self.bytes(0, self.size()), from, to)
     }
 
-    /// States that bytes are below 256. It reads none.
-    pub fn hold_bytes(&self)
+    /// Bytes are below 256. None is read.
+    pub fn bytes_are_octets(&self)
         ensures { IsTrue (are_bytes self.now.bytes) }
     {
-        hold_bytes(self.window.bytes(0, self.window.size()));
+        bytes_are_octets(self.window.bytes(0, self.window.size()));
     }
 
-    /// Returns the `len` bytes of an element at `from`, at most 8. One visit.
+    /// The `len` bytes of an element at `from`, at most 8. One visit.
     pub fn element(&self, from: u64, len: u64, visits: &mut VisitCounter) -> &[u8]
         requires max_len { len ≤ 8 }
         requires in_bounds { from + len ≤ length self.now.bytes }
@@ -186,7 +186,7 @@ impl ImageWindow {
         self.window.bytes(from, len)
     }
 
-    /// Returns where the entry of an index or the element at `at` leads, which is a link or begins with one. One visit.
+    /// Where the entry of an index or the element at `at` leads, which is a link or begins with one. One visit.
     pub fn link(&self, at: u64, visits: &mut VisitCounter) -> Option<u64>
         requires aligned { at % 8 ≡ 0 }
         requires in_bounds { at + 8 ≤ length self.now.bytes }
@@ -197,7 +197,7 @@ impl ImageWindow {
         load(&self.window, at)
     }
 
-    /// Returns where the element at `at` of an array of texts leads, and the length of its text. One visit.
+    /// Where the element at `at` of an array of texts leads, and the length of its text. One visit.
     pub fn text(&self, at: u64, visits: &mut VisitCounter) -> (Option<u64>, u64)
         requires size { IsTrue (is_legal_size (length self.now.bytes)) }
         requires aligned { at % 8 ≡ 0 }
@@ -209,12 +209,12 @@ impl ImageWindow {
         (self.link(at, visits), self.window.read_u64(at + 8))
     }
 
-    /// Returns where the two links of the node at `at` lead. One visit.
+    /// Where the two links of the node at `at` lead. One visit.
     pub fn links(&self, at: u64, visits: &mut VisitCounter) -> (Option<u64>, Option<u64>)
         requires size { IsTrue (is_legal_size (length self.now.bytes)) }
         requires aligned { at % 8 ≡ 0 }
         requires in_bounds { at + 16 ≤ length self.now.bytes }
-        ensures remainder { result.0 ≡ link_at (bytes_of self.now.bytes) at }
+        ensures left { result.0 ≡ link_at (bytes_of self.now.bytes) at }
         ensures right { result.1 ≡ link_at (bytes_of self.now.bytes) (at + 8) }
         ensures visits { visits.new ≡ visits.old + 1 }
     {
@@ -235,33 +235,33 @@ impl ImageWindow {
         tags
     }
 
-    /// Returns the tile after the header, or nothing if there is none.
-    pub fn first(&self) -> Option<Unread>
+    /// The tile behind the header, or nothing where there is none.
+    pub fn first(&self) -> Option<UnreadTile>
         requires { IsTiledWindow self.now }
         ensures { (ts : List ATile) → EncodesTiles self.now ts → result ≡ first_in ts }
     {
         match first(&self.window) {
-            Some(tile) => Some(Unread { tile }),
+            Some(tile) => Some(UnreadTile { tile }),
             None => None,
         }
     }
 
-    /// Returns the tile after the one at `at`, or nothing if that is the last.
-    pub fn next(&self, at: u64) -> Option<Unread>
+    /// The tile behind the one at `at`, or nothing where that is the last.
+    pub fn next(&self, at: u64) -> Option<UnreadTile>
         requires { HasTileAt self.now at }
         ensures { (ts : List ATile) → EncodesTiles self.now ts → result ≡ next_in ts at }
     {
         match next(&self.window, at) {
-            Some(tile) => Some(Unread { tile }),
+            Some(tile) => Some(UnreadTile { tile }),
             None => None,
         }
     }
 }
 
-/// Returns the first byte from `from` on, below `to`, that is not 0.
-fn first_filled(bytes: &[u8], from: u64, to: u64) -> Option<u64>
+/// The first byte from `from` on, below `to`, that is not 0.
+fn first_nonzero(bytes: &[u8], from: u64, to: u64) -> Option<u64>
     requires { to ≤ length bytes.now }
-    ensures { MatchOption result (AreZero (bytes_of bytes.now) from to) (IsFirstFilled (bytes_of bytes.now) from to) }
+    ensures { MatchOption result (AreZero (bytes_of bytes.now) from to) (IsFirstNonzero (bytes_of bytes.now) from to) }
 {
     'bytes: for at in from..to {
         if bytes[at as usize] != 0 {
@@ -273,11 +273,11 @@ fn first_filled(bytes: &[u8], from: u64, to: u64) -> Option<u64>
 
 /// A tile whose tags nobody has looked at. What they say is told by `read` alone, which counts it.
 #[derive(Drop)]
-pub struct Unread {
+pub struct UnreadTile {
     tile: Tile,
 }
 
-impl Model for Unread {
+impl Model for UnreadTile {
     ghost use Rattle.block_tags.specs.declared.tile.Tile.{Tile};
 
     ghost Value = { Tile };
@@ -285,8 +285,8 @@ impl Model for Unread {
     ghost view = { λ u. u.tile };
 }
 
-impl Unread {
-    /// Returns what the tags say. One visit.
+impl UnreadTile {
+    /// What the tags say. One visit.
     pub fn read(self, visits: &mut VisitCounter) -> Tile
         ensures tile { result ≡ self }
         ensures visits { visits.new ≡ visits.old + 1 }

@@ -9,7 +9,8 @@ ghost use Rattle.image_check.specs.IndexPlaces.{first_targets, is_head};
 ghost use Rattle.image_check.specs.Owners.{AreBlocks, IsIndexPlace, IsMarking, IsUnmarked, entries_of};
 ghost use Rattle.image_check.specs.Passes.{HasTiles, ChecksClass, Spends, tiles_in};
 ghost use Rattle.image_check.specs.Visits.{AddsVisits, index_rates, weigh};
-ghost use Rattle.image_check.specs.Entered.{AreAdded, AreEntered, HaveEntries, are_enterable, is_enterable, links_in};
+ghost use Rattle.image_check.specs.Entered.{NotesEntries, AreEntered, HaveEntries, are_enterable, is_enterable};
+ghost use Rattle.image_check.specs.Entered.{links_in};
 
 use crate::arrays::is_table;
 use crate::checking::VisitCounter;
@@ -74,7 +75,7 @@ fn enter_index(
     ensures entry { MatchResult result
         (λ done. (is_enterable (bytes_of window.now.bytes) (tiles_in window.now.bytes) owners.old.blocks.entries at
         ≡ true)
-        × AreAdded (tiles_in window.now.bytes) owners.old.blocks.entries owners.new.blocks.entries at
+        × NotesEntries (tiles_in window.now.bytes) owners.old.blocks.entries owners.new.blocks.entries at
         (targets (bytes_of window.now.bytes) at))
         (λ place. (is_enterable (bytes_of window.now.bytes) (tiles_in window.now.bytes) owners.old.blocks.entries at
         ≡ false)
@@ -149,7 +150,7 @@ fn enter_all(
     requires in_bounds { block + 8 * count ≤ length window.now.bytes }
     ensures entry { (ts : List Tile) → AreBlocks ts owners.old.blocks.entries → MatchResult result
         (λ done. (are_enterable ts owners.old.blocks.entries (links_in (bytes_of window.now.bytes) block count) ≡ true)
-        × AreAdded ts owners.old.blocks.entries owners.new.blocks.entries root
+        × NotesEntries ts owners.old.blocks.entries owners.new.blocks.entries root
         (first_targets (bytes_of window.now.bytes) block count))
         (λ place. (are_enterable ts owners.old.blocks.entries (links_in (bytes_of window.now.bytes) block count)
         ≡ false)

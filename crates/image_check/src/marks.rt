@@ -6,7 +6,7 @@ ghost use Rattle.offset_link.specs.Link.{link_at};
 ghost use Rattle.block_tags.specs.declared.tile.Role.TheVariants.{Object as ObjectRole};
 ghost use Rattle.block_tags.specs.declared.tile.Tile.{Tile};
 ghost use Rattle.best_fit.specs.Table.{same_role};
-ghost use Rattle.image_check.specs.Owners.{IsAllFollowed, MarksLink, IsMarking, IsMarkingOf, IsRooted, IsSharedIn};
+ghost use Rattle.image_check.specs.Owners.{FollowsAll, MarksLink, IsMarking, IsMarkingOf, IsRooted, IsSharedIn};
 ghost use Rattle.image_check.specs.Owners.{IsTurn, MayCount, unspent_budget, next_in as next_there};
 ghost use Rattle.image_check.specs.Owners.{root_in as root_there};
 ghost use Rattle.image_check.specs.OwnerPlaces.{IsSharedAt};
@@ -146,7 +146,7 @@ pub(crate) fn follow(
     requires marking { IsMarkingOf format window.now.bytes None owners.old.blocks.entries owners.old.pending
         owners.old.waiting }
     ensures observed { MatchResult result
-        (λ done. IsAllFollowed format window.now.bytes owners.old.blocks.entries owners.new.blocks.entries
+        (λ done. FollowsAll format window.now.bytes owners.old.blocks.entries owners.new.blocks.entries
         owners.new.pending owners.new.waiting)
         (IsSharedIn format window.now.bytes) }
     ensures visits { AddsVisits (6 * owners.old.waiting + unspent_budget owners.old.blocks.entries) visits.old

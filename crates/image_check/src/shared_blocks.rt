@@ -9,7 +9,7 @@ ghost use Rattle.image_check.specs.Owners.{IsIndexPlace, IsMarkingOf, IsSharedIn
 ghost use Rattle.image_check.specs.Owners.{unspent_budget};
 ghost use Rattle.image_check.specs.Passes.{ChecksClass, HasTiles, Spends, tiles_in};
 ghost use Rattle.image_check.specs.Sharing.{AllElements, AreElementsNoted, AreIndexesNoted, AreTextsNoted};
-ghost use Rattle.image_check.specs.Sharing.{AreValuesNoted, IsIndexNoted, IsStorageNoted, IsStorageStart, IsTileGrown};
+ghost use Rattle.image_check.specs.Sharing.{NotesValues, IsIndexNoted, IsStorageNoted, IsStorageStart, IsTileGrown};
 ghost use Rattle.image_check.specs.Sharing.{IsValueGrown, IsValueReady, OfObject, Pays, array_cost, object_cost};
 ghost use Rattle.image_check.specs.Sharing.{value_rates};
 ghost use Rattle.image_check.specs.Visits.{AddsVisits, sharing_rates, weigh};
@@ -200,7 +200,7 @@ fn mark_values(
         owners.old.waiting }
     requires front { (n : ℕ) (o : OwnerValue) → owner_at owners.old.blocks.entries n ≡ Some o → o.at < 128 }
     ensures mark { MatchResult result
-        (λ done. AreValuesNoted said window.now.bytes owners.old.blocks.entries owners.new.blocks.entries
+        (λ done. NotesValues said window.now.bytes owners.old.blocks.entries owners.new.blocks.entries
         owners.new.pending owners.new.waiting)
         (IsSharedIn said window.now.bytes) }
     ensures visits { Pays (weigh value_rates (tiles_in window.now.bytes)) result visits.old

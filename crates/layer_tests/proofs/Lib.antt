@@ -1,5 +1,1 @@
-mod FreshWindows
-mod HeapCalls
-mod Tables
-mod Vectors
-mod Maps
+mod calls

@@ -4,8 +4,8 @@ use Rattle.std.proofs.Common.{arith}
 use Rattle.std.specs.Int.{bytes_low_first}
 
 -- the urgent ones by their numbers, and then the others
-abbrev pub place : Bool → ℕ → ℕ
-place urgent number = (if urgent then 0 else 65536) + number
+abbrev pub rank : Bool → ℕ → ℕ
+rank urgent number = (if urgent then 0 else 65536) + number
 
 abbrev pub urgency : Bool → ℕ
 urgency false = 0
@@ -26,7 +26,7 @@ said_number b = 0
 abbrev pub is_number : ℕ → Bool
 is_number number = nat_lt number (2 ^ 16)
 
-pub one_place : (u v : Bool) (n m : ℕ) → is_number n ≡ true → is_number m ≡ true → place u n ≡ place v m
+pub one_place : (u v : Bool) (n m : ℕ) → is_number n ≡ true → is_number m ≡ true → rank u n ≡ rank v m
     → (u ≡ v) × (n ≡ m)
 one_place false false n m h k e = (refl, grind arith)
 one_place true true n m h k e = (refl, grind arith)
@@ -49,5 +49,5 @@ pub ticket_transitive : (x y z : ℕ) → nat_lt x y ≡ true → nat_lt y z ≡
 ticket_transitive x y z h k = grind arith
 
 pub ticket_total : (u v : Bool) (n m : ℕ) → is_number n ≡ true → is_number m ≡ true
-    → nat_lt (place u n) (place v m) ≡ false → nat_lt (place v m) (place u n) ≡ false → (u ≡ v) × (n ≡ m)
+    → nat_lt (rank u n) (rank v m) ≡ false → nat_lt (rank v m) (rank u n) ≡ false → (u ≡ v) × (n ≡ m)
 ticket_total u v n m h k e f = one_place u v n m h k (grind arith)

@@ -25,7 +25,12 @@ fn has<R: Abort, N: Numbered>(rt: &R, nodes: &N, root: Option<u64>, node: u64) -
 }
 
 /// Puts a node in, if the links are a tree and the node is not in it yet.
-fn put<R: Abort, N: Numbered>(rt: &R, nodes: &mut N, root: Option<u64>, node: u64) -> Option<u64>
+fn insert_node<R: Abort, N: Numbered>(
+    rt: &R,
+    nodes: &mut N,
+    root: Option<u64>,
+    node: u64,
+) -> Option<u64>
     requires root { leads (N.is_node nodes.old) root ≡ true }
     requires node { node < 64 }
     ensures { leads (N.is_node nodes.new) result ≡ true }
@@ -71,7 +76,7 @@ fn fill_and_empty<R: Abort, N: Numbered>(rt: &R, nodes: &mut N, step: u64, back:
 {
     let mut root = None;
     for i in 0..64u64 {
-        root = put(rt, nodes, root, i * step % 64);
+        root = insert_node(rt, nodes, root, i * step % 64);
         same(rt, check(nodes, root).nodes, Some(i + 1));
     }
     holds(rt, meets_all(rt, nodes, root, 64));

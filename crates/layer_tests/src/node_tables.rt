@@ -14,7 +14,7 @@ const NOWHERE: u64 = 64;
 
 /// Nodes 0 to 63 in the order of their numbers.
 #[derive(Drop)]
-pub struct Table {
+pub struct NodeTable {
     left: [u64; 64],
     right: [u64; 64],
     red: [u64; 64],
@@ -42,7 +42,7 @@ fn colour(red: bool) -> u64
     if red { 1 } else { 0 }
 }
 
-impl Nodes for Table {
+impl Nodes for NodeTable {
     type Probe = u64;
 
     ghost cells = { λ s. table_cells s.left s.right s.red };
@@ -88,7 +88,7 @@ impl Nodes for Table {
     ghost agrees = { λ s. table_agrees };
 }
 
-impl NodesMut for Table {
+impl NodesMut for NodeTable {
     fn set_left(&mut self, node: u64, to: Option<u64>) {
         self.left[node as usize] = value(to);
     }
@@ -111,7 +111,7 @@ pub trait Numbered: NodesMut<Probe = u64> {
     ghost probed: { (s : Self) (probe : ℕ) → Self.before s probe ≡ (λ n. nat_lt n probe) };
 }
 
-impl Numbered for Table {
+impl Numbered for NodeTable {
     ghost numbers = { λ s. refl };
 
     ghost in_order = { λ s. refl };
@@ -120,8 +120,8 @@ impl Numbered for Table {
 }
 
 /// Returns a table in which no node leads anywhere, and all are black.
-pub fn empty_table() -> Table {
-    Table {
+pub fn empty_table() -> NodeTable {
+    NodeTable {
         left: [NOWHERE; 64],
         right: [NOWHERE; 64],
         red: [0; 64],

@@ -1,7 +1,7 @@
 //! A caller's own plain type, for the tests.
 ghost use Rattle.std.specs.Prelude.{◌≡◌, nat_lt, refl, Some};
 ghost use Rattle.std.proofs.Common.{lit≤};
-ghost use Rattle.layer_tests.specs.Tickets.{place, ticket_bytes, is_number, said_number, said_urgent};
+ghost use Rattle.layer_tests.specs.Tickets.{rank, ticket_bytes, is_number, said_number, said_urgent};
 ghost use Rattle.layer_tests.specs.Tickets as laws;
 
 use seg_types::Plain;
@@ -32,7 +32,7 @@ impl Ticket {
 
     /// Returns the urgent ones by their numbers, and then the others.
     fn place(self) -> u32
-        ensures { result ≡ place self.urgent self.number }
+        ensures { result ≡ rank self.urgent self.number }
     {
         let group = if self.urgent { 0 } else { 65536 };
         group + u32::from(self.number)
@@ -54,7 +54,7 @@ impl Plain for Ticket {
 
     ghost reading = { λ b. Some (record { urgent = said_urgent b; number = said_number b }) };
 
-    ghost order = { λ s t. nat_lt (place s.urgent s.number) (place t.urgent t.number) };
+    ghost order = { λ s t. nat_lt (rank s.urgent s.number) (rank t.urgent t.number) };
 
     fn write(self, to: &mut [u8]) {
         let [low, high] = self.number.to_le_bytes();
@@ -85,10 +85,10 @@ impl Plain for Ticket {
     ghost differs = { λ s t h k e. let same = laws.ticket_differs s.urgent t.urgent s.number t.number h k e
         in λ j. record { urgent = same.0 j; number = same.1 j } };
 
-    ghost irreflexive = { λ t. laws.ticket_irreflexive (place t.urgent t.number) };
+    ghost irreflexive = { λ t. laws.ticket_irreflexive (rank t.urgent t.number) };
 
-    ghost transitive = { λ s t u. laws.ticket_transitive (place s.urgent s.number) (place t.urgent t.number)
-        (place u.urgent u.number) };
+    ghost transitive = { λ s t u. laws.ticket_transitive (rank s.urgent s.number) (rank t.urgent t.number)
+        (rank u.urgent u.number) };
 
     ghost total = { λ s t h k e f. let same = laws.ticket_total s.urgent t.urgent s.number t.number h k e f
         in λ j. record { urgent = same.0 j; number = same.1 j } };

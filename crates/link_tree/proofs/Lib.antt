@@ -1,24 +1,3 @@
-mod Orders
-mod Trees
-mod Heights
-mod Limits
-mod Keepers
-mod Finding
-mod Seeking
-mod Approaches
-mod Joints
-mod Turns
-mod Colours
-mod Beginnings
-mod Growth
-mod Entries
-mod Mending
-mod Shrinkage
-mod Folding
-mod Walks
-mod Reading
-mod TakingLeast
-mod Taking
-mod Exits
-mod Soundness
+mod trees
+mod inserting
 pub mod Laws

@@ -39,9 +39,9 @@ abbrev pub is_ordered_with : (ℕ → ℕ → Bool) → ℕ → List ℕ → Boo
 is_ordered_with precedes n ns = list_all (λ m. precedes n m || precedes m n) ns
 
 -- the ordered list with the node put in before the first that it precedes
-abbrev pub put : (ℕ → ℕ → Bool) → ℕ → List ℕ → List ℕ
-put precedes n [] = n ∷ []
-put precedes n (m ∷ ms) = if precedes n m then n ∷ m ∷ ms else m ∷ put precedes n ms
+abbrev pub insert_in_order : (ℕ → ℕ → Bool) → ℕ → List ℕ → List ℕ
+insert_in_order precedes n [] = n ∷ []
+insert_in_order precedes n (m ∷ ms) = if precedes n m then n ∷ m ∷ ms else m ∷ insert_in_order precedes n ms
 
 -- the list without the node
 abbrev pub without : ℕ → List ℕ → List ℕ

@@ -2,7 +2,7 @@
 use Rattle.std.specs.Prelude.{◌≡◌, ℕ, Bool, true, false, not, ◌==◌, Option, List, if◌then◌else◌}
 use Rattle.link_tree.specs.Tree.{Cell, Tree, leaf, fork, nodes_of, IsTree, is_sorted}
 use Rattle.link_tree.specs.Sides.{opposite, tree_on, joined_at}
-use Rattle.link_tree.specs.Turning.{Turned, painted, rebalanced, blackened, is_red_tree}
+use Rattle.link_tree.specs.Turning.{BecomesTree, painted, rebalanced, blackened, is_red_tree}
 use Rattle.link_tree.specs.declared.cursor.Side.{Side}
 use Rattle.link_tree.specs.declared.cursor.Side.TheVariants.{Left, Right}
 
@@ -20,7 +20,7 @@ pub record IsOrderedTree (precedes : ℕ → ℕ → Bool) (cells : ℕ → Cell
 pub record RemovesTo (cells cells' : ℕ
     → Cell) (ns : List ℕ) (link : Option ℕ) (has_fallen : Bool) (rest : RemovedSubtree) : Type 0
   where
-    pub turned : Turned cells cells' ns link rest.tree
+    pub turned : BecomesTree cells cells' ns link rest.tree
     pub fallen : has_fallen ≡ rest.fell
 
 -- the tree with a red root

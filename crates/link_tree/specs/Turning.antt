@@ -6,7 +6,7 @@ use Rattle.link_tree.specs.Sides.{opposite, tree_on, joined_at}
 use Rattle.link_tree.specs.declared.cursor.Side.{Side}
 
 -- the cells of no other nodes than these changed, and the link now leads to this tree
-pub record Turned (cells cells' : ℕ → Cell) (ns : List ℕ) (link : Option ℕ) (t : Tree) : Type 0 where
+pub record BecomesTree (cells cells' : ℕ → Cell) (ns : List ℕ) (link : Option ℕ) (t : Tree) : Type 0 where
   pub tree : IsTree cells' link t
   pub frame : (m : ℕ) → is_in m ns ≡ false → cells' m ≡ cells m
 

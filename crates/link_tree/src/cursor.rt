@@ -39,7 +39,7 @@ impl Side {
 
 /// One side of a node, and its link there.
 #[derive(Clone, Copy)]
-pub struct Onward {
+pub struct DescentStep {
     pub side: Side,
     pub link: Option<u64>,
 }
@@ -272,7 +272,7 @@ impl<'a, N: NodesMut> NodeCursorMut<'a, N> {
     }
 
     /// Returns the side of `at` on which the node stands or is to stand, and the link there.
-    pub fn toward(&mut self, node: u64, at: u64) -> Onward
+    pub fn toward(&mut self, node: u64, at: u64) -> DescentStep
         requires node { N.is_node self.old.nodes.now node ≡ true }
         requires position { N.is_node self.old.nodes.now at ≡ true }
         requires no_overflow { self.old.steps + 3 < 2 ^ 64 }
@@ -289,7 +289,7 @@ impl<'a, N: NodesMut> NodeCursorMut<'a, N> {
     {
         let side = Side::of(self.precedes(node, at));
         let link = self.child(at, side);
-        Onward { side, link }
+        DescentStep { side, link }
     }
 
     /// Goes to a node, and writes its link on a side.

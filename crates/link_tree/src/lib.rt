@@ -11,7 +11,7 @@ mod change_points;
 mod checking;
 mod cursor;
 mod descending;
-mod inserting;
+mod insertion;
 mod nodes;
 mod removing;
 mod rotation;
@@ -22,7 +22,7 @@ mod walking;
 
 pub use change_points::{InsertPoint, RemovePoint, find_insert_point, find_remove_point};
 pub use checking::{CheckedTree, check};
-pub use inserting::{Changed, insert, insert_at};
+pub use insertion::{TreeChange, insert, insert_at};
 pub use nodes::{Nodes, NodesMut};
 pub use removing::{remove, remove_at};
 pub use searching::{SearchResult, find_first_not_before, find_last, find_last_before};

@@ -5,14 +5,14 @@ ghost use Rattle.std.specs.Prelude.{length, IfSome, IsTrue};
 ghost use Rattle.link_tree.specs.Tree.{Cell, Tree, IsTree, IsSearchTree, nodes_of, is_sorted, height, bits};
 ghost use Rattle.link_tree.specs.Nodes.{leads, is_in, without};
 ghost use Rattle.link_tree.specs.Sides.{opposite, child_of, joined_at};
-ghost use Rattle.link_tree.specs.Turning.{Turned};
+ghost use Rattle.link_tree.specs.Turning.{BecomesTree};
 ghost use Rattle.link_tree.specs.Shrinking.{RemovedSubtree, IsOrderedTree, RemovesTo, mended, settled, sunk, least_of};
 ghost use Rattle.link_tree.specs.Shrinking.{without_least, uprooted, after_remove, spare};
 ghost use Rattle.link_tree.specs.Ways.{remove_point_of};
 ghost use Rattle.link_tree.specs.Frame.{SameExceptCells};
 
 use crate::cursor::{NodeCursorMut, Side};
-use crate::inserting::Changed;
+use crate::insertion::TreeChange;
 use crate::nodes::NodesMut;
 use crate::rotation::{fix_double_red, is_red, paint, rotate};
 
@@ -284,7 +284,7 @@ pub fn remove_at<N: NodesMut>(
     root: Option<u64>,
     exit: Option<u64>,
     node: u64,
-) -> Changed
+) -> TreeChange
     requires root { leads (N.is_node nodes.old) root ≡ true }
     // The node must be in the tree, and the removal begin at the root or where `find_remove_point` says.
     requires tree { (t : Tree) × IsSearchTree (N.order nodes.old) (N.cells nodes.old) root t
@@ -309,14 +309,14 @@ pub fn remove_at<N: NodesMut>(
     let mut visits = NodeCursorMut::new(nodes);
     if let Some(start) = exit {
         cut(&mut visits, Some(start), node);
-        return Changed {
+        return TreeChange {
             root,
             steps: visits.steps(),
         };
     }
     let rest = cut(&mut visits, root, node);
     paint(&mut visits, rest.root, false);
-    Changed {
+    TreeChange {
         root: rest.root,
         steps: visits.steps(),
     }
@@ -327,7 +327,7 @@ pub fn remove_at<N: NodesMut>(
 /// Only links and colours of the tree's nodes change: every other node stays where it is, and none is copied.
 /// A step is going to a node, with all that is read and written there before the call goes to another.
 /// Jean-Christophe Filliâtre and Pierre Letouzey, Functors for Proofs and Programs, 2004.
-pub fn remove<N: NodesMut>(nodes: &mut N, root: Option<u64>, node: u64) -> Changed
+pub fn remove<N: NodesMut>(nodes: &mut N, root: Option<u64>, node: u64) -> TreeChange
     requires root { leads (N.is_node nodes.old) root ≡ true }
     // The node must be in the tree.
     requires tree { (t : Tree) × IsSearchTree (N.order nodes.old) (N.cells nodes.old) root t

@@ -3,7 +3,7 @@
 ghost use Rattle.std.specs.Prelude.{◌≡◌, ℕ, ◌+◌, ◌<◌, ◌≤◌, ◌^◌, Bool, true, false, Option, Some, None};
 ghost use Rattle.link_tree.specs.Tree.{Cell, Tree, IsTree, nodes_of, is_sorted};
 ghost use Rattle.link_tree.specs.Nodes.{leads};
-ghost use Rattle.link_tree.specs.Turning.{Turned, rotated, painted, rebalanced, is_red_tree};
+ghost use Rattle.link_tree.specs.Turning.{BecomesTree, rotated, painted, rebalanced, is_red_tree};
 ghost use Rattle.link_tree.specs.Frame.{SameExceptCells};
 
 use crate::cursor::{NodeCursorMut, Side};
@@ -32,7 +32,7 @@ pub fn paint<N: NodesMut>(visits: &mut NodeCursorMut<N>, link: Option<u64>, red:
     requires no_overflow { visits.old.steps + 1 < 2 ^ 64 }
     ensures colour { (t : Tree) → IsTree (N.cells visits.old.nodes.now) link t
         → is_sorted (N.order visits.old.nodes.now) (nodes_of t) ≡ true
-        → Turned (N.cells visits.old.nodes.now) (N.cells visits.new.nodes.now) (nodes_of t) link
+        → BecomesTree (N.cells visits.old.nodes.now) (N.cells visits.new.nodes.now) (nodes_of t) link
         (painted red t) }
     ensures steps_upper { visits.new.steps ≤ visits.old.steps + 1 }
     ensures steps_lower { visits.old.steps ≤ visits.new.steps }
@@ -50,7 +50,7 @@ pub fn rotate<N: NodesMut>(visits: &mut NodeCursorMut<N>, top: u64, side: Side) 
     requires no_overflow { visits.old.steps + 3 < 2 ^ 64 }
     ensures rotation { (t : Tree) → IsTree (N.cells visits.old.nodes.now) (Some top) t
         → is_sorted (N.order visits.old.nodes.now) (nodes_of t) ≡ true
-        → Turned (N.cells visits.old.nodes.now) (N.cells visits.new.nodes.now) (nodes_of t)
+        → BecomesTree (N.cells visits.old.nodes.now) (N.cells visits.new.nodes.now) (nodes_of t)
         (Some result) (rotated side t) }
     ensures node { N.is_node visits.old.nodes.now result ≡ true }
     ensures position { visits.new.at ≡ Some top }
@@ -78,7 +78,7 @@ pub fn fix_double_red<N: NodesMut>(visits: &mut NodeCursorMut<N>, top: u64, side
     requires no_overflow { visits.old.steps + 11 < 2 ^ 64 }
     ensures balanced { (t : Tree) → IsTree (N.cells visits.old.nodes.now) (Some top) t
         → is_sorted (N.order visits.old.nodes.now) (nodes_of t) ≡ true
-        → Turned (N.cells visits.old.nodes.now) (N.cells visits.new.nodes.now) (nodes_of t)
+        → BecomesTree (N.cells visits.old.nodes.now) (N.cells visits.new.nodes.now) (nodes_of t)
         (Some result) (rebalanced side t) }
     ensures node { N.is_node visits.old.nodes.now result ≡ true }
     ensures steps_upper { visits.new.steps ≤ visits.old.steps + 11 }

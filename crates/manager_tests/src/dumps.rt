@@ -2,7 +2,7 @@
 ghost use Rattle.std.specs.Prelude.{◌≡◌};
 
 use crate::checks::{done, holds, refusal, same};
-use memory_devices::{Last, MemorySink};
+use memory_devices::{EndBehaviour, MemorySink};
 use raw_region::RawRegion;
 use segment_dump::{LoadError, LoadRefused, dump, load};
 use segment_manager::{Mode, Segment};
@@ -18,7 +18,7 @@ pub fn empty<R: Abort + AllocGlobal>(rt: &R) -> Segment {
 pub fn writer<R: Abort + AllocGlobal>(rt: &R, room: usize) -> MemorySink
     ensures { result.failures ≡ 0 }
 {
-    let Ok(out) = MemorySink::new(rt.alloc(), room, 7, Last::Fails) else {
+    let Ok(out) = MemorySink::new(rt.alloc(), room, 7, EndBehaviour::Fails) else {
         panic!(rt; "out of memory");
     };
     out

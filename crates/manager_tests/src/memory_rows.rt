@@ -5,7 +5,7 @@
 use crate::checks::{done, refusal, same};
 use crate::segments::{named, new_named};
 use image_check::{ImageClass, OpenError, OpenRefused, open, open_any};
-use memory_devices::{Last, MemorySource};
+use memory_devices::{EndBehaviour, MemorySource};
 use raw_region::{RawRegion, Steps};
 use segment_manager::{Mode, Segment};
 use std::alloc::Global;
@@ -58,7 +58,7 @@ fn opens(
     region: RawRegion,
     of_any: bool,
 ) -> Result<Segment, OpenRefused> {
-    let mut reader = MemorySource::new(image, 4096, Last::Ends);
+    let mut reader = MemorySource::new(image, 4096, EndBehaviour::Ends);
     let mut steps = Steps::new();
     if of_any {
         return open_any(alloc, &mut reader, region, 1024, Mode::Write, &mut steps);

@@ -8,7 +8,7 @@ use image_check::{
     AcceptedVersions, ExamineError, ExamineRefused, ImageClass, OpenError, OpenRefused, Verdict,
     examine, examine_bytes, open, open_bytes, verify,
 };
-use memory_devices::{Last, MemorySource};
+use memory_devices::{EndBehaviour, MemorySource};
 use raw_region::{RawRegion, Steps};
 use seg_types::Refusal;
 use segment_manager::{CreateError, Mode, Segment};
@@ -79,7 +79,7 @@ fn opens_none<R: Abort + AllocGlobal>(rt: &R, base: u64)
     requires { base % 16 ≡ 0 }
 {
     let front = b"MSEGFILE\x02\0\0\0\0\0\0\0\xB0\0\0\0\0\0\0\0";
-    let mut reader = MemorySource::new(front, 7, Last::Fails);
+    let mut reader = MemorySource::new(front, 7, EndBehaviour::Fails);
     let region = region_of_sevens(rt, 1024);
     let mut steps = Steps::new();
     let refused = refusal(
@@ -148,7 +148,7 @@ fn bytes_that_are_too_few_leave_the_region(rt: HostRuntime) {
 
 /// Returns what the check of an image at 16 in a region of 2048 sevens answers.
 fn verified<R: Abort + AllocGlobal>(rt: &R, image: &[u8]) -> Result<RawRegion, OpenRefused> {
-    let mut reader = MemorySource::new(image, 7, Last::Ends);
+    let mut reader = MemorySource::new(image, 7, EndBehaviour::Ends);
     let region = region_of_sevens(rt, 2048);
     verify(rt.alloc(), &mut reader, region, 16, &mut Steps::new())
 }
@@ -181,7 +181,7 @@ fn a_wrong_image_is_told_and_writes_nothing_beside(rt: HostRuntime) {
 
 /// Returns what an examination of an image at 16 in a region of 2048 sevens answers.
 fn examined<R: Abort + AllocGlobal>(rt: &R, image: &[u8]) -> Result<RawRegion, ExamineRefused> {
-    let mut reader = MemorySource::new(image, 7, Last::Ends);
+    let mut reader = MemorySource::new(image, 7, EndBehaviour::Ends);
     let region = region_of_sevens(rt, 2048);
     examine(rt.alloc(), &mut reader, region, 16, &mut Steps::new())
 }

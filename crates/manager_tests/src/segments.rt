@@ -8,7 +8,7 @@ ghost use Rattle.segment_manager.specs.objects.NewObjects.{IsOfKind};
 use crate::bench::Bench;
 use crate::checks::{done, holds, same};
 use image_check::open;
-use memory_devices::{Last, MemorySource};
+use memory_devices::{EndBehaviour, MemorySource};
 use raw_region::{RawRegion, Steps};
 use seg_types::{Handle, Key, Name, NewKey};
 use segment_manager::unchecked::{named_at, unique_at};
@@ -23,7 +23,7 @@ pub fn fresh<R: Abort + AllocGlobal>(rt: &R) -> Bench {
 
 /// Returns the bytes of a segment, opened as one in another region, if all was as is wanted so far.
 pub fn opened<R: Abort + AllocGlobal>(rt: &R, bench: Bench, mode: Mode) -> Bench {
-    let mut reader = MemorySource::new(bench.segment.as_bytes(), 4096, Last::Ends);
+    let mut reader = MemorySource::new(bench.segment.as_bytes(), 4096, EndBehaviour::Ends);
     let region = done(rt, RawRegion::new(rt.alloc(), 2048));
     let mut steps = Steps::new();
     let opened = open(rt.alloc(), &mut reader, region, 16, mode, &mut steps);

@@ -8,7 +8,7 @@ use std::marker::Model;
 
 /// What a device does after its last byte.
 #[derive(Clone, Copy, Debug, PartialEq, Eq)]
-pub enum Last {
+pub enum EndBehaviour {
     /// A reader ends; a writer takes 0.
     Ends,
     /// Each further call is an error.
@@ -20,7 +20,7 @@ pub enum Last {
 pub struct MemorySource<'a> {
     rest: &'a [u8],
     piece: usize,
-    last: Last,
+    last: EndBehaviour,
     ended: bool,
     failures: u64,
     history: History,
@@ -41,7 +41,7 @@ impl<'a> Model for MemorySource<'a> {
 
 impl<'a> MemorySource<'a> {
     /// Makes a reader of the bytes, which gives at most `piece` of them a read.
-    pub fn new(bytes: &'a [u8], piece: usize, last: Last) -> MemorySource<'a>
+    pub fn new(bytes: &'a [u8], piece: usize, last: EndBehaviour) -> MemorySource<'a>
         ensures { result ≡ record { bytes = []; ended = false; ends = 0; failures = 0 } }
     {
         MemorySource {
@@ -62,7 +62,7 @@ impl Source for MemorySource<'_> {
         let count = into.len().min(self.rest.len()).min(self.piece);
         let asked = !into.is_empty();
         if asked {
-            if count == 0 && self.last == Last::Fails {
+            if count == 0 && self.last == EndBehaviour::Fails {
                 self.failures += 1;
                 self.ended = false;
                 return Err(DeviceFault);
@@ -83,7 +83,7 @@ pub struct MemorySink {
     buffer: Vec<u8>,
     len: usize,
     piece: usize,
-    last: Last,
+    last: EndBehaviour,
     failures: u64,
     history: History,
 }
@@ -105,7 +105,7 @@ impl MemorySink {
         alloc: Global,
         room: usize,
         piece: usize,
-        last: Last,
+        last: EndBehaviour,
     ) -> Result<MemorySink, AllocError>
         ensures { IfOk result (λ w. w ≡ record { bytes = []; failures = 0 }) }
     {
@@ -137,8 +137,8 @@ impl Sink for MemorySink {
         if count == 0 && !bytes.is_empty() {
             self.failures += 1;
             return match self.last {
-                Last::Ends => Ok(0),
-                Last::Fails => Err(DeviceFault),
+                EndBehaviour::Ends => Ok(0),
+                EndBehaviour::Fails => Err(DeviceFault),
             };
         }
         let end = self.len + count;

@@ -3,4 +3,4 @@
 
 mod devices;
 
-pub use devices::{Last, MemorySink, MemorySource};
+pub use devices::{EndBehaviour, MemorySink, MemorySource};

@@ -1,8 +1,8 @@
 -- The laws of links for other crates.
 
 -- a link whose bytes stay leads where it led
-pub use Rattle.offset_link.proofs.Links.{SameBytes-link, SameBytesExcept-link}
+pub use Rattle.offset_link.proofs.link.Targets.{SameBytes-link, SameBytesExcept-link}
 -- a link that leads nowhere is the null word
-pub use Rattle.offset_link.proofs.Links.{null_word}
+pub use Rattle.offset_link.proofs.link.Targets.{null_word}
 -- links that are shifted are as many as they were
-pub use Rattle.offset_link.proofs.Shifting.{length-relinked}
+pub use Rattle.offset_link.proofs.moves.ShiftedWords.{length-relinked}

@@ -1,3 +1,1 @@
-mod Links
-mod Shifting
 pub mod Laws

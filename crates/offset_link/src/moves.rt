@@ -9,7 +9,7 @@ ghost use Rattle.offset_link.specs.Relinked.{KeepTargets, HasNoNullLink};
 ghost use Rattle.offset_link.specs.Moves.{moved_to, StaysInside};
 
 use crate::link::{NULL, load};
-use raw_region::{Window, hold_bytes, set_word_in, word_in};
+use raw_region::{Window, bytes_are_octets, set_word_in, word_in};
 
 /// How far links move.
 #[derive(Clone, Copy, Debug)]
@@ -163,7 +163,7 @@ fn runs_up<const NON_NULL: bool>(bytes: &mut [u8], at: usize, n: usize, by: usiz
     requires non_null { IsTrue NON_NULL → HasNoNullLink (bytes_of bytes.old) at (8 * n) }
     ensures { bytes.new ≡ patched bytes.old (at + by) (relinked (bytes_of bytes.old) at (at + by) (8 * n)) }
 {
-    hold_bytes(bytes);
+    bytes_are_octets(bytes);
     let seen = all_turns_up::<NON_NULL>(bytes, at, n, by);
     if seen.has_odd() {
         put_right(bytes, at, at + by, 8 * n);
@@ -182,9 +182,9 @@ fn all_turns_up<const NON_NULL: bool>(bytes: &mut [u8], at: usize, n: usize, by:
         → HasNoNullLink (bytes_of bytes.old) at (8 * n) }
 {
     if n <= NEAR {
-        return turns_up::<NON_NULL>(bytes, at, n, by, 0, Seen::default());
+        return move_runs_up::<NON_NULL>(bytes, at, n, by, 0, Seen::default());
     }
-    let far = turns_up::<NON_NULL>(
+    let far = move_runs_up::<NON_NULL>(
         bytes,
         at + 64 * AHEAD,
         n - AHEAD,
@@ -192,13 +192,13 @@ fn all_turns_up<const NON_NULL: bool>(bytes: &mut [u8], at: usize, n: usize, by:
         64 * AHEAD,
         Seen::default(),
     );
-    turns_up::<NON_NULL>(bytes, at, AHEAD, by, 0, far)
+    move_runs_up::<NON_NULL>(bytes, at, AHEAD, by, 0, far)
 }
 
 /// Moves the runs from the last on, two in a turn. If they are far, it reads words `ahead` bytes before their turn, so
 /// that a processor has them in its cache.
 #[inline(always)]
-fn turns_up<const NON_NULL: bool>(
+fn move_runs_up<const NON_NULL: bool>(
     bytes: &mut [u8],
     at: usize,
     n: usize,
@@ -302,7 +302,7 @@ fn runs_down<const NON_NULL: bool>(bytes: &mut [u8], at: usize, n: usize, by: us
     requires non_null { IsTrue NON_NULL → HasNoNullLink (bytes_of bytes.old) at (8 * n) }
     ensures { bytes.new ≡ patched bytes.old (at - by) (relinked (bytes_of bytes.old) at (at - by) (8 * n)) }
 {
-    hold_bytes(bytes);
+    bytes_are_octets(bytes);
     let seen = all_turns_down::<NON_NULL>(bytes, at, n, by);
     if seen.has_odd() {
         put_right(bytes, at, at - by, 8 * n);
@@ -322,17 +322,17 @@ fn all_turns_down<const NON_NULL: bool>(bytes: &mut [u8], at: usize, n: usize, b
         → HasNoNullLink (bytes_of bytes.old) at (8 * n) }
 {
     if n <= NEAR {
-        return turns_down::<NON_NULL>(bytes, at, n, by, 0, Seen::default());
+        return move_runs_down::<NON_NULL>(bytes, at, n, by, 0, Seen::default());
     }
     let many = n - AHEAD;
-    let far = turns_down::<NON_NULL>(bytes, at, many, by, 64 * AHEAD, Seen::default());
-    turns_down::<NON_NULL>(bytes, at + 64 * many, AHEAD, by, 0, far)
+    let far = move_runs_down::<NON_NULL>(bytes, at, many, by, 64 * AHEAD, Seen::default());
+    move_runs_down::<NON_NULL>(bytes, at + 64 * many, AHEAD, by, 0, far)
 }
 
 /// Moves the runs from the first on, two in a turn. If they are far, it reads words `ahead` bytes before their turn, as
-/// `turns_up` does.
+/// `move_runs_up` does.
 #[inline(always)]
-fn turns_down<const NON_NULL: bool>(
+fn move_runs_down<const NON_NULL: bool>(
     bytes: &mut [u8],
     at: usize,
     n: usize,

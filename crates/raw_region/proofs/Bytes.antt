@@ -5,7 +5,7 @@ use Rattle.std.specs.Prelude.{IsTrue, nat_lt}
 use Rattle.std.proofs.lemmas.Bool.{and_from, lt-ltb}
 use Rattle.std.proofs.lemmas.List.{length-take, length-drop, drop_at}
 use Rattle.raw_region.specs.Memory.{AreBytes, Memory, SameBytesExcept, HasBytesAt, are_bytes, read, patched}
-use Rattle.raw_region.proofs.Words.{SameBytes-read as read-same}
+use Rattle.raw_region.proofs.words.Words.{SameBytes-read as read-same}
 
 -- what is a byte at each place is a list of bytes
 pub fits-are_bytes : (b : List ℕ) → AreBytes b → IsTrue (are_bytes b)
@@ -24,11 +24,13 @@ read-append m at (suc a) b =
     let e1 : suc a + b ≡ suc (a + b) = omega arith in let e2 : at + 1 + a ≡ at + suc a = omega arith in
     ap (read m at) e1 ∙ ap (λ ws. m at ∷ ws) (read-append m (at + 1) a b ∙ ap (λ k. read m (at + 1) a ++ read m k b) e2)
 
+-- bytes that stand one behind another stand there as one list
 pub HasBytesAt-append : (m : Memory) (at : ℕ) (xs ys : List ℕ) → HasBytesAt m at xs
     → HasBytesAt m (at + length xs) ys → HasBytesAt m at (xs ++ ys)
 HasBytesAt-append m at xs ys h k = ap (read m at) (length-append xs ys) ∙ read-append m at (length xs) (length ys)
     ∙ (λ i. h i ++ k i)
 
+-- a reading of `n` bytes is a list of `n`
 pub length-read : (m : Memory) (at n : ℕ) → length (read m at n) ≡ n
 length-read m at zero = refl
 length-read m at (suc n) = ap (λ k. suc k) (length-read m (at + 1) n)
@@ -42,12 +44,14 @@ read-drop : (m : Memory) (at k n : ℕ) → drop k (read m at (k + n)) ≡ read 
 read-drop m at k n = ap (drop k) (read-append m at k n) ∙ drop_at (read m at k) (read m (at + k) n) k
     (length-read m at k)
 
+-- the front of bytes that stand somewhere stands there
 pub HasBytesAt-take : (m : Memory) (at k : ℕ) (bytes : List ℕ) → k ≤ length bytes → HasBytesAt m at bytes
     → HasBytesAt m at (take k bytes)
 HasBytesAt-take m at k bytes f h =
     let e : length (take k bytes) ≡ k = omega (arith, length-take k bytes, f) in
     ap (read m at) e ∙ sym (read-take m at k (length bytes) f) ∙ ap (take k) h
 
+-- the rest of bytes that stand somewhere stands behind their front
 pub HasBytesAt-drop : (m : Memory) (at k : ℕ) (bytes : List ℕ) → k ≤ length bytes → HasBytesAt m at bytes
     → HasBytesAt m (at + k) (drop k bytes)
 HasBytesAt-drop m at k bytes f h =
@@ -63,6 +67,7 @@ HasBytesAt-beside {m} {m'} at bytes s (inl f) h = read-same m m' at (at + length
 HasBytesAt-beside {m} {m'} at bytes s (inr f) h = read-same m m' at (at + length bytes) at (length bytes)
     (record { at = λ k a b. s.at k (inr (omega (arith, f, a))) }) (omega arith) (omega arith) ∙ h
 
+-- bytes of which a part is written over are the patched list
 pub HasBytesAt-patched : {m m' : Memory} (g from : ℕ) (bytes more : List ℕ) → from + length more ≤ length bytes
     → SameBytesExcept m m' (g + from) (length more) → HasBytesAt m g bytes → HasBytesAt m' (g + from) more
     → HasBytesAt m' g (patched bytes from more)
@@ -77,6 +82,7 @@ HasBytesAt-patched {m} {m'} g from bytes more f s h k =
     HasBytesAt-append m' g (take from bytes ++ more) (drop n bytes) (HasBytesAt-append m' g (take from bytes) more a b)
     (subst (λ j. HasBytesAt m' (g + j) (drop n bytes)) (sym both) c)
 
+-- a patched list is as long as before
 pub length-patch : (bytes : List ℕ) (from : ℕ) (more : List ℕ) → from + length more ≤ length bytes
     → length (patched bytes from more) ≡ length bytes
 length-patch bytes from more f = omega (

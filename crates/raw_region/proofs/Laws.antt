@@ -2,24 +2,27 @@
 use Rattle.std.proofs.Common.{◌≡◌, ap, refl, ◌∙◌, ℕ, List, ◌++◌, length, drop, append_assoc}
 use Rattle.std.proofs.lemmas.List.{drop_at}
 -- parts of a list of bytes, and a list with a part rewritten
-pub use Rattle.raw_region.proofs.Patches.{length-part, part-at, part-part, same_bytes, read-part, length-patched}
-pub use Rattle.raw_region.proofs.Patches.{patched-all, patched-append, patched-inside, patched-outside, patched-prepend}
-pub use Rattle.raw_region.proofs.Patches.{refill-all, whole-cut_at, length-word}
+pub use Rattle.raw_region.proofs.words.Patches.{length-part, part-at, part-part, same_bytes, read-part, length-patched}
+pub use Rattle.raw_region.proofs.words.Patches.{patched-all, patched-append, patched-inside, patched-outside}
+pub use Rattle.raw_region.proofs.words.Patches.{patched-prepend}
+pub use Rattle.raw_region.proofs.words.Patches.{refill-all, whole-cut_at, length-word}
 -- where memory stays
-pub use Rattle.raw_region.proofs.Words.{SameBytes-refl, SameBytes-trans, SameBytes-part, SameBytes-read, SameBytes-word}
-pub use Rattle.raw_region.proofs.Words.{SameBytes-half_word, HasBytesAt-same}
-pub use Rattle.raw_region.proofs.Words.{SameBytesExcept-trans, SameBytesExcept-wider, SameBytesExcept-SameBytes}
-pub use Rattle.raw_region.proofs.Words.{SameBytesExcept-word, SameBytesExcept-half_word, SameBytesExcept-word_above}
-pub use Rattle.raw_region.proofs.Words.{SameBytesExcept-word_below}
-pub use Rattle.raw_region.proofs.Words.{SameSurroundings-trans, with_bytes-SameSurroundings}
+pub use Rattle.raw_region.proofs.words.Words.{SameBytes-refl, SameBytes-trans, SameBytes-part, SameBytes-read}
+pub use Rattle.raw_region.proofs.words.Words.{SameBytes-word}
+pub use Rattle.raw_region.proofs.words.Words.{SameBytes-half_word, HasBytesAt-same}
+pub use Rattle.raw_region.proofs.words.Words.{SameBytesExcept-trans, SameBytesExcept-wider, SameBytesExcept-SameBytes}
+pub use Rattle.raw_region.proofs.words.Words.{SameBytesExcept-word, SameBytesExcept-half_word}
+pub use Rattle.raw_region.proofs.words.Words.{SameBytesExcept-word_above}
+pub use Rattle.raw_region.proofs.words.Words.{SameBytesExcept-word_below}
+pub use Rattle.raw_region.proofs.words.Words.{SameSurroundings-trans, with_bytes-SameSurroundings}
 -- words that are written, and words that are moved
-pub use Rattle.raw_region.proofs.Words.{word-own, word-before, word-after, word-inside, word-first, word-behind}
-pub use Rattle.raw_region.proofs.Words.{word_moved, length-word_written, word_written-SameBytesExcept}
-pub use Rattle.raw_region.proofs.Words.{patched-HasBytesAt, patched-SameBytesExcept}
+pub use Rattle.raw_region.proofs.words.Words.{word-own, word-before, word-after, word-inside, word-first, word-behind}
+pub use Rattle.raw_region.proofs.words.Words.{word_moved, length-word_written, word_written-SameBytesExcept}
+pub use Rattle.raw_region.proofs.words.Words.{patched-HasBytesAt, patched-SameBytesExcept}
 -- zeros
-pub use Rattle.raw_region.proofs.Words.{filled-AreZero, filled-SameBytesExcept, length-zeros, zeros-AreZero}
+pub use Rattle.raw_region.proofs.words.Words.{filled-AreZero, filled-SameBytesExcept, length-zeros, zeros-AreZero}
 -- texts that are written piece by piece
-pub use Rattle.raw_region.proofs.Writing.{writes-behind, writes-then, writes-cut, writes-element}
+pub use Rattle.raw_region.proofs.words.Writing.{writes-behind, writes-then, writes-cut, writes-element}
 
 -- ---- what a device gave or took
 

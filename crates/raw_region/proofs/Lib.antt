@@ -1,12 +1,4 @@
-mod Lending
-mod Parts
-mod Values
-mod Bodies
-mod Patches
-mod Windows
-mod Pieces
-mod Words
-mod Writing
+mod words
 pub mod Laws
 pub mod Bytes
 pub mod Facts

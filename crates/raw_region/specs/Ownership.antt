@@ -13,8 +13,8 @@ abbrev pub bytes_type : ℕ → Ty
 bytes_type n = ty_array (ty_int w8) n
 
 -- p is not null
-abbrev pub IsPlaced : Ptr → Type 0
-IsPlaced p = p ≡ block_ptr (block_of p) (count_of p)
+abbrev pub IsNonNull : Ptr → Type 0
+IsNonNull p = p ≡ block_ptr (block_of p) (count_of p)
 
 -- n bytes, whatever they hold
 abbrev pub space_owns : Ptr → ℕ → Fml

@@ -3,5 +3,5 @@ use Rattle.std.specs.Prelude.{ℕ}
 use Rattle.raw_region.specs.declared.refused_memory.OutOfMemory.{OutOfMemory}
 
 -- the refusal of so many bytes
-abbrev pub refusal_of : ℕ → OutOfMemory
-refusal_of n = record { bytes = n; _made = tt }
+abbrev pub out_of_memory_of : ℕ → OutOfMemory
+out_of_memory_of n = record { bytes = n; _made = tt }

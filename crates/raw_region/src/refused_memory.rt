@@ -1,7 +1,7 @@
 //! The requests for memory of which a refusal is told, each in a function that alone makes the token of it.
 ghost use Rattle.std.specs.Prelude.{◌≡◌, ◌+◌, ◌++◌, IfErr, IfOk, if◌then◌else◌, is_ok, length, string_bytes};
 ghost use Rattle.raw_region.specs.Memory.{zeros};
-ghost use Rattle.raw_region.specs.Refusals.{refusal_of};
+ghost use Rattle.raw_region.specs.Refusals.{out_of_memory_of};
 ghost use Rattle.raw_region.specs.Regions.{IsCapacity};
 
 use crate::allocation::Allocation;
@@ -26,7 +26,7 @@ pub(crate) fn allocated(alloc: Global, capacity: u64) -> Result<Allocation, OutO
     requires { IsCapacity capacity }
     ensures zeros { IfOk result (λ r. r ≡ zeros capacity) }
     ensures len { IfOk result (λ r. length r ≡ capacity) }
-    ensures refused { IfErr result (λ refusal. refusal ≡ refusal_of capacity) }
+    ensures refused { IfErr result (λ refusal. refusal ≡ out_of_memory_of capacity) }
 {
     match Allocation::new(alloc, capacity) {
         Some(memory) => Ok(memory),
@@ -44,7 +44,7 @@ pub(crate) fn allocated(alloc: Global, capacity: u64) -> Result<Allocation, OutO
 /// Where the allocator refuses as many bytes as it has.
 pub fn copy_text(alloc: Global, text: &str) -> Result<String, OutOfMemory>
     ensures copy { IfOk result (λ s. string_bytes s ≡ text.now) }
-    ensures refused { IfErr result (λ refusal. refusal ≡ refusal_of (length text.now)) }
+    ensures refused { IfErr result (λ refusal. refusal ≡ out_of_memory_of (length text.now)) }
 {
     match String::from_str(alloc, text) {
         Ok(copy) => Ok(copy),
@@ -62,7 +62,7 @@ pub fn copy_text(alloc: Global, text: &str) -> Result<String, OutOfMemory>
 /// Where the allocator refuses as many bytes as the text has then. The text is as it was.
 pub fn append(text: &mut Vec<u8>, more: &[u8]) -> Result<(), OutOfMemory>
     ensures text { text.new.items ≡ (if is_ok result then text.old.items ++ more.now else text.old.items) }
-    ensures refused { IfErr result (λ refusal. refusal ≡ refusal_of (length text.old.items + length more.now)) }
+    ensures refused { IfErr result (λ refusal. refusal ≡ out_of_memory_of (length text.old.items + length more.now)) }
 {
     let bytes = text.len() as u64 + more.len() as u64;
     match text.extend_from_slice(more) {

@@ -5,7 +5,7 @@ ghost use Rattle.raw_region.specs.Memory.{AreBytes, are_bytes, bytes_of, word_at
 use byteorder::{ByteOrder, LittleEndian};
 
 /// Returns the number in the 8 bytes at `at`.
-#[tactic(auto, using(crate::proofs::Patches::words))]
+#[tactic(auto, using(crate::proofs::words::Patches::words))]
 pub fn word_in(bytes: &[u8], at: usize) -> u64
     requires { at + 8 ≤ length bytes.now }
     ensures { result ≡ word_at (bytes_of bytes.now) at }
@@ -14,7 +14,7 @@ pub fn word_in(bytes: &[u8], at: usize) -> u64
 }
 
 /// Writes a number into the 8 bytes at `at`.
-#[tactic(auto, using(crate::proofs::Patches::words))]
+#[tactic(auto, using(crate::proofs::words::Patches::words))]
 pub fn set_word_in(bytes: &mut [u8], at: usize, value: u64)
     requires { at + 8 ≤ length bytes.old }
     ensures { bytes.new ≡ patched bytes.old at (word_bytes value) }
@@ -25,7 +25,7 @@ pub fn set_word_in(bytes: &mut [u8], at: usize, value: u64)
 /// States that the elements of a slice of type `u8` are below 256. It does nothing: a contract knows this of a
 /// parameter's type alone.
 #[inline(always)]
-pub fn hold_bytes(bytes: &[u8])
+pub fn bytes_are_octets(bytes: &[u8])
     ensures each_element { AreBytes bytes.now }
     ensures every { IsTrue (are_bytes bytes.now) }
 {}

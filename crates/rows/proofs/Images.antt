@@ -15,10 +15,11 @@ use Rattle.segment_manager.specs.declared.modes.Mode.TheVariants.{Write}
 use Rattle.segment_manager.specs.Directory.{Directory, Object as SomeObject, Value, Numbers, Elements, Pairs, empty}
 use Rattle.segment_manager.specs.Directory.{live}
 use Rattle.segment_manager.specs.Denotes.{Denotes}
-use Rattle.segment_lang.specs.Language.{whole}
+use Rattle.segment_lang.specs.Language.{whole_language}
 use Rattle.segment_cli.specs.Run.{run}
 use Rattle.rows.proofs.OneGap.{denotes, one_node}
 
+-- the bytes of words
 abbrev pub words : List ℕ → List ℕ
 words = flat_map word_bytes
 
@@ -26,9 +27,11 @@ words = flat_map word_bytes
 abbrev pub magic_word : ℕ
 magic_word = 4993446653039301453
 
+-- an extent of an object's block
 abbrev pub extent : ℕ → ℕ → Role → Extent
 extent offset len role = record { offset = offset; len = len; role = role }
 
+-- the storage in a block
 abbrev pub table : ℕ → Extent → BackingArray
 table capacity x = record { capacity = capacity; extent = Some x }
 
@@ -40,6 +43,7 @@ directory os = record { size = 1024; objects = os; named = table 4 (extent 128 4
 
 -- ---- a fresh segment of 176 bytes
 
+-- the image of an empty segment
 abbrev pub fresh_image : List ℕ
 fresh_image =
     words (magic_word ∷ 2 ∷ 176 ∷ 120 ∷ 1 ∷ 0 ∷ 0 ∷ 1 ∷ []) ++ zeros 72 ++ words (32 ∷ 1 ∷ 1 ∷ 32 ∷ 1 ∷ [])
@@ -58,16 +62,18 @@ fresh_denotes = denotes fresh_image (empty 176) 144 (record {
 
 -- ---- the segment of 1024 bytes with the number 5 under the name a
 
+-- an image with one named object
 abbrev pub named_image : List ℕ
 named_image =
     words (magic_word ∷ 2 ∷ 1024 ∷ 216 ∷ 112 ∷ 1 ∷ 4 ∷ 1 ∷ []) ++ zeros 72
     ++ words (53 ∷ 48 ∷ 0 ∷ 0 ∷ 0 ∷ 48 ∷ 49 ∷ 4294967300 ∷ 4294967297 ∷ 97 ∷ 5 ∷ 48 ∷ 784 ∷ 1 ∷ 1 ∷ [])
     ++ zeros 752 ++ words (784 ∷ 1 ∷ [])
 
+-- the directory with one number
 abbrev pub with_number : Directory
 with_number = directory (named (97 ∷ []) (Numbers I64 (pos 5 ∷ [])) (extent 176 48 Object) ∷ [])
 
-number_made : (run (whole 2) Write (empty 1024) (codes "construct i64 a 5\n")).1 ≡ with_number
+number_made : (run (whole_language 2) Write (empty 1024) (codes "construct i64 a 5\n")).1 ≡ with_number
 unfolding run
 number_made = refl
 
@@ -85,6 +91,7 @@ named_denotes = denotes named_image with_number 240 (record {
 
 -- ---- two names
 
+-- an image with two names
 abbrev pub two_names_image : List ℕ
 two_names_image =
     words (magic_word ∷ 2 ∷ 1024 ∷ 264 ∷ 112 ∷ 2 ∷ 4 ∷ 1 ∷ []) ++ zeros 72
@@ -94,6 +101,7 @@ two_names_image =
 
 -- ---- two vectors
 
+-- an image with two vectors
 abbrev pub vectors_image : List ℕ
 vectors_image =
     words (magic_word ∷ 2 ∷ 1024 ∷ 360 ∷ 112 ∷ 2 ∷ 4 ∷ 1 ∷ []) ++ zeros 72
@@ -108,7 +116,7 @@ abbrev with_vectors : Directory
 with_vectors = directory (named (118 ∷ []) (vector 1 240) (extent 176 64 Object)
     ∷ named (119 ∷ []) (vector 2 336) (extent 272 64 Object) ∷ [])
 
-vectors_made : (run (whole 2) Write (empty 1024) (codes "construct vec<i64> v 1\nconstruct vec<i64> w 2\n")).1
+vectors_made : (run (whole_language 2) Write (empty 1024) (codes "construct vec<i64> v 1\nconstruct vec<i64> w 2\n")).1
     ≡ with_vectors
 unfolding run
 vectors_made = refl
@@ -144,6 +152,7 @@ vectors_denote = denotes vectors_image with_vectors 384 (record {
 
 -- ---- a map of one pair, and one of seven
 
+-- an image with a pair
 abbrev pub pair_image : List ℕ
 pair_image =
     words (magic_word ∷ 2 ∷ 1024 ∷ 280 ∷ 112 ∷ 1 ∷ 4 ∷ 1 ∷ []) ++ zeros 72
@@ -160,7 +169,7 @@ map_of ps = directory (named (109 ∷ []) (Pairs I64 I64 ps) (extent 176 64 Obje
 abbrev with_pair : Directory
 with_pair = map_of (pair 1 240 ∷ [])
 
-pair_made : (run (whole 2) Write (empty 1024) (codes "construct map<i64,i64> m\nput m 1 10\n")).1 ≡ with_pair
+pair_made : (run (whole_language 2) Write (empty 1024) (codes "construct map<i64,i64> m\nput m 1 10\n")).1 ≡ with_pair
 unfolding run
 pair_made = refl
 
@@ -185,6 +194,7 @@ pair_denotes = denotes pair_image with_pair 304 (record {
   tt,
 )
 
+-- an image with a map
 abbrev pub map_image : List ℕ
 map_image =
     words (magic_word ∷ 2 ∷ 1024 ∷ 568 ∷ 112 ∷ 1 ∷ 4 ∷ 1 ∷ []) ++ zeros 72
@@ -197,7 +207,7 @@ map_image =
 abbrev with_map : Directory
 with_map = map_of (pair 1 384 ∷ pair 2 288 ∷ pair 3 432 ∷ pair 4 240 ∷ pair 5 480 ∷ pair 6 336 ∷ pair 7 528 ∷ [])
 
-map_made : (run (whole 2) Write (empty 1024)
+map_made : (run (whole_language 2) Write (empty 1024)
     (codes
     "construct map<i64,i64> m\nput m 4 40\nput m 2 20\nput m 6 60\nput m 1 10\nput m 3 30\nput m 5 50\nput m 7 70\n")).1 ≡ with_map
 unfolding run

@@ -45,6 +45,7 @@ pub record IsFramed (image : List ℕ) (d : Directory) (gap : ℕ) : Type 0 wher
   pub node : cells_of (bytes_of image) gap ≡ record { left = None; right = None; red = false }
   pub listed : payloads (sorted_gaps (gaps (live d))) ≡ gap ∷ []
 
+-- an image with one gap denotes its directory, by a few equations
 pub denotes : (image : List ℕ) (d : Directory) (gap : ℕ) → IsFramed image d gap
     → AreIndexEntries (bytes_of image) d.named (handles (named_objects d))
     → AreIndexEntries (bytes_of image) d.unique (handles (unique_objects d))

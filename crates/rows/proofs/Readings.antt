@@ -5,12 +5,12 @@ use Rattle.seg_types.specs.declared.kinds.Kind.TheVariants.{Map}
 use Rattle.seg_types.specs.Names.{ByName, ByKind, NoKey}
 use Rattle.seg_types.specs.Commands.{Reading, Nothing, Asked, UnknownCommand, LineTooLong, BadSyntax, Size, Append, Set}
 use Rattle.seg_types.specs.Commands.{Whole, Truth, Quoted, Construct, Numbers, NoPairs, Assign}
-use Rattle.segment_lang.specs.Language.{whole}
+use Rattle.segment_lang.specs.Language.{whole_language}
 use Rattle.segment_lang.specs.Reading.{reading}
 
 -- each line means what stands beside it
 abbrev AreRead : List (List ℕ × Reading) → Type 0
-AreRead rows = map (λ row. reading (whole 2) row.0) rows ≡ map (λ row. row.1) rows
+AreRead rows = map (λ row. reading (whole_language 2) row.0) rows ≡ map (λ row. row.1) rows
 
 -- blanks at both ends, a carriage return, a word more, blanks alone, a remark, a remark that is not in front, a command
 -- in quotes

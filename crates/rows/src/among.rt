@@ -3,7 +3,7 @@ ghost use Rattle.std.specs.Prelude.{◌≡◌, ◌%◌};
 
 use crate::segments::{base_of, region_of};
 use image_check::open;
-use memory_devices::{Last, MemorySink, MemorySource};
+use memory_devices::{EndBehaviour, MemorySink, MemorySource};
 use raw_region::{RawRegion, Steps};
 use rows_trials::{Case, Place};
 use segment_cli::run;
@@ -39,7 +39,7 @@ fn begun_in(alloc: Global, case: &Case<'_>, region: RawRegion, base: u64) -> Opt
     if let Some(size) = case.fresh {
         return Segment::create(region, base, size, Mode::Write).ok();
     }
-    let mut reader = MemorySource::new(case.image, 4096, Last::Ends);
+    let mut reader = MemorySource::new(case.image, 4096, EndBehaviour::Ends);
     let mut steps = Steps::new();
     open(alloc, &mut reader, region, base, Mode::Write, &mut steps).ok()
 }
@@ -54,8 +54,8 @@ fn answers_alike(alloc: Global, segment: Segment, case: &Case<'_>, place: Place)
 
 /// Runs the script on a segment: whether it prints what is wanted.
 fn answers(alloc: Global, segment: &mut Segment, case: &Case<'_>) -> bool {
-    let mut reader = MemorySource::new(case.script, 4096, Last::Ends);
-    let Ok(mut answers) = MemorySink::new(alloc, case.answer_room, 4096, Last::Fails) else {
+    let mut reader = MemorySource::new(case.script, 4096, EndBehaviour::Ends);
+    let Ok(mut answers) = MemorySink::new(alloc, case.answer_room, 4096, EndBehaviour::Fails) else {
         return false;
     };
     let is_run = run(segment, &mut reader, &mut answers).is_ok();

@@ -7,9 +7,9 @@ mod names;
 mod runs;
 mod segments;
 
-use rows_trials::{Desk, Line, Trouble, lines_of};
+use rows_trials::{Line, RowFileRun, Trouble, lines_of};
 use runs::{Tally, make_runs};
-use segments::Segments;
+use segments::LibraryRunner;
 use std::process::ExitCode;
 use std::{env, fs, io};
 
@@ -48,7 +48,7 @@ fn run_file(rt: &HostRuntime, name: &str) -> io::Result<bool> {
 /// Runs the lines of a file.
 fn run_lines<R: Print + AllocGlobal>(rt: &R, name: &str, lines: &[Line<'_>]) -> io::Result<bool> {
     let alloc = rt.alloc();
-    let mut desk = Desk::new(alloc, Segments { alloc });
+    let mut desk = RowFileRun::new(alloc, LibraryRunner { alloc });
     let is_sound = run_items(rt, name, lines, &mut desk);
     drop(desk);
     is_sound
@@ -60,7 +60,7 @@ fn run_items<'a, R: Print>(
     rt: &R,
     name: &str,
     lines: &[Line<'a>],
-    desk: &mut Desk<'a, Segments>,
+    desk: &mut RowFileRun<'a, LibraryRunner>,
 ) -> io::Result<bool> {
     let mut is_sound = true;
     for item in lines.chunk_by(|_, line| !line.begins_item()) {
@@ -74,7 +74,7 @@ fn run_items<'a, R: Print>(
 }
 
 /// Prints how many rows there were, and what was in them.
-fn tell<R: Print>(rt: &R, name: &str, desk: &Desk<'_, Segments>) -> io::Result<()> {
+fn tell<R: Print>(rt: &R, name: &str, desk: &RowFileRun<'_, LibraryRunner>) -> io::Result<()> {
     let bench = &desk.bench;
     let (rows, lines, cuts) = (bench.rows.get(), bench.lines.get(), bench.cuts.get());
     println!(rt; "{name}: {rows} rows, {lines} lines, {cuts} cuts")

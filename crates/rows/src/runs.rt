@@ -3,7 +3,7 @@ ghost use Rattle.std.specs.Prelude.{◌≡◌, ◌+◌, ◌/◌, ◌%◌, ◌==�
 ghost use Rattle.std.proofs.Common.{ap, arith, length-take};
 ghost use Rattle.segment_scripts.specs.Refusing.{was_refused};
 
-use memory_devices::{Last, MemorySink, MemorySource};
+use memory_devices::{EndBehaviour, MemorySink, MemorySource};
 use raw_region::{DeviceFault, RawRegion, Sink, write_all};
 use segment_cli::{Answered, Machine, RunFault, Scratch, run};
 use segment_manager::{Mode, Segment};
@@ -95,15 +95,15 @@ impl Tally {
         alloc: Global,
         script: &[u8],
         piece: usize,
-        last: Last,
+        last: EndBehaviour,
         answers: &[u8],
     ) -> Result<(), AllocError> {
         let mut machine = Lengths { count: 0 };
         let mut reader = MemorySource::new(script, piece, last);
-        let mut out = MemorySink::new(alloc, 64, 5, Last::Fails)?;
+        let mut out = MemorySink::new(alloc, 64, 5, EndBehaviour::Fails)?;
         let wanted = match last {
-            Last::Ends => Ok(()),
-            Last::Fails => Err(RunFault::ReadFault),
+            EndBehaviour::Ends => Ok(()),
+            EndBehaviour::Fails => Err(RunFault::ReadFault),
         };
         let result = run(&mut machine, &mut reader, &mut out);
         self.count(result == wanted && out.taken() == answers);
@@ -115,11 +115,11 @@ impl Tally {
         &mut self,
         alloc: Global,
         room: usize,
-        last: Last,
+        last: EndBehaviour,
         lines: u8,
     ) -> Result<(), AllocError> {
         let mut machine = Lengths { count: 0 };
-        let mut reader = MemorySource::new(SCRIPT, 4096, Last::Ends);
+        let mut reader = MemorySource::new(SCRIPT, 4096, EndBehaviour::Ends);
         let mut out = MemorySink::new(alloc, room, 2, last)?;
         let result = run(&mut machine, &mut reader, &mut out);
         let is_told = result == Err(RunFault::WriteFault) && machine.count == lines;
@@ -130,9 +130,9 @@ impl Tally {
     /// Runs a script on a segment with a writer that takes so many bytes. These go out, and the line whose answer is
     /// cut is executed, so that so many bytes are free.
     fn stops(&mut self, alloc: Global, room: usize, free: u64) -> Result<(), AllocError> {
-        let mut out = MemorySink::new(alloc, room, 3, Last::Fails)?;
+        let mut out = MemorySink::new(alloc, room, 3, EndBehaviour::Fails)?;
         let mut segment = empty_segment(alloc)?;
-        let mut script = MemorySource::new(COMMANDS, 4096, Last::Ends);
+        let mut script = MemorySource::new(COMMANDS, 4096, EndBehaviour::Ends);
         let result = run(&mut segment, &mut script, &mut out);
         let is_left = result == Err(RunFault::WriteFault) && segment.free() == free;
         drop(segment);
@@ -143,18 +143,18 @@ impl Tally {
     /// Reads the script in pieces.
     fn read_pieces(&mut self, alloc: Global) -> Result<(), AllocError> {
         for piece in [1, 7, 4096] {
-            self.reads(alloc, SCRIPT, piece, Last::Ends, &ANSWERS)?;
+            self.reads(alloc, SCRIPT, piece, EndBehaviour::Ends, &ANSWERS)?;
         }
         Ok(())
     }
 
     /// Reads no line, empty lines, and one that is too long.
     fn read_others(&mut self, alloc: Global) -> Result<(), AllocError> {
-        self.reads(alloc, b"", 9, Last::Ends, &[])?;
-        self.reads(alloc, b"\n\n", 9, Last::Ends, &[0, 0, 0, 1, 0, 0])?;
+        self.reads(alloc, b"", 9, EndBehaviour::Ends, &[])?;
+        self.reads(alloc, b"\n\n", 9, EndBehaviour::Ends, &[0, 0, 0, 1, 0, 0])?;
         let mut long = Vec::from_elem(alloc, b'x', 5000)?;
         long.extend_from_slice(b"\nab")?;
-        self.reads(alloc, &long, 4096, Last::Ends, &[0, 16, 2, 1, 0, 2])
+        self.reads(alloc, &long, 4096, EndBehaviour::Ends, &[0, 16, 2, 1, 0, 2])
     }
 
     /// Reads with a reader that fails after each of the first bytes: the lines are answered that ended before.
@@ -162,7 +162,7 @@ impl Tally {
         for (len, answered) in [0usize, 0, 0, 3, 6, 6, 6, 6, 9, 9].into_iter().enumerate() {
             let script = SCRIPT.get(..len).unwrap_or(SCRIPT);
             let answers = ANSWERS.get(..answered).unwrap_or(&[]);
-            self.reads(alloc, script, 3, Last::Fails, answers)?;
+            self.reads(alloc, script, 3, EndBehaviour::Fails, answers)?;
         }
         Ok(())
     }
@@ -170,8 +170,8 @@ impl Tally {
     /// Writes the answers of the machine with too little room.
     fn fail_writing(&mut self, alloc: Global) -> Result<(), AllocError> {
         for (room, lines) in [(0, 1), (3, 2), (4, 2), (8, 3), (9, 4), (11, 4)] {
-            self.writes(alloc, room, Last::Fails, lines)?;
-            self.writes(alloc, room, Last::Ends, lines)?;
+            self.writes(alloc, room, EndBehaviour::Fails, lines)?;
+            self.writes(alloc, room, EndBehaviour::Ends, lines)?;
         }
         Ok(())
     }

@@ -13,11 +13,11 @@ use std::alloc::{AllocError, Global};
 
 /// The library, with what gives it memory.
 #[derive(Drop)]
-pub struct Segments {
+pub struct LibraryRunner {
     pub alloc: Global,
 }
 
-impl Runner for Segments {
+impl Runner for LibraryRunner {
     fn run(&self, case: &Case<'_>) -> Outcome {
         match outcome(self.alloc, case) {
             Ok(outcome) => outcome,

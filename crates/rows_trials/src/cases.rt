@@ -1,7 +1,7 @@
 //! Calls over devices in memory, and what must come of them.
 
 use crate::scripts::{Mark, Script};
-use memory_devices::Last;
+use memory_devices::EndBehaviour;
 
 /// Where a segment lies: the capacity of its region, and its base. It may be too small for it.
 #[derive(Clone, Copy)]
@@ -57,12 +57,12 @@ pub struct Case<'a> {
     /// How many bytes readers and writers give and take at once.
     pub piece: usize,
     /// What comes after the last byte.
-    pub image_last: Last,
-    pub script_last: Last,
+    pub image_last: EndBehaviour,
+    pub script_last: EndBehaviour,
     /// How many bytes writers have room for, and what comes if they are full.
     pub answer_room: usize,
     pub image_room: usize,
-    pub writers_last: Last,
+    pub writers_last: EndBehaviour,
     /// Where the answer to each line ends.
     pub marks: &'a [Mark],
     /// The name of the fault, or nothing.
@@ -87,11 +87,11 @@ impl<'a> Case<'a> {
             places,
             place: *places.first().unwrap_or(&Place::new(size, 0)),
             piece: 4096,
-            image_last: Last::Ends,
-            script_last: Last::Ends,
+            image_last: EndBehaviour::Ends,
+            script_last: EndBehaviour::Ends,
             answer_room: 16,
             image_room: size.saturating_add(16) as usize,
-            writers_last: Last::Fails,
+            writers_last: EndBehaviour::Fails,
             marks: &[],
             fault: "",
             answers: Some(&[]),
@@ -132,7 +132,7 @@ impl<'a> Case<'a> {
     }
 
     /// Returns a session on an image without a line, which is saved as it is.
-    pub fn kept(&self, image: &'a [u8]) -> Case<'a> {
+    pub fn saved_as_is(&self, image: &'a [u8]) -> Case<'a> {
         let mut case = *self;
         case.fresh = None;
         case.image = image;

@@ -1,12 +1,12 @@
 //! Calls whose devices fail at each byte in turn.
 
-use crate::benches::{Bench, Runner};
 use crate::cases::{Case, Place};
 use crate::images::size_said;
+use crate::row_runners::{RowRunner, Runner};
 use crate::scripts::{Script, front_of};
-use memory_devices::Last;
+use memory_devices::EndBehaviour;
 
-impl<R: Runner> Bench<R> {
+impl<R: Runner> RowRunner<R> {
     /// Runs the session with a reader of the script that fails after each byte: the lines that ended before are
     /// answered, and nothing is saved. Then it runs it with a writer of answers for each number of bytes below all:
     /// these go out, and nothing is saved.
@@ -20,18 +20,18 @@ impl<R: Runner> Bench<R> {
             case.writers_last = last_of(step);
             case.answer_room = room;
             case.answers = script.answers.get(..room);
-            self.cut(&case);
+            self.check_device_fault(&case);
         }
     }
 
     fn cut_script<'x>(&self, case: &Case<'x>, script: &'x Script) {
         let mut case = *case;
         case.fault = "fault ReadFault";
-        case.script_last = Last::Fails;
+        case.script_last = EndBehaviour::Fails;
         for len in 0..script.text.len().saturating_add(1) {
             case.script = front_of(&script.text, len);
             case.answers = Some(script.answers_within(len));
-            self.cut(&case);
+            self.check_device_fault(&case);
         }
     }
 
@@ -46,7 +46,7 @@ impl<R: Runner> Bench<R> {
             case.writers_last = last_of(step);
             case.image_room = room;
             case.saved = saved.get(..room);
-            self.cut(&case);
+            self.check_device_fault(&case);
         }
     }
 
@@ -75,23 +75,23 @@ impl<R: Runner> Bench<R> {
             let is_decided = from <= len as u64;
             case.image = front_of(image, len);
             case.fault = if is_decided { fault } else { "Truncated" };
-            case.image_last = Last::Ends;
+            case.image_last = EndBehaviour::Ends;
             if is_decided || (len as u64) < size.max(144) {
-                self.cut(&case);
+                self.check_device_fault(&case);
             }
             case.fault = if is_decided { fault } else { "fault ReadFault" };
-            case.image_last = Last::Fails;
-            self.cut(&case);
+            case.image_last = EndBehaviour::Fails;
+            self.check_device_fault(&case);
         }
     }
 }
 
 /// Returns what a full writer does at a step: it fails, and takes nothing, by turns.
-fn last_of(step: usize) -> Last {
+fn last_of(step: usize) -> EndBehaviour {
     if step % 2 == 0 {
-        Last::Fails
+        EndBehaviour::Fails
     } else {
-        Last::Ends
+        EndBehaviour::Ends
     }
 }
 

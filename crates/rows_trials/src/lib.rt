@@ -11,21 +11,21 @@
 //! first note of an item is told.
 #![tactic(auto)]
 
-mod benches;
 mod cases;
 mod cuts;
-mod desks;
 mod images;
 mod lines;
 mod notes;
 mod parts;
 mod read_only;
 mod requests;
+mod row_file_runs;
+mod row_runners;
 mod scripts;
 mod trials;
 
-pub use benches::Runner;
 pub use cases::{Call, Case, Outcome, Place};
-pub use desks::Desk;
 pub use lines::{Line, lines_of};
 pub use notes::Trouble;
+pub use row_file_runs::RowFileRun;
+pub use row_runners::Runner;

@@ -1,7 +1,7 @@
 //! Lines of a script in a segment that is open for reading.
 
-use crate::benches::{Bench, Runner};
 use crate::cases::{Call, Case};
+use crate::row_runners::{RowRunner, Runner};
 use crate::scripts::{Mark, Script, front_of};
 
 /// The commands that may change a segment.
@@ -69,7 +69,7 @@ fn is_misspelled(answer: &[u8]) -> bool {
     )
 }
 
-impl<R: Runner> Bench<R> {
+impl<R: Runner> RowRunner<R> {
     /// Runs each line in mode `ReadOnly` on the image that the lines leave, if its answer there is known. A line that
     /// may change the image is refused. A line after the last of these, or a misspelled one, answers as before.
     pub fn check_read_only<'x>(&self, left: &Case<'x>, script: &'x Script) {

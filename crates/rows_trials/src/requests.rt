@@ -1,8 +1,8 @@
 //! Requests that have no fit, and that all is as before if one has none.
 
-use crate::benches::{Bench, PIECES, Runner, count};
 use crate::cases::{Case, Place};
 use crate::lines::Line;
+use crate::row_runners::{PIECES, RowRunner, Runner, count};
 use crate::scripts::{Script, has_piece};
 
 /// What is asked to see all that is in a segment; and then what lies free is cleared.
@@ -14,7 +14,7 @@ const LOOK: &[u8] = b"free\nblocks\nlist\nunique\nnum_named\nnum_unique\nsanity\
 /// More bytes than a look prints.
 const ROOM: usize = 4112;
 
-impl<R: Runner> Bench<R> {
+impl<R: Runner> RowRunner<R> {
     /// Makes the requests that the lines say, in each of the sizes. The lines before the command are a script; the
     /// command has the answer that it gives if each request has a fit.
     pub fn check_requests(&self, lines: &[Line<'_>]) {
@@ -124,7 +124,7 @@ impl<R: Runner> Bench<R> {
         behind.add_line(notes, case.line, b"free\n", free);
         let opened = *case;
         let done = self.outcome(&opened.with_text(&behind.text, &behind.answers));
-        self.check(&opened.kept(&done.saved));
+        self.check(&opened.saved_as_is(&done.saved));
         drop(done);
         drop(behind);
     }

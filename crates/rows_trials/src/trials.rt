@@ -1,11 +1,11 @@
 //! The parts of a row, each in every way.
 
-use crate::benches::{Bench, Runner};
 use crate::cases::{Call, Case};
 use crate::parts::{Deed, Part};
+use crate::row_runners::{RowRunner, Runner};
 use crate::scripts::{Script, front_of, has_piece};
 
-impl<R: Runner> Bench<R> {
+impl<R: Runner> RowRunner<R> {
     /// Runs a part, perhaps in one way only, and gives the image that it saves, if it saves another: nothing if it ends
     /// with a fault.
     pub fn saved_by<'x>(&self, case: &Case<'x>, part: &'x Part<'x>, once: bool) -> Option<Vec<u8>> {

@@ -14,7 +14,7 @@ pub use Rattle.raw_region.proofs.Laws.{SameBytes-part, SameBytes-word, SameBytes
 pub use Rattle.raw_region.specs.Memory.{WindowState, Memory, SameBytes, bytes_of, read, AreBytes}
 pub use Rattle.raw_region.specs.Format.{current}
 pub use Rattle.seg_index.specs.Comparing.{IsKeyedEntry, comparisons_in, middle, order_at}
-pub use Rattle.seg_index.specs.Growth.{IsBlockFor, KeepsOutsideIndex, beside_table, unlinked, without_link}
+pub use Rattle.seg_index.specs.Growth.{IsBlockFor, KeepsOutsideIndex, beside_table, without_index_block, without_link}
 pub use Rattle.seg_index.specs.declared.keys.Lookup.TheVariants.{Absent, Found}
 pub use Rattle.seg_index.specs.{declared.keys.Lookup.Lookup, Held.IsIndexOf, Held.capacity_at, Held.place_of}
 pub use Rattle.seg_index.specs.{Beginnings.front, Keys.name_at, Keys.name_len_at, declared.keys.Entry.Entry}

@@ -1,17 +1,11 @@
 mod Common
-mod Begun
-mod Changing
-mod Orders
-mod Entries
-mod Staying
-mod SortedEntries
+mod entries
 pub mod Laws
-mod Settling
 unfoldable pub use Common.*
-pub use Begun.*
-pub use Changing.*
-pub use Orders.*
-pub use Entries.*
-pub use Staying.*
-pub use SortedEntries.*
-pub use Settling.*
+pub use keys.NameFronts.*
+pub use entries.HeapChanges.*
+pub use keys.Order.*
+pub use entries.Entries.*
+pub use entries.Frame.*
+pub use entries.Sorted.*
+pub use entries.Changes.*

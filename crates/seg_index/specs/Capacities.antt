@@ -7,7 +7,7 @@ use Rattle.offset_link.specs.Link.{link_at}
 use Rattle.best_fit.specs.{Extents.Extent, Extents.LiveSet, Extents.handle, Table.BackingArray, Table.shrunk_backing}
 use Rattle.best_fit.specs.Fit.{added, place, released, resized, shorter}
 use Rattle.best_fit.specs.Heap.{AllocatesNoSpace, KeepsGaps, EncodesLiveSet, heap_touches, live_of}
-use Rattle.seg_index.specs.Growth.{KeepsOutsideIndex, beside_table, unlinked, without_link}
+use Rattle.seg_index.specs.Growth.{KeepsOutsideIndex, beside_table, without_index_block, without_link}
 use Rattle.seg_index.specs.{Held.IsIndexOf, Held.capacity_at, Sorted.KeepsSorted}
 
 -- the index has so many places in a new block, and its old one is no longer in use
@@ -18,7 +18,7 @@ pub record ReservesIndexOk (old new : WindowState) (at n : ℕ) : Type 0 where
       → IsIndexOf new at (record { capacity = n; extent = Some extent }) handles
   pub live : EncodesLiveSet current new.bytes
       (without_link (added (live_of old.bytes) extent) (link_at (bytes_of old.bytes) at))
-  pub keeps : KeepsOutsideIndex old new at (unlinked old at).extents
+  pub keeps : KeepsOutsideIndex old new at (without_index_block old at).extents
   pub order : KeepsSorted old new
 
 -- nothing changes where there are so many places

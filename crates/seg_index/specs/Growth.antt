@@ -8,22 +8,22 @@ use Rattle.best_fit.specs.Heap.{extent_at, AllocatesOk, AllocatesNoSpace, Deallo
 use Rattle.best_fit.specs.{Heap.SameBlock, Heap.is_live_in, Heap.live_of, Extents.Extent, Extents.LiveSet}
 use Rattle.best_fit.specs.{Extents.handle, Table.BackingArray, Table.serves, Fit.others, Fit.released}
 use Rattle.offset_link.specs.Link.{link_at}
-use Rattle.seg_index.specs.Held.{IsIndexIn, IsIndexOf, capacity_at, entry_count}
-use Rattle.seg_index.specs.{Index.grown_capacity, declared.growing.Growth.Growth}
+use Rattle.seg_index.specs.Held.{InstallsBlock, IsIndexOf, capacity_at, entry_count}
+use Rattle.seg_index.specs.{Index.grown_capacity, declared.index_capacity.Growth.Growth}
 
 -- the bytes that a full index asks for
 abbrev pub grown_bytes : WindowState → ℕ → ℕ
 grown_bytes c at = 8 * grown_capacity (capacity_at c at)
 
 -- a new block exactly where the index is full
-abbrev pub IsGrowth : WindowState → WindowState → ℕ → Option ℕ → Type 0
-IsGrowth old new at None = (entry_count old at < capacity_at old at) × (new ≡ old)
-IsGrowth old new at (Some h) =
+abbrev pub PreparesOk : WindowState → WindowState → ℕ → Option ℕ → Type 0
+PreparesOk old new at None = (entry_count old at < capacity_at old at) × (new ≡ old)
+PreparesOk old new at (Some h) =
     (capacity_at old at ≤ entry_count old at) × AllocatesOk current old new (grown_bytes old at) IndexRole h
 
 abbrev pub Prepares : {E : Type 0} → WindowState → WindowState → ℕ → Result Growth E → Type 0
 Prepares old new at result =
-    MatchResult result (λ g. IsGrowth old new at g.block)
+    MatchResult result (λ g. PreparesOk old new at g.block)
     (λ e. (capacity_at old at ≤ entry_count old at) × AllocatesNoSpace old new (grown_bytes old at) IndexRole)
 
 -- the block is given back, if there is one
@@ -61,8 +61,8 @@ pub record IsBlockFor (c : WindowState) (h places : ℕ) : Type 0 where
 abbrev pub without_link : LiveSet → Option ℕ → LiveSet
 without_link live link = elim link [ None ↦ live | Some h ↦ released live h ]
 
-abbrev pub unlinked : WindowState → ℕ → LiveSet
-unlinked c at = without_link (live_of c.bytes) (link_at (bytes_of c.bytes) at)
+abbrev pub without_index_block : WindowState → ℕ → LiveSet
+without_index_block c at = without_link (live_of c.bytes) (link_at (bytes_of c.bytes) at)
 
 -- a growth for an index as it is: none where there are places left, or a block of enough places that is not its own
 abbrev pub CanGrow : WindowState → ℕ → Option ℕ → Type 0
@@ -72,12 +72,12 @@ CanGrow c at (Some h) =
 
 abbrev pub AddsEntry : WindowState → WindowState → ℕ → BackingArray → List ℕ → Option ℕ → Type 0
 AddsEntry old new at t handles None = IsIndexOf new at t handles
-AddsEntry old new at t handles (Some h) = IsIndexIn old new at h (grown_capacity (capacity_at old at)) handles
+AddsEntry old new at t handles (Some h) = InstallsBlock old new at h (grown_capacity (capacity_at old at)) handles
 
 abbrev pub grown_live : WindowState → ℕ → Option ℕ → LiveSet
 grown_live c at None = live_of c.bytes
-grown_live c at (Some h) = unlinked c at
+grown_live c at (Some h) = without_index_block c at
 
 abbrev pub AddKeeps : WindowState → WindowState → ℕ → BackingArray → Option ℕ → Type 0
 AddKeeps old new at t None = KeepsOutsideIndex old new at (beside_table t (live_of old.bytes).extents)
-AddKeeps old new at t (Some h) = KeepsOutsideIndex old new at (others h (unlinked old at).extents)
+AddKeeps old new at t (Some h) = KeepsOutsideIndex old new at (others h (without_index_block old at).extents)

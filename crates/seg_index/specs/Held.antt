@@ -35,6 +35,6 @@ pub record HasIndex (c : WindowState) (at : ℕ) : Type 0 where
   pub index : IsIndexOf c at table handles
 
 -- the index has so many places in a block that was in use before
-abbrev pub IsIndexIn : WindowState → WindowState → ℕ → ℕ → ℕ → List ℕ → Type 0
-IsIndexIn old new at block places handles =
+abbrev pub InstallsBlock : WindowState → WindowState → ℕ → ℕ → ℕ → List ℕ → Type 0
+InstallsBlock old new at block places handles =
     IsIndexOf new at (record { capacity = places; extent = extent_at (live_of old.bytes) block }) handles

@@ -7,7 +7,8 @@ use Rattle.link_tree.specs.Tree.{bits}
 use Rattle.offset_link.specs.Link.{link_at}
 use Rattle.best_fit.specs.Heap.{AllocatesOk, ChangesBytes, Deallocates, KeepsBlocks, EncodesLiveSet, has_room, live_of}
 use Rattle.best_fit.specs.Table.{BackingArray}
-use Rattle.seg_index.specs.{declared.index.Index.Index, Growth.CanGrow, Growth.IsGrowth, Held.IsIndexOf, Held.place_of}
+use Rattle.seg_index.specs.{declared.index.Index.Index, Growth.CanGrow, Growth.PreparesOk, Held.IsIndexOf}
+use Rattle.seg_index.specs.{Held.place_of}
 use Rattle.seg_index.specs.{declared.keys.Entry.TheVariants.Code, declared.keys.Entry.Entry}
 use Rattle.seg_index.specs.{declared.keys.Lookup.Lookup, Lookups.FindsPosition, declared.keys.Lookup.TheVariants.Absent}
 use Rattle.seg_index.specs.Comparing.{comparisons, comparisons_among}
@@ -57,7 +58,7 @@ KeysHaveOnePlace =
 -- released or one is written
 pub record GrowthsStay : Type 0 where
   pub prepared : (i : Index) (a b : WindowState) (g : Option ℕ) (t : BackingArray) (handles : List ℕ)
-      → IsIndexOf a (place_of i) t handles → IsGrowth a b (place_of i) g → CanGrow b (place_of i) g
+      → IsIndexOf a (place_of i) t handles → PreparesOk a b (place_of i) g → CanGrow b (place_of i) g
   pub taken : (i : Index) (a b : WindowState) (g : Option ℕ) (n : ℕ) (role : Role) (h : ℕ) → CanGrow a (place_of i) g
       → AllocatesOk current a b n role h → CanGrow b (place_of i) g
   pub released : (i : Index) (a b : WindowState) (g : Option ℕ) (h : ℕ)

@@ -9,8 +9,8 @@ ghost use Rattle.seg_index.specs.Growth.{AddKeeps, AddsEntry, CanGrow, KeepsOuts
 ghost use Rattle.seg_index.specs.Held.{HasIndex, IsIndexOf, entry_count, place_of};
 ghost use Rattle.seg_index.specs.Sorted.{AreSortedHandles, CanAdd, IsSortedIndex, KeepsSorted};
 
-use crate::growing::{Growth, LINK, grown};
 use crate::index::Index;
+use crate::index_capacity::{Growth, LINK_LEN, grown_capacity};
 use best_fit::Heap;
 use raw_region::Steps;
 
@@ -44,12 +44,12 @@ impl Index {
                 heap.set_header_word(self.header_offset() + 8, count + 1);
             }
             Some(block) => {
-                let capacity = grown(self.capacity(heap));
+                let capacity = grown_capacity(self.capacity(heap));
                 // without a block there are no links to be moved
                 let from = heap.header_link(self.header_offset()).unwrap_or(block);
                 heap.shift_non_null_links(from, 0, block, 0, place);
                 spread(heap, from, block, place, count, handle);
-                self.settle(heap, block, capacity, count + 1, steps);
+                self.install_block(heap, block, capacity, count + 1, steps);
             }
         }
     }
@@ -70,8 +70,8 @@ impl Index {
     {
         let count = self.len(heap);
         let block = heap.header_link(self.header_offset()).unwrap_or(0);
-        let at = LINK * place;
-        heap.shift_non_null_links(block, at + LINK, block, at, count - place - 1);
+        let at = LINK_LEN * place;
+        heap.shift_non_null_links(block, at + LINK_LEN, block, at, count - place - 1);
         heap.set_header_word(self.header_offset() + 8, count - 1);
     }
 }
@@ -90,6 +90,12 @@ fn spread(heap: &mut Heap, from: u64, to: u64, place: u64, count: u64, handle: u
     ensures tail { KeepTargets (bytes_of heap.old.bytes) (bytes_of heap.new.bytes) (from + 8 * place)
         (to + 8 * place + 8) (count - place) }
 {
-    heap.shift_non_null_links(from, LINK * place, to, LINK * place + LINK, count - place);
-    heap.set_link(to, LINK * place, Some(handle));
+    heap.shift_non_null_links(
+        from,
+        LINK_LEN * place,
+        to,
+        LINK_LEN * place + LINK_LEN,
+        count - place,
+    );
+    heap.set_link(to, LINK_LEN * place, Some(handle));
 }

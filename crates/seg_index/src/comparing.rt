@@ -10,7 +10,7 @@ ghost use Rattle.seg_index.specs.{Comparing.IsKeyedEntry, Comparing.order_at, Ke
 use crate::keys::Entry;
 use best_fit::Heap;
 use byteorder::{BigEndian, ByteOrder};
-use raw_region::hold_bytes;
+use raw_region::bytes_are_octets;
 use std::cmp::Ordering;
 
 /// A number in the low half of a word.
@@ -80,8 +80,8 @@ fn order_of_name(heap: &Heap, name: &[u8], front: u64, handle: u64) -> Ordering
 {
     let len = heap.word(handle, 8) % HALF;
     let found = heap.bytes(handle, 16, len);
-    hold_bytes(found);
-    hold_bytes(name);
+    bytes_are_octets(found);
+    bytes_are_octets(name);
     let begun = front_at(heap, handle, len);
     if begun != front {
         return begun.cmp(&front);
@@ -118,7 +118,7 @@ fn front_at(heap: &Heap, handle: u64, len: u64) -> u64
 {
     let at = handle as usize + 16;
     let bytes = heap.as_bytes();
-    hold_bytes(bytes);
+    bytes_are_octets(bytes);
     let word = BigEndian::read_u64(&bytes[at..at + FRONT]);
     if len >= FRONT as u64 {
         return word;

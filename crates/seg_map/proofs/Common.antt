@@ -8,7 +8,8 @@ pub use Rattle.best_fit.specs.Heap.{KeepsBlocks, EncodesLiveSet}
 pub use Rattle.best_fit.specs.Extents.{Extent, LiveSet, end_of, handle, is_proper}
 pub use Rattle.block_tags.specs.declared.tile.Role.TheVariants.{Node}
 pub use Rattle.link_tree.proofs.Laws.{all_from, entry_same, holds_same, root_in, tree_same}
-pub use Rattle.link_tree.specs.Nodes.{first_not_before, is_ordered_with, is_in, last_before, leads, put, without}
+pub use Rattle.link_tree.specs.Nodes.{first_not_before, is_ordered_with, is_in, last_before, leads, insert_in_order}
+pub use Rattle.link_tree.specs.Nodes.{without}
 pub use Rattle.link_tree.specs.Tree.{IsSearchTree, IsTree, Tree, bits, fork, leaf, nodes_of, is_sorted, root_of}
 pub use Rattle.link_tree.specs.Ways.{insert_point_of}
 pub use Rattle.offset_link.proofs.Laws.{SameBytes-link, SameBytesExcept-link}
@@ -18,7 +19,7 @@ pub use Rattle.raw_region.proofs.Laws.{SameBytesExcept-word, SameSurroundings-tr
 pub use Rattle.raw_region.specs.{Format.current, Memory.word_at}
 pub use Rattle.raw_region.specs.Memory.{WindowState, HasBytesAt, Memory, SameBytes, SameSurroundings, bytes_of, read}
 pub use Rattle.seg_map.specs.Changing.{KeepsOutsideMap, ErasesPair, WritesMapHeader, IsUnlinkedPair, AllocatesNodeOk}
-pub use Rattle.seg_map.specs.{Changing.IsPlanted, Searches.entry_in, Searches.exit_in, Places.first_pair}
+pub use Rattle.seg_map.specs.{Changing.LinksPairOk, Searches.entry_in, Searches.exit_in, Places.first_pair}
 pub use Rattle.seg_map.specs.Linking.{IsKeyTree, Relinked, keys_in}
 pub use Rattle.seg_map.specs.PairNodes.{pair_cells, stands, stands_before, before_key, comes_before, is_kept}
 pub use Rattle.seg_map.specs.PairNodes.{is_link_byte, is_other, links_among}

@@ -1,16 +1,10 @@
 mod Common
-mod PairSteps
-mod PairLists
-mod Entering
-mod Searching
-mod Staying
-mod Leaving
-mod PutPairs
+mod pairs
 pub mod Laws
 pub use Common.*
-pub use PairSteps.*
-pub use Searching.*
-pub use Staying.*
-pub use PairLists.*
-pub use Leaving.*
-pub use PutPairs.*
+pub use pairs.NodeBlocks.*
+pub use pairs.Lookup.*
+pub use pairs.Frame.*
+pub use pairs.Lists.*
+pub use pairs.Erase.*
+pub use pairs.Put.*

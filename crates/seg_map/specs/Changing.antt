@@ -143,15 +143,15 @@ pub record CanLinkPair {K V : Type 0} (k : Plain K) (v : Plain V) (c : WindowSta
   pub begins : start ≡ entry_in k c there.pair.key there.map.map.tree.tree
 
 -- the pair is in the map
-abbrev pub IsPlanted : {K V : Type 0} → Plain K → Plain V → WindowState → WindowState → ℕ → ℕ → List (Pair K V)
+abbrev pub LinksPairOk : {K V : Type 0} → Plain K → Plain V → WindowState → WindowState → ℕ → ℕ → List (Pair K V)
     → Pair K V → Type 0
-IsPlanted k v old new h at ps p =
+LinksPairOk k v old new h at ps p =
     RewritesNodes k v old new h at (pair_node p ∷ nodes_of_pairs ps) (put_pair k.order p ps)
 
 abbrev pub LinksPair : {K V : Type 0} → Plain K → Plain V → WindowState → WindowState → ℕ → ℕ → ℕ → Type 0
 LinksPair {K} {V} k v old new h at node =
     (ps : List (Pair K V)) (p : Pair K V) → HoldsMap k v old.bytes h at ps → IsUnlinkedPair k v old.bytes h ps p
-    → pair_node p ≡ node → IsPlanted k v old new h at ps p
+    → pair_node p ≡ node → LinksPairOk k v old new h at ps p
 
 -- a pair more, in a new block
 pub record PutsNewPair {K V : Type 0} (k : Plain K) (v : Plain V) (old new : WindowState) (h at : ℕ)

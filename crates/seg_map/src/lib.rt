@@ -1,5 +1,5 @@
 //! Ordered maps at a place in a heap, with a block for each pair.
-#![tactic(auto, using(crate::proofs::PairSteps::rooms))]
+#![tactic(auto, using(crate::proofs::pairs::NodeBlocks::rooms))]
 
 mod finding;
 mod linking;

@@ -34,7 +34,7 @@ pub fn write_map_header(heap: &mut Heap, place: Place, root: Option<u64>, count:
 impl<K: Plain, V: Plain> SegMap<K, V> {
     /// Takes a pair out of the map, from the root of the tree on or from where a search has found that it changes, and
     /// gives its block back.
-    #[tactic(auto, using(crate::proofs::PairSteps::rooms, crate::proofs::Staying::trees))]
+    #[tactic(auto, using(crate::proofs::pairs::NodeBlocks::rooms, crate::proofs::pairs::Frame::trees))]
     pub(crate) fn unlink_pair(
         self,
         heap: &mut Heap,
@@ -58,7 +58,7 @@ impl<K: Plain, V: Plain> SegMap<K, V> {
     }
 
     /// Puts a pair into the map, whose node is made, from where the search for its key has found that the tree changes.
-    #[tactic(auto, using(crate::proofs::PairSteps::rooms, crate::proofs::Staying::trees))]
+    #[tactic(auto, using(crate::proofs::pairs::NodeBlocks::rooms, crate::proofs::pairs::Frame::trees))]
     pub(crate) fn link_pair(self, heap: &mut Heap, trace: &KeyCursor, node: u64, steps: &mut Steps)
         requires { CanLinkPair K.Plain V.Plain heap.old self.place.handle self.place.at trace.now.root
             trace.now.start node }

@@ -90,7 +90,7 @@ pub struct PairTree<H, K> {
     pub keys: PhantomData<K>,
 }
 
-#[tactic(auto, using(crate::proofs::PairSteps::nodes))]
+#[tactic(auto, using(crate::proofs::pairs::NodeBlocks::nodes))]
 impl<H: HeapRef, K: Plain> Nodes for PairTree<H, K> {
     type Probe = KeyProbe<K>;
 
@@ -155,7 +155,7 @@ impl<H: HeapRef, K: Plain> Nodes for PairTree<H, K> {
         (key_of (value_in K.reading K.is_value K.spelling) K.SIZE s.own (H.cut s.heap)) wanted.past wanted.key };
 }
 
-#[tactic(auto, using(crate::proofs::PairSteps::nodes))]
+#[tactic(auto, using(crate::proofs::pairs::NodeBlocks::nodes))]
 impl<'a, K: Plain> NodesMut for PairTree<&'a mut Heap, K> {
     fn set_left(&mut self, node: u64, to: Option<u64>) {
         self.heap.set_link(node, 0, to);

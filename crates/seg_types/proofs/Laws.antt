@@ -8,6 +8,6 @@ pub use Rattle.seg_types.specs.ScalarLaws.{bytes_low_first-length, bytes_low_fir
 -- two's complement, there and back
 pub use Rattle.seg_types.specs.ScalarLaws.{i32-back, i64-back, i64-fits, i64-fits_below, i64-high, i64-low, number-back}
 -- a value of a plain type that is written is read back, and a scalar is read as its number
-pub use Rattle.seg_types.proofs.PlainReads.{written-read, whole-differs, scalar-read, value-spelled, read-value}
+pub use Rattle.seg_types.proofs.scalars.PlainReads.{written-read, whole-differs, scalar-read, value-spelled, read-value}
 -- the value of a kind that a number is
-pub use Rattle.seg_types.proofs.ScalarNumbers.{scalar_of-kind, scalar_of-value}
+pub use Rattle.seg_types.proofs.scalars.Numbers.{scalar_of-kind, scalar_of-value}

@@ -1,4 +1,1 @@
-mod PlainReads
-mod ScalarNumbers
-mod EightBytes
 pub mod Laws

@@ -24,4 +24,4 @@ pub use plain::{MAX_SPELLING_LEN, Plain, SHORT_SPELLING_LEN};
 pub use refusals::{LineError, Refusal};
 pub use scalars::Scalar;
 pub use values::ScalarValue;
-pub use written::{Written, pair_of, truth_as, whole_as};
+pub use written::{WrittenValue, pair_of, truth_as, whole_as};

@@ -9,7 +9,7 @@ use crate::refusals::Refusal;
 use crate::values::ScalarValue;
 
 /// A value as a caller writes it, before its kind is known: a truth, a whole number or a text.
-pub trait Written {
+pub trait WrittenValue {
     /// Room that its text may be read into.
     type Room;
 
@@ -34,7 +34,7 @@ pub trait Written {
 }
 
 /// A value of one kind that is written as one of another.
-impl Written for ScalarValue {
+impl WrittenValue for ScalarValue {
     type Room = ();
 
     ghost literal = { literal_seen };
@@ -89,7 +89,7 @@ pub fn whole_as(kind: ScalarKind, number: i128) -> Result<ScalarValue, Refusal>
 /// # Errors
 ///
 /// `WrongKind` if one has another form; otherwise `OutOfRange` if one is a number outside the range of its kind.
-pub fn pair_of<A: Written, B: Written>(
+pub fn pair_of<A: WrittenValue, B: WrittenValue>(
     keys: ScalarKind,
     values: ScalarKind,
     at: &A,

@@ -1,6 +1,6 @@
 -- The laws of vectors for other crates.
 
 -- a vector of texts stands where a call was refused and gave back what it had taken
-pub use Rattle.seg_vector.proofs.TextsLaid.{texts-restored}
+pub use Rattle.seg_vector.proofs.texts.LayOut.{texts-restored}
 -- the storage of a container is the block that it was, where the same blocks are in use
-pub use Rattle.seg_vector.proofs.Storage.{same-extents}
+pub use Rattle.seg_vector.proofs.storage.Storage.{same-extents}

@@ -6,25 +6,25 @@ use Rattle.block_tags.specs.declared.tile.Role.TheVariants.{Storage}
 use Rattle.best_fit.specs.{Exchange.KeepsLiveSet, Extents.Extent, Extents.handle, Fit.place, Fit.resized}
 use Rattle.best_fit.specs.Heap.{extent_at, live_of}
 use Rattle.seg_types.specs.{declared.refusals.Refusal.Refusal, declared.refusals.Refusal.TheVariants.NoSpace}
-use Rattle.seg_vector.specs.TextParts.{IsServed, IsSwapped}
-use Rattle.seg_vector.specs.TextsCalls.{all_texts, new_array, placed_texts, text_blocks}
+use Rattle.seg_vector.specs.TextParts.{IsServed, SwapsBlocks}
+use Rattle.seg_vector.specs.TextsCalls.{requested_texts, new_array, placed_texts, text_blocks}
 use Rattle.seg_vector.specs.Vector.{AreTextLinks, IsOwnedText, OwnedText}
 
 -- The first n texts are laid out: each has its element in the block of an array, and a block of its own, where it is
 -- not empty.
-pub record AreLaid (old now : WindowState) (y : Extent) (n : ℕ) (more : List (List ℕ)) : Type 0 where
+pub record StoresFirstTexts (old now : WindowState) (y : Extent) (n : ℕ) (more : List (List ℕ)) : Type 0 where
   pub texts : List OwnedText
   pub long : length texts ≡ n
   pub placed : placed_texts (live_of old.bytes) more ≡ option_map (λ (qs : List OwnedText). texts ++ qs)
       (placed_texts (live_of now.bytes) (drop n more))
-  pub change : IsSwapped old now (y ∷ []) (y ∷ text_blocks texts)
+  pub change : SwapsBlocks old now (y ∷ []) (y ∷ text_blocks texts)
   pub links : AreTextLinks (bytes_of now.bytes) (handle y) texts
   pub owned : AllByRecursion (IsOwnedText (bytes_of now.bytes)) texts
   pub served : AllByRecursion IsServed texts
 
 -- all of them, or as many as there are before the first without a fit
 pub record StoresArrayUpTo (old new : WindowState) (y : Extent) (n : ℕ) (more : List (List ℕ)) : Type 0 where
-  pub laid : AreLaid old new y n more
+  pub laid : StoresFirstTexts old new y n more
   pub within : n ≤ length more
   pub stopped : n < length more → placed_texts (live_of new.bytes) (drop n more) ≡ None
 
@@ -40,7 +40,7 @@ pub record StoresArrayOk (old new : WindowState) (more : List (List ℕ)) (array
   pub texts : List OwnedText
   pub long : length texts ≡ length more
   pub placed : placed_texts (resized (live_of old.bytes) block) more ≡ Some texts
-  pub change : IsSwapped old new [] (block ∷ text_blocks texts)
+  pub change : SwapsBlocks old new [] (block ∷ text_blocks texts)
   pub links : AreTextLinks (bytes_of new.bytes) (handle block) texts
   pub owned : AllByRecursion (IsOwnedText (bytes_of new.bytes)) texts
   pub served : AllByRecursion IsServed texts
@@ -48,7 +48,7 @@ pub record StoresArrayOk (old new : WindowState) (more : List (List ℕ)) (array
 -- one of them has no space; where it is the array, nothing changes
 pub record StoresArrayErr (old new : WindowState) (more : List (List ℕ)) (e : Refusal) : Type 0 where
   pub refusal : e ≡ NoSpace
-  pub none : all_texts (live_of old.bytes) more ≡ None
+  pub none : requested_texts (live_of old.bytes) more ≡ None
   pub restored : KeepsLiveSet current old new
   pub first : new_array (live_of old.bytes) (length more) ≡ None → new ≡ old
 

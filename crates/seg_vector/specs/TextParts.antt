@@ -10,17 +10,18 @@ use Rattle.best_fit.specs.Table.{BackingArray, has_backing, serves}
 use Rattle.best_fit.specs.Heap.{AllocatesOk, ChangesBytes, IsHeap, KeepsGaps, SameBlock, extent_at, has_room, live_of}
 use Rattle.block_tags.specs.declared.tile.Role.TheVariants.{Storage}
 use Rattle.seg_types.specs.{declared.refusals.Refusal.Refusal, declared.refusals.Refusal.TheVariants.NoSpace}
-use Rattle.seg_vector.specs.{Containers.place_at, TextsCalls.one_more, TextsCalls.placed_text, TextsCalls.text_blocks}
+use Rattle.seg_vector.specs.{Containers.place_at, TextsCalls.requested_text, TextsCalls.placed_text}
+use Rattle.seg_vector.specs.{TextsCalls.text_blocks}
 use Rattle.seg_vector.specs.Vector.{AreTextLinks, IsOwnedText, OwnedText, capacity_for_one, grown_backing}
 use Rattle.seg_vector.specs.TextsCalls.{AreDistinct, RefusesFirstBlock, LacksFit, InsertsTextOk, IsTexts, ReplacesTexts}
 
 -- blocks are gone and others came, and nothing in those that stay changes
-abbrev pub IsSwapped : WindowState → WindowState → List Extent → List Extent → Type 0
-IsSwapped old new gone come = ExchangesBlocks current old new 0 0 gone come
+abbrev pub SwapsBlocks : WindowState → WindowState → List Extent → List Extent → Type 0
+SwapsBlocks old new gone come = ExchangesBlocks current old new 0 0 gone come
 
 -- these blocks are gone, and nothing in those that stay changes; where there are none, nothing does
 pub record FreesBlocks (old new : WindowState) (xs : List Extent) : Type 0 where
-  pub change : IsSwapped old new xs []
+  pub change : SwapsBlocks old new xs []
   pub same : xs ≡ [] → new ≡ old
 
 -- each of these is in use
@@ -68,13 +69,13 @@ pub record PutsElement (old new : WindowState) (at : ℕ) (text : Option ℕ) (l
   pub len_word : word_at (bytes_of new.bytes) (at + 8) ≡ len
 
 -- the element at b says what the one at a said
-pub record IsSameElement (m m' : Memory) (a b : ℕ) : Type 0 where
+pub record SameElement (m m' : Memory) (a b : ℕ) : Type 0 where
   pub link : link_at m' b ≡ link_at m a
   pub len_word : word_at m' (b + 8) ≡ word_at m (a + 8)
 
 -- and so do n of them
 abbrev pub SameElements : Memory → Memory → ℕ → ℕ → ℕ → Type 0
-SameElements m m' a b n = (j : ℕ) → j < n → IsSameElement m m' (a + 16 * j) (b + 16 * j)
+SameElements m m' a b n = (j : ℕ) → j < n → SameElement m m' (a + 16 * j) (b + 16 * j)
 
 -- n elements at b say what those at a said, and nothing else changes
 pub record CarriesElements (old new : WindowState) (a b n : ℕ) : Type 0 where
@@ -118,7 +119,7 @@ pub record PlacesTextOk (old new : WindowState) (bytes : List ℕ) (block : Opti
   pub placed : placed_text (live_of old.bytes) bytes ≡ Some text
   pub same : text.bytes ≡ bytes
   pub at : block ≡ option_map handle text.extent
-  pub change : IsSwapped old new [] (option_to_list text.extent)
+  pub change : SwapsBlocks old new [] (option_to_list text.extent)
   pub nothing : text.extent ≡ None → new ≡ old
   pub owned : IsOwnedText (bytes_of new.bytes) text
   pub served : IsServed text
@@ -158,12 +159,12 @@ pub record IsArrayReserved (now : WindowState) (p : Place) (g n : ℕ) : Type 0 
   pub texts : IsTexts first.bytes p ps t
   pub more : t.capacity < n
   pub asked : ReservesArray first mid t.extent (16 * n) g
-  pub since : IsSwapped mid now [] loose
+  pub since : SwapsBlocks mid now [] loose
   pub still : loose ≡ [] → now ≡ mid
 
 -- The vector has the array that was asked for, with n places. Its elements are the same, and the blocks taken since
 -- stay. No byte of a gap changed where the array is the block that it was, and no other one was taken.
-pub record IsAdopted (first old new : WindowState) (p : Place) (ps : List OwnedText) (t : BackingArray) (g n : ℕ)
+pub record AdoptsOk (first old new : WindowState) (p : Place) (ps : List OwnedText) (t : BackingArray) (g n : ℕ)
     (loose : List Extent) : Type 0 where
   pub array : Extent
   pub at : g ≡ handle array
@@ -178,13 +179,13 @@ pub record IsAdopted (first old new : WindowState) (p : Place) (ps : List OwnedT
   pub stay : AllByRecursion (SameBlock (bytes_of old.bytes) (bytes_of new.bytes)) loose
 
 abbrev pub Adopts : WindowState → WindowState → Place → ℕ → ℕ → Type 0
-Adopts old new p g n = (r : IsArrayReserved old p g n) → IsAdopted r.first old new p r.ps r.t g n r.loose
+Adopts old new p g n = (r : IsArrayReserved old p g n) → AdoptsOk r.first old new p r.ps r.t g n r.loose
 
 -- ---- one text more
 
 -- Since the first call blocks were exchanged: the array y, with m places, came, and the block of a text that is not in
 -- the vector yet.
-pub record IsPutReady (first now : WindowState) (p : Place) (ps : List OwnedText) (t : BackingArray) (y : Extent)
+pub record PreparesPut (first now : WindowState) (p : Place) (ps : List OwnedText) (t : BackingArray) (y : Extent)
     (m : ℕ) (z : OwnedText) : Type 0 where
   pub texts : IsTexts first.bytes p ps t
   pub table : IsTrue (has_backing Storage 16 (record { capacity = m; extent = Some y }))
@@ -206,14 +207,14 @@ pub record IsPutAsked (now : WindowState) (p : Place) (i : ℕ) (block : Option 
   pub y : Extent
   pub m : ℕ
   pub z : OwnedText
-  pub ready : IsPutReady first now p ps t y m z
+  pub ready : PreparesPut first now p ps t y m z
   pub inside : i ≤ length ps
   pub at : block ≡ option_map handle z.extent
 
 abbrev pub InsertsElement : WindowState → WindowState → Place → ℕ → Option ℕ → ℕ → Type 0
 InsertsElement old new p i block len =
     (first : WindowState) (ps : List OwnedText) (t : BackingArray) (y : Extent) (m : ℕ) (z : OwnedText)
-    → IsPutReady first old p ps t y m z → i ≤ length ps → block ≡ option_map handle z.extent → len ≡ length z.bytes
+    → PreparesPut first old p ps t y m z → i ≤ length ps → block ≡ option_map handle z.extent → len ≡ length z.bytes
     → ReplacesTexts first new p (option_to_list t.extent) (y ∷ option_to_list z.extent) (insert ps i z)
     (record { capacity = m; extent = Some y })
 
@@ -246,7 +247,7 @@ GivesUp old new p g room =
 pub record RefusesPut (old new : WindowState) (ps : List OwnedText) (t : BackingArray) (bytes : List ℕ)
     (e : Refusal) : Type 0 where
   pub refusal : e ≡ NoSpace
-  pub none : one_more (live_of old.bytes) ps t bytes ≡ None
+  pub none : requested_text (live_of old.bytes) ps t bytes ≡ None
   pub restored : KeepsLiveSet current old new
   pub first : RefusesFirstBlock old new ps t bytes
 

@@ -140,8 +140,8 @@ pub record InsertsTextOk (old new : WindowState) (p : Place) (ps : List OwnedTex
   pub now : ReplacesTexts old new p (option_to_list t.extent) (option_to_list table.extent
       ++ option_to_list text.extent) (insert ps i text) table
 
-abbrev pub one_more : LiveSet → List OwnedText → BackingArray → List ℕ → Option OwnedText
-one_more live ps t bytes = elim (grown_backing live 16 (capacity_for_one (length ps) t.capacity) t) [
+abbrev pub requested_text : LiveSet → List OwnedText → BackingArray → List ℕ → Option OwnedText
+requested_text live ps t bytes = elim (grown_backing live 16 (capacity_for_one (length ps) t.capacity) t) [
   | None ↦ None
   | Some u ↦ placed_text (with_array live t u) bytes
 ]
@@ -153,22 +153,22 @@ pub record RefusesFirstBlock (old new : WindowState) (ps : List OwnedText) (t : 
   pub text : length ps < t.capacity → placed_text (live_of old.bytes) bytes ≡ None → new ≡ old
   pub array : grown_backing (live_of old.bytes) 16 (capacity_for_one (length ps) t.capacity) t ≡ None → new ≡ old
 
-abbrev pub StaysAtFirst : WindowState → WindowState → Place → List ℕ → Type 0
-StaysAtFirst old new p bytes = (ps : List OwnedText) (t : BackingArray) → IsTexts old.bytes p ps t
+abbrev pub UnchangedIfFirstRefused : WindowState → WindowState → Place → List ℕ → Type 0
+UnchangedIfFirstRefused old new p bytes = (ps : List OwnedText) (t : BackingArray) → IsTexts old.bytes p ps t
     → RefusesFirstBlock old new ps t bytes
 
 abbrev pub PushesText : WindowState → WindowState → Place → List ℕ → Result (Unit {0}) Refusal → Type 0
 PushesText old new p bytes result =
     (ps : List OwnedText) (t : BackingArray) → IsTexts old.bytes p ps t
     → MatchResult result (λ u. InsertsTextOk old new p ps t (length ps) bytes)
-    (UndoesRequests old new (one_more (live_of old.bytes) ps t bytes))
+    (UndoesRequests old new (requested_text (live_of old.bytes) ps t bytes))
 
 abbrev pub InsertsText : WindowState → WindowState → Place → ℕ → List ℕ → Result (Unit {0}) Refusal → Type 0
 InsertsText old new p i bytes result =
     (ps : List OwnedText) (t : BackingArray) → IsTexts old.bytes p ps t
     → MatchResult result (λ u. (i ≤ length ps) × InsertsTextOk old new p ps t i bytes)
     (λ e. RefusesIndex old new (length ps + 1) i e ⊎
-    ((i ≤ length ps) × UndoesRequests old new (one_more (live_of old.bytes) ps t bytes) e))
+    ((i ≤ length ps) × UndoesRequests old new (requested_text (live_of old.bytes) ps t bytes) e))
 
 -- another in the place of one, whose block is released once there is the new one
 pub record SetsTextOk (old new : WindowState) (p : Place) (ps : List OwnedText) (t : BackingArray) (i : ℕ)
@@ -187,7 +187,7 @@ SetsText old new p i bytes result =
     ((i < length ps) × LacksFit old new (placed_text (live_of old.bytes) bytes) e))
 
 -- one less, and its block is released; the array stays
-pub record RemovesTextOk (old new : WindowState) (p : Place) (ps : List OwnedText) (t : BackingArray) (i : ℕ) : Type
+pub record ErasesTextOk (old new : WindowState) (p : Place) (ps : List OwnedText) (t : BackingArray) (i : ℕ) : Type
     0 where
   pub before : OwnedText
   pub found : slice_get ps i ≡ Some before
@@ -197,12 +197,12 @@ pub record RemovesTextOk (old new : WindowState) (p : Place) (ps : List OwnedTex
 abbrev pub ErasesText : WindowState → WindowState → Place → ℕ → Result (Unit {0}) Refusal → Type 0
 ErasesText old new p i result =
     (ps : List OwnedText) (t : BackingArray) → IsTexts old.bytes p ps t
-    → MatchResult result (λ u. RemovesTextOk old new p ps t i) (RefusesIndex old new (length ps) i)
+    → MatchResult result (λ u. ErasesTextOk old new p ps t i) (RefusesIndex old new (length ps) i)
 
 abbrev pub PopsText : WindowState → WindowState → Place → Result (Unit {0}) Refusal → Type 0
 PopsText old new p result =
     (ps : List OwnedText) (t : BackingArray) → IsTexts old.bytes p ps t
-    → MatchResult result (λ u. RemovesTextOk old new p ps t (length ps - 1)) (RefusesIndex old new (length ps) 0)
+    → MatchResult result (λ u. ErasesTextOk old new p ps t (length ps - 1)) (RefusesIndex old new (length ps) 0)
 
 abbrev pub ReservesTexts : WindowState → WindowState → Place → ℕ → Result (Unit {0}) Refusal → Type 0
 ReservesTexts old new p n result =
@@ -246,8 +246,8 @@ pub record AssignsTextsOk (old new : WindowState) (p : Place) (ps : List OwnedTe
   pub now : ReplacesTexts old new p (option_to_list t.extent ++ text_blocks ps)
       (option_to_list table.extent ++ text_blocks texts) texts table
 
-abbrev pub all_texts : LiveSet → List (List ℕ) → Option (List OwnedText)
-all_texts live more = elim (new_array live (length more)) [
+abbrev pub requested_texts : LiveSet → List (List ℕ) → Option (List OwnedText)
+requested_texts live more = elim (new_array live (length more)) [
   | None ↦ None
   | Some u ↦ placed_texts (elim u.extent [ None ↦ live | Some x ↦ resized live x ]) more
 ]
@@ -257,4 +257,4 @@ AssignsTexts old new p [] result = (result ≡ Ok tt) × ClearsTexts old new p
 AssignsTexts old new p (bytes ∷ more) result =
     (ps : List OwnedText) (t : BackingArray) → IsTexts old.bytes p ps t
     → MatchResult result (λ u. AssignsTextsOk old new p ps t (bytes ∷ more))
-    (UndoesRequests old new (all_texts (live_of old.bytes) (bytes ∷ more)))
+    (UndoesRequests old new (requested_texts (live_of old.bytes) (bytes ∷ more)))

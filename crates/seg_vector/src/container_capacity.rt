@@ -8,7 +8,7 @@ ghost use Rattle.seg_vector.specs.{Vector.capacity_for_one as places_for_one};
 ghost use Rattle.seg_vector.specs.Containers.{ReservesStorage, GrowsForOne, IsStanding, IsContainer, len_at, place_at};
 ghost use Rattle.seg_vector.specs.TextParts.{SetsStorage};
 
-use crate::places::{CAPACITY, LEN, capacity_of, len_of, link_of};
+use crate::places::{CAPACITY, LEN_OFFSET, capacity_of, len_of, link_of};
 use best_fit::{Heap, NoSpace, Place};
 use block_tags::MAX_SEGMENT_LEN;
 use raw_region::Steps;
@@ -24,7 +24,7 @@ pub fn init_container(heap: &mut Heap, place: Place)
     ensures container { (each : ℕ) → IsContainer heap.new.bytes place each 0 no_backing [] }
 {
     heap.set_link(place.handle, place.at, None);
-    heap.set_word(place.handle, place.at + LEN, 0);
+    heap.set_word(place.handle, place.at + LEN_OFFSET, 0);
     heap.set_word(place.handle, place.at + CAPACITY, 0);
 }
 

@@ -7,7 +7,7 @@ ghost use Rattle.seg_vector.specs.Elements.{ErasesElement, Extends, HasSpot, Ove
 ghost use Rattle.seg_vector.specs.Elements.{Truncates};
 ghost use Rattle.seg_vector.specs.Containers.{IsStanding, capacity_at, len_at};
 
-use crate::places::{LEN, len_of, link_of};
+use crate::places::{LEN_OFFSET, len_of, link_of};
 use best_fit::theorems::loans_write_one_block;
 use best_fit::{Heap, Place};
 use seg_types::{MAX_SPELLING_LEN, Plain, SHORT_SPELLING_LEN};
@@ -41,7 +41,7 @@ pub fn truncate(heap: &mut Heap, place: Place, each: u64, n: u64)
     requires smaller_count { n ≤ len_at heap.old.bytes place }
     ensures { Truncates heap.old heap.new place each n }
 {
-    heap.set_word(place.handle, place.at + LEN, n);
+    heap.set_word(place.handle, place.at + LEN_OFFSET, n);
 }
 
 /// Writes `n` elements of `each` bytes after the last one, where the capacity allows.
@@ -55,7 +55,7 @@ pub fn extend(heap: &mut Heap, place: Place, each: u64, n: u64, bytes: &[u8])
     let len = len_of(heap, place);
     if let Some(storage) = link_of(heap, place) {
         heap.write(storage, each * len, bytes);
-        heap.set_word(place.handle, place.at + LEN, len + n);
+        heap.set_word(place.handle, place.at + LEN_OFFSET, len + n);
     }
 }
 
@@ -70,7 +70,7 @@ pub fn erase_element(heap: &mut Heap, place: Place, each: u64, index: u64)
         let from = each * index;
         let behind = each * (len - index - 1);
         heap.copy(storage, from + each, storage, from, behind);
-        heap.set_word(place.handle, place.at + LEN, len - 1);
+        heap.set_word(place.handle, place.at + LEN_OFFSET, len - 1);
     }
 }
 
@@ -107,7 +107,7 @@ pub fn put_at(heap: &mut Heap, place: Place, each: u64, spot: WritePos, bytes: &
                 let behind = each * (len - index);
                 heap.copy(storage, from, storage, from + each, behind);
                 heap.write(storage, from, bytes);
-                heap.set_word(place.handle, place.at + LEN, len + 1);
+                heap.set_word(place.handle, place.at + LEN_OFFSET, len + 1);
             }
         }
     }
@@ -199,6 +199,6 @@ pub fn put_behind<T: Plain>(heap: &mut Heap, place: Place, values: &[T])
     let more = values.len() as u64;
     if let Some(storage) = link_of(heap, place) {
         spell(heap, storage, T::SIZE * len, values);
-        heap.set_word(place.handle, place.at + LEN, len + more);
+        heap.set_word(place.handle, place.at + LEN_OFFSET, len + more);
     }
 }

@@ -1,6 +1,6 @@
 //! Vectors and strings at a place in a heap: what they hold, how they grow, and the bytes that spell them. Each is the
 //! place alone: a call takes the heap anew, so that nothing is borrowed between two calls.
-#![tactic(auto, using(crate::proofs::Storage::sizes))]
+#![tactic(auto, using(crate::proofs::storage::Storage::sizes))]
 
 mod container_capacity;
 mod elements;

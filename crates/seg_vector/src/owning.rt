@@ -7,7 +7,7 @@ ghost use Rattle.seg_vector.specs.TextParts.{AreHeldElements, FreesBlocks, IsHel
 ghost use Rattle.seg_vector.specs.{TextLists.StoresArray, TextLists.LaysTexts, TextsCalls.text_blocks};
 ghost use Rattle.seg_vector.specs.{Vector.OwnedText};
 
-use crate::places::ELEMENT;
+use crate::places::ELEMENT_LEN;
 use crate::text_arrays::put_element;
 use best_fit::Heap;
 use block_tags::{MAX_SEGMENT_LEN, Role};
@@ -57,7 +57,7 @@ pub fn release_texts(heap: &mut Heap, array: u64, n: u64)
         → FreesBlocks heap.old heap.new (text_blocks ps) }
 {
     for i in 0..n {
-        release_text(heap, array, ELEMENT * i);
+        release_text(heap, array, ELEMENT_LEN * i);
     }
 }
 
@@ -74,7 +74,7 @@ pub fn place_texts(heap: &mut Heap, array: u64, texts: &[&[u8]]) -> u64
         let text = texts[i as usize];
         match place_text(heap, text) {
             Err(_) => return i,
-            Ok(block) => put_element(heap, array, ELEMENT * i, block, text.len() as u64),
+            Ok(block) => put_element(heap, array, ELEMENT_LEN * i, block, text.len() as u64),
         }
     }
     n
@@ -92,7 +92,7 @@ pub fn store_array(heap: &mut Heap, texts: &[&[u8]]) -> Result<u64, Refusal>
     if n > MAX_SEGMENT_LEN {
         return Err(Refusal::NoSpace);
     }
-    let array = take(heap, ELEMENT * n)?;
+    let array = take(heap, ELEMENT_LEN * n)?;
     let placed = place_texts(heap, array, texts);
     if placed == n {
         return Ok(array);

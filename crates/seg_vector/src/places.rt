@@ -8,12 +8,12 @@ ghost use Rattle.seg_vector.specs.Containers.{capacity_at, len_at, place_at};
 use best_fit::{Heap, Place};
 
 /// Where the length and the capacity of a container stand after its link.
-pub const LEN: u64 = 8;
+pub const LEN_OFFSET: u64 = 8;
 
 pub const CAPACITY: u64 = 16;
 
 /// The bytes of an element of a vector of texts: the link to the block of its text, and the text's length.
-pub const ELEMENT: u64 = 16;
+pub const ELEMENT_LEN: u64 = 16;
 
 /// Returns where the link of the container at a place leads.
 pub fn link_of(heap: &Heap, place: Place) -> Option<u64>
@@ -30,7 +30,7 @@ pub fn len_of(heap: &Heap, place: Place) -> u64
     requires room { IsTrue (has_room (live_of heap.now.bytes) place.handle (place.at + 24)) }
     ensures { result ≡ len_at heap.now.bytes place }
 {
-    heap.word(place.handle, place.at + LEN)
+    heap.word(place.handle, place.at + LEN_OFFSET)
 }
 
 /// Returns the capacity of the container at a place.

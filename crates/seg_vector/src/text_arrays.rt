@@ -8,13 +8,13 @@ ghost use Rattle.seg_vector.specs.TextParts.{Adopts, CarriesElements, AsksArray,
 ghost use Rattle.seg_vector.specs.TextParts.{HasArrayRoom, HasElement, HasElementRoom, HasSpareCapacity};
 ghost use Rattle.seg_vector.specs.TextParts.{InsertsGrowing};
 ghost use Rattle.seg_vector.specs.TextParts.{InsertsWithin, PutsElement, IsFullVector, IsPutAsked, IsArrayReserved};
-ghost use Rattle.seg_vector.specs.TextParts.{IsSameElement};
+ghost use Rattle.seg_vector.specs.TextParts.{SameElement};
 ghost use Rattle.seg_vector.specs.TextParts.{IsToBeGivenUp, InsertsElement};
 ghost use Rattle.seg_vector.specs.TextsCalls.{IsTextsContainer};
 
 use crate::container_capacity::set_storage;
 use crate::owning::{place_text, take};
-use crate::places::{ELEMENT, LEN, len_of, link_of};
+use crate::places::{ELEMENT_LEN, LEN_OFFSET, len_of, link_of};
 use best_fit::{Heap, Place};
 use raw_region::Steps;
 use seg_types::Refusal;
@@ -25,7 +25,7 @@ pub fn put_element(heap: &mut Heap, array: u64, at: u64, text: Option<u64>, len:
     ensures { PutsElement heap.old heap.new (array + at) text len }
 {
     heap.set_link(array, at, text);
-    heap.set_word(array, at + LEN, len);
+    heap.set_word(array, at + LEN_OFFSET, len);
 }
 
 /// Copies an element, a link and a length, from an offset in one block to an offset in another or the same. The new
@@ -34,10 +34,10 @@ pub fn carry_element(heap: &mut Heap, from: u64, from_at: u64, to: u64, to_at: u
     requires element { HasElement heap.old.bytes from from_at }
     requires room { HasElementRoom heap.old.bytes to to_at (link_at (bytes_of heap.old.bytes) (from + from_at)) }
     ensures changes { ChangesBytes current heap.old heap.new (to + to_at) 16 }
-    ensures carry { IsSameElement (bytes_of heap.old.bytes) (bytes_of heap.new.bytes) (from + from_at) (to + to_at) }
+    ensures carry { SameElement (bytes_of heap.old.bytes) (bytes_of heap.new.bytes) (from + from_at) (to + to_at) }
 {
     let text = heap.link(from, from_at);
-    let len = heap.word(from, from_at + LEN);
+    let len = heap.word(from, from_at + LEN_OFFSET);
     put_element(heap, to, to_at, text, len);
 }
 
@@ -48,7 +48,13 @@ pub fn move_elements_down(heap: &mut Heap, from: u64, from_at: u64, to: u64, to_
     ensures { CarriesElements heap.old heap.new (from + from_at) (to + to_at) n }
 {
     for i in 0..n {
-        carry_element(heap, from, from_at + ELEMENT * i, to, to_at + ELEMENT * i);
+        carry_element(
+            heap,
+            from,
+            from_at + ELEMENT_LEN * i,
+            to,
+            to_at + ELEMENT_LEN * i,
+        );
     }
 }
 
@@ -58,8 +64,8 @@ pub fn move_elements_up(heap: &mut Heap, array: u64, at: u64, n: u64)
     ensures { CarriesElements heap.old heap.new (array + at) (array + at + 16) n }
 {
     for i in 0..n {
-        let place = at + ELEMENT * (n - 1 - i);
-        carry_element(heap, array, place, array, place + ELEMENT);
+        let place = at + ELEMENT_LEN * (n - 1 - i);
+        carry_element(heap, array, place, array, place + ELEMENT_LEN);
     }
 }
 
@@ -73,14 +79,14 @@ pub fn reserve_array(heap: &mut Heap, place: Place, n: u64) -> Result<u64, Refus
     ensures { AsksArray heap.old heap.new place n result }
 {
     if let Some(array) = link_of(heap, place) {
-        if heap.room(array) >= ELEMENT * n {
+        if heap.room(array) >= ELEMENT_LEN * n {
             return Ok(array);
         }
-        if heap.try_extend(array, ELEMENT * n, &mut Steps::new()) {
+        if heap.try_extend(array, ELEMENT_LEN * n, &mut Steps::new()) {
             return Ok(array);
         }
     }
-    take(heap, ELEMENT * n)
+    take(heap, ELEMENT_LEN * n)
 }
 
 /// Makes the block that was asked for the array of the vector of texts at a place, with `n` places. If it is a new one,
@@ -109,9 +115,9 @@ pub fn insert_element(heap: &mut Heap, place: Place, index: u64, text: Option<u6
 {
     let len = len_of(heap, place);
     if let Some(array) = link_of(heap, place) {
-        move_elements_up(heap, array, ELEMENT * index, len - index);
-        put_element(heap, array, ELEMENT * index, text, text_len);
-        heap.set_word(place.handle, place.at + LEN, len + 1);
+        move_elements_up(heap, array, ELEMENT_LEN * index, len - index);
+        put_element(heap, array, ELEMENT_LEN * index, text, text_len);
+        heap.set_word(place.handle, place.at + LEN_OFFSET, len + 1);
     }
 }
 

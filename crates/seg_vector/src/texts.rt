@@ -6,13 +6,13 @@ ghost use Rattle.seg_vector.specs.TextsCalls.{GetsText, InsertsText, IsTextsCont
 ghost use Rattle.seg_vector.specs.TextsCalls.{ReleasesTexts};
 ghost use Rattle.seg_vector.specs.TextsCalls.{AssignsTexts, ClearsTexts, ReadsTextsCapacity, ReadsTextsLen, ErasesText};
 ghost use Rattle.seg_vector.specs.TextsCalls.{ReservesNoTexts, ReservesTexts, SetsText, ShrinksTexts, InitsTexts};
-ghost use Rattle.seg_vector.specs.{TextsCalls.StaysAtFirst, TextsCalls.new_array, Containers.place_at};
+ghost use Rattle.seg_vector.specs.{TextsCalls.UnchangedIfFirstRefused, TextsCalls.new_array, Containers.place_at};
 
 use crate::container_capacity::{
     capacity_for_one, free_storage, init_container, set_storage, shrink_storage,
 };
 use crate::owning::{place_text, release_text, release_texts, store_array};
-use crate::places::{ELEMENT, LEN, capacity_of, len_of, link_of};
+use crate::places::{ELEMENT_LEN, LEN_OFFSET, capacity_of, len_of, link_of};
 use crate::text_arrays::{
     insert_growing, insert_within, install_array, move_elements_down, put_element, reserve_array,
 };
@@ -63,7 +63,7 @@ impl SegTexts {
     /// # Errors
     ///
     /// `OutOfRange` if there are not so many.
-    #[tactic(auto, using(crate::proofs::Storage::sizes, crate::proofs::TextPuts::few_places))]
+    #[tactic(auto, using(crate::proofs::storage::Storage::sizes, crate::proofs::texts::Puts::few_places))]
     pub fn get(self, heap: &Heap, index: u64) -> Result<&[u8], Refusal>
         requires { IsTextsContainer heap.now.bytes self.place }
         ensures { GetsText heap.now self.place index result }
@@ -74,11 +74,11 @@ impl SegTexts {
         let Some(array) = link_of(heap, self.place) else {
             unreachable!()
         };
-        let at = ELEMENT * index;
+        let at = ELEMENT_LEN * index;
         match heap.link(array, at) {
             None => Ok(&[]),
             Some(text) => {
-                let len = heap.word(array, at + LEN);
+                let len = heap.word(array, at + LEN_OFFSET);
                 Ok(&heap.block(text)[..len as usize])
             }
         }
@@ -91,7 +91,7 @@ impl SegTexts {
     ///
     /// `OutOfRange` if there are not so many; otherwise `NoSpace` if no gap is long enough for the text. Nothing
     /// changes.
-    #[tactic(auto, using(crate::proofs::Storage::sizes, crate::proofs::TextPuts::few_places))]
+    #[tactic(auto, using(crate::proofs::storage::Storage::sizes, crate::proofs::texts::Puts::few_places))]
     pub fn set(self, heap: &mut Heap, index: u64, text: &[u8]) -> Result<(), Refusal>
         requires { IsTextsContainer heap.old.bytes self.place }
         ensures { SetsText heap.old heap.new self.place index text.now result }
@@ -101,8 +101,8 @@ impl SegTexts {
         }
         let block = place_text(heap, text)?;
         if let Some(array) = link_of(heap, self.place) {
-            release_text(heap, array, ELEMENT * index);
-            put_element(heap, array, ELEMENT * index, block, text.len() as u64);
+            release_text(heap, array, ELEMENT_LEN * index);
+            put_element(heap, array, ELEMENT_LEN * index, block, text.len() as u64);
         }
         Ok(())
     }
@@ -118,7 +118,7 @@ impl SegTexts {
     pub fn insert(self, heap: &mut Heap, index: u64, text: &[u8]) -> Result<(), Refusal>
         requires { IsTextsContainer heap.old.bytes self.place }
         ensures changes { InsertsText heap.old heap.new self.place index text.now result }
-        ensures first { StaysAtFirst heap.old heap.new self.place text.now }
+        ensures first { UnchangedIfFirstRefused heap.old heap.new self.place text.now }
     {
         let len = self.len(heap);
         if index > len {
@@ -143,7 +143,7 @@ impl SegTexts {
     pub fn push(self, heap: &mut Heap, text: &[u8]) -> Result<(), Refusal>
         requires { IsTextsContainer heap.old.bytes self.place }
         ensures changes { PushesText heap.old heap.new self.place text.now result }
-        ensures first { StaysAtFirst heap.old heap.new self.place text.now }
+        ensures first { UnchangedIfFirstRefused heap.old heap.new self.place text.now }
     {
         let len = self.len(heap);
         self.insert(heap, len, text)
@@ -155,7 +155,7 @@ impl SegTexts {
     /// # Errors
     ///
     /// `OutOfRange` if there are not so many. Nothing changes.
-    #[tactic(auto, using(crate::proofs::Storage::sizes, crate::proofs::TextPuts::few_places))]
+    #[tactic(auto, using(crate::proofs::storage::Storage::sizes, crate::proofs::texts::Puts::few_places))]
     pub fn erase(self, heap: &mut Heap, index: u64) -> Result<(), Refusal>
         requires { IsTextsContainer heap.old.bytes self.place }
         ensures { ErasesText heap.old heap.new self.place index result }
@@ -165,10 +165,10 @@ impl SegTexts {
             return Err(Refusal::OutOfRange);
         }
         if let Some(array) = link_of(heap, self.place) {
-            let at = ELEMENT * index;
+            let at = ELEMENT_LEN * index;
             release_text(heap, array, at);
-            move_elements_down(heap, array, at + ELEMENT, array, at, len - index - 1);
-            heap.set_word(self.place.handle, self.place.at + LEN, len - 1);
+            move_elements_down(heap, array, at + ELEMENT_LEN, array, at, len - index - 1);
+            heap.set_word(self.place.handle, self.place.at + LEN_OFFSET, len - 1);
         }
         Ok(())
     }
@@ -229,7 +229,7 @@ impl SegTexts {
         self.release(heap);
         let n = texts.len() as u64;
         set_storage(heap, self.place, array, n);
-        heap.set_word(self.place.handle, self.place.at + LEN, n);
+        heap.set_word(self.place.handle, self.place.at + LEN_OFFSET, n);
         Ok(())
     }
 
@@ -239,7 +239,7 @@ impl SegTexts {
         requires { IsTextsContainer heap.old.bytes self.place }
         ensures { ShrinksTexts heap.old heap.new self.place }
     {
-        shrink_storage(heap, self.place, ELEMENT);
+        shrink_storage(heap, self.place, ELEMENT_LEN);
     }
 
     /// Leaves no text, and gives back the blocks of those that there are. The array stays.
@@ -251,7 +251,7 @@ impl SegTexts {
         if let Some(array) = link_of(heap, self.place) {
             release_texts(heap, array, len);
         }
-        heap.set_word(self.place.handle, self.place.at + LEN, 0);
+        heap.set_word(self.place.handle, self.place.at + LEN_OFFSET, 0);
     }
 
     /// Gives back the array and the blocks of all texts. There is no text and no place then.
@@ -260,6 +260,6 @@ impl SegTexts {
         ensures { ReleasesTexts heap.old heap.new self.place }
     {
         self.clear(heap);
-        free_storage(heap, self.place, ELEMENT);
+        free_storage(heap, self.place, ELEMENT_LEN);
     }
 }

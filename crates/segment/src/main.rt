@@ -8,8 +8,8 @@ mod requests;
 
 use raw_region::std_io::{ReadOnce, StdSink, StdSource};
 use raw_region::{DeviceFault, Source};
-use requests::{NoAnswerMemory, asked, borrowed, buffered, words};
-use segment_answers::{Lined, Numbered};
+use requests::{NoAnswerMemory, as_strs, buffered_writer, command_words, read_invocation};
+use segment_answers::{LineOutput, NumberedOutput};
 use segment_cli::{ProgramFault, SessionFault};
 use segment_commands::{
     CommandFault, change, check, check_all, create, explain, lint, load, load_over, names, print,
@@ -17,8 +17,8 @@ use segment_commands::{
 };
 use segment_disk::{Disk, FileProblem, HostDisk, OpenedFile, StdOutput};
 use segment_invocation::{
-    FileChange, Invocation, Keeping, ModeName, Running, SaveMode, Script, VERSION, is_verbose,
-    script_text,
+    FileChange, FileOptions, Invocation, ModeName, RunOptions, SaveMode, Script, VERSION,
+    is_verbose, script_text,
 };
 use segment_scripts::{Until, command_rows};
 use std::io::{self, IsTerminal, Read, Write};
@@ -47,12 +47,12 @@ fn tell(rt: &HostRuntime, fault: CommandFault) -> u8 {
 /// Does what the program's own command line asks for, and answers the status. Words that are no text are a wrong
 /// command line.
 fn obey(rt: &HostRuntime) -> Result<u8, NoAnswerMemory> {
-    let Some(owned) = words(rt)? else {
+    let Some(owned) = command_words(rt)? else {
         let _ = eprintln!(rt; "error: the command line is no UTF-8");
         return Ok(tell(rt, USAGE));
     };
-    let words = borrowed(rt.alloc(), owned.as_slice())?;
-    match asked(rt.alloc(), words.as_slice())? {
+    let words = as_strs(rt.alloc(), owned.as_slice())?;
+    match read_invocation(rt.alloc(), words.as_slice())? {
         Ok(asked) => perform(rt, &asked, is_verbose(words.as_slice())),
         Err(wrong) => {
             let _ = eprint!(rt; "{wrong}");
@@ -69,10 +69,10 @@ fn perform(
     asked: &Invocation<'_>,
     is_verbose: bool,
 ) -> Result<u8, NoAnswerMemory> {
-    let out = StdOutput::new(buffered(rt.alloc(), io::writer(rt))?);
+    let out = StdOutput::new(buffered_writer(rt.alloc(), io::writer(rt))?);
     let mut host = Host {
         rt,
-        disk: HostDisk::patient(rt, keeping_of(asked).wait),
+        disk: HostDisk::with_wait(rt, keeping_of(asked).wait),
         scripts: HostDisk::new(rt),
         is_verbose: is_verbose || rt.stderr().is_terminal(),
     };
@@ -127,7 +127,7 @@ impl<'a> Host<'a> {
         let answer = match asked {
             Invocation::Create(file, size) => create(alloc, disk, file, *size),
             Invocation::Run(file, mode, size) => {
-                return self.answer((file, *mode, *size), &Running::PLAIN, out);
+                return self.answer((file, *mode, *size), &RunOptions::PLAIN, out);
             }
             Invocation::RunWith(file, mode, size, how) => {
                 return self.answer((file, *mode, *size), how, out);
@@ -188,26 +188,26 @@ impl<'a> Host<'a> {
 
     /// Runs the script that the command line asks for, and answers the status. Its answers go out as they are, or
     /// numbered.
-    fn answer<O: Lined + Drop>(
+    fn answer<O: LineOutput + Drop>(
         &mut self,
         run: Run<'_>,
-        how: &Running<'_>,
+        how: &RunOptions<'_>,
         out: O,
     ) -> Result<u8, CommandFault>
         requires { O.history out ≡ nothing_taken }
     {
         if how.answering.numbered {
-            return self.answer_to(run, how, &mut Numbered::new(out));
+            return self.answer_to(run, how, &mut NumberedOutput::new(out));
         }
         let mut plain = out;
         self.answer_to(run, how, &mut plain)
     }
 
     /// Runs the script that the command line asks for, which it reads from where that says, and answers the status.
-    fn answer_to<O: Lined>(
+    fn answer_to<O: LineOutput>(
         &mut self,
         run: Run<'_>,
-        how: &Running<'_>,
+        how: &RunOptions<'_>,
         out: &mut O,
     ) -> Result<u8, CommandFault>
         requires { O.history out.old ≡ nothing_taken }
@@ -234,10 +234,10 @@ impl<'a> Host<'a> {
     }
 
     /// Runs a script, to its end or to the first line that is refused, and answers the status.
-    fn run<S: Source, O: Lined>(
+    fn run<S: Source, O: LineOutput>(
         &mut self,
         run: Run<'_>,
-        how: &Running<'_>,
+        how: &RunOptions<'_>,
         script: &mut S,
         out: &mut O,
     ) -> Result<u8, CommandFault>
@@ -258,11 +258,11 @@ impl<'a> Host<'a> {
 }
 
 /// Returns how the file that the command line names is taken and saved.
-fn keeping_of(asked: &Invocation<'_>) -> Keeping {
+fn keeping_of(asked: &Invocation<'_>) -> FileOptions {
     match asked {
         Invocation::ChangeWith(_, _, keeping) | Invocation::Load(_, _, keeping) => *keeping,
         Invocation::RunWith(_, _, _, how) => how.keeping,
-        _ => Keeping::PLAIN,
+        _ => FileOptions::PLAIN,
     }
 }
 

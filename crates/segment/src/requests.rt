@@ -19,7 +19,7 @@ pub struct NoAnswerMemory {
 const REFUSED: NoAnswerMemory = NoAnswerMemory { _made: () };
 
 /// Returns the words of the command line, the program's name first, if they are texts.
-pub fn words(rt: &HostRuntime) -> Result<Option<Vec<String>>, NoAnswerMemory> {
+pub fn command_words(rt: &HostRuntime) -> Result<Option<Vec<String>>, NoAnswerMemory> {
     match std::env::args(rt) {
         Ok(words) => match words.collect(rt.alloc()) {
             Ok(words) => Ok(Some(words)),
@@ -31,7 +31,7 @@ pub fn words(rt: &HostRuntime) -> Result<Option<Vec<String>>, NoAnswerMemory> {
 }
 
 /// Returns the words as texts that are lent.
-pub fn borrowed<'a>(alloc: Global, words: &'a [String]) -> Result<Vec<&'a str>, NoAnswerMemory> {
+pub fn as_strs<'a>(alloc: Global, words: &'a [String]) -> Result<Vec<&'a str>, NoAnswerMemory> {
     words
         .iter()
         .map(|word| word.as_str())
@@ -40,7 +40,7 @@ pub fn borrowed<'a>(alloc: Global, words: &'a [String]) -> Result<Vec<&'a str>, 
 }
 
 /// Returns what the words ask for, or what is wrong with them.
-pub fn asked<'a>(
+pub fn read_invocation<'a>(
     alloc: Global,
     words: &'a [&'a str],
 ) -> Result<Result<Invocation<'a>, UsageError>, NoAnswerMemory> {
@@ -52,7 +52,10 @@ pub fn asked<'a>(
 }
 
 /// Returns a writer that puts its bytes out in pieces.
-pub fn buffered<W: Write + Drop>(alloc: Global, writer: W) -> Result<BufWriter<W>, NoAnswerMemory> {
+pub fn buffered_writer<W: Write + Drop>(
+    alloc: Global,
+    writer: W,
+) -> Result<BufWriter<W>, NoAnswerMemory> {
     match BufWriter::with_capacity(alloc, PIECE, writer) {
         Ok(buffer) => Ok(buffer),
         Err(_) => Err(REFUSED),

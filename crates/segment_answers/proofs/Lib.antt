@@ -1,1 +1,1 @@
-mod NumberLaws
+mod numbering

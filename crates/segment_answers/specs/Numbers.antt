@@ -1,21 +1,21 @@
 -- Lines behind their numbers: what stands in front of each line, up to a blank, is its number.
 use Rattle.std.specs.Prelude.{◌≡◌, ◌==◌, ℕ, Bool, true, false, not, List, [], ◌∷◌, fold, if◌then◌else◌}
-use Rattle.segment_answers.specs.declared.numbering.LineSpot.{LineSpot}
-use Rattle.segment_answers.specs.declared.numbering.LineSpot.TheVariants.{Front, Ahead, Inside, Broken}
+use Rattle.segment_answers.specs.declared.numbered_output.LineSpot.{LineSpot}
+use Rattle.segment_answers.specs.declared.numbered_output.LineSpot.TheVariants.{Front, Ahead, Inside, Broken}
 
 -- whether the next byte is one of a line's text, behind this one
-abbrev pub in_text : Bool → ℕ → Bool
-in_text true c = not (c == 0x0A)
-in_text false c = c == 0x20
+abbrev pub next_in_text : Bool → ℕ → Bool
+next_in_text true c = not (c == 0x0A)
+next_in_text false c = c == 0x20
 
 abbrev pub is_in_text : Bool → List ℕ → Bool
-is_in_text = fold in_text
+is_in_text = fold next_in_text
 
 -- the bytes without the numbers
 abbrev pub text_part : Bool → List ℕ → List ℕ
 text_part text [] = []
-text_part true (c ∷ cs) = c ∷ text_part (in_text true c) cs
-text_part false (c ∷ cs) = text_part (in_text false c) cs
+text_part true (c ∷ cs) = c ∷ text_part (next_in_text true c) cs
+text_part false (c ∷ cs) = text_part (next_in_text false c) cs
 
 -- whether a line's number is written
 abbrev pub has_number : LineSpot → Bool

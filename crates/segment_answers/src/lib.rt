@@ -1,8 +1,8 @@
 //! Outputs that are told of the lines of a script which they answer.
 #![tactic(auto)]
 
-mod lined;
-mod numbering;
+mod line_output;
+mod numbered_output;
 
-pub use lined::Lined;
-pub use numbering::Numbered;
+pub use line_output::LineOutput;
+pub use numbered_output::NumberedOutput;

@@ -11,20 +11,20 @@ use Rattle.segment_manager.specs.{Answers.Answer, Answers.refusal_of, containers
 use Rattle.segment_manager.specs.State.{TakesStep, TakesStepOfKind, UnchangedIfRefused, SegmentState}
 
 -- which step of the machine it is
-abbrev pub IsChange : ObjectChange → Key → SegmentState → SegmentState → Answer → Type 0
-IsChange (Erase index) key s t answer = TakesStep s t (EraseAt key index) answer
-IsChange PopText key s t answer = LeadsOnOfKind s t key StringsKind (Pop key) (refusal_of answer)
-IsChange Trim key s t answer = TakesStep s t (Shrink key) answer
-IsChange Clear key s t answer = TakesStep s t (ClearAll key) answer
-IsChange (AssignText text) key s t answer =
+abbrev pub ChangesObject : ObjectChange → Key → SegmentState → SegmentState → Answer → Type 0
+ChangesObject (Erase index) key s t answer = TakesStep s t (EraseAt key index) answer
+ChangesObject PopText key s t answer = LeadsOnOfKind s t key StringsKind (Pop key) (refusal_of answer)
+ChangesObject Trim key s t answer = TakesStep s t (Shrink key) answer
+ChangesObject Clear key s t answer = TakesStep s t (ClearAll key) answer
+ChangesObject (AssignText text) key s t answer =
     TakesStepOfKind s t key StringKind (Assign key (Quoted text.now ∷ [])) answer
-IsChange (Append text) key s t answer = TakesStepOfKind s t key StringKind (AppendTo key text.now) answer
-IsChange (SetText index text) key s t answer =
+ChangesObject (Append text) key s t answer = TakesStepOfKind s t key StringKind (AppendTo key text.now) answer
+ChangesObject (SetText index text) key s t answer =
     TakesStepOfKind s t key StringsKind (Set key index (Quoted text.now)) answer
-IsChange (PushText text) key s t answer = TakesStepOfKind s t key StringsKind (Push key (Quoted text.now)) answer
-IsChange (InsertText index text) key s t answer =
+ChangesObject (PushText text) key s t answer = TakesStepOfKind s t key StringsKind (Push key (Quoted text.now)) answer
+ChangesObject (InsertText index text) key s t answer =
     TakesStepOfKind s t key StringsKind (Insert key index (Quoted text.now)) answer
-IsChange (AssignTexts texts) key s t answer =
+ChangesObject (AssignTexts texts) key s t answer =
     TakesStepOfKind s t key StringsKind (Assign key (map Quoted (map (λ text. text.now) texts.now))) answer
 
 -- texts that find no room can leave other bytes in gaps; else what is refused changes nothing: of the states

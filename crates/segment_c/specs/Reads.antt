@@ -24,18 +24,18 @@ abbrev pub AreSizes : ℕ → ℕ → ℕ × ℕ → Type 0
 AreSizes len places sizes = (len ≡ sizes.0) × (places ≡ sizes.1)
 
 -- bytes stand at the front of a buffer, where it has room for them, and how many they are goes out in any case
-pub record IsCopied (bytes old new : List ℕ) (len code : ℕ) : Type 0 where
+pub record CopiesBytes (bytes old new : List ℕ) (len code : ℕ) : Type 0 where
   pub len_is : len ≡ length bytes
   pub saves : CopiesOut bytes old new code
 
 -- the same of bytes that may not be there
 abbrev pub Copies : List ℕ → List ℕ → ℕ → ℕ → Result (List ℕ) Refusal → Type 0
-Copies old new len code (Ok bytes) = IsCopied bytes old new len code
+Copies old new len code (Ok bytes) = CopiesBytes bytes old new len code
 Copies old new len code (Err why) = code ≡ refusal_number why
 
 -- the same of an answer, which is a text or a refusal
 abbrev pub CopiesAnswer : List ℕ → List ℕ → ℕ → ℕ → Answer → Type 0
-CopiesAnswer old new len code (TextElement bytes) = IsCopied bytes old new len code
+CopiesAnswer old new len code (TextElement bytes) = CopiesBytes bytes old new len code
 CopiesAnswer old new len code (Refused why) = code ≡ refusal_number why
 CopiesAnswer old new len code answer = ⊥
 

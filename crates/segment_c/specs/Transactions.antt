@@ -5,7 +5,7 @@ use Rattle.segment_manager.specs.{declared.modes.Mode.Mode, State.SegmentState, 
 use Rattle.grow_shrink.specs.Resized.{room_of}
 
 -- the segment with its bytes and its mode, wherever it lies
-pub record IsCopy (s t : SegmentState) : Type 0 where
+pub record CopiesSegment (s t : SegmentState) : Type 0 where
   pub bytes : t.cut.bytes ≡ s.cut.bytes
   pub mode : t.mode ≡ s.mode
 
@@ -22,7 +22,7 @@ rollback_code s copy =
     else 27
 
 -- the bytes are those of the copy, at the front of the segment's region, of which no other byte has changed
-pub record IsPutBack (s copy t : SegmentState) : Type 0 where
+pub record RollsBack (s copy t : SegmentState) : Type 0 where
   pub bytes : t.cut.bytes ≡ copy.cut.bytes
   pub place : SameSurroundings (cut_at (whole s.cut) 0 (length copy.cut.bytes)) t.cut
   pub mode : t.mode ≡ s.mode

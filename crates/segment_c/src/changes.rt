@@ -1,7 +1,7 @@
 //! Calls that change the object of a key, and answer a code alone.
 ghost use Rattle.seg_types.specs.Keys.{key_seen};
 ghost use Rattle.segment_c.specs.Calls.{PerformsCall};
-ghost use Rattle.segment_c.specs.Changing.{IsChange, LeavesHandle, LeavesOld};
+ghost use Rattle.segment_c.specs.Changing.{ChangesObject, LeavesHandle, LeavesOld};
 ghost use Rattle.segment_c.specs.Codes.{answer_for};
 ghost use Rattle.segment_c.specs.Passed.{key_of, key_wrong};
 ghost use Rattle.segment_c.specs.Marked.{RaisesMoves};
@@ -39,7 +39,7 @@ pub fn make_change(
     what: ObjectChange<'_>,
 ) -> u32
     ensures call { PerformsCall (key_wrong key.now) result h.old.segment.value h.new.segment.value (λ s t.
-        IsChange what.entry (key_of key.now) s t (answer_for result Done)) }
+        ChangesObject what.entry (key_of key.now) s t (answer_for result Done)) }
     ensures unchanged_on_error { LeavesHandle what.entry result h.old.segment.value h.new.segment.value }
     ensures marks { RaisesMoves result h.old.marks h.new.marks }
 {
@@ -49,7 +49,7 @@ pub fn make_change(
 
 /// Changes the object of a key in a segment.
 fn apply(segment: &mut Segment, key: &Key, what: ObjectChange<'_>) -> Result<(), Refusal>
-    ensures step { IsChange what.entry (key_seen key.now) segment.old segment.new (done_answer result) }
+    ensures step { ChangesObject what.entry (key_seen key.now) segment.old segment.new (done_answer result) }
     ensures refused { LeavesOld what.entry segment.old segment.new result }
 {
     match what {

@@ -7,7 +7,7 @@ ghost use Rattle.segment_c.specs.Codes.{answer_for, is_answer};
 ghost use Rattle.segment_c.specs.Marked.{raised};
 ghost use Rattle.segment_c.specs.Passed.{element_in};
 ghost use Rattle.segment_manager.specs.Answers.{Answer, Done, Found, Made, Refused, Truth};
-ghost use Rattle.segment_manager.specs.objects.Found.{found_answer, pair_answer};
+ghost use Rattle.segment_manager.specs.objects.Found.{found_answer, found_object_answer};
 ghost use Rattle.segment_manager.specs.containers.Maps.{any_value_answer};
 ghost use Rattle.segment_manager.specs.State.{done_answer, handle_answer, scalar_answer, truth_answer};
 
@@ -201,7 +201,7 @@ pub fn found(
     h: &mut SegmentSlot,
     segment: Box<Segment>,
 ) -> u32
-    ensures outcome { answer_for result (Found handle.new count.new) ≡ pair_answer found }
+    ensures outcome { answer_for result (Found handle.new count.new) ≡ found_object_answer found }
     ensures answer { IsTrue (is_answer result) }
     ensures unchanged_on_error { 1 ≤ result → (handle.new ≡ handle.old) × (count.new ≡ count.old) }
     ensures effect { h.new.segment.value ≡ Held segment.value }

@@ -18,7 +18,7 @@ use crate::codes::{ABSENT, DONE, NOT_FOUND, WRONG_KIND, code_of, truth, value_fo
 use crate::keys::ObjectKey;
 use crate::segment_slot::{SegmentSlot, put};
 use crate::values::CScalar;
-use seg_types::{Key, Kind, ScalarValue, Written};
+use seg_types::{Key, Kind, ScalarValue, WrittenValue};
 use segment_manager::unchecked::{first_pair, next_pair};
 use segment_manager::{Segment, locate};
 use std::alloc::Global;

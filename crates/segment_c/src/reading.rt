@@ -5,7 +5,7 @@ ghost use Rattle.seg_types.specs.Commands.{Get};
 ghost use Rattle.seg_types.specs.Keys.{key_seen};
 ghost use Rattle.segment_c.specs.Calls.{PerformsRead};
 ghost use Rattle.segment_c.specs.Passed.{key_of, key_wrong};
-ghost use Rattle.segment_c.specs.Reads.{AreSizes, Copies, CopiesAnswer, IsCoded, IsCopied};
+ghost use Rattle.segment_c.specs.Reads.{AreSizes, Copies, CopiesAnswer, IsCoded, CopiesBytes};
 ghost use Rattle.segment_manager.specs.containers.Contents.{bytes_at, sizes_at};
 ghost use Rattle.segment_manager.specs.Directory.{Directory};
 ghost use Rattle.segment_manager.specs.State.{DenotesCurrent};
@@ -129,7 +129,7 @@ fn read_text(segment: &Segment, key: &Key, index: u64, text: &mut [u8], len: &mu
 
 /// Copies bytes to the front of a buffer, if it has room for them. How many they are goes out.
 fn copy_text(bytes: &[u8], text: &mut [u8], len: &mut u64) -> u32
-    ensures copy { IsCopied bytes.now text.old text.new len.new result }
+    ensures copy { CopiesBytes bytes.now text.old text.new len.new result }
     ensures unchanged_on_error { 1 ≤ result → text.new ≡ text.old }
     ensures max_len { 1 ≤ result → result ≡ 24 }
 {

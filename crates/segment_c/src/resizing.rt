@@ -6,7 +6,7 @@ ghost use Rattle.raw_region.specs.Regions.{IsCapacity};
 ghost use Rattle.segment_c.specs.Calls.{RefusesClosed, RefusesArgument, HoldsSegment};
 ghost use Rattle.segment_c.specs.Growing.{IsGrowthCode, GrowsSegment, growing_code};
 ghost use Rattle.segment_c.specs.Opening.{capacity_wrong};
-ghost use Rattle.segment_c.specs.Resizing.{IsMoved, size_code};
+ghost use Rattle.segment_c.specs.Resizing.{MovesSegment, size_code};
 ghost use Rattle.segment_c.specs.Marked.{RaisesMoves};
 ghost use Rattle.segment_manager.specs.Directory.{Directory};
 ghost use Rattle.segment_manager.specs.blocks.Resized.{Resizes, grown, shrunk};
@@ -81,7 +81,7 @@ pub extern "C" fn zx_relocate(alloc: Global, h: &mut SegmentSlot, capacity: u64)
     ensures stop { RefusesArgument (capacity_wrong capacity) result h.old.segment.value h.new.segment.value }
     ensures closed { RefusesClosed (capacity_wrong capacity) result h.old.segment.value h.new.segment.value }
     ensures changes { (s : SegmentState) → h.old.segment.value ≡ Held s → result ≡ 0
-        → HoldsSegment h.new.segment.value (λ t. IsMoved s t capacity) }
+        → HoldsSegment h.new.segment.value (λ t. MovesSegment s t capacity) }
     ensures cause { (s : SegmentState) → capacity_wrong capacity ≡ 0 → h.old.segment.value ≡ Held s
         → h.old.marks.is_lent ≡ false → 1 ≤ result → ((result ≡ 27) × (capacity < length s.cut.bytes))
         ⊎ ((result ≡ 26) × (length s.cut.bytes ≤ capacity)) }
@@ -105,7 +105,7 @@ pub extern "C" fn zx_relocate(alloc: Global, h: &mut SegmentSlot, capacity: u64)
 /// Moves a segment to the front of a region of `capacity` bytes.
 fn relocate(alloc: Global, segment: &mut Segment, capacity: u64) -> u32
     requires { IsCapacity capacity }
-    ensures changes { result ≡ 0 → IsMoved segment.old segment.new capacity }
+    ensures changes { result ≡ 0 → MovesSegment segment.old segment.new capacity }
     ensures cause { 1 ≤ result → ((result ≡ 27) × (capacity < length segment.old.cut.bytes))
         ⊎ ((result ≡ 26) × (length segment.old.cut.bytes ≤ capacity)) }
     ensures unchanged_on_error { 1 ≤ result → segment.new ≡ segment.old }

@@ -5,7 +5,7 @@ ghost use Rattle.grow_shrink.specs.Resized.{room_of};
 ghost use Rattle.raw_region.specs.Memory.{SameSurroundings, cut_at, whole};
 ghost use Rattle.segment_c.specs.Calls.{RefusesClosed, HoldsSegment};
 ghost use Rattle.segment_c.specs.Marked.{RaisesMoves, PlacesSegment};
-ghost use Rattle.segment_c.specs.Transactions.{IsBeginCode, IsCopy, IsPutBack, rollback_code};
+ghost use Rattle.segment_c.specs.Transactions.{IsBeginCode, CopiesSegment, RollsBack, rollback_code};
 ghost use Rattle.segment_manager.specs.State.{IsSegment, SegmentState};
 ghost use Rattle.segment_manager.specs.Step.{is_read_only};
 
@@ -26,7 +26,7 @@ pub extern "C" fn zx_begin(alloc: Global, h: &mut SegmentSlot, before: &mut Segm
     ensures closed { RefusesClosed 0 result h.old.segment.value h.new.segment.value }
     ensures code { (s : SegmentState) → h.old.segment.value ≡ Held s → IsBeginCode s.mode result }
     ensures copy { (s : SegmentState) → h.old.segment.value ≡ Held s → result ≡ 0
-        → HoldsSegment before.new.segment.value (λ t. IsCopy s t) }
+        → HoldsSegment before.new.segment.value (λ t. CopiesSegment s t) }
     ensures unchanged { h.new.segment.value ≡ h.old.segment.value }
     ensures unchanged_on_error { 1 ≤ result → before.new.segment.value ≡ before.old.segment.value }
     ensures marks { h.new.marks ≡ h.old.marks }
@@ -46,7 +46,8 @@ pub extern "C" fn zx_begin(alloc: Global, h: &mut SegmentSlot, before: &mut Segm
 ///
 /// The code.
 fn copy_of(alloc: Global, segment: &Segment) -> Result<Box<Segment>, u32>
-    ensures { MatchResult result (λ copy. IsCopy segment.now copy.value × IsBeginCode segment.now.mode 0) (λ code.
+    ensures { MatchResult result (λ copy. CopiesSegment segment.now copy.value
+        × IsBeginCode segment.now.mode 0) (λ code.
         (1 ≤ code) × IsBeginCode segment.now.mode code) }
 {
     if is_read_only(segment) {
@@ -68,7 +69,7 @@ pub extern "C" fn zx_rollback(alloc: Global, h: &mut SegmentSlot, before: &mut S
         → result ≡ rollback_code s t }
     ensures return_path { (s t : SegmentState) → h.old.segment.value ≡ Held s → before.old.segment.value ≡ Held t
         → result ≡ 0
-        → HoldsSegment h.new.segment.value (λ u. IsPutBack s t u) × (before.new.segment.value ≡ NoSegment) }
+        → HoldsSegment h.new.segment.value (λ u. RollsBack s t u) × (before.new.segment.value ≡ NoSegment) }
     ensures unchanged_on_error { 1 ≤ result → (h.new.segment.value ≡ h.old.segment.value)
         × (before.new.segment.value ≡ before.old.segment.value) }
     ensures marks { RaisesMoves result h.old.marks h.new.marks }

@@ -19,8 +19,8 @@ use seg_types::Key;
 use segment_manager::{Mode, Segment};
 use std::alloc::Global;
 
-/// Elements that stand one after another. The fields say where the first stands, its offset in the segment, how many
-/// there are, the handle's counter of changes, and the code of their kind.
+/// Elements that stand one after another: where the first of them stands, and where it begins from the front of the
+/// segment on, how many they are, the handle's counter of changes, and the code of their kind.
 #[repr(C)]
 #[derive(Clone, Copy)]
 pub struct CView {
@@ -49,10 +49,14 @@ pub extern "C" fn zx_view(
     ensures marks { h.new.marks ≡ h.old.marks }
 {
     let (which, segment) = passed!(enter(alloc, h, key));
-    put(look(&segment, &which, h.marks.changes, view), h, segment)
+    put(
+        fill_view(&segment, &which, h.marks.changes, view),
+        h,
+        segment,
+    )
 }
 
-/// Says where the elements of the object of a key stand, for C to write there; the handle notes it.
+/// The same of elements that C is to write there, which the handle notes.
 #[unsafe(no_mangle)]
 pub extern "C" fn zx_view_mut(
     alloc: Global,
@@ -69,15 +73,15 @@ pub extern "C" fn zx_view_mut(
     ensures marks { LendsRange result h.old.marks h.new.marks }
 {
     let (which, segment) = passed!(enter(alloc, h, key));
-    let code = look_mut(&segment, &which, h.marks.changes, view);
+    let code = fill_view_mut(&segment, &which, h.marks.changes, view);
     if code == DONE {
         h.marks.is_shared = true;
     }
     put(code, h, segment)
 }
 
-/// Fills a view of elements of a segment that C is to write.
-fn look_mut(segment: &Segment, key: &Key, changes: u64, view: &mut CView) -> u32
+/// The same of a segment.
+fn fill_view_mut(segment: &Segment, key: &Key, changes: u64, view: &mut CView) -> u32
     ensures read { (d : Directory) → DenotesCurrent segment.now.cut.bytes d
         → IsCoded (IsView view.new) result (writable segment.now.mode (run_at d (key_seen key.now))) }
     ensures bytes { result ≡ 0 → HasView segment.now (key_seen key.now) view.new }
@@ -87,11 +91,11 @@ fn look_mut(segment: &Segment, key: &Key, changes: u64, view: &mut CView) -> u32
     if segment.mode() == Mode::ReadOnly {
         return READ_ONLY;
     }
-    look(segment, key, changes, view)
+    fill_view(segment, key, changes, view)
 }
 
-/// Returns where the elements of an object of a segment stand.
-fn look(segment: &Segment, key: &Key, changes: u64, view: &mut CView) -> u32
+/// Where the elements of an object of a segment stand.
+fn fill_view(segment: &Segment, key: &Key, changes: u64, view: &mut CView) -> u32
     ensures read { (d : Directory) → DenotesCurrent segment.now.cut.bytes d
         → IsCoded (IsView view.new) result (run_at d (key_seen key.now)) }
     ensures bytes { result ≡ 0 → HasView segment.now (key_seen key.now) view.new }
@@ -113,7 +117,7 @@ fn look(segment: &Segment, key: &Key, changes: u64, view: &mut CView) -> u32
     }
 }
 
-/// Returns where the first of the bytes stands.
+/// Where the first of the bytes stands.
 fn start_of(bytes: &[u8]) -> *const u8
     ensures { result ≡ block_ptr bytes.entry.ref_ptr.0 bytes.entry.ref_ptr.1 }
 {

@@ -76,6 +76,6 @@ status_of (Session f) = session_status f
 
 -- all of the text went out and no write failed, or one failed and some of the text went out, from the first byte on,
 -- but not all
-abbrev pub Puts : WriterHistory → WriterHistory → List ℕ → Type 0
-Puts old new text = ((new.failures ≡ old.failures) × (new.bytes ≡ old.bytes ++ text))
+abbrev pub WritesText : WriterHistory → WriterHistory → List ℕ → Type 0
+WritesText old new text = ((new.failures ≡ old.failures) × (new.bytes ≡ old.bytes ++ text))
     ⊎ ((new.failures ≡ old.failures + 1) × AppendsProperPrefix old.bytes new.bytes text)

@@ -12,16 +12,16 @@ use Rattle.segment_cli.specs.Beginning.{run_fault}
 
 module _ (until : Until) (old new : SegmentState) (script : ReadDelta) (out : WriteDelta) where
   -- from wherever the segment stood, the run came to this end
-  pub record IsServed (end : End) : Type 0 where
+  pub record ServesOk (end : End) : Type 0 where
     pub left : (at : MachineState) → IsMachineAt old at
         → LeavesUntil answer_line (stops_at until refuses_line) at script out (IsMachineAt new) (Ok end)
 
   -- the run failed, and this is its fault by its name in a session
-  pub record IsUnserved (fault : SessionFault) : Type 0 where
+  pub record ServesErr (fault : SessionFault) : Type 0 where
     pub stop : RunFault
     pub why : fault ≡ run_fault stop
     pub left : (at : MachineState) → IsMachineAt old at
         → FailsOnTheWay answer_line (stops_at until refuses_line) at script out (IsMachineAt new) stop
 
   abbrev pub Serves : Result End SessionFault → Type 0
-  Serves result = MatchResult result IsServed IsUnserved
+  Serves result = MatchResult result ServesOk ServesErr

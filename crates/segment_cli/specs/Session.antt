@@ -12,7 +12,7 @@ use Rattle.segment_manager.specs.Calls.{HasZeroGaps}
 use Rattle.image_check.specs.Opening.{IsOutOfMemory, IsRefusedAs, IsTooSmallFor, IsUndecided, IsUntouched}
 use Rattle.image_check.specs.Passes.{IsMapRefused}
 use Rattle.image_check.specs.Saving.{IsSaved}
-use Rattle.segment_lang.specs.Language.{whole as whole_language}
+use Rattle.segment_lang.specs.Language.{whole_language as whole_language}
 use Rattle.segment_lang.specs.Reading.{reading}
 use Rattle.segment_cli.specs.declared.faults.Start.{Start}
 use Rattle.segment_cli.specs.declared.faults.Start.TheVariants.{Fresh, Image}

@@ -1,6 +1,6 @@
 //! What the program says of a fault, and the status that it ends with.
 ghost use Rattle.std.specs.Prelude.{◌≡◌, ◌++◌, ◌-◌, ◌^◌, ◌<◌, codes};
-ghost use Rattle.segment_cli.specs.Reports.{Puts, fault_text, growth_name, line, session_status, session_words};
+ghost use Rattle.segment_cli.specs.Reports.{WritesText, fault_text, growth_name, line, session_status, session_words};
 ghost use Rattle.segment_cli.specs.{Reports.status_of, declared.faults.SessionFault.TheVariants.Image};
 
 use crate::faults::{ProgramFault, SessionFault};
@@ -95,7 +95,7 @@ fn status_of(fault: ProgramFault) -> u8
 pub fn report<S: Sink>(fault: ProgramFault, err: &mut S) -> u8
     requires { (S.history err.old).failures < 2 ^ 64 - 1 }
     ensures status { result ≡ status_of fault }
-    ensures text { Puts (S.history err.old) (S.history err.new) (fault_text fault) }
+    ensures text { WritesText (S.history err.old) (S.history err.new) (fault_text fault) }
 {
     let _ = write_all(err, fault_line(fault));
     status_of(fault)

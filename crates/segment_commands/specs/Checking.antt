@@ -4,7 +4,7 @@ use Rattle.std.specs.Prelude.{codes, flat_map, fold, map}
 use Rattle.std.specs.List.{FoldsTo}
 use Rattle.std.specs.Ordering.{nat_cmp, ord_max}
 use Rattle.raw_region.specs.Device.{WriterHistory, Writes}
-use Rattle.segment_cli.specs.Reports.{Puts, line, session_status, session_words}
+use Rattle.segment_cli.specs.Reports.{WritesText, line, session_status, session_words}
 use Rattle.segment_cli.specs.declared.faults.SessionFault.{SessionFault}
 use Rattle.segment_cli.specs.declared.faults.SessionFault.TheVariants.{WriteFault}
 use Rattle.segment_commands.specs.declared.command_faults.CommandFault.{CommandFault}
@@ -73,7 +73,7 @@ pub record ChecksAll {D O : Type 0} (step : D → Event → D → Type 0) (disk 
     (quiet : Bool) (paths : List (List ℕ)) (result : Result ℕ CommandFault) : Type 0 where
   pub checked : List Checked
   pub asked : FoldsTo (λ d c d'. VerifiesFile step d d' c.path c.found) disk checked disk'
-  pub unfit : Puts err err' (all_unfit_lines checked)
+  pub unfit : WritesText err err' (all_unfit_lines checked)
   pub answer : MatchResult result
       (λ status. (map (λ c. c.path) checked ≡ paths) × (status ≡ worst_status checked)
       × FlushesText history flushes out out' (fit_lines quiet checked) true)

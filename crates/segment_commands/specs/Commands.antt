@@ -72,36 +72,37 @@ module _ {D : Type 0} (step : D → Event → D → Type 0) (old new : D) (path 
     pub answer : (fault : CommandFault) → result ≡ Err fault → fault ≡ Session WriteFault
 
   -- `create`
-  abbrev pub IsCreate : ℕ → Result (Unit {0}) CommandFault → Type 0
-  IsCreate size result = RefusesExisting result ⊎ (CreatesFileErr size result ⊎ CreatesFileOk size result)
+  abbrev pub RunsCreate : ℕ → Result (Unit {0}) CommandFault → Type 0
+  RunsCreate size result = RefusesExisting result ⊎ (CreatesFileErr size result ⊎ CreatesFileOk size result)
 
   -- ---- a file that is looked at
 
   -- the file has no segment, for this reason, and nothing was said
-  pub record IsUnfit {O : Type 0} (out out' : O) (result : Result (Unit {0}) CommandFault) : Type 0 where
+  pub record RefusesUnopened {O : Type 0} (out out' : O) (result : Result (Unit {0}) CommandFault) : Type 0 where
     pub fault : SessionFault
     pub opens : OpensFile step old new path ReadOnly (Err fault)
     pub silent : out' ≡ out
     pub refused : result ≡ Err (Session fault)
 
   -- the same where its image alone was checked
-  pub record IsRefused {O : Type 0} (out out' : O) (result : Result (Unit {0}) CommandFault) : Type 0 where
+  pub record RefusesUnverified {O : Type 0} (out out' : O) (result : Result (Unit {0}) CommandFault) : Type 0 where
     pub fault : SessionFault
     pub verifies : VerifiesFile step old new path (Err fault)
     pub silent : out' ≡ out
     pub refused : result ≡ Err (Session fault)
 
   -- the file has a segment, and `ok` was said
-  pub record IsFit {O : Type 0} (history : O → WriterHistory) (flushes : O → Bool → O
+  pub record ChecksFileOk {O : Type 0} (history : O → WriterHistory) (flushes : O → Bool → O
       → Type 0) (out out' : O) (result : Result (Unit {0}) CommandFault) : Type 0 where
     pub verifies : VerifiesFile step old new path (Ok tt)
     pub tells : WritesAndFlushes history flushes out out' (codes "ok\n") result
     pub answer : (fault : CommandFault) → result ≡ Err fault → fault ≡ Session WriteFault
 
   -- `check`: nothing is opened for writing
-  abbrev pub IsCheck : {O : Type 0} → (O → WriterHistory) → (O → Bool → O → Type 0) → O → O
+  abbrev pub RunsCheck : {O : Type 0} → (O → WriterHistory) → (O → Bool → O → Type 0) → O → O
       → Result (Unit {0}) CommandFault → Type 0
-  IsCheck history flushes out out' result = IsRefused out out' result ⊎ IsFit history flushes out out' result
+  RunsCheck history flushes out out' result = RefusesUnverified out out' result
+      ⊎ ChecksFileOk history flushes out out' result
 
 -- ---- what the program says of itself
 

@@ -8,11 +8,11 @@ use Rattle.image_check.specs.declared.classes.ImageClass.TheVariants.{BadObject,
 use Rattle.image_check.specs.declared.verdict.Verdict.{Verdict}
 use Rattle.segment_cli.specs.declared.faults.SessionFault.TheVariants.{Image as Refused, WriteFault}
 use Rattle.segment_disk.specs.Events.{Event}
-use Rattle.segment_file.specs.declared.file_errors.Unfit.{Unfit}
-use Rattle.segment_file.specs.declared.file_errors.Unfit.TheVariants.{Image}
-use Rattle.segment_file.specs.Opening.{ExaminesFile, unfit_error}
+use Rattle.segment_file.specs.declared.file_errors.OpenFault.{OpenFault}
+use Rattle.segment_file.specs.declared.file_errors.OpenFault.TheVariants.{Image}
+use Rattle.segment_file.specs.Opening.{ExaminesFile, open_fault_error}
 use Rattle.segment_commands.specs.declared.command_faults.CommandFault.{CommandFault}
-use Rattle.segment_commands.specs.Commands.{IsFit}
+use Rattle.segment_commands.specs.Commands.{ChecksFileOk}
 use Rattle.segment_commands.specs.Faults.{Session}
 use Rattle.segment_commands.specs.Opening.{session_fault}
 use Rattle.segment_commands.specs.Telling.{WritesAndFlushes}
@@ -46,15 +46,15 @@ explained_as class (Err e) = Err (Session WriteFault)
 module _ {D O : Type 0} (step : D → Event → D → Type 0) (old new : D) (path : List ℕ) (history : O
     → WriterHistory) (flushes : O → Bool → O → Type 0) (out out' : O) (result : Result (Unit {0}) CommandFault) where
   -- the file has no segment, for a reason that is no class, and nothing was said
-  pub record IsUnexplained : Type 0 where
-    pub unfit : Unfit
+  pub record ExplainsErr : Type 0 where
+    pub unfit : OpenFault
     pub why : ExaminesFile step old new path (Err unfit)
     pub other : (v : Verdict) → unfit ≢ Image v
     pub silent : out' ≡ out
-    pub refused : result ≡ Err (Session (session_fault (unfit_error unfit)))
+    pub refused : result ≡ Err (Session (session_fault (open_fault_error unfit)))
 
   -- the image is refused, and the line of its verdict was said; the answer is its class where all of it went out
-  pub record IsRefusedAloud : Type 0 where
+  pub record ExplainsVerdict : Type 0 where
     pub verdict : Verdict
     pub why : ExaminesFile step old new path (Err (Image verdict))
     pub said : Result (Unit {0}) CommandFault
@@ -62,5 +62,5 @@ module _ {D O : Type 0} (step : D → Event → D → Type 0) (old new : D) (pat
     pub answer : result ≡ explained_as verdict.class said
 
   -- nothing is opened for writing
-  abbrev pub IsExplain : Type 0
-  IsExplain = IsUnexplained ⊎ (IsRefusedAloud ⊎ IsFit step old new path history flushes out out' result)
+  abbrev pub RunsExplain : Type 0
+  RunsExplain = ExplainsErr ⊎ (ExplainsVerdict ⊎ ChecksFileOk step old new path history flushes out out' result)

@@ -1,6 +1,6 @@
 -- The faults of a program over sessions, as faults of a command, and those of memory that is refused.
 use Rattle.std.specs.Prelude.{◌≡◌, ℕ}
-use Rattle.raw_region.specs.Refusals.{refusal_of}
+use Rattle.raw_region.specs.Refusals.{out_of_memory_of}
 use Rattle.image_check.specs.declared.errors.MemoryFault.TheVariants.{Bytes}
 use Rattle.grow_shrink.specs.LargerRegion.{region_len}
 use Rattle.grow_shrink.specs.declared.refusals.GrowError.{GrowError}
@@ -26,7 +26,7 @@ Session f = Program (program.Session f)
 
 -- a request for so many bytes was refused; for a region with room for so many
 abbrev pub bytes_refused : ℕ → SessionFault
-bytes_refused asked = OutOfMemory (Bytes (refusal_of asked))
+bytes_refused asked = OutOfMemory (Bytes (out_of_memory_of asked))
 
 abbrev pub region_refused : ℕ → SessionFault
 region_refused room = bytes_refused (region_len room)

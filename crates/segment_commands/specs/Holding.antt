@@ -7,10 +7,10 @@ use Rattle.segment_file.specs.Holding.{RunsLocked}
 
 module _ {D : Type 0} (step : D → Event → D → Type 0) (old new : D) (path : List ℕ) where
   -- another has it: nothing else was asked of the disk, and nothing else was done
-  pub record IsInUse (is_idle : Type 0) (result : Result (Unit {0}) CommandFault) : Type 0 where
+  pub record RefusesInUse (is_idle : Type 0) (result : Result (Unit {0}) CommandFault) : Type 0 where
     pub asked : After step old (Held path false ∷ []) new
     pub idle : is_idle
     pub refused : result ≡ Err InUse
 
   abbrev pub HoldsLock : Type 0 → (D → D → Type 0) → Result (Unit {0}) CommandFault → Type 0
-  HoldsLock is_idle does result = IsInUse is_idle result ⊎ RunsLocked step old new path does
+  HoldsLock is_idle does result = RefusesInUse is_idle result ⊎ RunsLocked step old new path does

@@ -2,7 +2,7 @@
 use Rattle.std.specs.Prelude.{◌≡◌, ◌≢◌, ◌⊎◌, ◌^◌, ◌<◌, ◌≤◌, ⊤, ℕ, true, false, List, [], ◌∷◌, Option, Some, None}
 use Rattle.std.specs.Prelude.{Result, Ok, Err, MatchResult, length, min}
 use Rattle.raw_region.specs.Device.{ReaderHistory, ReadDelta, read_delta}
-use Rattle.raw_region.specs.Refusals.{refusal_of}
+use Rattle.raw_region.specs.Refusals.{out_of_memory_of}
 use Rattle.block_tags.specs.Format.{is_legal_size}
 use Rattle.segment_manager.specs.Directory.{Directory}
 use Rattle.segment_manager.specs.State.{SegmentState, DenotesCurrent}
@@ -51,7 +51,8 @@ abbrev pub IsWhyUnread : ReadDelta → SessionFault → Type 0
 IsWhyUnread given (Refused c) = ⊥
 IsWhyUnread given BadSize = ⊥
 IsWhyUnread given RegionTooSmall = ⊥
-IsWhyUnread given (OutOfMemory (Bytes refusal)) = (given.failed ≡ false) × (refusal ≡ refusal_of (length given.bytes))
+IsWhyUnread given (OutOfMemory (Bytes refusal)) =
+    (given.failed ≡ false) × (refusal ≡ out_of_memory_of (length given.bytes))
 IsWhyUnread given (OutOfMemory (BlockMap refusal)) = ⊥
 IsWhyUnread given ReadFault = given.failed ≡ true
 IsWhyUnread given WriteFault = ⊥
@@ -121,7 +122,7 @@ IsSizeFit (Some size) = is_legal_size size ≡ true
 
 module _ (size : Option ℕ) (script script' : ReaderHistory) (result : Result SegmentState CommandFault) where
   -- no segment has the size that was asked for, and nothing was read
-  pub record IsSizeUnfit : Type 0 where
+  pub record LoadsDumpBadSize : Type 0 where
     pub asked : ℕ
     pub asks : size ≡ Some asked
     pub illegal : is_legal_size asked ≡ false
@@ -129,14 +130,14 @@ module _ (size : Option ℕ) (script script' : ReaderHistory) (result : Result S
     pub refused : result ≡ Err (Session BadSize)
 
   -- the dump was not read whole
-  pub record IsDumpUnread : Type 0 where
+  pub record LoadsDumpUnread : Type 0 where
     pub fit : IsSizeFit size
     pub fault : SessionFault
     pub why : IsWhyUnread (read_delta script script') fault
     pub refused : result ≡ Err (Session fault)
 
   -- it was read whole, and a segment was made of it or not
-  pub record IsDumpRead : Type 0 where
+  pub record LoadsDumpRead : Type 0 where
     pub fit : IsSizeFit size
     pub text : List ℕ
     pub read : IsReadWhole (read_delta script script') text
@@ -144,7 +145,7 @@ module _ (size : Option ℕ) (script script' : ReaderHistory) (result : Result S
     pub makes : IsFitting text size → IsMadeIfGiven result
 
   abbrev pub LoadsDump : Type 0
-  LoadsDump = IsSizeUnfit ⊎ (IsDumpUnread ⊎ IsDumpRead)
+  LoadsDump = LoadsDumpBadSize ⊎ (LoadsDumpUnread ⊎ LoadsDumpRead)
 
 -- ---- `load`
 
@@ -152,13 +153,13 @@ module _ {D : Type 0} (step : D → Event → D
     → Type 0) (old new : D) (path : List ℕ) (size : Option ℕ) (script script' : ReaderHistory)
     (result : Result (Unit {0}) CommandFault) where
   -- something is there under the path, and nothing else was asked for
-  pub record IsTakenLoad : Type 0 where
+  pub record LoadsNothing : Type 0 where
     pub asked : After step old (Looked path There ∷ []) new
     pub unasked : script' ≡ script
     pub refused : result ≡ Err Exists
 
   -- nothing is there, and no segment was made: no file is made
-  pub record IsNotLoadedTo : Type 0 where
+  pub record LoadsToErr : Type 0 where
     pub found : Presence
     pub free : found ≢ There
     pub asked : After step old (Looked path found ∷ []) new
@@ -167,7 +168,7 @@ module _ {D : Type 0} (step : D → Event → D
     pub refused : result ≡ Err fault
 
   -- nothing is there, and the image of the segment was written to a new file
-  pub record IsLoadedTo : Type 0 where
+  pub record LoadsToOk : Type 0 where
     pub found : Presence
     pub free : found ≢ There
     pub looked : D
@@ -177,11 +178,11 @@ module _ {D : Type 0} (step : D → Event → D
     pub writes : WritesImage step looked new New path segment.cut.bytes result
     pub answer : (fault : CommandFault) → result ≡ Err fault → fault ≡ Session WriteFault
 
-  abbrev pub IsLoad : Type 0
-  IsLoad = IsTakenLoad ⊎ (IsNotLoadedTo ⊎ IsLoadedTo)
+  abbrev pub RunsLoad : Type 0
+  RunsLoad = LoadsNothing ⊎ (LoadsToErr ⊎ LoadsToOk)
 
   -- Where a dump was read that fits, of whatever segment, and with whatever notes, its segment is in the file, but for
   -- something that is there, memory that is not given, or a file that cannot be written.
   pub record LoadsWhatFits : Type 0 where
     pub loads : (text : List ℕ) → IsReadWhole (read_delta script script') text → IsFitting text size
-        → IsTakenLoad ⊎ (((fault : CommandFault) × IsNoMemory fault × (result ≡ Err fault)) ⊎ IsLoadedTo)
+        → LoadsNothing ⊎ (((fault : CommandFault) × IsNoMemory fault × (result ≡ Err fault)) ⊎ LoadsToOk)

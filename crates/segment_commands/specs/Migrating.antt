@@ -15,8 +15,8 @@ use Rattle.segment_commands.specs.Opening.{OpensWith}
 use Rattle.segment_commands.specs.Telling.{WritesAndFlushes}
 
 -- a writing that answers Ok
-abbrev pub written : (E : Type 0) → Result (Unit {0}) E
-written E = Ok tt
+abbrev pub written_ok : (E : Type 0) → Result (Unit {0}) E
+written_ok E = Ok tt
 
 module _ {D : Type 0} (step : D → Event → D → Type 0) (old new : D) (path : List ℕ) where
   -- the segment of a file of any of the three formats
@@ -24,7 +24,7 @@ module _ {D : Type 0} (step : D → Event → D → Type 0) (old new : D) (path 
   OpensAnyFile result = OpensWith step old new path All Write 0 result
 
   -- the file has no segment of any format, for this reason
-  pub record IsUnopenedMigration {O : Type 0} (out out' : O) (result : Result (Unit {0}) CommandFault) : Type 0 where
+  pub record MigratesUnopened {O : Type 0} (out out' : O) (result : Result (Unit {0}) CommandFault) : Type 0 where
     pub fault : SessionFault
     pub opens_file : OpensAnyFile (Err fault)
     pub silent : out' ≡ out
@@ -48,14 +48,14 @@ pub record MigratesFileOk {D O : Type 0} (step : D → Event → D
   pub segment : SegmentState
   pub read : D
   pub opens_file : OpensAnyFile step old read path (Ok segment)
-  pub writes : WritesImage step read new how path segment.cut.bytes (written CommandFault)
+  pub writes : WritesImage step read new how path segment.cut.bytes (written_ok CommandFault)
   pub tells : WritesAndFlushes history flushes out out' (codes "ok\n") result
   pub answer : (fault : CommandFault) → result ≡ Err fault → fault ≡ Session WriteFault
 
 -- `migrate`
-abbrev pub IsMigrate : {D O : Type 0} → (D → Event → D → Type 0) → D → D → List ℕ → CreateMode → (O → WriterHistory)
+abbrev pub RunsMigrate : {D O : Type 0} → (D → Event → D → Type 0) → D → D → List ℕ → CreateMode → (O → WriterHistory)
     → (O → Bool → O → Type 0) → O → O → Result (Unit {0}) CommandFault → Type 0
-IsMigrate step old new path how history flushes out out' result =
-    IsUnopenedMigration step old new path out out' result
+RunsMigrate step old new path how history flushes out out' result =
+    MigratesUnopened step old new path out out' result
     ⊎ (MigratesFileErr step old new path how out out' result
     ⊎ MigratesFileOk step old new path how history flushes out out' result)

@@ -16,15 +16,15 @@ use Rattle.segment_scripts.specs.declared.ends.Until.{Until}
 use Rattle.segment_commands.specs.Running.{RunsFile, RunsNewFile, RunsAnyFile}
 
 -- how the file of a segment that is saved comes to take its image, where it is there
-abbrev pub making_of : SaveMode → CreateMode
-making_of InPlace = Truncate
-making_of Replacing = Replacement
+abbrev pub create_mode_of : SaveMode → CreateMode
+create_mode_of InPlace = Truncate
+create_mode_of Replacing = Replacement
 
 module _ {D O : Type 0} (step : D → Event → D
     → Type 0) (old new : D) (path : List ℕ) (until : Until) (script script' : ReaderHistory) (history : O
     → WriterHistory) (flushes : Bool → Type 0) (out out' : O) (result : Result (Unit {0}) CommandFault) where
   -- a size is wanted and was not given; nothing was asked for
-  pub record IsWithoutSize : Type 0 where
+  pub record RefusesMissingSize : Type 0 where
     pub asked : new ≡ old
     pub unasked : script' ≡ script
     pub silent : out' ≡ out
@@ -33,14 +33,15 @@ module _ {D O : Type 0} (step : D → Event → D
   -- `run`
   abbrev pub RunsInMode : ModeName → Option ℕ → SaveMode → Type 0
   RunsInMode OpenOnly size saving =
-      RunsFile step old new path (making_of saving) until script script' history flushes out out' result Write
+      RunsFile step old new path (create_mode_of saving) until script script' history flushes out out' result Write
   RunsInMode OpenReadOnly size saving =
-      RunsFile step old new path (making_of saving) until script script' history flushes out out' result ReadOnly
+      RunsFile step old new path (create_mode_of saving) until script script' history flushes out out' result ReadOnly
   RunsInMode OpenCopyOnWrite size saving =
-      RunsFile step old new path (making_of saving) until script script' history flushes out out' result CopyOnWrite
+      RunsFile step old new path (create_mode_of saving) until script script' history flushes out out' result
+      CopyOnWrite
   RunsInMode CreateOnly (Some size) saving =
       RunsNewFile step old new path size until script script' history flushes out out' result
-  RunsInMode CreateOnly None saving = IsWithoutSize
+  RunsInMode CreateOnly None saving = RefusesMissingSize
   RunsInMode OpenOrCreate (Some size) saving =
-      RunsAnyFile step old new path size (making_of saving) until script script' history flushes out out' result
-  RunsInMode OpenOrCreate None saving = IsWithoutSize
+      RunsAnyFile step old new path size (create_mode_of saving) until script script' history flushes out out' result
+  RunsInMode OpenOrCreate None saving = RefusesMissingSize

@@ -9,8 +9,8 @@ use Rattle.segment_cli.specs.declared.faults.SessionFault.TheVariants.{Image as 
 use Rattle.segment_disk.specs.Events.{Event}
 use Rattle.segment_file.specs.declared.file_errors.FileError.{FileError}
 use Rattle.segment_file.specs.declared.file_errors.FileError.TheVariants.{Image, OutOfMemory as NoMemory}
-use Rattle.segment_file.specs.declared.file_errors.Unfit.{Unfit}
-use Rattle.segment_file.specs.Opening.{ExaminesFile, OpensFile as ReadsFile, unfit_error}
+use Rattle.segment_file.specs.declared.file_errors.OpenFault.{OpenFault}
+use Rattle.segment_file.specs.Opening.{ExaminesFile, OpensFile as ReadsFile, open_fault_error}
 
 -- why a file has no segment
 abbrev pub session_fault : FileError → SessionFault
@@ -22,9 +22,9 @@ abbrev pub as_session : Result SegmentState FileError → Result SegmentState Se
 as_session (Ok s) = Ok s
 as_session (Err error) = Err (session_fault error)
 
-abbrev pub as_checked : Result (Unit {0}) Unfit → Result (Unit {0}) SessionFault
+abbrev pub as_checked : Result (Unit {0}) OpenFault → Result (Unit {0}) SessionFault
 as_checked (Ok done) = Ok done
-as_checked (Err unfit) = Err (session_fault (unfit_error unfit))
+as_checked (Err unfit) = Err (session_fault (open_fault_error unfit))
 
 module _ {D : Type 0} (step : D → Event → D → Type 0) (old new : D) (path : List ℕ) where
   -- the file was read as images of these versions are, to a region with room for so many bytes more, and nothing else
@@ -41,6 +41,6 @@ module _ {D : Type 0} (step : D → Event → D → Type 0) (old new : D) (path 
 
   -- its image was checked: it has a segment, or this is why it has none
   pub record VerifiesFile (result : Result (Unit {0}) SessionFault) : Type 0 where
-    pub examined : Result (Unit {0}) Unfit
+    pub examined : Result (Unit {0}) OpenFault
     pub examines : ExaminesFile step old new path examined
     pub answer : result ≡ as_checked examined

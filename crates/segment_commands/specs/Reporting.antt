@@ -18,7 +18,7 @@ use Rattle.segment_dump.specs.Texts.{dump_text}
 use Rattle.segment_report.specs.Page.{page_of}
 use Rattle.segment_report.specs.Picture.{picture_of}
 use Rattle.segment_report.specs.Stat.{stat_text}
-use Rattle.segment_commands.specs.Commands.{IsUnfit}
+use Rattle.segment_commands.specs.Commands.{RefusesUnopened}
 use Rattle.segment_commands.specs.Opening.{OpensFile}
 use Rattle.segment_commands.specs.Telling.{WritesAndFlushes}
 
@@ -41,12 +41,12 @@ module _ {D O : Type 0} (step : D → Event → D → Type 0) (old new : D) (pat
     → WriterHistory) (flushes : O → Bool → O → Type 0) (out out' : O)
     (text : Directory → List ℕ) (result : Result (Unit {0}) CommandFault) where
   -- the file has a segment, and the text of its directory was said
-  pub record IsReported : Type 0 where
+  pub record ReportsOk : Type 0 where
     pub segment : SegmentState
     pub opens : OpensFile step old new path ReadOnly (Ok segment)
     pub tells : WritesTextOf history flushes out out' segment text result
     pub answer : (fault : CommandFault) → result ≡ Err fault → fault ≡ Session WriteFault
 
   -- `stat`, `draw` and `dump`: nothing is opened for writing
-  abbrev pub IsReport : Type 0
-  IsReport = IsUnfit step old new path out out' result ⊎ IsReported
+  abbrev pub RunsReport : Type 0
+  RunsReport = RefusesUnopened step old new path out out' result ⊎ ReportsOk

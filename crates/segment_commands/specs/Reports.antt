@@ -10,7 +10,7 @@ use Rattle.segment_commands.specs.declared.command_faults.CommandFault.TheVarian
 use Rattle.segment_lang.specs.Texts.{quoted_text}
 use Rattle.segment_disk.specs.declared.presence.FileProblem.{FileProblem}
 use Rattle.segment_disk.specs.declared.presence.FileProblem.TheVariants.{Missing, NoParentFolder, Unnamed, Folder}
-use Rattle.segment_disk.specs.declared.presence.FileProblem.TheVariants.{Denied, Taken}
+use Rattle.segment_disk.specs.declared.presence.FileProblem.TheVariants.{Denied, Exists}
 
 -- ---- the line of a fault
 
@@ -51,7 +51,7 @@ trouble_words NoParentFolder = codes ": no such folder\n"
 trouble_words Unnamed = codes ": is no name of a file\n"
 trouble_words Folder = codes ": is a folder\n"
 trouble_words Denied = codes ": permission denied\n"
-trouble_words Taken = codes ": another file is there\n"
+trouble_words Exists = codes ": another file is there\n"
 
 abbrev pub trouble_text : List ℕ → FileProblem → List ℕ
 trouble_text path trouble = codes "segment: " ++ (quoted_text path ++ (trouble_words trouble ++ []))

@@ -43,8 +43,8 @@ abbrev pub size_line : ℕ → List ℕ
 size_line size = codes "size " ++ decimal size ++ 0x0A ∷ []
 
 -- a telling that answers Ok
-abbrev pub told : (E : Type 0) → Result (Unit {0}) E
-told E = Ok tt
+abbrev pub told_ok : (E : Type 0) → Result (Unit {0}) E
+told_ok E = Ok tt
 
 -- what the command `size` answers of a segment was said
 pub record TellsSize {O E : Type 0} (history : O → WriterHistory) (flushes : O → Bool → O
@@ -57,7 +57,7 @@ module _ {D O : Type 0} (step : D → Event → D
     → Type 0) (old new : D) (path : List ℕ) (how : CreateMode) (history : O → WriterHistory) (flushes : O → Bool → O
     → Type 0) (out out' : O) where
   -- the size did not go out, and the disk was not asked for anything
-  pub record IsUntold {E : Type 0} (s : SegmentState) (result : Result (Unit {0}) E) : Type 0 where
+  pub record TellsSizeErr {E : Type 0} (s : SegmentState) (result : Result (Unit {0}) E) : Type 0 where
     pub fault : E
     pub refused : result ≡ Err fault
     pub tells : TellsSize history flushes out out' s result
@@ -65,21 +65,21 @@ module _ {D O : Type 0} (step : D → Event → D
 
   -- the size went out, and then the image was written
   pub record TellsSizeAndWrites {E : Type 0} (s : SegmentState) (result : Result (Unit {0}) E) : Type 0 where
-    pub tells : TellsSize history flushes out out' s (told E)
+    pub tells : TellsSize history flushes out out' s (told_ok E)
     pub writes : WritesImage step old new how path s.cut.bytes result
 
   abbrev pub TellsAndWrites : {E : Type 0} → SegmentState → Result (Unit {0}) E → Type 0
-  TellsAndWrites s result = IsUntold s result ⊎ TellsSizeAndWrites s result
+  TellsAndWrites s result = TellsSizeErr s result ⊎ TellsSizeAndWrites s result
 
   -- the file has no segment, for this reason
-  pub record IsUnopenedResize (more : ℕ) (result : Result (Unit {0}) CommandFault) : Type 0 where
+  pub record ResizesUnopened (more : ℕ) (result : Result (Unit {0}) CommandFault) : Type 0 where
     pub fault : SessionFault
     pub opens : OpensWith step old new path Current Write more (Err fault)
     pub silent : out' ≡ out
     pub refused : result ≡ Err (Session fault)
 
   -- the segment does not become larger or smaller, for this reason, which is none of its region
-  pub record IsUnresized (more : ℕ) (why : SegmentState → Directory
+  pub record ResizesFileErr (more : ℕ) (why : SegmentState → Directory
       → Option GrowError) (result : Result (Unit {0}) CommandFault) : Type 0 where
     pub segment : SegmentState
     pub opens : OpensWith step old new path Current Write more (Ok segment)
@@ -103,11 +103,11 @@ pub record ResizesFile {D O : Type 0} (step : D → Event → D
   pub answer : (fault : CommandFault) → result ≡ Err fault → fault ≡ Session WriteFault
 
 -- `grow` and `shrink`
-abbrev pub IsResize : {D O : Type 0} → (D → Event → D → Type 0) → D → D → List ℕ → CreateMode → (O → WriterHistory)
+abbrev pub RunsResize : {D O : Type 0} → (D → Event → D → Type 0) → D → D → List ℕ → CreateMode → (O → WriterHistory)
     → (O → Bool → O → Type 0) → O → O
     → ℕ → (SegmentState → Directory → Option GrowError) → (Directory → Directory) → Result (Unit {0}) CommandFault
     → Type 0
-IsResize step old new path how history flushes out out' more why next result =
-    IsUnopenedResize step old new path how history flushes out out' more result
-    ⊎ (IsUnresized step old new path how history flushes out out' more why result
+RunsResize step old new path how history flushes out out' more why next result =
+    ResizesUnopened step old new path how history flushes out out' more result
+    ⊎ (ResizesFileErr step old new path how history flushes out out' more why result
     ⊎ ResizesFile step old new path how history flushes out out' more next result)

@@ -7,7 +7,7 @@ use Rattle.segment_manager.specs.declared.modes.Mode.{Mode}
 use Rattle.segment_manager.specs.declared.modes.Mode.TheVariants.{Write, ReadOnly, CopyOnWrite}
 use Rattle.segment_manager.specs.Directory.{Directory}
 use Rattle.segment_manager.specs.State.{SegmentState}
-use Rattle.segment_lang.specs.Language.{whole as whole_language}
+use Rattle.segment_lang.specs.Language.{whole_language as whole_language}
 use Rattle.segment_scripts.specs.declared.ends.End.{End}
 use Rattle.segment_scripts.specs.declared.ends.End.TheVariants.{Whole, Refused}
 use Rattle.segment_scripts.specs.declared.ends.Until.{Until}
@@ -22,14 +22,15 @@ use Rattle.segment_cli.specs.declared.faults.SessionFault.TheVariants.{ReadFault
 use Rattle.segment_commands.specs.declared.command_faults.CommandFault.{CommandFault}
 use Rattle.segment_commands.specs.declared.command_faults.CommandFault.TheVariants.{Stopped}
 use Rattle.segment_commands.specs.Faults.{Exists, Session}
-use Rattle.segment_cli.specs.Serving.{IsServed, IsUnserved}
+use Rattle.segment_cli.specs.Serving.{ServesOk, ServesErr}
 use Rattle.segment_cli.specs.Session.{StartsFrom, RunsSession}
 use Rattle.segment_disk.specs.declared.presence.CreateMode.{CreateMode}
 use Rattle.segment_disk.specs.declared.presence.CreateMode.TheVariants.{New, Replacement}
 use Rattle.segment_disk.specs.declared.presence.Presence.{Presence}
 use Rattle.segment_disk.specs.declared.presence.Presence.TheVariants.{Absent, There}
 use Rattle.segment_disk.specs.Events.{Event, Looked, After}
-use Rattle.segment_file.specs.Files.{WriteOutcome, Overtaken, NotMade, Closed, Offered, writes, whole, all_of, opens}
+use Rattle.segment_file.specs.Files.{WriteOutcome, Overtaken, NotMade, Closed, Offered, write_events, whole_outcome}
+use Rattle.segment_file.specs.Files.{all_of, open_events}
 use Rattle.segment_commands.specs.Holding.{HoldsLock}
 use Rattle.segment_file.specs.Opening.{file_region}
 use Rattle.segment_commands.specs.Opening.{OpensFile}
@@ -41,24 +42,25 @@ use Rattle.segment_commands.specs.Commands.{MakesSegment}
 module _ (until : Until) (old new : SegmentState) (script : ReadDelta) (out : WriteDelta) (Flushed : Bool
     → Type 0) where
   -- it was answered up to this end, and ok says whether all answers went out
-  pub record IsAnswered (end : End) (ok : Bool) : Type 0 where
-    pub served : IsServed until old new script out end
+  pub record AnswersScript (end : End) (ok : Bool) : Type 0 where
+    pub served : ServesOk until old new script out end
     pub flushed : Flushed ok
 
   -- it failed; what was answered was given out, if the output let it
   pub record StopsWithFault (fault : SessionFault) : Type 0 where
-    pub unserved : IsUnserved until old new script out fault
+    pub unserved : ServesErr until old new script out fault
     pub ok : Bool
     pub flushed : Flushed ok
 
   -- it was answered, and answers did not go out
-  pub record IsLost (fault : SessionFault) : Type 0 where
+  pub record LosesAnswers (fault : SessionFault) : Type 0 where
     pub why : fault ≡ WriteFault
     pub end : End
-    pub answered : IsAnswered end false
+    pub answered : AnswersScript end false
 
   abbrev pub RunsScript : Result End SessionFault → Type 0
-  RunsScript result = MatchResult result (λ end. IsAnswered end true) (λ fault. StopsWithFault fault ⊎ IsLost fault)
+  RunsScript result = MatchResult result (λ end. AnswersScript end true) (λ fault. StopsWithFault fault
+      ⊎ LosesAnswers fault)
 
 -- ---- a run, from the segment that it begins with
 
@@ -116,14 +118,14 @@ IsAnsweredTo act Refused = IsRefusedAct act
 -- what a run asks of the disk that saved this: in mode Write its file is made, emptied or replaced and takes it, and
 -- else nothing
 abbrev pub saving : Mode → CreateMode → List ℕ → List ℕ → List Event
-saving Write how path image = writes how path (whole how image)
+saving Write how path image = write_events how path (whole_outcome how image)
 saving ReadOnly how path image = []
 saving CopyOnWrite how path image = []
 
 module _ {D : Type 0} (step : D → Event → D
     → Type 0) (old new : D) (how : CreateMode) (path : List ℕ) (act : Act) (Flushed : Bool → Type 0) where
   -- all answers went out, and then, in mode Write, the image of the last directory was written
-  pub record IsSavedRun : Type 0 where
+  pub record EndsRunSaved : Type 0 where
     pub image : List ℕ
     pub asked : After step old (saving act.mode how path image) new
     pub ran : Ran act (all_of image) (Ok tt)
@@ -131,24 +133,24 @@ module _ {D : Type 0} (step : D → Event → D
     pub flushed : Flushed true
 
   -- the run ended behind a line that was refused, all answers went out, and the disk was not asked for anything
-  pub record IsRefusedRun : Type 0 where
+  pub record EndsRunRefused : Type 0 where
     pub asked : new ≡ old
     pub refused : IsRefusedAct act
     pub flushed : Flushed true
 
-  abbrev pub IsRun : End → Type 0
-  IsRun Whole = IsSavedRun
-  IsRun Refused = IsRefusedRun
+  abbrev pub EndsRunOk : End → Type 0
+  EndsRunOk Whole = EndsRunSaved
+  EndsRunOk Refused = EndsRunRefused
 
   -- the session was stopped, and the disk was not asked for anything
-  pub record IsStoppedRun (fault : SessionFault) : Type 0 where
+  pub record EndsRunStopped (fault : SessionFault) : Type 0 where
     pub asked : new ≡ old
     pub ran : Ran act (all_of []) (Err fault)
     pub ok : Bool
     pub flushed : Flushed ok
 
   -- all was answered up to an end, but not all answers went out, and the disk was not asked for anything
-  pub record IsLostRun (fault : SessionFault) : Type 0 where
+  pub record EndsRunLost (fault : SessionFault) : Type 0 where
     pub why : fault ≡ WriteFault
     pub asked : new ≡ old
     pub end : End
@@ -158,23 +160,24 @@ module _ {D : Type 0} (step : D → Event → D
   -- why the image is not in the file or need not last: another has its name, it could not be made or emptied, writing
   -- it failed, or all of it
   -- was written and need not last, or did not take the place of the old one
-  abbrev pub IsUnsavedFor : WriteOutcome → Type 0
-  IsUnsavedFor Overtaken = IsAnsweredAct act
-  IsUnsavedFor NotMade = IsAnsweredAct act
-  IsUnsavedFor (Closed taken lasts) = Ran act taken (Err WriteFault) ⊎ ((lasts ≡ false) × Ran act taken (Ok tt))
-  IsUnsavedFor (Offered image placed) = (how ≡ Replacement) × (placed ≡ false) × Ran act (all_of image) (Ok tt)
+  abbrev pub LeavesUnsaved : WriteOutcome → Type 0
+  LeavesUnsaved Overtaken = IsAnsweredAct act
+  LeavesUnsaved NotMade = IsAnsweredAct act
+  LeavesUnsaved (Closed taken lasts) = Ran act taken (Err WriteFault) ⊎ ((lasts ≡ false) × Ran act taken (Ok tt))
+  LeavesUnsaved (Offered image placed) = (how ≡ Replacement) × (placed ≡ false) × Ran act (all_of image) (Ok tt)
 
   -- all answers went out, and then the image did not reach its file, or need not last
-  pub record IsUnsavedRun (fault : SessionFault) : Type 0 where
+  pub record EndsRunUnsaved (fault : SessionFault) : Type 0 where
     pub why : fault ≡ WriteFault
     pub mode : act.mode ≡ Write
     pub flushed : Flushed true
     pub written : WriteOutcome
-    pub asked : After step old (writes how path written) new
-    pub unsaved : IsUnsavedFor written
+    pub asked : After step old (write_events how path written) new
+    pub unsaved : LeavesUnsaved written
 
   abbrev pub EndsRun : Result End SessionFault → Type 0
-  EndsRun result = MatchResult result IsRun (λ fault. IsStoppedRun fault ⊎ (IsLostRun fault ⊎ IsUnsavedRun fault))
+  EndsRun result = MatchResult result EndsRunOk (λ fault. EndsRunStopped fault
+      ⊎ (EndsRunLost fault ⊎ EndsRunUnsaved fault))
 
 -- the end of a run, as the program answers it
 abbrev pub as_program : Result End SessionFault → Result (Unit {0}) CommandFault
@@ -202,7 +205,7 @@ module _ {D : Type 0} (step : D → Event → D
     → Type 0) (old new : D) (path : List ℕ) (mode : Mode) (how : CreateMode) (until : Until)
     (script script' : ReaderHistory) where
   -- the file has no segment, for this reason; the script was not asked for
-  pub record IsUnopenedRun {O : Type 0} (out out' : O) (result : Result End SessionFault) : Type 0 where
+  pub record RunsOpenedErr {O : Type 0} (out out' : O) (result : Result End SessionFault) : Type 0 where
     pub fault : SessionFault
     pub opens_file : OpensFile step old new path mode (Err fault)
     pub unasked : script' ≡ script
@@ -211,14 +214,14 @@ module _ {D : Type 0} (step : D → Event → D
 
   -- the file was opened, read and closed, and the script ran on its segment, in a region with room for what the disk
   -- told of the file's length, and for what the image says
-  pub record IsOpenedRun {O : Type 0} (history : O → WriterHistory) (flushes : Bool
+  pub record RunsOpenedOk {O : Type 0} (history : O → WriterHistory) (flushes : Bool
       → Type 0) (out out' : O) (result : Result End SessionFault) : Type 0 where
     pub len : ℕ
     pub image : ReadDelta
     pub capacity : ℕ
     pub room : capacity ≡ file_region len 0 image.bytes
     pub read : D
-    pub asked : After step old (opens path len image) read
+    pub asked : After step old (open_events path len image) read
     pub ends : EndsRun step read new how path
         (record {
           start = Image;
@@ -234,7 +237,7 @@ module _ {D : Type 0} (step : D → Event → D
   abbrev pub RunsOpened : {O : Type 0} → (O → WriterHistory) → (Bool → Type 0) → O → O → Result End SessionFault
       → Type 0
   RunsOpened history flushes out out' result =
-      IsUnopenedRun out out' result ⊎ IsOpenedRun history flushes out out' result
+      RunsOpenedErr out out' result ⊎ RunsOpenedOk history flushes out out' result
 
 module _ {D O : Type 0} (step : D → Event → D
     → Type 0) (old new : D) (path : List ℕ) (how : CreateMode) (until : Until) (script script' : ReaderHistory)
@@ -265,7 +268,7 @@ module _ {D O : Type 0} (step : D → Event → D
 module _ {D : Type 0} (step : D → Event → D
     → Type 0) (old new : D) (path : List ℕ) (size : ℕ) (until : Until) (script script' : ReaderHistory) where
   -- no segment was made, for this reason: nothing was asked for
-  pub record IsUnmadeRun {O : Type 0} (out out' : O) (result : Result End SessionFault) : Type 0 where
+  pub record MakesRunErr {O : Type 0} (out out' : O) (result : Result End SessionFault) : Type 0 where
     pub fault : SessionFault
     pub why : MakesSegment size (Err fault)
     pub asked : new ≡ old
@@ -274,7 +277,7 @@ module _ {D : Type 0} (step : D → Event → D
     pub refused : result ≡ Err fault
 
   -- an empty segment was made, and the script ran on it; it is saved to a new file
-  pub record IsMadeRun {O : Type 0} (history : O → WriterHistory) (flushes : Bool
+  pub record MakesRunOk {O : Type 0} (history : O → WriterHistory) (flushes : Bool
       → Type 0) (out out' : O) (result : Result End SessionFault) : Type 0 where
     pub image : ReadDelta
     pub capacity : ℕ
@@ -291,10 +294,10 @@ module _ {D : Type 0} (step : D → Event → D
         flushes result
 
   abbrev pub MakesRun : {O : Type 0} → (O → WriterHistory) → (Bool → Type 0) → O → O → Result End SessionFault → Type 0
-  MakesRun history flushes out out' result = IsUnmadeRun out out' result ⊎ IsMadeRun history flushes out out' result
+  MakesRun history flushes out out' result = MakesRunErr out out' result ⊎ MakesRunOk history flushes out out' result
 
   -- something is there already, and nothing else was asked for
-  pub record IsTakenRun {O : Type 0} (out out' : O) (result : Result (Unit {0}) CommandFault) : Type 0 where
+  pub record RunsNothing {O : Type 0} (out out' : O) (result : Result (Unit {0}) CommandFault) : Type 0 where
     pub asked : After step old (Looked path There ∷ []) new
     pub unasked : script' ≡ script
     pub silent : out' ≡ out
@@ -313,7 +316,7 @@ pub record IsRunBehind {D : Type 0} (step : D → Event → D → Type 0) (old :
 abbrev pub RunsNewFile : {D O : Type 0} → (D → Event → D → Type 0) → D → D → List ℕ → ℕ → Until → ReaderHistory
     → ReaderHistory → (O → WriterHistory) → (Bool → Type 0) → O → O → Result (Unit {0}) CommandFault → Type 0
 RunsNewFile step old new path size until script script' history flushes out out' result =
-    IsTakenRun step old new path size until script script' out out' result
+    RunsNothing step old new path size until script script' out out' result
     ⊎ IsRunBehind step old path (λ found. found ≢ There) (λ looked.
     IsAnswerOf (MakesRun step looked new path size until script script' history flushes out out') result)
 

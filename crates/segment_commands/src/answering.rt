@@ -1,4 +1,4 @@
-//! The running of a script on a segment, whose image is saved after it.
+//! The running of a script on a segment, whose image is saved behind it.
 ghost use Rattle.std.specs.Prelude.{◌^◌, ◌-◌, ◌<◌, ℕ, Ok};
 ghost use Rattle.raw_region.specs.Device.{ReadDelta, read_delta, write_delta};
 ghost use Rattle.segment_manager.specs.declared.modes.Mode.{Mode as OpenMode};
@@ -7,7 +7,7 @@ ghost use Rattle.segment_disk.specs.Events.{IsFlushed};
 ghost use Rattle.segment_commands.specs.Running.{EndsRun, RunsScript};
 
 use raw_region::Source;
-use segment_answers::Lined;
+use segment_answers::LineOutput;
 use segment_cli::{SessionFault, serve};
 use segment_disk::{CreateMode, Disk};
 use segment_file::write_image;
@@ -19,7 +19,7 @@ use segment_scripts::{End, RunObserver, Until};
 #[derive(Drop)]
 pub(crate) struct Flushing;
 
-impl<O: Lined> RunObserver<O> for Flushing {
+impl<O: LineOutput> RunObserver<O> for Flushing {
     fn before_read(&mut self, out: &mut O) {
         let _ = out.flush();
     }
@@ -31,7 +31,7 @@ impl<O: Lined> RunObserver<O> for Flushing {
 
 /// Runs a script on a segment, and gives out all answers, also those before a fault. What was answered goes out before
 /// each read of the script.
-pub(crate) fn run_script<S: Source, O: Lined>(
+pub(crate) fn run_script<S: Source, O: LineOutput>(
     segment: &mut Segment,
     until: Until,
     script: &mut S,
@@ -53,9 +53,9 @@ pub(crate) fn run_script<S: Source, O: Lined>(
     }
 }
 
-/// Runs a script on a segment that is open, and gives out all answers. Then it writes the image to a file, in mode
-/// `Write`, unless the run ended at a refusal.
-pub(crate) fn answer_and_save<D: Disk, S: Source, O: Lined>(
+/// Runs a script on a segment that is open, gives out all answers, and then, in mode `Write` and where the run did not
+/// end at a refusal, writes the image to a file.
+pub(crate) fn answer_and_save<D: Disk, S: Source, O: LineOutput>(
     disk: &mut D,
     path: &str,
     how: CreateMode,

@@ -2,8 +2,9 @@
 ghost use Rattle.std.specs.Prelude.{◌≡◌, ◌^◌, ◌-◌, ◌<◌, OnOk};
 ghost use Rattle.grow_shrink.specs.Resized.{IsRefusedBy};
 ghost use Rattle.segment_manager.specs.blocks.Resized.{Resizes};
-ghost use Rattle.segment_commands.specs.{Changing.Changes, Holding.HoldsLock, Migrating.IsMigrate, Modes.making_of};
-ghost use Rattle.segment_commands.specs.Resizing.{IsResize, TellsAndWrites, TellsSize, more_by, next_by, refusal_by};
+ghost use Rattle.segment_commands.specs.{Changing.Changes, Holding.HoldsLock, Migrating.RunsMigrate};
+ghost use Rattle.segment_commands.specs.{Modes.create_mode_of};
+ghost use Rattle.segment_commands.specs.Resizing.{RunsResize, TellsAndWrites, TellsSize, more_by, next_by, refusal_by};
 ghost use Rattle.segment_commands.specs.{Resizing.size_line, Telling.WritesAndFlushes};
 
 use crate::command_faults::CommandFault;
@@ -95,7 +96,7 @@ fn resize_held<D: Disk, O: Output>(
     out: &mut O,
 ) -> Result<(), CommandFault>
     requires { (O.history out.old).failures < 2 ^ 64 - 1 }
-    ensures { IsResize D.step disk.old disk.new path.now making O.history O.flushes out.old out.new
+    ensures { RunsResize D.step disk.old disk.new path.now making O.history O.flushes out.old out.new
         (more_by how) (refusal_by how) (next_by how) result }
 {
     let mut segment = open_segment(alloc, disk, path, Mode::Write, more_for(how))?;
@@ -113,7 +114,7 @@ fn migrate_held<D: Disk, O: Output>(
     out: &mut O,
 ) -> Result<(), CommandFault>
     requires { (O.history out.old).failures < 2 ^ 64 - 1 }
-    ensures { IsMigrate D.step disk.old disk.new path.now making O.history O.flushes out.old out.new result }
+    ensures { RunsMigrate D.step disk.old disk.new path.now making O.history O.flushes out.old out.new result }
 {
     let segment = open_any_segment(alloc, disk, path, AcceptedVersions::All, Mode::Write, 0)?;
     write_image(disk, path, making, hold, &segment)?;
@@ -161,7 +162,7 @@ pub fn change<D: Disk, O: Output>(
 ) -> Result<(), CommandFault>
     requires { (O.history out.old).failures < 2 ^ 64 - 1 }
     ensures { HoldsLock D.step disk.old disk.new path.now (out.new ≡ out.old)
-        (λ held done. Changes D.step held done path.now (making_of saving) O.history O.flushes out.old out.new
+        (λ held done. Changes D.step held done path.now (create_mode_of saving) O.history O.flushes out.old out.new
         result change) result }
 {
     let making = making_for(saving);

@@ -2,7 +2,7 @@
 ghost use Rattle.std.specs.Prelude.{◌≡◌, ◌^◌, ◌-◌, ◌<◌, IsErr, IsOk, MatchResult, map};
 ghost use Rattle.raw_region.specs.Device.{Writes};
 ghost use Rattle.segment_commands.specs.Checking.{ChecksAll, TellsFit, reason_lines, status_in, unfit_lines};
-ghost use Rattle.segment_commands.specs.Commands.{IsCheck};
+ghost use Rattle.segment_commands.specs.Commands.{RunsCheck};
 
 use crate::command_faults::{CommandFault, WRITE_FAULT};
 use crate::opening::verify_segment;
@@ -18,7 +18,7 @@ use std::alloc::Global;
 ///
 /// # Errors
 ///
-/// Why the image is refused, `ReadFault` if the file can't be read, `OutOfMemory`, and `WriteFault` if the output
+/// Why the image is refused, `ReadFault` where the file can't be read, `OutOfMemory`, and `WriteFault` where the output
 /// fails.
 pub fn check<D: Disk, O: Output>(
     alloc: Global,
@@ -27,13 +27,14 @@ pub fn check<D: Disk, O: Output>(
     out: &mut O,
 ) -> Result<(), CommandFault>
     requires { (O.history out.old).failures < 2 ^ 64 - 1 }
-    ensures { IsCheck D.step disk.old disk.new path.now O.history O.flushes out.old out.new result }
+    ensures { RunsCheck D.step disk.old disk.new path.now O.history O.flushes out.old out.new result }
 {
     verify_segment(alloc, disk, path)?;
     Ok(write_and_flush(out, b"ok\n")?)
 }
 
-/// Says on standard output, after its path, that a file holds a segment, unless it holds none or nothing is to be said.
+/// Says on standard output, behind its path, that a file holds a segment, unless it holds none or nothing is to be
+/// said.
 fn tell_fit<O: Output>(
     path: &str,
     found: Result<(), SessionFault>,
@@ -53,7 +54,7 @@ fn tell_fit<O: Output>(
     Output::flush(out)
 }
 
-/// Says on standard error, after its path, why a file holds no segment, and in a line of its own what the disk said of
+/// Says on standard error, behind its path, why a file holds no segment, and in a line of its own what the disk said of
 /// it, if that is told.
 fn put_reason<S: Sink>(
     path: &str,
@@ -75,7 +76,7 @@ fn put_reason<S: Sink>(
     put_trouble(path, trouble, err)
 }
 
-/// Says why a file that was read holds no segment, unless a write failed before.
+/// The same of a file that may hold one: then, and behind a write that failed, nothing is said.
 fn put_unfit<S: Sink>(
     path: &str,
     found: Result<(), SessionFault>,
@@ -95,7 +96,7 @@ fn put_unfit<S: Sink>(
     put_reason(path, fault, trouble, err)
 }
 
-/// Returns the status of a file that is checked.
+/// The status of a file that is checked.
 fn status_in(found: Result<(), SessionFault>) -> u8
     ensures { result ≡ status_in found }
 {
@@ -105,14 +106,14 @@ fn status_in(found: Result<(), SessionFault>) -> u8
     }
 }
 
-/// Checks files one after another, and returns the worst status. Each line that is said of one begins with its path, as
+/// Checks files one after another, and answers the worst status. Each line that is said of one begins with its path, as
 /// a text of the language: of one that holds a segment on standard output, unless the check is quiet, and of one that
-/// holds none on standard error; after that line stands what `trouble_of` tells of the disk, if anything.
+/// holds none on standard error; behind that line stands what `problem_of` tells of the disk, if anything.
 ///
 /// # Errors
 ///
-/// `WriteFault` if the output fails: the files after are not checked then. Where standard error fails, nothing more is
-/// said there, and the status is the same.
+/// `WriteFault` where the output fails: the files behind are not checked then. Where standard error fails, nothing more
+/// is said there, and the status is the same.
 pub fn check_all<D: Disk, O: Output, E: Sink, F: Fn(&D) -> Option<FileProblem>>(
     alloc: Global,
     disk: &mut D,

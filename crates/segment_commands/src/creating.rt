@@ -1,5 +1,5 @@
 //! The command that makes an empty segment in a file.
-ghost use Rattle.segment_commands.specs.Commands.{IsCreate, MakesSegment};
+ghost use Rattle.segment_commands.specs.Commands.{RunsCreate, MakesSegment};
 
 use crate::command_faults::CommandFault;
 use block_tags::is_legal_size;
@@ -37,7 +37,7 @@ pub fn create<D: Disk>(
     path: &str,
     size: u64,
 ) -> Result<(), CommandFault>
-    ensures { IsCreate D.step disk.old disk.new path.now size result }
+    ensures { RunsCreate D.step disk.old disk.new path.now size result }
 {
     if disk.path_status(path) == Presence::There {
         return Err(CommandFault::Program(ProgramFault::Exists));

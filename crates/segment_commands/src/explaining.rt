@@ -1,7 +1,7 @@
 //! The command that tells why an image is refused, and where.
 ghost use Rattle.std.specs.Prelude.{◌≡◌, ◌^◌, ◌-◌, ◌<◌};
 ghost use Rattle.raw_region.specs.Device.{Writes};
-ghost use Rattle.segment_commands.specs.Explaining.{IsExplain, verdict_text, words_of as words_for};
+ghost use Rattle.segment_commands.specs.Explaining.{RunsExplain, verdict_text, words_of as words_for};
 ghost use Rattle.segment_commands.specs.Telling.{WritesAndFlushes};
 
 use crate::command_faults::CommandFault;
@@ -10,7 +10,7 @@ use image_check::{ImageClass, Verdict};
 use raw_region::{DeviceFault, Sink};
 use segment_cli::SessionFault;
 use segment_disk::{Disk, Output};
-use segment_file::{Unfit, examine_file};
+use segment_file::{OpenFault, examine_file};
 use segment_lang::{Piece, put_pieces};
 use std::alloc::Global;
 
@@ -76,17 +76,17 @@ pub fn explain<D: Disk, O: Output>(
     out: &mut O,
 ) -> Result<(), CommandFault>
     requires { (O.history out.old).failures < 2 ^ 64 - 1 }
-    ensures { IsExplain D.step disk.old disk.new path.now O.history O.flushes out.old out.new result }
+    ensures { RunsExplain D.step disk.old disk.new path.now O.history O.flushes out.old out.new result }
 {
     match examine_file(alloc, disk, path) {
         Ok(()) => Ok(write_and_flush(out, b"ok\n")?),
-        Err(Unfit::Image(verdict)) => {
+        Err(OpenFault::Image(verdict)) => {
             tell_verdict(out, verdict)?;
             Err(CommandFault::from(SessionFault::Image(verdict.class)))
         }
-        Err(Unfit::OutOfMemory(refusal)) => {
+        Err(OpenFault::OutOfMemory(refusal)) => {
             Err(CommandFault::from(SessionFault::OutOfMemory(refusal)))
         }
-        Err(Unfit::ReadFault) => Err(CommandFault::from(SessionFault::ReadFault)),
+        Err(OpenFault::ReadFault) => Err(CommandFault::from(SessionFault::ReadFault)),
     }
 }

@@ -3,7 +3,7 @@ ghost use Rattle.std.specs.Prelude.{◌≡◌, ◌^◌, ◌-◌, ◌<◌};
 ghost use Rattle.segment_manager.specs.{Directory.Directory, State.DenotesCurrent};
 ghost use Rattle.raw_region.specs.Device.{Writes};
 ghost use Rattle.segment_report.specs.Names.{names_text};
-ghost use Rattle.segment_commands.specs.Reporting.{IsReport, WritesTextOf, text_of};
+ghost use Rattle.segment_commands.specs.Reporting.{RunsReport, WritesTextOf, text_of};
 
 use crate::command_faults::CommandFault;
 use crate::opening::open_segment;
@@ -52,7 +52,7 @@ pub fn tell_segment<D: Disk, O: Output>(
     what: Report,
 ) -> Result<(), CommandFault>
     requires { (O.history out.old).failures < 2 ^ 64 - 1 }
-    ensures { IsReport D.step disk.old disk.new path.now O.history O.flushes out.old out.new (text_of what) result }
+    ensures { RunsReport D.step disk.old disk.new path.now O.history O.flushes out.old out.new (text_of what) result }
 {
     let segment = open_segment(alloc, disk, path, Mode::ReadOnly, 0)?;
     Ok(tell_report(out, &segment, what)?)
@@ -87,7 +87,7 @@ pub fn names<D: Disk, O: Output>(
     out: &mut O,
 ) -> Result<(), CommandFault>
     requires { (O.history out.old).failures < 2 ^ 64 - 1 }
-    ensures { IsReport D.step disk.old disk.new path.now O.history O.flushes out.old out.new
+    ensures { RunsReport D.step disk.old disk.new path.now O.history O.flushes out.old out.new
         (names_text prefix.now most) result }
 {
     let segment = open_segment(alloc, disk, path, Mode::ReadOnly, 0)?;

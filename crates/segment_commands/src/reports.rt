@@ -1,7 +1,7 @@
 //! What the program says of a fault, and the status that it ends with.
 ghost use Rattle.std.specs.Prelude.{◌≡◌, ◌-◌, ◌^◌, ◌<◌, codes};
 ghost use Rattle.raw_region.specs.Device.{Writes};
-ghost use Rattle.segment_cli.specs.Reports.{Puts, line};
+ghost use Rattle.segment_cli.specs.Reports.{WritesText, line};
 ghost use Rattle.segment_commands.specs.Reports.{bad_dump_line, command_status, command_text, dump_words};
 ghost use Rattle.segment_commands.specs.Reports.{no_space_line, trouble_line, trouble_words};
 
@@ -67,7 +67,7 @@ fn put_no_space<S: Sink>(needed: u64, err: &mut S) -> Result<(), DeviceFault>
 fn put_line<S: Sink>(line: &[u8], status: u8, err: &mut S) -> u8
     requires { (S.history err.old).failures < 2 ^ 64 - 1 }
     ensures status { result ≡ status }
-    ensures text { Puts (S.history err.old) (S.history err.new) line.now }
+    ensures text { WritesText (S.history err.old) (S.history err.new) line.now }
 {
     let _ = write_all(err, line);
     status
@@ -79,7 +79,7 @@ fn put_line<S: Sink>(line: &[u8], status: u8, err: &mut S) -> u8
 pub fn report<S: Sink>(fault: CommandFault, err: &mut S) -> u8
     requires { (S.history err.old).failures < 2 ^ 64 - 1 }
     ensures status { result ≡ command_status fault }
-    ensures text { Puts (S.history err.old) (S.history err.new) (command_text fault) }
+    ensures text { WritesText (S.history err.old) (S.history err.new) (command_text fault) }
 {
     match fault {
         CommandFault::Program(fault) => segment_cli::report(fault, err),
@@ -108,7 +108,7 @@ pub fn report<S: Sink>(fault: CommandFault, err: &mut S) -> u8
 pub fn report_no_memory<S: Sink>(err: &mut S) -> u8
     requires { (S.history err.old).failures < 2 ^ 64 - 1 }
     ensures status { result ≡ 4 }
-    ensures text { Puts (S.history err.old) (S.history err.new) (line (codes "out of memory")) }
+    ensures text { WritesText (S.history err.old) (S.history err.new) (line (codes "out of memory")) }
 {
     put_line(b"segment: out of memory\n", 4, err)
 }
@@ -123,7 +123,7 @@ fn trouble_words(trouble: FileProblem) -> &'static [u8]
         FileProblem::Unnamed => b": is no name of a file\n",
         FileProblem::Folder => b": is a folder\n",
         FileProblem::Denied => b": permission denied\n",
-        FileProblem::Taken => b": another file is there\n",
+        FileProblem::Exists => b": another file is there\n",
     }
 }
 

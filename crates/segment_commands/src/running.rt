@@ -1,7 +1,7 @@
 //! The command that runs a script on the segment in a file.
 ghost use Rattle.std.specs.Prelude.{◌≡◌, ◌+◌, ◌^◌, ◌-◌, ◌<◌, true, false};
 ghost use Rattle.segment_disk.specs.Events.{IsFlushed};
-ghost use Rattle.segment_commands.specs.{Modes.RunsInMode, Modes.making_of, Running.as_program};
+ghost use Rattle.segment_commands.specs.{Modes.RunsInMode, Modes.create_mode_of, Running.as_program};
 ghost use Rattle.segment_commands.specs.Running.{MakesRun, RunsAnyFile, RunsFile, RunsHeld, RunsNewFile, RunsOpened};
 
 use crate::answering::answer_and_save;
@@ -9,7 +9,7 @@ use crate::command_faults::CommandFault;
 use crate::creating::new_segment;
 use crate::opening::open_segment;
 use raw_region::Source;
-use segment_answers::Lined;
+use segment_answers::LineOutput;
 use segment_cli::{ProgramFault, SessionFault};
 use segment_disk::{CreateMode, Disk, Presence};
 use segment_invocation::{ModeName, SaveMode};
@@ -17,9 +17,9 @@ use segment_manager::Mode;
 use segment_scripts::{End, Until};
 use std::alloc::Global;
 
-/// Returns how a file that is there comes to take the image that is saved.
+/// How a file that is there comes to take the image that is saved.
 pub(crate) fn making_for(saving: SaveMode) -> CreateMode
-    ensures { result ≡ making_of saving }
+    ensures { result ≡ create_mode_of saving }
 {
     match saving {
         SaveMode::InPlace => CreateMode::Truncate,
@@ -39,7 +39,7 @@ pub(crate) fn making_for(saving: SaveMode) -> CreateMode
 /// go out, or if the file can't be made, emptied or replaced, takes not the whole image, or need not last. `Stopped` if
 /// the run ends at a line that is refused: its answer and all before went out, no line after it was executed, and
 /// nothing is saved. `InUse` if another has the right to write a file that is to be saved; the script is not read then.
-pub fn run<D: Disk, S: Source, O: Lined>(
+pub fn run<D: Disk, S: Source, O: LineOutput>(
     alloc: Global,
     disk: &mut D,
     path: &str,
@@ -73,8 +73,8 @@ pub fn run<D: Disk, S: Source, O: Lined>(
     run_on_file(alloc, disk, path, mode, how, until, script, out)
 }
 
-/// Tells whether a script can be read at all. A closed standard input can't, and a file that is opened then would take
-/// its place.
+/// Whether a script can be read at all. A closed standard input can't, and a file that is opened then would take its
+/// place.
 fn can_be_read<S: Source>(script: &mut S) -> bool
     requires { (S.history script.old).failures < 2 ^ 64 - 1 }
     ensures possible { result ≡ true → S.history script.new ≡ S.history script.old }
@@ -85,7 +85,7 @@ fn can_be_read<S: Source>(script: &mut S) -> bool
 
 /// Runs a script on the segment in a file, which is opened in a mode, gives out its answers, and saves it in mode
 /// `Write`.
-fn run_opened<D: Disk, S: Source, O: Lined>(
+fn run_opened<D: Disk, S: Source, O: LineOutput>(
     alloc: Global,
     disk: &mut D,
     path: &str,
@@ -105,8 +105,8 @@ fn run_opened<D: Disk, S: Source, O: Lined>(
     answer_and_save(disk, path, how, hold, &mut segment, until, script, out)
 }
 
-/// Runs a script on the segment in a file in mode `Write`, under the lock of the file.
-fn run_held<D: Disk, S: Source, O: Lined>(
+/// The same in mode `Write`, with the right to write the file.
+fn run_held<D: Disk, S: Source, O: LineOutput>(
     alloc: Global,
     disk: &mut D,
     path: &str,
@@ -129,7 +129,7 @@ fn run_held<D: Disk, S: Source, O: Lined>(
 
 /// Runs a script on the segment in a file, which is opened in a mode, and gives out its answers. In mode `Write` the
 /// file then takes the image; in the other modes nothing is opened for writing.
-fn run_on_file<D: Disk, S: Source, O: Lined>(
+fn run_on_file<D: Disk, S: Source, O: LineOutput>(
     alloc: Global,
     disk: &mut D,
     path: &str,
@@ -156,7 +156,7 @@ fn run_on_file<D: Disk, S: Source, O: Lined>(
 }
 
 /// Runs a script on an empty segment of `size` bytes, gives out its answers, and then writes the image to a new file.
-fn run_made<D: Disk, S: Source, O: Lined>(
+fn run_made<D: Disk, S: Source, O: LineOutput>(
     alloc: Global,
     disk: &mut D,
     path: &str,
@@ -177,7 +177,7 @@ fn run_made<D: Disk, S: Source, O: Lined>(
 }
 
 /// Runs a script on an empty segment of `size` bytes, in a file that must not be there.
-fn run_in_new_file<D: Disk, S: Source, O: Lined>(
+fn run_in_new_file<D: Disk, S: Source, O: LineOutput>(
     alloc: Global,
     disk: &mut D,
     path: &str,
@@ -198,7 +198,7 @@ fn run_in_new_file<D: Disk, S: Source, O: Lined>(
 }
 
 /// Runs a script on the segment in a file, and on an empty one of `size` bytes if no file is there.
-fn run_on_file_or_new<D: Disk, S: Source, O: Lined>(
+fn run_on_file_or_new<D: Disk, S: Source, O: LineOutput>(
     alloc: Global,
     disk: &mut D,
     path: &str,
@@ -219,7 +219,7 @@ fn run_on_file_or_new<D: Disk, S: Source, O: Lined>(
     run_on_file(alloc, disk, path, Mode::Write, how, until, script, out)
 }
 
-/// Returns what a run answered, as the program answers it.
+/// What a run answered, as the program answers it.
 fn answered(answer: Result<End, SessionFault>) -> Result<(), CommandFault>
     ensures { result ≡ as_program answer }
 {

@@ -1,3 +1,3 @@
 pub mod Events
-pub mod Outlets
-pub mod Troubles
+pub mod StdOutputs
+pub mod FileProblems

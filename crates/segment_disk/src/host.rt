@@ -2,12 +2,12 @@
 ghost use Rattle.std.specs.Prelude.{⊤};
 
 use crate::disk::{Disk, OpenedFile};
+use crate::file_problems::{creation_problem, problem_of};
 use crate::locks::{Identity, PAUSE, lock, lock_made, open_to_write, sync_file};
 use crate::presence::{AlreadyLocked, CreateMode, FileProblem, Presence};
 use crate::replacement_file::ReplacementFile;
 use crate::sparse::{SparseFile, longest_file};
 use crate::std_output::StdOutput;
-use crate::troubles::{making_trouble, trouble_of};
 use raw_region::DeviceFault;
 use raw_region::std_io::StdSource;
 use std::fs::{self, File, Metadata};
@@ -19,7 +19,7 @@ use std::time::{Clock, Duration};
 /// How often a disk asks in a second for the right to write a file.
 const TRIES: u64 = 1000 / PAUSE;
 
-/// The files of the system. A file is written through before it is closed, if it is one that can be.
+/// The files of the system. A file is written through before it is closed, where it is one that can be.
 #[derive(Drop)]
 pub struct HostDisk<'a, R: Files> {
     files: &'a R,
@@ -29,7 +29,7 @@ pub struct HostDisk<'a, R: Files> {
     trouble: Option<FileProblem>,
 }
 
-/// The right to write a file, which the system takes back if this is dropped.
+/// The right to write a file, which the system takes back where this is dropped.
 #[derive(Drop)]
 pub struct HostLock {
     /// The lock of the file, if it has one.
@@ -39,20 +39,20 @@ pub struct HostLock {
 }
 
 impl HostLock {
-    /// Returns the file that is locked, if one is.
+    /// The file that is locked, if one is.
     fn identity(&self) -> Option<Identity> {
         self.lock.as_ref().and_then(Identity::of)
     }
 }
 
 impl<'a, R: Files> HostDisk<'a, R> {
-    /// Makes the files, none of which was asked for yet.
+    /// The files, none of which was asked for yet.
     pub fn new(files: &'a R) -> HostDisk<'a, R> {
-        HostDisk::patient(files, 0)
+        HostDisk::with_wait(files, 0)
     }
 
-    /// Makes files that wait up to `wait` seconds for the right to write a file that another has.
-    pub fn patient(files: &'a R, wait: u64) -> HostDisk<'a, R> {
+    /// The same, which wait up to so many seconds for the right to write a file that another has.
+    pub fn with_wait(files: &'a R, wait: u64) -> HostDisk<'a, R> {
         HostDisk {
             files,
             wait,
@@ -60,8 +60,8 @@ impl<'a, R: Files> HostDisk<'a, R> {
         }
     }
 
-    /// Returns what the system said last of a file that was to be opened or made, where that says why it can't be read
-    /// or written.
+    /// What the system said last of a file that was to be opened or made, where that says why it can't be read or
+    /// written.
     pub fn trouble(&self) -> Option<FileProblem> {
         self.trouble
     }
@@ -106,7 +106,7 @@ impl<'a, R: Files<File = File> + AllocGlobal + Clock> HostDisk<'a, R> {
         }
     }
 
-    /// Tells whether another file has taken the name of the one that is locked.
+    /// Whether another file has taken the name of the one that is locked.
     fn is_taken(&self, path: &str, hold: &HostLock) -> bool {
         match (hold.identity(), Identity::at(self.files, path)) {
             (Some(held), Ok(named)) => held != named,
@@ -171,7 +171,7 @@ impl<'a, R: Files<File = File> + AllocGlobal + Clock> Disk for HostDisk<'a, R> {
                 Ok(OpenedFile { reader, len })
             }
             Err(error) => {
-                self.trouble = trouble_of(error.kind());
+                self.trouble = problem_of(error.kind());
                 Err(DeviceFault)
             }
         }
@@ -181,7 +181,7 @@ impl<'a, R: Files<File = File> + AllocGlobal + Clock> Disk for HostDisk<'a, R> {
 
     fn compare(&mut self, path: &str, hold: &HostLock) -> Result<(), DeviceFault> {
         if self.is_taken(path, hold) {
-            self.trouble = Some(FileProblem::Taken);
+            self.trouble = Some(FileProblem::Exists);
             return Err(DeviceFault);
         }
         Ok(())
@@ -200,7 +200,7 @@ impl<'a, R: Files<File = File> + AllocGlobal + Clock> Disk for HostDisk<'a, R> {
                 Ok(StdOutput::new(SparseFile::new(file, longest)))
             }
             Err(error) => {
-                self.trouble = making_trouble(error.kind(), path, how);
+                self.trouble = creation_problem(error.kind(), path, how);
                 Err(DeviceFault)
             }
         }

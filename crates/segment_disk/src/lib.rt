@@ -3,13 +3,13 @@
 #![tactic(auto)]
 
 mod disk;
+mod file_problems;
 mod host;
 mod locks;
 mod presence;
 mod replacement_file;
 mod sparse;
 mod std_output;
-mod troubles;
 
 pub use disk::{Disk, OpenedFile, Output};
 pub use host::{HostDisk, HostLock};

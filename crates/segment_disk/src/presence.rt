@@ -43,5 +43,5 @@ pub enum FileProblem {
     /// Its rights do not let it be.
     Denied,
     /// Another file has taken the name meanwhile.
-    Taken,
+    Exists,
 }

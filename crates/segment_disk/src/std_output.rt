@@ -32,9 +32,9 @@ pub struct StdOutput<W> {
 
 impl<W> Model for StdOutput<W> {
     ghost use Rattle.std.specs.Prelude.{◌≡◌};
-    ghost use Rattle.segment_disk.specs.Outlets.{OutletState};
+    ghost use Rattle.segment_disk.specs.StdOutputs.{StdOutputState};
 
-    ghost Value = { OutletState };
+    ghost Value = { StdOutputState };
 
     ghost view = { λ o. record {
       history = record { bytes = o.passed.history.bytes; failures = o.failures };

@@ -36,7 +36,7 @@ pub use Rattle.seg_types.specs.declared.kinds.ScalarKind.TheVariants.{I32, I64, 
 pub use Rattle.seg_types.specs.declared.refusals.Refusal.TheVariants.{NotFound, OutOfRange, WrongKind}
 pub use Rattle.seg_types.specs.declared.values.ScalarValue.{ScalarValue}
 pub use Rattle.seg_vector.specs.Vector.{OwnedText}
-pub use Rattle.segment_lang.specs.{Language.whole, Seen.bytes_said, Seen.word_of, Texts.number_text}
+pub use Rattle.segment_lang.specs.{Language.whole_language, Seen.bytes_said, Seen.word_of, Texts.number_text}
 pub use Rattle.segment_lang.specs.Laws.{NumbersAreDecimals, TextsAreSpelled, WholesAreDecimals}
 pub use Rattle.segment_lang.specs.Reading.{kind_of_word, number}
 pub use Rattle.segment_lang.specs.Words.{Bare, Text, Word, is_bare, number_of}
@@ -62,7 +62,8 @@ pub use Rattle.segment_manager.specs.declared.errors.CreateRefused.{CreateRefuse
 pub use Rattle.segment_manager.specs.declared.objects.instance_info.Instance.{Instance}
 pub use Rattle.segment_dump.specs.Builders.{AddsElement, AreLeft, BuildsAllObjects, Collects, FillsNew, HasIndexSlot}
 pub use Rattle.segment_dump.specs.Builders.{IsEmptyObject, IsFillable, CanBuildItem, IsVectorKind, PiecesLeft}
-pub use Rattle.segment_dump.specs.Builders.{ReadsElement, ReadsLength, ReadsPair, ReadsPiece, ReadsShape, StartsNext}
+pub use Rattle.segment_dump.specs.Builders.{ReadsElement, ReadsLength, ReadsPair, ReadsPiece, ReadsKindAndCount}
+pub use Rattle.segment_dump.specs.Builders.{StartsNext}
 pub use Rattle.segment_dump.specs.Builders.{StartsUnder, content_need, first_content}
 pub use Rattle.segment_dump.specs.Building.{AreSortedItems, EndBy, HasExactRoom, Head, HasBuiltItems, IsFilling, Site}
 pub use Rattle.segment_dump.specs.Building.{all_extents, class_words, count_class, has_item_key, item_key, key_in}
@@ -92,7 +93,7 @@ pub use Rattle.segment_dump.specs.DumpWrites.{WritesOf, all_text, where_anonymou
 pub use Rattle.segment_values.specs.{Asked.length_in, Layouts.count_at, Layouts.object_count}
 pub use Rattle.segment_dump.specs.Reads.{Any, AreLines, Breaks, HasNoEnd, IsWord, ParsesPrefix, Skips, ended, itself}
 pub use Rattle.segment_dump.specs.Texts.{content_text, dump_text, element_line, end_text, front_text, head_line}
-pub use Rattle.segment_dump.specs.Texts.{item_text, items_text, length_text, measure_text, pair_line, piece_lead}
+pub use Rattle.segment_dump.specs.Texts.{item_text, items_text, length_text, kind_and_count_text, pair_line, piece_lead}
 pub use Rattle.segment_dump.specs.Texts.{piece_line, piece_of, pieces_in, pieces_text, text_lines}
 pub use Rattle.segment_dump.specs.declared.faults.LoadError.TheVariants.{BadSize, LongText, NoSpace, RegionTooSmall}
 unfoldable pub use Rattle.std.specs.Fmt.{digits}

@@ -5,7 +5,7 @@ use Rattle.std.specs.Prelude.{◌≡◌, ◌≤◌, ℕ, List, [], ◌∷◌, �
 use Rattle.std.specs.List.{AllByRecursion}
 use Rattle.raw_region.specs.Format.{current}
 use Rattle.seg_types.specs.declared.kinds.Kind.{Kind}
-use Rattle.segment_lang.specs.{Language.whole, Reading.kind_named, Texts.number_text}
+use Rattle.segment_lang.specs.{Language.whole_language, Reading.kind_named, Texts.number_text}
 use Rattle.segment_dump.specs.{declared.needs.Needs.Needs, Reads.AreLines, Reads.lines_text}
 use Rattle.segment_dump.specs.Need.{all_needs, block_room, both, nothing, object_room, only_room}
 use Rattle.segment_dump.specs.Texts.{end_text, length_text, pieces_in}
@@ -28,7 +28,7 @@ abbrev pub CanName : List ℕ → ℕ → Type 0
 CanName bytes len = len ≤ length bytes
 
 abbrev pub NamesKind : List ℕ → Kind → Type 0
-NamesKind word kind = kind_named (whole current) word ≡ Some kind
+NamesKind word kind = kind_named (whole_language current) word ≡ Some kind
 
 -- a kind and a count, to the end of the line
 pub record IsMeasured (bytes : List ℕ) (measure : Kind × ℕ) : Type 0 where

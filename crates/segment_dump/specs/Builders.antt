@@ -37,7 +37,7 @@ pub record ReadsPair {E : Type 0} (k w : ScalarKind) (text rest : List ℕ) (res
 -- ---- objects that are filled
 
 -- in a segment, an object has the handle
-pub record IsHere (s : SegmentState) (h : ℕ) : Type 0 where
+pub record HasObjectAt (s : SegmentState) (h : ℕ) : Type 0 where
   pub segment : IsSegment s.cut.bytes
   pub object : AnswersWith s (λ d. is_object_at d h) true
 
@@ -148,12 +148,12 @@ pub record ReadsClass {E : Type 0} (text rest : List ℕ) (result : Result Class
   pub reads : (c : Class) (a : List ℕ) → next_word text ≡ Some (Bare (class_text c), a) → (result ≡ Ok c) × (rest ≡ a)
 
 -- a kind and a count come next, and no more
-pub record ReadsShape {E : Type 0} (text : List ℕ) (result : Result ObjectLine E) : Type 0 where
+pub record ReadsKindAndCount {E : Type 0} (text : List ℕ) (result : Result ObjectLine E) : Type 0 where
   pub reads : (kind : Kind) (n : ℕ) → IsCounted n → text ≡ 0x20 ∷ measure_words kind n
       → (at : ℕ) × (result ≡ Ok (record { kind = kind; count = n; at = at }))
 
 -- nothing is left
-pub record IsGone {E : Type 0} (text : List ℕ) (result : Result (Unit {0}) E) : Type 0 where
+pub record AcceptsEnd {E : Type 0} (text : List ℕ) (result : Result (Unit {0}) E) : Type 0 where
   pub gone : text ≡ [] → result ≡ Ok tt
 
 -- behind the words in front of its kind

@@ -4,7 +4,7 @@ use Rattle.seg_types.specs.{declared.kinds.Class.Class, declared.kinds.Kind.Kind
 use Rattle.seg_types.specs.declared.kinds.Class.TheVariants.{Anonymous, Named, Unique}
 use Rattle.seg_types.specs.Texts.{item_text as byte_text, name_text}
 use Rattle.segment_lang.specs.Texts.{number_text}
-use Rattle.segment_dump.specs.Texts.{measure_text}
+use Rattle.segment_dump.specs.Texts.{kind_and_count_text}
 
 -- no segment has more bytes
 abbrev pub IsSmall : ℕ → Type 0
@@ -25,7 +25,7 @@ abbrev pub IsLead : Class × List ℕ → Type 0
 IsLead (class, name) = (class ≢ Named → name ≡ []) × IsSmall (length name)
 
 abbrev pub measured : Kind × ℕ → List ℕ
-measured (kind, n) = measure_text kind n
+measured (kind, n) = kind_and_count_text kind n
 
 abbrev pub IsMeasure : Kind × ℕ → Type 0
 IsMeasure (kind, n) = IsSmall n

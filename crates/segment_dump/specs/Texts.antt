@@ -53,21 +53,21 @@ content_text (Map k v ps) = flat_map (pair_line k v) ps
 content_text (Strings ts) = flat_map text_lines ts
 
 -- kind and count, and the end of the line
-abbrev pub measure_text : Kind → ℕ → List ℕ
-measure_text kind n = kind_text kind ++ 0x20 ∷ number_text n ++ 0x0A ∷ []
+abbrev pub kind_and_count_text : Kind → ℕ → List ℕ
+kind_and_count_text kind n = kind_text kind ++ 0x20 ∷ number_text n ++ 0x0A ∷ []
 
 -- the line of an object: its class, its name where it has one, its kind, and how many elements there are
 abbrev pub head_line : Class → List ℕ → Kind → ℕ → List ℕ
-head_line Named name kind n = codes "named " ++ name_text name ++ 0x20 ∷ measure_text kind n
-head_line Unique name kind n = codes "unique " ++ measure_text kind n
-head_line Anonymous name kind n = codes "anonymous " ++ measure_text kind n
+head_line Named name kind n = codes "named " ++ name_text name ++ 0x20 ∷ kind_and_count_text kind n
+head_line Unique name kind n = codes "unique " ++ kind_and_count_text kind n
+head_line Anonymous name kind n = codes "anonymous " ++ kind_and_count_text kind n
 
 -- a line that tells an object: some bytes, its name where it has one, its kind, more bytes, and a number
-abbrev pub told_line : List ℕ → Class → List ℕ → Kind → List ℕ → ℕ → List ℕ
-told_line lead Named name kind between n =
+abbrev pub info_line : List ℕ → Class → List ℕ → Kind → List ℕ → ℕ → List ℕ
+info_line lead Named name kind between n =
     lead ++ (name_text name ++ (0x20 ∷ (kind_text kind ++ (between ++ (number_text n ++ 0x0A ∷ [])))))
-told_line lead Unique name kind between n = lead ++ (kind_text kind ++ (between ++ (number_text n ++ 0x0A ∷ [])))
-told_line lead Anonymous name kind between n = lead ++ (kind_text kind ++ (between ++ (number_text n ++ 0x0A ∷ [])))
+info_line lead Unique name kind between n = lead ++ (kind_text kind ++ (between ++ (number_text n ++ 0x0A ∷ [])))
+info_line lead Anonymous name kind between n = lead ++ (kind_text kind ++ (between ++ (number_text n ++ 0x0A ∷ [])))
 
 abbrev pub item_text : DumpItem → List ℕ
 item_text i = head_line i.class i.name (kind_of_content i.content) (count_of_content i.content)

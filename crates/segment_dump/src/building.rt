@@ -9,9 +9,10 @@ ghost use Rattle.segment_lang.specs.Seen.{bytes_said};
 ghost use Rattle.seg_types.specs.declared.kinds.Kind.{Kind as AnyKind};
 ghost use Rattle.seg_types.specs.declared.kinds.Kind.TheVariants.{Scalar as ScalarOf, Vector as VectorOf};
 ghost use Rattle.segment_manager.specs.State.{IsSegment, TakesStep, handle_answer};
-ghost use Rattle.segment_manager.specs.containers.Filled.{ConstructsObject, alike};
-ghost use Rattle.segment_dump.specs.Builders.{BuildsAllObjects, BuildsObject, IsCountOf, IsGone, IsHere, ReadsClass};
-ghost use Rattle.segment_dump.specs.Builders.{ReadsShape, StartsNamed, StartsNext, StartsUnder, first_content};
+ghost use Rattle.segment_manager.specs.containers.Filled.{ConstructsObject, equal_numbers};
+ghost use Rattle.segment_dump.specs.Builders.{BuildsAllObjects, BuildsObject, IsCountOf, AcceptsEnd, HasObjectAt};
+ghost use Rattle.segment_dump.specs.Builders.{ReadsClass};
+ghost use Rattle.segment_dump.specs.Builders.{ReadsKindAndCount, StartsNamed, StartsNext, StartsUnder, first_content};
 
 use crate::faults::{DumpFault, SyntaxError};
 use crate::filling::fill;
@@ -25,7 +26,7 @@ use segment_manager::{AnonymousInstance, ConstructKey, Segment, UniqueInstance};
 #[derive(Clone, Copy, Debug, PartialEq, Eq)]
 pub enum BuildError {
     /// The text is no dump.
-    Misfit(SyntaxError),
+    Syntax(SyntaxError),
     /// From here on the objects ask for more than what was counted of them.
     NoSpace(usize),
     /// The text that begins here is longer than what was counted of it.
@@ -36,11 +37,11 @@ impl From<SyntaxError> for BuildError {
     ghost from_gives = { λ misfit stop. ⊤ };
 
     fn from(misfit: SyntaxError) -> BuildError {
-        BuildError::Misfit(misfit)
+        BuildError::Syntax(misfit)
     }
 }
 
-/// What stands in the line of an object after its key.
+/// What stands in the line of an object behind its key.
 #[derive(Clone, Copy)]
 pub struct ObjectLine {
     /// The kind.
@@ -68,17 +69,17 @@ pub fn build(
         }
         build_object(segment, &mut words, lines, room, &mut scratch)?;
     }
-    Err(misfit(lines.at(), DumpFault::Cut))
+    Err(syntax_error(lines.at(), DumpFault::Cut))
 }
 
-/// Checks that nothing stands after the last line.
+/// Nothing stands behind the last line.
 fn finish(lines: &Lines<'_>) -> Result<(), BuildError>
-    ensures { IsGone lines.now result }
+    ensures { AcceptsEnd lines.now result }
 {
     if lines.is_empty() {
         return Ok(());
     }
-    Err(misfit(lines.at(), DumpFault::More))
+    Err(syntax_error(lines.at(), DumpFault::More))
 }
 
 /// Makes the object of a line, and of those that follow.
@@ -103,7 +104,7 @@ fn start_next(
     scratch: &mut LineBuffer,
 ) -> Result<(Handle, ObjectLine), BuildError>
     ensures start { StartsNext segment.old segment.new words.old result }
-    ensures in_place { IfOk result (λ made. IsHere segment.new made.0) }
+    ensures in_place { IfOk result (λ made. HasObjectAt segment.new made.0) }
 {
     match next_class(words)? {
         Class::Named => start_named(segment, words, scratch),
@@ -112,17 +113,17 @@ fn start_next(
     }
 }
 
-/// Returns the class that comes next.
+/// The class that comes next.
 fn next_class(words: &mut Words<'_>) -> Result<Class, SyntaxError>
     ensures { ReadsClass words.old words.new result }
 {
     let at = words.at();
     let word = words.next_bare()?;
-    if is(word, b"named") {
+    if is_word(word, b"named") {
         Ok(Class::Named)
-    } else if is(word, b"unique") {
+    } else if is_word(word, b"unique") {
         Ok(Class::Unique)
-    } else if is(word, b"anonymous") {
+    } else if is_word(word, b"anonymous") {
         Ok(Class::Anonymous)
     } else {
         Err(SyntaxError {
@@ -132,16 +133,16 @@ fn next_class(words: &mut Words<'_>) -> Result<Class, SyntaxError>
     }
 }
 
-/// Tells whether a word is this one.
-fn is(word: &[u8], other: &[u8]) -> bool
+/// Whether a word is this one.
+fn is_word(word: &[u8], other: &[u8]) -> bool
     ensures { IsTrue result ↔ (word.now ≡ other.now) }
 {
     word == other
 }
 
-/// Returns the error that something is wrong at a place.
-pub fn misfit(at: usize, cause: DumpFault) -> BuildError {
-    BuildError::Misfit(SyntaxError { at, cause })
+/// Something is wrong at a place.
+pub fn syntax_error(at: usize, cause: DumpFault) -> BuildError {
+    BuildError::Syntax(SyntaxError { at, cause })
 }
 
 /// Makes an object under the name that comes next.
@@ -151,18 +152,18 @@ fn start_named(
     scratch: &mut LineBuffer,
 ) -> Result<(Handle, ObjectLine), BuildError>
     ensures start { StartsNamed segment.old segment.new words.old result }
-    ensures in_place { IfOk result (λ made. IsHere segment.new made.0) }
+    ensures in_place { IfOk result (λ made. HasObjectAt segment.new made.0) }
 {
     texts_are_spelled();
     let at = words.at();
     let word = words.next_word()?;
     match name_of(word, scratch) {
         Some(name) => start_under(segment, words, &name),
-        None => Err(misfit(at, DumpFault::BadName)),
+        None => Err(syntax_error(at, DumpFault::BadName)),
     }
 }
 
-/// Returns the name that a word stands for, or `None` if it stands for none.
+/// The name that a word stands for, or `None` where it stands for none.
 fn name_of<'a>(word: Word<'a>, scratch: &'a mut LineBuffer) -> Option<Name<'a>>
     ensures { option_map name_seen result
         ≡ (if is_name current (bytes_said word.entry) then Some (bytes_said word.entry) else None) }
@@ -181,20 +182,20 @@ fn start_under<D: ConstructKey>(
 ) -> Result<(Handle, ObjectLine), BuildError>
     requires { (kind : AnyKind) → D.suits under.now kind }
     ensures start { StartsUnder segment.old segment.new (D.key under.now) words.old result }
-    ensures in_place { IfOk result (λ made. IsHere segment.new made.0) }
+    ensures in_place { IfOk result (λ made. HasObjectAt segment.new made.0) }
 {
     let shape = next_shape(words)?;
     // The bytes are those of a segment, and so what is made in it is there.
     let _ = segment.as_bytes();
     match construct(segment, under, shape) {
         Ok(handle) => Ok((handle, shape)),
-        Err(why) => Err(stop_of(why, shape.at)),
+        Err(why) => Err(build_error_of(why, shape.at)),
     }
 }
 
-/// Returns the kind and the count that come next, and no more.
+/// The kind and the count that come next, and no more.
 fn next_shape(words: &mut Words<'_>) -> Result<ObjectLine, SyntaxError>
-    ensures { ReadsShape words.old result }
+    ensures { ReadsKindAndCount words.old result }
 {
     numbers_are_decimals();
     let at = words.at();
@@ -204,12 +205,12 @@ fn next_shape(words: &mut Words<'_>) -> Result<ObjectLine, SyntaxError>
     Ok(ObjectLine { kind, count, at })
 }
 
-/// Returns why an object is not made, or not filled.
-pub fn stop_of(why: Refusal, at: usize) -> BuildError {
+/// Why an object is not made, or not filled.
+pub fn build_error_of(why: Refusal, at: usize) -> BuildError {
     match why {
         Refusal::NoSpace => BuildError::NoSpace(at),
-        Refusal::Exists => misfit(at, DumpFault::Exists),
-        _ => misfit(at, DumpFault::BadCount),
+        Refusal::Exists => syntax_error(at, DumpFault::Exists),
+        _ => syntax_error(at, DumpFault::BadCount),
     }
 }
 
@@ -224,7 +225,7 @@ fn construct<D: ConstructKey>(
     ensures step { IsCountOf shape.kind shape.count
         → TakesStep segment.old segment.new
         (Construct (D.key under.now shape.kind) (first_content shape.kind shape.count)) (handle_answer result) }
-    ensures in_place { IfOk result (IsHere segment.new) }
+    ensures in_place { IfOk result (HasObjectAt segment.new) }
 {
     match shape.kind {
         Kind::Scalar(kind) => construct_scalars(segment, under, kind, shape.count),
@@ -247,7 +248,7 @@ fn construct_scalars<D: ConstructKey>(
     ensures step { IsCountOf (ScalarOf kind) count
         → TakesStep segment.old segment.new
         (Construct (D.key under.now (ScalarOf kind)) (first_content (ScalarOf kind) count)) (handle_answer result) }
-    ensures in_place { IfOk result (IsHere segment.new) }
+    ensures in_place { IfOk result (HasObjectAt segment.new) }
 {
     if count < 1 || count > MAX_ARRAY_LEN {
         return Err(Refusal::OutOfRange);
@@ -271,7 +272,7 @@ fn construct_vector<D: ConstructKey>(
     requires segment { IsSegment segment.old.cut.bytes }
     ensures step { TakesStep segment.old segment.new
         (Construct (D.key under.now (VectorOf kind)) (first_content (VectorOf kind) 0)) (handle_answer result) }
-    ensures in_place { IfOk result (IsHere segment.new) }
+    ensures in_place { IfOk result (HasObjectAt segment.new) }
 {
     macro_rules! construct {
         ($type:ty, $kind:ident) => {
@@ -293,8 +294,8 @@ fn make_numbers<T: Scalar, D: ConstructKey>(
     requires max_count { count ≤ 1048576 }
     requires segment { IsSegment segment.old.cut.bytes }
     ensures step { ConstructsObject segment.old segment.new (D.key under.now (ScalarOf T.kind))
-        (alike T.kind count (T.whole value)) result }
-    ensures in_place { IfOk result (IsHere segment.new) }
+        (equal_numbers T.kind count (T.whole value)) result }
+    ensures in_place { IfOk result (HasObjectAt segment.new) }
 {
     segment.construct(under, count, value)
 }
@@ -308,7 +309,7 @@ fn make_vector<T: Scalar, D: ConstructKey>(
     requires segment { IsSegment segment.old.cut.bytes }
     ensures step { ConstructsObject segment.old segment.new (D.key under.now (VectorOf T.kind)) (Elements T.kind [])
         result }
-    ensures in_place { IfOk result (IsHere segment.new) }
+    ensures in_place { IfOk result (HasObjectAt segment.new) }
 {
     segment.construct_vec::<T, D>(under, &[])
 }

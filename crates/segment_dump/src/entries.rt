@@ -1,7 +1,7 @@
 //! An object in a dump: its line, and below it a line for each element.
 ghost use Rattle.std.specs.Prelude.{◌-◌, ◌^◌, ◌<◌};
 ghost use Rattle.raw_region.specs.Device.{Writes};
-ghost use Rattle.segment_dump.specs.Texts.{head_line, told_line};
+ghost use Rattle.segment_dump.specs.Texts.{head_line, info_line};
 
 use crate::layouts::InLines;
 use crate::objects::ObjectWriter;
@@ -56,7 +56,7 @@ pub(crate) fn put_line<'a, W: Sink>(
 ) -> Result<(), DeviceFault>
     requires { (W.history out.old).failures < 2 ^ 64 - 1 }
     ensures { Writes (W.history out.old) (W.history out.new) result
-        (told_line lead.now said.entry.class said.entry.name.now said.entry.kind between.now number) }
+        (info_line lead.now said.entry.class said.entry.name.now said.entry.kind between.now number) }
 {
     match said.class {
         Class::Named => put_pieces(

@@ -4,7 +4,7 @@ ghost use Rattle.seg_types.specs.declared.kinds.Kind.TheVariants.{Map as MapOf, 
 ghost use Rattle.seg_types.specs.declared.kinds.Kind.TheVariants.{Strings as StringsKind, Vector as VectorOf};
 ghost use Rattle.segment_dump.specs.Builders.{AddsElement, FillsElements, FillsNew, HasLocatedObject, IsVectorKind};
 
-use crate::building::{BuildError, ObjectLine, misfit, stop_of};
+use crate::building::{BuildError, ObjectLine, build_error_of, syntax_error};
 use crate::faults::DumpFault;
 use crate::filling_texts::{fill_string, push_text};
 use crate::tokens::{Lines, next_pair, next_value};
@@ -49,7 +49,7 @@ fn fill_reserved(
 {
     match segment.reserve(&object, shape.count) {
         Ok(()) => fill_elements(segment, object, shape, lines, room, scratch),
-        Err(why) => Err(stop_of(why, shape.at)),
+        Err(why) => Err(build_error_of(why, shape.at)),
     }
 }
 
@@ -92,7 +92,7 @@ fn add_element(
         Kind::Vector(kind) => push_next(segment, object, kind, lines),
         Kind::Map(keys, values) => put_next(segment, object, keys, values, lines),
         Kind::Strings => push_text(segment, object, lines, room, scratch),
-        Kind::String => Err(misfit(lines.at(), DumpFault::BadCount)),
+        Kind::String => Err(syntax_error(lines.at(), DumpFault::BadCount)),
     }
 }
 
@@ -148,7 +148,7 @@ fn put_next(
     let (key, value) = next_pair(lines, keys, values)?;
     match segment.map_put_any(&object, key, value) {
         Ok(_) => Ok(()),
-        Err(why) => Err(stop_of(why, at)),
+        Err(why) => Err(build_error_of(why, at)),
     }
 }
 
@@ -158,6 +158,6 @@ pub fn ended(called: Result<(), Refusal>, at: usize) -> Result<(), BuildError>
 {
     match called {
         Ok(()) => Ok(()),
-        Err(why) => Err(stop_of(why, at)),
+        Err(why) => Err(build_error_of(why, at)),
     }
 }

@@ -4,7 +4,7 @@ ghost use Rattle.seg_types.specs.declared.kinds.Kind.TheVariants.{String as Stri
 ghost use Rattle.segment_dump.specs.Builders.{AddsElement, AppendsPiece, Collects, CopiesPiece, FillsNew};
 ghost use Rattle.segment_dump.specs.Builders.{HasLocatedObject, ReadsLength, ReadsPiece};
 
-use crate::building::{BuildError, stop_of};
+use crate::building::{BuildError, build_error_of};
 use crate::faults::SyntaxError;
 use crate::filling::ended;
 use crate::texts::PIECE;
@@ -25,7 +25,7 @@ pub fn fill_string(
     let at = lines.at();
     let (mut words, len) = first_line(lines)?;
     if let Err(why) = segment.reserve(&object, len) {
-        return Err(stop_of(why, at));
+        return Err(build_error_of(why, at));
     }
     append_piece(segment, object, &mut words, scratch)?;
     'pieces: for _ in 0..pieces_behind(len) {

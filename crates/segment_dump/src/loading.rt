@@ -13,7 +13,7 @@ ghost use Rattle.segment_dump.specs.Loading.{HasSize, IsRequestedSize, IsExact, 
 ghost use Rattle.segment_dump.specs.Loading.{LoadsUnlessLacking, IsNotLoaded, IsRefusalOf, IsWrong, asked_of, cause_in};
 ghost use Rattle.segment_dump.specs.Loading.{refusal_for};
 
-use crate::building::{BuildError, build, stop_of};
+use crate::building::{BuildError, build, build_error_of};
 use crate::comparing::compare;
 use crate::counting::{Count, Front, count_dump};
 use crate::faults::{BadDump, DumpFault, LoadError, LoadRefused, SyntaxError};
@@ -276,7 +276,7 @@ fn cause_of(text: &[u8], stop: BuildError, counted: Result<Count, usize>) -> Loa
     ensures { IsWrong text.now result }
 {
     match stop {
-        BuildError::Misfit(misfit) => bad_dump(text, misfit),
+        BuildError::Syntax(misfit) => bad_dump(text, misfit),
         BuildError::NoSpace(at) => bad_dump(text, uncounted(text, at, counted)),
         BuildError::LongText(at) => bad_dump(text, uncounted(text, at, counted)),
     }
@@ -306,10 +306,10 @@ fn make_objects(
 {
     let at = lines.at();
     if let Err(why) = segment.reserve_named(front.named) {
-        return Err(stop_of(why, at));
+        return Err(build_error_of(why, at));
     }
     if let Err(why) = segment.reserve_unique(front.unique) {
-        return Err(stop_of(why, at));
+        return Err(build_error_of(why, at));
     }
     build(segment, lines, room, most)
 }

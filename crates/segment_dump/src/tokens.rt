@@ -1,7 +1,7 @@
 //! A dump that is read: its lines one after another, and the words of a line.
 ghost use Rattle.std.specs.Prelude.{◌≡◌, ◌≤◌, ◌<◌, ◌^◌, ◌↔◌, ◌==◌, ℕ, List, [], length, position, true, IfOk, IsTrue};
 ghost use Rattle.raw_region.specs.Format.{current};
-ghost use Rattle.segment_lang.specs.Language.{whole};
+ghost use Rattle.segment_lang.specs.Language.{whole_language};
 ghost use Rattle.segment_lang.specs.Reading.{kind_of_word, number};
 ghost use Rattle.segment_lang.specs.Seen.{bytes_said};
 ghost use Rattle.segment_dump.specs.Builders.{ReadsElement, ReadsPair};
@@ -201,7 +201,7 @@ impl<'a> Words<'a> {
 
     /// Returns the next word, a kind.
     pub fn next_kind(&mut self) -> Result<Kind, SyntaxError>
-        ensures { ReadsWord (kind_of_word (whole current)) self.old self.new result }
+        ensures { ReadsWord (kind_of_word (whole_language current)) self.old self.new result }
     {
         let misfit = self.misfit(DumpFault::UnknownKind);
         match kind_of_word(self.next_word()?) {

@@ -15,9 +15,9 @@ use Rattle.grow_shrink.specs.declared.refusals.GrowError.TheVariants.{RegionTooS
 use Rattle.grow_shrink.specs.Resized.{IsRefusedBy, growth_refusal, room_of}
 use Rattle.grow_shrink.proofs.ShortRegions.{short_of_room}
 use Rattle.segment_file.specs.Opening.{OpensImageOk}
-use Rattle.segment_file.proofs.Fronts.{said-most, too-small-says}
-use Rattle.segment_file.proofs.Rooms.{region-holds}
-use Rattle.segment_file.proofs.Unopened.{as-long}
+use Rattle.segment_file.proofs.opening.Fronts.{said-most, too-small-says}
+use Rattle.segment_file.proofs.opening.Rooms.{region-holds}
+use Rattle.segment_file.proofs.opening.Refusals.{as-long}
 
 -- there was room for the image
 pub read-fits : (versions : AcceptedVersions) (len more : ℕ) (mode : Mode) (image : ReadDelta) (s : SegmentState)
@@ -38,6 +38,7 @@ read-fits versions len more mode image s r t =
 -- and there is for the bytes that it was to have more
 module _ (len extra : ℕ) (mode : Mode) (image : ReadDelta) (s : SegmentState)
     (r : OpensImageOk Current len extra mode image s) where
+  -- what was opened is a segment
   pub segment-of : IsSegment s.cut.bytes
   segment-of = subst IsSegment (sym r.opened.bytes) (r.opened.denotes.0, record { denotes = r.opened.denotes.1 })
 
@@ -59,6 +60,7 @@ module _ (len extra : ℕ) (mode : Mode) (image : ReadDelta) (s : SegmentState)
         length-append s.cut.before s.cut.bytes,
       )
 
+  -- a segment that is refused bytes in place is refused by its region alone
   pub grows-in-place : (error : GrowError)
       → IsRefusedBy s (Err error) (λ d. growth_refusal s.mode d.size extra (room_of s.cut)) → error ≡ RegionTooSmall → ⊥
   grows-in-place error refused is =

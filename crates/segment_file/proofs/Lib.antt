@@ -1,9 +1,1 @@
-mod Kept
-mod Rooms
-mod Fronts
-mod Unopened
-mod Unfits
-mod ReadOn
 pub mod Laws
-mod Written
-mod Standings

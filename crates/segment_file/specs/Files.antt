@@ -11,12 +11,12 @@ use Rattle.segment_disk.specs.Events.{Event, Opened, Read, Compared, Made, Wrote
 -- ---- a file that is read
 
 -- it was opened, and had so many bytes by what the disk told, gave this and was closed
-abbrev pub opens : List ℕ → ℕ → ReadDelta → List Event
-opens path len image = Opened path (Some len) ∷ Read image ∷ []
+abbrev pub open_events : List ℕ → ℕ → ReadDelta → List Event
+open_events path len image = Opened path (Some len) ∷ Read image ∷ []
 
 -- it could not be opened
-abbrev pub does_not_open : List ℕ → List Event
-does_not_open path = Opened path None ∷ []
+abbrev pub failed_open_events : List ℕ → List Event
+failed_open_events path = Opened path None ∷ []
 
 -- ---- a file that is written
 
@@ -35,26 +35,26 @@ pub data WriteOutcome : Type 0 where
   Offered : List ℕ → Bool → WriteOutcome
 
 -- a file that was made beside another and did not take its place is removed
-abbrev pub leaving : CreateMode → List ℕ → List Event
-leaving New path = []
-leaving Truncate path = []
-leaving Replacement path = Discarded path ∷ []
+abbrev pub leave_events : CreateMode → List ℕ → List Event
+leave_events New path = []
+leave_events Truncate path = []
+leave_events Replacement path = Discarded path ∷ []
 
-abbrev pub placing : List ℕ → Bool → List Event
-placing path true = Placed path true ∷ []
-placing path false = Placed path false ∷ Discarded path ∷ []
+abbrev pub place_events : List ℕ → Bool → List Event
+place_events path true = Placed path true ∷ []
+place_events path false = Placed path false ∷ Discarded path ∷ []
 
-abbrev pub makes : CreateMode → List ℕ → WriteOutcome → List Event
-makes how path Overtaken = []
-makes how path NotMade = Made how path false ∷ []
-makes how path (Closed taken lasts) = Made how path true ∷ Wrote taken lasts ∷ leaving how path
-makes how path (Offered image placed) = Made how path true ∷ Wrote (all_of image) true ∷ placing path placed
+abbrev pub make_events : CreateMode → List ℕ → WriteOutcome → List Event
+make_events how path Overtaken = []
+make_events how path NotMade = Made how path false ∷ []
+make_events how path (Closed taken lasts) = Made how path true ∷ Wrote taken lasts ∷ leave_events how path
+make_events how path (Offered image placed) = Made how path true ∷ Wrote (all_of image) true ∷ place_events path placed
 
 -- before a file is emptied or replaced it is compared with the one that the right to write was given for
-abbrev pub compares : CreateMode → List ℕ → Bool → List Event → List Event
-compares New path same then = then
-compares Truncate path same then = Compared path same ∷ then
-compares Replacement path same then = Compared path same ∷ then
+abbrev pub compare_events : CreateMode → List ℕ → Bool → List Event → List Event
+compare_events New path same then = then
+compare_events Truncate path same then = Compared path same ∷ then
+compare_events Replacement path same then = Compared path same ∷ then
 
 abbrev pub is_same : WriteOutcome → Bool
 is_same Overtaken = false
@@ -62,8 +62,8 @@ is_same NotMade = true
 is_same (Closed taken lasts) = true
 is_same (Offered image placed) = true
 
-abbrev pub writes : CreateMode → List ℕ → WriteOutcome → List Event
-writes how path written = compares how path (is_same written) (makes how path written)
+abbrev pub write_events : CreateMode → List ℕ → WriteOutcome → List Event
+write_events how path written = compare_events how path (is_same written) (make_events how path written)
 
 -- the file was made or emptied
 abbrev pub IsMade : WriteOutcome → Type 0
@@ -73,10 +73,10 @@ IsMade (Closed taken lasts) = ⊤
 IsMade (Offered image placed) = ⊤
 
 -- the whole image is in the file, and lasts
-abbrev pub whole : CreateMode → List ℕ → WriteOutcome
-whole New image = Closed (all_of image) true
-whole Truncate image = Closed (all_of image) true
-whole Replacement image = Offered image true
+abbrev pub whole_outcome : CreateMode → List ℕ → WriteOutcome
+whole_outcome New image = Closed (all_of image) true
+whole_outcome Truncate image = Closed (all_of image) true
+whole_outcome Replacement image = Offered image true
 
 -- writing failed, and not all of the image was taken
 pub record IsPartialWrite (image : List ℕ) (taken : WriteDelta) : Type 0 where
@@ -123,8 +123,8 @@ pub record MakesImage {D E : Type 0} (step : D → Event → D
     → Type 0) (old new : D) (how : CreateMode) (path image : List ℕ) (result : Result (Unit {0}) E) : Type 0 where
   pub written : WriteOutcome
   pub same : is_same written ≡ true
-  pub asked : After step old (makes how path written) new
-  pub fate : MatchResult result (λ u. written ≡ whole how image) (λ e. IsUnwritten how image written)
+  pub asked : After step old (make_events how path written) new
+  pub fate : MatchResult result (λ u. written ≡ whole_outcome how image) (λ e. IsUnwritten how image written)
   pub accepted : IsMade written → (d : Directory) → DenotesCurrent image d → IsSaved image d
 
 -- An image was written to a file, and nothing else was asked of the disk. It is whole there and lasts where the answer
@@ -132,6 +132,6 @@ pub record MakesImage {D E : Type 0} (step : D → Event → D
 pub record WritesImage {D E : Type 0} (step : D → Event → D
     → Type 0) (old new : D) (how : CreateMode) (path image : List ℕ) (result : Result (Unit {0}) E) : Type 0 where
   pub written : WriteOutcome
-  pub asked : After step old (writes how path written) new
-  pub fate : MatchResult result (λ u. written ≡ whole how image) (λ e. IsUnwritten how image written)
+  pub asked : After step old (write_events how path written) new
+  pub fate : MatchResult result (λ u. written ≡ whole_outcome how image) (λ e. IsUnwritten how image written)
   pub accepted : IsMade written → (d : Directory) → DenotesCurrent image d → IsSaved image d

@@ -4,7 +4,7 @@ use Rattle.std.specs.Prelude.{Err, MatchResult}
 use Rattle.raw_region.specs.Device.{ReaderHistory, ReadDelta}
 use Rattle.raw_region.specs.Format.{current}
 use Rattle.raw_region.specs.Memory.{SameSurroundings, cut_at}
-use Rattle.raw_region.specs.Refusals.{refusal_of}
+use Rattle.raw_region.specs.Refusals.{out_of_memory_of}
 use Rattle.raw_region.specs.declared.refused_memory.OutOfMemory.{OutOfMemory as NoMemory}
 use Rattle.segment_manager.specs.declared.modes.Mode.{Mode}
 use Rattle.segment_manager.specs.State.{SegmentState}
@@ -29,10 +29,11 @@ use Rattle.grow_shrink.specs.LargerRegion.{region_len}
 use Rattle.segment_disk.specs.Events.{Event, After}
 use Rattle.segment_file.specs.declared.file_errors.FileError.{FileError}
 use Rattle.segment_file.specs.declared.file_errors.FileError.TheVariants.{Image, OutOfMemory, ReadFault}
-use Rattle.segment_file.specs.declared.file_errors.Unfit.{Unfit}
-use Rattle.segment_file.specs.declared.file_errors.Unfit.TheVariants.{Image as Unfitting, OutOfMemory as Unremembered}
-use Rattle.segment_file.specs.declared.file_errors.Unfit.TheVariants.{ReadFault as Unreadable}
-use Rattle.segment_file.specs.Files.{opens, does_not_open}
+use Rattle.segment_file.specs.declared.file_errors.OpenFault.{OpenFault}
+use Rattle.segment_file.specs.declared.file_errors.OpenFault.TheVariants.{Image as Unfitting}
+use Rattle.segment_file.specs.declared.file_errors.OpenFault.TheVariants.{OutOfMemory as Unremembered}
+use Rattle.segment_file.specs.declared.file_errors.OpenFault.TheVariants.{ReadFault as Unreadable}
+use Rattle.segment_file.specs.Files.{open_events, failed_open_events}
 
 -- ---- how much room a segment has
 
@@ -59,7 +60,7 @@ pub record IsWithoutMemory (format most : ℕ) (image : ReadDelta) (refusal : No
   pub yet : IsOpenYet format image ⊎ IsWholeImage format image
   pub asked : ℕ
   pub within : asked ≤ most
-  pub refused : refusal ≡ refusal_of asked
+  pub refused : refusal ≡ out_of_memory_of asked
 
 -- want of room is no reason
 abbrev pub IsWhyUnopened : ℕ → ℕ → ReadDelta → FileError → Type 0
@@ -92,22 +93,22 @@ OpensImage versions more mode len image result =
 -- ---- one that is checked
 
 -- the same without the place
-abbrev pub unfit_error : Unfit → FileError
-unfit_error (Unfitting v) = Image v.class
-unfit_error (Unremembered refusal) = OutOfMemory refusal
-unfit_error Unreadable = ReadFault
+abbrev pub open_fault_error : OpenFault → FileError
+open_fault_error (Unfitting v) = Image v.class
+open_fault_error (Unremembered refusal) = OutOfMemory refusal
+open_fault_error Unreadable = ReadFault
 
 -- a class is told with the place that shows it
-abbrev pub IsTold : List ℕ → Unfit → Type 0
+abbrev pub IsTold : List ℕ → OpenFault → Type 0
 IsTold b (Unfitting v) = IsVerdict current b v
 IsTold b (Unremembered refusal) = ⊤
 IsTold b Unreadable = ⊤
 
-pub record IsWhyUnfit (most : ℕ) (image : ReadDelta) (unfit : Unfit) : Type 0 where
-  pub why : IsWhyUnopened current most image (unfit_error unfit)
+pub record IsWhyUnfit (most : ℕ) (image : ReadDelta) (unfit : OpenFault) : Type 0 where
+  pub why : IsWhyUnopened current most image (open_fault_error unfit)
   pub told : IsTold image.bytes unfit
 
-abbrev pub ExaminesImage : ℕ → ReadDelta → Result (Unit {0}) Unfit → Type 0
+abbrev pub ExaminesImage : ℕ → ReadDelta → Result (Unit {0}) OpenFault → Type 0
 ExaminesImage len image result =
     MatchResult result (λ done. IsWholeImage current image) (IsWhyUnfit (file_region len 0 image.bytes) image)
 
@@ -115,19 +116,19 @@ ExaminesImage len image result =
 
 module _ {D A E : Type 0} (step : D → Event → D → Type 0) (old new : D) (path : List ℕ) where
   -- the file could not be opened, and nothing else was asked
-  pub record IsUnreadable (fault : E) (result : Result A E) : Type 0 where
-    pub asked : After step old (does_not_open path) new
+  pub record ReadsFileErr (fault : E) (result : Result A E) : Type 0 where
+    pub asked : After step old (failed_open_events path) new
     pub refused : result ≡ Err fault
 
   -- the file was opened, and had so many bytes by what the disk told, was read and closed, and nothing else was asked
-  pub record IsReadAs (answers : ℕ → ReadDelta → Result A E → Type 0) (result : Result A E) : Type 0 where
+  pub record ReadsFileAs (answers : ℕ → ReadDelta → Result A E → Type 0) (result : Result A E) : Type 0 where
     pub len : ℕ
     pub image : ReadDelta
-    pub asked : After step old (opens path len image) new
+    pub asked : After step old (open_events path len image) new
     pub answer : answers len image result
 
   abbrev pub ReadsFile : E → (ℕ → ReadDelta → Result A E → Type 0) → Result A E → Type 0
-  ReadsFile fault answers result = IsUnreadable fault result ⊎ IsReadAs answers result
+  ReadsFile fault answers result = ReadsFileErr fault result ⊎ ReadsFileAs answers result
 
 -- its segment
 abbrev pub OpensFile : {D : Type 0} → (D → Event → D → Type 0) → D → D → List ℕ → AcceptedVersions → Mode → ℕ
@@ -136,7 +137,8 @@ OpensFile step old new path versions mode more result =
     ReadsFile step old new path ReadFault (OpensImage versions more mode) result
 
 -- whether it has one, and why it has none
-abbrev pub ExaminesFile : {D : Type 0} → (D → Event → D → Type 0) → D → D → List ℕ → Result (Unit {0}) Unfit → Type 0
+abbrev pub ExaminesFile : {D : Type 0} → (D → Event → D → Type 0) → D → D → List ℕ → Result (Unit {0}) OpenFault
+    → Type 0
 ExaminesFile step old new path result = ReadsFile step old new path Unreadable ExaminesImage result
 
 -- ---- the parts of an opening
@@ -163,7 +165,7 @@ pub record WidensRegion (len more : ℕ) (old new : SegmentState) : Type 0 where
 -- there was no memory for that one
 pub record IsCramped (len more : ℕ) (old : SegmentState) (why : FileError) : Type 0 where
   pub many : len < length old.cut.bytes
-  pub refused : why ≡ OutOfMemory (Bytes (refusal_of (region_len (length old.cut.bytes + more))))
+  pub refused : why ≡ OutOfMemory (Bytes (out_of_memory_of (region_len (length old.cut.bytes + more))))
 
 abbrev pub WidensIfNeeded : ℕ → ℕ → SegmentState → Result SegmentState FileError → Type 0
 WidensIfNeeded len more old result =
@@ -176,7 +178,7 @@ file_error NoRoom = None
 file_error (NoBlocks refusal) = Some (OutOfMemory (BlockMap refusal))
 file_error NotRead = Some ReadFault
 
-abbrev pub unfit_for : ExamineError → Option Unfit
+abbrev pub unfit_for : ExamineError → Option OpenFault
 unfit_for (Judged v) = Some (Unfitting v)
 unfit_for TooSmall = None
 unfit_for (NoMap refusal) = Some (Unremembered (BlockMap refusal))

@@ -7,7 +7,8 @@ use Rattle.segment_disk.specs.declared.presence.CreateMode.{CreateMode}
 use Rattle.segment_disk.specs.declared.presence.CreateMode.TheVariants.{New, Truncate, Replacement}
 use Rattle.segment_disk.specs.Events.{Event, Looked, Held, Released, Opened, Read, Compared, Made, Wrote, Placed}
 use Rattle.segment_disk.specs.Events.{Discarded}
-use Rattle.segment_file.specs.Files.{WriteOutcome, Overtaken, NotMade, Closed, Offered, IsUnwritten, whole, writes}
+use Rattle.segment_file.specs.Files.{WriteOutcome, Overtaken, NotMade, Closed, Offered, IsUnwritten, whole_outcome}
+use Rattle.segment_file.specs.Files.{write_events}
 
 -- these bytes, whole; or one of two, each whole, whichever it is; or a file that was made or emptied and need not be
 -- whole
@@ -96,21 +97,22 @@ IsNotOffered (Offered image placed) = ⊥
 
 -- At each point of a save that replaces, however it ends, the old image or the new one stands whole under the path.
 abbrev pub ReplacingKeepsOneWhole : Type 0
-ReplacingKeepsOneWhole = (path old image : List ℕ) (written : WriteOutcome) → (written ≡ whole Replacement image)
+ReplacingKeepsOneWhole = (path old image : List ℕ) (written : WriteOutcome)
+    → (written ≡ whole_outcome Replacement image)
     ⊎ IsUnwritten Replacement image written
-    → (k : ℕ) → IsOneOf old image (standing path old (take k (writes Replacement path written)))
+    → (k : ℕ) → IsOneOf old image (standing path old (take k (write_events Replacement path written)))
 
 -- Where it failed before the new file was to take its place, the old image does.
 abbrev pub UnplacedLeavesTheOld : Type 0
 UnplacedLeavesTheOld = (path old : List ℕ) (written : WriteOutcome) → IsNotOffered written
-    → standing path old (writes Replacement path written) ≡ Whole old
+    → standing path old (write_events Replacement path written) ≡ Whole old
 
 -- Any save that is done ends with the new image.
 abbrev pub SavingEndsWhole : Type 0
 SavingEndsWhole = (how : CreateMode) (path old image : List ℕ)
-    → standing path old (writes how path (whole how image)) ≡ Whole image
+    → standing path old (write_events how path (whole_outcome how image)) ≡ Whole image
 
 -- One that empties the file leaves neither whole in between.
 abbrev pub EmptyingTears : Type 0
 EmptyingTears = (path old image : List ℕ)
-    → standing path old (take 2 (writes Truncate path (whole Truncate image))) ≡ Torn
+    → standing path old (take 2 (write_events Truncate path (whole_outcome Truncate image))) ≡ Torn

@@ -1,14 +1,14 @@
 -- How the rest of an image is read that says more bytes than there is room for.
 use Rattle.std.specs.Prelude.{◌≡◌, ◌⊎◌, ◌≤◌, ◌<◌, ℕ, true, List, length}
 use Rattle.raw_region.specs.Device.{ReaderHistory}
-use Rattle.raw_region.specs.Refusals.{refusal_of}
+use Rattle.raw_region.specs.Refusals.{out_of_memory_of}
 use Rattle.image_check.specs.declared.classes.ImageClass.TheVariants.{BadSize as MoreBytes, Truncated}
 use Rattle.image_check.specs.declared.errors.MemoryFault.{MemoryFault}
 use Rattle.image_check.specs.declared.errors.MemoryFault.TheVariants.{Bytes}
 use Rattle.image_check.specs.EarlyTests.{has_front, size_word}
 use Rattle.image_check.specs.Formats.{format_of}
-use Rattle.segment_file.specs.declared.file_errors.Unfit.{Unfit}
-use Rattle.segment_file.specs.declared.file_errors.Unfit.TheVariants.{Image, OutOfMemory, ReadFault}
+use Rattle.segment_file.specs.declared.file_errors.OpenFault.{OpenFault}
+use Rattle.segment_file.specs.declared.file_errors.OpenFault.TheVariants.{Image, OutOfMemory, ReadFault}
 
 -- these are all bytes that a reader gave, and no read failed
 pub record IsReadUpTo (gave : ReaderHistory) (bytes : List ℕ) : Type 0 where
@@ -39,9 +39,9 @@ pub record IsUnkept (said : ℕ) (gave : ReaderHistory) (refusal : MemoryFault) 
   pub sound : gave.failures ≡ 0
   pub asked : ℕ
   pub within : asked ≤ said
-  pub refused : refusal ≡ Bytes (refusal_of asked)
+  pub refused : refusal ≡ Bytes (out_of_memory_of asked)
 
-abbrev pub IsWhyNotUpTo : ℕ → ReaderHistory → Unfit → Type 0
+abbrev pub IsWhyNotUpTo : ℕ → ReaderHistory → OpenFault → Type 0
 IsWhyNotUpTo said gave (Image v) = (v.class ≡ Truncated) × (v.place ≡ length gave.bytes) × IsCutShort said gave
 IsWhyNotUpTo said gave (OutOfMemory refusal) = IsUnkept said gave refusal
 IsWhyNotUpTo said gave ReadFault = IsBroken said gave
@@ -57,7 +57,7 @@ pub record GaveMoreThan (said : ℕ) (gave : ReaderHistory) : Type 0 where
   pub sound : gave.failures ≡ 0
   pub long : said < length gave.bytes
 
-abbrev pub IsWhyNotWhole : ℕ → ReaderHistory → Unfit → Type 0
+abbrev pub IsWhyNotWhole : ℕ → ReaderHistory → OpenFault → Type 0
 IsWhyNotWhole said gave (Image v) =
     ((v.class ≡ MoreBytes) × (v.place ≡ said) × GaveMoreThan said gave)
     ⊎ ((v.class ≡ Truncated) × (v.place ≡ length gave.bytes) × IsCutShort said gave)

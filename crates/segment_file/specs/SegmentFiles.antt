@@ -1,7 +1,7 @@
 -- A segment with the path of its file: what the disk is asked, in order, and what becomes of the segment.
 use Rattle.std.specs.Prelude.{◌≡◌, ◌≢◌, ◌⊎◌, ℕ, true, false, List, [], ◌∷◌, length, IsTrue, string_bytes}
 use Rattle.std.specs.Prelude.{Some, None, Result, Ok, Err, IfErr, MatchResult}
-use Rattle.raw_region.specs.Refusals.{refusal_of}
+use Rattle.raw_region.specs.Refusals.{out_of_memory_of}
 use Rattle.block_tags.specs.Format.{is_legal_size}
 use Rattle.segment_manager.specs.declared.modes.Mode.TheVariants.{Write}
 use Rattle.segment_manager.specs.Calls.{CreatesOk}
@@ -26,10 +26,10 @@ use Rattle.segment_file.specs.declared.file_errors.FileError.{FileError}
 use Rattle.segment_file.specs.declared.file_errors.FileError.TheVariants.{Exists, BadSize, OutOfMemory, WriteFault}
 use Rattle.segment_file.specs.declared.file_errors.FileError.TheVariants.{InUse, Growth}
 use Rattle.segment_file.specs.declared.segment_files.SegmentFile.{SegmentFile}
-use Rattle.segment_file.specs.declared.file_errors.Unfit.{Unfit}
+use Rattle.segment_file.specs.declared.file_errors.OpenFault.{OpenFault}
 use Rattle.segment_file.specs.Files.{WritesImage}
 use Rattle.segment_file.specs.Holding.{RunsLocked}
-use Rattle.segment_file.specs.Opening.{ExaminesFile, OpensFile, unfit_error}
+use Rattle.segment_file.specs.Opening.{ExaminesFile, OpensFile, open_fault_error}
 
 -- an answer of a writing that went well
 abbrev pub saved : Result (Unit {0}) FileError
@@ -37,7 +37,7 @@ saved = Ok tt
 
 -- a request for so many bytes was refused; for a region with room for so many
 abbrev pub bytes_refused : ℕ → FileError
-bytes_refused n = OutOfMemory (Bytes (refusal_of n))
+bytes_refused n = OutOfMemory (Bytes (out_of_memory_of n))
 
 abbrev pub region_refused : ℕ → FileError
 region_refused room = bytes_refused (region_len room)
@@ -56,17 +56,17 @@ IsWhyNoSegment size why =
 
 module _ {D : Type 0} (step : D → Event → D → Type 0) (old new : D) (path : List ℕ) (size : ℕ) where
   -- the image of an empty segment was written to a new file
-  pub record IsNewFile (s : SegmentState) : Type 0 where
+  pub record MakesSegmentFileOk (s : SegmentState) : Type 0 where
     pub empty : IsEmptySegment size s
     pub writes : WritesImage step old new New path s.cut.bytes saved
 
   -- there is no such segment, and nothing was asked
-  pub record IsUnmade (why : FileError) : Type 0 where
+  pub record MakesSegmentFileErr (why : FileError) : Type 0 where
     pub asked : new ≡ old
     pub reason : IsWhyNoSegment size why
 
   -- the image of an empty segment is not in its file, or need not last
-  pub record IsUnwrittenFile (why : FileError) : Type 0 where
+  pub record MakesSegmentFileUnwritten (why : FileError) : Type 0 where
     pub segment : SegmentState
     pub empty : IsEmptySegment size segment
     pub writes : WritesImage {E = FileError} step old new New path segment.cut.bytes (Err why)
@@ -74,7 +74,8 @@ module _ {D : Type 0} (step : D → Event → D → Type 0) (old new : D) (path 
 
   -- an empty segment in a file that is made for it
   abbrev pub MakesSegmentFile : Result SegmentState FileError → Type 0
-  MakesSegmentFile result = MatchResult result IsNewFile (λ why. IsUnmade why ⊎ IsUnwrittenFile why)
+  MakesSegmentFile result = MatchResult result MakesSegmentFileOk (λ why. MakesSegmentFileErr why
+      ⊎ MakesSegmentFileUnwritten why)
 
 -- the path was looked at, where this was found, and then what is done went on from there
 pub record IsBehindLook {D : Type 0} (step : D → Event → D → Type 0) (old : D) (path : List ℕ) (IsWhere : Presence
@@ -89,16 +90,16 @@ pub record IsBehindLook {D : Type 0} (step : D → Event → D → Type 0) (old 
 
 module _ {D : Type 0} (step : D → Event → D → Type 0) (old new : D) (path : List ℕ) where
   -- another has the right to write the file, and nothing else was asked
-  pub record IsFileInUse {A : Type 0} (result : Result A FileError) : Type 0 where
+  pub record RefusesFileInUse {A : Type 0} (result : Result A FileError) : Type 0 where
     pub asked : After step old (Held path false ∷ []) new
     pub refused : result ≡ Err InUse
 
   -- the right was taken, this was done, and it was given back
   abbrev pub HoldsFile : (D → D → Type 0) → Result (Unit {0}) FileError → Type 0
-  HoldsFile does result = IsFileInUse result ⊎ RunsLocked step old new path does
+  HoldsFile does result = RefusesFileInUse result ⊎ RunsLocked step old new path does
 
   -- the right was taken before the file was read, and is kept where there is a segment, and else given back
-  pub record IsHeldOpening (result : Result SegmentState FileError) : Type 0 where
+  pub record OpensHeldOk (result : Result SegmentState FileError) : Type 0 where
     pub held : D
     pub taken : step old (Held path true) held
     pub read : D
@@ -106,7 +107,7 @@ module _ {D : Type 0} (step : D → Event → D → Type 0) (old new : D) (path 
     pub kept : MatchResult result (λ s. new ≡ read) (λ why. step read Released new)
 
   abbrev pub OpensHeld : Result SegmentState FileError → Type 0
-  OpensHeld result = IsFileInUse result ⊎ IsHeldOpening result
+  OpensHeld result = RefusesFileInUse result ⊎ OpensHeldOk result
 
 module _ {D : Type 0} (step : D → Event → D → Type 0) (old new : D) (path : List ℕ) where
   -- something is there under the path, and nothing else was asked
@@ -167,14 +168,14 @@ SavesAs step old new path s result =
 
 -- ---- a file that is looked at, or written anew
 
-abbrev pub without_place : Result (Unit {0}) Unfit → Result (Unit {0}) FileError
+abbrev pub without_place : Result (Unit {0}) OpenFault → Result (Unit {0}) FileError
 without_place (Ok done) = Ok done
-without_place (Err unfit) = Err (unfit_error unfit)
+without_place (Err unfit) = Err (open_fault_error unfit)
 
 -- `check`: the file has a segment, or this is why it has none; nothing is opened for writing
 pub record ChecksFile {D : Type 0} (step : D → Event → D
     → Type 0) (old new : D) (path : List ℕ) (result : Result (Unit {0}) FileError) : Type 0 where
-  pub examined : Result (Unit {0}) Unfit
+  pub examined : Result (Unit {0}) OpenFault
   pub examines : ExaminesFile step old new path examined
   pub answer : result ≡ without_place examined
 
@@ -201,15 +202,15 @@ Migrates step old new path result = MigrateRefused step old new path result ⊎ 
 -- ---- other sizes
 
 -- why a segment does not grow, as a file's call answers it
-abbrev pub growing_error : GrowOrMoveError → FileError
-growing_error (NoGrowth reason) = Growth reason
-growing_error (NoLargerRegion refusal) = OutOfMemory (Bytes refusal)
+abbrev pub growth_file_error : GrowOrMoveError → FileError
+growth_file_error (NoGrowth reason) = Growth reason
+growth_file_error (NoLargerRegion refusal) = OutOfMemory (Bytes refusal)
 
 -- it does not grow, and may not move, for this reason
 pub record GrowsFileErr (old new : SegmentState) (extra : ℕ) (why : FileError) : Type 0 where
   pub cause : GrowOrMoveError
   pub refused : GrowsOrMovesErr old new extra cause
-  pub answer : why ≡ growing_error cause
+  pub answer : why ≡ growth_file_error cause
 
 -- `grow`
 abbrev pub GrowsFile : SegmentState → SegmentState → ℕ → Result (Unit {0}) FileError → Type 0

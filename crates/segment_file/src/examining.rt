@@ -7,7 +7,7 @@ ghost use Rattle.segment_disk.specs.Events.{nothing_given};
 ghost use Rattle.segment_file.specs.Opening.{ExaminesFile, ExaminesImage, unfit_for};
 ghost use Rattle.segment_file.specs.ReadingOn.{IsFrontGiven};
 
-use crate::file_errors::Unfit;
+use crate::file_errors::OpenFault;
 use crate::heading::Headed;
 use crate::opening::file_region;
 use crate::reading_on::read_on;
@@ -16,22 +16,26 @@ use raw_region::{Source, Steps};
 use segment_disk::{Disk, OpenedFile};
 use std::alloc::Global;
 
-/// Returns why there is no segment of an image. `None` is want of room.
-fn unexamined(error: ExamineError) -> Option<Unfit>
+/// Why there is no segment of an image. `None` is want of room.
+fn unexamined(error: ExamineError) -> Option<OpenFault>
     ensures { result ≡ unfit_for error }
 {
     match error {
-        ExamineError::Image(verdict) => Some(Unfit::Image(verdict)),
+        ExamineError::Image(verdict) => Some(OpenFault::Image(verdict)),
         ExamineError::RegionTooSmall => None,
-        ExamineError::OutOfMemory(refusal) => Some(Unfit::OutOfMemory(MemoryFault::BlockMap(
+        ExamineError::OutOfMemory(refusal) => Some(OpenFault::OutOfMemory(MemoryFault::BlockMap(
             refusal,
         ))),
-        ExamineError::ReadFault => Some(Unfit::ReadFault),
+        ExamineError::ReadFault => Some(OpenFault::ReadFault),
     }
 }
 
-/// Tells whether an image that says more bytes than there was room for has a segment. It is read first.
-fn examine_behind<S: Source>(alloc: Global, reader: &mut Headed<S>, len: u64) -> Result<(), Unfit>
+/// Whether an image that says more bytes than there was room for has a segment. It is read first.
+fn examine_behind<S: Source>(
+    alloc: Global,
+    reader: &mut Headed<S>,
+    len: u64,
+) -> Result<(), OpenFault>
     requires exclusive { IsFrontGiven (S.history reader.old.inner) }
     requires max_size { IsTooSmallFor current (read_delta nothing_given (S.history reader.old.inner)) 0
         (region_len (len + 0)) }
@@ -56,8 +60,12 @@ fn examine_behind<S: Source>(alloc: Global, reader: &mut Headed<S>, len: u64) ->
     }
 }
 
-/// Tells whether the image of a reader that was told to give `len` bytes has a segment.
-fn examine_image<S: Source>(alloc: Global, reader: &mut Headed<S>, len: u64) -> Result<(), Unfit>
+/// Whether the image of a reader that was told to give `len` bytes has a segment.
+fn examine_image<S: Source>(
+    alloc: Global,
+    reader: &mut Headed<S>,
+    len: u64,
+) -> Result<(), OpenFault>
     requires fresh { S.history reader.old.inner ≡ nothing_given }
     ensures { ExaminesImage len (read_delta nothing_given (S.history reader.new.inner)) result }
 {
@@ -71,16 +79,16 @@ fn examine_image<S: Source>(alloc: Global, reader: &mut Headed<S>, len: u64) -> 
     }
 }
 
-/// Tells whether the image in a file has a segment. None is made, and the file is closed.
+/// Whether the image in a file has a segment. None is made, and the file is closed.
 ///
 /// # Errors
 ///
 /// Those of [`open_file`](crate::open_file), a class with the place that shows it.
-pub fn examine_file<D: Disk>(alloc: Global, disk: &mut D, path: &str) -> Result<(), Unfit>
+pub fn examine_file<D: Disk>(alloc: Global, disk: &mut D, path: &str) -> Result<(), OpenFault>
     ensures { ExaminesFile D.step disk.old disk.new path.now result }
 {
     let Ok(opened) = disk.open(path) else {
-        return Err(Unfit::ReadFault);
+        return Err(OpenFault::ReadFault);
     };
     let OpenedFile { reader, len } = opened;
     let mut reader = Headed::new(reader);

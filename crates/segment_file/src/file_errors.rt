@@ -3,8 +3,8 @@ ghost use Rattle.std.specs.Prelude.{◌≡◌};
 ghost use Rattle.image_check.specs.declared.errors.MemoryFault.TheVariants.{Bytes};
 ghost use Rattle.segment_file.specs.declared.file_errors.FileError.TheVariants.{Growth, OutOfMemory as NoMemory};
 ghost use Rattle.segment_file.specs.declared.file_errors.FileError.TheVariants.{WriteFault as NotWritten};
-ghost use Rattle.segment_file.specs.declared.file_errors.Unfit.TheVariants.{OutOfMemory as NoMemoryForIt};
-ghost use Rattle.segment_file.specs.{Opening.unfit_error, SegmentFiles.growing_error};
+ghost use Rattle.segment_file.specs.declared.file_errors.OpenFault.TheVariants.{OutOfMemory as NoMemoryForIt};
+ghost use Rattle.segment_file.specs.{Opening.open_fault_error, SegmentFiles.growth_file_error};
 
 use grow_shrink::{GrowError, GrowOrMoveError};
 use image_check::{ImageClass, MemoryFault, Verdict};
@@ -41,14 +41,14 @@ pub enum FileError {
     Growth(GrowError),
 }
 
-impl From<Unfit> for FileError {
-    ghost from_gives = { λ unfit error. error ≡ unfit_error unfit };
+impl From<OpenFault> for FileError {
+    ghost from_gives = { λ unfit error. error ≡ open_fault_error unfit };
 
-    fn from(unfit: Unfit) -> FileError {
+    fn from(unfit: OpenFault) -> FileError {
         match unfit {
-            Unfit::Image(verdict) => FileError::Image(verdict.class),
-            Unfit::OutOfMemory(refusal) => FileError::OutOfMemory(refusal),
-            Unfit::ReadFault => FileError::ReadFault,
+            OpenFault::Image(verdict) => FileError::Image(verdict.class),
+            OpenFault::OutOfMemory(refusal) => FileError::OutOfMemory(refusal),
+            OpenFault::ReadFault => FileError::ReadFault,
         }
     }
 }
@@ -70,7 +70,7 @@ impl From<OutOfMemory> for FileError {
 }
 
 impl From<GrowOrMoveError> for FileError {
-    ghost from_gives = { λ why error. error ≡ growing_error why };
+    ghost from_gives = { λ why error. error ≡ growth_file_error why };
 
     fn from(why: GrowOrMoveError) -> FileError {
         match why {
@@ -93,7 +93,7 @@ impl From<DeviceFault> for FileError {
 
 /// Why there is no segment in a file.
 #[derive(Clone, Copy, Debug, PartialEq, Eq)]
-pub enum Unfit {
+pub enum OpenFault {
     /// The bytes of the file denote no directory: why, and the place that shows it.
     Image(Verdict),
     /// Memory was refused: for the region of the segment, for what was read, or for the check of the image.
@@ -102,10 +102,10 @@ pub enum Unfit {
     ReadFault,
 }
 
-impl From<OutOfMemory> for Unfit {
+impl From<OutOfMemory> for OpenFault {
     ghost from_gives = { λ refusal unfit. unfit ≡ NoMemoryForIt (Bytes refusal) };
 
-    fn from(refusal: OutOfMemory) -> Unfit {
-        Unfit::OutOfMemory(MemoryFault::Bytes(refusal))
+    fn from(refusal: OutOfMemory) -> OpenFault {
+        OpenFault::OutOfMemory(MemoryFault::Bytes(refusal))
     }
 }

@@ -13,7 +13,7 @@ mod theorems;
 mod writing;
 
 pub use examining::examine_file;
-pub use file_errors::{FileError, Unfit};
+pub use file_errors::{FileError, OpenFault};
 pub use opening::open_file;
 pub use reading::{check, migrate, read};
 pub use segment_files::SegmentFile;

@@ -4,7 +4,7 @@ ghost use Rattle.raw_region.specs.Device.{AppendsBytes};
 ghost use Rattle.image_check.specs.EarlyTests.{size_word};
 ghost use Rattle.segment_file.specs.ReadingOn.{IsFrontGiven, IsReadUpTo, IsWhole, IsWhyNotUpTo, IsWhyNotWhole};
 
-use crate::file_errors::Unfit;
+use crate::file_errors::OpenFault;
 use crate::heading::Headed;
 use image_check::{FRONT, ImageClass, Verdict};
 use raw_region::{Source, append, word_in};
@@ -15,7 +15,7 @@ use std::alloc::Global;
 const PIECE: usize = 4096;
 
 /// Reads on until the text has as many bytes as are said, which take no more memory than the reader gives.
-fn read_up_to<S: Source>(reader: &mut S, text: &mut Vec<u8>, said: u64) -> Result<(), Unfit>
+fn read_up_to<S: Source>(reader: &mut S, text: &mut Vec<u8>, said: u64) -> Result<(), OpenFault>
     requires start { IsReadUpTo (S.history reader.old) text.old.items }
     requires max_count { length text.old.items ≤ said }
     ensures on_ok { OnOk result (IsReadUpTo (S.history reader.new) text.new.items) }
@@ -27,11 +27,11 @@ fn read_up_to<S: Source>(reader: &mut S, text: &mut Vec<u8>, said: u64) -> Resul
     'pieces: while (text.len() as u64) < said {
         let wanted = (said - text.len() as u64).min(PIECE as u64) as usize;
         match reader.read(&mut piece[..wanted]) {
-            Err(_) => return Err(Unfit::ReadFault),
+            Err(_) => return Err(OpenFault::ReadFault),
             Ok(0) => {
                 let class = ImageClass::Truncated;
                 let place = text.len() as u64;
-                return Err(Unfit::Image(Verdict { class, place }));
+                return Err(OpenFault::Image(Verdict { class, place }));
             }
             Ok(count) => {
                 append(text, &piece[..count])?;
@@ -52,7 +52,7 @@ fn read_whole<S: Source>(
     front: &[u8; FRONT],
     said: u64,
     reader: &mut S,
-) -> Result<Vec<u8>, Unfit>
+) -> Result<Vec<u8>, OpenFault>
     requires start { IsReadUpTo (S.history reader.old) front.now }
     requires non_empty { 24 ≤ said }
     ensures reading { MatchResult result (λ text. IsWhole said (S.history reader.new) text.items)
@@ -63,11 +63,11 @@ fn read_whole<S: Source>(
     append(&mut text, front)?;
     read_up_to(reader, &mut text, said)?;
     match reader.read(&mut [0]) {
-        Err(_) => Err(Unfit::ReadFault),
+        Err(_) => Err(OpenFault::ReadFault),
         Ok(0) => Ok(text),
         Ok(_) => {
             let class = ImageClass::BadSize;
-            Err(Unfit::Image(Verdict { class, place: said }))
+            Err(OpenFault::Image(Verdict { class, place: said }))
         }
     }
 }
@@ -77,7 +77,10 @@ fn read_whole<S: Source>(
 /// # Errors
 ///
 /// As [`read_whole`].
-pub(crate) fn read_on<S: Source>(alloc: Global, reader: &mut Headed<S>) -> Result<Vec<u8>, Unfit>
+pub(crate) fn read_on<S: Source>(
+    alloc: Global,
+    reader: &mut Headed<S>,
+) -> Result<Vec<u8>, OpenFault>
     requires front { IsFrontGiven (S.history reader.old.inner) }
     requires non_empty { 24 ≤ size_word (S.history reader.old.inner).bytes }
     ensures reading { MatchResult result

@@ -2,7 +2,7 @@
 ghost use Rattle.std.specs.Prelude.{◌≡◌, ◌≢◌, is_ok};
 ghost use Rattle.segment_disk.specs.declared.presence.CreateMode.TheVariants.{Replacement};
 ghost use Rattle.segment_disk.specs.Events.{After, nothing_taken};
-ghost use Rattle.segment_file.specs.Files.{FillsFile, MakesImage, WritesImage, placing};
+ghost use Rattle.segment_file.specs.Files.{FillsFile, MakesImage, WritesImage, place_events};
 
 use image_check::save;
 use raw_region::DeviceFault;
@@ -37,7 +37,7 @@ fn write_here<D: Disk>(
 
 /// Puts the file that was made beside another in its place, or removes it.
 fn put_in_place<D: Disk>(disk: &mut D, path: &str, hold: &mut D::Hold) -> Result<(), DeviceFault>
-    ensures { After D.step disk.old (placing path.now (is_ok result)) disk.new }
+    ensures { After D.step disk.old (place_events path.now (is_ok result)) disk.new }
 {
     match disk.commit_replacement(path, hold) {
         Ok(()) => Ok(()),

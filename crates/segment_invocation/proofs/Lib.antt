@@ -1,6 +1,1 @@
-mod Settings
-mod PlainWords
-mod Leaves
-mod CommandLines
-mod Unread
-mod Filed
+mod command_lines

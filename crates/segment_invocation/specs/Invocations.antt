@@ -139,23 +139,23 @@ pub data Origin : Type 0 where
 -- may also have a script, and whether it is strict, and its answers are numbered; a check of all says whether it is
 -- quiet;
 -- names begin with a text and may be limited; a load has a size or takes the least
-pub data Asked : Type 0 where
-  create : Text → ℕ → Asked
-  run : Text → ModeName → Option ℕ → Asked
-  run_with : Text → ModeName → Option ℕ → Origin → SaveMode → ℕ → Bool → Bool → Asked
-  check : Text → Asked
-  check_all : List Text → Bool → Asked
-  explain : Text → Asked
-  grow : Text → ℕ → Asked
-  shrink : Text → Asked
-  migrate : Text → Asked
-  change_with : Text → FileChange → SaveMode → ℕ → Asked
-  tell : Text → Report → Asked
-  names : Text → Text → Option ℕ → Asked
-  load : Text → Option ℕ → SaveMode → ℕ → Asked
-  lint : Asked
-  language : Asked
-  version : Asked
+pub data InvocationValue : Type 0 where
+  create : Text → ℕ → InvocationValue
+  run : Text → ModeName → Option ℕ → InvocationValue
+  run_with : Text → ModeName → Option ℕ → Origin → SaveMode → ℕ → Bool → Bool → InvocationValue
+  check : Text → InvocationValue
+  check_all : List Text → Bool → InvocationValue
+  explain : Text → InvocationValue
+  grow : Text → ℕ → InvocationValue
+  shrink : Text → InvocationValue
+  migrate : Text → InvocationValue
+  change_with : Text → FileChange → SaveMode → ℕ → InvocationValue
+  tell : Text → Report → InvocationValue
+  names : Text → Text → Option ℕ → InvocationValue
+  load : Text → Option ℕ → SaveMode → ℕ → InvocationValue
+  lint : InvocationValue
+  language : InvocationValue
+  version : InvocationValue
 
 abbrev pub origin_by : Script → Origin
 origin_by script.Input = input
@@ -166,7 +166,7 @@ origin_by (script.Lines texts) = from_lines (map (λ s. s.now) texts.items)
 abbrev pub script_text : List (Bor Text) → Text
 script_text = flat_map (λ line. line.now ++ 0x0A ∷ [])
 
-abbrev pub asked_by : Invocation → Asked
+abbrev pub asked_by : Invocation → InvocationValue
 asked_by (Create file size) = create file.now size
 asked_by (Run file mode size) = run file.now mode size
 asked_by (RunWith file mode size how) =
@@ -249,18 +249,18 @@ is_plain_run input saving wait strict numbered = is_plain saving wait && (not st
 is_plain_run origin saving wait strict numbered = false
 
 -- a run, with its options where there are some
-abbrev pub ran : Text → ModeName → Option ℕ → Origin → SaveMode → ℕ → Bool → Bool → Asked
+abbrev pub ran : Text → ModeName → Option ℕ → Origin → SaveMode → ℕ → Bool → Bool → InvocationValue
 ran file mode size origin saving wait strict numbered =
     if is_plain_run origin saving wait strict numbered then run file mode size
     else run_with file mode size origin saving wait strict numbered
 
 -- a change without options, and one with its options where there are some
-abbrev pub plain_change : Text → FileChange → Asked
+abbrev pub plain_change : Text → FileChange → InvocationValue
 plain_change file (change.Grow bytes) = grow file bytes
 plain_change file change.Shrink = shrink file
 plain_change file change.Migrate = migrate file
 
-abbrev pub asked_change : Text → FileChange → SaveMode → ℕ → Asked
+abbrev pub asked_change : Text → FileChange → SaveMode → ℕ → InvocationValue
 asked_change file change saving wait =
     if is_plain saving wait then plain_change file change else change_with file change saving wait
 
@@ -269,56 +269,56 @@ abbrev pub list_of : Text → List Row → List Text
 list_of id words = unwrap_or (all_of id words) []
 
 -- what the words of a subcommand ask for: each word by its id
-abbrev pub with_file : (Text → Option Asked) → List Row → Option Asked
+abbrev pub with_file : (Text → Option InvocationValue) → List Row → Option InvocationValue
 with_file ask words = option_and_then ask (first_of (codes "file") words)
 
-abbrev pub with_number : (Text → ℕ → Option Asked) → List Row → Option Asked
+abbrev pub with_number : (Text → ℕ → Option InvocationValue) → List Row → Option InvocationValue
 with_number ask words = with_file (λ file.
     option_and_then (ask file) (option_and_then number_of (first_of (codes "number") words))) words
 
 -- how a file is taken and saved: the flag --replace, and the seconds of --wait
-abbrev pub with_kept : (SaveMode → ℕ → Asked) → List Row → Option Asked
+abbrev pub with_kept : (SaveMode → ℕ → InvocationValue) → List Row → Option InvocationValue
 with_kept ask words = option_map (ask (saving_of (first_of (codes "replace") words)))
     (seconds_of (first_of (codes "wait") words))
 
-abbrev pub asked_kept : FileChange → List Row → Option Asked
+abbrev pub asked_kept : FileChange → List Row → Option InvocationValue
 asked_kept change words = with_file (λ file. with_kept (asked_change file change) words) words
 
-abbrev pub asked_grow : List Row → Option Asked
+abbrev pub asked_grow : List Row → Option InvocationValue
 asked_grow words = with_number (λ file n. with_kept (asked_change file (change.Grow n)) words) words
 
 -- a check of these files, the first of which this is, and its flags --explain and --quiet: one file alone is explained
-abbrev pub checked_of : Text → List Text → Bool → Bool → Option Asked
+abbrev pub checked_of : Text → List Text → Bool → Bool → Option InvocationValue
 checked_of file files explains quiet =
     if nat_lt 1 (length files) then (if explains then None else Some (check_all files quiet))
     else if explains then Some (explain file)
     else if quiet then Some (check_all files true)
     else Some (check file)
 
-abbrev pub asked_check : List Row → Option Asked
+abbrev pub asked_check : List Row → Option InvocationValue
 asked_check words = with_file (λ file.
     checked_of file (list_of (codes "file") words) (is_set (first_of (codes "explain") words))
     (is_set (first_of (codes "quiet") words))) words
 
 -- a picture's file, and its flag --html
-abbrev pub asked_draw : List Row → Option Asked
+abbrev pub asked_draw : List Row → Option InvocationValue
 asked_draw words = with_file (λ file.
     Some (tell file (if is_set (first_of (codes "html") words) then Page else Picture))) words
 
 -- a dump's file, and its flags --json and --capacities
-abbrev pub asked_dump : List Row → Option Asked
+abbrev pub asked_dump : List Row → Option InvocationValue
 asked_dump words = with_file (λ file.
     Some (tell file (if is_set (first_of (codes "json") words) then Json else if is_set
     (first_of (codes "capacities") words) then Capacities else Dump))) words
 
 -- the file of names, what they begin with, and how many there are at most
-abbrev pub asked_names : List Row → Option Asked
+abbrev pub asked_names : List Row → Option InvocationValue
 asked_names words = with_file (λ file.
     option_map (names file (unwrap_or (first_of (codes "prefix") words) []))
     (size_of (first_of (codes "most") words))) words
 
 -- a load's file and size
-abbrev pub asked_load : List Row → Option Asked
+abbrev pub asked_load : List Row → Option InvocationValue
 asked_load words = with_file (λ file.
     option_and_then (λ size. with_kept (load file size) words) (size_of (first_of (codes "size") words))) words
 
@@ -352,22 +352,22 @@ abbrev pub lacks_size : ModeName → Option ℕ → Bool
 lacks_size mode size = wants_size mode && not (is_some size)
 
 -- a run, unless its mode wants a size and there is none
-abbrev pub run_sized : RunWords → Text → ModeName → Option ℕ → Origin → ℕ → Option Asked
+abbrev pub run_sized : RunWords → Text → ModeName → Option ℕ → Origin → ℕ → Option InvocationValue
 run_sized said file mode size origin wait =
     if lacks_size mode size then None
     else Some (ran file mode size origin (saving_of said.replace) wait (is_set said.strict) (is_set said.numbered))
 
-abbrev pub asked_of_run : RunWords → Option Asked
+abbrev pub asked_of_run : RunWords → Option InvocationValue
 asked_of_run said =
     option_and_then (λ file. option_and_then (λ mode.
     option_and_then (λ size. option_and_then (λ wait. option_and_then (λ origin.
     run_sized said file mode size origin wait)
     (origin_of said.script said.lines)) (seconds_of said.wait)) (size_of said.size)) (mode_of said.mode)) said.file
 
-abbrev pub asked_run : List Row → Option Asked
+abbrev pub asked_run : List Row → Option InvocationValue
 asked_run words = asked_of_run (run_words words)
 
-abbrev pub asked_in : Text → List Row → Option Asked
+abbrev pub asked_in : Text → List Row → Option InvocationValue
 asked_in subcommand words =
     if bytes_eq subcommand (codes "create") then with_number (λ file n. Some (create file n)) words
     else if bytes_eq subcommand (codes "run") then asked_run words
@@ -385,13 +385,13 @@ asked_in subcommand words =
     else None
 
 -- a subcommand with its words
-abbrev pub asked_of : Option (Text × List Row) → Option Asked
+abbrev pub asked_of : Option (Text × List Row) → Option InvocationValue
 asked_of None = None
 asked_of (Some found) = asked_in found.0 found.1
 
 -- the words, the program's name first, ask for this: by their subcommand, where clap finds no fault, or they want the
 -- version to be shown
-abbrev pub IsAskedBy : List Text → Asked → Type 0
+abbrev pub IsAskedBy : List Text → InvocationValue → Type 0
 IsAskedBy words a = ((fault_of command_line words ≡ []) × (asked_of (subcommand_of command_line words) ≡ Some a))
     ⊎ ((a ≡ version) × IsAmong DisplayVersion (fault_of command_line words))
 
@@ -554,7 +554,7 @@ report_words Capacities file = codes "dump" ∷ file ∷ codes "--capacities" �
 report_words Json file = codes "dump" ∷ file ∷ codes "--json" ∷ []
 
 -- the words behind the program's name say what is asked for
-abbrev pub IsWritten : Asked → List Text → Type 0
+abbrev pub IsWritten : InvocationValue → List Text → Type 0
 IsWritten (create file size) words = IsTrue (is_path file) × (digits : Text) × (number_of digits ≡ Some size)
     × (words ≡ codes "create" ∷ file ∷ digits ∷ [])
 IsWritten (run file mode size) words =

@@ -6,7 +6,8 @@ ghost use Rattle.std.specs.Str.{bytes_eq};
 ghost use Rattle.clap.specs.{Matches.found_of, Values.kind_of, Walk.first_of, Walk.rows_of};
 ghost use Rattle.clap.specs.declared.error.kind.ErrorKind.TheVariants.{DisplayVersion, OutOfMemory as NoMemory};
 ghost use Rattle.segment_lang.specs.Words.{number_of};
-ghost use Rattle.segment_invocation.specs.Invocations.{Asked, IsAskedBy, IsWritten, IsWrongBy, ParsesTo, asked_by};
+ghost use Rattle.segment_invocation.specs.Invocations.{InvocationValue, IsAskedBy, IsWritten, IsWrongBy, ParsesTo};
+ghost use Rattle.segment_invocation.specs.Invocations.{asked_by};
 ghost use Rattle.segment_invocation.specs.Invocations.{asked_change, asked_check, asked_in, asked_run, is_set, list_of};
 ghost use Rattle.segment_invocation.specs.Invocations.{many_files, mode_of, no_mode, no_number, origin_by, origin_of};
 ghost use Rattle.segment_invocation.specs.Invocations.{run_words, saving_of, seconds_of, size_of, two_scripts};
@@ -17,7 +18,8 @@ ghost use Rattle.segment_invocation.specs.declared.usage.UsageError.TheVariants.
 
 use crate::command_line::command_line;
 use crate::invocations::{
-    Answering, FileChange, Invocation, Keeping, ModeName, Report, Running, SaveMode, Script,
+    AnswerOptions, FileChange, FileOptions, Invocation, ModeName, Report, RunOptions, SaveMode,
+    Script,
 };
 use crate::nearest::nearest_mode;
 use crate::usage::{InvocationFault, UsageError};
@@ -34,7 +36,7 @@ fn word_of<'a>(words: &ArgMatches<'a>, id: &str) -> Option<&'a str>
 }
 
 /// Returns the values of an operand or an option that may stand there more than once.
-#[tactic(auto, using(crate::proofs::Filed::all_listed, crate::proofs::Filed::none_listed))]
+#[tactic(auto, using(crate::proofs::asking::NamedFiles::all_listed, crate::proofs::asking::NamedFiles::none_listed))]
 fn texts_in<'a>(alloc: Global, words: &ArgMatches<'a>, id: &str) -> Result<Vec<&'a str>, AllocError>
     ensures { IfOk result (λ texts. map (λ s. s.now) texts.items ≡ list_of id.now (rows_of (found_of words.now))) }
 {
@@ -52,7 +54,7 @@ fn mode_in(alloc: Global, words: &ArgMatches<'_>) -> Result<ModeName, UsageError
     ensures error { IfErr result (λ e. wrong_by e ≡ Some no_mode) }
 {
     match word_of(words, "mode") {
-        Some(word) => match ModeName::called(word) {
+        Some(word) => match ModeName::from_word(word) {
             Some(mode) => Ok(mode),
             None => Err(UsageError::Mode(nearest_mode(alloc, word))),
         },
@@ -75,7 +77,7 @@ fn count_in(words: &ArgMatches<'_>, id: &str) -> Result<Option<u64>, UsageError>
 }
 
 /// Returns the number of a command.
-#[tactic(auto, using(crate::proofs::Filed::number_read, crate::proofs::Filed::no_number_read, crate::proofs::Filed::number_unread))]
+#[tactic(auto, using(crate::proofs::asking::NamedFiles::number_read, crate::proofs::asking::NamedFiles::no_number_read, crate::proofs::asking::NamedFiles::number_unread))]
 fn number_in(words: &ArgMatches<'_>) -> Result<u64, UsageError>
     ensures read { ParsesTo (option_and_then number_of (first_of (codes "number") (rows_of (found_of words.now))))
         result }
@@ -95,7 +97,7 @@ fn is_set(words: &ArgMatches<'_>, id: &str) -> bool
 }
 
 /// Returns how the file of a command is taken and saved.
-fn keeping_in(words: &ArgMatches<'_>) -> Result<Keeping, UsageError>
+fn keeping_in(words: &ArgMatches<'_>) -> Result<FileOptions, UsageError>
     ensures save { IfOk result (λ k. k.saving ≡ saving_of (first_of (codes "replace") (rows_of (found_of words.now)))) }
     ensures read { MatchResult result (λ k. seconds_of (first_of (codes "wait") (rows_of (found_of words.now)))
         ≡ Some k.wait)
@@ -108,7 +110,7 @@ fn keeping_in(words: &ArgMatches<'_>) -> Result<Keeping, UsageError>
     } else {
         SaveMode::InPlace
     };
-    Ok(Keeping { saving, wait })
+    Ok(FileOptions { saving, wait })
 }
 
 /// Returns where the script of a run comes from, that has these lines on the command line.
@@ -147,10 +149,10 @@ fn read_run<'a>(
         return Err(UsageError::Size);
     }
     let keeping = keeping_in(words)?;
-    let running = Running {
+    let running = RunOptions {
         script: script_in(words, lines)?,
         keeping,
-        answering: Answering {
+        answering: AnswerOptions {
             strict: is_set(words, "strict"),
             numbered: is_set(words, "numbered"),
         },
@@ -183,7 +185,7 @@ fn read_check<'a>(
 }
 
 /// Returns a change of the segment in a file, with how that file is taken and saved if an option says so.
-fn change_of<'a>(file: &'a str, change: FileChange, keeping: Keeping) -> Invocation<'a>
+fn change_of<'a>(file: &'a str, change: FileChange, keeping: FileOptions) -> Invocation<'a>
     ensures { asked_by result ≡ asked_change file.now change keeping.saving keeping.wait }
 {
     match change {
@@ -195,7 +197,7 @@ fn change_of<'a>(file: &'a str, change: FileChange, keeping: Keeping) -> Invocat
 }
 
 /// Returns what the words of a command ask for.
-#[tactic(auto, using(crate::proofs::Filed::lint_asked, crate::proofs::Filed::language_asked, crate::proofs::Filed::without_file))]
+#[tactic(auto, using(crate::proofs::asking::NamedFiles::lint_asked, crate::proofs::asking::NamedFiles::language_asked, crate::proofs::asking::NamedFiles::without_file))]
 fn read_command<'a>(
     alloc: Global,
     name: &str,
@@ -272,7 +274,7 @@ pub fn invocation<'a>(
     words: &'a [&'a str],
 ) -> Result<Invocation<'a>, InvocationFault>
     ensures read { IfOk result (λ i. IsAskedBy (map (λ s. s.now) words.now) (asked_by i)) }
-    ensures input { (a : Asked) → IsWritten a (drop 1 (map (λ s. s.now) words.now))
+    ensures input { (a : InvocationValue) → IsWritten a (drop 1 (map (λ s. s.now) words.now))
         → MatchResult result (λ i. asked_by i ≡ a) (λ e. e ≡ OutOfMemory) }
     ensures refused { (w : UsageError) → result ≡ Err (Usage w) → IsWrongBy (map (λ s. s.now) words.now) w }
 {

@@ -23,7 +23,7 @@ pub enum ModeName {
 
 impl ModeName {
     /// Returns the mode of a word. `None` is a word that is none of the five.
-    pub(crate) fn called(word: &str) -> Option<ModeName>
+    pub(crate) fn from_word(word: &str) -> Option<ModeName>
         ensures { result ≡ mode_called word.now }
     {
         match word {
@@ -83,7 +83,7 @@ pub enum FileChange {
 
 /// How a run answers.
 #[derive(Clone, Copy, Debug, PartialEq, Eq)]
-pub struct Answering {
+pub struct AnswerOptions {
     /// `--strict`: the first answer that is an error ends the run, and nothing is saved.
     pub strict: bool,
     /// `--numbered`: each line of an answer stands after the number of the line of the script that it answers.
@@ -92,16 +92,16 @@ pub struct Answering {
 
 /// How the file of a command that writes is taken and saved.
 #[derive(Clone, Copy, Debug, PartialEq, Eq)]
-pub struct Keeping {
+pub struct FileOptions {
     /// How a file that is there is saved.
     pub saving: SaveMode,
     /// `--wait`: for how many seconds the right to write the file is waited for, if another has it.
     pub wait: u64,
 }
 
-impl Keeping {
+impl FileOptions {
     /// The options that hold if the command line gives none.
-    pub const PLAIN: Keeping = Keeping {
+    pub const PLAIN: FileOptions = FileOptions {
         saving: SaveMode::InPlace,
         wait: 0,
     };
@@ -143,21 +143,21 @@ pub fn script_text(alloc: Global, lines: &[&str]) -> Result<Vec<u8>, OutOfMemory
 
 /// What a run is asked for beside its file, mode and size.
 #[derive(Debug, Drop, PartialEq, Eq)]
-pub struct Running<'a> {
+pub struct RunOptions<'a> {
     /// Where its script comes from.
     pub script: Script<'a>,
     /// How its file is taken and saved.
-    pub keeping: Keeping,
+    pub keeping: FileOptions,
     /// How it answers.
-    pub answering: Answering,
+    pub answering: AnswerOptions,
 }
 
-impl<'a> Running<'a> {
+impl<'a> RunOptions<'a> {
     /// The options that hold if the command line gives none.
-    pub const PLAIN: Running<'static> = Running {
+    pub const PLAIN: RunOptions<'static> = RunOptions {
         script: Script::Input,
-        keeping: Keeping::PLAIN,
-        answering: Answering {
+        keeping: FileOptions::PLAIN,
+        answering: AnswerOptions {
             strict: false,
             numbered: false,
         },
@@ -186,7 +186,7 @@ pub enum Invocation<'a> {
     /// made. The modes `create_only` and `open_or_create` have a size.
     Run(&'a str, ModeName, Option<u64>),
     /// To run a script on the segment in a file, with options.
-    RunWith(&'a str, ModeName, Option<u64>, Running<'a>),
+    RunWith(&'a str, ModeName, Option<u64>, RunOptions<'a>),
     /// To check that a file holds a segment.
     Check(&'a str),
     /// To check that of several files, or of one, and to name those that hold none; of the others nothing if the second
@@ -201,14 +201,14 @@ pub enum Invocation<'a> {
     /// To write the segment in a file, of this format or an older one, in this format.
     Migrate(&'a str),
     /// To grow, shrink or migrate a segment with options.
-    ChangeWith(&'a str, FileChange, Keeping),
+    ChangeWith(&'a str, FileChange, FileOptions),
     /// To tell something of the segment in a file.
     Tell(&'a str, Report),
     /// To print the names of the segment in a file that begin with a text, in their order, at most so many.
     Names(&'a str, &'a str, Option<u64>),
     /// To make a segment of such a text: of this size, or as long as the text says and cut after its last block. It is
     /// made in a file that is not there, or is to take the place of the one that is.
-    Load(&'a str, Option<u64>, Keeping),
+    Load(&'a str, Option<u64>, FileOptions),
     /// To tell which lines of a script are no commands.
     Lint,
     /// To print the commands of a script.

@@ -10,8 +10,8 @@ mod version;
 
 pub use asking::{invocation, is_verbose};
 pub use invocations::{
-    Answering, FileChange, Invocation, Keeping, ModeName, Report, Running, SaveMode, Script,
-    script_text,
+    AnswerOptions, FileChange, FileOptions, Invocation, ModeName, Report, RunOptions, SaveMode,
+    Script, script_text,
 };
 pub use nearest::Tip;
 pub use usage::{InvocationFault, UsageError};

@@ -1,6 +1,6 @@
 -- The laws of words and literals for other crates.
 
 -- words stand for no more bytes than they are spelled by
-pub use Rattle.segment_lang.proofs.WordRoom.{words_room}
+pub use Rattle.segment_lang.proofs.words.Lengths.{words_room}
 -- what stands behind a command word: nothing, one word, two, three
-pub use Rattle.segment_lang.proofs.CommandWords.{alone_at_end, of_key, of_key_literal, of_key_number, of_putting}
+pub use Rattle.segment_lang.proofs.commands.Words.{alone_at_end, of_key, of_key_literal, of_key_number, of_putting}

@@ -1,20 +1,2 @@
-mod WrittenValues
-mod TextItems
-mod Decimals
-mod LongLines
-mod WordList
-mod BareWords
-mod Buffers
-mod TextSpelling
-mod FormTables
-mod FirstWords
-mod KindTables
-mod WordReaders
-mod WordRoom
-mod ArrayValues
-mod EachWord
-mod QuotedNames
-mod PrintedKeys
-mod CommandWords
-mod Rows
+mod Examples
 pub mod Laws

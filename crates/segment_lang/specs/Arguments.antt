@@ -10,15 +10,15 @@ use Rattle.seg_types.specs.Names.{Key}
 use Rattle.seg_types.specs.Values.{scalar_of}
 use Rattle.seg_types.specs.Commands.{Assign, Command, Content, Literal}
 use Rattle.segment_lang.specs.Words.{Word, Bare, literal_of_word, number_of, words}
-use Rattle.segment_lang.specs.Language.{Language, whole}
+use Rattle.segment_lang.specs.Language.{Language, whole_language}
 use Rattle.segment_lang.specs.Reading.{Reader, all, content, counted_kind, for_kind, key_of, new_key, items, quoted_of}
 use Rattle.segment_lang.specs.Reading.{value_for}
 use Rattle.segment_lang.specs.Tokens.{◌>>=◌, next_two, next_word, only_word, two_words, three_words}
 
 -- the kind of the elements, where they are scalars
-abbrev pub scalar_in : Kind → Option ScalarKind
-scalar_in (Scalar k) = Some k
-scalar_in k = None
+abbrev pub scalar_kind_of : Kind → Option ScalarKind
+scalar_kind_of (Scalar k) = Some k
+scalar_kind_of k = None
 
 -- `#` and a handle
 abbrev pub handle_of : Word → Option ℕ
@@ -26,14 +26,14 @@ handle_of (Bare (c ∷ cs)) = if c == 0x23 then number_of cs else None
 handle_of w = None
 
 -- what one word asks for, what two do, and what three do
-abbrev pub of_one : Reader → List ℕ → Option Command
-of_one g bytes = option_and_then (λ x. g (whole current) (x ∷ [])) (only_word bytes)
+abbrev pub command_of_one : Reader → List ℕ → Option Command
+command_of_one g bytes = option_and_then (λ x. g (whole_language current) (x ∷ [])) (only_word bytes)
 
-abbrev pub of_two : Reader → List ℕ → Option Command
-of_two g bytes = option_and_then (λ x. g (whole current) (x.0 ∷ x.1 ∷ [])) (two_words bytes)
+abbrev pub command_of_two : Reader → List ℕ → Option Command
+command_of_two g bytes = option_and_then (λ x. g (whole_language current) (x.0 ∷ x.1 ∷ [])) (two_words bytes)
 
-abbrev pub of_three : Reader → List ℕ → Option Command
-of_three g bytes = option_and_then (λ x. g (whole current) (x.0 ∷ x.1 ∷ x.2 ∷ [])) (three_words bytes)
+abbrev pub command_of_three : Reader → List ℕ → Option Command
+command_of_three g bytes = option_and_then (λ x. g (whole_language current) (x.0 ∷ x.1 ∷ x.2 ∷ [])) (three_words bytes)
 
 -- what scalars are made with: one value
 unfoldable pub scalar_at : ScalarKind → ℕ → List ℕ → Option Content
@@ -43,8 +43,8 @@ scalar_at k n bytes = option_and_then (λ x. content (Scalar k) n (x ∷ [])) (o
 unfoldable pub making_at : (Key → Content → Command) → (Language → Word → Option Key) → List ℕ → Option Command
 making_at make key_in bytes = do
   x ← next_two bytes
-  k ← counted_kind (whole current) x.0
-  key ← for_kind k.0 (key_in (whole current) x.1)
+  k ← counted_kind (whole_language current) x.0
+  key ← for_kind k.0 (key_in (whole_language current) x.1)
   made_with ← option_and_then (content k.0 k.1) (words x.2)
   Some (make key made_with)
 
@@ -62,13 +62,13 @@ abbrev pub values_in : ScalarKind → List ℕ → TypedNumbers
 values_in k bytes = record { kind = k; numbers = unwrap_or (numbers_at k bytes) [] }
 
 -- these values of a kind
-abbrev pub written : ScalarKind → List ℤ → TypedNumbers
-written k zs = record { kind = k; numbers = zs }
+abbrev pub typed_numbers : ScalarKind → List ℤ → TypedNumbers
+typed_numbers k zs = record { kind = k; numbers = zs }
 
 -- the values of a kind that all words are, where they are as many
 abbrev pub counted_values : ScalarKind → ℕ → List ℕ → Option TypedNumbers
 counted_values k n bytes =
-    option_and_then (λ zs. if length zs == n then Some (written k zs) else None) (numbers_at k bytes)
+    option_and_then (λ zs. if length zs == n then Some (typed_numbers k zs) else None) (numbers_at k bytes)
 
 -- the values, each with its kind
 abbrev pub scalars_in : TypedNumbers → List ScalarValue
@@ -78,9 +78,9 @@ scalars_in w = map (scalar_of w.kind) w.numbers
 unfoldable pub making_each_at : List ℕ → Option Command
 making_each_at bytes = do
   x ← next_two bytes
-  k ← counted_kind (whole current) x.0
-  key ← for_kind k.0 (new_key (whole current) x.1)
-  kind ← scalar_in k.0
+  k ← counted_kind (whole_language current) x.0
+  key ← for_kind k.0 (new_key (whole_language current) x.1)
+  kind ← scalar_kind_of k.0
   numbers ← numbers_at kind x.2
   items k.1 kind key numbers
 
@@ -96,7 +96,7 @@ literals_in bytes = unwrap_or (literals_at bytes) []
 unfoldable pub assigning_at : List ℕ → Option Command
 assigning_at bytes = do
   x ← next_word bytes
-  key ← key_of (whole current) x.0
+  key ← key_of (whole_language current) x.0
   values ← literals_at x.1
   Some (Assign key values)
 

@@ -8,5 +8,5 @@ pub record Language : Type 0 where
   pub kinds : List Kind
 
 -- all that there is in a format
-abbrev pub whole : ℕ → Language
-whole format = record { format = format; kinds = filter (is_kind_of format) kinds }
+abbrev pub whole_language : ℕ → Language
+whole_language format = record { format = format; kinds = filter (is_kind_of format) kinds }

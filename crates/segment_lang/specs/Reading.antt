@@ -12,7 +12,7 @@ use Rattle.seg_types.specs.Commands as asked
 use Rattle.seg_types.specs.Commands.{Command, Content, Literal, Reading, Nothing, Asked, UnknownCommand, LineTooLong}
 use Rattle.seg_types.specs.Commands.{BadSyntax, value_of_literal}
 use Rattle.segment_lang.specs.Words as word
-use Rattle.segment_lang.specs.Words.{Word, Bare, words, is, is_blank, is_bare_name, number_of, literal_of_word}
+use Rattle.segment_lang.specs.Words.{Word, Bare, words, is_word, is_blank, is_bare_name, number_of, literal_of_word}
 use Rattle.segment_lang.specs.Texts.{kind_text}
 use Rattle.segment_lang.specs.Language.{Language}
 
@@ -20,7 +20,7 @@ use Rattle.segment_lang.specs.Language.{Language}
 
 -- the kind that is printed so
 unfoldable pub kind_named : Language → List ℕ → Option Kind
-kind_named l w = find (λ k. is w (kind_text k)) l.kinds
+kind_named l w = find (λ k. is_word w (kind_text k)) l.kinds
 
 abbrev pub kind_of_word : Language → Word → Option Kind
 kind_of_word l (Bare w) = kind_named l w
@@ -59,7 +59,7 @@ key_of l (Bare (c ∷ cs)) = if c == 0x23 then option_map ByHandle (number_of cs
 -- a name, `@KIND` or `-`
 abbrev pub new_key : Language → Word → Option Key
 new_key l (word.Text bs) = name_key l (word.Text bs)
-new_key l (Bare w) = if is w (codes "-") then Some NoKey else name_key l (Bare w)
+new_key l (Bare w) = if is_word w (codes "-") then Some NoKey else name_key l (Bare w)
 
 -- where a line has a kind and `@KIND`, they are the same
 abbrev pub agrees : Kind → Key → Bool
@@ -217,7 +217,7 @@ forms =
 
 -- what stands behind a command word
 abbrev pub form_of : List ℕ → Option Form
-form_of w = find (λ (f : Form). is w f.0) forms
+form_of w = find (λ (f : Form). is_word w f.0) forms
 
 abbrev pub as_reading : Option Command → Reading
 as_reading None = BadSyntax

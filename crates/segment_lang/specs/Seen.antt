@@ -6,8 +6,8 @@ use Rattle.seg_types.specs.Commands as asked
 use Rattle.seg_types.specs.Keys.{index_key_seen, key_seen, new_key_seen}
 use Rattle.seg_types.specs.Values.{kind_of_scalar, value_of_scalar}
 use Rattle.segment_lang.specs.Words as said
-use Rattle.segment_lang.specs.Words.{is, words}
-use Rattle.segment_lang.specs.Language.{whole}
+use Rattle.segment_lang.specs.Words.{is_word, words}
+use Rattle.segment_lang.specs.Language.{whole_language}
 use Rattle.segment_lang.specs.Tokens.{behind_word}
 use Rattle.segment_lang.specs.Reading.{Reader, making, making_each, finding, with_key, with_key_number}
 use Rattle.segment_lang.specs.Reading.{with_key_literal, with_key_number_literal, with_number, alone, appending}
@@ -159,7 +159,7 @@ reader_of (form.Deed d) = deed_reader_of d
 
 -- what a command word of a form asks for, with what stands behind it
 abbrev pub reading_by : CommandForm → List ℕ → asked.Reading
-reading_by form rest = as_reading (option_and_then (reader_of form (whole current)) (words rest))
+reading_by form rest = as_reading (option_and_then (reader_of form (whole_language current)) (words rest))
 
 abbrev pub reading_led : LineStart → asked.Reading
 reading_led lead.Nothing = asked.Nothing
@@ -183,4 +183,4 @@ place_of (a ∷ b ∷ c ∷ w) = (a + 6 * c) % 32
 
 -- what the first row of a word has
 abbrev pub found_in : {A : Type 0} → List (KeywordRow A) → List ℕ → Option A
-found_in {A} rows w = option_map (λ (row : KeywordRow A). row.1) (find (λ (row : KeywordRow A). is w row.0) rows)
+found_in {A} rows w = option_map (λ (row : KeywordRow A). row.1) (find (λ (row : KeywordRow A). is_word w row.0) rows)

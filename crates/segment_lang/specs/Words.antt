@@ -106,12 +106,12 @@ abbrev pub whole_of : List ℕ → Option ℤ
 whole_of [] = None
 whole_of (c ∷ cs) = if c == 0x2D then negative_of cs else option_map pos (number_of (c ∷ cs))
 
-abbrev pub is : List ℕ → List ℕ → Bool
-is = pointwise nat_eq
+abbrev pub is_word : List ℕ → List ℕ → Bool
+is_word = pointwise nat_eq
 
 -- a whole number, `true`, `false` or a text
 abbrev pub literal_of_word : Word → Option Literal
 literal_of_word (Text bs) = Some (Quoted bs)
 literal_of_word (Bare w) =
-    if is w (codes "true") then Some (Truth true)
-    else if is w (codes "false") then Some (Truth false) else option_map Whole (whole_of w)
+    if is_word w (codes "true") then Some (Truth true)
+    else if is_word w (codes "false") then Some (Truth false) else option_map Whole (whole_of w)

@@ -4,8 +4,8 @@ ghost use Rattle.std.specs.Prelude.{◌≡◌, ◌<◌, [], IsTrue, Some, None, 
 ghost use Rattle.std.specs.Prelude.{is_some, option_map, map, slice_index_or};
 ghost use Rattle.std.specs.List.{list_all};
 ghost use Rattle.raw_region.specs.Format.{current};
-ghost use Rattle.segment_lang.specs.Words.{is, words};
-ghost use Rattle.segment_lang.specs.Language.{whole};
+ghost use Rattle.segment_lang.specs.Words.{is_word, words};
+ghost use Rattle.segment_lang.specs.Language.{whole_language};
 ghost use Rattle.segment_lang.specs.Reading.{form_of};
 ghost use Rattle.segment_lang.specs.Seen.{deed_of, deed_reader_of, found_in, place_of, reader_of, with_rest};
 ghost use Rattle.segment_lang.specs.Tokens.{behind_word, is_unbroken, up_to_blank};
@@ -175,7 +175,7 @@ static FORMS: [&[(&[u8], CommandForm)]; 32] = [
 fn behind<'a>(line: &'a [u8], word: &[u8]) -> Option<&'a [u8]>
     requires { IsTrue (is_unbroken word.now) }
     ensures { option_map (λ rest. rest.now) result
-        ≡ (if is (up_to_blank line.now) word.now then Some (behind_word line.now) else None) }
+        ≡ (if is_word (up_to_blank line.now) word.now then Some (behind_word line.now) else None) }
 {
     let rest = line.strip_prefix(word)?;
     if !ends_word(rest) {
@@ -241,7 +241,8 @@ pub fn read_deed<'a>(
     bytes: &'a [u8],
     scratch: &'a mut LineBuffer,
 ) -> Option<Deed<'a>>
-    ensures { option_map deed_of result ≡ option_and_then (deed_reader_of form (whole current)) (words bytes.now) }
+    ensures { option_map deed_of result
+        ≡ option_and_then (deed_reader_of form (whole_language current)) (words bytes.now) }
 {
     match form {
         DeedForm::Construct => read_construct(bytes, scratch),
@@ -279,7 +280,7 @@ pub fn read_deed<'a>(
 
 /// Tells whether what stands after a command word has the word's form.
 pub fn is_command(form: CommandForm, bytes: &[u8], scratch: &mut LineBuffer) -> bool
-    ensures { result ≡ is_some (option_and_then (reader_of form (whole current)) (words bytes.now)) }
+    ensures { result ≡ is_some (option_and_then (reader_of form (whole_language current)) (words bytes.now)) }
 {
     match form {
         CommandForm::Size => is_alone(bytes),

@@ -5,14 +5,14 @@ ghost use Rattle.raw_region.specs.Format.{current};
 ghost use Rattle.seg_types.specs.Names.{is_name};
 ghost use Rattle.seg_types.specs.Keys.{index_key_seen, key_seen, name_seen, new_key_seen};
 ghost use Rattle.segment_lang.specs.Words.{is_bare_name};
-ghost use Rattle.segment_lang.specs.Language.{whole};
+ghost use Rattle.segment_lang.specs.Language.{whole_language};
 ghost use Rattle.segment_lang.specs.Reading.{agrees, for_kind, key_of, name_key, new_key};
 ghost use Rattle.segment_lang.specs.Arguments.{handle_of};
 ghost use Rattle.segment_lang.specs.Seen.{word_of};
 
 use crate::buffer::LineBuffer;
 use crate::kinds::kind_named;
-use crate::literals::is;
+use crate::literals::is_word;
 use crate::numbers::number_of;
 use crate::words::Word;
 use seg_types::{Handle, IndexKey, Key, Kind, Name, NewKey, is_bare_name};
@@ -31,7 +31,7 @@ fn bare_name(word: &[u8]) -> Option<Name<'_>>
 /// Returns the entry of an index: a name, or `@` and a kind.
 #[inline(always)]
 pub fn index_key<'a>(word: Word<'a>, scratch: &'a mut LineBuffer) -> Option<IndexKey<'a>>
-    ensures { option_map index_key_seen result ≡ name_key (whole current) (word_of word.entry) }
+    ensures { option_map index_key_seen result ≡ name_key (whole_language current) (word_of word.entry) }
 {
     match word {
         Word::Bare([b'@', kind @ ..]) => Some(IndexKey::Unique(kind_named(kind)?)),
@@ -56,7 +56,8 @@ pub fn index_key_for<'a>(
     word: Word<'a>,
     scratch: &'a mut LineBuffer,
 ) -> Option<IndexKey<'a>>
-    ensures { option_map index_key_seen result ≡ for_kind kind (name_key (whole current) (word_of word.entry)) }
+    ensures { option_map index_key_seen result
+        ≡ for_kind kind (name_key (whole_language current) (word_of word.entry)) }
 {
     let key = index_key(word, scratch)?;
     if !agrees(kind, &key) {
@@ -71,10 +72,10 @@ pub fn new_key_for<'a>(
     word: Word<'a>,
     scratch: &'a mut LineBuffer,
 ) -> Option<NewKey<'a>>
-    ensures { option_map new_key_seen result ≡ for_kind kind (new_key (whole current) (word_of word.entry)) }
+    ensures { option_map new_key_seen result ≡ for_kind kind (new_key (whole_language current) (word_of word.entry)) }
 {
     match word {
-        Word::Bare(word) if is(word, b"-") => Some(NewKey::Anonymous),
+        Word::Bare(word) if is_word(word, b"-") => Some(NewKey::Anonymous),
         _ => index_key_for(kind, word, scratch).map(IndexKey::into_new_key),
     }
 }
@@ -91,7 +92,7 @@ pub fn handle_of(word: Word<'_>) -> Option<Handle>
 
 /// Returns the key of an object: its entry, or `#` and its handle.
 pub fn key_of<'a>(word: Word<'a>, scratch: &'a mut LineBuffer) -> Option<Key<'a>>
-    ensures { option_map key_seen result ≡ key_of (whole current) (word_of word.entry) }
+    ensures { option_map key_seen result ≡ key_of (whole_language current) (word_of word.entry) }
 {
     match word {
         Word::Bare([b'#', digits @ ..]) => Some(Key::Handle(number_of(digits)?)),

@@ -4,11 +4,11 @@ ghost use Rattle.std.specs.Prelude.{◌≡◌, ◌==◌, ◌+◌, not, length, m
 ghost use Rattle.std.specs.Prelude.{slice_index};
 ghost use Rattle.raw_region.specs.Format.{current};
 ghost use Rattle.segment_lang.specs.Words.{Bare};
-ghost use Rattle.segment_lang.specs.Language.{whole};
+ghost use Rattle.segment_lang.specs.Language.{whole_language};
 ghost use Rattle.segment_lang.specs.Reading.{bracketed, counted, counted_kind, kind_named, kind_of_word};
 ghost use Rattle.segment_lang.specs.Seen.{found_in, word_of};
 
-use crate::literals::is;
+use crate::literals::is_word;
 use crate::numbers::number_of;
 use crate::words::Word;
 use seg_types::{Kind, MAX_ARRAY_LEN, ScalarKind};
@@ -65,19 +65,21 @@ static KINDS: [(&[u8], Kind); 37] = [
 fn find_kind(rows: &[(&[u8], Kind)], word: &[u8]) -> Option<Kind>
     ensures { result ≡ found_in (map (λ row. (row.0.now, row.1)) rows.now) word.now }
 {
-    rows.iter().find(|row| is(word, row.0)).map(|row| row.1)
+    rows.iter()
+        .find(|row| is_word(word, row.0))
+        .map(|row| row.1)
 }
 
 /// Returns the kind that is printed so.
 pub fn kind_named(word: &[u8]) -> Option<Kind>
-    ensures { result ≡ kind_named (whole current) word.now }
+    ensures { result ≡ kind_named (whole_language current) word.now }
 {
     find_kind(&KINDS, word)
 }
 
 /// Returns the kind that a word is.
 pub fn kind_of_word(word: Word<'_>) -> Option<Kind>
-    ensures { result ≡ kind_of_word (whole current) (word_of word.entry) }
+    ensures { result ≡ kind_of_word (whole_language current) (word_of word.entry) }
 {
     match word {
         Word::Bare(word) => kind_named(word),
@@ -138,7 +140,7 @@ fn counted(kind: Kind, count: Option<u64>) -> Option<(Kind, u32)>
 
 /// Returns the kind that a bare word is, and how many elements stand in brackets after it: without them 1.
 fn counted_name(word: &[u8]) -> Option<(Kind, u32)>
-    ensures { result ≡ counted_kind (whole current) (Bare word.now) }
+    ensures { result ≡ counted_kind (whole_language current) (Bare word.now) }
 {
     if let Some(kind) = kind_named(word) {
         return Some((kind, 1));
@@ -150,7 +152,7 @@ fn counted_name(word: &[u8]) -> Option<(Kind, u32)>
 
 /// Returns the kind of the objects that are to be made, and how many elements each has.
 pub fn counted_kind(word: Word<'_>) -> Option<(Kind, u32)>
-    ensures { result ≡ counted_kind (whole current) (word_of word.entry) }
+    ensures { result ≡ counted_kind (whole_language current) (word_of word.entry) }
 {
     match word {
         Word::Bare(word) => counted_name(word),

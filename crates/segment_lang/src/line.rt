@@ -2,7 +2,7 @@
 
 ghost use Rattle.std.specs.Prelude.{◌≡◌, ◌==◌, MatchOption, false, slice_index, if◌then◌else◌};
 ghost use Rattle.raw_region.specs.Format.{current};
-ghost use Rattle.segment_lang.specs.Language.{whole};
+ghost use Rattle.segment_lang.specs.Language.{whole_language};
 ghost use Rattle.seg_types.specs.Commands.{Nothing};
 ghost use Rattle.segment_lang.specs.Reading.{command_line, reading, skip_blanks, without_return};
 ghost use Rattle.segment_lang.specs.Seen.{is_wrong, reading_led, wrong_reading};
@@ -40,7 +40,8 @@ fn is_comment(line: &[u8]) -> bool
 #[inline(never)]
 fn lead_behind_blanks(line: &[u8]) -> LineStart<'_>
     ensures { reading_led result
-        ≡ (if slice_index line.now 0 == 0x23 then Nothing else command_line (whole current) (skip_blanks line.now)) }
+        ≡ (if slice_index line.now 0 == 0x23 then Nothing else command_line (whole_language current)
+        (skip_blanks line.now)) }
 {
     if is_comment(line) {
         return LineStart::Nothing;
@@ -59,7 +60,7 @@ fn lead_behind_blanks(line: &[u8]) -> LineStart<'_>
 #[tactic(auto, unfolding(crate::specs::Reading::reading))]
 #[inline(always)]
 pub fn line_start(line: &[u8]) -> LineStart<'_>
-    ensures { reading_led result ≡ reading (whole current) line.now }
+    ensures { reading_led result ≡ reading (whole_language current) line.now }
 {
     let line = without_return(line);
     if line.len() > MAX_LINE_LEN {
@@ -74,8 +75,8 @@ pub fn line_start(line: &[u8]) -> LineStart<'_>
 /// Returns why a line is no command, if it has one and it is none. A name that is spelled with escapes is decoded into
 /// `scratch`, whatever it held.
 pub fn line_error(line: &[u8], scratch: &mut LineBuffer) -> Option<LineError>
-    ensures { MatchOption result (is_wrong (reading (whole current) line.now) ≡ false)
-        (λ error. wrong_reading error ≡ reading (whole current) line.now) }
+    ensures { MatchOption result (is_wrong (reading (whole_language current) line.now) ≡ false)
+        (λ error. wrong_reading error ≡ reading (whole_language current) line.now) }
 {
     match line_start(line) {
         LineStart::Nothing => None,

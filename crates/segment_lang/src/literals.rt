@@ -2,14 +2,14 @@
 
 ghost use Rattle.std.specs.Prelude.{◌≡◌, option_map};
 ghost use Rattle.seg_types.specs.Values.{scalar_of as scalar_in};
-ghost use Rattle.segment_lang.specs.Words.{Bare, is, literal_of_word};
+ghost use Rattle.segment_lang.specs.Words.{Bare, is_word, literal_of_word};
 ghost use Rattle.segment_lang.specs.Reading.{quoted_of, value_for};
 ghost use Rattle.segment_lang.specs.Seen.{HasLineRoom, literal_of, word_of};
 
 use crate::buffer::LineBuffer;
 use crate::numbers::{WholeNumber, whole_of};
 use crate::words::{Quoted, Word};
-use seg_types::{Refusal, ScalarKind, ScalarValue, Written, truth_as, whole_as};
+use seg_types::{Refusal, ScalarKind, ScalarValue, WrittenValue, truth_as, whole_as};
 
 /// A value as a line writes it.
 #[derive(Drop)]
@@ -22,27 +22,27 @@ pub enum Literal<'a> {
     Quoted(Quoted<'a>),
 }
 
-/// Tells whether a word is this text, byte for byte.
-pub fn is(word: &[u8], text: &[u8]) -> bool
-    ensures { result ≡ is word.now text.now }
+/// Whether a word is this text, byte for byte.
+pub fn is_word(word: &[u8], text: &[u8]) -> bool
+    ensures { result ≡ is_word word.now text.now }
 {
     word == text
 }
 
-/// Returns the value that a bare word spells: `true`, `false` or a whole number.
+/// The value that a bare word spells: `true`, `false` or a whole number.
 fn bare_literal(word: &[u8]) -> Option<Literal<'_>>
     ensures { option_map literal_of result ≡ literal_of_word (Bare word.now) }
 {
-    if is(word, b"true") {
+    if is_word(word, b"true") {
         return Some(Literal::Truth(true));
     }
-    if is(word, b"false") {
+    if is_word(word, b"false") {
         return Some(Literal::Truth(false));
     }
     Some(Literal::Whole(whole_of(word)?))
 }
 
-/// Returns the value that a word spells.
+/// The value that a word spells.
 pub fn literal_of(word: Word<'_>) -> Option<Literal<'_>>
     ensures { option_map literal_of result ≡ literal_of_word (word_of word.entry) }
 {
@@ -52,7 +52,7 @@ pub fn literal_of(word: Word<'_>) -> Option<Literal<'_>>
     }
 }
 
-/// Returns the bytes that a word stands for that is a text.
+/// The bytes that a word stands for that is a text.
 pub fn quoted_of(word: Word<'_>) -> Option<Quoted<'_>>
     ensures { result ≡ quoted_of (word_of word.entry) }
 {
@@ -62,7 +62,7 @@ pub fn quoted_of(word: Word<'_>) -> Option<Quoted<'_>>
     }
 }
 
-impl Written for Literal<'_> {
+impl WrittenValue for Literal<'_> {
     type Room = LineBuffer;
 
     ghost literal = { literal_of };
@@ -85,8 +85,8 @@ impl Written for Literal<'_> {
     }
 }
 
-/// Returns the value of the kind that a word spells.
-#[tactic(auto, using(crate::proofs::WrittenValues::ok_value))]
+/// The value of the kind that a word spells.
+#[tactic(auto, using(crate::proofs::values::Literals::ok_value))]
 pub fn scalar_of(kind: ScalarKind, word: Word<'_>) -> Option<ScalarValue>
     ensures { result ≡ option_map (scalar_in kind) (value_for kind (word_of word.entry)) }
 {

@@ -4,7 +4,7 @@ ghost use Rattle.std.specs.Prelude.{◌≡◌, option_map};
 ghost use Rattle.seg_types.specs.Commands as asked;
 ghost use Rattle.segment_lang.specs.Reading.{putting, with_key_literal};
 ghost use Rattle.seg_types.specs.Keys.{key_seen};
-ghost use Rattle.segment_lang.specs.Arguments.{of_three, of_two};
+ghost use Rattle.segment_lang.specs.Arguments.{command_of_three, command_of_two};
 ghost use Rattle.segment_lang.specs.Seen.{deed_of, literal_of as literal_seen};
 
 use crate::buffer::LineBuffer;
@@ -22,7 +22,7 @@ pub fn key_and_pair<'a>(
     scratch: &'a mut LineBuffer,
 ) -> Option<(Key<'a>, Literal<'a>, Literal<'a>)>
     ensures { option_map (λ x. asked.Put (key_seen x.0) (literal_seen x.1) (literal_seen x.2)) result
-        ≡ of_three putting bytes.now }
+        ≡ command_of_three putting bytes.now }
 {
     let (key, at, value) = three_words(bytes)?;
     let key = key_of(key, scratch)?;
@@ -34,7 +34,7 @@ pub fn key_and_pair<'a>(
 /// Returns a key and a value, of a pair that is looked up.
 #[inline(never)]
 pub fn read_lookup<'a>(bytes: &'a [u8], scratch: &'a mut LineBuffer) -> Option<Deed<'a>>
-    ensures { option_map deed_of result ≡ of_two (with_key_literal asked.Lookup) bytes.now }
+    ensures { option_map deed_of result ≡ command_of_two (with_key_literal asked.Lookup) bytes.now }
 {
     let (key, at) = key_and_literal(bytes, scratch)?;
     Some(Deed::Lookup { key, at })
@@ -43,7 +43,7 @@ pub fn read_lookup<'a>(bytes: &'a [u8], scratch: &'a mut LineBuffer) -> Option<D
 /// Returns a key and a value, of a pair that goes.
 #[inline(never)]
 pub fn read_remove<'a>(bytes: &'a [u8], scratch: &'a mut LineBuffer) -> Option<Deed<'a>>
-    ensures { option_map deed_of result ≡ of_two (with_key_literal asked.Remove) bytes.now }
+    ensures { option_map deed_of result ≡ command_of_two (with_key_literal asked.Remove) bytes.now }
 {
     let (key, at) = key_and_literal(bytes, scratch)?;
     Some(Deed::Remove { key, at })

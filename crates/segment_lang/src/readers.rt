@@ -7,7 +7,8 @@ ghost use Rattle.seg_types.specs.Names.{Key as AskedKey};
 ghost use Rattle.segment_lang.specs.Reading.{finding, key_of, name_key, new_key, with_key, with_key_literal};
 ghost use Rattle.segment_lang.specs.Reading.{with_key_number, with_key_number_literal, with_number};
 ghost use Rattle.segment_lang.specs.Tokens.{at_end, only_word};
-ghost use Rattle.segment_lang.specs.Arguments.{handle_of, making_at, making_each_at, of_one, of_three, of_two};
+ghost use Rattle.segment_lang.specs.Arguments.{handle_of, making_at, making_each_at, command_of_one, command_of_three};
+ghost use Rattle.segment_lang.specs.Arguments.{command_of_two};
 ghost use Rattle.segment_lang.specs.Seen.{deed_of, literal_of};
 
 use crate::blanks::at_end;
@@ -68,7 +69,7 @@ pub fn read_construct_it<'a>(bytes: &'a [u8], scratch: &'a mut LineBuffer) -> Op
 /// Returns a kind and an entry of an index.
 #[inline(never)]
 pub fn read_find<'a>(bytes: &'a [u8], scratch: &'a mut LineBuffer) -> Option<Deed<'a>>
-    ensures { option_map deed_of result ≡ of_two finding bytes.now }
+    ensures { option_map deed_of result ≡ command_of_two finding bytes.now }
 {
     let (kind, key) = two_words(bytes)?;
     let kind = kind_of_word(kind)?;
@@ -79,7 +80,7 @@ pub fn read_find<'a>(bytes: &'a [u8], scratch: &'a mut LineBuffer) -> Option<Dee
 /// Returns an entry of an index.
 #[inline(never)]
 pub fn read_destroy<'a>(bytes: &'a [u8], scratch: &'a mut LineBuffer) -> Option<Deed<'a>>
-    ensures { option_map deed_of result ≡ of_one (with_key asked.Destroy name_key) bytes.now }
+    ensures { option_map deed_of result ≡ command_of_one (with_key asked.Destroy name_key) bytes.now }
 {
     let word = only_word(bytes)?;
     index_key(word, scratch).map(Deed::Destroy)
@@ -100,7 +101,7 @@ pub fn read_destroy_ptr(bytes: &[u8]) -> Option<Deed<'_>>
 #[inline(never)]
 pub fn only_key<'a>(bytes: &'a [u8], scratch: &'a mut LineBuffer) -> Option<Key<'a>>
     ensures { (f : AskedKey → asked.Command) → option_map (λ key. f (key_seen key)) result
-        ≡ of_one (with_key f key_of) bytes.now }
+        ≡ command_of_one (with_key f key_of) bytes.now }
 {
     let word = only_word(bytes)?;
     key_of(word, scratch)
@@ -110,7 +111,7 @@ pub fn only_key<'a>(bytes: &'a [u8], scratch: &'a mut LineBuffer) -> Option<Key<
 #[inline(never)]
 pub fn key_and_number<'a>(bytes: &'a [u8], scratch: &'a mut LineBuffer) -> Option<(Key<'a>, u64)>
     ensures { (f : AskedKey → ℕ → asked.Command) → option_map (λ x. f (key_seen x.0) x.1) result
-        ≡ of_two (with_key_number f) bytes.now }
+        ≡ command_of_two (with_key_number f) bytes.now }
 {
     let (key, number_word) = two_words(bytes)?;
     let key = key_of(key, scratch)?;
@@ -125,7 +126,7 @@ pub fn key_and_literal<'a>(
     scratch: &'a mut LineBuffer,
 ) -> Option<(Key<'a>, Literal<'a>)>
     ensures { (f : AskedKey → asked.Literal → asked.Command) → option_map (λ x. f (key_seen x.0) (literal_of x.1))
-        result ≡ of_two (with_key_literal f) bytes.now }
+        result ≡ command_of_two (with_key_literal f) bytes.now }
 {
     let (key, value) = two_words(bytes)?;
     let key = key_of(key, scratch)?;
@@ -141,7 +142,7 @@ pub fn key_number_literal<'a>(
 ) -> Option<(Key<'a>, u64, Literal<'a>)>
     ensures { (f : AskedKey → ℕ → asked.Literal → asked.Command)
         → option_map (λ x. f (key_seen x.0) x.1 (literal_of x.2)) result
-        ≡ of_three (with_key_number_literal f) bytes.now }
+        ≡ command_of_three (with_key_number_literal f) bytes.now }
 {
     let (key, index, value) = three_words(bytes)?;
     let key = key_of(key, scratch)?;
@@ -152,7 +153,7 @@ pub fn key_number_literal<'a>(
 
 /// Returns a number, whatever it is read for.
 pub fn only_number(bytes: &[u8]) -> Option<u64>
-    ensures { (f : ℕ → asked.Command) → option_map f result ≡ of_one (with_number f) bytes.now }
+    ensures { (f : ℕ → asked.Command) → option_map f result ≡ command_of_one (with_number f) bytes.now }
 {
     let word = only_word(bytes)?;
     number(word)

@@ -4,7 +4,7 @@ ghost use Rattle.std.specs.Prelude.{◌≡◌, length, option_map, IsTrue};
 ghost use Rattle.std.specs.List.{AllByRecursion};
 ghost use Rattle.std.specs.Iterator.{YieldsFirst, item_count};
 ghost use Rattle.seg_types.specs.Kinds.{is_value};
-ghost use Rattle.segment_lang.specs.Arguments.{counted_values, numbers_at, scalars_in, written};
+ghost use Rattle.segment_lang.specs.Arguments.{counted_values, numbers_at, scalars_in, typed_numbers};
 
 use crate::blanks::at_end;
 use crate::literals::scalar_of;
@@ -74,7 +74,7 @@ fn count_values(kind: ScalarKind, bytes: &[u8]) -> Option<usize>
 
 /// Returns the values of the kind that all words are.
 pub fn read_elements(kind: ScalarKind, bytes: &[u8]) -> Option<LiteralValues<'_>>
-    ensures { result ≡ option_map (written kind) (numbers_at kind bytes.now) }
+    ensures { result ≡ option_map (typed_numbers kind) (numbers_at kind bytes.now) }
 {
     count_values(kind, bytes)?;
     Some(LiteralValues {

@@ -8,7 +8,7 @@ pub use Rattle.segment_manager.proofs.containers.Changeable.{changeable, handle-
 pub use Rattle.segment_manager.proofs.containers.Changeable.{says-kind, to-change}
 -- a command by its plan: one that is refused, and one that changes nothing
 pub use Rattle.segment_manager.proofs.containers.Changeable.{answered-reads, refuses}
-pub use Rattle.segment_manager.proofs.Steps.{open-writing, step-effect}
+pub use Rattle.segment_manager.proofs.directory.CommandSteps.{open-writing, step-effect}
 -- a value by the kind of its object
 pub use Rattle.segment_manager.proofs.objects.ElementCommands.{IsElements, IsTexts, texts-if, told, vector-if}
 -- elements put in, taken out and set

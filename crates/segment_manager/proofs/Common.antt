@@ -57,7 +57,8 @@ pub use Rattle.seg_types.specs.declared.refusals.Refusal.TheVariants.{WrongKind}
 pub use Rattle.seg_vector.specs.Containers.{IsStorageBlock, IsContainer, place_at}
 pub use Rattle.seg_vector.specs.TextCalls.{AssignsText, IsSomeText, GrowsTextOk, ReplacesText}
 pub use Rattle.seg_vector.specs.TextsCalls.{AreDistinct, AssignsTextsOk, AssignsTexts, UndoesRequests, IsTextsContainer}
-pub use Rattle.seg_vector.specs.TextsCalls.{ReplacesTexts, all_texts, new_array, one_more, placed_text, placed_texts}
+pub use Rattle.seg_vector.specs.TextsCalls.{ReplacesTexts, requested_texts, new_array, requested_text, placed_text}
+pub use Rattle.seg_vector.specs.TextsCalls.{placed_texts}
 pub use Rattle.seg_vector.specs.TextsCalls.{text_blocks, with_array, with_text}
 pub use Rattle.seg_vector.specs.Vector.{IsContainerAt, OwnedText, capacity_for_one, capacity_for_text, spelled}
 pub use Rattle.seg_vector.specs.VectorCalls.{Assigns, RefusesIndex, IsSomeVector, GrowsVectorOk, ReplacesVector}
@@ -69,8 +70,8 @@ pub use Rattle.seg_map.specs.Numbers.{IsNumberPairAt, NumberPair, is_number_pair
 pub use Rattle.seg_map.specs.Places.{FindsItem, FindsItemBefore, FindsLastItem, FindsValue, HoldsMap, IsPairIn}
 pub use Rattle.seg_map.specs.Places.{IsSomeMap, first_pair, item_of, nodes_of_pairs, value_of_pair}
 pub use Rattle.seg_index.proofs.Laws.{prepared}
-pub use Rattle.seg_index.specs.Growth.{AddKeeps, AddsEntry, CanGrow, FreesGrowth, IsGrowth, KeepsOutsideIndex}
-pub use Rattle.seg_index.specs.Growth.{beside_table, without_link, grown_bytes, unlinked}
+pub use Rattle.seg_index.specs.Growth.{AddKeeps, AddsEntry, CanGrow, FreesGrowth, PreparesOk, KeepsOutsideIndex}
+pub use Rattle.seg_index.specs.Growth.{beside_table, without_link, grown_bytes, without_index_block}
 pub use Rattle.seg_index.specs.Held.{HasIndex, IsIndexOf, capacity_at, entry_count, place_of}
 pub use Rattle.seg_index.specs.declared.index.Index.TheVariants.{Named, Unique}
 pub use Rattle.seg_index.specs.declared.keys.Lookup.TheVariants.{Absent, Found}
@@ -89,8 +90,9 @@ pub use Rattle.segment_manager.specs.{blocks.Resized.Resizes, blocks.Resized.gro
 pub use Rattle.segment_manager.specs.{indexes.Iterating.is_own_span, indexes.Iterating.own_spans, Plan.with_place}
 pub use Rattle.segment_manager.specs.{Plan.with_storage, Plan.with_value, declared.containers.storages.Change.Change}
 pub use Rattle.segment_manager.specs.objects.PendingObjects.{BeginsObject, IsAbsentAt, BeginsObjectOk, BeginsAnonymous}
-pub use Rattle.segment_manager.specs.objects.PendingObjects.{BeginsEntryOk, WritesObjectHeader, IsUnindexedObject}
-pub use Rattle.segment_manager.specs.objects.PendingObjects.{IsLooseAlone, IsLooseEntry, IsNotBegun, IsReadyFor}
+pub use Rattle.segment_manager.specs.objects.PendingObjects.{BeginsEntryOk, WritesObjectHeader, WritesUnindexedObject}
+pub use Rattle.segment_manager.specs.objects.PendingObjects.{WritesUnindexedAlone, WritesUnindexedForEntry}
+pub use Rattle.segment_manager.specs.objects.PendingObjects.{BeginsObjectErr, IsReadyFor}
 pub use Rattle.segment_manager.specs.objects.PendingObjects.{RefusesKey, IsReadyForEntry, LeadsThere}
 pub use Rattle.segment_manager.specs.Calls.{IsTileOfIndex, elements_at, elements_of, kind_at}
 pub use Rattle.segment_manager.specs.containers.Changeable.{IsChangeable, IsChangeableObject, IsUnchangeable}
@@ -108,9 +110,10 @@ pub use Rattle.segment_manager.specs.Directory.{same_bytes, sorted, table_extent
 pub use Rattle.segment_manager.specs.Directory.{value_len, with_changed, with_object, without_object}
 pub use Rattle.seg_types.specs.Literals.{IsValueOf, cons_values, pair_values, values_of}
 pub use Rattle.segment_manager.specs.objects.ElementLists.{first_size, length_at_kind, number_or_none}
-pub use Rattle.segment_manager.specs.containers.Filled.{Constructs, FindsOrConstructs, IsBegunFor, IsDenied, IsGiven}
+pub use Rattle.segment_manager.specs.containers.Filled.{Constructs, FindsOrConstructs, BeginsObjectFor, IsDenied}
+pub use Rattle.segment_manager.specs.containers.Filled.{IsGiven}
 pub use Rattle.segment_manager.specs.containers.Filled.{MakesValueOk, MakesValueErr, MakesValue, with_count}
-pub use Rattle.segment_manager.specs.objects.Found.{IsBelow, handle_at, is_object_at, pair_answer}
+pub use Rattle.segment_manager.specs.objects.Found.{IsBelow, handle_at, is_object_at, found_object_answer}
 pub use Rattle.segment_manager.specs.indexes.Indexed.{Seeks, class_of_index, entries_of, objects_of, order_of}
 pub use Rattle.segment_manager.specs.indexes.Indexed.{reserve_of, table_of, with_table_of}
 pub use Rattle.segment_manager.specs.objects.Instances.{IsInstance, IsMissing, SaysAt, SaysOf}
@@ -119,7 +122,7 @@ pub use Rattle.segment_manager.specs.Keeping.{HasPlaces, UnchangedWhere, LacksKe
 pub use Rattle.segment_manager.specs.indexes.Listed.{HasEntries, HasIndexEntry, IsAnonymousAt, IsListed}
 pub use Rattle.segment_manager.specs.containers.Maps.{HasPairs, ReleasesPairs, numbers_in, numbers_of, pair_above}
 pub use Rattle.segment_manager.specs.containers.Maps.{pair_at_end, pair_below, pair_from, pair_up_to, told_of}
-pub use Rattle.segment_manager.specs.containers.Maps.{told_of_map, value_or_absent}
+pub use Rattle.segment_manager.specs.containers.Maps.{answer_of_map, value_or_absent}
 pub use Rattle.segment_manager.specs.objects.NewObjects.{IsNewKeyOf, IsOfKind, RequestsBlocksOk, RestoresBlocks}
 pub use Rattle.segment_manager.specs.Plan.{Need, New, Plan, Refuse, Regrown as RegrownNeed, Reply, Request, bare}
 pub use Rattle.segment_manager.specs.Plan.{class_of, met, name_of, perform, with, with_capacity, with_entry}

@@ -4,7 +4,7 @@
 -- the object of a key, by its kind: the step of the kind is the command's, and where there is no object the command is
 -- refused
 pub use Rattle.segment_manager.proofs.containers.AnyStorage.{IsOfKindAt, of_kind-steps}
-pub use Rattle.segment_manager.proofs.Steps.{step_of_kind-step, with-found, with-not_found}
+pub use Rattle.segment_manager.proofs.directory.CommandSteps.{step_of_kind-step, with-found, with-not_found}
 -- two commands with one plan, and a plan that comes to a refusal
 pub use Rattle.segment_manager.proofs.containers.Refilled.{same_plan-steps}
 -- the literal of a value is read as the value

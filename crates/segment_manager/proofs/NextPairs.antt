@@ -30,6 +30,7 @@ none-if : (k v : ScalarKind) (r : Option NumberPair) → None ≡ option_map (it
 none-if k v None e = refl
 none-if k v (Some p) e = absurd (cc)
 
+-- what is no pair is absent
 pub no-pair : {X : Type 0} (o : Option X) → ((x : X) → o ≡ Some x → ⊥) → o ≡ None
 no-pair None n = refl
 no-pair (Some x) n = absurd (n x refl)
@@ -57,6 +58,7 @@ module _ (s : SegmentState) (h : ℕ) (k v : ScalarKind) (i : ℕ) where
   none-text n text d l = ap (part_of (λ p. text (item_of_kinds k v (item_of p))))
       (sym (none-if k v (slice_get (pairs_at d (ByHandle h)) i) (n d l)))
 
+  -- behind the last pair none follows
   pub next-none : IsNext s h k v None i → IsNext s h k v None (i + 1)
   next-none n d l =
       let ps = pairs_at d (ByHandle h) in let more : suc i ≡ i + 1 = omega arith in

@@ -35,6 +35,7 @@ split-if {part} {i} {n} false e h k =
           ap (λ x. parts_until part x ++ part x) same ∙ ap (λ l. parts_until part i ++ l) (sym (append-nil (part i)));
     }
 
+-- the text of so many parts is one part and the others
 pub split : (part : ℕ → List ℕ) (i n : ℕ) → i < n → IsSplit part i n
 split part i zero h = absurd (omega arith)
 split part i (suc n) h = split-if (nat_lt i n) refl h (split part i n)
@@ -65,6 +66,7 @@ parts-taken f xs (suc n) =
     ap (λ l. l ++ part_of f (slice_get xs n)) (parts-taken f xs n) ∙ sym (taken f xs n (slice_get xs n) refl)
     ∙ ap (λ m. flat_map f (take m xs)) (let same : n + 1 ≡ suc n = omega arith in same)
 
+-- the text of all parts is that of the whole list
 pub parts-all : {X : Type 0} (f : X → List ℕ) (xs : List X)
     → parts_until (λ i. part_of f (slice_get xs i)) (length xs) ≡ flat_map f xs
 parts-all f xs = parts-taken f xs (length xs) ∙ ap (flat_map f) (take_all (length xs) xs (omega arith))

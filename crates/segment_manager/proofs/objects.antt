@@ -35,3 +35,6 @@ pub mod ArrayItems
 pub mod Locating
 pub mod StayingObjects
 pub mod MadeObjects
+pub mod WholeNumbers
+pub mod KindCodes
+pub mod KeyFrames

@@ -26,5 +26,5 @@ abbrev pub listed_line : List ℕ → ℕ → List ℕ → List ℕ
 listed_line prefix left name = if is_listed prefix left name then name_line name else []
 
 -- how many more are to come behind it
-abbrev pub left_behind : List ℕ → ℕ → List ℕ → ℕ
-left_behind prefix left name = if is_listed prefix left name then left - 1 else left
+abbrev pub left_after : List ℕ → ℕ → List ℕ → ℕ
+left_after prefix left name = if is_listed prefix left name then left - 1 else left

@@ -1,7 +1,7 @@
 //! The names of a segment that begin with a text.
 ghost use Rattle.std.specs.Prelude.{◌≡◌, ◌-◌, ◌^◌, ◌<◌, IfOk};
 ghost use Rattle.raw_region.specs.Device.{Writes};
-ghost use Rattle.segment_report.specs.Names.{left_behind, listed_line, names_text};
+ghost use Rattle.segment_report.specs.Names.{left_after, listed_line, names_text};
 ghost use Rattle.segment_report.specs.Telling.{WritesReport};
 
 use raw_region::{DeviceFault, Sink};
@@ -36,7 +36,7 @@ fn put_listed<W: Sink>(
     left: u64,
 ) -> Result<u64, DeviceFault>
     requires { (W.history out.old).failures < 2 ^ 64 - 1 }
-    ensures remainder { IfOk result (λ n. n ≡ left_behind prefix.now left name.now) }
+    ensures remainder { IfOk result (λ n. n ≡ left_after prefix.now left name.now) }
     ensures output { Writes (W.history out.old) (W.history out.new) result (listed_line prefix.now left name.now) }
 {
     if left == 0 || !name.starts_with(prefix) {

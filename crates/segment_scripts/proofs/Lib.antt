@@ -1,25 +1,3 @@
-mod LineLaws
-mod LineEnds
-mod Kept
-mod RunLaws
-mod Cuts
-mod StopLaws
-mod Owed
-mod Refusals
-mod WrongLines
-mod Meant
-mod NewKinds
-mod ArrayCalls
-mod Answering
-mod ElementCalls
-mod RowValues
-mod ShownObjects
-mod Listings
-mod ListedObjects
-mod InstanceLines
-mod BlockLines
-mod Zeros
-mod TextParts
-mod TextElements
+mod runs
+mod values
 pub mod Laws
-mod LintAnswers

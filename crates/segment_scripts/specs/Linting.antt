@@ -5,7 +5,7 @@ use Rattle.raw_region.specs.Format.{current}
 use Rattle.seg_types.specs.Commands.{Reading, Nothing, Asked, UnknownCommand, LineTooLong, BadSyntax}
 use Rattle.seg_types.specs.declared.refusals.LineError.{LineError}
 use Rattle.seg_types.specs.declared.refusals.LineError.TheVariants as wrong
-use Rattle.segment_lang.specs.Language.{whole}
+use Rattle.segment_lang.specs.Language.{whole_language}
 use Rattle.segment_lang.specs.Reading.{reading, without_return}
 use Rattle.segment_lang.specs.Seen.{is_wrong}
 use Rattle.segment_lang.specs.Texts.{line_error_text}
@@ -68,7 +68,7 @@ tells at e line = (finding_text at.rows at.line e (without_return line), record 
 
 -- the line is no command
 abbrev pub misses_line : List ℕ → Bool
-misses_line line = is_wrong (reading (whole current) line)
+misses_line line = is_wrong (reading (whole_language current) line)
 
 abbrev pub respond : LintState → List ℕ → Reading → List ℕ × LintState
 respond at line Nothing = ([], at)
@@ -80,4 +80,4 @@ respond at line BadSyntax = tells at wrong.BadSyntax line
 -- what is told of a line: nothing where it is a command or means nothing
 abbrev pub lint_line : LintState → List ℕ → List ℕ × LintState
 lint_line at line = respond (record at { line = min (at.line + 1) 18446744073709551615 }) line
-    (reading (whole current) line)
+    (reading (whole_language current) line)

@@ -6,7 +6,7 @@ use Rattle.std.proofs.lemmas.List.{length-take-le}
 use Rattle.std.proofs.lemmas.Bool.{lt-ltb}
 use Rattle.seg_types.specs.Commands.{Reading, LineTooLong}
 use Rattle.raw_region.specs.Format.{current}
-use Rattle.segment_lang.specs.Language.{Language, whole}
+use Rattle.segment_lang.specs.Language.{Language, whole_language}
 use Rattle.segment_lang.specs.Reading.{reading, without_return}
 use Rattle.segment_scripts.specs.Refusing.{refuses}
 use Rattle.segment_scripts.specs.Run.{respond}
@@ -33,8 +33,8 @@ reading-long language line h =
 pub answer_line-long : (at : MachineState) (line : List ℕ) → 4097 < length line
     → answer_line at line ≡ answer_line at (take 4098 line)
 answer_line-long at line h = ap (λ (r : Reading).
-    ((respond at.mode at.directory r).0, place_after at r)) (reading-long (whole current) line h)
+    ((respond at.mode at.directory r).0, place_after at r)) (reading-long (whole_language current) line h)
 
 pub refuses_line-long : (at : MachineState) (line : List ℕ) → 4097 < length line
     → refuses_line at line ≡ refuses_line at (take 4098 line)
-refuses_line-long at line h = ap (refuses at.mode at.directory) (reading-long (whole current) line h)
+refuses_line-long at line h = ap (refuses at.mode at.directory) (reading-long (whole_language current) line h)

@@ -3,7 +3,7 @@ use Rattle.std.specs.Prelude.{◌≡◌, ℕ, Bool, true, List, Result}
 use Rattle.seg_types.specs.Commands.{Reading}
 use Rattle.raw_region.specs.Device.{WriterHistory}
 use Rattle.raw_region.specs.Format.{current}
-use Rattle.segment_lang.specs.Language.{whole}
+use Rattle.segment_lang.specs.Language.{whole_language}
 use Rattle.segment_lang.specs.Reading.{reading}
 use Rattle.segment_manager.specs.declared.modes.Mode.{Mode}
 use Rattle.segment_manager.specs.Directory.{Directory}
@@ -38,12 +38,12 @@ place_after at asked = record {
 
 -- what a line prints from a place, and where it leads
 abbrev pub answer_line : MachineState → List ℕ → List ℕ × MachineState
-answer_line at line = let asked = reading (whole current) line
+answer_line at line = let asked = reading (whole_language current) line
     in ((respond at.mode at.directory asked).0, place_after at asked)
 
 -- whether a line is refused at a place
 abbrev pub refuses_line : MachineState → List ℕ → Bool
-refuses_line at line = refuses at.mode at.directory (reading (whole current) line)
+refuses_line at line = refuses at.mode at.directory (reading (whole_language current) line)
 
 -- wherever it stands, what it is asked leads where it is to lead, what is owed there is written, and it is told whether
 -- it is refused

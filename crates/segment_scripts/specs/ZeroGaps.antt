@@ -24,17 +24,17 @@ has_places (Ok (len, capacity)) n = nat_le n capacity
 has_places (Err why) n = false
 
 -- a command that may change a segment finds that there is nothing to do
-abbrev pub finds_nothing : Directory → Command → Bool
-finds_nothing d (asked.Destroy key) = not (is_some (object_at d key))
-finds_nothing d (asked.FindOrConstruct key content) = is_some (object_at d key)
-finds_nothing d (asked.Reserve key n) = has_places (sizes_at d key) n
-finds_nothing d (asked.ReserveNamed n) = nat_le n d.named.capacity
-finds_nothing d (asked.ReserveUnique n) = nat_le n d.unique.capacity
-finds_nothing d c = false
+abbrev pub has_nothing_to_do : Directory → Command → Bool
+has_nothing_to_do d (asked.Destroy key) = not (is_some (object_at d key))
+has_nothing_to_do d (asked.FindOrConstruct key content) = is_some (object_at d key)
+has_nothing_to_do d (asked.Reserve key n) = has_places (sizes_at d key) n
+has_nothing_to_do d (asked.ReserveNamed n) = nat_le n d.named.capacity
+has_nothing_to_do d (asked.ReserveUnique n) = nat_le n d.unique.capacity
+has_nothing_to_do d c = false
 
 -- no byte changes: so it is, or the command is refused before it asks for a block
 abbrev pub changes_nothing : Mode → Directory → Command → Bool
-changes_nothing mode d c = is_untouched (step mode d c).0 || finds_nothing d c
+changes_nothing mode d c = is_untouched (step mode d c).0 || has_nothing_to_do d c
 
 -- A command that changes nothing keeps what was known. Of the others one leaves zeros.
 abbrev pub zeros_after : Mode → Directory → Reading → Bool → Bool

@@ -6,7 +6,7 @@ ghost use Rattle.seg_types.specs.Commands.{Bytes, Construct, ConstructIt, Elemen
 ghost use Rattle.seg_types.specs.Keys.{index_key_seen, new_key_seen};
 ghost use Rattle.seg_types.specs.Kinds.{is_value};
 ghost use Rattle.segment_lang.specs.Seen.{content_of};
-ghost use Rattle.segment_manager.specs.objects.Found.{pair_answer};
+ghost use Rattle.segment_manager.specs.objects.Found.{found_object_answer};
 ghost use Rattle.segment_manager.specs.Keeping.{IsBoundKey, UnchangedWhere};
 ghost use Rattle.segment_manager.specs.State.{TakesStep, UnchangedIfRefused, handle_answer};
 ghost use Rattle.segment_scripts.specs.Replies.{IsLineContent, IsMeant};
@@ -23,7 +23,7 @@ use segment_manager::Segment;
 /// # Errors
 ///
 /// As the segment's call. The objects are as before.
-#[tactic(auto, using(crate::proofs::NewKinds::content_kind, crate::proofs::NewKinds::content_some, crate::proofs::NewKinds::content_few))]
+#[tactic(auto, using(crate::proofs::values::Keys::content_kind, crate::proofs::values::Keys::content_some, crate::proofs::values::Keys::content_few))]
 #[inline(never)]
 pub fn construct(
     segment: &mut Segment,
@@ -139,7 +139,7 @@ pub fn construct_it(
 /// # Errors
 ///
 /// As the segment's call. The objects are as before.
-#[tactic(auto, using(crate::proofs::NewKinds::index_kind, crate::proofs::NewKinds::index_some, crate::proofs::NewKinds::index_few))]
+#[tactic(auto, using(crate::proofs::values::Keys::index_kind, crate::proofs::values::Keys::index_some, crate::proofs::values::Keys::index_few))]
 #[inline(never)]
 pub fn find_or_construct(
     segment: &mut Segment,
@@ -149,7 +149,7 @@ pub fn find_or_construct(
 ) -> Result<(Handle, u32), Refusal>
     requires { IsLineContent (index_key_seen key.now) (content_of content) }
     ensures step { TakesStep segment.old segment.new
-        (FindOrConstruct (index_key_seen key.now) (content_of content.entry)) (pair_answer result) }
+        (FindOrConstruct (index_key_seen key.now) (content_of content.entry)) (found_object_answer result) }
     ensures refused { UnchangedIfRefused segment.old segment.new result }
     ensures search { UnchangedWhere segment.old segment.new (IsBoundKey (index_key_seen key.now)) }
 {
@@ -179,7 +179,7 @@ fn find_or_construct_vector(
     requires { IsLineContent (index_key_seen key.now) (Elements values.kind values.numbers) }
     ensures step { TakesStep segment.old segment.new
         (FindOrConstruct (index_key_seen key.now) (Elements values.entry.kind values.entry.numbers))
-        (pair_answer result) }
+        (found_object_answer result) }
     ensures refused { UnchangedIfRefused segment.old segment.new result }
     ensures search { UnchangedWhere segment.old segment.new (IsBoundKey (index_key_seen key.now)) }
 {
@@ -203,7 +203,7 @@ fn find_or_construct_row<T: Scalar>(
     requires max_count { length values.numbers ≤ 2048 }
     ensures step { TakesStep segment.old segment.new
         (FindOrConstruct (index_key_seen key.now) (Elements values.entry.kind values.entry.numbers))
-        (pair_answer result) }
+        (found_object_answer result) }
     ensures refused { UnchangedIfRefused segment.old segment.new result }
     ensures search { UnchangedWhere segment.old segment.new (IsBoundKey (index_key_seen key.now)) }
 {
@@ -221,7 +221,7 @@ fn find_or_construct_texts(
 ) -> Result<(Handle, u32), Refusal>
     requires { IsLineContent (index_key_seen key.now) (Strings texts) }
     ensures step { TakesStep segment.old segment.new
-        (FindOrConstruct (index_key_seen key.now) (Strings texts.entry)) (pair_answer result) }
+        (FindOrConstruct (index_key_seen key.now) (Strings texts.entry)) (found_object_answer result) }
     ensures refused { UnchangedIfRefused segment.old segment.new result }
     ensures search { UnchangedWhere segment.old segment.new (IsBoundKey (index_key_seen key.now)) }
 {
@@ -241,7 +241,7 @@ fn find_or_construct_many(
 ) -> Result<(Handle, u32), Refusal>
     requires { IsLineContent (index_key_seen key.now) (Strings row.now) }
     ensures step { TakesStep segment.old segment.new (FindOrConstruct (index_key_seen key.now) (Strings row.now))
-        (pair_answer result) }
+        (found_object_answer result) }
     ensures refused { UnchangedIfRefused segment.old segment.new result }
     ensures search { UnchangedWhere segment.old segment.new (IsBoundKey (index_key_seen key.now)) }
 {

@@ -2,7 +2,7 @@
 ghost use Rattle.std.specs.Prelude.{◌≡◌};
 ghost use Rattle.segment_lang.specs.Seen.{deed_of};
 ghost use Rattle.segment_manager.specs.Directory.{Directory};
-ghost use Rattle.segment_manager.specs.objects.Found.{found_answer, pair_answer};
+ghost use Rattle.segment_manager.specs.objects.Found.{found_answer, found_object_answer};
 ghost use Rattle.segment_manager.specs.containers.Maps.{any_value_answer};
 ghost use Rattle.segment_manager.specs.State.{done_answer, gone_answer, handle_answer, scalar_answer, truth_answer};
 ghost use Rattle.segment_scripts.specs.Replies.{IsMeant, Replies, answer_seen};
@@ -116,7 +116,7 @@ fn made<'a>(made: Result<Handle, Refusal>) -> CommandAnswer<'a>
 
 /// Returns the answer where an object was found or made, or not.
 fn found<'a>(found: Result<(Handle, u32), Refusal>) -> CommandAnswer<'a>
-    ensures { (d : Directory) → answer_seen d result ≡ pair_answer found }
+    ensures { (d : Directory) → answer_seen d result ≡ found_object_answer found }
 {
     match found {
         Ok((handle, count)) => CommandAnswer::Found(handle, count),

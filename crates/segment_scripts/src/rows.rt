@@ -8,7 +8,7 @@ ghost use Rattle.segment_scripts.specs.Changes.{ReadsInto};
 ghost use Rattle.segment_scripts.specs.Replies.{bytes_taken};
 
 use seg_types::theorems::scalar_is_number;
-use seg_types::{Refusal, Scalar, ScalarValue, Written};
+use seg_types::{Refusal, Scalar, ScalarValue, WrittenValue};
 use segment_lang::{Buffer, LineBuffer, Literal, LiteralValues, Literals};
 
 /// The longest spelling of a scalar, in bytes.

@@ -33,6 +33,7 @@ use Rattle.segment_values.proofs.Laid.{parts-laid}
 use Rattle.seg_types.specs.declared.refusals.Refusal.TheVariants as refusal
 use Rattle.seg_types.specs.Commands as asked
 
+-- mapping keeps the length
 pub length-made : {X Y : Type 0} (g : X → Y) (xs : List X) → length (map g xs) ≡ length xs
 length-made g [] = refl
 length-made g (x ∷ xs) = ap (λ n. suc n) (length-made g xs)
@@ -45,6 +46,7 @@ element_text s i (Element k z) = s.scalar i k z
 element_text s i (TextElement bs) = s.text i bs
 element_text s i answer = []
 
+-- the text of a string at a spelling
 abbrev pub string_text : Spelling → ℕ → Result (List ℕ) Refusal → List ℕ
 string_text s i (Ok bs) = s.text i bs
 string_text s i (Err r) = []
@@ -176,12 +178,14 @@ bytes-if v e = absurd (cc)
 
 -- ---- how many there are
 
+-- the sizes of an object, if it is there
 abbrev pub sizes_of_object : Option Object → Result (ℕ × ℕ) Refusal
 sizes_of_object r = elim r as (λ _. Result (ℕ × ℕ) Refusal) [ None ↦ Err NotFound | Some o ↦ sizes_of o.value ]
 
 abbrev bytes_of_object : Option Object → Result (List ℕ) Refusal
 bytes_of_object r = elim r as (λ _. Result (List ℕ) Refusal) [ None ↦ Err NotFound | Some o ↦ text_bytes o.value ]
 
+-- the count of an object, if it is there
 abbrev pub count_of_object : Option Object → ℕ
 count_of_object r = elim r as (λ _. ℕ) [ None ↦ 0 | Some o ↦ object_count o ]
 
@@ -212,6 +216,7 @@ module _ (s : SegmentState) (o : Located) (l : IsLocated s (ByHandle o.handle) o
         ∙ sym (ap count_of_object f.is ∙ ap (λ w. count_of_content (content_of w)) v.is);
   }
 
+  -- a string counts as one element
   pub string-counted : o.kind ≡ String → AnswersWith s (λ d. count_at d (ByHandle o.handle)) 1
   string-counted e = record {
     answers = λ d st.
@@ -220,6 +225,7 @@ module _ (s : SegmentState) (o : Located) (l : IsLocated s (ByHandle o.handle) o
         sym (ap count_of_object f.is ∙ ap (λ w. count_of_content (content_of w)) v.is);
   }
 
+  -- another object counts its length
   pub others-counted : (n : ℕ) → ((k : ScalarKind) → o.kind ≡ Scalar k → ⊥) → (o.kind ≡ String → ⊥)
       → AnswersWith s (λ d. length_in (sizes_at d (ByHandle o.handle))) n
       → AnswersWith s (λ d. count_at d (ByHandle o.handle)) n
@@ -242,6 +248,7 @@ module _ (s : SegmentState) (o : Located) (l : IsLocated s (ByHandle o.handle) o
       value-part sp s.mode d (ByHandle o.handle) i f.object f.is f.object.value refl (λ e. string (same ∙ e)) (λ e.
       strings (same ∙ e)) (λ k l e. map k l (same ∙ e))
 
+  -- the text of a string of a vector
   pub text-part : (sp : Spelling) (i : ℕ) → o.kind ≡ StringsKind → (d : Directory) → DenotesCurrent s.cut.bytes d
       → element_text sp i (step_of_kind s.mode d (ByHandle o.handle) StringsKind
       (asked.Get (ByHandle o.handle) i)).0 ≡ part_at sp d (ByHandle o.handle) i
@@ -252,6 +259,7 @@ module _ (s : SegmentState) (o : Located) (l : IsLocated s (ByHandle o.handle) o
       ∙ sym (at-value sp i d (ByHandle o.handle) f.object (Texts v.texts v.table) f.is v.is
       ∙ got-made (sp.text i) v.texts i)
 
+  -- the text of a string
   pub string-part : (sp : Spelling) (i : ℕ) → o.kind ≡ String → (d : Directory) → DenotesCurrent s.cut.bytes d
       → string_text sp i (bytes_at d (ByHandle o.handle)) ≡ part_at sp d (ByHandle o.handle) i
   string-part sp i e d st =
@@ -275,6 +283,7 @@ found-parts : (sp : Spelling) (r : Option Object)
 found-parts sp None = refl
 found-parts sp (Some o) = all-parts sp (content_of o.value)
 
+-- the texts of all parts are that of the object
 pub parts-at : (sp : Spelling) (d : Directory) (key : Key)
     → parts_until (part_at sp d key) (count_at d key) ≡ laid_at sp d key
 parts-at sp d key = found-parts sp (object_at d key)

@@ -3,6 +3,7 @@ use Rattle.seg_types.specs.declared.values.ScalarValue.{ScalarValue}
 use Rattle.seg_types.specs.declared.values.ScalarValue.TheVariants.{Bool, U8, I32, I64, U64}
 use Rattle.seg_types.specs.Written.{NoText, literal_seen}
 
+-- the literal of a scalar is no text
 pub seen-no_text : (v : ScalarValue) → NoText (literal_seen v)
 seen-no_text (Bool b) bs e = absurd (cc)
 seen-no_text (U8 n) bs e = absurd (cc)

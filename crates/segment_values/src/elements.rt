@@ -12,20 +12,20 @@ ghost use Rattle.segment_manager.specs.Step.{is_read_only};
 ghost use Rattle.segment_values.specs.Changes.{IsChangeable};
 
 use crate::objects::object_to_change;
-use seg_types::{Key, Kind, Refusal, ScalarKind, Written};
+use seg_types::{Key, Kind, Refusal, ScalarKind, WrittenValue};
 use segment_manager::unchecked::set_any;
 use segment_manager::{Object, Segment};
 
-/// Makes what is written the element at `index` in the object of a key. The object has scalars, or is a vector of
-/// scalars or of strings, or a string, which has bytes. Of an object of scalars no other byte changes.
+/// Makes what is written the element at `index` in the object of a key: of scalars, of a vector of scalars or of
+/// strings, or of a string, which has bytes. Of an object of scalars no other byte changes.
 ///
 /// # Errors
 ///
-/// `ReadOnly` if the segment is open for reading. Otherwise `NotFound` if no object has the key, `WrongKind` if it has
-/// no elements or the value has not their form, `OutOfRange` if the value is not in their range or there is no such
-/// element, `NoSpace` if a text has no fit. Nothing changes.
+/// `ReadOnly` where the segment is open for reading, and else `NotFound` where no object has the key, `WrongKind` where
+/// it has no elements or the value has not their form, `OutOfRange` where the value is not in their range or there is
+/// no such element, `NoSpace` where a text has no fit. Nothing changes.
 #[inline(never)]
-pub fn set<L: Written>(
+pub fn set<L: WrittenValue>(
     segment: &mut Segment,
     key: &Key,
     index: u64,
@@ -50,8 +50,8 @@ pub fn set<L: Written>(
     }
 }
 
-/// Sets an element of an object whose elements are scalars of a kind.
-fn set_scalar<L: Written>(
+/// The same of an object whose elements are scalars of a kind.
+fn set_scalar<L: WrittenValue>(
     segment: &mut Segment,
     object: Object,
     kind: ScalarKind,
@@ -70,8 +70,8 @@ fn set_scalar<L: Written>(
     set_any(segment, &object, index, element)
 }
 
-/// Sets an element of a vector of strings.
-fn set_text<L: Written>(
+/// The same of a vector of strings.
+fn set_text<L: WrittenValue>(
     segment: &mut Segment,
     object: Object,
     index: u64,

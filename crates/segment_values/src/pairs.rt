@@ -8,7 +8,7 @@ ghost use Rattle.segment_manager.specs.State.{AnswersQuery, TakesStep, truth_ans
 ghost use Rattle.segment_values.specs.Absent.{LacksLiteral};
 
 use crate::objects::object_to_change;
-use seg_types::{Key, Kind, Refusal, ScalarValue, Written, pair_of};
+use seg_types::{Key, Kind, Refusal, ScalarValue, WrittenValue, pair_of};
 use segment_manager::{Segment, locate};
 
 /// Puts the pair that two written values are into the map of a key, and returns whether its key is new.
@@ -19,7 +19,7 @@ use segment_manager::{Segment, locate};
 /// no map or a value has not the form of its kind, `OutOfRange` if a value is not in the range of its kind, `NoSpace`
 /// if the key is new and no gap is long enough for its block. Nothing changes.
 #[inline(never)]
-pub fn put_pair<A: Written, B: Written>(
+pub fn put_pair<A: WrittenValue, B: WrittenValue>(
     segment: &mut Segment,
     key: &Key,
     at: &A,
@@ -46,7 +46,7 @@ pub fn put_pair<A: Written, B: Written>(
 /// `NotFound` if no object has the key, `WrongKind` if it is no map or what is written has not the form of its keys,
 /// `OutOfRange` if that is not in their range.
 #[inline(never)]
-pub fn look_up<L: Written>(
+pub fn look_up<L: WrittenValue>(
     segment: &Segment,
     key: &Key,
     at: &L,
@@ -71,7 +71,11 @@ pub fn look_up<L: Written>(
 /// `ReadOnly` if the segment is open for reading. Otherwise `NotFound` if no object has the key, `WrongKind` if it is
 /// no map or what is written has not the form of its keys, `OutOfRange` if that is not in their range. Nothing changes.
 #[inline(never)]
-pub fn erase_pair<L: Written>(segment: &mut Segment, key: &Key, at: &L) -> Result<bool, Refusal>
+pub fn erase_pair<L: WrittenValue>(
+    segment: &mut Segment,
+    key: &Key,
+    at: &L,
+) -> Result<bool, Refusal>
     ensures step { TakesStep segment.old segment.new (Remove (key_seen key.now) (L.literal at.now))
         (truth_answer result) }
     ensures refused { OnErr result (segment.new ≡ segment.old) }

@@ -11,13 +11,13 @@ ghost use Rattle.segment_manager.specs.State.{TakesStep, TakesStepOfKind, Unchan
 ghost use Rattle.segment_values.specs.Changes.{IsNewScalar, IsNoElement, command_at};
 
 use crate::objects::object_to_change;
-use seg_types::{Key, Kind, Refusal, ScalarKind, ScalarValue, Written, by_kind, by_value};
+use seg_types::{Key, Kind, Refusal, ScalarKind, ScalarValue, WrittenValue, by_kind, by_value};
 use segment_manager::{Object, Segment};
 
 /// Where a new element of a vector goes.
 #[derive(Clone, Copy)]
 pub enum InsertSpot {
-    /// After the last element.
+    /// Behind the last element.
     End,
     /// Where so many others stand before it.
     Before(u64),
@@ -36,12 +36,12 @@ pub enum NewElement<'a> {
 ///
 /// # Errors
 ///
-/// `ReadOnly` if the segment is open for reading. Otherwise `NotFound` if no object has the key, `WrongKind` if it is
-/// no vector or the value has not the form of its elements, `OutOfRange` if the value is not in their range or there
-/// are not so many others, and nothing changes; `NoSpace` if the vector is full and its storage cannot be regrown, or a
-/// text has no fit: the objects are as before, and nothing changes if the value is no text.
+/// `ReadOnly` where the segment is open for reading, and else `NotFound` where no object has the key, `WrongKind` where
+/// it is no vector or the value has not the form of its elements, `OutOfRange` where the value is not in their range or
+/// there are not so many others, and nothing changes; `NoSpace` where the vector is full and its storage cannot be
+/// regrown, or a text has no fit: the objects are as before, and nothing changes where the value is no text.
 #[inline(never)]
-pub fn add<L: Written>(
+pub fn add<L: WrittenValue>(
     segment: &mut Segment,
     key: &Key,
     spot: InsertSpot,
@@ -61,13 +61,13 @@ pub fn add<L: Written>(
     }
 }
 
-/// Returns the vector of a key, and what is written as an element of it.
+/// The vector of a key, and what is written as an element of it.
 ///
 /// # Errors
 ///
-/// `ReadOnly` if the segment is open for reading. Otherwise `NotFound` if no object has the key, `WrongKind` if it is
-/// no vector or the value has not the form of its elements, `OutOfRange` if the value is not in their range.
-fn new_element<'a, L: Written>(
+/// `ReadOnly` where the segment is open for reading, and else `NotFound` where no object has the key, `WrongKind` where
+/// it is no vector or the value has not the form of its elements, `OutOfRange` where the value is not in their range.
+fn new_element<'a, L: WrittenValue>(
     segment: &Segment,
     key: &Key,
     value: &'a L,
@@ -131,8 +131,8 @@ fn add_text(
 ///
 /// # Errors
 ///
-/// `ReadOnly` if the segment is open for reading. Otherwise `NotFound` if no object has the key, `WrongKind` if it is
-/// no vector, `OutOfRange` if it has no element there. Nothing changes.
+/// `ReadOnly` where the segment is open for reading, and else `NotFound` where no object has the key, `WrongKind` where
+/// it is no vector, `OutOfRange` where it has no element there. Nothing changes.
 #[inline(never)]
 pub fn erase(segment: &mut Segment, key: &Key, index: u64) -> Result<(), Refusal>
     ensures step { TakesStep segment.old segment.new (Erase (key_seen key.now) index) (done_answer result) }

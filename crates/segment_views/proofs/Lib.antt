@@ -1,4 +1,0 @@
-mod Here
-mod Reading
-mod Between
-mod RangeReads

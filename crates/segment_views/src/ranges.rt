@@ -7,7 +7,7 @@ ghost use Rattle.seg_types.specs.Kinds.{lowest as lowest_of};
 ghost use Rattle.seg_types.specs.Names.{ByHandle};
 ghost use Rattle.seg_types.specs.Values.{kind_of_scalar, value_of_scalar};
 ghost use Rattle.segment_manager.specs.objects.Located.{IsObject};
-ghost use Rattle.segment_manager.specs.containers.Maps.{numbers_in, pair_result, told_of_map};
+ghost use Rattle.segment_manager.specs.containers.Maps.{numbers_in, pair_result, answer_of_map};
 ghost use Rattle.segment_manager.specs.State.{AnswersWith};
 ghost use Rattle.segment_manager.specs.containers.Walks.{first_of, pairs_at_kinds};
 ghost use Rattle.seg_map.specs.Places.{item_of};
@@ -168,7 +168,7 @@ pub(crate) fn first_of_all<K: Scalar, V: Scalar>(
 ) -> Result<Option<(K, V)>, Refusal>
     requires { IsObject object.now segment.now }
     ensures { AnswersWith segment.now (λ d.
-        told_of_map d (ByHandle object.now.handle) K.kind V.kind (λ ps. option_map item_of (first_of ps)))
+        answer_of_map d (ByHandle object.now.handle) K.kind V.kind (λ ps. option_map item_of (first_of ps)))
         (pair_result K.whole V.whole result) }
 {
     segment.map_first_from::<K, V, Object>(object, lowest())

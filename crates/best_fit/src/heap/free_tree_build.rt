@@ -7,7 +7,7 @@ ghost use Rattle.block_tags.specs.Tiles.{has_tags};
 ghost use Rattle.offset_link.specs.Link.{link_at};
 ghost use Rattle.best_fit.specs.Extents.{Gap};
 ghost use Rattle.best_fit.specs.GapNodes.{gaps_in};
-ghost use Rattle.best_fit.specs.GapTrees.{HasGapTree, Regrown, node_of};
+ghost use Rattle.best_fit.specs.GapTrees.{HasGapTree, ChangesGapTree, node_of};
 ghost use Rattle.best_fit.specs.Rebuilding.{IsNextGap, RebuildsFreeTree};
 
 use crate::heap::Heap;
@@ -16,7 +16,7 @@ use crate::tile_walk;
 use block_tags::{TAG_LEN, first, next};
 use link_tree::insert;
 use offset_link::load;
-use raw_region::{Window, hold_bytes};
+use raw_region::{Window, bytes_are_octets};
 
 impl Heap {
     /// Makes the heap of a window that has blocks and gaps, and no tree of the gaps. It writes the tree into the gaps,
@@ -42,7 +42,7 @@ fn clear_gaps(window: &mut Window)
     requires size { IsTrue (is_legal_size (length window.old.bytes)) }
     requires tags { IsTrue (has_tags current (bytes_of window.old.bytes) (length window.old.bytes)) }
     ensures tree { HasGapTree window.new [] }
-    ensures frame { Regrown window.old window.new }
+    ensures frame { ChangesGapTree window.old window.new }
 {
     let mut ahead = first(window);
     'tiles: while let Some(tile) = ahead {
@@ -73,7 +73,7 @@ fn clear(window: &mut Window, node: u64)
 fn plant_gaps(gaps: &mut GapTree)
     requires { HasGapTree gaps.old.window [] }
     ensures tree { HasGapTree gaps.new.window (gaps_in gaps.new.window) }
-    ensures frame { Regrown gaps.old.window gaps.new.window }
+    ensures frame { ChangesGapTree gaps.old.window gaps.new.window }
 {
     let mut ahead = first(&gaps.window);
     'tiles: while let Some(tile) = ahead {
@@ -89,7 +89,7 @@ fn plant(gaps: &mut GapTree, node: u64)
     requires { (xs : List Gap) × (g : Gap) × (node ≡ node_of g) × IsNextGap gaps.old.window xs g }
     ensures tree { (xs : List Gap) (g : Gap) → node ≡ node_of g → IsNextGap gaps.old.window xs g
         → HasGapTree gaps.new.window (xs ++ g ∷ []) }
-    ensures frame { Regrown gaps.old.window gaps.new.window }
+    ensures frame { ChangesGapTree gaps.old.window gaps.new.window }
 {
     let root = load(&gaps.window, FREE_TREE_ROOT);
     let changed = insert(gaps, root, node);
@@ -100,5 +100,5 @@ fn plant(gaps: &mut GapTree, node: u64)
 fn hold_window(window: &Window)
     ensures { AreBytes window.now.bytes }
 {
-    hold_bytes(window.bytes(0, window.size()));
+    bytes_are_octets(window.bytes(0, window.size()));
 }

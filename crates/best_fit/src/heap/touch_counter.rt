@@ -7,7 +7,7 @@ ghost use Rattle.block_tags.specs.declared.tile.Tile.{Tile as ATile};
 ghost use Rattle.block_tags.specs.Lists.{joined_at, last_in, next_in, previous_in, split_at, tile_in, with_free};
 ghost use Rattle.block_tags.specs.Lists.{with_red_at, with_use_at, without_last};
 ghost use Rattle.block_tags.specs.Windows.{CanAppend, CanSplit, FrontSaysTiles, HasFreeLast, HasFreeNext, HasTileAt};
-ghost use Rattle.block_tags.specs.Windows.{IsTiledWindow, MayBeUsed, MayHaveColour, SameExceptTags, EncodesTiles};
+ghost use Rattle.block_tags.specs.Windows.{IsTiledWindow, CanTakeUse, MayHaveColour, SameExceptTags, EncodesTiles};
 ghost use Rattle.link_tree.specs.Tree.{bits};
 ghost use Rattle.link_tree.specs.Nodes.{is_in};
 ghost use Rattle.link_tree.specs.Searching.{path_length};
@@ -15,7 +15,8 @@ ghost use Rattle.best_fit.specs.Extents.{Gap};
 ghost use Rattle.best_fit.specs.Fit.{least};
 ghost use Rattle.best_fit.specs.FreeTree.{payloads};
 ghost use Rattle.best_fit.specs.GapNodes.{from_first, gaps_in, is_gap_node, kept_of, stands_before};
-ghost use Rattle.best_fit.specs.GapTrees.{HasGapTree, LacksOne, MayBegin, Regrown, is_long, node_of, root_of_gaps};
+ghost use Rattle.best_fit.specs.GapTrees.{HasGapTree, LacksGap, CanBeginRemoval, ChangesGapTree, is_long, node_of};
+ghost use Rattle.best_fit.specs.GapTrees.{root_of_gaps};
 
 use crate::heap::nodes::{FREE_TREE_ROOT, GapProbe, GapTree, RIGHT_LINK, set_link};
 use block_tags::{Role, TAG_LEN, Tile};
@@ -78,7 +79,7 @@ impl<'a> TouchCounter<'a> {
         requires no_overflow { self.old.count < 2 ^ 63 }
         ensures tree { (xs : List Gap) (g : Gap) (ys : List Gap) → node ≡ node_of g
             → HasGapTree self.old.gaps.now.window (xs ++ g ∷ ys) → HasGapTree self.new.gaps.now.window (xs ++ ys) }
-        ensures frame { Regrown self.old.gaps.now.window self.new.gaps.now.window }
+        ensures frame { ChangesGapTree self.old.gaps.now.window self.new.gaps.now.window }
         ensures steps_lower { self.old.count < self.new.count }
         ensures steps { (hs : List Gap) → HasGapTree self.old.gaps.now.window hs
             → self.new.count ≤ self.old.count + 32 * bits (length hs + 1) + 33 }
@@ -101,7 +102,7 @@ impl<'a> TouchCounter<'a> {
         requires no_overflow { self.old.count < 2 ^ 63 }
         ensures tree { (xs : List Gap) (g : Gap) (ys : List Gap) → node ≡ node_of g
             → HasGapTree self.old.gaps.now.window (xs ++ g ∷ ys) → HasGapTree self.new.gaps.now.window (xs ++ ys) }
-        ensures frame { Regrown self.old.gaps.now.window self.new.gaps.now.window }
+        ensures frame { ChangesGapTree self.old.gaps.now.window self.new.gaps.now.window }
         ensures steps_lower { self.old.count < self.new.count }
         ensures steps { (hs : List Gap) → HasGapTree self.old.gaps.now.window hs
             → self.new.count ≤ self.old.count + 32 * bits (length hs + 1) + 33 }
@@ -118,11 +119,11 @@ impl<'a> TouchCounter<'a> {
     fn take_out_at(&mut self, root: Option<u64>, exit: Option<u64>, node: u64)
         requires root { root ≡ root_of_gaps self.old.gaps.now.window }
         requires tree { (hs : List Gap) × HasGapTree self.old.gaps.now.window hs × (is_in node (payloads hs) ≡ true) }
-        requires exit { MayBegin self.old.gaps.now.window node exit }
+        requires exit { CanBeginRemoval self.old.gaps.now.window node exit }
         requires no_overflow { self.old.count + 2 ^ 12 < 2 ^ 64 }
         ensures tree { (xs : List Gap) (g : Gap) (ys : List Gap) → node ≡ node_of g
             → HasGapTree self.old.gaps.now.window (xs ++ g ∷ ys) → HasGapTree self.new.gaps.now.window (xs ++ ys) }
-        ensures frame { Regrown self.old.gaps.now.window self.new.gaps.now.window }
+        ensures frame { ChangesGapTree self.old.gaps.now.window self.new.gaps.now.window }
         ensures steps_lower { self.old.count < self.new.count }
         ensures steps { (hs : List Gap) → HasGapTree self.old.gaps.now.window hs
             → self.new.count ≤ self.old.count + 30 * bits (length hs + 1) + 32 }
@@ -136,14 +137,14 @@ impl<'a> TouchCounter<'a> {
     /// Puts a gap into the tree, of which it is the only one that is not in it. Its links may be anything.
     pub fn link_gap(&mut self, node: u64)
         requires tree { (xs : List Gap) × (g : Gap) × (ys : List Gap) × (node ≡ node_of g)
-            × LacksOne self.old.gaps.now.window xs g ys }
+            × LacksGap self.old.gaps.now.window xs g ys }
         requires no_overflow { self.old.count < 2 ^ 63 }
         ensures tree { (xs : List Gap) (g : Gap) (ys : List Gap) → node ≡ node_of g
-            → LacksOne self.old.gaps.now.window xs g ys → HasGapTree self.new.gaps.now.window (xs ++ g ∷ ys) }
-        ensures frame { Regrown self.old.gaps.now.window self.new.gaps.now.window }
+            → LacksGap self.old.gaps.now.window xs g ys → HasGapTree self.new.gaps.now.window (xs ++ g ∷ ys) }
+        ensures frame { ChangesGapTree self.old.gaps.now.window self.new.gaps.now.window }
         ensures steps_lower { self.old.count < self.new.count }
         ensures steps { (xs : List Gap) (g : Gap) (ys : List Gap) → node ≡ node_of g
-            → LacksOne self.old.gaps.now.window xs g ys
+            → LacksGap self.old.gaps.now.window xs g ys
             → self.new.count ≤ self.old.count + 32 * bits (length (xs ++ ys) + 1) + 33 }
         ensures same_borrow { self.new.gaps.ghost_name ≡ self.old.gaps.ghost_name }
     {
@@ -226,7 +227,7 @@ impl<'a> TouchCounter<'a> {
 
     /// Gives the tile at `at` another use, or none.
     pub fn set_use(&mut self, at: u64, use_of: Option<Role>)
-        requires tile { MayBeUsed self.old.gaps.now.window at use_of }
+        requires tile { CanTakeUse self.old.gaps.now.window at use_of }
         requires no_overflow { self.old.count + 1 < 2 ^ 64 }
         ensures tags { (ts : List ATile) → EncodesTiles self.old.gaps.now.window ts
             → EncodesTiles self.new.gaps.now.window (with_use_at at use_of ts) }
@@ -321,8 +322,8 @@ impl<'a> TouchCounter<'a> {
 /// Makes both links of a gap null.
 fn clear_links(gaps: &mut GapTree, node: u64)
     requires gap { (xs : List Gap) × (g : Gap) × (ys : List Gap) × (node ≡ node_of g)
-        × LacksOne gaps.old.window xs g ys }
-    ensures tree { (xs : List Gap) (g : Gap) (ys : List Gap) → node ≡ node_of g → LacksOne gaps.old.window xs g ys
+        × LacksGap gaps.old.window xs g ys }
+    ensures tree { (xs : List Gap) (g : Gap) (ys : List Gap) → node ≡ node_of g → LacksGap gaps.old.window xs g ys
         → HasGapTree gaps.new.window (xs ++ ys) }
     ensures node { is_gap_node gaps.new.window node ≡ true }
     ensures unchanged { kept_of gaps.new.window ≡ kept_of gaps.old.window }
@@ -335,7 +336,7 @@ fn clear_links(gaps: &mut GapTree, node: u64)
 fn way_out(gaps: &GapTree, root: Option<u64>, node: u64) -> RemovePoint
     requires root { root ≡ root_of_gaps gaps.now.window }
     requires tree { (hs : List Gap) × HasGapTree gaps.now.window hs × (is_in node (payloads hs) ≡ true) }
-    ensures exit { MayBegin gaps.now.window node result.exit }
+    ensures exit { CanBeginRemoval gaps.now.window node result.exit }
     ensures steps { (hs : List Gap) → HasGapTree gaps.now.window hs → result.steps ≤ 2 * bits (length hs + 1) }
 {
     let len = block_tags::tile_at(&gaps.window, node - TAG_LEN).len;

@@ -3,7 +3,8 @@
 use Rattle.segment_manager.proofs.Common.{◌≡◌, Option, IsTrue, IfSome, flat_map, Extent, extent_at, has_room, Directory}
 use Rattle.segment_manager.proofs.Common.{ℕ, ◌+◌, ◌%◌, Some, None, List, [], ◌∷◌, arith, handle, holds, Object, live}
 use Rattle.segment_manager.proofs.Common.{option_to_list, AllByRecursion, LiveSet, is_proper, extents_of, value_extents}
-use Rattle.segment_manager.proofs.{Order.IsFoundIn, Order.found-each, Order.live-rises, Live.of_each}
+use Rattle.segment_manager.proofs.{directory.ExtentOrder.IsFoundIn, directory.ExtentOrder.found-each}
+use Rattle.segment_manager.proofs.{directory.ExtentOrder.live-rises, directory.LiveSet.of_each}
 use Rattle.raw_region.proofs.Facts.{no_more, AllByRecursion-behind}
 use Rattle.best_fit.proofs.Laws.{IsSound, found-room, live-sound}
 
@@ -59,6 +60,7 @@ pub named-in_use : (d : Directory) → IsTrue (is_proper (live d))
     → IfSome d.named.extent (λ x. extent_at (live d) (handle x) ≡ Some x)
 named-in_use d h = table-some (live d) d.named.extent (of_each (IsInUse (live d)) (all-in_use (live d) h)).named
 
+-- the block of the index of kinds is in use
 pub unique-in_use : (d : Directory) → IsTrue (is_proper (live d))
     → IfSome d.unique.extent (λ x. extent_at (live d) (handle x) ≡ Some x)
 unique-in_use d h = table-some (live d) d.unique.extent (of_each (IsInUse (live d)) (all-in_use (live d) h)).unique

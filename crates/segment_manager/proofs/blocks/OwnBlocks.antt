@@ -10,7 +10,7 @@ use common.{by_kind, [], list_all, list_any, OwnedText, is_rising, Directory, ob
 use common.{option_to_list, AllByRecursion, is_number_pair, unique_objects, flat_map, eqb-false, and_right, same_role}
 use common.{NumberPair, extents_of, object_len, is_some, eqb-true, has_backing, ByHandle, is_value, node_len, Elements}
 use common.{is_index, ObjectRole, ScalarKind, is_kind_of, IsDirectory, has_good_name, named_objects}
-use Rattle.segment_manager.proofs.{Live.tables_of, Live.live-extents, blocks.Blocks.own-block}
+use Rattle.segment_manager.proofs.{directory.LiveSet.tables_of, directory.LiveSet.live-extents, blocks.Blocks.own-block}
 use Rattle.raw_region.proofs.Facts.{first, second, AllByRecursion-append}
 use Rattle.std.proofs.lemmas.List.Folds.{list_any-append}
 use Rattle.block_tags.specs.{declared.tile.Role.TheVariants.Index, Tiles.role_bits}
@@ -24,6 +24,7 @@ or-swap true false c = refl
 or-swap false true c = refl
 or-swap false false c = refl
 
+-- a choice with a test that fails
 pub or-none : (a b : Bool) → b ≡ false → (a || b) ≡ a
 or-none true b e = refl
 or-none false b e = e
@@ -56,6 +57,7 @@ none-any : (t : Extent → Bool) (xs : List Extent) → NonePasses t xs → list
 none-any t [] h = refl
 none-any t (x ∷ xs) h = ap (λ b. b || list_any t xs) h.0 ∙ none-any t xs h.1
 
+-- no block of two lists passes the test
 pub none-append : (t : Extent → Bool) (xs ys : List Extent) → NonePasses t xs → NonePasses t ys
     → NonePasses t (xs ++ ys)
 none-append t xs ys h k = AllByRecursion-append (λ x. t x ≡ false) xs ys h k
@@ -116,6 +118,7 @@ storage-none h each c (Some x) e = (
   tt,
 )
 
+-- the block of an index is no object's
 pub index-none : (h each c : ℕ) (o : Option Extent)
     → IsTrue (has_backing Index each (record { capacity = c; extent = o }))
     → NonePasses (is_object_block h) (option_to_list o)
@@ -169,6 +172,7 @@ value-none h (Texts ps t) e = none-append (is_object_block h) (table_extents t) 
     e))) (all_owned-none h ps (second (nat_le (length ps) t.capacity
     && has_backing Storage 16 t) (list_all is_owned_text ps) e))
 
+-- the block of an object is told from others by its handle
 pub object-told : (format h : ℕ) (o : Object) → IsTrue (is_object format o) → IsTold (is_object_block h) h o
 object-told format h o e =
     let serving = serves o.extent ObjectRole (object_len o.name o.value) in
@@ -189,6 +193,7 @@ objects-told format h (o ∷ os) e = (
   objects-told format h os (second (is_object format o) (list_all (is_object format) os) e),
 )
 
+-- an index has the block that its capacity needs
 pub table-of : (t : BackingArray) (os : List Object) (lt : Object → Object → Bool) → IsTrue (is_index t os lt)
     → IsTrue (has_backing Index 8 t)
 table-of t os lt e = first (has_backing Index 8 t) (nat_le (length os) t.capacity)

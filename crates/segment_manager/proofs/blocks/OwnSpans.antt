@@ -4,9 +4,10 @@ use common.{◌≡◌, refl, sym, ap, ◌∙◌, ℕ, Bool, true, false, ◌&&�
 use common.{if◌then◌else◌, cond, IsTrue, nat_lt, AllByRecursion, list_all, eq-eqb, Extent, handle, Object, Directory}
 use common.{IsDirectory, live, sorted, value_extents, table_extents, is_object, named_objects, unique_objects, by_name}
 use common.{by_kind, subst, ◌+◌, ◌-◌, ◌<◌, ◌≤◌, filter, ltb-false, end_of, rises_from, is_own, is_own_span, own_spans}
-use Rattle.segment_manager.proofs.Live.{tables_of, live-extents, spread, spread-cons}
+use Rattle.segment_manager.proofs.directory.LiveSet.{tables_of, live-extents, spread, spread-cons}
 use Rattle.segment_manager.proofs.blocks.OwnBlocks.{NonePasses, none-append, is_object_block, index-none, object-told}
-use Rattle.segment_manager.proofs.{blocks.OwnBlocks.table-of, Order.inserted, Order.all-sorted}
+use Rattle.segment_manager.proofs.{blocks.OwnBlocks.table-of, directory.ExtentOrder.inserted}
+use Rattle.segment_manager.proofs.{directory.ExtentOrder.all-sorted}
 use Rattle.segment_manager.proofs.{objects.ObjectLists.rises-rest, indexes.Indexes.rises-above}
 use Rattle.raw_region.proofs.Facts.{first, second}
 use Rattle.best_fit.specs.{Fit.insert, Extents.Span, Extents.span_between, Extents.spans_from}
@@ -81,6 +82,7 @@ record IsTaken (p : Extent → Bool) (o : Object) : Type 0 where
   own : p o.extent ≡ true
   value : NonePasses p (value_extents o.value)
 
+-- the blocks of a list of objects
 abbrev pub blocks : List Object → List Extent
 blocks = map (λ (o : Object). o.extent)
 
@@ -164,5 +166,6 @@ spans-own from [] to = gap-if (nat_lt from to) (record { offset = from; len = to
 spans-own from (x ∷ xs) to = no-gap from x.offset (as_used x ∷ spans_from (end_of x) xs to)
     ∙ used-if (is_own x) x (filter is_own xs) (spans-own (end_of x) xs to)
 
+-- the spans that objects own are their blocks
 pub all-own_spans : {format : ℕ} {d : Directory} → IsDirectory format d → own_spans d ≡ map as_used (blocks d.objects)
 all-own_spans {d} k = spans-own 128 (live d).extents ((live d).size - 16) ∙ ap (map as_used) (own-blocks k)

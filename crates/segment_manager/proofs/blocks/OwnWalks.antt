@@ -8,7 +8,8 @@ use common.{ByHandle, Instance, Object, Directory, live, object_at, rises_from, 
 use common.{SaysOf, is_own, is_own_span, own_spans, AnswersWith, IsSegment, SegmentState, DenotesCurrent}
 use Rattle.segment_manager.proofs.objects.ObjectLists.{rises-front, rises-rest}
 use Rattle.segment_manager.proofs.blocks.OwnSpans.{all-own_spans, as_used, blocks, own-blocks}
-use Rattle.segment_manager.proofs.{indexes.Bridge.each-by_handle, Calling.denotes-live, indexes.EntryPlaces.all-at}
+use Rattle.segment_manager.proofs.{indexes.Bridge.each-by_handle, directory.HeapCalls.denotes-live}
+use Rattle.segment_manager.proofs.{indexes.EntryPlaces.all-at}
 use Rattle.raw_region.proofs.Facts.{second, first, AllByRecursion-filter, none_more}
 use Rattle.std.proofs.Common.{add-one}
 use Rattle.block_tags.specs.Tiles.{tile_at, tiles_from}
@@ -218,6 +219,7 @@ rises-few n m (o ∷ os) l r a =
     let rest = rises-few (o.extent.offset + 1) m os (omega (arith, a.0)) (rises-rest n o os r) a.1 in
     omega (arith, (rises-front n o os r), rest)
 
+-- a segment has at most 2^30 + 1 objects
 pub objects-few : (b : List ℕ) (g : IsSegment b) → length g.0.objects ≤ 1073741825
 objects-few b g = omega (
   arith,
@@ -272,6 +274,7 @@ module _ {s : SegmentState} {at : ℕ} {span : TileInfo} (own : IsObjectTile s a
   pub owner-few : IsSegment s.cut.bytes → at + 1 ≤ 1073741825
   owner-few g = omega (arith, owner-counts g, counts-own g.1, objects-few s.cut.bytes g)
 
+  -- the span of an owner lies below 1 GiB
   pub owner-short : IsSegment s.cut.bytes → span.offset ≤ 1073741824
   owner-short g =
       let d : Directory = g.0 in let o = owner g.1 in
@@ -288,5 +291,6 @@ module _ {s : SegmentState} {old new : TileWalk} {at : ℕ} {r : Option TileInfo
   pub block-at : {span : TileInfo} → r ≡ Some span → IsObjectTile s at span
   block-at e = record { stands = λ d k. ap (option_map as_span) (sym e) ∙ at-own k }
 
+  -- no object is left of the walk
   pub none-left : r ≡ None → (d : Directory) → DenotesCurrent s.cut.bytes d → length d.objects ≤ at
   none-left e d k = objects-end s at k (ap (option_map as_span) (sym e) ∙ at-own k)

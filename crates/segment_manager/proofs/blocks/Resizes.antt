@@ -5,8 +5,9 @@ use Rattle.segment_manager.proofs.Common.{SameBytes-part, SameBytes-word, LiveSe
 use Rattle.segment_manager.proofs.Common.{SameBlock, live_of, blocks-trans, lay_out_one, Directory, by_kind, by_name}
 use Rattle.segment_manager.proofs.Common.{live, named_objects, unique_objects, Denotes, IsHeader, Resizes, grown}
 use Rattle.segment_manager.proofs.Common.{shrunk, IsSegment, DenotesCurrent, SegmentState}
-use Rattle.segment_manager.proofs.Live.{live-size, of_each}
-use Rattle.segment_manager.proofs.{Calling.denotes-live, Denoted.index-stays, Frame.any_objects-same}
+use Rattle.segment_manager.proofs.directory.LiveSet.{live-size, of_each}
+use Rattle.segment_manager.proofs.{directory.HeapCalls.denotes-live, directory.OneObject.index-stays}
+use Rattle.segment_manager.proofs.{directory.Frame.any_objects-same}
 use Rattle.best_fit.specs.Ends.{EndsAt, MovesEnd, least_size, of_size}
 use Rattle.best_fit.proofs.Laws.{changed-header_blocks, ends-then}
 

@@ -7,7 +7,8 @@ use Rattle.segment_manager.proofs.Common.{TakesStepOfKind, SegmentState, effect,
 use Rattle.segment_manager.proofs.Common.{step_of_kind}
 use Rattle.segment_manager.proofs.containers.StorageSteps.{change-refused, no-storage}
 use Rattle.segment_manager.proofs.{Common.Mode, Common.Change, Common.command_of, containers.Refilled.refused-steps}
-use Rattle.segment_manager.proofs.{containers.Refilled.told-some, Steps.step_of_kind-step, Steps.moves-same}
+use Rattle.segment_manager.proofs.{containers.Refilled.told-some, directory.CommandSteps.step_of_kind-step}
+use Rattle.segment_manager.proofs.{directory.CommandSteps.moves-same}
 
 -- the object of the key, which is of the kind
 pub record IsOfKindAt (d : Directory) (key : Key) (kind : Kind) : Type 0 where
@@ -21,6 +22,7 @@ told-if d key kind None e f = absurd (cc)
 told-if d key kind (Some o) e f =
     let same : kind_of o.value ≡ kind = cc in record { object = o; is = e; kind_is = same }
 
+-- the kind that was told is the object's
 pub kind-told : (d : Directory) (key : Key) (kind : Kind) → Ok kind ≡ kind_at d key → IsOfKindAt d key kind
 kind-told d key kind e = told-if d key kind (object_at d key) refl e
 
@@ -37,6 +39,7 @@ pub of_kind-same : (mode : Mode) (d : Directory) (key : Key) (kind : Kind) (c : 
 of_kind-same mode d key kind c e = step_of_kind-step mode d key kind c e.object e.is
     (eq-eqb (code_of kind) (code_of (kind_of e.object.value)) (ap code_of (sym e.kind_is)))
 
+-- a step of the object's kind is a step of the command
 pub of_kind-steps : (old new : SegmentState) (key : Key) (kind : Kind) (c : Command) (answer : Answer)
     → AnswersWith old (λ d. kind_at d key) (Ok kind) → TakesStepOfKind old new key kind c answer
     → TakesStep old new c answer

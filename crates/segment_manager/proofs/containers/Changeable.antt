@@ -4,9 +4,11 @@ use Rattle.segment_manager.proofs.Common.{Refusal, Key, ByHandle, Command, is_ch
 use Rattle.segment_manager.proofs.Common.{IsChangeable, IsChangeableObject, IsUnchangeable, Directory, live, IsMissing}
 use Rattle.segment_manager.proofs.Common.{IsLocated, Plan, Refuse, perform, AnswersWith, AnswersQuery, TakesStep}
 use Rattle.segment_manager.proofs.Common.{SegmentState, DenotesCurrent}
-use Rattle.segment_manager.proofs.{Common.effect, Common.is_read_only, Steps.open-reading, Steps.step-effect}
+use Rattle.segment_manager.proofs.{Common.effect, Common.is_read_only, directory.CommandSteps.open-reading}
+use Rattle.segment_manager.proofs.{directory.CommandSteps.step-effect}
 use Rattle.segment_manager.proofs.{Common.step, containers.AnyStorage.nowhere-steps, containers.Refilled.refused-steps}
-use Rattle.segment_manager.proofs.{Steps.refuses-read_only, objects.Locating.kind-by_key, objects.Locating.located-here}
+use Rattle.segment_manager.proofs.{directory.CommandSteps.refuses-read_only, objects.Locating.kind-by_key}
+use Rattle.segment_manager.proofs.{objects.Locating.located-here}
 use Rattle.segment_manager.specs.{declared.modes.Mode.TheVariants.ReadOnly, declared.objects.object_ref.Object.Object}
 use Rattle.seg_types.specs.declared.refusals.Refusal.TheVariants as refusal
 
@@ -19,6 +21,7 @@ says-kind {s} {key} {o} l e = subst (λ k. AnswersWith s (λ d. kind_at d key) (
 
 module _ {s : SegmentState} {key : Key} {o : Object} (h : IsChangeableObject s key o) {kind : Kind} (e : o.kind
     ≡ kind) where
+  -- the object may be changed
   pub to-change : IsChangeable s key kind
   to-change = record { writing = h.writing; is = says-kind h.located e }
 
@@ -56,6 +59,7 @@ pub answered-reads : (mode : Mode) (d : Directory) (c : Command) → is_changing
     → (step mode d c).0 ≡ (perform d (live d) (effect d c)).0
 answered-reads mode d c e = ap (λ (r : Answer × Directory). r.0) (step-effect mode d c (open-reading mode c e))
 
+-- a command that only reads refuses and changes nothing
 pub refuses-read : (s : SegmentState) (c : Command) (why : Refusal) → is_changing c ≡ false
     → ((d : Directory) → DenotesCurrent s.cut.bytes d → effect d c ≡ Refuse why) → AnswersQuery s c (Refused why)
 refuses-read s c why e each = record

@@ -11,9 +11,12 @@ use common.{AllByRecursion, current, bytes_of, has_backing, place_at, Contents, 
 use Rattle.segment_manager.proofs.objects.Exchanged.{Exchange, between, denotes-container}
 use Rattle.segment_manager.proofs.containers.MapBlocks.{BlocksInUse, blocks-in_use}
 use Rattle.segment_manager.proofs.objects.Rewritten.{value_start, with_value}
-use Rattle.segment_manager.proofs.{blocks.Blocks.spelled-length, objects.Here.standing, Calling.denotes-heap}
-use Rattle.segment_manager.proofs.{Calling.denotes-live, objects.ObjectLists.key-found, objects.Standings.standing-room}
-use Rattle.segment_manager.proofs.{Frame.object-roomy, Live.IsIn, Order.Differs, Order.IsFoundIn}
+use Rattle.segment_manager.proofs.{blocks.Blocks.spelled-length, objects.Here.standing}
+use Rattle.segment_manager.proofs.{directory.HeapCalls.denotes-heap}
+use Rattle.segment_manager.proofs.{directory.HeapCalls.denotes-live, objects.ObjectLists.key-found}
+use Rattle.segment_manager.proofs.{objects.Standings.standing-room}
+use Rattle.segment_manager.proofs.{directory.Frame.object-roomy, directory.LiveSet.IsIn, directory.ExtentOrder.Differs}
+use Rattle.segment_manager.proofs.{directory.ExtentOrder.IsFoundIn}
 use Rattle.raw_region.proofs.Facts.{second, first, no_more}
 
 -- ---- the value
@@ -57,6 +60,7 @@ contents-long : (v : Value) (c : Contents) → contents_of v ≡ Some c → leng
 contents-long =
     of-contents (λ v c. length c.bytes ≡ c.each * c.len) (λ k zs t. spelled-length k zs) (λ bs t. omega arith)
 
+-- the contents of a good value fit its storage
 pub contents-fit : (v : Value) (c : Contents) → contents_of v ≡ Some c → IsTrue (is_good_value v) → Fits v c
 contents-fit v c e h =
     let many : Bool = nat_le c.len c.table.capacity in let serves : Bool = has_backing Storage c.each c.table in
@@ -69,6 +73,7 @@ contents-fit v c e h =
       values = second (many && serves) (has_values v) all;
     }
 
+-- the contents of a value have its shape
 pub contents-shape : (v : Value) (c : Contents) → contents_of v ≡ Some c → Shape v c
 contents-shape = of-contents Shape (λ k zs t. record { extents = refl; len = refl; count = refl })
     (λ bs t. record { extents = refl; len = refl; count = refl })
@@ -87,6 +92,7 @@ contents-said : (m : Memory) (at : ℕ) (v : Value) (c : Contents) → contents_
 contents-said m at =
     of-contents (λ v c. IsValueAt m at v → IsContainerAt m at c.len c.table c.bytes) (λ k zs t h. h) (λ bs t h. h)
 
+-- contents that stand are the value that stands
 pub value-said : (m : Memory) (at : ℕ) (v : Value) (c : Contents) → contents_of v ≡ Some c
     → IsContainerAt m at c.len c.table c.bytes → IsValueAt m at v
 value-said m at =
@@ -124,6 +130,7 @@ own-block : (format : ℕ) (b : List ℕ) (d : Directory) (o : Object) (t : Opti
 own-block format b d o None k f e = tt
 own-block format b d o (Some x) k f e = own-some format b d o x k f e
 
+-- a container stands where its value begins
 pub start-place : (o : Object) → value_start o ≡ place_at (container_place o)
 start-place o = omega arith
 

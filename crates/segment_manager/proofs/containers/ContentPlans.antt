@@ -8,7 +8,7 @@ use Rattle.segment_manager.proofs.Common.{Bool, true, Some, None, List, ◌++◌
 use Rattle.segment_manager.proofs.Common.{nat_abs, if◌then◌else◌, value_of_literal, capacity_for_one, capacity_for_text}
 use Rattle.segment_manager.proofs.Common.{false, Result, length, insert, remove, nat_lt, BackingArray, Object, Refuse}
 use Rattle.segment_manager.proofs.Common.{effect, slice_get, slice_set, shrunk_backing, WrongKind, Directory, object_at}
-use Rattle.segment_manager.proofs.{Common.values_of, Steps.with-found}
+use Rattle.segment_manager.proofs.{Common.values_of, directory.CommandSteps.with-found}
 use Rattle.segment_manager.specs.Step.{text_among, text_of}
 
 -- an element that is read or left out, which there is where the index is of one
@@ -29,6 +29,7 @@ module _ (d : Directory) (key : Key) (o : Object) (k : ScalarKind) (zs : List �
   push_with z = with_capacity (size_of k) (capacity_for_one (length zs) t.capacity) t
       (λ u. Reply Done (changed d o (Elements k (zs ++ z ∷ []) u)))
 
+  -- the plan of `push`, by the value of its literal
   pub push-plan : (l : Literal) (r : Result ℤ Refusal) → value_of_literal k l ≡ r
       → effect d (asked.Push key l) ≡ with r push_with
   push-plan l r g = by-value d key o _ (λ o v. step.push d o v l) e f ∙ ap (λ r. with r push_with) g
@@ -37,6 +38,7 @@ module _ (d : Directory) (key : Key) (o : Object) (k : ScalarKind) (zs : List �
   abbrev pub pop_with : ℤ → Plan
   pop_with z = Reply (Element k z) (changed d o (Elements k (take (length zs - 1) zs) t))
 
+  -- the plan of `pop`, by the last element
   pub pop-plan : (r : Option ℤ) → slice_get zs (length zs - 1) ≡ r
       → effect d (asked.Pop key) ≡ with (of_slice r) pop_with
   pop-plan r g = by-value d key o _ (λ o v. step.pop d o v) e f ∙ ap (λ r. with (of_slice r) pop_with) g
@@ -46,6 +48,7 @@ module _ (d : Directory) (key : Key) (o : Object) (k : ScalarKind) (zs : List �
   insert_with i outside z = if outside then Refuse OutOfRange else with_capacity (size_of k)
       (capacity_for_one (length zs) t.capacity) t (λ u. Reply Done (changed d o (Elements k (insert zs i z) u)))
 
+  -- the plan of `insert`, by the value and the place
   pub insert-plan : (i : ℕ) (l : Literal) (r : Result ℤ Refusal) (b : Bool) → value_of_literal k l ≡ r
       → nat_lt (length zs) i ≡ b → effect d (asked.Insert key i l) ≡ with r (insert_with i b)
   insert-plan i l r b g h =
@@ -55,6 +58,7 @@ module _ (d : Directory) (key : Key) (o : Object) (k : ScalarKind) (zs : List �
   abbrev pub erase_with : ℕ → ℤ → Plan
   erase_with i z = Reply Done (changed d o (Elements k (remove zs i) t))
 
+  -- the plan of `erase`, by the element there
   pub erase-plan : (i : ℕ) (r : Option ℤ) → slice_get zs i ≡ r
       → effect d (asked.Erase key i) ≡ with (of_slice r) (erase_with i)
   erase-plan i r g = by-value d key o _ (λ o v. step.erase d o v i) e f ∙ ap (λ r. with (of_slice r) (erase_with i)) g
@@ -66,10 +70,12 @@ module _ (d : Directory) (key : Key) (o : Object) (k : ScalarKind) (zs : List �
   assign-literals : (ls : List Literal) → effect d (asked.Assign key ls) ≡ with (values_of k ls) assign_with
   assign-literals ls = by-value d key o _ (λ o v. step.assign d o v ls) e f
 
+  -- the plan of `assign`, by its values
   pub assign-plan : (ls : List Literal) (new : List ℤ) → values_of k ls ≡ Ok new
       → effect d (asked.Assign key ls) ≡ assign_with new
   assign-plan ls new g = assign-literals ls ∙ ap (λ r. with r assign_with) g
 
+  -- the plan of `assign` with a literal that is no value
   pub assign-refused : (ls : List Literal) (r : Refusal) → values_of k ls ≡ Err r
       → effect d (asked.Assign key ls) ≡ Refuse r
   assign-refused ls r g = assign-literals ls ∙ ap (λ r. with r assign_with) g
@@ -83,6 +89,7 @@ module _ (d : Directory) (key : Key) (o : Object) (k : ScalarKind) (zs : List �
   abbrev pub set_with : ℕ → ℤ → ℤ → Plan
   set_with i z old = Reply Done (changed d o (Elements k (slice_set zs i z) t))
 
+  -- the plan of `set`, by the value and the element there
   pub set-plan : (i : ℕ) (l : Literal) (z : ℤ) (r : Option ℤ) → value_of_literal k l ≡ Ok z → slice_get zs i ≡ r
       → effect d (asked.Set key i l) ≡ with (of_slice r) (set_with i z)
   set-plan i l z r g h =
@@ -108,10 +115,12 @@ module _ (d : Directory) (key : Key) (o : Object) (bs : List ℕ) (t : BackingAr
   text-literals : (ls : List Literal) → effect d (asked.Assign key ls) ≡ with (text_among ls) text_with
   text-literals ls = by-value d key o _ (λ o v. step.assign d o v ls) e f
 
+  -- the plan of `assign` for a string
   pub text-plan : (ls : List Literal) (new : List ℕ) → text_among ls ≡ Ok new
       → effect d (asked.Assign key ls) ≡ text_with new
   text-plan ls new g = text-literals ls ∙ ap (λ r. with r text_with) g
 
+  -- the plan of `assign` for a string with a literal that is no text
   pub text-refused : (ls : List Literal) (r : Refusal) → text_among ls ≡ Err r
       → effect d (asked.Assign key ls) ≡ Refuse r
   text-refused ls r g = text-literals ls ∙ ap (λ r. with r text_with) g
@@ -125,6 +134,7 @@ module _ (d : Directory) (key : Key) (o : Object) (bs : List ℕ) (t : BackingAr
   abbrev pub put_byte : ℕ → ℤ → ℤ → Plan
   put_byte i z old = Reply Done (changed d o (Bytes (map nat_abs (slice_set (map pos bs) i z)) t))
 
+  -- the plan of `set` for a string
   pub set_byte-plan : (i : ℕ) (l : Literal) (z : ℤ) (r : Option ℤ) → value_of_literal U8 l ≡ Ok z
       → slice_get (map pos bs) i ≡ r → effect d (asked.Set key i l) ≡ with (of_slice r) (put_byte i z)
   set_byte-plan i l z r g h =
@@ -132,9 +142,11 @@ module _ (d : Directory) (key : Key) (o : Object) (bs : List ℕ) (t : BackingAr
 
 -- ---- whatever has storage
 
+-- what a reservation plans, by the contents
 abbrev pub reserve_with : Directory → Object → Value → ℕ → ℕ × ℕ × BackingArray → Plan
 reserve_with d o v n (each, len, t) = with_capacity each n t (λ u. Reply Done (changed d o (with_table v u)))
 
+-- what fitting the storage plans, by the contents
 abbrev pub shrink_with : Directory → Object → Value → ℕ × ℕ × BackingArray → Plan
 shrink_with d o v (each, len, t) = Reply Done (changed d o (with_table v (shrunk_backing (live d) each len t)))
 
@@ -144,12 +156,15 @@ module _ (d : Directory) (key : Key) (o : Object) (e : object_at d key
       → with (found_at d key) (λ o. with (storage_of o.value) (next o)) ≡ with r (next o)
   by-storage next = with-found d key o (λ o. with (storage_of o.value) (next o)) e ∙ ap (λ r. with r (next o)) f
 
+  -- the plan of `reserve`, by the contents
   pub reserve-plan : (n : ℕ) → effect d (asked.Reserve key n) ≡ with r (reserve_with d o o.value n)
   reserve-plan n = by-storage (λ o. reserve_with d o o.value n)
 
+  -- the plan of `shrink`, by the contents
   pub shrink-plan : effect d (asked.Shrink key) ≡ with r (shrink_with d o o.value)
   shrink-plan = by-storage (λ o. shrink_with d o o.value)
 
+  -- the plan of `clear`, by the contents
   pub clear-plan : effect d (asked.Clear key) ≡ with r (λ s. Reply Done (changed d o (with_items o.value [])))
   clear-plan = by-storage (λ o s. Reply Done (changed d o (with_items o.value [])))
 
@@ -174,15 +189,19 @@ no-plan d o (Texts ps t) h = absurd (cc)
 no-plan d o v h = record { push = λ l. refl; pop = refl; insert_at = λ i l. refl; erase = λ i. refl }
 
 module _ (d : Directory) (key : Key) (o : Object) (e : object_at d key ≡ Some o) (h : is_no_vector o.value ≡ true) where
+  -- `push` to an object of another kind is refused
   pub push-other : (l : Literal) → effect d (asked.Push key l) ≡ Refuse WrongKind
   push-other l = with-found d key o (λ o. step.push d o o.value l) e ∙ (no-plan d o o.value h).push l
 
+  -- `pop` from an object of another kind is refused
   pub pop-other : effect d (asked.Pop key) ≡ Refuse WrongKind
   pop-other = with-found d key o (λ o. step.pop d o o.value) e ∙ (no-plan d o o.value h).pop
 
+  -- `insert` into an object of another kind is refused
   pub insert-other : (i : ℕ) (l : Literal) → effect d (asked.Insert key i l) ≡ Refuse WrongKind
   insert-other i l = with-found d key o (λ o. step.insert_at d o o.value i l) e ∙ (no-plan d o o.value h).insert_at i l
 
+  -- `erase` from an object of another kind is refused
   pub erase-other : (i : ℕ) → effect d (asked.Erase key i) ≡ Refuse WrongKind
   erase-other i = with-found d key o (λ o. step.erase d o o.value i) e ∙ (no-plan d o o.value h).erase i
 

@@ -11,12 +11,13 @@ use common.{WrongKind, option_map}
 use Rattle.segment_manager.proofs.objects.Here.{here, seen-handle, standing}
 use Rattle.segment_manager.specs.{objects.Located.located, objects.Located.located_at, objects.ElementLists.numbers_in}
 use Rattle.segment_manager.proofs.objects.Standings.{standing-room, standing-short}
-use Rattle.segment_manager.proofs.{containers.Contained.contents-stand, Calling.denotes-heap, Frame.object-roomy}
+use Rattle.segment_manager.proofs.{containers.Contained.contents-stand, directory.HeapCalls.denotes-heap}
+use Rattle.segment_manager.proofs.{directory.Frame.object-roomy}
 use Rattle.segment_manager.proofs.{blocks.Blocks.spelling-length, objects.Rows.HasBytesAt-element}
 use Rattle.raw_region.proofs.Facts.{first, second}
 use Rattle.best_fit.proofs.Laws.{block_aligned}
 use Rattle.best_fit.specs.Table.{table_link}
-use Rattle.seg_vector.proofs.Storage.{stands-room}
+use Rattle.seg_vector.proofs.storage.Storage.{stands-room}
 use Rattle.std.specs.{Option.unwrap_or, Prelude.IfOk, Prelude.option_map}
 use Rattle.segment_manager.specs.declared.containers.element_runs.ElementRun.{ElementRun}
 use Rattle.segment_manager.specs.containers.ElementRuns.{IsRunOf, run_at, run_in, run_of, spelled_in, storage_offset}
@@ -46,6 +47,7 @@ module _ {b : List ℕ} {h : ℕ} (o : Object) (s : IsObjectInBlock b h o) where
   abbrev start : ℕ
   start = handle o.extent + head_len + padded (length o.name)
 
+  -- the run that was read is the elements of a vector
   pub vector-read : (at : ℕ) (k : ScalarKind) (r : ElementRun) (v : Value) → at ≡ head_len + padded (length o.name)
       → IsRunRead (bytes_of b) h at k r → Vector k ≡ kind_of v → IsValueAt (bytes_of b) start v → Ok r ≡ run_in start v
   vector-read at k r (Elements j zs t) e f g said =
@@ -57,6 +59,7 @@ module _ {b : List ℕ} {h : ℕ} (o : Object) (s : IsObjectInBlock b h o) where
       (f.count ∙ ap (word_at (bytes_of b)) len ∙ said.len_word) (f.kind ∙ kind))
   vector-read at k r v e f g said = absurd (cc)
 
+  -- the run that was read is the bytes of a string
   pub string-read : (at : ℕ) (r : ElementRun) (v : Value) → at ≡ head_len + padded (length o.name)
       → IsRunRead (bytes_of b) h at U8 r → String ≡ kind_of v → IsValueAt (bytes_of b) start v → Ok r ≡ run_in start v
   string-read at r (Bytes bs t) e f g said =
@@ -67,6 +70,7 @@ module _ {b : List ℕ} {h : ℕ} (o : Object) (s : IsObjectInBlock b h o) where
       (f.count ∙ ap (word_at (bytes_of b)) len ∙ said.len_word) f.kind)
   string-read at r v e f g said = absurd (cc)
 
+  -- the run that was read is the elements of an array
   pub scalars-read : (at n : ℕ) (k : ScalarKind) (v : Value) → at ≡ head_len + padded (length o.name) → n ≡ count_of v
       → Scalar k ≡ kind_of v
       → Ok (let r : ElementRun = record { offset = h + at; count = n; kind = k } in r) ≡ run_in start v
@@ -75,6 +79,7 @@ module _ {b : List ℕ} {h : ℕ} (o : Object) (s : IsObjectInBlock b h o) where
       ap Ok (same-run place f kind)
   scalars-read at n k v e f g = absurd (cc)
 
+  -- a value of another kind has no run of elements
   pub no-run_in : (kind : Kind) (v : Value) → kind ≡ kind_of v → ((k : ScalarKind) → kind ≡ Scalar k → ⊥)
       → ((k : ScalarKind) → kind ≡ Vector k → ⊥) → (kind ≡ String → ⊥) → Err WrongKind ≡ run_in start v
   no-run_in kind (Numbers k zs) e f g n = absurd (f k e)
@@ -89,6 +94,7 @@ pub record AreWords (b : List ℕ) (h at : ℕ) : Type 0 where
   pub near : at ≤ 4096
   pub room : IsTrue (has_room (live_of b) h (at + 24))
 
+-- the three words of a container stand behind the head
 pub are-words : {b : List ℕ} {h : ℕ} (o : Object) → IsObjectInBlock b h o → (at : ℕ)
     → at ≡ head_len + padded (length o.name) → value_len o.value ≡ 24 → AreWords b h at
 are-words {b} {h} o s at e len =
@@ -99,10 +105,12 @@ are-words {b} {h} o s at e len =
       room = standing-room b h (at + 24) o s (omega (arith, e, len));
     }
 
+-- a vector takes 24 bytes in its object
 pub vector-len : (k : ScalarKind) (v : Value) → Vector k ≡ kind_of v → value_len v ≡ 24
 vector-len k (Elements j zs t) e = refl
 vector-len k v e = absurd (cc)
 
+-- a string takes 24 bytes in its object
 pub string-len : (v : Value) → String ≡ kind_of v → value_len v ≡ 24
 string-len (Bytes bs t) e = refl
 string-len v e = absurd (cc)
@@ -207,6 +215,7 @@ has-if : {d : Directory} {key : Key} {run : ElementRun} (r : Option Object) → 
 has-if None e f = absurd (cc)
 has-if (Some o) e f = record { object = o; is = e; run_is = sym f }
 
+-- the run of an object is what the directory says
 pub run-answers : {s t : SegmentState} (view : s ≡ t) (key : Key) {h : ℕ} {r : Result ElementRun Refusal}
     → AnswersWith t (λ d. handle_at d key) (Some h) → ((o : Object) → IsObjectInBlock s.cut.bytes h o → r ≡ run_of o)
     → AnswersWith t (λ d. run_at d key) r
@@ -221,6 +230,7 @@ nothing-if : (r : Option Object) → None ≡ option_map located r → r ≡ Non
 nothing-if None e = refl
 nothing-if (Some o) e = absurd (cc)
 
+-- an object that is not there has no run
 pub no-run : {s : SegmentState} (key : Key) → AnswersWith s (λ d. located_at d key) None
     → AnswersWith s (λ d. run_at d key) (Err NotFound)
 no-run key a = record { answers = λ d k. sym (ap run_if (nothing-if (object_at d key) (a.answers d k))) }
@@ -266,7 +276,9 @@ element-in m at k zs i {z} good h e = record {
 
 -- an array or a vector of scalars of a kind
 pub data IsRowOfKind (k : ScalarKind) (v : Value) : Type 0 where
+  -- an array is a row of its kind
   AnArray : kind_of v ≡ Scalar k → IsRowOfKind k v
+  -- a vector is a row of its kind
   AVector : kind_of v ≡ Vector k → IsRowOfKind k v
 
 row-if : (m : Memory) (at : ℕ) (k : ScalarKind) (v : Value) (i : ℕ) {z : ℤ} → IsRowOfKind k v → IsTrue (is_good_value v)

@@ -4,9 +4,12 @@ use Rattle.segment_manager.proofs.Common.{◌≢◌, refl, sym, ap, ◌∙◌, S
 use Rattle.segment_manager.proofs.Common.{subst, eq-eqb, ne_eqb, handle, Scalar, Index, Named, Unique, Object, by_kind}
 use Rattle.segment_manager.proofs.Common.{IsTrue, ScalarKind, Directory, value_len, entries_of, NamedClass, UniqueClass}
 use Rattle.segment_manager.proofs.Common.{is_good_value, remove_object, replace_object, value_extents, without_object}
-use Rattle.segment_manager.proofs.Live.{IsFound, IsIn, Place, behind, found-nothing, found-place, here, remove-behind}
-use Rattle.segment_manager.proofs.{Live.remove-here, Live.replace-here, Faces.by_name-face, Faces.by_kind-face}
-use Rattle.segment_manager.proofs.{Live.replace-behind, objects.Rewritten.with_value, Faces.ordered-changed}
+use Rattle.segment_manager.proofs.directory.LiveSet.{IsFound, IsIn, Place, behind, found-nothing, found-place, here}
+use Rattle.segment_manager.proofs.directory.LiveSet.{remove-behind}
+use Rattle.segment_manager.proofs.{directory.LiveSet.remove-here, directory.LiveSet.replace-here}
+use Rattle.segment_manager.proofs.{directory.IndexedParts.by_name-face, directory.IndexedParts.by_kind-face}
+use Rattle.segment_manager.proofs.{directory.LiveSet.replace-behind, objects.Rewritten.with_value}
+use Rattle.segment_manager.proofs.{directory.IndexedParts.ordered-changed}
 
 -- ---- the value
 
@@ -18,6 +21,7 @@ pub record IsEmptied (v : Value) : Type 0 where
   pub good : IsTrue (is_good_value v) → IsTrue (is_good_value (emptied v))
   pub alone : value_extents (emptied v) ≡ []
 
+-- the value without its elements is an emptied one
 pub emptied-is : (v : Value) → IsEmptied v
 emptied-is (Numbers k zs) = record { kind = refl; count = refl; len = refl; good = λ h. h; alone = refl }
 emptied-is v = record { kind = refl; count = refl; len = refl; good = λ h. refl; alone = refl }
@@ -73,12 +77,15 @@ itself-replaced o = by-place o (λ os. replace_object o os ≡ os) (λ p ps e sa
 -- ---- the directory
 
 module _ (d : Directory) (o : Object) (f : IsIn d o) where
+  -- a changed object is in the changed directory
   pub changed-in : (v : Value) → IsIn (changed d o v) (with_value o v)
   changed-in v = found-replaced o v d.objects f
 
+  -- the other objects stay
   pub changed-others : (v : Value) → without_object (changed d o v) (with_value o v) ≡ without_object d o
   changed-others v = ap (λ os. record d { objects = os }) (others-replaced o v d.objects f)
 
+  -- an object that is changed to itself leaves the directory
   pub changed-itself : (v : Value) → v ≡ o.value → changed d o v ≡ d
   changed-itself v e = ap (changed d o) e ∙ ap (λ os. record d { objects = os }) (itself-replaced o d.objects f)
 

@@ -7,8 +7,10 @@ use common.{changed, is_read_only, SegmentState, DenotesCurrent, Denotes, Plan, 
 use common.{with_capacity, found_at, live, live_of, grown_backing, BackingArray, container_at}
 use Rattle.seg_vector.specs.Vector.{capacity_for_more}
 use Rattle.segment_manager.specs.containers.Ranges.{ExtendsVector, extend, extended}
-use Rattle.segment_manager.proofs.{Calling.denotes-live, containers.Safely.Performed, containers.Refilled.told-none}
-use Rattle.segment_manager.proofs.{containers.Refilled.told-some, Steps.by_same, Steps.with-found, Steps.with-not_found}
+use Rattle.segment_manager.proofs.{directory.HeapCalls.denotes-live, containers.Safely.Performed}
+use Rattle.segment_manager.proofs.{containers.Refilled.told-none}
+use Rattle.segment_manager.proofs.{containers.Refilled.told-some, directory.CommandSteps.by_same}
+use Rattle.segment_manager.proofs.{directory.CommandSteps.with-found, directory.CommandSteps.with-not_found}
 use Rattle.segment_manager.proofs.containers.Refilled.{by-kind, not-Err, placed, room-grown, same_Err, then_room}
 
 -- ---- the plan
@@ -17,6 +19,7 @@ abbrev of_object : Directory → ScalarKind → List ℤ → Object → Plan
 of_object d k more o = if same_kind (Vector k) (kind_of o.value) then extend d o o.value more else Refuse WrongKind
 
 module _ (mode : Mode) (d : Directory) (key : Key) (k : ScalarKind) (more : List ℤ) where
+  -- extending a vector of a segment that is only read is refused
   pub extended-reading : is_read_only mode ≡ true → extended mode d key k more ≡ (Refused ReadOnly, d)
   extended-reading e =
       ap (λ b. perform d (live d) (if b then Refuse ReadOnly else with (found_at d key) (of_object d k more))) e
@@ -63,6 +66,7 @@ abbrev pub VectorExtended : SegmentState → SegmentState → WindowState → Ke
     → Result (Unit {0}) Refusal → Type 0
 VectorExtended s t new key k more r = Performed s t new (λ mode d. extended mode d key k more) r
 
+-- a refused extension leaves the segment
 pub extended-stays : (s : SegmentState) (key : Key) (k : ScalarKind) (more : List ℤ) (why : Refusal)
     → ((d : Directory) → DenotesCurrent s.cut.bytes d → extended s.mode d key k more ≡ (Refused why, d))
     → ExtendsVector s s key k more (Refused why)

@@ -10,10 +10,10 @@ use common.{TakesStepOfKind, is_read_only, StepsSafely, eqb-true, current, live_
 use common.{Contents, Elements, IsObjectInBlock, IsSegment, DenotesCurrent, option_to_list, kind_of_code, LacksSpace}
 use common.{container_at, container_place, is_good_value, with_capacity}
 use Rattle.segment_manager.proofs.containers.Refilled.{HoldsAt, Refill, holds-at, room-asked, refill-steps_of_kind}
-use Rattle.segment_manager.proofs.Steps.{by_no_change_of_kind, open-writing, step_of_kind-found}
+use Rattle.segment_manager.proofs.directory.CommandSteps.{by_no_change_of_kind, open-writing, step_of_kind-found}
 use Rattle.segment_manager.proofs.containers.Contained.{contents-changed, contents-fit, contents-stand}
 use Rattle.segment_manager.proofs.containers.Safely.{done-so, stays}
-use Rattle.segment_manager.proofs.{Codes.code-read, Frame.object-roomy, objects.Here.standing}
+use Rattle.segment_manager.proofs.{objects.KindCodes.code-read, directory.Frame.object-roomy, objects.Here.standing}
 
 -- ---- what is of the kind of a vector
 
@@ -153,6 +153,7 @@ module _ {A : Type 0} (L : Listing A) (s : SegmentState) (key : Key) (p : Place)
   abbrev Held : Directory → Type 0
   Held d = HoldsItems L s.cut.bytes d key p
 
+  -- the items of the object are those that the bytes say
   pub found-items : (d : Directory) → DenotesCurrent s.cut.bytes d → Held d
   found-items d l = holds-items L s.cut.bytes d key p l.denotes (found.answers d l)
 

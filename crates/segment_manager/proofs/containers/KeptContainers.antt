@@ -31,6 +31,7 @@ enough-places d key o n len capacity is sizes has =
     (λ _. Result (ℕ × ℕ) Refusal) [ None ↦ Err NotFound | Some p ↦ sizes_of p.value ]) is ∙ sizes in
     subst (λ m. n ≤ m) (ap places_in same) has.enough
 
+-- a refused change of a vector of strings leaves the segment
 pub texts-kept : {s t : SegmentState} (view : s ≡ t) (key : Key) {p : Place}
     → AnswersWith t (λ d. container_at d key StringsKind)
     (Ok p) → (new : WindowState) (change : Change) (r : Result (Unit {0}) Refusal) → ChangesTexts change s.cut new p r
@@ -53,6 +54,7 @@ none-erased : (P : Type 0) (Q : NumberPair → Type 0) (o : Option NumberPair) �
 none-erased P Q None e m = m
 none-erased P Q (Some q) e m = absurd (none-some q (sym e))
 
+-- a refused change of a map leaves the segment
 pub map-kept : {K V : Type 0} {k v : ScalarKind} {kp : Plain K} {vp : Plain V} {kw : K → ℤ} {vw : V → ℤ}
     → IsScalarOf k kp kw → IsScalarOf v vp vw → (s t : SegmentState) (view : s ≡ t) (key : Key) (p q : Place) → q ≡ p
     → AnswersWith t (λ d. container_at d key (Map k v)) (Ok p) → (new : WindowState) (x : K) (r : Bool)
@@ -74,6 +76,7 @@ pair-written : (P : Type 0) (Q : NumberPair → Type 0) (o : Option NumberPair) 
 pair-written P Q None p e m = absurd (none-some p e)
 pair-written P Q (Some q) p e m = let same : q ≡ p = cc in subst Q same m
 
+-- a pair put over another one needs no space
 pub map-again : {K V E : Type 0} {k v : ScalarKind} {kp : Plain K} {vp : Plain V} {kw : K → ℤ} {vw : V → ℤ}
     → IsScalarOf k kp kw → IsScalarOf v vp vw → (s t : SegmentState) (view : s ≡ t) (key : Key) (p q : Place) → q ≡ p
     → AnswersWith t (λ d. container_at d key (Map k v)) (Ok p) → (new : WindowState) (x : K) (y : V) (r : Result Bool E)

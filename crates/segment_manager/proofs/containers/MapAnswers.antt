@@ -4,7 +4,7 @@ use Rattle.segment_manager.proofs.Common.{◌≡◌, sym, subst, ◌∙◌, ℤ,
 use Rattle.segment_manager.proofs.Common.{WindowState, Map, ScalarKind, Plain, Refusal, is_value, Key, Lookup, Put}
 use Rattle.segment_manager.proofs.Common.{Remove, literal_of, ErasesKey, PutsPair, FindsItem, FindsItemBefore}
 use Rattle.segment_manager.proofs.Common.{FindsLastItem, FindsValue, IsSomeMap, container_at, numbers_in, pair_at_end}
-use Rattle.segment_manager.proofs.Common.{told_of_map, value_or_absent, AnswersWith, AnswersQueryOfKind, IsSegment}
+use Rattle.segment_manager.proofs.Common.{answer_of_map, value_or_absent, AnswersWith, AnswersQueryOfKind, IsSegment}
 use Rattle.segment_manager.proofs.Common.{SegmentState, is_read_only, List, NumberPair, int_lt, item_of, truth_answer}
 use Rattle.segment_manager.proofs.containers.MapCalls.{TellsSafely, map-erased, map-got, map-put, map-told, put_result}
 use Rattle.segment_manager.proofs.{containers.MapCalls.stands-map, containers.ToChange.seen-found}
@@ -33,6 +33,7 @@ module _ {K V : Type 0} {k v : ScalarKind} {kp : Plain K} {vp : Plain V} {kw : K
 
   -- ---- what is read
 
+  -- the value of a key is the directory's
   pub got-there : (x : K) (r : Option V) → kp.is_value x ≡ true → FindsValue kp vp s.cut.bytes q.handle q.at x r
       → AnswersQueryOfKind t key (Map k v) (Lookup key (literal_of k (kw x))) (value_or_absent v (option_map vw r))
   got-there x r good each = subst (λ (u : SegmentState).
@@ -42,25 +43,29 @@ module _ {K V : Type 0} {k v : ScalarKind} {kp : Plain K} {vp : Plain V} {kw : K
 
   told-there : (say : List NumberPair → Option (ℤ × ℤ)) (r : Option (K × V))
       → ((ps : List NumberPair) → IsPairs k v s.cut.bytes q ps → numbers_in kw vw r ≡ say ps)
-      → AnswersWith t (λ d. told_of_map d key k v say) (Ok (numbers_in kw vw r))
+      → AnswersWith t (λ d. answer_of_map d key k v say) (Ok (numbers_in kw vw r))
   told-there say r each = subst (λ (u : SegmentState).
-      AnswersWith u (λ d. told_of_map d key k v say) (Ok (numbers_in kw vw r)))
+      AnswersWith u (λ d. answer_of_map d key k v say) (Ok (numbers_in kw vw r)))
       view (map-told s key k v q b found-there say (numbers_in kw vw r) each)
 
+  -- the pair from a key on is the directory's
   pub past-there : (above said : Bool) → said ≡ above → (x : K) (r : Option (K × V)) → FindsItem kp vp s.cut.bytes
       q.handle q.at above x r → AnswersWith t (λ d.
-      told_of_map d key k v (pair_past said (kw x))) (Ok (numbers_in kw vw r))
+      answer_of_map d key k v (pair_past said (kw x))) (Ok (numbers_in kw vw r))
   past-there above said is x r each =
-      subst (λ (b : Bool). AnswersWith t (λ d. told_of_map d key k v (pair_past b (kw x))) (Ok (numbers_in kw vw r)))
+      subst (λ (b : Bool). AnswersWith t (λ d. answer_of_map d key k v (pair_past b (kw x))) (Ok (numbers_in kw vw r)))
       (sym is) (told-there (pair_past above (kw x)) r (finds-item kl vl s.cut.bytes q.handle q.at above x r each))
 
+  -- the pair before a key is the directory's
   pub back-there : (reached : Bool) (x : K) (r : Option (K × V)) → FindsItemBefore kp vp s.cut.bytes q.handle q.at
-      reached x r → AnswersWith t (λ d. told_of_map d key k v (λ ps. option_map item_of (last_pair int_lt reached (kw x)
+      reached x r → AnswersWith t (λ d.
+      answer_of_map d key k v (λ ps. option_map item_of (last_pair int_lt reached (kw x)
       ps))) (Ok (numbers_in kw vw r))
   back-there reached x r each = told-there _ r (finds-back kl vl s.cut.bytes q.handle q.at reached x r each)
 
+  -- the last pair is the directory's
   pub last-there : (r : Option (K × V)) → FindsLastItem kp vp s.cut.bytes q.handle q.at r
-      → AnswersWith t (λ d. told_of_map d key k v pair_at_end) (Ok (numbers_in kw vw r))
+      → AnswersWith t (λ d. answer_of_map d key k v pair_at_end) (Ok (numbers_in kw vw r))
   last-there r each = told-there pair_at_end r (finds-last kl vl s.cut.bytes q.handle q.at r each)
 
   -- ---- what is changed
@@ -78,6 +83,7 @@ module _ {K V : Type 0} {k v : ScalarKind} {kp : Plain K} {vp : Plain V} {kw : K
         (map-put s key k v q b found-there new writing-there (kw x) (vw y) r (as-value kl x good) (as-value vl y fair)
         (puts-numbers kl vl s.cut new q.handle q.at x y r each)))
 
+    -- the erased pair is the directory's
     pub erased-there : (x : K) (r : Bool) → kp.is_value x ≡ true → ErasesKey kp vp s.cut new q.handle q.at x r
         → Answered truth_answer s t new key (Map k v) (Remove key (literal_of k (kw x))) (Ok r)
     erased-there x r good each = answered s t view b new key (Map k v) _ (Ok r) (map-erased s key k v q b found-there

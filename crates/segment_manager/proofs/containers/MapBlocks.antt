@@ -8,9 +8,11 @@ use Rattle.segment_manager.proofs.Common.{Directory, extents_of, live, value_ext
 use Rattle.link_tree.specs.Nodes.{is_in}
 use Rattle.best_fit.specs.Fit.{insert}
 use Rattle.seg_types.specs.ScalarLaws.{total}
-use Rattle.segment_manager.proofs.{Live.IsIn, Live.live-split, objects.Regrown.rest, objects.Regrown.with_extents}
-use Rattle.segment_manager.proofs.Order.{IsFoundIn, found-each, Apart, Differs, IsFresh, Rising, all_of-inserted}
-use Rattle.segment_manager.proofs.Order.{inserted, live-rises, rising-insert, rising-inserted}
+use Rattle.segment_manager.proofs.{directory.LiveSet.IsIn, directory.LiveSet.live-split, objects.Regrown.rest}
+use Rattle.segment_manager.proofs.{objects.Regrown.with_extents}
+use Rattle.segment_manager.proofs.directory.ExtentOrder.{IsFoundIn, found-each, Apart, Differs, IsFresh, Rising}
+use Rattle.segment_manager.proofs.directory.ExtentOrder.{all_of-inserted}
+use Rattle.segment_manager.proofs.directory.ExtentOrder.{inserted, live-rises, rising-insert, rising-inserted}
 
 -- ---- lists that are apart
 
@@ -36,6 +38,7 @@ pub record BlocksInUse (d : Directory) (o : Object) : Type 0 where
   pub own_apart : Differs o.extent (value_extents o.value)
   pub beside_apart : Apart (rest d o) (value_extents o.value)
 
+-- the blocks of an object are in use
 pub blocks-in_use : (d : Directory) (o : Object) → IsTrue (is_proper (live d)) → IsIn d o → BlocksInUse d o
 blocks-in_use d o p f =
     let xs : List Extent = value_extents o.value in
@@ -58,6 +61,7 @@ blocks-in_use d o p f =
 
 -- ---- the blocks of pairs
 
+-- the blocks of a list of pairs
 abbrev pub nodes : List NumberPair → List Extent
 nodes ps = map (λ (p : NumberPair). p.node) ps
 

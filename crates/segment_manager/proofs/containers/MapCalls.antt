@@ -12,12 +12,15 @@ use common.{container_place, Reply, SegmentState, effect, map_of, Answer, Extent
 use common.{nodes_of_pairs, value_of_pair, AnswersSafely, value_or_absent, current, Refusal, NoSpace, code_of, size_of}
 use common.{Command, Literal, pair_at, Element, Refused, Denotes, kind_of, SameSurroundings, remove_pair, container_at}
 use common.{AnswersQueryOfKind, TakesStepOfKind, is_read_only, step_of_kind, truth_answer, ScalarKind, same_kind}
-use common.{literal_of, transitive, OverwritesPair, NumberPair, FindsValue, numbers_of, told_of_map}
+use common.{literal_of, transitive, OverwritesPair, NumberPair, FindsValue, numbers_of, answer_of_map}
 use Rattle.segment_manager.proofs.containers.MapSteps.{IsMapObject, again-denotes, erased-denotes, map-only, object-map}
-use Rattle.segment_manager.proofs.{containers.MapSteps.put-denotes, Calling.denotes-live, objects.ObjectLists.key-found}
+use Rattle.segment_manager.proofs.{containers.MapSteps.put-denotes, directory.HeapCalls.denotes-live}
+use Rattle.segment_manager.proofs.{objects.ObjectLists.key-found}
 use Rattle.segment_manager.proofs.{objects.Here.standing, objects.Stored.literal-read}
-use Rattle.segment_manager.proofs.Steps.{IsMove, IsOpenFor, by_no_change_of_kind, by_step_of_kind, open-reading}
-use Rattle.segment_manager.proofs.Steps.{open-writing, perform-new, perform-no_space, step_of_kind-found}
+use Rattle.segment_manager.proofs.directory.CommandSteps.{IsMove, IsOpenFor, by_no_change_of_kind, by_step_of_kind}
+use Rattle.segment_manager.proofs.directory.CommandSteps.{open-reading}
+use Rattle.segment_manager.proofs.directory.CommandSteps.{open-writing, perform-new, perform-no_space}
+use Rattle.segment_manager.proofs.directory.CommandSteps.{step_of_kind-found}
 use Rattle.segment_manager.proofs.containers.Refilled.{HoldsAt, finds-no_container, holds-at, told-some}
 use Rattle.segment_manager.proofs.containers.PairNumbers.{ErasesBy, PutsBy}
 use Rattle.segment_manager.proofs.containers.MapBlocks.{blocks-in_use, found-key}
@@ -37,6 +40,7 @@ pub record HoldsPairs (b : List ℕ) (d : Directory) (key : Key) (k v : ScalarKi
   pub at : container_place object ≡ p
   pub map : IsPairs k v b p pairs
 
+-- the object at the place holds the pairs of a map
 pub holds-pairs : (b : List ℕ) (d : Directory) (key : Key) (k v : ScalarKind) (p : Place) → Denotes current b d
     → Ok p ≡ container_at d key (Map k v) → HoldsPairs b d key k v p
 holds-pairs b d key k v p den e =
@@ -154,6 +158,7 @@ module _ (s : SegmentState) (key : Key) (k v : ScalarKind) (p : Place) (b : IsSe
 
   -- ---- what is read
 
+  -- the value of a key, as numbers, is the directory's
   pub map-got : (x : ℤ) (r : Option ℤ) → is_value k x ≡ true → FindsValue (numbers_of k) (numbers_of v) s.cut.bytes
       p.handle p.at x r → AnswersQueryOfKind s key (Map k v) (asked.Lookup key (literal_of k x)) (value_or_absent v r)
   map-got x r good each = step_of_kind-reply s key (Map k v) _ _
@@ -166,7 +171,7 @@ module _ (s : SegmentState) (key : Key) (k v : ScalarKind) (p : Place) (b : IsSe
 
   -- what is said of the pairs is said of those of the object
   pub map-told : {A : Type 0} (say : List NumberPair → A) (r : A) → ((ps : List NumberPair) → IsPairs k v s.cut.bytes p
-      ps → r ≡ say ps) → AnswersWith s (λ d. told_of_map d key k v say) (Ok r)
+      ps → r ≡ say ps) → AnswersWith s (λ d. answer_of_map d key k v say) (Ok r)
   map-told {A} say r each = record {
     answers = λ d l.
         let h : Holds d = map_in d l in
@@ -266,6 +271,7 @@ module _ (s : SegmentState) (key : Key) (k v : ScalarKind) (p : Place) (b : IsSe
       put-refused why None e r = (r.same, put-full e r)
       put-refused why (Some q) e r = let told = r.0 in absurd (cc)
 
+    -- a put pair, as numbers, is the step of the directory
     pub map-put : {E : Type 0} (x y : ℤ) (r : Result Bool E) → is_value k x ≡ true → is_value v y ≡ true
         → PutsPair (numbers_of k) (numbers_of v) s.cut new p.handle p.at x y r
         → TellsSafely s new key (Map k v) (asked.Put key (literal_of k x) (literal_of v y)) (put_result r)
@@ -317,6 +323,7 @@ module _ (s : SegmentState) (key : Key) (k v : ScalarKind) (p : Place) (b : IsSe
         },
       )
 
+    -- an erased pair, as numbers, is the step of the directory
     pub map-erased : (x : ℤ) (t : Bool) → is_value k x ≡ true
         → ErasesKey (numbers_of k) (numbers_of v) s.cut new p.handle
         p.at x t → TellsSafely s new key (Map k v) (asked.Remove key (literal_of k x)) (Ok t)

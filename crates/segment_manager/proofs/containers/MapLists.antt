@@ -7,7 +7,7 @@ use Rattle.segment_manager.proofs.Common.{MatchResult, option_map, ScalarKind, W
 use Rattle.segment_manager.proofs.containers.Refilled.{by-kind, told-none, told-some}
 use Rattle.segment_manager.proofs.objects.ElementLists.{list-of, listed-length, none-listed}
 use Rattle.segment_manager.proofs.containers.PairWalks.{good-value, rising-if, starts, told-of-them}
-use Rattle.segment_manager.proofs.{Common.number_or_none, Common.told_of_map, containers.AnyStorage.IsOfKindAt}
+use Rattle.segment_manager.proofs.{Common.number_or_none, Common.answer_of_map, containers.AnyStorage.IsOfKindAt}
 use Rattle.segment_manager.proofs.{objects.Here.standing, containers.MapSteps.map-only}
 use Rattle.segment_manager.specs.containers.Walks.{pairs_at_kinds}
 
@@ -38,7 +38,8 @@ module _ (d : Directory) (key : Key) (k v : ScalarKind) where
 
   -- ---- what is told of the map is told of the pairs that are listed, and where it is refused none are listed
 
-  pub map-told : {A : Type 0} (say : List NumberPair → A) (r : Result A Refusal) → r ≡ told_of_map d key k v say
+  -- what is told of a map is said of its pairs
+  pub map-told : {A : Type 0} (say : List NumberPair → A) (r : Result A Refusal) → r ≡ answer_of_map d key k v say
       → MatchResult r (λ a. a ≡ say (pairs_at_kinds d key k v)) (λ why. pairs_at_kinds d key k v ≡ [])
   map-told say r f = by-kind d key (Map k v) (λ e. refused-told (λ a. a ≡ say listed) (listed ≡ []) r NotFound
       (f ∙ told-none d key (Map k v) (λ o. told_of say o.value) e) (none-of e)) (λ o e g.
@@ -55,6 +56,7 @@ module _ (d : Directory) (key : Key) (k v : ScalarKind) where
       let is = map-only k v w e in ap (λ (w : Value). first_size (sizes_of w)) is.1
       ∙ sym (ap (λ (w : Value). Ok (length (pairs_of w))) is.1)
 
+  -- the length of a map is the number of its pairs
   pub map-length : (r : Result ℕ Refusal) → r ≡ length_at_kind d key (Map k v)
       → number_or_none r ≡ length (pairs_at_kinds d key k v)
   map-length r e = listed-length pairs_of d key (Map k v) map-many r e
@@ -62,6 +64,7 @@ module _ (d : Directory) (key : Key) (k v : ScalarKind) where
   -- ---- their keys rise, and from the least key of the kind on the first of them comes
 
   module _ (b : List ℕ) (den : Denotes current b d) where
+    -- the keys of a map rise
     pub map-rises : is_rising int_lt (pairs_at_kinds d key k v) ≡ true
     map-rises = by-kind d key (Map k v) (λ e. ap (is_rising int_lt) (none-of e))
         (λ o e g. ap (is_rising int_lt) (other-of o e g)) (λ o e g. ap (is_rising int_lt) (those-of o e g)
@@ -73,8 +76,9 @@ module _ (d : Directory) (key : Key) (k v : ScalarKind) where
     abbrev the_first : List NumberPair → Option (ℤ × ℤ)
     the_first ps = option_map item_of (first_of ps)
 
-    pub map-least : told_of_map d key k v (pair_from (lowest k))
-        ≡ told_of_map d key k v (λ ps. option_map item_of (first_of ps))
+    -- the pair from the least key on is the first
+    pub map-least : answer_of_map d key k v (pair_from (lowest k))
+        ≡ answer_of_map d key k v (λ ps. option_map item_of (first_of ps))
     map-least = by-kind d key (Map k v) (λ e. told-none d key (Map k v) (λ o. told_of from_least o.value) e
         ∙ sym (told-none d key (Map k v) (λ o. told_of the_first o.value) e)) (λ o e g.
         told-some d key (Map k v) (λ o. told_of from_least o.value) o false e g

@@ -13,10 +13,12 @@ use Rattle.segment_manager.proofs.containers.MapBlocks.{put-parted, removed-part
 use Rattle.segment_manager.proofs.containers.Contained.{start-place, good-with}
 use Rattle.segment_manager.proofs.objects.Rewritten.{object-held, value_start, with_value}
 use Rattle.segment_manager.proofs.objects.Exchanged.{all-but-beside, Exchange, between, live-exchanged, others-beside}
-use Rattle.segment_manager.proofs.Calling.{denotes-heap, denotes-live, object-at}
+use Rattle.segment_manager.proofs.directory.HeapCalls.{denotes-heap, denotes-live, object-at}
 use Rattle.segment_manager.proofs.{objects.Standings.standing-room, containers.ItemSteps.one-kind, objects.Regrown.rest}
-use Rattle.segment_manager.proofs.{objects.Regrown.InPlace, Denoted.denotes-replaced, Order.Differs, Order.Apart}
-use Rattle.segment_manager.proofs.{Order.IsFoundIn, Frame.object-roomy, Frame.IsRoomy, Faces.IsLike, Live.IsIn}
+use Rattle.segment_manager.proofs.{objects.Regrown.InPlace, directory.OneObject.denotes-replaced}
+use Rattle.segment_manager.proofs.{directory.ExtentOrder.Differs, directory.ExtentOrder.Apart}
+use Rattle.segment_manager.proofs.{directory.ExtentOrder.IsFoundIn, directory.Frame.object-roomy}
+use Rattle.segment_manager.proofs.{directory.Frame.IsRoomy, directory.IndexedParts.IsLike, directory.LiveSet.IsIn}
 use Rattle.raw_region.proofs.Facts.{first, second}
 use Rattle.best_fit.proofs.Laws.{spread-refl}
 
@@ -27,6 +29,7 @@ map-if k v (Pairs l m ps) e =
     let keys : l ≡ k = cc in let values : m ≡ v = cc in (ps, λ i. Pairs (keys i) (values i) ps)
 map-if k v w e = absurd (cc)
 
+-- a value of a map's kind is a list of pairs
 pub map-only : (k v : ScalarKind) (w : Value) → same_kind (Map k v) (kind_of w) ≡ true
     → (ps : List NumberPair) × (w ≡ Pairs k v ps)
 map-only k v w e = map-if k v w (one-kind (Map k v) (kind_of w) e)

@@ -56,6 +56,7 @@ above-found (q ∷ front) p back r =
     ap (λ (b : Bool). if not (not b) then Some q else first_pair int_lt true p.key (front ++ p ∷ back))
     (not-above q.key p.key (below-end q front p back r)) ∙ above-found front p back (rest-rises q (front ++ p ∷ back) r)
 
+-- the pair above a key is the next one
 pub walk-goes_on : (front : List NumberPair) (p : NumberPair) (back : List NumberPair)
     → is_rising int_lt (front ++ p ∷ back) ≡ true
     → pair_above p.key (front ++ p ∷ back) ≡ option_map item_of (first_of back)

@@ -10,7 +10,7 @@ use common.{are_bytes, contents_of, has_values, Value, Elements, Bytes, count_of
 use common.{MakesValueOk, MakesValueErr, MakesValue, Plan, bare, perform, with_storage, with_value}
 use Rattle.segment_manager.proofs.containers.Contained.{contents-good, value-said}
 use Rattle.segment_manager.proofs.objects.MadeValues.{storage-met, storage-none, stored}
-use Rattle.segment_manager.proofs.Whole.{IsOfKind, whole-spelled, whole-values}
+use Rattle.segment_manager.proofs.objects.WholeNumbers.{IsOfKind, whole-spelled, whole-values}
 use Rattle.seg_vector.specs.{TextCalls.StartsText, VectorCalls.InitsVector}
 use Rattle.seg_types.specs.Commands as asked
 
@@ -109,6 +109,7 @@ module _ {T : Type 0} (k : ScalarKind) (w : T → ℤ) (size : ℕ) (test : T �
 
 -- ---- a text
 
+-- a new string with its bytes
 pub string-made : (old mid new : WindowState) (p q : Place) (bs : List ℕ) (r : Result (Unit {0}) Refusal)
     → IsTrue (are_bytes bs) → q ≡ p → ChangesBytes current old mid (place_at p) 24 → StartsText old mid p
     → AssignsText mid new q bs r → MakesValue (asked.Bytes bs) old new p r

@@ -4,7 +4,7 @@ use Rattle.seg_types.specs.Commands as asked
 use Rattle.segment_manager.proofs.Common.{◌≡◌, refl, sym, subst, ℕ, Some, Ok, Err, Result, List, [], ◌∷◌, ◌++◌, length}
 use Rattle.segment_manager.proofs.Common.{IsTrue, option_to_list, list_all, current, WindowState, LiveSet, ChangesBytes}
 use Rattle.segment_manager.proofs.Common.{live_of, BackingArray, no_backing, Refusal, Place, place_at, AssignsTextsOk}
-use Rattle.segment_manager.proofs.Common.{AssignsTexts, UndoesRequests, ReplacesTexts, all_texts, new_array}
+use Rattle.segment_manager.proofs.Common.{AssignsTexts, UndoesRequests, ReplacesTexts, requested_texts, new_array}
 use Rattle.segment_manager.proofs.Common.{placed_texts, text_blocks, OwnedText, are_bytes, Texts, MakesValueOk}
 use Rattle.segment_manager.proofs.{Common.MakesValue, containers.TextsHeld.good-texts}
 use Rattle.seg_vector.specs.TextsCalls.{InitsTexts}
@@ -46,7 +46,8 @@ module _ (old mid new : WindowState) (p : Place) (change : ChangesBytes current 
           let m : AssignsTextsOk mid new p [] no_backing (bs ∷ bss) =
           a [] no_backing begun.texts in placed-value (bs ∷ bss) m.table m.texts small m.array m.placed m.now
       made (bs ∷ bss) (Err why) small a =
-          let m : UndoesRequests mid new (all_texts (live_of mid.bytes) (bs ∷ bss)) why = a [] no_backing begun.texts in
+          let m : UndoesRequests mid new (requested_texts (live_of mid.bytes) (bs ∷ bss)) why =
+          a [] no_backing begun.texts in
           record {
             empty = mid;
             change = change;

@@ -15,11 +15,12 @@ use Rattle.segment_manager.proofs.containers.Contained.{contents-fit, contents-s
 use Rattle.segment_manager.proofs.containers.Refilled.{HoldsAt, holds-at, refill-steps_of_kind, room-asked, then_room}
 use Rattle.segment_manager.proofs.containers.ContentPlans.{clear-plan, reserve-plan, shrink-plan}
 use Rattle.segment_manager.proofs.containers.KeptContainers.{enough-places, keeps-cut}
-use Rattle.segment_manager.proofs.Steps.{by_no_change_of_kind, step_of_kind-found, open-writing}
+use Rattle.segment_manager.proofs.directory.CommandSteps.{by_no_change_of_kind, step_of_kind-found, open-writing}
 use Rattle.segment_manager.proofs.objects.Standings.{standing-room, standing-short}
-use Rattle.segment_manager.proofs.{Frame.object-roomy, containers.ToChange.seen-found, objects.Rewritten.value_start}
+use Rattle.segment_manager.proofs.{directory.Frame.object-roomy, containers.ToChange.seen-found}
+use Rattle.segment_manager.proofs.{objects.Rewritten.value_start}
 use Rattle.segment_manager.proofs.{objects.Here.standing, containers.ItemSteps.one-kind, containers.Safely.done-so}
-use Rattle.segment_manager.proofs.{containers.Safely.stays, Calling.denotes-live}
+use Rattle.segment_manager.proofs.{containers.Safely.stays, directory.HeapCalls.denotes-live}
 use Rattle.segment_manager.proofs.containers.AnyStorage.{sizes-found}
 use Rattle.best_fit.proofs.Laws.{room-less}
 use Rattle.seg_vector.specs.{Elements.ShrinksStorageOk, Elements.RewritesElements, Containers.ReservesStorageOk}
@@ -40,6 +41,7 @@ said-sizes m at (Pairs k v ps) h s = λ i. Ok (s.count i, 0)
 said-sizes m at (Texts ps t) h s = λ i. Ok (s.len_word i, s.capacity i)
 said-sizes m at v h s = absurd (cc)
 
+-- the places of an object that is no map
 pub places-otherwise : (m : Memory) (p : Place) (kind : Kind) → ((k v : ScalarKind) → kind ≡ MapKind k v → ⊥) → (n : ℕ)
     → n ≡ word_at m (p.handle + (p.at + 16)) → n ≡ places_in m (p.handle + p.at) kind
 places-otherwise m p (MapKind k v) other n e = absurd (other k v refl)
@@ -71,6 +73,7 @@ module _ {s t : SegmentState} (view : s ≡ t) (key : Key) (kind : Kind) (p : Pl
       ap (λ (q : Place). q.at) (at-place b.0 b.1).at in
       omega (arith, short, at)
 
+  -- the words of a container have room in its block
   pub word-room : IsSegment s.cut.bytes → (n : ℕ) → n ≤ 16
       → IsTrue (has_room (live_of s.cut.bytes) p.handle (p.at + n + 8))
   word-room b n h =
@@ -114,6 +117,7 @@ none-left : (v : Value) (c : Contents) → contents_of v ≡ Some c
 none-left = of-contents (λ v c. IsMoved v (with_items v []) (record c { len = 0; bytes = [] })) (λ k zs t. record
     { kind = refl; held = refl; values = λ h. refl }) (λ bs t. record { kind = refl; held = refl; values = λ h. refl })
 
+-- an emptied value has no contents
 pub nothing-left : (v : Value) (c : Contents) → contents_of v ≡ Some c
     → contents_of (emptied v) ≡ Some (record c { len = 0; table = no_backing; bytes = [] })
 nothing-left = of-contents (λ v c.
@@ -149,6 +153,7 @@ pub record HoldsElements (b : List ℕ) (d : Directory) (key : Key) (kind : Kind
   pub stands : IsContainer b p (each_of kind) len table bytes
   pub values : IsTrue (has_values found.object.value)
 
+-- the object at the place holds elements
 pub holds-elements : (b : List ℕ) (d : Directory) (key : Key) (kind : Kind) (p : Place) → Denotes current b d
     → Ok p ≡ container_at d key kind → has_storage kind ≡ true → (kind ≡ StringsKind → ⊥) → HoldsElements b d key kind p
 holds-elements b d key kind p den e stored no_texts =
@@ -186,6 +191,7 @@ module _ {s t : SegmentState} (view : s ≡ t) (key : Key) (kind : Kind) (p : Pl
       let h : Held b.0 = held b.0 b.1 in
       record { stands = (h.len, (h.table, (h.bytes, h.stands))); some = (each-few kind).0; short = (each-few kind).1 }
 
+  -- a refused change of a container leaves the segment
   pub elements-kept : (new : WindowState) (change : Change) (r : Result (Unit {0}) Refusal)
       → ChangesElements change s.cut new p
       (each_of kind) r → UnchangedWhere t (record s { cut = new }) (HasEnough change key)
@@ -244,6 +250,7 @@ module _ {s t : SegmentState} (view : s ≡ t) (key : Key) (kind : Kind) (p : Pl
     places-asked n d l h r g = room-asked current s.cut.bytes d (asked.Reserve key n) (each_of kind) n h.table r
         (with_places d h) l.denotes (reserve-plan d key h.found.object h.found.is _ (said h) n) g
 
+    -- a change of a container is the step of the directory
     pub elements-changed : (change : Change) (r : Result (Unit {0}) Refusal)
         → ChangesElements change s.cut new p (each_of kind) r → StepsSafely s new key kind (command_of change key) r
     elements-changed (Reserve n) (Ok u) a = becomes-so (asked.Reserve key n) (λ d l h.

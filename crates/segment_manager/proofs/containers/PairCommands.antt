@@ -12,7 +12,8 @@ use common.{value_of_scalar, IsUnchangeable, AnswersQueryOfKind, TakesStepOfKind
 use Rattle.segment_manager.proofs.containers.AnyStorage.{IsOfKindAt, kind-told, of_kind-same, of_kind-steps}
 use Rattle.segment_manager.proofs.containers.Changeable.{answered-reads, refuses, refuses-read, says-kind}
 use Rattle.segment_manager.proofs.objects.Locating.{kind-by_key, reply_of_kind-by_key, step_of_kind-by_key}
-use Rattle.segment_manager.proofs.{Steps.with-found, Steps.with-not_found, objects.Stored.literal-read}
+use Rattle.segment_manager.proofs.{directory.CommandSteps.with-found, directory.CommandSteps.with-not_found}
+use Rattle.segment_manager.proofs.{objects.Stored.literal-read}
 use Rattle.segment_manager.proofs.{ElementLaws.same_plan-steps, containers.MapSteps.map-only}
 use Rattle.segment_manager.specs.Answers.{Absent}
 use Rattle.seg_types.specs.Literals.{ConvertsPair}
@@ -43,12 +44,15 @@ module _ (d : Directory) (key : Key) (o : Object) (e : object_at d key ≡ Some 
       → with (found_at d key) (λ o. with (map_of o.value) (next o)) ≡ with r (next o)
   by-map next = with-found d key o (λ o. with (map_of o.value) (next o)) e ∙ ap (λ q. with q (next o)) f
 
+  -- the plan of `put`, by both values
   pub put-plan : (l m : Literal) → effect d (asked.Put key l m) ≡ with r (puts d o l m)
   put-plan l m = by-map (λ o. puts d o l m)
 
+  -- the plan of `lookup`, by the value of the key
   pub lookup-plan : (l : Literal) → effect d (asked.Lookup key l) ≡ with r (looks_up d l)
   lookup-plan l = by-map (λ o. looks_up d l)
 
+  -- the plan of `remove`, by the value of the key
   pub remove-plan : (l : Literal) → effect d (asked.Remove key l) ≡ with r (removes d o l)
   remove-plan l = by-map (λ o. removes d o l)
 
@@ -68,16 +72,19 @@ module _ {s : SegmentState} {key : Key} {o : Located} (l : IsLocated s key o)
   none : (d : Directory) (st : DenotesCurrent s.cut.bytes d) → map_of (told d st).object.value ≡ Err WrongKind
   none d st = no_map-if (told d st).object.value (λ k v e. other k v (sym (told d st).kind_is ∙ e))
 
+  -- `lookup` in an object that is no map is refused
   pub lookup-no_map : (at : Literal) → AnswersQuery s (asked.Lookup key at) (Refused WrongKind)
   lookup-no_map at = refuses-read s (asked.Lookup key at) WrongKind refl
       (λ d st. lookup-plan d key (told d st).object (told d st).is (Err WrongKind) (none d st) at)
 
 module _ {s : SegmentState} {key : Key} {o : Located} (h : IsChangeableObject s key o)
     (other : (k v : ScalarKind) → o.kind ≡ Map k v → ⊥) where
+  -- `put` into an object that is no map is refused
   pub put-no_map : (at value : Literal) → TakesStep s s (asked.Put key at value) (Refused WrongKind)
   put-no_map at value = refuses s (asked.Put key at value) WrongKind h.writing (λ d st. let f = told h.located other d
       st in put-plan d key f.object f.is (Err WrongKind) (none h.located other d st) at value)
 
+  -- `remove` from an object that is no map is refused
   pub remove-no_map : (at : Literal) → TakesStep s s (asked.Remove key at) (Refused WrongKind)
   remove-no_map at = refuses s (asked.Remove key at) WrongKind h.writing (λ d st. let f = told h.located other d st
       in remove-plan d key f.object f.is (Err WrongKind) (none h.located other d st) at)
@@ -174,6 +181,7 @@ module _ {s : SegmentState} {key : Key} {o : Located} (h : IsChangeableObject s 
       (asked.Put key (literal_of k (value_of_scalar x)) (literal_of v (value_of_scalar y))) answer
       (subst (Puts k) other (subst (λ j. Puts j (kind_of_scalar y)) same r)))
 
+  -- `put` with a literal that is no value is refused
   pub put-no_pair : (at value : Literal) {why : Refusal} → pair_values k v at value ≡ Err why
       → TakesStep s s (asked.Put key at value) (Refused why)
   put-no_pair at value {why} e = refuses s (asked.Put key at value) why h.writing
@@ -189,6 +197,7 @@ module _ {s : SegmentState} {key : Key} {o : Located} (h : IsChangeableObject s 
       (literal_of k (value_of_scalar x))) answer (subst (λ j. TakesStepOfKind s new (ByHandle o.handle) (Map j v)
       (asked.Remove (ByHandle o.handle) (literal_of j (value_of_scalar x))) answer) same r))
 
+  -- `remove` with a literal that is no value is refused
   pub remove-no_value : (at : Literal) {why : Refusal} → value_of_literal k at ≡ Err why
       → TakesStep s s (asked.Remove key at) (Refused why)
   remove-no_value at {why} e = refuses s (asked.Remove key at) why h.writing
@@ -196,6 +205,7 @@ module _ {s : SegmentState} {key : Key} {o : Located} (h : IsChangeableObject s 
 
 module _ {s : SegmentState} {key : Key} {o : Located} (l : IsLocated s key o) {k v : ScalarKind} (is : o.kind
     ≡ Map k v) where
+  -- a lookup by the value of the key is that of its literal
   pub looks-up-key : (at : Literal) (x : ScalarValue) {answer : Answer} → IsValueOf k (value_of_literal k at) (Ok x)
       → AnswersQueryOfKind s (ByHandle o.handle) (Map (kind_of_scalar x) v) (asked.Lookup (ByHandle o.handle)
       (literal_of (kind_of_scalar x) (value_of_scalar x))) answer → AnswersQuery s (asked.Lookup key at) answer
@@ -204,6 +214,7 @@ module _ {s : SegmentState} {key : Key} {o : Located} (l : IsLocated s key o) {k
       (subst (λ j. AnswersQueryOfKind s (ByHandle o.handle) (Map j v)
       (asked.Lookup (ByHandle o.handle) (literal_of j (value_of_scalar x))) answer) same r))
 
+  -- `lookup` with a literal that is no value is refused
   pub lookup-no_value : (at : Literal) {why : Refusal} → value_of_literal k at ≡ Err why
       → AnswersQuery s (asked.Lookup key at) (Refused why)
   lookup-no_value at {why} e = refuses-read s (asked.Lookup key at) why refl
@@ -211,10 +222,12 @@ module _ {s : SegmentState} {key : Key} {o : Located} (l : IsLocated s key o) {k
 
 -- no object that may be changed has the key
 module _ {s : SegmentState} {key : Key} {why : Refusal} (h : IsUnchangeable s key why) where
+  -- `put` into an object that may not be changed is refused
   pub put-unchangeable : (at value : Literal) → TakesStep s s (asked.Put key at value) (Refused why)
   put-unchangeable at value = h.refuses (asked.Put key at value) refl
       (λ d n. with-not_found d key (λ o. with (map_of o.value) (puts d o at value)) n)
 
+  -- `remove` from an object that may not be changed is refused
   pub remove-unchangeable : (at : Literal) → TakesStep s s (asked.Remove key at) (Refused why)
   remove-unchangeable at =
       h.refuses (asked.Remove key at) refl (λ d n. with-not_found d key (λ o. with (map_of o.value) (removes d o at)) n)

@@ -25,10 +25,12 @@ pub record IsScalarOf {T : Type 0} (k : ScalarKind) (p : Plain T) (w : T → ℤ
 
 -- what a put does, by the pair of the key that there was or was not, and an erasing
 module _ {K V : Type 0} (kp : Plain K) (vp : Plain V) (old new : WindowState) (h at : ℕ) (ps : List (Pair K V)) where
+  -- what a put of a pair does, by the pair with its key
   abbrev pub PutsBy : {E : Type 0} → K → V → Result Bool E → Option (Pair K V) → Type 0
   PutsBy x y result o = MatchOption o (MatchResult result (λ b. (b ≡ true) × PutsNewPair kp vp old new h at ps x y)
       (λ e. PutsNoSpace kp vp old new)) (λ p. (result ≡ Ok false) × OverwritesPair kp vp old new h at ps p x y)
 
+  -- what an erasure of a key does, by the pair with the key
   abbrev pub ErasesBy : K → Bool → Option (Pair K V) → Type 0
   ErasesBy x result o =
       MatchOption o ((result ≡ false) × (new ≡ old)) (λ p. (result ≡ true) × ErasesPair kp vp old new h at ps p x)
@@ -224,6 +226,7 @@ module _ {K V : Type 0} {k v : ScalarKind} {kp : Plain K} {vp : Plain V} {kw : K
     pub some-map : IsSomeMap (numbers_of k) (numbers_of v) b h at → IsSomeMap kp vp b h at
     some-map s = let r = reached-map s.0 s.1 in (r.0, r.1.1)
 
+    -- a value that is found, as numbers
     pub finds-value : (x : K) (r : Option V) → FindsValue kp vp b h at x r
         → FindsValue (numbers_of k) (numbers_of v) b h at (kw x) (option_map vw r)
     finds-value x r each = of-values (λ qs. option_map vw r ≡ option_map value_of_pair (pair_at int_lt qs (kw x)))
@@ -238,14 +241,17 @@ module _ {K V : Type 0} {k v : ScalarKind} {kp : Plain K} {vp : Plain V} {kw : K
     finds found numbers-found same r each = of-values (λ qs. numbers_in kw vw r ≡ option_map item_of (numbers-found qs))
         (λ ps s. ap (numbers_in kw vw) (each ps s) ∙ found-item (found ps) ∙ ap (option_map item_of) (sym (same ps)))
 
+    -- a pair from a key on that is found, as numbers
     pub finds-item : (past : Bool) (x : K) (r : Option (K × V)) → FindsItem kp vp b h at past x r
         → FindsItem (numbers_of k) (numbers_of v) b h at past (kw x) (numbers_in kw vw r)
     finds-item past x = finds (first_pair kp.order past x) (first_pair int_lt past (kw x)) (numbers-first past x)
 
+    -- a pair before a key that is found, as numbers
     pub finds-back : (past : Bool) (x : K) (r : Option (K × V)) → FindsItemBefore kp vp b h at past x r
         → FindsItemBefore (numbers_of k) (numbers_of v) b h at past (kw x) (numbers_in kw vw r)
     finds-back past x = finds (last_pair kp.order past x) (last_pair int_lt past (kw x)) (numbers-last past x)
 
+    -- the last pair that is found, as numbers
     pub finds-last : (r : Option (K × V)) → FindsLastItem kp vp b h at r
         → FindsLastItem (numbers_of k) (numbers_of v) b h at (numbers_in kw vw r)
     finds-last = finds final_pair final_pair (λ ps. last_mapped number_pair None ps)
@@ -291,6 +297,7 @@ module _ {K V : Type 0} {k v : ScalarKind} {kp : Plain K} {vp : Plain V} {kw : K
       },
     )
 
+    -- a put pair, as numbers
     pub puts-numbers : {E : Type 0} (x : K) (y : V) (result : Result Bool E) → PutsPair kp vp old new h at x y result
         → PutsPair (numbers_of k) (numbers_of v) old new h at (kw x) (vw y) result
     puts-numbers x y result each = of-values old.bytes h at
@@ -312,6 +319,7 @@ module _ {K V : Type 0} {k v : ScalarKind} {kp : Plain K} {vp : Plain V} {kw : K
       },
     )
 
+    -- an erased pair, as numbers
     pub erases-numbers : (x : K) (result : Bool) → ErasesKey kp vp old new h at x result
         → ErasesKey (numbers_of k) (numbers_of v) old new h at (kw x) result
     erases-numbers x result each = of-values old.bytes h at
@@ -323,6 +331,7 @@ module _ {K V : Type 0} {k v : ScalarKind} {kp : Plain K} {vp : Plain V} {kw : K
     no-pairs [] e = refl
     no-pairs (p ∷ ps) e = absurd (cc)
 
+    -- a released map, as numbers
     pub releases-numbers : ReleasesMap kp vp old new h at → ReleasesMap (numbers_of k) (numbers_of v) old new h at
     releases-numbers each = of-values old.bytes h at (FreesAllPairs (numbers_of k) (numbers_of v) old new h at) (λ ps s.
         let r : FreesAllPairs kp vp old new h at ps = each ps s in

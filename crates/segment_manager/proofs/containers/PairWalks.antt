@@ -6,7 +6,7 @@ use common.{List, [], ◌∷◌, ◌++◌, slice_get, arith, IsTrue, int_lt, opt
 use common.{ObjectRole, serves, Map, ScalarKind, Refusal, ScalarValue, code_of, is_kind_of, is_value, lowest, same_kind}
 use common.{size_of, Key, kind_of_scalar, value_of_scalar, is_rising, node_len, NumberPair, is_number_pair, item_of}
 use common.{Denotes, Value, Pairs, Object, Directory, has_good_name, is_good_value, is_object, kind_of, object_at}
-use common.{object_len, pair_above, pair_from, told_of, told_of_map, AnswersWith, SegmentState, DenotesCurrent, IsMap}
+use common.{object_len, pair_above, pair_from, told_of, answer_of_map, AnswersWith, SegmentState, DenotesCurrent, IsMap}
 use common.{first_of, item_of_kinds, item_seen, pairs_at, pairs_of}
 use Rattle.segment_manager.proofs.containers.AnyStorage.{IsOfKindAt, kind-told}
 use Rattle.segment_manager.proofs.containers.MapWalks.{walk-goes_on, walk-starts}
@@ -16,11 +16,13 @@ use Rattle.segment_manager.specs.containers.Walks.{AreOfKinds, numbers_read}
 
 -- ---- the pairs of a good value
 
+-- an object of the format has a good value
 pub good-value : (o : Object) → IsTrue (is_object current o) → IsTrue (is_good_value o.value)
 good-value o h = second (has_good_name current o && is_kind_of current (kind_of o.value)) (is_good_value o.value)
     (first (has_good_name current o && is_kind_of current (kind_of o.value) && is_good_value o.value)
     (serves o.extent ObjectRole (object_len o.name o.value)) h)
 
+-- the keys of a good value rise
 pub rising-if : (v : Value) → IsTrue (is_good_value v) → is_rising int_lt (pairs_of v) ≡ true
 rising-if (Pairs k v ps) h = first (is_rising int_lt ps) (list_all (is_number_pair k v) ps) h
 rising-if v h = refl
@@ -58,7 +60,7 @@ module _ (d : Directory) (key : Key) (k v : ScalarKind) (e : IsOfKindAt d key (M
       e.is ∙ ap pairs_of the-pairs.1
 
   -- what is said of the map of the kinds is said of them
-  pub told-of-them : {A : Type 0} (say : List NumberPair → A) → told_of_map d key k v say ≡ Ok (say (pairs_at d key))
+  pub told-of-them : {A : Type 0} (say : List NumberPair → A) → answer_of_map d key k v say ≡ Ok (say (pairs_at d key))
   told-of-them {A} say =
       told-some d key (Map k v) (λ o. told_of say o.value) e.object true e.is same ∙ ap (told_of say) the-pairs.1
       ∙ sym (ap (λ (ps : List NumberPair). let r : Result A Refusal = Ok (say ps) in r) pairs-found)
@@ -87,8 +89,9 @@ module _ (s : SegmentState) (key : Key) (k v : ScalarKind) (is : IsMap s key k v
   map-known : (d : Directory) → DenotesCurrent s.cut.bytes d → IsOfKindAt d key (Map k v)
   map-known d l = kind-told d key (Map k v) (is.answers d l)
 
+  -- the first pair is the one from the least key on
   pub first-seen : (o : Option (ScalarValue × ScalarValue)) → AreOfKinds k v (Ok o)
-      → AnswersWith s (λ d. told_of_map d key
+      → AnswersWith s (λ d. answer_of_map d key
       k v (pair_from (lowest k))) (numbers_read value_of_scalar value_of_scalar (Ok o))
       → AnswersWith s (λ d. option_map (item_of_kinds k v) (option_map item_of (first_of (pairs_at d key))))
       (option_map item_seen o)
@@ -100,16 +103,18 @@ module _ (s : SegmentState) (key : Key) (k v : ScalarKind) (is : IsMap s key k v
 
 -- the same by the least value, whose kind is that of the keys
 module _ (x : ScalarValue) (k : ScalarKind) (e : kind_of_scalar x ≡ k) where
+  -- what is of the kind of the least key is of the kind of the map
   pub least-kinds : (v : ScalarKind) (o : Option (ScalarValue × ScalarValue)) → AreOfKinds (kind_of_scalar x) v (Ok o)
       → AreOfKinds k v (Ok o)
   least-kinds v o h = subst (λ j. AreOfKinds j v (Ok o)) e h
 
+  -- what is told from the least key on is told of the whole map
   pub least-told : value_of_scalar x ≡ lowest k
       → (s : SegmentState) (key : Key) (v : ScalarKind) (r : Result (Option (ℤ × ℤ))
-      Refusal) → AnswersWith s (λ d. told_of_map d key (kind_of_scalar x) v (pair_from (value_of_scalar x))) r
-      → AnswersWith s (λ d. told_of_map d key k v (pair_from (lowest k))) r
-  least-told f s key v r a = subst (λ z. AnswersWith s (λ d. told_of_map d key k v (pair_from z)) r) f
-      (subst (λ j. AnswersWith s (λ d. told_of_map d key j v (pair_from (value_of_scalar x))) r) e a)
+      Refusal) → AnswersWith s (λ d. answer_of_map d key (kind_of_scalar x) v (pair_from (value_of_scalar x))) r
+      → AnswersWith s (λ d. answer_of_map d key k v (pair_from (lowest k))) r
+  least-told f s key v r a = subst (λ z. AnswersWith s (λ d. answer_of_map d key k v (pair_from z)) r) f
+      (subst (λ j. AnswersWith s (λ d. answer_of_map d key j v (pair_from (value_of_scalar x))) r) e a)
 
 -- ---- the places of the pairs
 

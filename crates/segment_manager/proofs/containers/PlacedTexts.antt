@@ -4,7 +4,7 @@ use common.{◌≡◌, refl, sym, ap, ◌∙◌, Bool, true, List, [], ◌∷◌
 use common.{ℕ, option_map, placed_is_proper, AllByRecursion, if◌then◌else◌, placed_text, placed_texts, with_owned_texts}
 use common.{false, Option, length, IsTrue, Extent, LiveSet, added, resized, Answer, Refused, NoSpace, Request, perform}
 use common.{cond-true, cond-false, Storage, is_proper, OwnedText, Directory, are_bytes, list_all, same_Some, with_text}
-use Rattle.segment_manager.proofs.Order.{live-rises, rising-insert, resized-fresh}
+use Rattle.segment_manager.proofs.directory.ExtentOrder.{live-rises, rising-insert, resized-fresh}
 use Rattle.segment_manager.proofs.containers.TextsHeld.{HasBytes}
 use Rattle.raw_region.proofs.Facts.{first, second}
 use Rattle.best_fit.specs.Requests.{place_all, all_added}
@@ -14,6 +14,7 @@ use Rattle.segment_manager.specs.containers.OwnedTexts.{text_needs, owned_texts,
 abbrev pub unplaced : List ℕ → OwnedText
 unplaced bs = record { bytes = bs; extent = None }
 
+-- a string in the block of an extent
 abbrev pub in_block : List ℕ → Extent → OwnedText
 in_block bs x = record { bytes = bs; extent = Some x }
 

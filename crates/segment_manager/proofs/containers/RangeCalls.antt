@@ -11,24 +11,27 @@ use common.{IsValueAt, ChangesBytes, Located, IsLocated, head_len, Place, IsSegm
 use common.{value_len, mul-le-mul_left, IsMissing, BackingArray, kind_of_code, leb-true, [], flat_map, has_room}
 use common.{live_of}
 use Rattle.std.proofs.lemmas.List.{nil_from_length, drop-map, length-drop, length-take, take-append-drop}
-use Rattle.segment_manager.proofs.{Calling.denotes-heap, objects.Standings.standing-room, containers.ItemSteps.one-kind}
-use Rattle.segment_manager.proofs.{Whole.IsOfKind, Whole.whole-spelled, Whole.whole-values, objects.Locating.said-at}
+use Rattle.segment_manager.proofs.{directory.HeapCalls.denotes-heap, objects.Standings.standing-room}
+use Rattle.segment_manager.proofs.{containers.ItemSteps.one-kind}
+use Rattle.segment_manager.proofs.{objects.WholeNumbers.IsOfKind, objects.WholeNumbers.whole-spelled}
+use Rattle.segment_manager.proofs.{objects.WholeNumbers.whole-values, objects.Locating.said-at}
 use Rattle.segment_manager.proofs.{objects.Locating.same-object, objects.Here.standing, objects.Written.numbers-object}
-use Rattle.segment_manager.proofs.{Codes.code-read, Codes.numbers-only, objects.ObjectLists.key-found}
-use Rattle.segment_manager.proofs.{objects.Exchanged.denotes-rewritten, Frame.object-roomy}
+use Rattle.segment_manager.proofs.{objects.KindCodes.code-read, objects.KindCodes.numbers-only}
+use Rattle.segment_manager.proofs.{objects.ObjectLists.key-found}
+use Rattle.segment_manager.proofs.{objects.Exchanged.denotes-rewritten, directory.Frame.object-roomy}
 use Rattle.segment_manager.proofs.{objects.Rewritten.value_start, containers.Safely.Performed}
 use Rattle.segment_manager.proofs.{containers.Safely.performed}
 use Rattle.std.proofs.{lemmas.Bool.leb-false, lemmas.Bool.and_parts, lemmas.List.Folds.list_all-append}
-use Rattle.segment_manager.specs.objects.Located.{container_in, located, value_in}
+use Rattle.segment_manager.specs.objects.Located.{container_in, located, value_offset}
 use Rattle.std.specs.Prelude.{IfOk, OnOk}
 use Rattle.raw_region.proofs.Bytes.{HasBytesAt-patched}
-use Rattle.seg_vector.proofs.Typed.{all-both, flat-replaced}
+use Rattle.seg_vector.proofs.storage.TypedVectors.{all-both, flat-replaced}
 use Rattle.segment_manager.specs.containers.Ranges.{ChangesRange, WritesRange, numbers_if, range_at, range_in, replaced}
 use Rattle.segment_manager.specs.containers.Ranges.{with_range, written, written_if}
 use Rattle.segment_manager.specs.{objects.ElementLists.numbers_in, objects.Standing.place_at, objects.Standing.place_in}
 use Rattle.segment_manager.proofs.objects.Stored.{numbers-good, ElementAt, element-found}
 use Rattle.segment_manager.proofs.blocks.Blocks.{spelling-length, spelled-length}
-use Rattle.segment_manager.proofs.Steps.{IsMove, by_moves, by_same, moves-same, stays-refl}
+use Rattle.segment_manager.proofs.directory.CommandSteps.{IsMove, by_moves, by_same, moves-same, stays-refl}
 
 -- ---- a list with others in the places from one on
 
@@ -53,6 +56,7 @@ pub all-replaced : {T : Type 0} (test : T → Bool) (xs : List T) (i : ℕ) (ys 
 all-replaced test xs i ys v w = all-both test (take i xs) (ys ++ drop (i + length ys) xs) (all-parts test i xs v).0
     (all-both test ys (drop (i + length ys) xs) w (all-parts test (i + length ys) xs v).1)
 
+-- overwriting elements overwrites their numbers
 pub whole-replaced : {T : Type 0} (w : T → ℤ) (xs : List T) (i : ℕ) (ys : List T)
     → map w (replaced xs i ys) ≡ replaced (map w xs) i (map w ys)
 whole-replaced w xs i ys =
@@ -81,10 +85,12 @@ module _ (mode : Mode) (d : Directory) (key : Key) (k : ScalarKind) (first : ℕ
       if e i then (Refused ReadOnly, d)
       else written_if (range_in (f i) first (length zs)) d (with_range d key first zs)
 
+  -- writing a range of a segment that is only read is refused
   pub range-reading : is_read_only mode ≡ true → written mode d key k first zs ≡ (Refused ReadOnly, d)
   range-reading e = ap (λ b. if b then (Refused ReadOnly, d)
       else written_if (range_at d key k first (length zs)) d (with_range d key first zs)) e
 
+  -- writing a range of an object that is not there is refused
   pub range-nowhere : is_read_only mode ≡ false → object_at d key ≡ None
       → written mode d key k first zs ≡ (Refused NotFound, d)
   range-nowhere e f = open-for e (Err NotFound) (ap (row_in k) f)
@@ -101,9 +107,11 @@ module _ (mode : Mode) (d : Directory) (key : Key) (k : ScalarKind) (first : ℕ
         ∙ ap (λ c. written_if (if c then Ok (take (length zs) (drop first ns)) else Err OutOfRange) d
         (with_range d key first zs)) h
 
+    -- writing a range behind the end is refused
     pub range-short : length ns < first + length zs → written mode d key k first zs ≡ (Refused OutOfRange, d)
     range-short h = range-if false (lt-leb (first + length zs) (length ns) h)
 
+    -- writing a range within the elements is done
     pub range-done : first + length zs ≤ length ns → written mode d key k first zs ≡ (Done, with_range d key first zs)
     range-done h = range-if true (le-leb (first + length zs) (length ns) h)
 
@@ -114,6 +122,7 @@ pub range-numbers : (d : Directory) (key : Key) (o : Object) (k : ScalarKind) (n
 range-numbers d key o k ns first zs is value = ap (range_with d first zs) is
     ∙ ap (λ v. changed d o (with_items v (replaced (numbers_in v) first zs))) value
 
+-- the object with a range written
 pub range-elements : (d : Directory) (key : Key) (o : Object) (k : ScalarKind) (ns : List ℤ) (t : BackingArray)
     (first : ℕ) (zs : List ℤ) → object_at d key ≡ Some o
     → o.value ≡ Elements k ns t → with_range d key first zs ≡ changed d o (Elements k (replaced ns first zs) t)
@@ -172,6 +181,7 @@ pub row-none : (k : ScalarKind) (v : Value) → same_kind (Vector k) (kind_of v)
     → same_kind (Scalar k) (kind_of v) ≡ false → numbers_if k v ≡ Err WrongKind
 row-none k v e f = λ i. if e i || f i then Ok (numbers_in v) else Err WrongKind
 
+-- the numbers of a vector are its elements
 pub row-elements : (k : ScalarKind) (ns : List ℤ) (t : BackingArray) → numbers_if k (Elements k ns t) ≡ Ok ns
 row-elements k ns t = ap (λ b. if b || same_kind (Scalar k) (Vector k) then Ok ns else Err WrongKind)
     (eq-eqb (code_of (Vector k)) (code_of (Vector k)) refl)
@@ -268,7 +278,7 @@ module _ (s : SegmentState) (o : Located) (l : IsLocated s (ByHandle o.handle) o
 
     -- where they stand
     abbrev pub row_spot : ℕ
-    row_spot = o.handle + (value_in o + size_of k * first)
+    row_spot = o.handle + (value_offset o + size_of k * first)
 
     module _ (t : SegmentState) (view : s ≡ t) (b : IsSegment s.cut.bytes) (new : WindowState)
         (writing : is_read_only t.mode ≡ false)
@@ -279,7 +289,7 @@ module _ (s : SegmentState) (o : Located) (l : IsLocated s (ByHandle o.handle) o
       inside h = let l = leb-true (first + length zs) o.count fits in omega (arith, l, many h)
 
       same-spot : {d : Directory} (h : HasNumbers d o k) → row_spot ≡ value_start h.object + size_of k * first
-      same-spot h = ap (λ (q : Located). q.handle + (value_in q + size_of k * first)) h.said
+      same-spot h = ap (λ (q : Located). q.handle + (value_offset q + size_of k * first)) h.said
           ∙ (let e : handle h.object.extent + (head_len + padded (length h.object.name) + size_of k * first)
           ≡ value_start h.object + size_of k * first = omega arith in e)
 
@@ -310,12 +320,12 @@ module _ (s t : SegmentState) (o : Located) (l : IsLocated s (ByHandle o.handle)
   but-if d st each (Err why) e = tt
 
   pub array-but : SameBytesExcept (bytes_of s.cut.bytes) (bytes_of t.cut.bytes)
-      (o.handle + (value_in o + size_of k * first)) (size_of k * n) → ChangesRange s t (ByHandle o.handle) k first n
+      (o.handle + (value_offset o + size_of k * first)) (size_of k * n) → ChangesRange s t (ByHandle o.handle) k first n
   array-but but d st = but-if d st (λ p x.
       let q = said-at s (ByHandle o.handle) o l d st in
       let same : o ≡ located x.object = q.said ∙ ap located (same_Some q.object x.object (sym q.is ∙ x.is)) in
       subst (λ at. SameBytesExcept (bytes_of s.cut.bytes) (bytes_of t.cut.bytes) at (size_of k * n))
-      (ap (λ (q : Located). q.handle + (value_in q + size_of k * first)) same
+      (ap (λ (q : Located). q.handle + (value_offset q + size_of k * first)) same
       ∙ (λ j. sym x.stands.at j + sym x.at j)) but) (place_at d (ByHandle o.handle) k first) refl
 
   -- what is no array has no such element
@@ -334,16 +344,19 @@ place_of r k i = elim r as (λ _. Result Place Refusal) [
       [ Ok at ↦ Ok (record { handle = handle o.extent; at = at }) | Err r ↦ Err r ]
 ]
 
+-- a range written under the handle is written under the key
 pub but-by_key : (s t : SegmentState) (key : Key) (o : Located) → IsLocated s key o → (k : ScalarKind) (first n : ℕ)
     → ChangesRange s t (ByHandle o.handle) k first n → ChangesRange s t key k first n
 but-by_key s t key o l k first n m = λ d st.
     subst (λ (r : Option Object). But s t (size_of k * n) (place_of r k first)) (sym (same-object s key o l d st))
     (m d st)
 
+-- what follows of a success, if more follows
 pub on_ok-map : {P Q : Type 0} (r : Result (Unit {0}) Refusal) → (P → Q) → OnOk r P → OnOk r Q
 on_ok-map (Ok a) f p = f p
 on_ok-map (Err why) f p = tt
 
+-- what holds anyway holds of a success
 pub on_ok : {P : Type 0} (r : Result (Unit {0}) Refusal) → P → OnOk r P
 on_ok (Ok a) p = p
 on_ok (Err why) p = tt
@@ -356,11 +369,13 @@ pub array-kind : (o : Located) {k l : ScalarKind} {a b : ℕ} → l ≡ k → a 
 array-kind o {k} e f g h = sym (one-kind (Scalar k) o.kind (eq-eqb (code_of (Scalar k)) (code_of o.kind)
     (sym (f ∙ ap (λ (j : ScalarKind). code_of (Scalar j)) e) ∙ h ∙ g)))
 
+-- an array of another kind is not of the kind
 pub array-unlike : (o : Located) {k l : ScalarKind} {a b : ℕ} → l ≡ k → a ≡ code_of (Scalar l) → b ≡ code_of o.kind
     → (a ≡ b → ⊥) → same_kind (Scalar k) o.kind ≡ false
 array-unlike o {k} e f g h = ne_eqb (code_of (Scalar k)) (code_of o.kind)
     (λ i. h (f ∙ ap (λ (j : ScalarKind). code_of (Scalar j)) e ∙ i ∙ sym g))
 
+-- whether a range is within the elements, as it is tested
 pub row-test : {T : Type 0} (w : T → ℤ) (xs : List T) (first : ℕ) {count n : ℕ} {r b : Bool} → n ≡ count
     → r ≡ nat_le (first + length xs) n → r ≡ b → nat_le (first + length (map w xs)) count ≡ b
 row-test w xs first e f g = (λ i. nat_le (first + length-map xs w i) (sym e i)) ∙ sym f ∙ g
@@ -390,13 +405,13 @@ array-empty s o l k first zs is writing fits none =
 -- its block has the room
 pub array-room : (s : SegmentState) (b : IsSegment s.cut.bytes) (o : Located) → IsLocated s (ByHandle o.handle) o
     → (k : ScalarKind) (first : ℕ) (zs : List ℤ) → o.kind ≡ Scalar k → nat_le (first + length zs) o.count ≡ true
-    → {at size n : ℕ} → at ≡ value_in o → size ≡ size_of k → n ≡ size_of k * length zs
+    → {at size n : ℕ} → at ≡ value_offset o → size ≡ size_of k → n ≡ size_of k * length zs
     → IsTrue (has_room (live_of s.cut.bytes) o.handle (at + size * first + n))
 array-room s b o loc k first zs is fits {at} {size} {n} e f g =
     let h = numbers-of s o loc k first zs is b.0 b.1 in
     let stands = standing s.cut.bytes b.0 (ByHandle o.handle) h.object b.1.denotes h.is in
     let own : o.handle ≡ handle h.object.extent = ap (λ (q : Located). q.handle) h.said in
-    let at_is : at ≡ head_len + padded (length h.object.name) = e ∙ ap value_in h.said in
+    let at_is : at ≡ head_len + padded (length h.object.name) = e ∙ ap value_offset h.said in
     let long : value_len h.object.value ≡ size_of k * length h.numbers = ap value_len h.value in
     let few = leb-true (first + length zs) o.count fits in let all = many s o loc k first zs is h in
     let inside = mul-le-mul_left (size_of k) (let j : first + length zs ≤ length h.numbers = omega arith in j) in
@@ -411,22 +426,23 @@ module _ {T : Type 0} {k : ScalarKind} {w : T → ℤ} {size : ℕ} {test : T �
     (law : IsOfKind k w size test sp) (s t : SegmentState) (view : s ≡ t) (b : IsSegment s.cut.bytes) (o : Located)
     (l : IsLocated t (ByHandle o.handle) o) (first : ℕ) (values : List T) (is : o.kind ≡ Scalar k)
     (writing : is_read_only t.mode ≡ false) (fits : nat_le (first + length (map w values)) o.count ≡ true)
-    {at each : ℕ} (at_is : at ≡ value_in o) (each_is : each ≡ size) (good : IsTrue (list_all test values))
+    {at each : ℕ} (at_is : at ≡ value_offset o) (each_is : each ≡ size) (good : IsTrue (list_all test values))
     (new : WindowState) (c : ChangesBytes current s.cut new (o.handle + (at + each * first))
     (size * length values)) where
   abbrev wholes : List ℤ
   wholes = map w values
 
-  spot-is : o.handle + (at + each * first) ≡ o.handle + (value_in o + size_of k * first)
+  spot-is : o.handle + (at + each * first) ≡ o.handle + (value_offset o + size_of k * first)
   spot-is = λ i. o.handle + (at_is i + (each_is ∙ law.long) i * first)
 
   long-is : size * length values ≡ size_of k * length wholes
   long-is = λ i. law.long i * sym (length-map values w) i
 
-  change : ChangesBytes current s.cut new (o.handle + (value_in o + size_of k * first)) (size_of k * length wholes)
+  change : ChangesBytes current s.cut new (o.handle + (value_offset o + size_of k * first)) (size_of k * length wholes)
   change = subst (λ m. ChangesBytes current s.cut new m (size_of k * length wholes)) spot-is
       (subst (λ n. ChangesBytes current s.cut new (o.handle + (at + each * first)) n) long-is c)
 
+  -- a range that was spelled in the image is the directory's
   pub array-spelled : HasBytesAt (bytes_of new.bytes) (o.handle + (at + each * first)) (flat_map sp values)
       → RangeWritten s t new (ByHandle o.handle) k first wholes (Ok tt)
   array-spelled h =
@@ -440,9 +456,9 @@ module _ {T : Type 0} {k : ScalarKind} {w : T → ℤ} {size : ℕ} {test : T �
   pub array-framed : ChangesRange t (record s { cut = new }) (ByHandle o.handle) k first (length values)
   array-framed = array-but t (record s { cut = new }) o l k first (length values)
       (subst (λ (u : SegmentState). SameBytesExcept (bytes_of u.cut.bytes) (bytes_of new.bytes)
-      (o.handle + (value_in o + size_of k * first)) (size_of k * length values)) view
+      (o.handle + (value_offset o + size_of k * first)) (size_of k * length values)) view
       (subst (λ n. SameBytesExcept (bytes_of s.cut.bytes) (bytes_of new.bytes)
-      (o.handle + (value_in o + size_of k * first)) (size_of k * n)) (length-map values w) change.rest))
+      (o.handle + (value_offset o + size_of k * first)) (size_of k * n)) (length-map values w) change.rest))
 
 -- a vector of another kind
 pub vector-other : (s : SegmentState) (o : Located) → IsLocated s (ByHandle o.handle) o → (k : ScalarKind) (first : ℕ)
@@ -453,7 +469,7 @@ vector-other s o l k first zs {m} same j is writing {why} e =
     other-if (same_kind (Vector m) o.kind) refl e
   where
     other-if : (b : Bool) → same_kind (Vector m) o.kind ≡ b → Err why
-        ≡ (if b then Ok (let p : Place = record { handle = o.handle; at = value_in o } in p) else Err WrongKind)
+        ≡ (if b then Ok (let p : Place = record { handle = o.handle; at = value_offset o } in p) else Err WrongKind)
         → WritesRange s s (ByHandle o.handle) k first zs (Refused why)
     other-if true f g = absurd (cc)
     other-if false f g =

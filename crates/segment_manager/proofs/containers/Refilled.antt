@@ -7,9 +7,12 @@ use common.{Mode, same_Some, Answer, Refused, Contents, RefillsContainer, contai
 use common.{has_values, Value, Object, Directory, kind_of, live, object_at, Denotes, perform, with_capacity, Request}
 use common.{RegrownNeed, Refuse, AnswersWith, IsSegment, TakesStep, TakesStepOfKind, SegmentState, DenotesCurrent}
 use common.{changed, effect, Plan, is_read_only, step_of_kind, step, arith, le-ltb, lt-ltb, resized, with_array}
-use Rattle.segment_manager.proofs.Steps.{IsMove, IsOpenFor, by_no_change, by_no_change_of_kind, by_step_of_kind}
-use Rattle.segment_manager.proofs.Steps.{open-writing, step-effect, step_of_kind-found, step_of_kind-not_found}
-use Rattle.segment_manager.proofs.{Steps.step_of_kind-other, Steps.moves-same, Calling.denotes-live}
+use Rattle.segment_manager.proofs.directory.CommandSteps.{IsMove, IsOpenFor, by_no_change, by_no_change_of_kind}
+use Rattle.segment_manager.proofs.directory.CommandSteps.{by_step_of_kind}
+use Rattle.segment_manager.proofs.directory.CommandSteps.{open-writing, step-effect, step_of_kind-found}
+use Rattle.segment_manager.proofs.directory.CommandSteps.{step_of_kind-not_found}
+use Rattle.segment_manager.proofs.{directory.CommandSteps.step_of_kind-other, directory.CommandSteps.moves-same}
+use Rattle.segment_manager.proofs.{directory.HeapCalls.denotes-live}
 use Rattle.segment_manager.proofs.containers.Contained.{contents-changed}
 use Rattle.std.proofs.lemmas.Bool.{leb-false}
 
@@ -20,6 +23,7 @@ abbrev pub then_by : {A : Type 0} → (A → LiveSet) → Directory → (A → P
 then_by beside d next None = (Refused NoSpace, d)
 then_by beside d next (Some a) = perform d (beside a) (next a)
 
+-- a request that is met goes on with its block
 pub asked-met : {A : Type 0} (beside : A → LiveSet) (made : Extent → A) (d : Directory) (l : LiveSet) (next : A → Plan)
     → ((x : Extent) → resized l x ≡ beside (made x)) → (r : Option Extent) → elim r as (λ _. Answer × Directory)
     [ None ↦ (Refused NoSpace, d) | Some x ↦ perform d (resized l x) (next (made x)) ]
@@ -27,6 +31,7 @@ pub asked-met : {A : Type 0} (beside : A → LiveSet) (made : Extent → A) (d :
 asked-met beside made d l next e None = refl
 asked-met beside made d l next e (Some x) = ap (λ (m : LiveSet). perform d m (next (made x))) (e x)
 
+-- the storage of so many places in a block
 abbrev pub of_places : ℕ → Extent → BackingArray
 of_places n x = record { capacity = n; extent = Some x }
 
@@ -47,6 +52,7 @@ room-if d l each t n next true h =
 room-if d l each t n next false h = asked-met (with_array l t) (of_places n) d l next (λ x i. grown_set l
     (of_places n x) (sym (lt-ltb t.capacity n (leb-false n t.capacity h)) i)) (regrow l t.extent (each * n))
 
+-- a plan for more capacity, by what the storage becomes
 pub room-grown : (d : Directory) (l : LiveSet) (each : ℕ) (t : BackingArray) (n : ℕ) (next : BackingArray → Plan)
     → perform d l (with_capacity each n t next) ≡ then_room d l t next (grown_backing l each n t)
 unfolding grown_backing
@@ -119,6 +125,7 @@ told_if {A} d key kind say = elim (object_at d key) as (λ _. Result A Refusal) 
   | Some o ↦ if same_kind kind (kind_of o.value) then say o else Err WrongKind
 ]
 
+-- of an object that is not there nothing is told
 pub told-none : {A : Type 0} (d : Directory) (key : Key) (kind : Kind) (say : Object → Result A Refusal)
     → object_at d key ≡ None → told_if d key kind say ≡ Err NotFound
 told-none {A} d key kind say e = ap (λ (r : Option Object). elim r as (λ _. Result A Refusal) [
@@ -126,6 +133,7 @@ told-none {A} d key kind say e = ap (λ (r : Option Object). elim r as (λ _. Re
   | Some o ↦ if same_kind kind (kind_of o.value) then say o else Err WrongKind
 ]) e
 
+-- what is told of an object of the kind
 pub told-some : {A : Type 0} (d : Directory) (key : Key) (kind : Kind) (say : Object → Result A Refusal) (o : Object)
     (b : Bool) → object_at d key ≡ Some o → same_kind kind (kind_of o.value) ≡ b
     → told_if d key kind say ≡ (if b then say o else Err WrongKind)
@@ -134,9 +142,11 @@ told-some {A} d key kind say o b e f = ap (λ (r : Option Object). elim r as (λ
   | Some o ↦ if same_kind kind (kind_of o.value) then say o else Err WrongKind
 ]) e ∙ ap (λ (t : Bool). let r : Result A Refusal = if t then say o else Err WrongKind in r) f
 
+-- equal errors have equal reasons
 pub same_Err : {A : Type 0} (x y : Refusal) → (let r : Result A Refusal = Err x in r) ≡ Err y → x ≡ y
 same_Err x y e = cc
 
+-- a success is no error
 pub not-Err : {A P : Type 0} (a : A) (x : Refusal) → (let r : Result A Refusal = Ok a in r) ≡ Err x → P
 not-Err a x e = absurd (cc)
 
@@ -147,9 +157,11 @@ pub record HoldsAt (d : Directory) (key : Key) (kind : Kind) (p : Place) : Type 
   pub same : same_kind kind (kind_of object.value) ≡ true
   pub at : container_place object ≡ p
 
+-- where the container of an object stands, or why it has none
 abbrev pub placed : Object → Result Place Refusal
 placed o = Ok (container_place o)
 
+-- the object at the place is of the kind
 pub holds-at : (d : Directory) (key : Key) (kind : Kind) (p : Place) → Ok p ≡ container_at d key kind
     → HoldsAt d key kind p
 holds-at d key kind p e = by-kind d key kind (λ f. not-Err p NotFound (e ∙ told-none d key kind placed f))

@@ -16,7 +16,8 @@ use Rattle.segment_manager.proofs.containers.OneLength.{HoldsElements, holds-ele
 use Rattle.segment_manager.proofs.containers.TextsHeld.{HoldsTexts, holds-texts}
 use Rattle.segment_manager.proofs.objects.Rewritten.{value_start, with_value}
 use Rattle.segment_manager.proofs.containers.Refilled.{placed, told-some}
-use Rattle.segment_manager.proofs.{Frame.object-roomy, objects.Here.IsReadAt, objects.Here.standing, Live.IsIn}
+use Rattle.segment_manager.proofs.{directory.Frame.object-roomy, objects.Here.IsReadAt, objects.Here.standing}
+use Rattle.segment_manager.proofs.{directory.LiveSet.IsIn}
 use Rattle.seg_map.specs.Changing.{FreesAllPairs}
 use Rattle.seg_vector.specs.Elements.{FreesStorage, FreesStorageOk}
 use Rattle.seg_vector.specs.{Containers.IsStanding, TextsCalls.ReleasesTexts}
@@ -29,6 +30,7 @@ pub held-stands : (b : List ℕ) (h : ℕ) (d : Directory) (o : Object)
 held-stands b h d o k e = subst (λ g. IsObjectInBlock b g o) (sym (found-handle h d.objects o (record { is = e })))
     (standing b d (ByHandle h) o k.denotes e)
 
+-- an object that is held is there
 pub held-object : (b : List ℕ) (h : ℕ) → HoldsObject b h → HasObject b h
 held-object b h x = (x.object, held-stands b h x.directory x.object x.stands x.is)
 
@@ -72,14 +74,17 @@ module _ {b : List ℕ} {h at : ℕ} {head : Head} (said : IsReadAt b h head)
 
 module _ (b : List ℕ) (h at : ℕ) (head : Head) (x : HoldsObject b h) (said : IsReadAt b h head)
     (behind : at ≡ head_len + padded head.name_len) where
+  -- the contents of an object are elements
   pub some-elements : has_storage head.kind ≡ true → (head.kind ≡ StringsKind → ⊥)
       → IsStanding b (place_behind h at) (each_of head.kind)
   some-elements stored no_texts =
       let e = read-elements said behind x.stands x.is stored no_texts in (e.len, (e.table, (e.bytes, e.stands)))
 
+  -- the contents of an object are strings
   pub some-texts : head.kind ≡ StringsKind → IsTextsContainer b (place_behind h at)
   some-texts is = let t = read-texts said behind x.stands x.is is in (t.texts, (t.table, t.stand))
 
+  -- the contents of an object are pairs
   pub some-pairs : (k l : ScalarKind) → head.kind ≡ Map k l → HasPairs k l b (place_behind h at)
   some-pairs k l is = let m = read-pairs said behind x.stands x.is k l is in (m.pairs, m.map)
 
@@ -126,6 +131,7 @@ container-released old new d key o p v k e is at len change said =
 -- so it is of elements of one length, of a vector of texts, and of a map
 module _ (old new : WindowState) (h at : ℕ) (head : Head) (said : IsReadAt old.bytes h head)
     (behind : at ≡ head_len + padded head.name_len) where
+  -- releasing the elements empties the object
   pub elements-contents : has_storage head.kind ≡ true → (head.kind ≡ StringsKind → ⊥)
       → FreesStorage old new (place_behind h at) (each_of head.kind) → Empties old new h
   elements-contents stored no_texts released d o s e =
@@ -140,6 +146,7 @@ module _ (old new : WindowState) (h at : ℕ) (head : Head) (said : IsReadAt old
       (value-said (bytes_of new.bytes) (place_at (place_behind h at)) (emptied p.value) _ (nothing-left p.value _
       x.held) now.stands.words))
 
+  -- releasing the strings empties the object
   pub texts-contents : head.kind ≡ StringsKind → ReleasesTexts old new (place_behind h at) → Empties old new h
   texts-contents is released d o s e =
       let x = read-texts said behind s e is in let same : x.object ≡ o = same_Some x.object o (sym x.is ∙ e) in
@@ -149,6 +156,7 @@ module _ (old new : WindowState) (h at : ℕ) (head : Head) (said : IsReadAt old
       (container-released old new d (ByHandle h) x.object (place_behind h at)
       (Texts x.texts x.table) s.denotes x.is x.value x.at refl now.change now.texts.words)
 
+  -- releasing the pairs empties the object
   pub pairs-contents : (k l : ScalarKind) → head.kind ≡ Map k l → ReleasesPairs k l old new (place_behind h at)
       → Empties old new h
   pairs-contents k l is released d o s e =

@@ -7,7 +7,7 @@ use common.{place_of_kind, Object, object_at, option_map, AnswersWith, IsSegment
 use common.{AnswersSafely, StepsSafely, MatchResult, live_of, Located}
 use Rattle.best_fit.proofs.Laws.{gaps-refl}
 use Rattle.best_fit.specs.Heap.{KeepsGaps}
-use Rattle.segment_manager.proofs.Steps.{IsMove, by_moves, by_same, step-segment, step_of_kind-segment}
+use Rattle.segment_manager.proofs.directory.CommandSteps.{IsMove, by_moves, by_same, step-segment, step_of_kind-segment}
 use Rattle.segment_manager.specs.objects.Located.{container_in, located, located_at}
 
 -- it is refused, and nothing has changed
@@ -28,10 +28,12 @@ done-so step = record { step = step; refused = tt }
 range-not_space : OutOfRange ≡ NoSpace → ⊥
 range-not_space e = cc
 
+-- an error that is not for space is for the place
 pub pick-outside : {X Y : Type 0} (e : Refusal) → (Y → e ≡ NoSpace) → e ≡ OutOfRange → X ⊎ Y → X
 pick-outside e g h (inl x) = x
 pick-outside e g h (inr y) = absurd (range-not_space (sym h ∙ g y))
 
+-- an error that is not for the place is for space
 pub pick-space : {X Y : Type 0} (e : Refusal) → (X → e ≡ OutOfRange) → e ≡ NoSpace → X ⊎ Y → Y
 pick-space e f h (inl x) = absurd (range-not_space (sym (f x) ∙ h))
 pick-space e f h (inr y) = y
@@ -81,6 +83,7 @@ pub record Answered {R : Type 0} (says : Result R Refusal
   pub refused : OnErr r ((record s { cut = new }) ≡ t)
   pub segment : IsSegment new.bytes
 
+-- a call that answers safely is the step of the directory
 pub answered : {R : Type 0} {says : Result R Refusal
     → Answer} (s t : SegmentState) (view : s ≡ t) (b : IsSegment s.cut.bytes)
     (new : WindowState) (key : Key) (kind : Kind) (c : Command) (r : Result R Refusal)
@@ -114,6 +117,7 @@ pub record Stepped (s t : SegmentState) (new : WindowState) (c : Command) (answe
   pub step : TakesStep t (record s { cut = new }) c answer
   pub segment : IsSegment new.bytes
 
+-- a step that is safe is the step of the directory
 pub stepped : (s t : SegmentState) (view : s ≡ t) (b : IsSegment s.cut.bytes) (new : WindowState) (c : Command)
     (answer : Answer) → is_read_only t.mode ≡ false
     → (is_read_only s.mode ≡ false → TakesStep s (record s { cut = new }) c answer) → Stepped s t new c answer

@@ -5,15 +5,18 @@ use Rattle.segment_manager.proofs.Common.{Numbers, Object, Pairs, Value, kind_of
 use Rattle.segment_manager.proofs.Common.{AnswersQueryOfKind, TakesStepOfKind, SegmentState, effect, storage_of}
 use Rattle.segment_manager.proofs.Common.{command_of, has_storage, Change, Clear, Reserve, Shrink}
 use Rattle.segment_manager.proofs.containers.ContentPlans.{clear-plan, reserve-plan, shrink-plan}
-use Rattle.segment_manager.proofs.{containers.Refilled.finds-no_container, Steps.open-reading, Steps.with-not_found}
+use Rattle.segment_manager.proofs.{containers.Refilled.finds-no_container, directory.CommandSteps.open-reading}
+use Rattle.segment_manager.proofs.{directory.CommandSteps.with-not_found}
 
 -- ---- refusals
 
+-- a value of a kind without storage has none
 pub no-storage : (v : Value) → has_storage (kind_of v) ≡ false → storage_of v ≡ Err WrongKind
 no-storage (Numbers k zs) h = refl
 no-storage (Pairs k v ps) h = refl
 no-storage v h = absurd (cc)
 
+-- a change of storage of an object without storage is refused
 pub change-refused : (change : Change) (d : Directory) (key : Key) (o : Object) → object_at d key ≡ Some o
     → storage_of o.value ≡ Err WrongKind → effect d (command_of change key) ≡ Refuse WrongKind
 change-refused (Reserve n) d key o e f = reserve-plan d key o e (Err WrongKind) f n

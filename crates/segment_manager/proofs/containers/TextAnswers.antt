@@ -14,7 +14,7 @@ use Rattle.segment_manager.proofs.containers.ItemSteps.{ListedGrown, Listing, ch
 use Rattle.segment_manager.proofs.containers.Safely.{Answered, answered, kept-gaps, same-live}
 use Rattle.best_fit.specs.Heap.{KeepsGaps}
 use Rattle.seg_vector.proofs.Laws.{same-extents}
-use Rattle.segment_manager.proofs.{Common.live_of, Steps.open-reading, objects.Stored.literal-read}
+use Rattle.segment_manager.proofs.{Common.live_of, directory.CommandSteps.open-reading, objects.Stored.literal-read}
 use Rattle.segment_manager.proofs.containers.ToChange.{seen-found}
 use Rattle.raw_region.proofs.{Bytes.fits-are_bytes, Facts.first, Facts.second}
 use Rattle.std.proofs.Common.{Fits, w8}
@@ -118,6 +118,7 @@ module _ {s t : SegmentState} (view : s ≡ t) (key : Key) (p : Place) (b : IsSe
       (Get key i) refl) (λ d den h. ap (perform d (live d)) (byte-plan d key h.object h.items h.table h.is h.value i
       (Some (pos x)) (byte-got h.items i (Some x) (a h.items h.table h.stands))))
 
+  -- a byte behind the end is refused
   pub text_got-past : (i : ℕ) (e : Refusal) → GetsByte s.cut p i (Err e)
       → TakesStepOfKind s s key String (Get key i) (Refused e)
   text_got-past i e a = subst (λ (r : Refusal). TakesStepOfKind s s key String (Get key i) (Refused r))
@@ -149,15 +150,18 @@ module _ {s t : SegmentState} (view : s ≡ t) (b : IsSegment s.cut.bytes) {key 
   grown-gaps g e = g.now.gaps (same-extents p.handle here-texts.table.extent g.table.extent here-texts.stands.heap
       here-texts.stands.own g.now.change e)
 
+  -- setting a byte leaves the gaps
   pub set_byte-gaps : (i x : ℕ) (r : Result (Unit {0}) Refusal) → SetsByte s.cut new p i x r → KeepsGaps t.cut new
   set_byte-gaps i x r a = kept-gaps view r (a here-texts.items here-texts.table here-texts.stands)
       (λ u m. m.1.gaps refl) (λ e m. m.same)
 
+  -- appending bytes in place leaves the gaps
   pub append-gaps : (more : List ℕ) (r : Result (Unit {0}) Refusal) → AppendsText s.cut new p more r
       → live_of new.bytes ≡ live_of t.cut.bytes → KeepsGaps t.cut new
   append-gaps more r a e = kept-gaps view r (a here-texts.items here-texts.table here-texts.stands)
       (λ u g. grown-gaps g (same-live view new e)) (λ e m. m.same)
 
+  -- assigning bytes in place leaves the gaps
   pub assign_text-gaps : (more : List ℕ) (r : Result (Unit {0}) Refusal) → AssignsText s.cut new p more r
       → live_of new.bytes ≡ live_of t.cut.bytes → KeepsGaps t.cut new
   assign_text-gaps more r a e = kept-gaps view r (a here-texts.items here-texts.table here-texts.stands)
@@ -165,6 +169,7 @@ module _ {s t : SegmentState} (view : s ≡ t) (b : IsSegment s.cut.bytes) {key 
 
   -- ---- the steps
 
+  -- appended bytes are the step of the directory
   pub text-appended : (more : List ℕ) (r : Result (Unit {0}) Refusal) → ((k : ℕ) → Fits w8 (get_or more k 0))
       → AppendsText s.cut new p more r → Answered done_answer s t new key String (Append key more) r
   text-appended more r small a = seen (grows-safely texts s key p b found new writing (Append key more)
@@ -172,6 +177,7 @@ module _ {s t : SegmentState} (view : s ≡ t) (b : IsSegment s.cut.bytes) {key 
       h.object h.items h.table h.is h.value more) (λ d h. so-too _ _ _ r (a h.items h.table h.stands) (λ g. bytes-grown
       (are_bytes-append h.items more h.values (fits-bytes more small)) g)))
 
+  -- assigned bytes are the step of the directory
   pub text-assigned : (bytes : List ℕ) (r : Result (Unit {0}) Refusal) → ((k : ℕ) → Fits w8 (get_or bytes k 0))
       → AssignsText s.cut new p bytes r → Answered done_answer s t new key String (Assign key (Quoted bytes ∷ [])) r
   text-assigned bytes r small a =
@@ -179,6 +185,7 @@ module _ {s t : SegmentState} (view : s ≡ t) (b : IsSegment s.cut.bytes) {key 
       (λ bs. bytes) r (λ d h. text-plan d key h.object h.items h.table h.is h.value (Quoted bytes ∷ []) bytes refl)
       (λ d h. so-too _ _ _ r (a h.items h.table h.stands) (λ g. bytes-grown (fits-bytes bytes small) g)))
 
+  -- a byte that was set is the step of the directory
   pub text-set : (i x : ℕ) (r : Result (Unit {0}) Refusal) → IsTrue (nat_lt x 256) → is_value U8 (pos x) ≡ true
       → SetsByte s.cut new p i x r → Answered done_answer s t new key String (Set key i (literal_of U8 (pos x))) r
   text-set i x r small v a = seen (changes-safely texts s key p b found new writing (Set key i (literal_of U8 (pos x)))

@@ -8,8 +8,8 @@ use common.{Reply, SegmentState, effect, sym, ap, ◌∙◌, ℕ, ◌+◌, ◌-�
 use common.{Bor, WindowState, Key, Done, Plan, with, Option, Result, length, get_or, IsTrue, insert, remove, le-ltb}
 use common.{lt-ltb, Refused, Reserve, perform, AnswersWith, append-nil, option_map, slice_get, false≢true, OutOfRange}
 use common.{with_array, command_of, refusal_in, done_answer, slice_set, list_all, same_Some, shrunk_backing}
-use common.{UndoesRequests, all_texts, OwnedText, RefusesIndex, are_bytes, Directory, current, LiveSet, live_of}
-use common.{Refusal, NoSpace, Command, one_more, IsSegment, DenotesCurrent, answer_of, texts_of, StringsKind}
+use common.{UndoesRequests, requested_texts, OwnedText, RefusesIndex, are_bytes, Directory, current, LiveSet, live_of}
+use common.{Refusal, NoSpace, Command, requested_text, IsSegment, DenotesCurrent, answer_of, texts_of, StringsKind}
 use common.{placed_text, grown_backing, TextElement, container_at, TakesStepOfKind, is_read_only, StepsSafely}
 use Rattle.segment_manager.proofs.containers.TextMoves.{TextsMove, all-other, moved, one-block, texts-stay, texts-steps}
 use Rattle.segment_manager.proofs.containers.TextMoves.{in-array, left-out, Kept, kept, led, texts_in, Led}
@@ -22,17 +22,18 @@ use Rattle.segment_manager.proofs.containers.TextPlans.{text-placed, assign_in, 
 use Rattle.segment_manager.proofs.containers.Safely.{pick-outside, pick-space, Answered, answered, done-so, stays}
 use Rattle.segment_manager.proofs.containers.PlacedTexts.{text-bytes, texts-bytes}
 use Rattle.segment_manager.proofs.containers.TextsHeld.{some-texts, HoldsTexts}
-use Rattle.segment_manager.proofs.{Steps.open-reading, Steps.open-writing, containers.TextAnswers.fits-bytes}
-use Rattle.segment_manager.proofs.{Calling.denotes-live, containers.ToChange.seen-found}
+use Rattle.segment_manager.proofs.{directory.CommandSteps.open-reading, directory.CommandSteps.open-writing}
+use Rattle.segment_manager.proofs.{containers.TextAnswers.fits-bytes}
+use Rattle.segment_manager.proofs.{directory.HeapCalls.denotes-live, containers.ToChange.seen-found}
 use Rattle.segment_manager.proofs.containers.TextLists.{part-inserted, part-set}
 use Rattle.segment_manager.proofs.containers.Refilled.{then_room, room-grown}
 use Rattle.std.proofs.Common.{Fits, w8}
 use Rattle.segment_manager.specs.{containers.Stored.ChangesTexts, Directory.Object, Directory.Texts, Directory.live}
 use Rattle.segment_manager.specs.containers.ToChange.{IsChangeableContainer}
 use Rattle.best_fit.specs.Exchange.{KeepsLiveSet}
-use Rattle.seg_vector.specs.TextsCalls.{ClearsTexts, ErasesText, GetsText, InsertsText, RemovesTextOk, InsertsTextOk}
+use Rattle.seg_vector.specs.TextsCalls.{ClearsTexts, ErasesText, GetsText, InsertsText, ErasesTextOk, InsertsTextOk}
 use Rattle.seg_vector.specs.TextsCalls.{RefusesFirstBlock, SetsTextOk, LacksFit, PopsText, PushesText, SetsText}
-use Rattle.seg_vector.specs.{TextsCalls.StaysAtFirst, TextsCalls.new_array, Vector.capacity_for_one}
+use Rattle.seg_vector.specs.{TextsCalls.UnchangedIfFirstRefused, TextsCalls.new_array, Vector.capacity_for_one}
 use Rattle.segment_manager.specs.Keeping.{UnchangedWhere, LacksArray, LacksFirst}
 
 -- texts as literals are read as them
@@ -53,6 +54,7 @@ module _ {s t : SegmentState} (view : s ≡ t) (key : Key) (p : Place) (b : IsSe
   pub texts-standing : IsTextsContainer s.cut.bytes p
   texts-standing = some-texts s key p b there-too
 
+  -- a string that was read is the directory's
   pub text-got : (i : ℕ) (r : Result (Bor (List ℕ)) Refusal) → GetsText s.cut p i r
       → TakesStepOfKind s s key StringsKind (asked.Get key i) (answer_of (λ (x : Bor (List ℕ)). TextElement x.now) r)
   text-got i (Ok x) a = texts-stay s key p b there-too _ _ (open-reading s.mode (asked.Get key i) refl) (λ d h.
@@ -127,6 +129,7 @@ module _ {s t : SegmentState} (view : s ≡ t) (b : IsSegment s.cut.bytes) {key 
   set-comes {d} h i bs found e = ap (perform d heap) (set-text h i bs _ found) ∙ text-placed d heap bs (set_in h i)
       ∙ ap (then_text d heap (set_in h i)) e
 
+  -- a string that was set is the step of the directory
   pub text-set : (i : ℕ) (bs : List ℕ) (r : Result (Unit {0}) Refusal) → ((k : ℕ) → Fits w8 (get_or bs k 0))
       → SetsText s.cut new p i bs r → Answered done_answer s t new key StringsKind (asked.Set key i (asked.Quoted bs)) r
   text-set i bs (Ok u) small a = seen (done-so (does (λ d l h.
@@ -170,22 +173,23 @@ module _ {s t : SegmentState} (view : s ≡ t) (b : IsSegment s.cut.bytes) {key 
     refused = tt;
   }
 
-  put-unmet : {d : Directory} (h : Holds d) (i : ℕ) (bs : List ℕ) → one_more heap h.texts h.table bs ≡ None
+  put-unmet : {d : Directory} (h : Holds d) (i : ℕ) (bs : List ℕ) → requested_text heap h.texts h.table bs ≡ None
       → perform d heap (insert_plan h i bs) ≡ (Refused NoSpace, d)
   put-unmet {d} h i bs none = one-more-unmet d heap h.texts h.table bs (insert_in h i) none
 
+  -- a string that was pushed is the step of the directory
   pub text-pushed : (bs : List ℕ) (r : Result (Unit {0}) Refusal) → ((k : ℕ) → Fits w8 (get_or bs k 0))
       → PushesText s.cut new p bs r → Kept s t new key (asked.Push key (asked.Quoted bs)) r
   text-pushed bs (Ok u) small a =
       seen-kept (put-steps _ length bs small (λ d h. (a h.texts h.table h.stand, push-text h bs)))
   text-pushed bs (Err e) small a =
-      let o : UndoesRequests s.cut new (one_more heap some.texts some.table bs) e =
+      let o : UndoesRequests s.cut new (requested_text heap some.texts some.table bs) e =
       a some.texts some.table some.stand in
       seen-kept (given-up o.refusal o.restored
       (λ d h. ap (perform d heap) (push-text h bs) ∙ put-unmet h (length h.texts) bs (a h.texts h.table h.stand).none))
 
   -- where the first block has no space, nothing changes
-  pub text-first : (bs : List ℕ) → StaysAtFirst s.cut new p bs
+  pub text-first : (bs : List ℕ) → UnchangedIfFirstRefused s.cut new p bs
       → UnchangedWhere t (record s { cut = new }) (LacksFirst key bs)
   text-first bs a = subst (λ (u : SegmentState). UnchangedWhere u (record s { cut = new }) (LacksFirst key bs)) view
       (λ d l w.
@@ -205,6 +209,7 @@ module _ {s t : SegmentState} (view : s ≡ t) (b : IsSegment s.cut.bytes) {key 
       ] in
       (λ i. record s { cut = same i }))
 
+  -- no space for an array: the segment stays
   pub array-first : (n : ℕ) → (new_array heap n ≡ None → new ≡ s.cut)
       → UnchangedWhere t (record s { cut = new }) (LacksArray n)
   array-first n a = subst (λ (u : SegmentState). UnchangedWhere u (record s { cut = new }) (LacksArray n)) view
@@ -217,6 +222,7 @@ module _ {s t : SegmentState} (view : s ≡ t) (b : IsSegment s.cut.bytes) {key 
       → effect d (asked.Insert key i (asked.Quoted bs)) ≡ insert_plan h i bs
   insert-put h i bs within = insert-text h i bs false (le-ltb (length h.texts) i within)
 
+  -- a string that was inserted is the step of the directory
   pub text-inserted : (i : ℕ) (bs : List ℕ) (r : Result (Unit {0}) Refusal) → ((k : ℕ) → Fits w8 (get_or bs k 0))
       → InsertsText s.cut new p i bs r → Kept s t new key (asked.Insert key i (asked.Quoted bs)) r
   text-inserted i bs (Ok u) small a = seen-kept (put-steps _ (λ ps. i) bs small (λ d h.
@@ -232,17 +238,18 @@ module _ {s t : SegmentState} (view : s ≡ t) (b : IsSegment s.cut.bytes) {key 
         ap (perform d heap) (insert-text h i bs true (lt-ltb (length h.texts) i past))) in
         record { step = safe.step; refused = λ h. o.same }
     | inr o ↦ given-up o.1.refusal o.1.restored (λ d h.
-        let q : (i ≤ length h.texts) × UndoesRequests s.cut new (one_more heap h.texts h.table bs) e =
+        let q : (i ≤ length h.texts) × UndoesRequests s.cut new (requested_text heap h.texts h.table bs) e =
         pick-space e (λ w. w.refusal) o.1.refusal (a h.texts h.table h.stand) in
         ap (perform d heap) (insert-put h i bs q.0) ∙ put-unmet h i bs q.1.none)
   ])
 
   -- ---- one less
 
+  -- a string that was erased is the step of the directory
   pub text-erased : (i : ℕ) (r : Result (Unit {0}) Refusal) → ErasesText s.cut new p i r
       → Answered done_answer s t new key StringsKind (asked.Erase key i) r
   text-erased i (Ok u) a = seen (done-so (does (λ d l h.
-      let r : RemovesTextOk s.cut new p h.texts h.table i = a h.texts h.table h.stand in record {
+      let r : ErasesTextOk s.cut new p h.texts h.table i = a h.texts h.table h.stand in record {
         texts = remove h.texts i;
         table = h.table;
         move = left-out r;
@@ -253,11 +260,12 @@ module _ {s t : SegmentState} (view : s ≡ t) (b : IsSegment s.cut.bytes) {key 
       seen (turned-down o.refusal o.same (λ d h.
       ap (perform d heap) (erase-text h i None (slice_get_past h.texts i (a h.texts h.table h.stand).outside))))
 
+  -- a string that was popped is the step of the directory
   pub text-popped : (r : Result (Unit {0}) Refusal) → PopsText s.cut new p r
       → Led s t new key (asked.Pop key) r (refusal_in r)
   text-popped (Ok u) a =
       let out : (d : Directory) → (l : DenotesCurrent s.cut.bytes d)
-      → RemovesTextOk s.cut new p (holds d l).texts (holds d l).table (length (holds d l).texts - 1) =
+      → ErasesTextOk s.cut new p (holds d l).texts (holds d l).table (length (holds d l).texts - 1) =
       λ d l. a (holds d l).texts (holds d l).table (holds d l).stand in
       led s t view b new key (asked.Pop key) (Ok u) None (texts-lead-on s key p b found new (asked.Pop key)
       (λ d l. TextElement (out d l).before.bytes) writing (λ d l. refl) (λ d l.
@@ -290,6 +298,7 @@ module _ {s t : SegmentState} (view : s ≡ t) (b : IsSegment s.cut.bytes) {key 
       → effect d (asked.Assign key (map asked.Quoted (bs ∷ bss))) ≡ all_plan (bs ∷ bss) (assign_in h)
   assign-plan h bs bss = assign-some h (asked.Quoted bs) (map asked.Quoted bss) (bs ∷ bss) (texts-read (bs ∷ bss))
 
+  -- strings that were assigned are the step of the directory
   pub texts-assigned : (bss : List (List ℕ)) (r : Result (Unit {0}) Refusal) → IsTrue (list_all are_bytes bss)
       → AssignsTexts s.cut new p bss r → Kept s t new key (asked.Assign key (map asked.Quoted bss)) r
   texts-assigned [] r small a =
@@ -308,7 +317,7 @@ module _ {s t : SegmentState} (view : s ≡ t) (b : IsSegment s.cut.bytes) {key 
     refused = tt;
   })
   texts-assigned (bs ∷ bss) (Err e) small a =
-      let o : UndoesRequests s.cut new (all_texts heap (bs ∷ bss)) e = a some.texts some.table some.stand in
+      let o : UndoesRequests s.cut new (requested_texts heap (bs ∷ bss)) e = a some.texts some.table some.stand in
       seen-kept (given-up o.refusal o.restored (λ d h. ap (perform d heap) (assign-plan h bs bss)
       ∙ all-unmet d heap (bs ∷ bss) (assign_in h) (a h.texts h.table h.stand).none))
 

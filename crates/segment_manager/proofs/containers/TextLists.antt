@@ -36,11 +36,13 @@ part-removed ps i q e = record { front = take i ps; back = drop (suc i) ps; was 
 pub part-all : (ps qs : List OwnedText) → IsPartOther ps qs ps qs
 part-all ps qs = record { front = []; back = []; was = sym (append-nil ps); is = sym (append-nil qs) }
 
+-- no string is exchanged: the list stays
 pub part-none : (ps : List OwnedText) → IsPartOther ps ps [] []
 part-none ps = record { front = []; back = ps; was = refl; is = refl }
 
 -- ---- at the end
 
+-- a string inserted at the end is the last
 pub pushed-last : (ps : List OwnedText) (q : OwnedText) → insert ps (length ps) q ≡ ps ++ q ∷ []
 pushed-last ps q = λ i. take-length ps i ++ q ∷ drop-length ps i
 

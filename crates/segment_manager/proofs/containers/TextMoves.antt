@@ -8,18 +8,20 @@ use common.{changed, effect, LiveSet, live_of, remove, current, StringsKind, sam
 use common.{refusal_of, done_answer, step_of_kind, append-nil, Refusal, Command, OwnedText, Refused, kind_at, Directory}
 use common.{kind_of, perform, AnswersWith, IsSegment, DenotesCurrent}
 use Rattle.segment_manager.proofs.containers.TextsHeld.{HasBytes, HoldsTexts, IsTextsMove, holds-texts, texts-changed}
-use Rattle.segment_manager.proofs.Steps.{IsMove, IsOpenFor, by_no_change_of_kind, by_step_of_kind, open-writing}
-use Rattle.segment_manager.proofs.Steps.{step_of_kind-found, step_of_kind-segment}
+use Rattle.segment_manager.proofs.directory.CommandSteps.{IsMove, IsOpenFor, by_no_change_of_kind, by_step_of_kind}
+use Rattle.segment_manager.proofs.directory.CommandSteps.{open-writing}
+use Rattle.segment_manager.proofs.directory.CommandSteps.{step_of_kind-found, step_of_kind-segment}
 use Rattle.segment_manager.proofs.containers.TextLists.{part-all, part-none, part-removed}
 use Rattle.segment_manager.proofs.containers.AnyStorage.{kind-told, of_kind-same}
-use Rattle.segment_manager.proofs.{Calling.denotes-live, objects.Constructed.restored-denotes}
+use Rattle.segment_manager.proofs.{directory.HeapCalls.denotes-live, objects.Constructed.restored-denotes}
 use Rattle.segment_manager.proofs.{containers.Safely.seen-refused, containers.TextBlocks.IsPartOther}
 use Rattle.std.proofs.lemmas.Result.{IfErr-weaker}
-use Rattle.seg_vector.specs.TextsCalls.{RemovesTextOk}
+use Rattle.seg_vector.specs.TextsCalls.{ErasesTextOk}
 use Rattle.best_fit.specs.Exchange.{KeepsLiveSet}
 
 -- ---- one directory
 
+-- one block more, or none, at the end of a list
 pub one-block : (xs : List Extent) (r : Option Extent) → xs ++ option_to_list r ≡ xs ++ (option_to_list r ++ [])
 one-block xs r = ap (λ (ys : List Extent). xs ++ ys) (sym (append-nil (option_to_list r)))
 
@@ -54,7 +56,7 @@ all-other {ps = ps} {qs = qs} small e now = moved (part-all ps qs) small refl e 
 
 -- one of them is left out
 pub left-out : {old new : WindowState} {p : Place} {i : ℕ} {ps : List OwnedText} {t : BackingArray}
-    → (r : RemovesTextOk old new p ps t i) → IsTextsMove old new p ps t (remove ps i) t
+    → (r : ErasesTextOk old new p ps t i) → IsTextsMove old new p ps t (remove ps i) t
 left-out {i = i} {ps = ps} {t = t} r = moved (part-removed ps i r.before r.found) tt
     (one-block (option_to_list t.extent) r.before.extent) (sym (append-nil (option_to_list t.extent))) r.now
 
@@ -71,6 +73,7 @@ module _ (s : SegmentState) (key : Key) (p : Place) (b : IsSegment s.cut.bytes)
   abbrev Holds : Directory → Type 0
   Holds d = HoldsTexts s.cut.bytes d key p
 
+  -- the strings of the object are those that the bytes say
   abbrev pub texts_in : (d : Directory) → DenotesCurrent s.cut.bytes d → Holds d
   texts_in d l = holds-texts s.cut.bytes d key p l.denotes (found.answers d l)
 
@@ -157,6 +160,7 @@ pub record Kept (s t : SegmentState) (new : WindowState) (key : Key) (c : Comman
   pub refused : IfErr r (λ why. is_untouched (Refused why) ≡ true → (record s { cut = new }) ≡ t)
   pub segment : IsSegment new.bytes
 
+-- a call that changes nothing on a refusal is the step of the directory
 pub kept : (s t : SegmentState) (view : s ≡ t) (b : IsSegment s.cut.bytes) (new : WindowState) (key : Key) (c : Command)
     (r : Result (Unit {0}) Refusal) → StepsKeeping s new key c r → Kept s t new key c r
 kept s t view b new key c r done = record {
@@ -176,6 +180,7 @@ pub record Led (s t : SegmentState) (new : WindowState) (key : Key) (c : Command
   pub refused : OnErr r ((record s { cut = new }) ≡ t)
   pub segment : IsSegment new.bytes
 
+-- a call that leads to the directory's answer is its step
 pub led : (s t : SegmentState) (view : s ≡ t) (b : IsSegment s.cut.bytes) (new : WindowState) (key : Key) (c : Command)
     (r : Result (Unit {0}) Refusal) (why : Option Refusal)
     → LeadsOnOfKind s (record s { cut = new }) key StringsKind c why → OnErr r (new ≡ s.cut) → Led s t new key c r why

@@ -5,7 +5,7 @@ use Rattle.segment_manager.specs.Step as step
 use common.{◌≡◌, refl, sym, ap, ◌∙◌, ℕ, ◌-◌, ◌*◌, Bool, true, false, Option, Some, None, Result, Ok, Err, List, [], ◌∷◌}
 use common.{length, ◌==◌, if◌then◌else◌, insert, remove, slice_get, slice_set, nat_lt, option_map, Storage, LiveSet}
 use common.{place, resized, BackingArray, shrunk_backing, no_backing, Refusal, NoSpace, OutOfRange, Key, Literal, Place}
-use common.{all_texts, new_array, one_more, placed_text, placed_texts, with_array, with_text, OwnedText}
+use common.{requested_texts, new_array, requested_text, placed_text, placed_texts, with_array, with_text, OwnedText}
 use common.{capacity_for_one, grown_backing, Answer, Done, Refused, TextElement, Texts, Object, Directory, Value}
 use common.{found_at, live, New, Plan, Refuse, Reply, Request, perform, with, with_capacity, with_owned_text}
 use common.{with_owned_texts, with_storage, changed, effect, storage_of, texts_of, with_items}
@@ -13,7 +13,7 @@ use Rattle.segment_manager.proofs.containers.ContentPlans.{reserve_with, shrink_
 use Rattle.segment_manager.proofs.containers.Refilled.{asked-met, of_places, room-grown, then_by, then_room}
 use Rattle.segment_manager.proofs.containers.PlacedTexts.{in_block, unplaced}
 use Rattle.segment_manager.proofs.containers.TextLists.{pushed-last, removed-last}
-use Rattle.segment_manager.proofs.{Steps.with-found, containers.TextsHeld.HoldsTexts}
+use Rattle.segment_manager.proofs.{directory.CommandSteps.with-found, containers.TextsHeld.HoldsTexts}
 
 -- ---- what requests come to
 
@@ -27,6 +27,7 @@ text-if : (d : Directory) (l : LiveSet) (bs : List ℕ) (next : OwnedText → Pl
 text-if d l bs next true = refl
 text-if d l bs next false = asked-met (with_text l) (in_block bs) d l next (λ x. refl) (place l (length bs) Storage)
 
+-- a plan that places a string, by where it is placed
 pub text-placed : (d : Directory) (l : LiveSet) (bs : List ℕ) (next : OwnedText → Plan)
     → perform d l (with_owned_text bs next) ≡ then_text d l next (placed_text l bs)
 text-placed d l bs next = text-if d l bs next (length bs == 0)
@@ -84,6 +85,7 @@ one_more_plan ps t bs next =
 
 module _ (d : Directory) (l : LiveSet) (ps : List OwnedText) (t : BackingArray) (bs : List ℕ)
     (next : BackingArray → OwnedText → Plan) where
+  -- a plan for one string more that is met
   pub one-more-met : (u : BackingArray) (q : OwnedText)
       → grown_backing l 16 (capacity_for_one (length ps) t.capacity) t ≡ Some u → placed_text (with_array l t u) bs
       ≡ Some q → perform d l (one_more_plan ps t bs next) ≡ perform d (with_text (with_array l t u) q) (next u q)
@@ -97,16 +99,19 @@ module _ (d : Directory) (l : LiveSet) (ps : List OwnedText) (t : BackingArray) 
   none-if None h = refl
   none-if (Some u) h = text-placed d (with_array l t u) bs (next u) ∙ ap (then_text d (with_array l t u) (next u)) h
 
-  pub one-more-unmet : one_more l ps t bs ≡ None → perform d l (one_more_plan ps t bs next) ≡ (Refused NoSpace, d)
+  -- a plan for one string more that has no space
+  pub one-more-unmet : requested_text l ps t bs ≡ None → perform d l (one_more_plan ps t bs next) ≡ (Refused NoSpace, d)
   one-more-unmet h = room-grown d l 16 t (capacity_for_one (length ps) t.capacity) (λ u. with_owned_text bs (next u))
       ∙ none-if (grown_backing l 16 (capacity_for_one (length ps) t.capacity) t) h
 
 -- ---- a new array, and then texts
 
+-- the plan that places all strings in a new array
 abbrev pub all_plan : List (List ℕ) → (BackingArray → List OwnedText → Plan) → Plan
 all_plan bss next = with_storage 16 (length bss) (λ u. with_owned_texts bss (next u))
 
 module _ (d : Directory) (l : LiveSet) (bss : List (List ℕ)) (next : BackingArray → List OwnedText → Plan) where
+  -- a plan for all strings that is met
   pub all-met : (u : BackingArray) (qs : List OwnedText) → new_array l (length bss) ≡ Some u
       → placed_texts (beside_array l u)
       bss ≡ Some qs → perform d l (all_plan bss next) ≡ perform d (beside_texts (beside_array l u) qs) (next u qs)
@@ -121,7 +126,8 @@ module _ (d : Directory) (l : LiveSet) (bss : List (List ℕ)) (next : BackingAr
   all-none-if (Some u) h =
       texts-placed d (beside_array l u) bss (next u) ∙ ap (then_texts d (beside_array l u) (next u)) h
 
-  pub all-unmet : all_texts l bss ≡ None → perform d l (all_plan bss next) ≡ (Refused NoSpace, d)
+  -- a plan for all strings that has no space
+  pub all-unmet : requested_texts l bss ≡ None → perform d l (all_plan bss next) ≡ (Refused NoSpace, d)
   all-unmet h =
       array-placed d l (length bss) (λ u. with_owned_texts bss (next u)) ∙ all-none-if (new_array l (length bss)) h
 
@@ -133,6 +139,7 @@ text_in r = elim r as (λ _. Result OwnedText Refusal) [ None ↦ Err OutOfRange
 
 -- as the calls find the vector
 module _ {b : List ℕ} {d : Directory} {key : Key} {p : Place} (h : HoldsTexts b d key p) where
+  -- the directory with other strings
   abbrev pub texts_after : List OwnedText → BackingArray → Directory
   texts_after qs u = changed d h.object (Texts qs u)
 
@@ -150,6 +157,7 @@ module _ {b : List ℕ} {d : Directory} {key : Key} {p : Place} (h : HoldsTexts 
   abbrev pub set_in : ℕ → OwnedText → Plan
   set_in i q = Reply Done (texts_after (slice_set h.texts i q) h.table)
 
+  -- the plan of `set` for a string of the vector
   pub set-text : (i : ℕ) (bs : List ℕ) (r : Option OwnedText) → slice_get h.texts i ≡ r
       → effect d (asked.Set key i (asked.Quoted bs)) ≡ with (text_in r) (λ old. with_owned_text bs (set_in i))
   set-text i bs r g = by-texts (λ o v. step.set d o v i (asked.Quoted bs))
@@ -159,13 +167,16 @@ module _ {b : List ℕ} {d : Directory} {key : Key} {p : Place} (h : HoldsTexts 
   abbrev pub insert_in : ℕ → BackingArray → OwnedText → Plan
   insert_in i u q = Reply Done (texts_after (insert h.texts i q) u)
 
+  -- the plan that inserts a string
   abbrev pub insert_plan : ℕ → List ℕ → Plan
   insert_plan i bs = one_more_plan h.texts h.table bs (insert_in i)
 
+  -- the plan of `push` for a string
   pub push-text : (bs : List ℕ) → effect d (asked.Push key (asked.Quoted bs)) ≡ insert_plan (length h.texts) bs
   push-text bs = by-texts (λ o v. step.push d o v (asked.Quoted bs))
       ∙ (λ i. one_more_plan h.texts h.table bs (λ u q. Reply Done (texts_after (sym (pushed-last h.texts q) i) u)))
 
+  -- the plan of `insert` for a string
   pub insert-text : (i : ℕ) (bs : List ℕ) (b : Bool) → nat_lt (length h.texts) i ≡ b
       → effect d (asked.Insert key i (asked.Quoted bs)) ≡ (if b then Refuse OutOfRange else insert_plan i bs)
   insert-text i bs b g = by-texts (λ o v. step.insert_at d o v i (asked.Quoted bs))
@@ -187,9 +198,11 @@ module _ {b : List ℕ} {d : Directory} {key : Key} {p : Place} (h : HoldsTexts 
   pub assign-none : effect d (asked.Assign key []) ≡ Reply Done (texts_after [] h.table)
   assign-none = by-texts (λ o v. step.assign d o v [])
 
+  -- the plan that assigns strings in storage
   abbrev pub assign_in : BackingArray → List OwnedText → Plan
   assign_in u qs = Reply Done (texts_after qs u)
 
+  -- the plan of `assign` for at least one string
   pub assign-some : (l : Literal) (ls : List Literal) (bss : List (List ℕ)) → texts_of (l ∷ ls) ≡ Ok bss
       → effect d (asked.Assign key (l ∷ ls)) ≡ all_plan bss assign_in
   assign-some l ls bss g =
@@ -199,9 +212,11 @@ module _ {b : List ℕ} {d : Directory} {key : Key} {p : Place} (h : HoldsTexts 
   pub reserve-texts : (n : ℕ) → effect d (asked.Reserve key n) ≡ with_capacity 16 n h.table (λ u. assign_in u h.texts)
   reserve-texts n = by-texts (λ o v. with (storage_of v) (reserve_with d o v n))
 
+  -- the plan of `shrink` for a vector of strings
   pub shrink-texts : effect d (asked.Shrink key)
       ≡ assign_in (shrunk_backing (live d) 16 (length h.texts) h.table) h.texts
   shrink-texts = by-texts (λ o v. with (storage_of v) (shrink_with d o v))
 
+  -- the plan of `clear` for a vector of strings
   pub clear-texts : effect d (asked.Clear key) ≡ assign_in h.table []
   clear-texts = by-texts (λ o v. with (storage_of v) (λ s. Reply Done (changed d o (with_items v []))))

@@ -12,8 +12,10 @@ use common.{container_place, has_own_block, is_good_value, container_at, is_owne
 use Rattle.segment_manager.proofs.containers.Contained.{good-with, start-place}
 use Rattle.segment_manager.proofs.containers.TextBlocks.{IsPartOther, others-apart, part-exchange}
 use Rattle.segment_manager.proofs.objects.Rewritten.{with_value, value_start}
-use Rattle.segment_manager.proofs.{Frame.object-roomy, Live.live-split, Live.IsIn, Order.Rising, Order.live-rises}
-use Rattle.segment_manager.proofs.{Order.inserted, Calling.denotes-live, Calling.denotes-heap, objects.Regrown.rest}
+use Rattle.segment_manager.proofs.{directory.Frame.object-roomy, directory.LiveSet.live-split, directory.LiveSet.IsIn}
+use Rattle.segment_manager.proofs.{directory.ExtentOrder.Rising, directory.ExtentOrder.live-rises}
+use Rattle.segment_manager.proofs.{directory.ExtentOrder.inserted, directory.HeapCalls.denotes-live}
+use Rattle.segment_manager.proofs.{directory.HeapCalls.denotes-heap, objects.Regrown.rest}
 use Rattle.segment_manager.proofs.{objects.Regrown.with_extents, objects.Exchanged.denotes-container}
 use Rattle.segment_manager.proofs.{objects.Standings.standing-room, containers.ItemSteps.one-kind}
 use Rattle.segment_manager.proofs.{objects.Here.standing, objects.ObjectLists.key-found}
@@ -111,6 +113,7 @@ texts-if : (v : Value) → StringsKind ≡ kind_of v → (ps : List OwnedText) �
 texts-if (Texts ps t) e = (ps, (t, refl))
 texts-if v e = absurd (cc)
 
+-- a value of this kind is a list of strings
 pub texts-only : (v : Value) → same_kind StringsKind (kind_of v) ≡ true
     → (ps : List OwnedText) × ((t : BackingArray) × (v ≡ Texts ps t))
 texts-only v e = texts-if v (one-kind StringsKind (kind_of v) e)
@@ -230,6 +233,7 @@ module _ {old new : WindowState} {d : Directory} {key : Key} {p : Place} (k : De
       (AllByRecursion-front HasBytes front (m.out ++ back) all)
       (AllByRecursion-append HasBytes m.in_place back m.bytes behind))
 
+  -- the bytes denote the directory with other strings
   pub texts-changed : Denotes current new.bytes (changed d h.object (Texts qs u))
   texts-changed =
       let o : Object = h.object in let w : Value = Texts qs u in

@@ -2,7 +2,8 @@
 use Rattle.segment_manager.proofs.Common.{◌≡◌, true, false, sym, subst, Result, Ok, Err, MatchResult, Kind, Refusal}
 use Rattle.segment_manager.proofs.Common.{Key, Command, Place, Refused, container_at, AnswersWith, SegmentState}
 use Rattle.segment_manager.proofs.Common.{TakesStepOfKind, Answer, answer_of, is_changing, is_read_only, IsNotToChange}
-use Rattle.segment_manager.proofs.{Common.exit-is, containers.Refilled.finds-no_container, Steps.open-writing}
+use Rattle.segment_manager.proofs.{Common.exit-is, containers.Refilled.finds-no_container}
+use Rattle.segment_manager.proofs.{directory.CommandSteps.open-writing}
 use Rattle.std.specs.Prelude.{IsErrAnd}
 use Rattle.segment_manager.specs.containers.ToChange.{IsChangeableContainer}
 

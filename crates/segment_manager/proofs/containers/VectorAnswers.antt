@@ -14,8 +14,9 @@ use common.{grown_backing, current, Denotes, Option, Plan, DenotesCurrent}
 use Rattle.segment_manager.proofs.containers.RangeCalls.{RangeWritten, range-done, range-elements, range-moves}
 use Rattle.segment_manager.proofs.containers.RangeCalls.{range-short, row-elements, whole-replaced}
 use Rattle.segment_manager.proofs.containers.Extending.{VectorExtended, extended-found, extended-room}
-use Rattle.segment_manager.proofs.{containers.Refilled.then_room, Common.live_of, Whole.whole-values}
-use Rattle.segment_manager.proofs.{containers.ToChange.seen-found, Steps.open-reading, Steps.open-writing}
+use Rattle.segment_manager.proofs.{containers.Refilled.then_room, Common.live_of, objects.WholeNumbers.whole-values}
+use Rattle.segment_manager.proofs.{containers.ToChange.seen-found, directory.CommandSteps.open-reading}
+use Rattle.segment_manager.proofs.{directory.CommandSteps.open-writing}
 use Rattle.segment_manager.specs.containers.Ranges.{extended, numbers_if, replaced, written}
 use Rattle.seg_vector.specs.{Vector.capacity_for_more, VectorCalls.Sets}
 use Rattle.seg_vector.specs.VectorCalls.{ExtendsBy, SetsAll, ErasesFrom, Gets, InsertsInto, IsVector, Pops, Pushes}
@@ -29,7 +30,8 @@ use Rattle.segment_manager.proofs.containers.ItemSteps.{HoldsItems, ListedGrown,
 use Rattle.segment_manager.proofs.containers.ItemSteps.{found-items, items-denote, grows-safely, items-full}
 use Rattle.segment_manager.proofs.containers.ItemSteps.{items-grown, items-now, items-refused, items-stay, items-steps}
 use Rattle.segment_manager.proofs.containers.ItemSteps.{so-too, some-items, vector-only}
-use Rattle.segment_manager.proofs.Whole.{IsOfKind, whole-insert, whole-reached, whole-remove, whole-set, whole-spelled}
+use Rattle.segment_manager.proofs.objects.WholeNumbers.{IsOfKind, whole-insert, whole-reached, whole-remove, whole-set}
+use Rattle.segment_manager.proofs.objects.WholeNumbers.{whole-spelled}
 use Rattle.segment_manager.proofs.objects.Stored.{literal-read, literals-read}
 use Rattle.segment_manager.proofs.containers.Contained.{contents-fit}
 
@@ -109,29 +111,35 @@ module _ {T : Type 0} {k : ScalarKind} {w : T → ℤ} {size : ℕ} {test : T �
     grown-gaps g e = g.now.gaps (same-extents p.handle some.table.extent g.table.extent some.stands.heap
         some.stands.own g.now.change e)
 
+    -- setting an element leaves the gaps
     pub set-gaps : {new : WindowState} (i : ℕ) (x : T) (r : Result (Unit {0}) Refusal)
         → Sets size test sp s.cut new p i x r → KeepsGaps t.cut new
     set-gaps i x r a = kept-gaps view r (a some.items some.table (vector b.0 some)) (λ u m. m.1.gaps refl)
         (λ e m. m.same)
 
+    -- erasing an element leaves the gaps
     pub erase-gaps : {new : WindowState} (i : ℕ) (r : Result (Unit {0}) Refusal)
         → ErasesFrom size test sp s.cut new p i r → KeepsGaps t.cut new
     erase-gaps i r a = kept-gaps view r (a some.items some.table (vector b.0 some)) (λ u m. m.1.gaps refl)
         (λ e m. m.same)
 
+    -- popping an element leaves the gaps
     pub pop-gaps : {new : WindowState} (r : Result T Refusal) → Pops size test sp s.cut new p r → KeepsGaps t.cut new
     pop-gaps r a = kept-gaps view r (a some.items some.table (vector b.0 some)) (λ u m. m.1.gaps refl) (λ e m. m.same)
 
+    -- pushing an element in place leaves the gaps
     pub push-gaps : {new : WindowState} (x : T) (r : Result (Unit {0}) Refusal) → Pushes size test sp s.cut new p x r
         → live_of new.bytes ≡ live_of t.cut.bytes → KeepsGaps t.cut new
     push-gaps {new} x r a e = kept-gaps view r (a some.items some.table (vector b.0 some))
         (λ u g. grown-gaps g (same-live view new e)) (λ e m. m.same)
 
+    -- inserting an element in place leaves the gaps
     pub insert-gaps : {new : WindowState} (i : ℕ) (x : T) (r : Result (Unit {0}) Refusal)
         → InsertsInto size test sp s.cut new p i x r → live_of new.bytes ≡ live_of t.cut.bytes → KeepsGaps t.cut new
     insert-gaps {new} i x r a e = kept-gaps view r (a some.items some.table (vector b.0 some))
         (λ u g. grown-gaps g.1 (same-live view new e)) (λ e m. elim m [ inl o ↦ o.same | inr o ↦ o.1.same ])
 
+    -- assigning elements in place leaves the gaps
     pub assign-gaps : {new : WindowState} (ys : List T) (r : Result (Unit {0}) Refusal)
         → Assigns size test sp s.cut new p ys r → live_of new.bytes ≡ live_of t.cut.bytes → KeepsGaps t.cut new
     assign-gaps {new} ys r a e = kept-gaps view r (a some.items some.table (vector b.0 some))
@@ -139,6 +147,7 @@ module _ {T : Type 0} {k : ScalarKind} {w : T → ℤ} {size : ℕ} {test : T �
 
     -- ---- one value
 
+    -- an element that was read is the directory's
     pub vector-got : (i : ℕ) (r : Result T Refusal) → Gets size test sp s.cut p i r
         → TakesStepOfKind s s key (Vector k) (asked.Get key i) (answer_of (λ x. Element k (w x)) r)
     vector-got i (Ok x) a = items-stay typed s key p b found (asked.Get key i) (Element k (w x)) (open-reading s.mode

@@ -11,7 +11,8 @@ use common.{is_class, kind_of, object_at, remove_object, rises_from, same_bytes,
 use common.{handles, IsEntry, Seeks, class_of_index, entries_of, objects_of, order_of, table_of, by_name, by_kind}
 use Rattle.segment_manager.proofs.indexes.HeldIndexes.{all-in, directory-index, entries-in, objects-ascend}
 use Rattle.segment_manager.proofs.{indexes.HeldIndexes.order-strict, objects.Ranks.IsRanked, objects.Ranks.all-ordered}
-use Rattle.segment_manager.proofs.{Faces.ordered-without, Denoted.handles-length, Live.IsIn, blocks.InUse.all-both}
+use Rattle.segment_manager.proofs.{directory.IndexedParts.ordered-without, directory.OneObject.handles-length}
+use Rattle.segment_manager.proofs.{directory.LiveSet.IsIn, blocks.InUse.all-both}
 use Rattle.segment_manager.proofs.indexes.KeyOrder.{Says, code-of, kinds-apart, kinds-class, kinds-say, name-of}
 use Rattle.segment_manager.proofs.indexes.KeyOrder.{same-itself, names-apart, names-class, names-say}
 use Rattle.segment_manager.proofs.indexes.EntryPlaces.{IsPlaceOf, all-at, all_of-ordered, ascends-at, at-all, at-handle}
@@ -91,6 +92,7 @@ each-by_handle n (p ∷ ps) h = (
       (each-by_handle (p.extent.offset + 1) ps (rises-rest n p ps h)),
 )
 
+-- each object of an index is found by its handle
 pub in-handles : {format : ℕ} (i : Index) {d : Directory} → IsDirectory format d
     → AllByRecursion (λ (o : Object). object_at d (names.ByHandle (handle o.extent)) ≡ Some o) (objects_of i d)
 in-handles i {d} h = all-in (λ (o : Object). object_at d (names.ByHandle (handle o.extent)) ≡ Some o) i d

@@ -8,12 +8,14 @@ use common.{is_index, kind_of, live, object_at, table_extents, with_object, hand
 use common.{objects_of, order_of, table_of, with_table_of, by_name, by_kind, NamedClass, UniqueClass}
 use Rattle.segment_manager.proofs.indexes.Indexes.{named-more, unique-more, ordered-more, new-name, new-kind}
 use Rattle.segment_manager.proofs.indexes.Indexes.{by_name-strict, by_kind-strict}
-use Rattle.segment_manager.proofs.Denoted.{HasIndexes, handles-length, index-stays}
-use Rattle.segment_manager.proofs.{Live.of_each, objects.RankedPairs.insert_by-length, Faces.ordered-with}
+use Rattle.segment_manager.proofs.directory.OneObject.{HasIndexes, handles-length, index-stays}
+use Rattle.segment_manager.proofs.{directory.LiveSet.of_each, objects.RankedPairs.insert_by-length}
+use Rattle.segment_manager.proofs.{directory.IndexedParts.ordered-with}
 use Rattle.seg_index.specs.declared.index.Index.TheVariants as index
 
 -- ---- one of the two, and the other
 
+-- the other index
 abbrev pub other : Index → Index
 other index.Named = index.Unique
 other index.Unique = index.Named
@@ -23,6 +25,7 @@ pub record HasOne (i : Index) (m : Memory) (d : Directory) : Type 0 where
   pub is : IsTrue (is_index (table_of i d) (objects_of i d) (order_of i))
   pub at : IsIndexAt m (place_of i) (table_of i d) (entries_of i d)
 
+-- one index and the other are both
 pub has_both : (i : Index) {m : Memory} {d : Directory} → HasOne i m d → HasOne (other i) m d → HasIndexes m d
 has_both index.Named a b = record { named = a.is; unique = b.is; named_at = a.at; unique_at = b.at }
 has_both index.Unique a b = record { named = b.is; unique = a.is; named_at = b.at; unique_at = a.at }
@@ -44,6 +47,7 @@ of_other index.Unique = refl
 pub has_class : (i : Index) (o : Object) → o.class ≡ class_of_index i → is_class (class_of_index i) o ≡ true
 has_class i o c = ap (λ k. class_code (class_of_index i) == class_code k) c ∙ of_class i
 
+-- an object of one class is not of the other
 pub other_class : (i : Index) (o : Object) → o.class ≡ class_of_index i → is_class (class_of_index (other i)) o ≡ false
 other_class i o c = ap (λ k. class_code (class_of_index (other i)) == class_code k) c ∙ of_other i
 
@@ -107,6 +111,7 @@ pub record OfRest (i : Index) (P : Extent → Type 0) (d : Directory) : Type 0 w
   pub objects : AllByRecursion P (flat_map extents_of d.objects)
   pub other_table : AllByRecursion P (table_extents (table_of (other i) d))
 
+-- what holds of all blocks but the index's holds of the others
 pub of_rest : (i : Index) (P : Extent → Type 0) {d : Directory}
     → AllByRecursion P (live (with_table_of i d no_backing)).extents → OfRest i P d
 of_rest index.Named P {d} h =
@@ -114,6 +119,7 @@ of_rest index.Named P {d} h =
 of_rest index.Unique P {d} h =
     let e = of_each P h in record { objects = e.objects; other_table = e.named }
 
+-- what holds of all blocks holds of those beside the index
 pub of_all : (i : Index) (P : Extent → Type 0) {d : Directory} → AllByRecursion P (live d).extents → OfRest i P d
 of_all index.Named P {d} h = let e = of_each P h in record { objects = e.objects; other_table = e.unique }
 of_all index.Unique P {d} h = let e = of_each P h in record { objects = e.objects; other_table = e.named }
@@ -124,6 +130,7 @@ pub other-words : (i : Index) {m m' : Memory} → SameBytes m m' 32 (place_of i)
 other-words index.Named {m} {m'} before behind = SameBytes-part m m' 56 128 56 80 behind (omega arith) (omega arith)
 other-words index.Unique before behind = before
 
+-- the other index stays
 pub other-stays : (i : Index) {m m' : Memory} {d : Directory} → HasOne (other i) m d
     → SameBytes m m' (place_of (other i)) (place_of (other i) + 24)
     → AllByRecursion (SameBlock m m') (table_extents (table_of (other i) d)) → HasOne (other i) m' d

@@ -1,9 +1,11 @@
 -- Each index follows its objects.
 use Rattle.segment_manager.proofs.Common.{◌∙◌, sym, ℕ, handle, ByHandle, Object, Directory, IsDirectory, object_at}
-use Rattle.segment_manager.proofs.Faces.{IsLike, ordered-with, ordered-without, ordered-changed, by_name-face}
+use Rattle.segment_manager.proofs.directory.IndexedParts.{IsLike, ordered-with, ordered-without, ordered-changed}
+use Rattle.segment_manager.proofs.directory.IndexedParts.{by_name-face}
 use Rattle.segment_manager.proofs.indexes.Indexes.{named-more, one-less, unique-more, one-removed, by_name-strict}
 use Rattle.segment_manager.proofs.indexes.Indexes.{by_kind-strict}
-use Rattle.segment_manager.proofs.{Common.by_name, Common.by_kind, Faces.by_kind-face, Live.IsFound, Live.IsIn}
+use Rattle.segment_manager.proofs.{Common.by_name, Common.by_kind, directory.IndexedParts.by_kind-face}
+use Rattle.segment_manager.proofs.{directory.LiveSet.IsFound, directory.LiveSet.IsIn}
 use Rattle.segment_manager.specs.indexes.Entries.{IndexesFollowObjects, KeepsEntries, RemovesOneEntry}
 use Rattle.seg_types.specs.declared.kinds.Class.TheVariants.{Named, Unique}
 
@@ -24,6 +26,7 @@ keeps-entries {d} o {p} f like = record {
   unique = (ordered-changed Unique by_kind by_kind-face d o p f like).entries;
 }
 
+-- law: the indexes follow the objects
 pub follows : IndexesFollowObjects
 follows = record {
   puts = λ d o. record {

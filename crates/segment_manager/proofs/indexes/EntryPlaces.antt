@@ -5,7 +5,8 @@ use Rattle.segment_manager.proofs.Common.{fold, insert, remove, slice_get, AllBy
 use Rattle.segment_manager.proofs.Common.{none-some, same_Some, handle, Class, Object, insert_by, is_class}
 use Rattle.segment_manager.proofs.objects.Ranks.{IsRanked, IsStrict, all_of-insert_by, insert_by-behind}
 use Rattle.segment_manager.proofs.{Common.remove_object, Common.rises, Common.handles, objects.Ranks.insert_by-front}
-use Rattle.segment_manager.proofs.{objects.Ranks.ranked-sym, Live.remove-here, Live.remove-behind}
+use Rattle.segment_manager.proofs.{objects.Ranks.ranked-sym, directory.LiveSet.remove-here}
+use Rattle.segment_manager.proofs.{directory.LiveSet.remove-behind}
 use Rattle.segment_manager.proofs.{objects.RankedPairs.Pairwise, blocks.InUse.all-both, blocks.InUse.all-each}
 use Rattle.raw_region.proofs.Facts.{first, second}
 
@@ -17,11 +18,13 @@ pub record StandsAt (os : List Object) (j g : ℕ) : Type 0 where
   pub is : slice_get os j ≡ Some object
   pub handle : g ≡ object.extent.offset + 16
 
+-- the object of an entry stands at its index
 pub stands-at : (os : List Object) (j : ℕ) {g : ℕ} → slice_get (handles os) j ≡ Some g → StandsAt os j g
 stands-at [] j {g} e = absurd (none-some g e)
 stands-at (o ∷ os) zero {g} e = record { object = o; is = refl; handle = sym (same_Some (handle o.extent) g e) }
 stands-at (o ∷ os) (suc j) e = let s = stands-at os j e in record { object = s.object; is = s.is; handle = s.handle }
 
+-- the entry of an object is its handle
 pub at-handle : (os : List Object) (j : ℕ) {o : Object} → slice_get os j ≡ Some o
     → slice_get (handles os) j ≡ Some (handle o.extent)
 at-handle [] j {o} e = absurd (none-some o e)
@@ -35,6 +38,7 @@ all-at P [] j {o} a e = absurd (none-some o e)
 all-at P (p ∷ ps) zero {o} a e = subst P (same_Some p o e) a.0
 all-at P (p ∷ ps) (suc j) a e = all-at P ps j a.1 e
 
+-- what holds at each index holds of all
 pub at-all : (P : Object → Type 0) (os : List Object) → ((j : ℕ) (o : Object) → slice_get os j ≡ Some o → P o)
     → AllByRecursion P os
 at-all P [] k = tt
@@ -56,6 +60,7 @@ below-rest lt s o p (q ∷ qs) e h = (
       (second (lt p q) (rises lt (q ∷ qs)) h),
 )
 
+-- a list that rises as a test ascends as a property
 pub rises-ascends : (lt : Object → Object → Bool) → IsStrict lt → (os : List Object) → IsTrue (rises lt os)
     → Ascends (λ o p. lt o p ≡ true) os
 rises-ascends lt s [] h = tt
@@ -97,6 +102,7 @@ module _ (t : Object → Bool) (lt : Object → Object → Bool) (c : Class)
   rest-if p fs true w = w.1
   rest-if p fs false w = w
 
+  -- each object of a class is found by its handle
   pub own-found : ((o p : Object) → IsRanked lt o p → t o ≡ true → t p ≡ false) → (os : List Object)
       → Pairwise lt (filter (is_class c) os) → AllByRecursion (IsFoundIn os) (filter (is_class c) os)
   own-found apart [] w = tt
@@ -138,6 +144,7 @@ abbrev pub IsPlaceOf : (Object → Object → Bool) → Object → List Object �
 IsPlaceOf lt o os i =
     (j : ℕ) (p : Object) → slice_get os j ≡ Some p → (j < i → lt o p ≡ false) × (i ≤ j → lt o p ≡ true)
 
+-- inserting an entry is inserting its object
 pub insert-at : (lt : Object → Object → Bool) (o : Object) (os : List Object) (i : ℕ) → i ≤ length os
     → IsPlaceOf lt o os i → insert (handles os) i (handle o.extent) ≡ handles (insert_by lt o os)
 insert-at lt o [] zero l k = refl
@@ -147,6 +154,7 @@ insert-at lt o (p ∷ ps) (suc i) l k = ap (λ hs. handle p.extent ∷ hs) (inse
     (λ j q e. ((λ f. (k (suc j) q e).0 (omega (arith, f))), (λ f. (k (suc j) q e).1 (omega (arith, f))))))
     ∙ sym (ap handles (insert_by-behind lt o p ps ((k 0 p refl).0 (omega arith))))
 
+-- removing an entry is removing its object
 pub remove-at : {o : Object} (os : List Object) (i : ℕ) → slice_get os i ≡ Some o
     → ((j : ℕ) (p : Object) → j < i → slice_get os j ≡ Some p → handle o.extent ≢ handle p.extent)
     → remove (handles os) i ≡ handles (remove_object (handle o.extent) os)

@@ -10,8 +10,10 @@ use Rattle.segment_manager.proofs.Common.{ap, has_good_name, holds, is_good_valu
 use Rattle.segment_manager.proofs.Common.{object_len, same_role, serves}
 use Rattle.segment_manager.proofs.objects.Heads.{entries_say_objects, entry-name_len, good-name, good_name-short}
 use Rattle.segment_manager.proofs.blocks.InUse.{IsInUse, all-both, all-each, named-in_use, objects-in_use}
-use Rattle.segment_manager.proofs.{blocks.InUse.unique-in_use, objects.ObjectLists.each-true, Denoted.handles-length}
-use Rattle.segment_manager.proofs.{Calling.denotes-heap, Calling.denotes-live, Frame.object-roomy}
+use Rattle.segment_manager.proofs.{blocks.InUse.unique-in_use, objects.ObjectLists.each-true}
+use Rattle.segment_manager.proofs.{directory.OneObject.handles-length}
+use Rattle.segment_manager.proofs.{directory.HeapCalls.denotes-heap, directory.HeapCalls.denotes-live}
+use Rattle.segment_manager.proofs.{directory.Frame.object-roomy}
 use Rattle.segment_manager.proofs.indexes.EntryPlaces.{Ascends, rises-ascends}
 use Rattle.segment_manager.proofs.indexes.KeyOrder.{kind-less, name-less}
 use Rattle.segment_manager.proofs.indexes.Indexes.{index-parts, by_kind-strict, by_name-strict}
@@ -22,10 +24,12 @@ use Rattle.std.specs.List.Sorted.{IsStrictlySortedBy}
 
 -- ---- an index of a directory
 
+-- the order of an index is strict
 pub order-strict : (i : Index) → IsStrict (order_of i)
 order-strict Named = by_name-strict
 order-strict Unique = by_kind-strict
 
+-- a directory has both indexes
 pub directory-index : {format : ℕ} (i : Index) {d : Directory} → IsDirectory format d
     → IsTrue (is_index (table_of i d) (objects_of i d) (order_of i))
 directory-index Named h = h.named
@@ -116,6 +120,7 @@ pub entries-in : (i : Index) (c : WindowState) {d : Directory} → Denotes curre
     → AllByRecursion (IsEntry (bytes_of c.bytes)) (objects_of i d)
 entries-in i c {d} k = all-in (IsEntry (bytes_of c.bytes)) i d (entries_say_objects current c.bytes d k)
 
+-- the objects of an index ascend
 pub objects-ascend : {format : ℕ} (i : Index) {d : Directory} → IsDirectory format d
     → Ascends (λ o p. order_of i o p ≡ true) (objects_of i d)
 objects-ascend i {d} h = rises-ascends (order_of i) (order-strict i) (objects_of i d)
@@ -138,6 +143,7 @@ unfolding IsStrictlySortedBy
 sorted-handles i m [] es a = tt
 sorted-handles i m (o ∷ os) es a = (less-all i m o os es.0 es.1 a.0, sorted-handles i m os es.1 a.1)
 
+-- the entries of an index are sorted
 pub denotes-sorted : (i : Index) (c : WindowState) {d : Directory} → Denotes current c.bytes d
     → AreSortedHandles c i (entries_of i d)
 denotes-sorted i c {d} k = record {
@@ -150,6 +156,7 @@ denotes-sorted i c {d} k = record {
   rises = sorted-handles i (bytes_of c.bytes) (objects_of i d) (entries-in i c k) (objects-ascend i k.directory);
 }
 
+-- the bytes have a sorted index
 pub denotes-sorted_index : (i : Index) {c : WindowState} {d : Directory} → Denotes current c.bytes d
     → HasSortedIndex c i
 denotes-sorted_index i {c} {d} k = record {

@@ -7,19 +7,21 @@ use common.{and_from, ltb-true, ltb-false, lt-ltb, le-ltb, le-leb, eqb-false, ha
 use common.{has_backing, Class, code_of, same_kind, ByName, ByKind, Object, Directory, IsDirectory, live, kind_of}
 use common.{same_bytes, has_key, object_at, is_class, is_object, is_index, rises, rises_from, remove_object}
 use common.{with_object, without_object, by_name, by_kind, insert_by, named_objects, unique_objects}
-use Rattle.segment_manager.proofs.Live.{IsFound, IsIn, Place, here, behind, found-place, remove-here, remove-behind}
+use Rattle.segment_manager.proofs.directory.LiveSet.{IsFound, IsIn, Place, here, behind, found-place, remove-here}
+use Rattle.segment_manager.proofs.directory.LiveSet.{remove-behind}
 use Rattle.segment_manager.proofs.objects.ObjectLists.{list_all-remove, remove-rises, rises-weak, rises-front}
 use Rattle.segment_manager.proofs.{objects.ObjectLists.rises-rest, objects.Ranks.all-ordered}
 use Rattle.segment_manager.proofs.objects.Ranks.{IsStrict, IsRanked, before, after, AllRanked, ordered-put, remove-more}
 use Rattle.segment_manager.proofs.objects.RankedPairs.{ordered-pairwise, pairwise-remove, insert_by-rises}
 use Rattle.segment_manager.proofs.objects.RankedPairs.{without-rises, insert_by-length}
-use Rattle.segment_manager.proofs.Faces.{ordered-without, ordered}
+use Rattle.segment_manager.proofs.directory.IndexedParts.{ordered-without, ordered}
 use Rattle.raw_region.proofs.Facts.{AllByRecursion-filter, first, second, no_more}
 use Rattle.block_tags.specs.declared.tile.Role.TheVariants.{Index}
 use Rattle.seg_types.specs.declared.kinds.Class.TheVariants.{Named, Unique}
 
 -- ---- the two orders
 
+-- what is less as a test is `Less`
 pub lt-less : (r : Ordering) → is_lt r ≡ true → r ≡ Less
 lt-less Less e = refl
 lt-less v e = cc
@@ -115,6 +117,7 @@ pub unique-more : (d : Directory) (o : Object) → is_class Unique o ≡ true �
     ≡ None → unique_objects (with_object d o) ≡ insert_by by_kind o (unique_objects d)
 unique-more d o e f = ordered-put Unique by_kind by_kind-strict o d.objects e (new-kind d o f)
 
+-- the parts of an index as a test
 pub index-parts : (t : BackingArray) (os : List Object) (lt : Object → Object → Bool) → IsTrue (is_index t os lt)
     → IsTrue (has_backing Index 8 t) × (length os ≤ t.capacity) × IsTrue (rises lt os)
 index-parts t os lt h =
@@ -124,6 +127,7 @@ index-parts t os lt h =
       second (has_backing Index 8 t && nat_le (length os) t.capacity) (rises lt os) h,
     )
 
+-- an index as a test, from its parts
 pub index-from : (t : BackingArray) (os : List Object) (lt : Object → Object → Bool) → IsTrue (has_backing Index 8 t)
     → length os ≤ t.capacity → IsTrue (rises lt os) → IsTrue (is_index t os lt)
 index-from t os lt a b c = and_from (has_backing Index 8 t && nat_le (length os) t.capacity) (rises lt os)
@@ -189,6 +193,7 @@ directory-less {format} {d} o h f p = record {
 
 -- ---- the entries by their handles
 
+-- a list that rises from a place stands above it
 pub rises-above : (n : ℕ) (os : List Object) → IsTrue (rises_from n os)
     → AllByRecursion (λ (q : Object). n ≤ q.extent.offset) os
 rises-above n [] h = tt

@@ -48,6 +48,7 @@ comes : (name : List ℕ) (o q : Object) {r : Ordering} → has_key (names.ByNam
 comes name o q h e = ap is_lt (swapped q.name o.name ∙ ap (λ n. ordering_reverse (slice_cmp nat_cmp o.name n))
     (sym (name-of q h)) ∙ ap ordering_reverse e)
 
+-- the order by names says where a name stands
 pub names-say : (name : List ℕ) (o : Object) → is_class NamedClass o ≡ true
     → Says by_name (has_key (names.ByName name)) o (slice_cmp nat_cmp o.name name)
 names-say name o c = record {
@@ -74,6 +75,7 @@ names-class name p e = ap (λ b. b && same_bytes name p.name) e
 
 -- ---- kinds
 
+-- an object of a kind has its code
 pub code-of : (k : Kind) (q : Object) → has_key (names.ByKind k) q ≡ true → code_of k ≡ code_of (kind_of q.value)
 code-of k q e =
     eqb-true (code_of k) (code_of (kind_of q.value)) (second (is_class UniqueClass q) (same_kind k (kind_of q.value)) e)
@@ -103,6 +105,7 @@ kinds-other : (k : Kind) (o : Object) → code_of k ≢ code_of (kind_of o.value
 kinds-other k o n = and_right (is_class UniqueClass o) (same_kind k (kind_of o.value))
     (ne_eqb (code_of k) (code_of (kind_of o.value)) n)
 
+-- the order by kinds says where a kind stands
 pub kinds-say : (k : Kind) (o : Object) → is_class UniqueClass o ≡ true
     → Says by_kind (has_key (names.ByKind k)) o (nat_cmp (code_of (kind_of o.value)) (code_of k))
 kinds-say k o c =
@@ -124,10 +127,12 @@ ordered-kind {o} {p} (before e f) g =
 ordered-kind {o} {p} (after e f) g =
     omega (arith, ltb-true (code_of (kind_of p.value)) (code_of (kind_of o.value)) e, g)
 
+-- two objects in order are not both of one kind
 pub kinds-apart : (k : Kind) (o p : Object) → IsRanked by_kind o p → has_key (names.ByKind k) o ≡ true
     → has_key (names.ByKind k) p ≡ false
 kinds-apart k o p r h = kinds-other k p (λ e. ordered-kind r (sym (code-of k o h) ∙ e))
 
+-- an object that is not unique has no key by kind
 pub kinds-class : (k : Kind) (p : Object) → is_class UniqueClass p ≡ false → has_key (names.ByKind k) p ≡ false
 kinds-class k p e = ap (λ b. b && same_kind k (kind_of p.value)) e
 
@@ -137,6 +142,7 @@ kinds-class k p e = ap (λ b. b && same_kind k (kind_of p.value)) e
 pub name-less : (o p : Object) → by_name o p ≡ true → slice_cmp nat_cmp o.name p.name ≡ Less
 name-less o p e = lt-less (slice_cmp nat_cmp o.name p.name) e
 
+-- an object before another by kind has the lesser code
 pub kind-less : (o p : Object) → by_kind o p ≡ true
     → nat_cmp (code_of (kind_of o.value)) (code_of (kind_of p.value)) ≡ Less
 kind-less o p e = ap (λ b. cond b Less (cond (code_of (kind_of o.value) == code_of (kind_of p.value)) Equal Greater)) e

@@ -5,21 +5,23 @@ use common.{◌≡◌, SameBytes-part, IndexRole, is_proper, SameBlock, entries_
 use common.{objects_of, refl, Option, IsTrue, Memory, Extent, LiveSet, handle, EncodesLiveSet, live_of, Denotes}
 use common.{resized, link_at, handles, sym, ◌∙◌, ◌+◌, ◌≤◌, Some, None, List, WindowState, live, ◌*◌, Bool, true, ◌&&◌}
 use common.{◌==◌, [], ◌||◌, place, ◌∷◌, ap, subst, arith, added, KeepsBlocks, BackingArray, Index, Object, false}
-use common.{length, nat_le, nat_lt, eq-eqb, serves, ℕ, flat_map, bytes_of, no_backing, unlinked, IsIndexOf, Directory}
+use common.{length, nat_le, nat_lt, eq-eqb, serves, ℕ, flat_map, bytes_of, no_backing, without_index_block, IsIndexOf}
+use common.{Directory}
 use common.{is_object, shrunk_backing, KeepsOutsideIndex, IsIndexAt, AllByRecursion, class_of_index, with_table_of}
 use common.{if◌then◌else◌, placed_is_proper, lay_out_one, without_object, current, place_of, table_of, list_all}
 use common.{eqb-true, released, has_backing, ShrinksIndex, IsHeader, is_index, order_of, SameBytes-trans, blocks-trans}
 use common.{beside_table, without_link, extents_of, IsObjectAt, remove_object, table_extents}
 use Rattle.segment_manager.proofs.indexes.Entered.{HasOne, has_both, of_rest, other, other-stays, other-words}
 use Rattle.segment_manager.proofs.{indexes.Entered.other_class, indexes.HeldIndexes.denotes-index}
-use Rattle.segment_manager.proofs.{indexes.Bridge.no-entry-removed, Order.live-rises, Calling.denotes-live}
+use Rattle.segment_manager.proofs.{indexes.Bridge.no-entry-removed, directory.ExtentOrder.live-rises}
+use Rattle.segment_manager.proofs.{directory.HeapCalls.denotes-live}
 use Rattle.segment_manager.proofs.indexes.Tables.{index-left_out, left_out, live-moved_index, live-no_index}
 use Rattle.segment_manager.proofs.indexes.Tables.{live-resized_index, live-same_index}
 use Rattle.segment_manager.proofs.indexes.Tabled.{same-size, same-objects, has-one, place-high}
-use Rattle.segment_manager.proofs.Live.{IsIn, OfEach, live-without, of_each, removing}
-use Rattle.segment_manager.proofs.Denoted.{KeepsFront, denotes-taken, handles-length}
+use Rattle.segment_manager.proofs.directory.LiveSet.{IsIn, OfEach, live-without, of_each, removing}
+use Rattle.segment_manager.proofs.directory.OneObject.{KeepsFront, denotes-taken, handles-length}
 use Rattle.segment_manager.proofs.indexes.Indexes.{index-from, index-parts}
-use Rattle.segment_manager.proofs.Frame.{header-same, any_index-same, any_objects-same}
+use Rattle.segment_manager.proofs.directory.Frame.{header-same, any_index-same, any_objects-same}
 use Rattle.raw_region.proofs.Facts.{AllByRecursion-behind, AllByRecursion-front, AllByRecursion-append}
 use Rattle.seg_index.proofs.Laws.{place_behind}
 use Rattle.best_fit.specs.Fit.{gap_after, room, shorter}
@@ -85,6 +87,7 @@ left-link l (Some x) = refl
 abbrev pub places_in : ℕ → Extent → BackingArray
 places_in n x = record { capacity = n; extent = Some x }
 
+-- the index has more places, and all else stays
 pub reserved-tabled : {i : Index} {a c : WindowState} {d : Directory} {n : ℕ} → Denotes current a.bytes d
     → (r : ReservesIndexOk a c (place_of i) n) → IsTabled i a c d (places_in n r.extent)
 reserved-tabled {i} {a} {c} {d} {n} k r =
@@ -93,7 +96,7 @@ reserved-tabled {i} {a} {c} {d} {n} k r =
     (with_table_of i d (places_in n r.extent)) = (λ j. without_link (added (now j) r.extent) (x.stands.link j))
     ∙ live-moved_index i d (places_in n r.extent) r.extent [] refl (placed_is_proper (live d) (8 * n) IndexRole
     r.extent k.directory.proper (sym (ap (λ l. place l (8 * n) IndexRole) now) ∙ r.placed)) in
-    let left : (unlinked a (place_of i)).extents ≡ (live (with_table_of i d no_backing)).extents =
+    let left : (without_index_block a (place_of i)).extents ≡ (live (with_table_of i d no_backing)).extents =
     (λ j. (without_link (now j) (x.stands.link j)).extents) ∙ left-link (live d) (table_of i d).extent
     ∙ index-left_out i d [] (live-rises (live d) k.directory.proper) in
     record {
@@ -152,6 +155,7 @@ no-places t n h few e = eq-eqb n 0 (omega (
   ])) e h)),
 ))
 
+-- the index has fewer places, and all else stays
 pub shrunk-tabled : {i : Index} {a c : WindowState} {d : Directory}
     → Denotes current a.bytes d → ShrinksIndex a c (place_of i) (table_of i d) (entries_of i d)
     → IsTabled i a c d (shrunk_backing (live d) 8 (length (objects_of i d)) (table_of i d))

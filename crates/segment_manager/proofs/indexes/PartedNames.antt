@@ -6,7 +6,7 @@ use common.{Absent, FindsPosition, handle, Object, Directory, by_name, named_obj
 use common.{entries_of, current, SegmentState}
 use Rattle.segment_manager.proofs.indexes.HeldIndexes.{entries-in, objects-ascend}
 use Rattle.segment_manager.proofs.indexes.EntryPlaces.{all-at, ascends-at, at-handle, stands-at}
-use Rattle.segment_manager.proofs.{indexes.Indexes.by_name-strict, Denoted.handles-length}
+use Rattle.segment_manager.proofs.{indexes.Indexes.by_name-strict, directory.OneObject.handles-length}
 use Rattle.segment_manager.proofs.objects.KeyCalls.{ForIndex, of-directory}
 use Rattle.std.proofs.lemmas.Map.Lookups.{exact_bytes}
 use Rattle.seg_index.specs.Lookups.{order}
@@ -63,6 +63,7 @@ first-absent s e at f = record {
       (of-directory s Named (λ hs. FindsPosition (bytes_of s.cut.bytes) (Name e) hs (Absent at)) k f);
 }
 
+-- the first entry from a name on is found
 pub first-found : (s : SegmentState) (e : Bor (List ℕ)) (at : ℕ)
     → ForIndex s.cut Named (λ hs. FindsPosition (bytes_of s.cut.bytes) (Name e) hs (Found at)) → IsFirstFrom s e.now at
 first-found s e at f = record {

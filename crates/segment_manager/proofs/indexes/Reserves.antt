@@ -9,12 +9,15 @@ use common.{subst, true, false, arith, nat_le, le-leb, lt-leb, place, BackingArr
 use common.{SegmentState, effect, ℕ, length, current, NoSpace, KeepsRoomyIndex, ShrinksIndex, HasIndex, place_of}
 use common.{Refused, Denotes, table_of, Request}
 use Rattle.segment_manager.proofs.indexes.OtherTables.{places_in, reserved-tabled, shrunk-tabled, tabled-denotes}
-use Rattle.segment_manager.proofs.Steps.{by_no_change, by_step, lands, open-writing, perform-new, perform-no_space}
-use Rattle.segment_manager.proofs.{Steps.step-plan, Steps.step-reply, Calling.denotes-live}
+use Rattle.segment_manager.proofs.directory.CommandSteps.{by_no_change, by_step, lands, open-writing, perform-new}
+use Rattle.segment_manager.proofs.directory.CommandSteps.{perform-no_space}
+use Rattle.segment_manager.proofs.{directory.CommandSteps.step-plan, directory.CommandSteps.step-reply}
+use Rattle.segment_manager.proofs.{directory.HeapCalls.denotes-live}
 use Rattle.segment_manager.proofs.containers.Safely.{Stepped, stepped}
 use Rattle.segment_manager.proofs.indexes.HeldIndexes.{denotes-index}
 use Rattle.segment_manager.specs.Step.{shrunk_indexes}
 
+-- reserving places is a change
 pub reserve-changes : (i : Index) (n : ℕ) → is_changing (reserve_of i n) ≡ true
 reserve-changes index.Named n = refl
 reserve-changes index.Unique n = refl
@@ -79,6 +82,7 @@ pub shrunk-denotes : (i : Index) {a c : WindowState} {d : Directory} → Denotes
 shrunk-denotes i {a} {d} k r =
     tabled-denotes k (shrunk-tabled k (r (table_of i d) (entries_of i d) (denotes-index i a k)))
 
+-- both indexes fit their entries: the step of the directory
 pub shrinks : {s t : SegmentState} (view : s ≡ t) (g : IsSegment s.cut.bytes) {b c : WindowState} → is_read_only t.mode
     ≡ false → Shrinks index.Named s.cut b → Shrinks index.Unique b c → Stepped s t c asked.ShrinkIndexes Done
 shrinks {s} {t} view g {b} {c} may n u =

@@ -5,16 +5,18 @@ use common.{◌≡◌, refl, sym, ap, subst, ◌∙◌, ℕ, ◌+◌, ◌≤◌,
 use common.{AllByRecursion, WindowState, SameBytes, SameSurroundings, bytes_of, current, SameBytes-part}
 use common.{SameBytes-trans, IndexRole, Extent, LiveSet, handle, is_proper, added, others, AllocatesOk, KeepsBlocks}
 use common.{EncodesLiveSet, SameBlock, extent_at, live_of, BackingArray, no_backing, allocated-live, blocks-trans}
-use common.{Index, AddKeeps, AddsEntry, beside_table, unlinked, without_link, IsIndexOf, place_of, grown_capacity}
+use common.{Index, AddKeeps, AddsEntry, beside_table, without_index_block, without_link, IsIndexOf, place_of}
+use common.{grown_capacity}
 use common.{Object, Directory, extents_of, is_object, live, object_at, with_object, Denotes, IsObjectAt, class_of_index}
 use common.{entries_of, table_of, with_table_of}
 use Rattle.segment_manager.proofs.objects.Taking.{IsMade, allocated-found, taken-found, taken-live}
 use Rattle.segment_manager.proofs.indexes.Entered.{HasOne, OfRest, entered-other, entered-own, has_both, key_in, of_all}
 use Rattle.segment_manager.proofs.indexes.Entered.{of_rest, other, other-stays, other-words}
 use Rattle.segment_manager.proofs.indexes.Tables.{index-left_out, last-table, left_out, live-moved_index, same-table}
-use Rattle.segment_manager.proofs.{indexes.Tables.table-of, Live.adding, Calling.denotes-live, Frame.any_object-same}
-use Rattle.segment_manager.proofs.Denoted.{KeepsFront, denotes-put}
-use Rattle.segment_manager.proofs.Order.{inserted, live-rises, all_of-inserted}
+use Rattle.segment_manager.proofs.{indexes.Tables.table-of, directory.LiveSet.adding, directory.HeapCalls.denotes-live}
+use Rattle.segment_manager.proofs.{directory.Frame.any_object-same}
+use Rattle.segment_manager.proofs.directory.OneObject.{KeepsFront, denotes-put}
+use Rattle.segment_manager.proofs.directory.ExtentOrder.{inserted, live-rises, all_of-inserted}
 use Rattle.seg_index.proofs.Laws.{place_behind}
 
 -- ---- the bytes once the entry is there
@@ -31,18 +33,22 @@ pub record IsEntered (i : Index) (old new : WindowState) (d : Directory) (t : Ba
   pub behind : SameBytes (bytes_of old.bytes) (bytes_of new.bytes) (place_of i + 24) 128
   pub stands : IsIndexOf new (place_of i) t (entries_of i (with_object d o))
 
+-- the size stays with another table
 pub same-size : (i : Index) (d : Directory) (t : BackingArray) → (with_table_of i d t).size ≡ d.size
 same-size index.Named d t = refl
 same-size index.Unique d t = refl
 
+-- the objects stay with another table
 pub same-objects : (i : Index) (d : Directory) (t : BackingArray) → (with_table_of i d t).objects ≡ d.objects
 same-objects index.Named d t = refl
 same-objects index.Unique d t = refl
 
+-- the bytes have one index
 pub has-one : (i : Index) {b : List ℕ} {d : Directory} → Denotes current b d → HasOne i (bytes_of b) d
 has-one index.Named k = record { is = k.directory.named; at = k.named }
 has-one index.Unique k = record { is = k.directory.unique; at = k.unique }
 
+-- the words of an index lie below offset 80
 pub place-high : (i : Index) → place_of i + 24 ≤ 80
 place-high index.Named = omega arith
 place-high index.Unique = omega arith
@@ -111,19 +117,21 @@ pub entered-some : {i : Index} {a m b : WindowState} {c : WindowState} {d : Dire
     → Denotes current a.bytes d → (g : AllocatesOk current a m n IndexRole h) → IsMade m b o → IsIndexOf b (place_of i)
     (table_of i d) (entries_of i d) → insert (entries_of i d) at (handle o.extent) ≡ entries_of i (with_object d o)
     → AddsEntry b c (place_of i) (table_of i d) (insert (entries_of i d) at (handle o.extent)) (Some h)
-    → EncodesLiveSet current c.bytes (unlinked b (place_of i)) → AddKeeps b c (place_of i) (table_of i d) (Some h)
+    → EncodesLiveSet current c.bytes (without_index_block b (place_of i))
+    → AddKeeps b c (place_of i) (table_of i d) (Some h)
     → IsEntered i b c d (grown_into i d g.extent) o
 entered-some {i} {a} {m} {b} {c} {d} {o} at {n} {h} k g made x e adds laid keeps =
     let ys = extents_of o in let t = grown_into i d g.extent in
     let mid =
     allocated-live current a m n IndexRole h g ∙ ap (λ l. added l g.extent) (denotes-live current a.bytes d k) in
-    let left : unlinked b (place_of i) ≡ adding (live (with_table_of i d t)) ys =
+    let left : without_index_block b (place_of i) ≡ adding (live (with_table_of i d t)) ys =
     (λ j. without_link ((taken-live m b (extents_of o) made.taken ∙ ap (λ l. adding l ys) mid) j) (x.stands.link j))
     ∙ live-moved_index i d t g.extent ys refl
     (subst (λ l. IsTrue (is_proper (adding l ys))) mid made.taken.live.proper) in
     let laid' : EncodesLiveSet current c.bytes (adding (live (with_table_of i d t)) ys) =
     subst (EncodesLiveSet current c.bytes) left laid in
-    let all : others h (unlinked b (place_of i)).extents ≡ inserted ys (live (with_table_of i d no_backing)).extents =
+    let all : others h (without_index_block b (place_of i)).extents
+    ≡ inserted ys (live (with_table_of i d no_backing)).extents =
     (λ j. others (g.at j) (left j).extents)
     ∙ (ap (λ (u : BackingArray). left_out u.extent (inserted ys (live (with_table_of i d t)).extents))
     (sym (table-of i d))

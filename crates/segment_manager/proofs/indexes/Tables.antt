@@ -5,9 +5,11 @@ use Rattle.segment_manager.proofs.Common.{◌∷◌, ◌++◌, append_assoc, IsT
 use Rattle.segment_manager.proofs.Common.{AllByRecursion, Extent, LiveSet, handle, is_proper, others, added, released}
 use Rattle.segment_manager.proofs.Common.{resized, BackingArray, no_backing, Index, without_link, Directory, sorted}
 use Rattle.segment_manager.proofs.Common.{live, extents_of, table_extents, table_of, with_table_of}
-use Rattle.segment_manager.proofs.Order.{Differs, Rising, inserted, insert-inserted, sorted-append, all_of-sorted}
-use Rattle.segment_manager.proofs.Order.{live-rises, rising-insert, rising-inserted, apart-inserted, others-insert}
-use Rattle.segment_manager.proofs.{Live.adding, objects.Regrown.differs-flip}
+use Rattle.segment_manager.proofs.directory.ExtentOrder.{Differs, Rising, inserted, insert-inserted, sorted-append}
+use Rattle.segment_manager.proofs.directory.ExtentOrder.{all_of-sorted}
+use Rattle.segment_manager.proofs.directory.ExtentOrder.{live-rises, rising-insert, rising-inserted, apart-inserted}
+use Rattle.segment_manager.proofs.directory.ExtentOrder.{others-insert}
+use Rattle.segment_manager.proofs.{directory.LiveSet.adding, objects.Regrown.differs-flip}
 use Rattle.raw_region.proofs.Facts.{AllByRecursion-front, AllByRecursion-behind}
 use Rattle.std.proofs.lemmas.List.{append-nil}
 use Rattle.best_fit.specs.{Fit.insert, Table.table_link}
@@ -122,11 +124,13 @@ pub same-table : (i : Index) {d : Directory} → with_table_of i d (table_of i d
 same-table index.Named = refl
 same-table index.Unique = refl
 
+-- of two tables put in, the last stays
 pub last-table : (i : Index) (d : Directory) (t u : BackingArray)
     → with_table_of i (with_table_of i d t) u ≡ with_table_of i d u
 last-table index.Named d t u = refl
 last-table index.Unique d t u = refl
 
+-- the table that was put in is the index's
 pub table-of : (i : Index) (d : Directory) {t : BackingArray} → table_of i (with_table_of i d t) ≡ t
 table-of index.Named d = refl
 table-of index.Unique d = refl

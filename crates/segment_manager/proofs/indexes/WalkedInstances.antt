@@ -27,6 +27,7 @@ name-past at h = record {
 abbrev pub names_walk : Walk → NameWalk
 names_walk w = record { segment = w.segment; at = w.at }
 
+-- the walk over names is at its end
 pub names-end : {A : Type 0} (seen : A → List ℕ) (old new : Walk) → old.index ≡ Named → YieldsInstance old None new
     → GoesOnNames seen (names_walk old) None (names_walk new)
 names-end seen old new e g = record {
@@ -35,6 +36,7 @@ names-end seen old new e g = record {
   says = name-past old.at (λ d k. subst (λ i. length (objects_of i d) ≤ old.at) e (g.says d k));
 }
 
+-- the walk over names goes on with the next one
 pub names-go_on : {A : Type 0} {seen : A → List ℕ} {name : A} (old new : Walk) (said : Instance)
     → seen name ≡ said.name.now → old.index ≡ Named → YieldsInstance old (Some said) new
     → GoesOnNames seen (names_walk old) (Some name) (names_walk new)

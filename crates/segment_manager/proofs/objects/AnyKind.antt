@@ -14,7 +14,8 @@ use Rattle.segment_manager.specs.{Keeping.ChangesElement, objects.Standing.place
 use Rattle.segment_manager.proofs.objects.Locating.{kind-by_key, reply_of_kind-by_key, same-object}
 use Rattle.segment_manager.proofs.{objects.Heads.scalar-small, objects.Stored.literal-read}
 use Rattle.segment_manager.proofs.containers.Refilled.{refused-steps, same_plan-steps}
-use Rattle.segment_manager.proofs.Steps.{open-reading, step-refuse, step_of_kind-step, with-found, with-not_found}
+use Rattle.segment_manager.proofs.directory.CommandSteps.{open-reading, step-refuse, step_of_kind-step, with-found}
+use Rattle.segment_manager.proofs.directory.CommandSteps.{with-not_found}
 use Rattle.segment_manager.proofs.containers.AnyStorage.{IsOfKindAt, kind-told}
 
 -- ---- what an object says of its elements
@@ -234,11 +235,13 @@ element-elsewhere old new key k i n e a = λ d w.
     no-place (λ (p : Place). SameBytesExcept (bytes_of old.cut.bytes) (bytes_of new.cut.bytes) (p.handle + p.at)
     (size_of k)) (object_at d key) k i n e (a.answers d w)
 
+-- a changed byte of a string is a changed element
 pub element-of_text : (old new : SegmentState) (key : Key) (k : ScalarKind) (i : ℕ)
     → AnswersWith old (λ d. kind_at d key) (Ok StringKind) → ChangesElement old new key k i
 element-of_text old new key k i a =
     element-elsewhere old new key k i StringKind (above-scalars k 65536 (omega arith)) a
 
+-- a changed element of a vector is a changed element
 pub element-of_vector : (old new : SegmentState) (key : Key) (k l : ScalarKind) (i : ℕ)
     → AnswersWith old (λ d. kind_at d key) (Ok (VectorKind l)) → ChangesElement old new key k i
 element-of_vector old new key k l i a =
@@ -251,10 +254,12 @@ element-by_key old new key o l k i m = λ d w.
     subst (λ (r : Option Object). IfOk (place_of r k i) (λ (p : Place). SameBytesExcept (bytes_of old.cut.bytes)
     (bytes_of new.cut.bytes) (p.handle + p.at) (size_of k))) (sym (same-object old key o l d w)) (m d w)
 
+-- what holds anyway holds of a success
 pub on_ok : {A : Type 0} {P : Type 0} (r : Result A Refusal) → P → OnOk r P
 on_ok (Ok a) p = p
 on_ok (Err why) p = tt
 
+-- what follows of a success, if more follows
 pub on_ok-map : {A : Type 0} {P Q : Type 0} (r : Result A Refusal) → (P → Q) → OnOk r P → OnOk r Q
 on_ok-map (Ok a) f p = f p
 on_ok-map (Err why) f p = tt

@@ -44,6 +44,7 @@ by-items d key k count zs few =
     if few then with_new_object d key (asked.Numbers k (replicate count (pos 0))) (λ o e. Reply (Refused OutOfRange) d)
     else with_new_object d key (asked.Numbers k (take count zs)) (λ o e. Reply (Made (handle o.extent)) e)
 
+-- the plan that constructs an array of items
 abbrev pub from-items : Directory → Key → ScalarKind → ℕ → List ℤ → Option Object → Plan
 from-items d key k count zs found =
     elim found as (λ _. Plan) [ Some o ↦ Refuse Exists | None ↦ by-items d key k count zs (nat_lt (length zs) count) ]
@@ -172,6 +173,7 @@ module _ {S A : Type 0} (items : S → List A) {whole : A
       refused-array r other key k numbers some (ap length (sym are) ∙ length-map (items w) whole ∙ long)
       (subst (λ (zs : List ℤ). TakesStep old new (asked.ConstructIt key k n zs) (Refused r)) none step)
 
+  -- a constructed array is the step of the directory
   pub array-step : {numbers : List ℤ} → map whole (items w) ≡ numbers → 1 ≤ n
       → TakesStep old new (asked.ConstructIt key k n numbers) (handle_answer result)
   array-step {numbers} are some = step-of are some takes.items result takes.taken takes.step
@@ -181,5 +183,6 @@ module _ {S A : Type 0} (items : S → List A) {whole : A
   refused-of xs (Ok h) taken same = tt
   refused-of xs (Err r) taken same = kept r (enough xs r taken) same
 
+  -- a refused array leaves the segment
   pub array-refused : UnchangedIfRefused old new result
   array-refused = refused-of takes.items result takes.taken takes.unchanged

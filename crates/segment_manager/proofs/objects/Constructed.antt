@@ -4,7 +4,7 @@ use Rattle.seg_types.specs.Names as names
 use Rattle.seg_types.specs.Commands as asked
 use common.{◌≡◌, sym, ◌∙◌, ◌*◌, ◌<◌, ◌≤◌, inl, inr, Some, None, List, WindowState, Kind, AddsEntry, Value, live, Plan}
 use common.{New, bare, refl, IndexRole, AddKeeps, IsIndexOf, Directory, objects_of, IsNewKeyOf, RestoresBlocks}
-use common.{with_entry, with_value, ap, current, LiveSet, resized, EncodesLiveSet, live_of, IsGrowth, place_of}
+use common.{with_entry, with_value, ap, current, LiveSet, resized, EncodesLiveSet, live_of, PreparesOk, place_of}
 use common.{count_of, IsDenied, table_of, class_of, subst, ℤ, length, arith, insert, Extent, handle, added, place}
 use common.{KeepsBlocks, BackingArray, Scalar, Index, Absent, Object, ℕ, allocated-live, keeps-trans, grown_bytes}
 use common.{grown_capacity, class_of_index, with_table_of, with_new_object, Option, Content, FindsPosition, Refused}
@@ -13,9 +13,12 @@ use common.{entry_count, extents_of, object_len, with_object, entries_of, Reques
 use Rattle.segment_manager.proofs.objects.Requests.{entry-grows, entry-refused, entry-room}
 use Rattle.segment_manager.proofs.indexes.Tabled.{IsEntered, entered-denotes, entered-none, entered-some, grown_into}
 use Rattle.segment_manager.proofs.objects.NewKeys.{key-class, key-has, key-name, key-own, key-seeks, object_of}
-use Rattle.segment_manager.proofs.{indexes.Bridge.entry-added, indexes.Bridge.lookup-absent, Calling.denotes-live}
-use Rattle.segment_manager.proofs.{Kept.denotes-kept, Steps.perform-new, Steps.perform-no_space}
-use Rattle.segment_manager.proofs.{indexes.Tables.same-table, indexes.HeldIndexes.denotes-index, Denoted.handles-length}
+use Rattle.segment_manager.proofs.{indexes.Bridge.entry-added, indexes.Bridge.lookup-absent}
+use Rattle.segment_manager.proofs.{directory.HeapCalls.denotes-live}
+use Rattle.segment_manager.proofs.{directory.AnyDirectory.denotes-kept, directory.CommandSteps.perform-new}
+use Rattle.segment_manager.proofs.{directory.CommandSteps.perform-no_space}
+use Rattle.segment_manager.proofs.{indexes.Tables.same-table, indexes.HeldIndexes.denotes-index}
+use Rattle.segment_manager.proofs.{directory.OneObject.handles-length}
 use Rattle.segment_manager.proofs.objects.Taking.{IsMade, taken-index, growth-index}
 use Rattle.best_fit.proofs.Laws.{AllByRecursion-insert}
 use Rattle.seg_index.specs.{declared.keys.Entry.Entry, Growth.grown_live}
@@ -57,7 +60,7 @@ restored-denotes a c d said r =
 -- ---- the index grows, or not
 
 -- the directory where its index has what it grew into
-abbrev pub grown : (i : Index) (d : Directory) (a b : WindowState) (g : Option ℕ) → IsGrowth a b (place_of i) g
+abbrev pub grown : (i : Index) (d : Directory) (a b : WindowState) (g : Option ℕ) → PreparesOk a b (place_of i) g
     → Directory
 grown i d a b None h = d
 grown i d a b (Some g) h = with_table_of i d (grown_into i d h.1.extent)
@@ -67,7 +70,7 @@ count-is : (i : Index) {a : WindowState} (d : Directory) → IsIndexOf a (place_
 count-is i d x = x.stands.count ∙ handles-length (objects_of i d)
 
 pub grows-performs : (i : Index) (a b : WindowState) {d : Directory} (g : Option ℕ) (next : Directory → Plan)
-    → Denotes current a.bytes d → (h : IsGrowth a b (place_of i) g)
+    → Denotes current a.bytes d → (h : PreparesOk a b (place_of i) g)
     → perform d (live d) (with_entry d (class_of_index i) next) ≡ perform d (live_of b.bytes) (next (grown i d a b g h))
 grows-performs i a b {d} None next k h =
     let x = denotes-index i a k in
@@ -96,7 +99,7 @@ keeps-front b c x l k = record {
 }
 
 pub grows-keeps : (i : Index) (a b c : WindowState) {d : Directory} (g : Option ℕ) → Denotes current a.bytes d
-    → IsGrowth a b (place_of i) g → KeepsBlocks b c (live_of b.bytes).extents → KeepsBlocks a c (live d).extents
+    → PreparesOk a b (place_of i) g → KeepsBlocks b c (live_of b.bytes).extents → KeepsBlocks a c (live d).extents
 grows-keeps i a b c {d} None k h keeps =
     subst (λ (l : LiveSet). KeepsBlocks a c l.extents) (denotes-live current a.bytes d k)
     (subst (λ (x : WindowState). KeepsBlocks x c (live_of x.bytes).extents) h.1 keeps)
@@ -109,19 +112,19 @@ grows-keeps i a b c {d} (Some g) k h keeps =
 -- ---- the entry is there
 
 -- the table that the index has then
-abbrev table_then : (i : Index) (d : Directory) (a b : WindowState) (g : Option ℕ) → IsGrowth a b (place_of i) g
+abbrev table_then : (i : Index) (d : Directory) (a b : WindowState) (g : Option ℕ) → PreparesOk a b (place_of i) g
     → BackingArray
 table_then i d a b None h = table_of i d
 table_then i d a b (Some g) h = grown_into i d h.1.extent
 
-grown-is : (i : Index) (d : Directory) (a b : WindowState) (g : Option ℕ) (h : IsGrowth a b (place_of i) g)
+grown-is : (i : Index) (d : Directory) (a b : WindowState) (g : Option ℕ) (h : PreparesOk a b (place_of i) g)
     → grown i d a b g h ≡ with_table_of i d (table_then i d a b g h)
 grown-is i d a b None h = sym (same-table i)
 grown-is i d a b (Some g) h = refl
 
 entered : {i : Index} (a b : WindowState) {c : WindowState} {e : WindowState} {d : Directory} {o : Object} (at : ℕ)
     (g : Option ℕ) → Denotes current a.bytes d
-    → (h : IsGrowth a b (place_of i) g) → IsMade b c o → IsIndexOf c (place_of i) (table_of i d) (entries_of i d)
+    → (h : PreparesOk a b (place_of i) g) → IsMade b c o → IsIndexOf c (place_of i) (table_of i d) (entries_of i d)
     → insert (entries_of i d) at (handle o.extent) ≡ entries_of i (with_object d o)
     → AddsEntry c e (place_of i) (table_of i d) (insert (entries_of i d) at (handle o.extent)) g
     → EncodesLiveSet current e.bytes (grown_live c (place_of i) g)
@@ -168,7 +171,7 @@ module _ (i : Index) (a : WindowState) (d : Directory) (e : Entry) (key : names.
 
   -- the requests are met
   pub content-met : (b : WindowState) {x : Extent} (v : Value) (left : LiveSet) (g : Option ℕ)
-      → (grows : IsGrowth a b (place_of i) g) → place (live_of b.bytes) (object_len name (bare content))
+      → (grows : PreparesOk a b (place_of i) g) → place (live_of b.bytes) (object_len name (bare content))
       ObjectRole ≡ Some x → IsGiven d (resized (live_of b.bytes) x) content v left → (next : Object → Directory → Plan)
       → perform d (live d) (with_new_object d key content next) ≡ perform d left
       (next (object_of i name v x) (with_object (grown i d a b g grows) (object_of i name v x)))
@@ -179,7 +182,7 @@ module _ (i : Index) (a : WindowState) (d : Directory) (e : Entry) (key : names.
       then) x placed ∙ given.met (λ v. next (object_of i name v x) (with_object then (object_of i name v x)))
 
   -- the value's are refused
-  pub content-denied : (b : WindowState) {x : Extent} (g : Option ℕ) → (grows : IsGrowth a b (place_of i) g)
+  pub content-denied : (b : WindowState) {x : Extent} (g : Option ℕ) → (grows : PreparesOk a b (place_of i) g)
       → place (live_of b.bytes) (object_len name (bare content)) ObjectRole ≡ Some x
       → IsDenied d (resized (live_of b.bytes) x) content → (next : Object → Directory → Plan)
       → perform d (live d) (with_new_object d key content next) ≡ (Refused NoSpace, d)
@@ -205,7 +208,7 @@ module _ (i : Index) (a : WindowState) (d : Directory) (e : Entry) (key : names.
   -- the object is made, and its entry is added
   pub content-entered : (b w : WindowState) {c : WindowState} {x : Extent} {v : Value} {left : LiveSet} (at : ℕ)
       {h : ℕ} (g : Option ℕ)
-      → IsGrowth a b (place_of i) g → place (live_of b.bytes) (object_len name (bare content)) ObjectRole ≡ Some x
+      → PreparesOk a b (place_of i) g → place (live_of b.bytes) (object_len name (bare content)) ObjectRole ≡ Some x
       → IsGiven d (resized (live_of b.bytes) x) content v left → kind_of v ≡ kind → count_of v ≡ count_of (bare content)
       → IsMade b w (object_of i name v x) → h ≡ handle x
       → FindsPosition (bytes_of a.bytes) e (entries_of i d) (Absent at)

@@ -13,10 +13,12 @@ use common.{place_of, order_of, table_of, class_code, slice_get_within, SameSurr
 use common.{class_of_index, object_at, IsSegment, DenotesCurrent, slice_get, same_Some, KeepsOutsideIndex, IsIndexOf}
 use Rattle.segment_manager.proofs.indexes.Bridge.{lookup-absent, IsEntryFor, entry-removed, in-handles, lookup-found}
 use Rattle.segment_manager.proofs.containers.Emptied.{changed-entries, changed-in, changed-others, emptied-is}
-use Rattle.segment_manager.proofs.Steps.{by_no_change, by_step, lands, open-writing, step-refuse, step-reply}
-use Rattle.segment_manager.proofs.{Steps.with-found, Steps.with-not_found, indexes.HeldIndexes.denotes-index, Live.IsIn}
+use Rattle.segment_manager.proofs.directory.CommandSteps.{by_no_change, by_step, lands, open-writing, step-refuse}
+use Rattle.segment_manager.proofs.directory.CommandSteps.{step-reply}
+use Rattle.segment_manager.proofs.{directory.CommandSteps.with-found, directory.CommandSteps.with-not_found}
+use Rattle.segment_manager.proofs.{indexes.HeldIndexes.denotes-index, directory.LiveSet.IsIn}
 use Rattle.segment_manager.proofs.{objects.Ranks.all-ordered, objects.Rewritten.with_value}
-use Rattle.segment_manager.proofs.Calling.{denotes-live, denotes-released, object-live}
+use Rattle.segment_manager.proofs.directory.HeapCalls.{denotes-live, denotes-released, object-live}
 use Rattle.segment_manager.proofs.indexes.EntryPlaces.{all-at, at-handle, of-class}
 use Rattle.segment_manager.proofs.indexes.OtherTables.{IsGone, IsLeft, removed-denotes}
 use Rattle.segment_manager.proofs.containers.Safely.{Stepped, stepped}
@@ -46,6 +48,7 @@ entry-index {c} {i} x = record {
   index = denotes-index i c x.stands.denotes;
 }
 
+-- an entry stands below the count
 pub entry-below : (c : WindowState) {i : Index} {at : ℕ} → HoldsEntry c.bytes i at → at < entry_count c (place_of i)
 entry-below c {i} {at} x =
     let d : Directory = x.directory in
@@ -67,6 +70,7 @@ module _ {a : WindowState} (i : Index) (at : ℕ) {h : ℕ} (leads : LeadsTo a i
       (all-at (λ (p : Object). object_at d (names.ByHandle (handle p.extent)) ≡ Some p) (objects_of i d) at
       (in-handles i k.directory) e)
 
+  -- the object of an entry is there
   pub entry-object : HoldsEntry a.bytes i at → HoldsObject a.bytes h
   entry-object x = record {
     directory = x.directory;
@@ -154,6 +158,7 @@ module _ {a b : WindowState} {i : Index} {at h : ℕ} (leads : LeadsTo a i at h)
     abbrev held : object_at x.directory (names.ByHandle h) ≡ Some x.object
     held = entry-found i at leads x.stands.denotes x.is
 
+    -- the index stands still
     pub index-still : HasIndex b (place_of i)
     index-still = record {
       table = table_of i (changed x.directory x.object (emptied x.object.value));
@@ -161,6 +166,7 @@ module _ {a b : WindowState} {i : Index} {at h : ℕ} (leads : LeadsTo a i at h)
       index = emptied-index h empties x.stands held i;
     }
 
+    -- the entry stands below the count still
     pub below-still : at < entry_count b (place_of i)
     below-still = omega (
       arith,
@@ -175,6 +181,7 @@ module _ {a b : WindowState} {i : Index} {at h : ℕ} (leads : LeadsTo a i at h)
     block-still c l =
         ap (λ s. is_live_in s h) (lay_out_one current c.bytes (live_of b.bytes) l) ∙ still-live h empties x.stands held
 
+  -- an unlisted object that is deallocated is destroyed
   pub removes-entry : {c f : WindowState} → IsUnlisted i b c at → Deallocates current c f h → RemovesEntry a f i at
   removes-entry u r d o k there = entry-gone h empties k (entry-found i at leads k.denotes there) there u r
 
@@ -252,6 +259,7 @@ module _ {s t : SegmentState} (view : s ≡ t) {h : ℕ} {i : Index} {at : ℕ} 
   seen-entry : IsEntryAt t h i at → IsEntryAt s h i at
   seen-entry = subst (λ (u : SegmentState). IsEntryAt u h i at) (sym view)
 
+  -- the entry of an object is the index's
   pub own-entry : (b : IsSegment s.cut.bytes) → IsEntryAt t h i at → HoldsEntry s.cut.bytes i at
   own-entry b listed =
       let l = seen-entry listed in

@@ -13,7 +13,8 @@ use Rattle.segment_manager.proofs.containers.AnyStorage.{IsOfKindAt, kind-told, 
 use Rattle.segment_manager.proofs.containers.ContentPlans.{erase-other, insert-other, insert-plan, is_no_vector}
 use Rattle.segment_manager.proofs.containers.ContentPlans.{pop-other, push-other, push-plan}
 use Rattle.segment_manager.proofs.containers.Changeable.{refuses, says-kind}
-use Rattle.segment_manager.proofs.{objects.AnyKind.any-literal, Steps.with-found, Steps.with-not_found}
+use Rattle.segment_manager.proofs.{objects.AnyKind.any-literal, directory.CommandSteps.with-found}
+use Rattle.segment_manager.proofs.{directory.CommandSteps.with-not_found}
 use Rattle.segment_manager.proofs.{objects.Stored.literal-read, ElementLaws.same_plan-steps}
 use Rattle.segment_manager.proofs.objects.Locating.{step_of_kind-by_key}
 use Rattle.segment_manager.specs.containers.Changeable.{IsElement, IsNoElement}
@@ -26,6 +27,7 @@ pub record IsElements (k : ScalarKind) (v : Value) : Type 0 where
   pub table : BackingArray
   pub is : v ≡ Elements k numbers table
 
+-- a value of a vector's kind is elements
 pub vector-if : (k : ScalarKind) (v : Value) → kind_of v ≡ Vector k → IsElements k v
 vector-if k (Elements l zs t) e =
     let same : l ≡ k = cc in record { numbers = zs; table = t; is = λ i. Elements (same i) zs t }
@@ -37,6 +39,7 @@ pub record IsTexts (v : Value) : Type 0 where
   pub table : BackingArray
   pub is : v ≡ Texts texts table
 
+-- a value of the kind of vectors of strings is strings
 pub texts-if : (v : Value) → kind_of v ≡ StringsKind → IsTexts v
 texts-if (Texts ps t) e = record { texts = ps; table = t; is = refl }
 texts-if v e = absurd (cc)
@@ -51,6 +54,7 @@ no_vector-if v n m = refl
 -- ---- no object that may be changed has the key
 
 module _ {s : SegmentState} {key : Key} {why : Refusal} (h : IsUnchangeable s key why) where
+  -- an object that may not be changed takes no element
   pub unchangeable-element : (l : Literal) → IsNoElement s key l why
   unchangeable-element l = record {
     push = h.refuses (asked.Push key l) refl (λ d n. with-not_found d key (λ o. step.push d o o.value l) n);
@@ -58,23 +62,28 @@ module _ {s : SegmentState} {key : Key} {why : Refusal} (h : IsUnchangeable s ke
         (λ d n. with-not_found d key (λ o. step.insert_at d o o.value i l) n);
   }
 
+  -- `pop` from an object that may not be changed is refused
   pub pop-unchangeable : TakesStep s s (asked.Pop key) (Refused why)
   pop-unchangeable = h.refuses (asked.Pop key) refl (λ d n. with-not_found d key (λ o. step.pop d o o.value) n)
 
+  -- `erase` from an object that may not be changed is refused
   pub erase-unchangeable : (i : ℕ) → TakesStep s s (asked.Erase key i) (Refused why)
   erase-unchangeable i =
       h.refuses (asked.Erase key i) refl (λ d n. with-not_found d key (λ o. step.erase d o o.value i) n)
 
+  -- `assign` to an object that may not be changed is refused
   pub assign-unchangeable : (ls : List Literal) → TakesStep s s (asked.Assign key ls) (Refused why)
   assign-unchangeable ls =
       h.refuses (asked.Assign key ls) refl (λ d n. with-not_found d key (λ o. step.assign d o o.value ls) n)
 
+  -- `set` of an object that may not be changed is refused
   pub set-unchangeable : (i : ℕ) (l : Literal) → TakesStep s s (asked.Set key i l) (Refused why)
   set-unchangeable i l =
       h.refuses (asked.Set key i l) refl (λ d n. with-not_found d key (λ o. step.set d o o.value i l) n)
 
 -- ---- the object of the key is no vector
 
+-- the kind that was told is the object's
 pub told : {s : SegmentState} {key : Key} {kind : Kind} → AnswersWith s (λ d. kind_at d key) (Ok kind) → (d : Directory)
     → DenotesCurrent s.cut.bytes d → IsOfKindAt d key kind
 told {s} {key} {kind} a d st = kind-told d key kind (a.answers d st)
@@ -88,6 +97,7 @@ module _ {s : SegmentState} {key : Key} {o : Located} (h : IsChangeableObject s 
   none st = no_vector-if (there st).object.value (λ k e. other k (sym (there st).kind_is ∙ e))
       (λ e. no_texts (sym (there st).kind_is ∙ e))
 
+  -- an object that is no vector takes no element
   pub no_vector-element : (l : Literal) → IsNoElement s key l WrongKind
   no_vector-element l = record {
     push = refuses s (asked.Push key l) WrongKind h.writing
@@ -96,10 +106,12 @@ module _ {s : SegmentState} {key : Key} {o : Located} (h : IsChangeableObject s 
         (λ d st. insert-other d key (there st).object (there st).is (none st) i l);
   }
 
+  -- `pop` from an object that is no vector is refused
   pub pop-no_vector : TakesStep s s (asked.Pop key) (Refused WrongKind)
   pop-no_vector =
       refuses s (asked.Pop key) WrongKind h.writing (λ d st. pop-other d key (there st).object (there st).is (none st))
 
+  -- `erase` from an object that is no vector is refused
   pub erase-no_vector : (i : ℕ) → TakesStep s s (asked.Erase key i) (Refused WrongKind)
   erase-no_vector i = refuses s (asked.Erase key i) WrongKind h.writing
       (λ d st. erase-other d key (there st).object (there st).is (none st) i)
@@ -146,6 +158,7 @@ module _ {s : SegmentState} (key : Key) (k : ScalarKind) (a : AnswersWith s (λ 
 -- what the literal is for it
 module _ {s : SegmentState} {key : Key} {o : Located} (h : IsChangeableObject s key o) {k : ScalarKind} (is : o.kind
     ≡ Vector k) where
+  -- a literal that is a value is an element
   pub element-read : {l : Literal} (v : ScalarValue) → IsValueOf k (value_of_literal k l) (Ok v) → IsElement s key l v
   element-read {l} v (same, value, range) = record {
     is = says-kind h.located (is ∙ ap Vector (sym same));
@@ -153,6 +166,7 @@ module _ {s : SegmentState} {key : Key} {o : Located} (h : IsChangeableObject s 
     range = subst (λ j. is_value j (value_of_scalar v) ≡ true) (sym same) range;
   }
 
+  -- a literal that is no value is no element
   pub no_value-element : {l : Literal} {why : Refusal} → value_of_literal k l ≡ Err why → IsNoElement s key l why
   no_value-element {l} {why} e = refused-element key k (says-kind h.located is) h.writing e
 
@@ -162,11 +176,13 @@ own v = literal_of (kind_of_scalar v) (value_of_scalar v)
 -- a new element, put there under the handle of the vector
 module _ {s : SegmentState} {key : Key} {o : Located} (located : IsLocated s key o) {l : Literal} {v : ScalarValue}
     (e : IsElement s key l v) {new : SegmentState} {answer : Answer} where
+  -- a pushed element is the step of the command
   pub push-element : TakesStepOfKind s new (ByHandle o.handle) (Vector (kind_of_scalar v))
       (asked.Push (ByHandle o.handle) (own v)) answer → TakesStep s new (asked.Push key l) answer
   push-element r = push-read key (kind_of_scalar v) e.is l e.value e.range
       (step_of_kind-by_key s key o located new (Vector (kind_of_scalar v)) (asked.Push key (own v)) answer r)
 
+  -- an inserted element is the step of the command
   pub insert-element : (i : ℕ) → TakesStepOfKind s new (ByHandle o.handle) (Vector (kind_of_scalar v))
       (asked.Insert (ByHandle o.handle) i (own v)) answer → TakesStep s new (asked.Insert key i l) answer
   insert-element i r = insert-read key (kind_of_scalar v) e.is i l e.value e.range
@@ -174,6 +190,7 @@ module _ {s : SegmentState} {key : Key} {o : Located} (located : IsLocated s key
 
 -- ---- it is a vector of strings, and the literal no text
 
+-- the literal is no text
 abbrev pub NoText : Literal → Type 0
 NoText l = (bs : List ℕ) → l ≡ Quoted bs → ⊥
 
@@ -197,12 +214,14 @@ module _ {s : SegmentState} {key : Key} (h : IsChangeable s key StringsKind) {l 
   owned : {d : Directory} (st : DenotesCurrent s.cut.bytes d) → IsTexts (found st).object.value
   owned st = texts-if (found st).object.value (found st).kind_is
 
+  -- `set` of a string with no text is refused
   pub set-no_text : (i : ℕ) → TakesStep s s (asked.Set key i l) (Refused WrongKind)
   set-no_text i = refuses s (asked.Set key i l) WrongKind h.writing (λ d st.
       let o : Object = (found st).object in
       with-found d key o (λ o. step.set d o o.value i l) (found st).is ∙ ap (λ v. step.set d o v i l) (owned st).is
       ∙ not_set d o (owned st).texts (owned st).table i l n)
 
+  -- a literal that is no text is no string
   pub no_text-element : IsNoElement s key l WrongKind
   no_text-element = record {
     push = refuses s (asked.Push key l) WrongKind h.writing (λ d st.
@@ -221,6 +240,7 @@ abbrev elements_of_object : Option Object → Result ScalarKind Refusal
 elements_of_object r =
     elim r as (λ _. Result ScalarKind Refusal) [ None ↦ Err NotFound | Some o ↦ elements_of (kind_of o.value) ]
 
+-- the elements that were told are the object's
 pub elements-told : {s : SegmentState} {key : Key} {kind : Kind} {k : ScalarKind} → IsChangeable s key kind
     → elements_of kind ≡ Ok k → AnswersWith s (λ d. elements_at d key) (Ok k)
 elements-told h e = record {
@@ -247,6 +267,7 @@ no_map_set : (d : Directory) (o : Object) (v : Value) (i : ℕ) (l : Literal) (k
 no_map_set d o (Pairs j n ps) i l k m e = refl
 no_map_set d o v i l k m e = absurd (cc)
 
+-- `set` of a map is refused
 pub set-map : {s : SegmentState} {key : Key} {k m : ScalarKind} (i : ℕ) (l : Literal) → IsChangeable s key (MapKind k m)
     → TakesStep s s (asked.Set key i l) (Refused WrongKind)
 set-map {s} {key} {k} {m} i l h = refuses s (asked.Set key i l) WrongKind h.writing (λ d st. let f = told h.is d st in

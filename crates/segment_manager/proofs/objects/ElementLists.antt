@@ -5,9 +5,12 @@ use common.{◌∷◌, length, map, if◌then◌else◌, option_map, slice_get, 
 use common.{NotFound, OutOfRange, WrongKind, same_kind, Key, OwnedText, Mode, Answer, Element, Refused, TextElement}
 use common.{sizes_of, sizes_of_kind, Value, Object, Directory, count_of, kind_of, live, object_at, first_size}
 use common.{length_at_kind, number_or_none, Reply, perform, with, answer_of, get, step_of_kind}
-use Rattle.segment_manager.proofs.Steps.{open-reading, step_of_kind-found, step_of_kind-not_found, step_of_kind-other}
-use Rattle.segment_manager.proofs.{Steps.with-found, containers.ItemSteps.vector-only, containers.ContentPlans.of_slice}
-use Rattle.segment_manager.proofs.{Codes.numbers-only, containers.TextsHeld.texts-only, containers.TextPlans.text_in}
+use Rattle.segment_manager.proofs.directory.CommandSteps.{open-reading, step_of_kind-found, step_of_kind-not_found}
+use Rattle.segment_manager.proofs.directory.CommandSteps.{step_of_kind-other}
+use Rattle.segment_manager.proofs.{directory.CommandSteps.with-found, containers.ItemSteps.vector-only}
+use Rattle.segment_manager.proofs.{containers.ContentPlans.of_slice}
+use Rattle.segment_manager.proofs.{objects.KindCodes.numbers-only, containers.TextsHeld.texts-only}
+use Rattle.segment_manager.proofs.{containers.TextPlans.text_in}
 use Rattle.seg_types.specs.declared.kinds.Kind.TheVariants.{Vector as VectorOf}
 use Rattle.segment_manager.specs.objects.ElementLists.{array_at, array_length_at, list_at, numbers_in, texts_at}
 use Rattle.segment_manager.specs.objects.ElementLists.{texts_in, vector_at}
@@ -20,11 +23,13 @@ got (Err why) = None
 
 -- ---- where there is no such object, nothing is listed
 
+-- an object that is not there has no elements
 pub none-listed : {A : Type 0} (items : Value → List A) (d : Directory) (key : Key) (kind : Kind)
     → object_at d key ≡ None → list_at items d key kind ≡ []
 none-listed {A} items d key kind e = ap (λ (r : Option Object).
     elim r as (λ _. List A) [ None ↦ [] | Some o ↦ if same_kind kind (kind_of o.value) then items o.value else [] ]) e
 
+-- the elements of an object of the kind
 pub list-of : {A : Type 0} (items : Value → List A) (d : Directory) (key : Key) (kind : Kind) (o : Object) (b : Bool)
     → object_at d key ≡ Some o → same_kind kind (kind_of o.value) ≡ b
     → list_at items d key kind ≡ (if b then items o.value else [])
@@ -97,12 +102,14 @@ array-gets d k i v e =
     ap (λ w. (perform d (live d) (get d w i)).0) is.1 ∙ number-told d k (slice_get is.0 i)
     ∙ sym (ap (λ w. told (Element k) (slice_get (numbers_in w) i)) is.1)
 
+-- an element that was read is the vector's
 pub vector-read : (mode : Mode) (d : Directory) (key : Key) (k : ScalarKind) (i : ℕ) (r : Result ℤ Refusal)
     → answer_of (Element k) r ≡ (step_of_kind mode d key (VectorOf k) (asked.Get key i)).0
     → got r ≡ slice_get (vector_at d key k) i
 vector-read mode d key k i r f = item-at (Element k) (number-one k) (number-some k) numbers_in mode d key (VectorOf k) i
     (vector-gets d k i) r (object_at d key) refl f
 
+-- an element that was read is the array's
 pub array-read : (mode : Mode) (d : Directory) (key : Key) (k : ScalarKind) (i : ℕ) (r : Result ℤ Refusal)
     → answer_of (Element k) r ≡ (step_of_kind mode d key (ScalarOf k) (asked.Get key i)).0
     → got r ≡ slice_get (array_at d key k) i
@@ -129,6 +136,7 @@ texts-gets d i v e =
     ap (λ w. (perform d (live d) (get d w i)).0) is.1.1 ∙ text-told d (slice_get is.0 i)
     ∙ ap (told TextElement) (sym (got-map is.0 i)) ∙ sym (ap (λ w. told TextElement (slice_get (texts_in w) i)) is.1.1)
 
+-- a string that was read is the vector's
 pub text-read : (mode : Mode) (d : Directory) (key : Key) (i : ℕ) (r : Result (List ℕ) Refusal) → answer_of TextElement
     r ≡ (step_of_kind mode d key StringsKind (asked.Get key i)).0 → got r ≡ slice_get (texts_at d key) i
 text-read mode d key i r f = item-at TextElement (λ a b e. cc) (λ a why e. absurd (cc)) texts_in mode d key StringsKind
@@ -197,10 +205,12 @@ pub listed-length : {A : Type 0} (items : Value → List A) (d : Directory) (key
 listed-length items d key kind only r e = ap number_or_none (e ∙ length-first kind (object_at d key))
     ∙ many-at items (λ v. first_size (sizes_of v)) d key kind only
 
+-- the length that was told is the vector's
 pub vector-length : (d : Directory) (key : Key) (k : ScalarKind) (r : Result ℕ Refusal)
     → r ≡ length_at_kind d key (VectorOf k) → number_or_none r ≡ length (vector_at d key k)
 vector-length d key k r e = listed-length numbers_in d key (VectorOf k) (vector-many k) r e
 
+-- the length that was told is the array's
 pub array-length : (d : Directory) (key : Key) (k : ScalarKind) (r : Result ℕ Refusal) → r ≡ array_length_at d key k
     → number_or_none r ≡ length (array_at d key k)
 array-length d key k r e = ap number_or_none e ∙ many-at numbers_in array_size d key (ScalarOf k) (array-many k)

@@ -6,13 +6,17 @@ use common.{Extent, LiveSet, handle, end_of, is_proper, EncodesLiveSet, SameBloc
 use common.{Directory, live, extents_of, padded, count_of, kind_of, value_len, value_extents, is_object, remove_object}
 use common.{with_changed, without_object, Denotes, IsObjectAt, IsValueAt, changed, SameSpread, inserted-append}
 use common.{live-spaced, middle-first, spaced-insert, ◌-◌, current, Some, ChangesBytes, extent_at}
-use Rattle.segment_manager.proofs.Live.{adding, IsFound, IsIn, live-split, live-changed}
+use Rattle.segment_manager.proofs.directory.LiveSet.{adding, IsFound, IsIn, live-split, live-changed}
 use Rattle.segment_manager.proofs.objects.Regrown.{InPlace, differs-flip, rest, with_extents}
 use Rattle.segment_manager.proofs.objects.Rewritten.{object-held, value_start, with_value}
-use Rattle.segment_manager.proofs.Order.{Rising, inserted, insert-inserted, all_of-inserted, live-rises, rising-insert}
-use Rattle.segment_manager.proofs.{Faces.IsLike, Frame.object-roomy, Denoted.denotes-replaced}
-use Rattle.segment_manager.proofs.{containers.MapBlocks.blocks-in_use, Calling.denotes-heap, Calling.denotes-live}
-use Rattle.segment_manager.proofs.{Calling.object-at, Order.apart-inserted, Order.without_all, Order.without-inserted}
+use Rattle.segment_manager.proofs.directory.ExtentOrder.{Rising, inserted, insert-inserted, all_of-inserted, live-rises}
+use Rattle.segment_manager.proofs.directory.ExtentOrder.{rising-insert}
+use Rattle.segment_manager.proofs.{directory.IndexedParts.IsLike, directory.Frame.object-roomy}
+use Rattle.segment_manager.proofs.{directory.OneObject.denotes-replaced}
+use Rattle.segment_manager.proofs.{containers.MapBlocks.blocks-in_use, directory.HeapCalls.denotes-heap}
+use Rattle.segment_manager.proofs.{directory.HeapCalls.denotes-live}
+use Rattle.segment_manager.proofs.{directory.HeapCalls.object-at, directory.ExtentOrder.apart-inserted}
+use Rattle.segment_manager.proofs.{directory.ExtentOrder.without_all, directory.ExtentOrder.without-inserted}
 use Rattle.best_fit.proofs.Laws.{changed-keeps_block, found-room, spread-refl, written-but, LiesBeside, above, below}
 use Rattle.best_fit.specs.Fit.{insert}
 
@@ -25,6 +29,7 @@ put-last x ys zs r =
     let f = rising-insert 128 x (inserted ys zs) r in
     insert-inserted x ys zs (all_of-inserted (λ (y : Extent). x.offset ≢ y.offset) ys zs f.differs).0
 
+-- an extent put in before the others is the first
 pub put-first : (x : Extent) (ys zs : List Extent) → Rising 128 (inserted ys (insert x zs))
     → inserted ys (insert x zs) ≡ insert x (inserted ys zs)
 put-first x ys zs r = sym (insert-inserted x ys zs (differs-flip x ys (apart-inserted 128 ys (x ∷ []) zs r)))
@@ -96,6 +101,7 @@ but-beside f g (below h) s = record {
   colour = s.colour;
 }
 
+-- blocks beside a written one stay but for its range
 pub all-but-beside : (m m' : Memory) (from n : ℕ) (x : Extent) (ys : List Extent) → handle x ≤ from
     → from + n ≤ end_of x → AllByRecursion (LiesBeside x) ys → AllByRecursion (SameBlockExcept m m' from n) ys
     → AllByRecursion (SameBlock m m') ys

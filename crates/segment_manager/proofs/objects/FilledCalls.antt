@@ -4,19 +4,21 @@ use Rattle.seg_types.specs.Names as names
 use Rattle.seg_types.specs.Commands as asked
 use common.{false≢true, ◌≡◌, refl, sym, ap, subst, ◌∙◌, ℕ, true, false, Some, None, Option, Ok, Err, Result, List}
 use common.{IfErr, none-some, WindowState, Kind, Refusal, Exists, NoSpace, Command, Content, Index, PendingEntry, Mode}
-use common.{Answer, Made, Refused, is_untouched, BeginsObject, IsAbsentAt, IsNotBegun, Object, Directory, count_of}
-use common.{kind_of, object_at, value_len, Constructs, FindsOrConstructs, IsBegunFor, MakesValue, with_count, handle_at}
-use common.{pair_answer, IsNewKeyOf, bare, IsObjectInBlock, pair_of_kind, AnswersWith, IsSegment, TakesStep}
+use common.{Answer, Made, Refused, is_untouched, BeginsObject, IsAbsentAt, BeginsObjectErr, Object, Directory, count_of}
+use common.{kind_of, object_at, value_len, Constructs, FindsOrConstructs, BeginsObjectFor, MakesValue, with_count}
+use common.{handle_at}
+use common.{found_object_answer, IsNewKeyOf, bare, IsObjectInBlock, pair_of_kind, AnswersWith, IsSegment, TakesStep}
 use common.{SegmentState, answer_of, handle_answer, is_read_only, Reply, effect, found, with_new_object}
 use Rattle.segment_manager.proofs.objects.FoundOrMade.{constructs-exists, finds, found-there, made_for, made_handle}
 use Rattle.segment_manager.proofs.objects.FoundOrMade.{makes, makes-nothing}
 use Rattle.segment_manager.proofs.objects.NewValues.{IsMadeNever, IsMadeNow, away-in, value-built, value-loose}
 use Rattle.segment_manager.proofs.objects.NewValues.{value-not_built, value-ready}
 use Rattle.segment_manager.proofs.objects.NotBegun.{key-taken, value-not_begun}
-use Rattle.segment_manager.proofs.{Steps.step-segment, indexes.Bridge.lookup-absent, objects.NewKeys.key-seeks}
+use Rattle.segment_manager.proofs.{directory.CommandSteps.step-segment, indexes.Bridge.lookup-absent}
+use Rattle.segment_manager.proofs.{objects.NewKeys.key-seeks}
 use Rattle.segment_manager.specs.containers.Filled.{HasBegun, FillsObject, IsShapeOf}
 use Rattle.segment_manager.specs.objects.PendingObjects.{Ends, IsEnding}
-use Rattle.segment_manager.specs.{objects.Found.pair_found, Answers.Found}
+use Rattle.segment_manager.specs.{objects.Found.found_object, Answers.Found}
 use Rattle.segment_manager.specs.declared.objects.pending_object.PendingObject.{PendingObject}
 use Rattle.segment_manager.specs.declared.containers.fillings.ObjectShape.{ObjectShape}
 use Rattle.seg_index.specs.declared.keys.Entry.{Entry}
@@ -31,6 +33,7 @@ begun-for old new key {content} {s} r is g = subst (λ (k : Kind). BeginsObject 
     (value_len (bare content)) r) is.kind (subst (λ n. BeginsObject old new key s.kind n (value_len (bare content)) r)
     is.count (subst (λ n. BeginsObject old new key s.kind s.count n r) is.len g))
 
+-- an object that was begun has the shape of its content
 pub has-begun : (old new : WindowState) (key : names.Key) {content : Content} {s : ObjectShape} (r : PendingObject)
     → IsSegment old.bytes → IsShapeOf content s
     → BeginsObject old new key s.kind s.count s.len (Ok r) → HasBegun new content r.handle r.at r.entry
@@ -42,7 +45,7 @@ module _ (content : Content) where
   -- what the end wants of a value that was made, or was refused its blocks
   pub ending : (a m : WindowState) (b : IsSegment a.bytes) (key : names.Key) (h at : ℕ)
       (entry : Option PendingEntry) (w : WindowState)
-      (r : Result (Unit {0}) Refusal) → IsBegunFor a m key content h at entry
+      (r : Result (Unit {0}) Refusal) → BeginsObjectFor a m key content h at entry
       → MakesValue content m w (record { handle = h; at = at }) r → IsEnding w h entry r
   ending a m b key h at entry w (Ok u) g r = value-ready content a b key h at entry g r
   ending a m b key h at entry w (Err why) g r = (a, value-loose content a b key h at entry w why g r)
@@ -75,21 +78,22 @@ module _ {a : WindowState} (b : IsSegment a.bytes) (key : names.Key) (content : 
   none-constructed = no-space Made made_handle (λ d e. ap (made_for d key content) e)
 
   none-found : (c : WindowState) (why : Refusal) → why ≡ NoSpace → IsMadeNever a c key content
-      → Constructs a c (asked.FindOrConstruct key content) pair_answer (Err why)
-  none-found = no-space pair_found found (λ d e. ap (finds d key content) e)
+      → Constructs a c (asked.FindOrConstruct key content) found_object_answer (Err why)
+  none-found = no-space found_object found (λ d e. ap (finds d key content) e)
 
   module _ (entry : Option PendingEntry) (m : WindowState) {c : WindowState} (h at : ℕ) where
-    made-now : {n : ℕ} → IsBegunFor a m key content h at entry → FillsObject m c h at entry content (let r = Ok n in r)
+    made-now : {n : ℕ} → BeginsObjectFor a m key content h at entry
+        → FillsObject m c h at entry content (let r = Ok n in r)
         → IsMadeNow a c key content n
     made-now {n} g r =
         subst (λ (n : ℕ). IsMadeNow a c key content n) (sym r.is) (value-built content b h at entry g r.value r.entered)
 
-    made-never : (why : Refusal) → IsBegunFor a m key content h at entry
+    made-never : (why : Refusal) → BeginsObjectFor a m key content h at entry
         → FillsObject m c h at entry content (let r = Err why in r) → IsMadeNever a c key content
     made-never why g r = value-not_built content b h at entry g r.none r.back
 
     -- what was begun is built, or is refused its blocks
-    pub construct-built : (r : Result ℕ Refusal) → IsBegunFor a m key content h at entry
+    pub construct-built : (r : Result ℕ Refusal) → BeginsObjectFor a m key content h at entry
         → FillsObject m c h at entry content r → Constructs a c (asked.Construct key content) handle_answer r
     construct-built (Ok n) g r =
         let d = made-now g r in
@@ -100,9 +104,11 @@ module _ {a : WindowState} (b : IsSegment a.bytes) (key : names.Key) (content : 
         }
     construct-built (Err why) g r = none-constructed c why r.none.refusal (made-never why g r)
 
-    pub found-built : (r : Result ℕ Refusal) → IsBegunFor a m key content h at entry
+    -- an object that was begun and filled is constructed
+    pub found-built : (r : Result ℕ Refusal) → BeginsObjectFor a m key content h at entry
         → FillsObject m c h at entry content r
-        → Constructs a c (asked.FindOrConstruct key content) pair_answer (with_count (count_of (bare content)) r)
+        → Constructs a c (asked.FindOrConstruct key content) found_object_answer
+        (with_count (count_of (bare content)) r)
     found-built (Ok n) g r =
         let d = made-now g r in
         record {
@@ -113,7 +119,7 @@ module _ {a : WindowState} (b : IsSegment a.bytes) (key : names.Key) (content : 
     found-built (Err why) g r = none-found c why r.none.refusal (made-never why g r)
 
   -- it is not begun
-  pub construct-not_begun : (why : Refusal) (c : WindowState) → IsNotBegun a c key (kind_of (bare content))
+  pub construct-not_begun : (why : Refusal) (c : WindowState) → BeginsObjectErr a c key (kind_of (bare content))
       (value_len (bare content)) why → Constructs a c (asked.Construct key content) handle_answer (Err why)
   construct-not_begun Exists c t = record {
     step = λ mode writing. subst (λ (u : WindowState). TakesStep (record { cut = a; mode = mode })
@@ -126,8 +132,8 @@ module _ {a : WindowState} (b : IsSegment a.bytes) (key : names.Key) (content : 
 
   -- where no object has the key
   pub found-not_begun : (why : Refusal) {c : WindowState} → object_at b.0 key ≡ None
-      → IsNotBegun a c key (kind_of (bare content)) (value_len (bare content)) why
-      → Constructs a c (asked.FindOrConstruct key content) pair_answer (Err why)
+      → BeginsObjectErr a c key (kind_of (bare content)) (value_len (bare content)) why
+      → Constructs a c (asked.FindOrConstruct key content) found_object_answer (Err why)
   found-not_begun Exists none t = absurd (let o = key-taken key content t b.0 b.1 in none-some o.0 (sym none ∙ o.1))
   found-not_begun NoSpace {c} none t = none-found c NoSpace refl (value-not_begun key content t)
   found-not_begun why none t = absurd t
@@ -159,7 +165,7 @@ no-object {a} b i e at key name kind new away =
 -- and so nothing is said of one
 pub found-absent : {a c : WindowState} (i : Index) (e : Entry) (at : ℕ) {key : names.Key} (name : List ℕ) (kind : Kind)
     {content : Content} {r : Result (ℕ × ℕ) Refusal} → IsNewKeyOf i e key name kind → IsAbsentAt a i e at
-    → Constructs a c (asked.FindOrConstruct key content) pair_answer r → FindsOrConstructs a c key content r
+    → Constructs a c (asked.FindOrConstruct key content) found_object_answer r → FindsOrConstructs a c key content r
 found-absent {a} i e at {key} name kind new away done = record {
   constructs = done;
   found = λ d st has. absurd (none-some has.0 (sym (lookup-absent i a e key st.denotes (key-seeks i e key name kind new)
@@ -170,10 +176,12 @@ found-absent {a} i e at {key} name kind new away done = record {
 
 module _ {A : Type 0} {s t : SegmentState} (view : s ≡ t) {c : WindowState} {command : Command}
     {answer : Result A Refusal → Answer} {r : Result A Refusal} (done : Constructs s.cut c command answer r) where
+  -- the constructed object is the step of the directory
   pub made-step : is_read_only t.mode ≡ false → TakesStep t (record s { cut = c }) command (answer r)
   made-step writing = subst (λ (u : SegmentState). TakesStep u (record s { cut = c }) command (answer r)) view
       (done.step s.mode (ap (λ (u : SegmentState). is_read_only u.mode) view ∙ writing))
 
+  -- a segment with the object is a segment
   pub made-segment : is_read_only t.mode ≡ false → IsSegment s.cut.bytes → IsSegment c.bytes
   made-segment writing b = step-segment s (record s { cut = c }) command (answer r)
       (done.step s.mode (ap (λ (u : SegmentState). is_read_only u.mode) view ∙ writing)) b

@@ -32,6 +32,7 @@ all-more t (y ∷ ys) z h e = and_from (t y) (list_all t (ys ++ z ∷ [])) (firs
 
 -- ---- so many items were written
 
+-- an object that is being filled: what was given so far, and what stands
 pub record IsFilling {S A : Type 0} (gives : S → Option A → S → Type 0) (can : S → Type 0) (whole : A → ℤ)
     (old now : WindowState) (k : ScalarKind) (from i : ℕ) (before at : S) : Type 0 where
   pub items : List A

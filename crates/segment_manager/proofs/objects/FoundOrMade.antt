@@ -1,12 +1,14 @@
 -- An object found under a key, or constructed where there is none, as a step of the machine.
 use Rattle.seg_types.specs.Commands as asked
 use Rattle.segment_manager.proofs.Common.{◌≡◌, sym, ap, ◌∙◌, ℕ, None, WindowState, Key, Made, Plan, Reply, bare}
-use Rattle.segment_manager.proofs.Common.{SegmentState, found, refl, if◌then◌else◌, pair_answer, with_new_object}
+use Rattle.segment_manager.proofs.Common.{SegmentState, found, refl, if◌then◌else◌, found_object_answer}
+use Rattle.segment_manager.proofs.Common.{with_new_object}
 use Rattle.segment_manager.proofs.Common.{pair_of_kind, is_read_only, false, Option, Result, handle, Exists, Answer}
 use Rattle.segment_manager.proofs.Common.{Object, Refuse, TakesStep, effect, Some, Refusal, NoSpace, Content, Refused}
 use Rattle.segment_manager.proofs.Common.{kind_of, IsObjectInBlock, AnswersWith, Command, SameSurroundings, WrongKind}
 use Rattle.segment_manager.proofs.Common.{same_kind, Directory, object_at, handle_at, DenotesCurrent}
-use Rattle.segment_manager.proofs.Steps.{by_no_change, by_step, lands, open-writing, step-plan, step-refuse}
+use Rattle.segment_manager.proofs.directory.CommandSteps.{by_no_change, by_step, lands, open-writing, step-plan}
+use Rattle.segment_manager.proofs.directory.CommandSteps.{step-refuse}
 use Rattle.segment_manager.proofs.objects.Constructed.{IsNewObject, IsNoObject}
 use Rattle.segment_manager.proofs.{objects.Here.here, objects.KeyCalls.kind-step}
 
@@ -44,6 +46,7 @@ module _ {old : SegmentState} {new : WindowState} {key : Key} {content : Content
     denotes = (each d k).1.denotes;
   }))
 
+-- the answer with the handle of a constructed object
 abbrev pub made_handle : Object → Answer
 made_handle o = Made (handle o.extent)
 
@@ -68,10 +71,10 @@ finds d key content r = elim r as (λ _. Plan) [
 pub found-there : {s : SegmentState} (key : Key) (content : Content) {h : ℕ} {result : Result (ℕ × ℕ) Refusal}
     → is_read_only s.mode ≡ false → AnswersWith s (λ d. handle_at d key) (Some h)
     → ((o : Object) → IsObjectInBlock s.cut.bytes h o → result ≡ pair_of_kind o (kind_of (bare content)))
-    → TakesStep s s (asked.FindOrConstruct key content) (pair_answer result)
+    → TakesStep s s (asked.FindOrConstruct key content) (found_object_answer result)
 found-there {s} key content {h} {result} writing a each =
-    by_no_change s (asked.FindOrConstruct key content) (pair_answer result) (λ d st.
+    by_no_change s (asked.FindOrConstruct key content) (found_object_answer result) (λ d st.
     let o = here s.cut.bytes d key h st.denotes (a.answers d st) in
     kind-step s.mode d (asked.FindOrConstruct key content) o.object (kind_of (bare content))
     (open-writing s.mode (asked.FindOrConstruct key content) writing) (ap (finds d key content) o.is)
-    ∙ ap (λ (r : Result (ℕ × ℕ) Refusal). (pair_answer r, d)) (sym (each o.object o.stands)))
+    ∙ ap (λ (r : Result (ℕ × ℕ) Refusal). (found_object_answer r, d)) (sym (each o.object o.stands)))

@@ -13,6 +13,7 @@ use Rattle.std.proofs.Math.Seq.{take-append_seam}
 
 -- ---- the codes are below 2 ^ 32
 
+-- the code of a scalar kind is at most 5
 pub scalar-small : (k : ScalarKind) → scalar_code k ≤ 5
 scalar-small BoolKind = omega arith
 scalar-small k = omega arith
@@ -40,6 +41,7 @@ printable-short name h =
     let l = leb-true (length name) 63 (and_parts (nat_le 1 (length name)) (nat_le (length name) 63) two.0).1 in
     omega arith
 
+-- a name has at most 255 bytes
 pub name-short : (format : ℕ) (name : List ℕ) → IsTrue (is_name format name) → length name ≤ 255
 name-short zero name h = printable-short name h
 name-short (suc zero) name h = printable-short name h
@@ -50,6 +52,7 @@ good-if : (format : ℕ) (o : Object) (b : Bool) → IsTrue (if b then is_name f
 good-if format o true h = name-short format o.name h
 good-if format o false h = let e = eqb-true (length o.name) 0 h in omega arith
 
+-- the name of an object has at most 255 bytes
 pub good_name-short : (format : ℕ) (o : Object) → IsTrue (has_good_name format o) → length o.name ≤ 255
 good_name-short format o h = good-if format o (is_class Named o) h
 
@@ -67,6 +70,7 @@ entry-name_len m o short a =
     let behind : word_at m (handle o.extent + 8) ≡ length o.name + 4294967296 * class_code o.class = a.name_class in
     omega arith
 
+-- an object in memory is an entry
 pub object-entry : (m : Memory) (o : Object) → length o.name ≤ 255 → IsObjectAt m o → IsEntry m o
 object-entry m o short a =
     let small = code-small (kind_of o.value) in
@@ -98,5 +102,6 @@ entries format m (o ∷ os) h a = (
   entries format m os (second (is_object format o) (list_all (is_object format) os) h) a.1,
 )
 
+-- law: entries say their objects
 pub entries_say_objects : EntriesSayObjects
 entries_say_objects format b d h = entries format (bytes_of b) d.objects h.directory.objects h.objects

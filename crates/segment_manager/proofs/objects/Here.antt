@@ -3,9 +3,10 @@ use Rattle.segment_manager.proofs.Common.{◌≡◌, sym, ap, ◌∙◌, ℕ, �
 use Rattle.segment_manager.proofs.Common.{refl, subst, Option, Result, IsTrue, le-leb, handle, Object, Denotes}
 use Rattle.segment_manager.proofs.Common.{AnswersWith, option_map, Directory, is_object, object_at, object_len}
 use Rattle.segment_manager.proofs.Common.{handle_at, HasObject, current, has_room, Refusal, NotFound, has_key}
-use Rattle.segment_manager.proofs.{Common.IsObjectInBlock, Common.IsSegment, Common.IsHeadOf, Frame.object-roomy}
+use Rattle.segment_manager.proofs.{Common.IsObjectInBlock, Common.IsSegment, Common.IsHeadOf}
+use Rattle.segment_manager.proofs.{directory.Frame.object-roomy}
 use Rattle.segment_manager.proofs.objects.ObjectLists.{all-found, each-true, key-found}
-use Rattle.segment_manager.proofs.Calling.{denotes-live, object-at, object-room}
+use Rattle.segment_manager.proofs.directory.HeapCalls.{denotes-live, object-at, object-room}
 use Rattle.segment_manager.specs.Calls.{told_at}
 
 -- ---- the object of a key
@@ -43,6 +44,7 @@ here-if {b} {d} {key} {h} (Some o) k e f =
     let same : handle o.extent ≡ h = cc in
     record { object = o; is = e; stands = subst (λ g. IsObjectInBlock b g o) same (standing b d key o k e) }
 
+-- the object of a handle is there
 pub here : (b : List ℕ) (d : Directory) (key : Key) (h : ℕ) → Denotes current b d → Some h ≡ handle_at d key
     → IsHere b d key h
 here b d key h k e = here-if (object_at d key) k refl e
@@ -77,10 +79,12 @@ pub seen-handle : (s t : SegmentState) (view : s ≡ t) (key : Key) (r : Option 
     → AnswersWith t (λ d. handle_at d key) r → AnswersWith s (λ d. handle_at d key) r
 seen-handle s t view key r = subst (λ (u : SegmentState). AnswersWith u (λ d. handle_at d key) r) (sym view)
 
+-- the object of a handle that was told is there
 pub seen-object : (s t : SegmentState) (view : s ≡ t) (key : Key) (h : ℕ) → IsSegment s.cut.bytes
     → AnswersWith t (λ d. handle_at d key) (Some h) → HasObject s.cut.bytes h
 seen-object s t view key h i a = has-object key i (seen-handle s t view key (Some h) a)
 
+-- what is told of the handle's object is the directory's
 pub seen-tells : {A : Type 0} {s t : SegmentState} (view : s ≡ t) (key : Key) {h : ℕ} (say : Object → A) {x : A}
     → AnswersWith t (λ d. handle_at d key) (Some h) → ((o : Object) → IsObjectInBlock s.cut.bytes h o → x ≡ say o)
     → AnswersWith t (λ d. told_at d key say) (Ok x)

@@ -8,20 +8,22 @@ use common.{subst, Directory, object_at, IsSegment, replicate, SameSurroundings,
 use common.{RestoresBlocks, ℕ, Option, Result, Exists, Object, TakesStep, effect, length, IsTrue, nat_lt, lt-ltb}
 use common.{le-ltb, perform, false, PendingEntry, list_all, take_all, Anonymous, ReadOnly, is_value, head_len, room_for}
 use common.{DenotesCurrent, Refusal, NoSpace, Command, Refused, current, resized, size_of, BeginsObjectOk}
-use common.{IsUnindexedObject, Denotes, Numbers, IsNotBegun, length-map, ObjectRole, ScalarKind, OutOfRange, RefusesKey}
+use common.{WritesUnindexedObject, Denotes, Numbers, BeginsObjectErr, length-map, ObjectRole, ScalarKind, OutOfRange}
+use common.{RefusesKey}
 use common.{LeadsThere, object_len, with_object, is_read_only, with_new_object, if◌then◌else◌, mul-le-mul_left}
 use common.{length-replicate, AllocatesOk, is_good_value, inl, inr, option_map, Mode, AnswersWith, IsObjectInBlock}
 use common.{handle_at, pair_of_kind, with_count, Index, Kind, IsAbsentAt, IsNewKeyOf, Write}
 use Rattle.seg_index.specs.declared.keys.Entry.{Entry}
-use Rattle.segment_manager.proofs.Steps.{step-segment, perform-new, refuses-read_only, by_no_change, by_step, lands}
-use Rattle.segment_manager.proofs.Steps.{open-writing, step-plan, step-refuse}
+use Rattle.segment_manager.proofs.directory.CommandSteps.{step-segment, perform-new, refuses-read_only, by_no_change}
+use Rattle.segment_manager.proofs.directory.CommandSteps.{by_step, lands}
+use Rattle.segment_manager.proofs.directory.CommandSteps.{open-writing, step-plan, step-refuse}
 use Rattle.segment_manager.proofs.objects.Constructed.{IsMet, IsNewObject, numbers-met, restored-denotes, IsNoObject}
 use Rattle.segment_manager.proofs.objects.NewValues.{away-in, value-built, value-ready, no_key-none}
 use Rattle.segment_manager.proofs.objects.NotBegun.{key-taken, value-not_begun}
 use Rattle.segment_manager.proofs.objects.ArrayItems.{by-items, from-items}
 use Rattle.segment_manager.proofs.objects.FoundOrMade.{made_handle, makes}
 use Rattle.segment_manager.proofs.{objects.NewNumbers.numbers-made, objects.MadeValues.headed-change, objects.Here.here}
-use Rattle.segment_manager.proofs.{indexes.Bridge.lookup-absent, Calling.denotes-live}
+use Rattle.segment_manager.proofs.{indexes.Bridge.lookup-absent, directory.HeapCalls.denotes-live}
 use Rattle.segment_manager.proofs.objects.NewKeys.{key-seeks, numbers-value}
 use Rattle.segment_manager.specs.objects.PendingObjects.{Ends, IsEnding, Fills}
 use Rattle.segment_manager.specs.objects.Items.{FindsOrTakes, FindsOrTakesIn, TakesItemsIn}
@@ -194,7 +196,7 @@ module _ (S : Type 0) {A : Type 0} (gives : S → Option A → S → Type 0) (wh
 
   loose : (entry : Option PendingEntry) (filled : Result (Unit {0}) Refusal) (m w : WindowState) (h at : ℕ)
       → BeginsObjectOk s.cut m key (Scalar k) count (size_of k * count) h at entry
-      → Fills gives whole m w k (h + at) count before after filled → IsUnindexedObject s.cut w h entry
+      → Fills gives whole m w k (h + at) count before after filled → WritesUnindexedObject s.cut w h entry
   loose None filled m w h at g f = record {
     len = room_for [] (size_of k * count);
     taken = g.taken;
@@ -238,6 +240,7 @@ module _ (S : Type 0) {A : Type 0} (gives : S → Option A → S → Type 0) (wh
 
 module _ (S : Type 0) {A : Type 0} (gives : S → Option A → S → Type 0) (whole : A
     → ℤ) {s : SegmentState} (key : names.Key) (k : ScalarKind) (count : ℕ) (at : S) where
+  -- a segment that is only read takes no items
   pub takes-nothing : is_read_only s.mode ≡ true → ConstructsFromItems gives whole s s key k count at at (Err ReadOnly)
   takes-nothing e = record {
     items = [];
@@ -252,15 +255,16 @@ module _ (S : Type 0) {A : Type 0} (gives : S → Option A → S → Type 0) (wh
       TakesStep s (record s { cut = u }) (asked.ConstructIt key k count [])
       (Refused Exists)) (sym t.same) (items-exists s key k count [] writing (key-taken key (asked.Numbers k []) t))
 
-  none-step : (c : WindowState) → is_read_only s.mode ≡ false → 1 ≤ count → IsNotBegun s.cut c key (Scalar k)
+  none-step : (c : WindowState) → is_read_only s.mode ≡ false → 1 ≤ count → BeginsObjectErr s.cut c key (Scalar k)
       (size_of k * count) NoSpace → TakesStep s (record s { cut = c }) (asked.ConstructIt key k count [])
       (Refused NoSpace)
   none-step c writing low t =
       let never = value-not_begun key (asked.Numbers k (asked_for count []))
-      (subst (λ n. IsNotBegun s.cut c key (Scalar k) (size_of k * n) NoSpace) (sym (asked-long low)) t) in
+      (subst (λ n. BeginsObjectErr s.cut c key (Scalar k) (size_of k * n) NoSpace) (sym (asked-long low)) t) in
       items-none s key k count [] writing never.place never.each
 
-  pub takes-none : (why : Refusal) (c : WindowState) → is_read_only s.mode ≡ false → 1 ≤ count → IsNotBegun s.cut c key
+  pub takes-none : (why : Refusal) (c : WindowState) → is_read_only s.mode ≡ false → 1 ≤ count
+      → BeginsObjectErr s.cut c key
       (Scalar k) (size_of k * count) why
       → ConstructsFromItems gives whole s (record s { cut = c }) key k count at at (Err why)
   takes-none Exists c writing low t = record {
@@ -294,17 +298,19 @@ module _ (S : Type 0) {A : Type 0} (gives : S → Option A → S → Type 0) (wh
   writes : is_read_only s.mode ≡ false
   writes = subst (λ (u : SegmentState). is_read_only u.mode ≡ false) (sym view) writing
 
-  none-taken : {why : Refusal} (c : WindowState) → IsNotBegun s.cut c key shape.kind shape.len why
+  none-taken : {why : Refusal} (c : WindowState) → BeginsObjectErr s.cut c key shape.kind shape.len why
       → ConstructsFromItems gives whole s (record s { cut = c }) key k count before before (Err why)
   none-taken {why} c not = takes-none S gives whole key k count before why c writes low
-      (subst (λ (j : ObjectShape). IsNotBegun s.cut c key j.kind j.len why) same not)
+      (subst (λ (j : ObjectShape). BeginsObjectErr s.cut c key j.kind j.len why) same not)
 
-  pub refused-segment : (why : Refusal) (c : WindowState) → IsNotBegun s.cut c key shape.kind shape.len why
+  -- a refused construction leaves a segment
+  pub refused-segment : (why : Refusal) (c : WindowState) → BeginsObjectErr s.cut c key shape.kind shape.len why
       → IsSegment c.bytes
   refused-segment why c not = step-segment s (record s { cut = c }) _ _ (none-taken c not).step b
 
+  -- a refused construction takes no items
   pub refused-items : {why : Refusal} (c : WindowState) {r : Result ℕ Refusal} → r ≡ Err why
-      → IsNotBegun s.cut c key shape.kind
+      → BeginsObjectErr s.cut c key shape.kind
       shape.len why → ConstructsFromItems gives whole t (record s { cut = c }) key k count before before r
   refused-items {why} c is not =
       subst (λ (q : Result ℕ Refusal). ConstructsFromItems gives whole t (record s { cut = c }) key k
@@ -314,6 +320,7 @@ module _ (S : Type 0) {A : Type 0} (gives : S → Option A → S → Type 0) (wh
 
   module _ (m : WindowState) (h at : ℕ) (entry : Option PendingEntry)
       (begun : BeginsObjectOk s.cut m key shape.kind shape.count shape.len h at entry) where
+    -- the array was begun
     pub begun-so : BeginsObjectOk s.cut m key (Scalar k) count (size_of k * count) h at entry
     begun-so = begun-numbers s.cut m key h at entry same begun
 
@@ -363,11 +370,12 @@ module _ (S : Type 0) {A : Type 0} (gives : S → Option A → S → Type 0) (wh
   -- it is not begun, with a shape of so many numbers
   pub none-items : {c : WindowState} {shape : ObjectShape} {j : ScalarKind} {why : Refusal}
       → shape ≡ numbers_shape j count → j ≡ k → 1 ≤ count
-      → IsNotBegun a c key shape.kind shape.len why → TakesItemsIn gives whole a c key k count before before (Err why)
+      → BeginsObjectErr a c key shape.kind shape.len why
+      → TakesItemsIn gives whole a c key k count before before (Err why)
   none-items {c} {why = why} same is low not mode writing =
       takes-none S gives whole key k count before why c writing low
-      (subst (λ (l : ScalarKind). IsNotBegun a c key (Scalar l) (size_of l * count) why) is
-      (subst (λ (q : ObjectShape). IsNotBegun a c key q.kind q.len why) same not))
+      (subst (λ (l : ScalarKind). BeginsObjectErr a c key (Scalar l) (size_of l * count) why) is
+      (subst (λ (q : ObjectShape). BeginsObjectErr a c key q.kind q.len why) same not))
 
 -- the key of an entry suits it
 pub shaped-key : (i : Index) (e : Entry) (key : names.Key) (name : List ℕ) {shape : ObjectShape} {j k : ScalarKind}
@@ -385,6 +393,7 @@ no-objects {a} i e at key name kind new away d st =
 
 -- ---- the segment afterwards
 
+-- a segment in which the object was found or constructed
 pub found-segment : {S A : Type 0} {gives : S → Option A → S → Type 0} {whole : A
     → ℤ} {a c : WindowState} {key : names.Key}
     {k : ScalarKind} {count : ℕ} {before after : S} {r : Result (ℕ × ℕ) Refusal} → IsSegment a.bytes
@@ -397,6 +406,7 @@ found-segment b done = elim (done Write refl) [
   ]
 ]
 
+-- the object was found: no items are taken
 pub seen-found_items : {S A : Type 0} {gives : S → Option A → S → Type 0} {whole : A
     → ℤ} {s t : SegmentState} (view : s ≡ t)
     {c : WindowState} {key : names.Key} {k : ScalarKind} {count : ℕ} {before after : S} {r : Result (ℕ × ℕ) Refusal}

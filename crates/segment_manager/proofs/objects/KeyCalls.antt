@@ -6,15 +6,17 @@ use common.{Refusal, refl, none-some, same_Some, extent_at, same_role, IsIndexOf
 use common.{IsSegment, sym, ◌∙◌, ℕ, ◌+◌, ◌<◌, [], ◌∷◌, WindowState, Key, live, Kind, Plan, Mode, step, Err, Ok, ap}
 use common.{Bool, true, ◌&&◌, ◌||◌, ◌==◌, Some, None, List, cond, find, Role, SegmentState, subst, Named, Reply, found}
 use common.{false, arith, BackingArray, Index, Entry, Found, Seeks, Answer, Number, Refuse, Result, effect, SaysAt}
-use common.{SaysOf, is_some, option_map, slice_get, ObjectRole, is_live_in, entries_of, objects_of, pair_answer}
+use common.{SaysOf, is_some, option_map, slice_get, ObjectRole, is_live_in, entries_of, objects_of, found_object_answer}
 use common.{IsInstance, list_any, eqb-true, bytes_of, ByHandle, HasIndex, place_of, DenotesCurrent, WrongKind}
 use common.{same_kind, HasObject, slice_get_within, entry_count, is_object_at, if◌then◌else◌, named_objects}
 use common.{unique_objects, pair_of_kind, current, live_of, FindsPosition, has_key, Denotes, table_of, AnswersWith}
 use common.{kind_of, IsObjectInBlock, count_of, Instance}
 use Rattle.segment_manager.proofs.indexes.Bridge.{lookup-absent, lookup-found, in-handles}
-use Rattle.segment_manager.proofs.Steps.{open-reading, IsOpenFor, step-refuse, step-reply}
-use Rattle.segment_manager.proofs.{objects.ObjectLists.found-handle, Calling.denotes-live, Denoted.handles-length}
-use Rattle.segment_manager.proofs.{Order.live-rises, Order.Rising, indexes.HeldIndexes.denotes-index}
+use Rattle.segment_manager.proofs.directory.CommandSteps.{open-reading, IsOpenFor, step-refuse, step-reply}
+use Rattle.segment_manager.proofs.{objects.ObjectLists.found-handle, directory.HeapCalls.denotes-live}
+use Rattle.segment_manager.proofs.{directory.OneObject.handles-length}
+use Rattle.segment_manager.proofs.{directory.ExtentOrder.live-rises, directory.ExtentOrder.Rising}
+use Rattle.segment_manager.proofs.{indexes.HeldIndexes.denotes-index}
 use Rattle.segment_manager.proofs.indexes.EntryPlaces.{stands-at, all-at}
 use Rattle.segment_manager.proofs.objects.Here.{standing, here, nothing-if}
 use Rattle.segment_manager.proofs.blocks.OwnBlocks.{or-none, handle-is-object}
@@ -75,6 +77,7 @@ object-passes {b} {d} h k = sym (handle-is-object h k.directory)
     ∙ any-first for_object h 128 (live d).extents (live-rises (live d) k.directory.proper)
     ∙ ap (λ l. passes for_object (extent_at l h)) (sym (denotes-live current b d k))
 
+-- whether a role is that of objects, as both tests say it
 pub same-test : (r : Role) → sameb the_type r ObjectRole ≡ same_role r ObjectRole
 same-test ObjectRole = refl
 same-test role = refl
@@ -103,6 +106,7 @@ dead-answers {s} h e f = record {
 
 -- ---- an entry of an index
 
+-- a segment has an index
 pub segment-index : {c : WindowState} (i : Index) → IsSegment c.bytes → HasIndex c (place_of i)
 segment-index {c} i s =
     record { table = table_of i s.0; handles = entries_of i s.0; index = denotes-index i c s.1.denotes }
@@ -111,6 +115,7 @@ segment-index {c} i s =
 abbrev pub ForIndex : WindowState → Index → (List ℕ → Type 0) → Type 0
 ForIndex c i P = (t : BackingArray) (hs : List ℕ) → IsIndexOf c (place_of i) t hs → P hs
 
+-- what holds of an index holds of the directory's entries
 pub of-directory : (s : SegmentState) (i : Index) (P : List ℕ → Type 0) {d : Directory} → DenotesCurrent s.cut.bytes d
     → ForIndex s.cut i P → P (entries_of i d)
 of-directory s i P {d} k f = f (table_of i d) (entries_of i d) (denotes-index i s.cut k.denotes)
@@ -146,6 +151,7 @@ absent-answers {s} i e place f key q = record {
 
 -- ---- any key
 
+-- the handle of an object, if it is there
 pub handle-if : (h : ℕ) (d : Directory) (r : Option Object) → object_at d (ByHandle h) ≡ r
     → then_some (is_some r) h ≡ option_map (λ (o : Object). handle o.extent) r
 handle-if h d None e = refl
@@ -190,24 +196,25 @@ find-absent {s} key kind a = record {
 -- A command that asks of which kind an object is: it is found, or of another kind.
 kind-if : (mode : Mode) (d : Directory) (c : Command) (o : Object) (b : Bool) → IsOpenFor mode c
     → effect d c ≡ (if b then Reply (found o) d else Refuse WrongKind)
-    → step mode d c ≡ (pair_answer (if b then Ok (handle o.extent, count_of o.value) else Err WrongKind), d)
+    → step mode d c ≡ (found_object_answer (if b then Ok (handle o.extent, count_of o.value) else Err WrongKind), d)
 kind-if mode d c o true may e = step-reply mode d c (found o) d may e
 kind-if mode d c o false may e = step-refuse mode d c WrongKind may e
 
+-- the step of a command on an object, by its kind
 pub kind-step : (mode : Mode) (d : Directory) (c : Command) (o : Object) (kind : Kind) → IsOpenFor mode c
     → effect d c ≡ (if same_kind kind (kind_of o.value) then Reply (found o) d else Refuse WrongKind)
-    → step mode d c ≡ (pair_answer (pair_of_kind o kind), d)
+    → step mode d c ≡ (found_object_answer (pair_of_kind o kind), d)
 kind-step mode d c o kind may e = kind-if mode d c o (same_kind kind (kind_of o.value)) may e
 
 -- an object has it, of the kind or of another
 pub find-there : {s t : SegmentState} (view : s ≡ t) (key : Key) (kind : Kind) {h : ℕ} {r : Result (ℕ × ℕ) Refusal}
     → AnswersWith t (λ d. handle_at d key) (Some h)
     → ((o : Object) → IsObjectInBlock s.cut.bytes h o → r ≡ pair_of_kind o kind)
-    → AnswersQuery t (asked.Find key kind) (pair_answer r)
+    → AnswersQuery t (asked.Find key kind) (found_object_answer r)
 find-there {t} view key kind {h} a each = record {
   answers = λ d k.
       let o = here t.cut.bytes d key h k.denotes (a.answers d k) in
-      ap pair_answer (each o.object (subst (λ (u : SegmentState).
+      ap found_object_answer (each o.object (subst (λ (u : SegmentState).
       IsObjectInBlock u.cut.bytes h o.object) (sym view) o.stands))
       ∙ sym (ap (λ (q : Answer × Directory). q.0) (kind-step t.mode d (asked.Find key kind) o.object kind
       (open-reading t.mode (asked.Find key kind) refl) (ap (finds d kind) o.is)));
@@ -232,6 +239,7 @@ num-step mode Named d = step-reply mode d asked.NumNamed (Number (length (object
 num-step mode Unique d = step-reply mode d asked.NumUnique (Number (length (objects_of Unique d))) d
     (open-reading mode asked.NumUnique refl) refl
 
+-- the number of entries is the directory's
 pub num-replies : {s : SegmentState} (i : Index) (n : ℕ) → ForIndex s.cut i (λ hs. n ≡ length hs)
     → AnswersQuery s (num_command i) (Number n)
 num-replies {s} i n f = record {
@@ -264,10 +272,12 @@ below-number {s} i n {at} h l = record {
       let same : n ≡ length (objects_of i d) = cc in subst (λ m. at < m) same l;
 }
 
+-- an index below the number of names is a name's
 pub named-below : (s : SegmentState) (n i : ℕ) → AnswersQuery s asked.NumNamed (Number n) → i < n
     → IsBelow s (λ d. length (named_objects d)) i
 named-below s n i h l = below-number Named n h l
 
+-- an index below the number of unique objects is one's
 pub unique-below : (s : SegmentState) (n i : ℕ) → AnswersQuery s asked.NumUnique (Number n) → i < n
     → IsBelow s (λ d. length (unique_objects d)) i
 unique-below s n i h l = below-number Unique n h l

@@ -9,7 +9,7 @@ use common.{TakesStep, TakesStepOfKind}
 use common.{SegmentState, DenotesCurrent, effect, is_read_only, step, step_of_kind, HasEnough, command_of}
 use Rattle.segment_manager.proofs.containers.AnyStorage.{measures-kind, of_kind-steps}
 use Rattle.segment_manager.proofs.{indexes.Bridge.by-handle, objects.Here.here, objects.Here.seen-handle}
-use Rattle.segment_manager.proofs.{objects.Standings.alike, Steps.moves-same}
+use Rattle.segment_manager.proofs.{objects.Standings.alike, directory.CommandSteps.moves-same}
 use Rattle.segment_manager.specs.Laws.{HandlesMeanObjects, KeysMeanObjects, KeysOfKindMeanObjects, at_key}
 use Rattle.segment_manager.specs.objects.Located.{located, located_at}
 use Rattle.seg_types.specs.Commands as asked
@@ -73,10 +73,12 @@ located-there {s} {t} view key {q} g a o stands =
     let there = here s.cut.bytes g.0 key q.handle g.1.denotes ((handle-located key b).answers g.0 g.1) in
     p.said ∙ ap located (same_Some p.object there.object (sym p.is ∙ there.is)) ∙ alike there.stands stands
 
+-- the located object is what the directory says
 pub said-at : (s : SegmentState) (key : Key) (o : Located)
     → IsLocated s key o → (d : Directory) → DenotesCurrent s.cut.bytes d → IsSaidAt d key o
 said-at s key o l d k = said-if (object_at d key) refl (l.at.answers d k)
 
+-- law: handles mean objects
 pub same-object : HandlesMeanObjects
 same-object s key o l d k =
     let p = said-at s key o l d k in
@@ -111,11 +113,13 @@ changing-same : (key other : Key) (c : Command) → is_changing (at_key key c) �
 changing-same key other (asked.Show old) = refl
 changing-same key other c = refl
 
+-- law: keys mean objects
 pub keys-same : KeysMeanObjects
 unfolding step
 keys-same mode d key other c e = λ i. perform d (live d)
     (if is_read_only mode && changing-same key other c i then Refuse ReadOnly else effect-same d key other c e i)
 
+-- law: keys of a kind mean objects
 pub keys_of_kind-same : KeysOfKindMeanObjects
 unfolding step_of_kind
 keys_of_kind-same mode d key other kind c e =
@@ -141,6 +145,7 @@ module _ (old : SegmentState) (key : Key) (o : Located) (l : IsLocated old key o
       → AnswersWith old (λ d. say d (object_at d key)) r
   told-by_key say r a = record { answers = λ d k. a.answers d k ∙ ap (say d) (same d k) }
 
+  -- the kind under the key is the located object's
   pub kind-by_key : AnswersWith old (λ d. kind_at d key) (Ok o.kind)
   kind-by_key = record {
     answers = λ d k.
@@ -149,15 +154,18 @@ module _ (old : SegmentState) (key : Key) (o : Located) (l : IsLocated old key o
         elim r as (λ _. Result Kind Refusal) [ None ↦ Err NotFound | Some q ↦ Ok (kind_of q.value) ]) p.is);
   }
 
+  -- a step under the handle is one under the key, in each directory
   pub step-same : (c : Command) (d : Directory) → DenotesCurrent old.cut.bytes d
       → step old.mode d (at_key (ByHandle o.handle) c) ≡ step old.mode d (at_key key c)
   step-same c d k = keys-same old.mode d (ByHandle o.handle) key c (same d k)
 
+  -- a step under the handle is one under the key
   pub step-by_key : (new : SegmentState) (c : Command) (answer : Answer)
       → TakesStep old new (at_key (ByHandle o.handle) c) answer → TakesStep old new (at_key key c) answer
   step-by_key new c answer m = moves-same old new answer (λ d. step old.mode d (at_key (ByHandle o.handle) c))
       (λ d. step old.mode d (at_key key c)) (step-same c) m
 
+  -- a step for a kind under the handle is one under the key
   pub step_of_kind-by_key : (new : SegmentState) (kind : Kind) (c : Command) (answer : Answer)
       → TakesStepOfKind old new (ByHandle o.handle) kind (at_key (ByHandle o.handle) c) answer
       → TakesStepOfKind old new key kind (at_key key c) answer
@@ -165,6 +173,7 @@ module _ (old : SegmentState) (key : Key) (o : Located) (l : IsLocated old key o
       kind (at_key (ByHandle o.handle) c)) (λ d. step_of_kind old.mode d key kind (at_key key c))
       (λ d k. keys_of_kind-same old.mode d (ByHandle o.handle) key kind c (same d k)) m
 
+  -- an answer for a kind under the handle is one under the key
   pub reply_of_kind-by_key : (kind : Kind) (c : Command) (answer : Answer)
       → AnswersQueryOfKind old (ByHandle o.handle) kind
       (at_key (ByHandle o.handle) c) answer → AnswersQueryOfKind old key kind (at_key key c) answer
@@ -175,6 +184,7 @@ module _ (old : SegmentState) (key : Key) (o : Located) (l : IsLocated old key o
 
   -- ---- it says of which kind it is
 
+  -- a step under the handle is one of the located object
   pub located-steps : (new : SegmentState) (kind : Kind) (c : Command) (answer : Answer) → o.kind ≡ kind
       → TakesStepOfKind old new
       (ByHandle o.handle) kind (at_key (ByHandle o.handle) c) answer → TakesStep old new (at_key key c) answer
@@ -182,6 +192,7 @@ module _ (old : SegmentState) (key : Key) (o : Located) (l : IsLocated old key o
       (subst (λ (n : Kind). AnswersWith old (λ d. kind_at d key) (Ok n)) is kind-by_key)
       (step_of_kind-by_key new kind c answer m)
 
+  -- sizes under the handle are those of the located object
   pub located-measures : (kind : Kind) (r : Result (ℕ × ℕ) Refusal) → o.kind ≡ kind
       → AnswersWith old (λ d. sizes_at_kind d (ByHandle o.handle) kind) r → AnswersWith old (λ d. sizes_at d key) r
   located-measures kind r is m = measures-kind old key kind r (subst (λ (n : Kind). AnswersWith old (λ d. kind_at d key)
@@ -202,6 +213,7 @@ module _ (old : SegmentState) (key : Key) (o : Located) (l : IsLocated old key o
 
   -- ---- the same of what is done with storage, whichever change it is
 
+  -- a change of storage under the handle is one of the located object
   pub located-changes : (change : Change) (new : SegmentState) (kind : Kind) (answer : Answer) → o.kind ≡ kind
       → TakesStepOfKind old new (ByHandle o.handle) kind (command_of change (ByHandle o.handle)) answer
       → TakesStep old new (command_of change key) answer
@@ -209,6 +221,7 @@ module _ (old : SegmentState) (key : Key) (o : Located) (l : IsLocated old key o
   located-changes Shrink new kind answer is m = located-steps new kind (asked.Shrink key) answer is m
   located-changes Clear new kind answer is m = located-steps new kind (asked.Clear key) answer is m
 
+  -- a capacity that suffices under the handle suffices under the key
   pub enough-by_key : (change : Change) (new : SegmentState)
       → UnchangedWhere old new (HasEnough change (ByHandle o.handle)) → UnchangedWhere old new (HasEnough change key)
   enough-by_key (Reserve n) new m = places-by_key n m

@@ -1,10 +1,11 @@
 -- The blocks of an object that no entry leads to yet: what an index wants to lead there, and how they are given back.
 use Rattle.segment_manager.proofs.Common.{sym, subst, ◌+◌, Some, None, List, arith, IsTrue, WindowState, IsHeap, Kind}
 use Rattle.segment_manager.proofs.Common.{Class, Key, Role, ℕ, Option, IfSome, current, LiveSet, live_of}
-use Rattle.segment_manager.proofs.Common.{BeginsObjectOk, WritesObjectHeader, IsUnindexedObject, room_for, IsGrowth, []}
+use Rattle.segment_manager.proofs.Common.{BeginsObjectOk, WritesObjectHeader, WritesUnindexedObject, room_for}
+use Rattle.segment_manager.proofs.Common.{PreparesOk, []}
 use Rattle.segment_manager.proofs.Common.{ObjectRole, Deallocates, has_room, is_live_in, FreesGrowth, place_of}
 use Rattle.segment_manager.proofs.Common.{PendingEntry, RestoresBlocks, AllocatesOk, allocated-is_live, allocated-room}
-use Rattle.segment_manager.proofs.Common.{changed-room, lay_out_one, IsLooseAlone, IsLooseEntry}
+use Rattle.segment_manager.proofs.Common.{changed-room, lay_out_one, WritesUnindexedAlone, WritesUnindexedForEntry}
 use Rattle.segment_manager.proofs.objects.Taking.{growth-held, restored-taken, written-taken}
 use Rattle.segment_manager.proofs.objects.Pieces.{changed-heap}
 use Rattle.best_fit.proofs.Laws.{taken-back}
@@ -17,6 +18,7 @@ headed-room : {a b : WindowState} {kind : Kind} {class : Class} {name : List ℕ
 headed-room {a} {b} {name} body {h} p room = subst (λ n. IsTrue (has_room (live_of b.bytes) h (n + body))) (sym p.start)
     (changed-room current a b h _ h (room_for name body) p.change room)
 
+-- an object that was begun has room for its value
 pub begun-room : (entry : Option PendingEntry) (a m : WindowState) (key : Key) (kind : Kind) (count body h at : ℕ)
     → BeginsObjectOk a m key kind count body h at entry → IsTrue (has_room (live_of m.bytes) h (at + body))
 begun-room None a m key kind count body h at g = headed-room body g.headed
@@ -25,6 +27,7 @@ begun-room (Some e) a m key kind count body h at g =
     headed-room body g.headed (allocated-room current g.requested.between g.taken (room_for g.name body) ObjectRole h
     (room_for g.name body) g.requested.takes (omega arith))
 
+-- the segment with a begun object is a heap
 pub begun-heap : (entry : Option PendingEntry) (a m : WindowState) (key : Key) (kind : Kind) (count body h at : ℕ)
     → BeginsObjectOk a m key kind count body h at entry → IsHeap current m.bytes
 begun-heap None a m key kind count body h at g = changed-heap g.headed.change
@@ -40,35 +43,38 @@ back-again {a} {b} {c} {n} {role} {h} took gone =
 
 -- what an index took to grow into goes back, after what was taken behind it
 growth-back : {a : WindowState} {b c : WindowState} {e : WindowState} (at : ℕ) (g : Option ℕ)
-    → IsGrowth a b at g → RestoresBlocks b c → FreesGrowth c e g → RestoresBlocks a e
+    → PreparesOk a b at g → RestoresBlocks b c → FreesGrowth c e g → RestoresBlocks a e
 growth-back {a} {c} at None grows r back =
     subst (RestoresBlocks a) (sym back) (subst (λ (s : WindowState). RestoresBlocks s c) grows.1 r)
 growth-back at (Some h) grows r back = back-again (restored-taken grows.1 r) back
 
 -- the object's block is in use, with an entry to come or without
-alone-taken : {old now : WindowState} {h : ℕ} → (l : IsLooseAlone old now h)
+alone-taken : {old now : WindowState} {h : ℕ} → (l : WritesUnindexedAlone old now h)
     → AllocatesOk current old now l.len ObjectRole h
 alone-taken l = written-taken l.takes l.change
 
-entry-taken : {old now : WindowState} {h : ℕ} {e : PendingEntry} → (l : IsLooseEntry old now h e)
+entry-taken : {old now : WindowState} {h : ℕ} {e : PendingEntry} → (l : WritesUnindexedForEntry old now h e)
     → AllocatesOk current l.requested.between now l.len ObjectRole h
 entry-taken l = written-taken l.requested.takes l.change
 
-pub loose-live : (entry : Option PendingEntry) (old now : WindowState) (h : ℕ) → IsUnindexedObject old now h entry
+-- the block of an object without an entry is in use
+pub loose-live : (entry : Option PendingEntry) (old now : WindowState) (h : ℕ) → WritesUnindexedObject old now h entry
     → IsTrue (is_live_in (live_of now.bytes) h)
 loose-live None old now h l = allocated-is_live current old now l.len ObjectRole h (alone-taken l)
 loose-live (Some e) old now h l = allocated-is_live current l.requested.between now l.len ObjectRole h (entry-taken l)
 
-pub alone-back : {old now new : WindowState} {h : ℕ} → IsLooseAlone old now h → Deallocates current now new h
+-- an object without an entry is deallocated: all is as before
+pub alone-back : {old now new : WindowState} {h : ℕ} → WritesUnindexedAlone old now h → Deallocates current now new h
     → RestoresBlocks old new
 alone-back l gone = back-again (alone-taken l) gone
 
-module _ {old now new : WindowState} {h : ℕ} {e : PendingEntry} (l : IsLooseEntry old now h e)
+module _ {old now new : WindowState} {h : ℕ} {e : PendingEntry} (l : WritesUnindexedForEntry old now h e)
     (gone : Deallocates current now new h) where
   -- once it is given back, what the index took is in use still
   object-back : RestoresBlocks l.requested.between new
   object-back = back-again (entry-taken l) gone
 
+  -- the block of the index's growth is in use
   pub loose-held : IfSome e.growth.block (λ g. IsTrue (is_live_in (live_of new.bytes) g))
   loose-held =
       let mid : WindowState = l.requested.between in
@@ -76,7 +82,9 @@ module _ {old now new : WindowState} {h : ℕ} {e : PendingEntry} (l : IsLooseEn
       (sym (lay_out_one current new.bytes (live_of mid.bytes) (object-back).laid))
       (growth-held old mid (place_of e.index) e.growth.block l.requested.grows)
 
-pub entry-back : {old now mid : WindowState} {new : WindowState} {h : ℕ} {e : PendingEntry} → IsLooseEntry old now h e
+-- an object and the growth of its index are deallocated: all is as before
+pub entry-back : {old now mid : WindowState} {new : WindowState} {h : ℕ} {e : PendingEntry}
+    → WritesUnindexedForEntry old now h e
     → Deallocates current now mid h → FreesGrowth mid new e.growth.block → RestoresBlocks old new
 entry-back {old} {e} l gone back =
     growth-back (place_of e.index) e.growth.block l.requested.grows (object-back l gone) back

@@ -13,8 +13,9 @@ use common.{ExchangesBlocks, blocks-trans, with_storage}
 use Rattle.segment_manager.proofs.objects.Taking.{IsTaken, requested-taken, taken-live, written-taken}
 use Rattle.segment_manager.proofs.objects.Exchanged.{all-but-beside, put-first}
 use Rattle.segment_manager.proofs.blocks.NewBlocks.{allocated-serves, changed-trans}
-use Rattle.segment_manager.proofs.Order.{inserted, all_of-insert, live-rises, resized-fresh, rising-insert}
-use Rattle.segment_manager.proofs.Frame.{padded_name-length}
+use Rattle.segment_manager.proofs.directory.ExtentOrder.{inserted, all_of-insert, live-rises, resized-fresh}
+use Rattle.segment_manager.proofs.directory.ExtentOrder.{rising-insert}
+use Rattle.segment_manager.proofs.directory.Frame.{padded_name-length}
 use Rattle.raw_region.proofs.{Facts.second, Facts.no_more, Laws.SameBytesExcept-wider}
 use Rattle.best_fit.specs.Fit.{insert}
 
@@ -161,6 +162,7 @@ module _ {a e : WindowState} (name : List ℕ) {n h at : ℕ} (t : AllocatesOk c
       let fits = no_more (long + 16) x.len (second (same_role x.role ObjectRole) (holds x long) (allocated-serves t)) in
       record { low = omega arith; high = omega arith }
 
+  -- a made value took these blocks
   pub made-taken : {w : WindowState} {come : List Extent} → ExchangesBlocks current e w (h + at) n [] come
       → IsTaken a w (t.extent ∷ come)
   made-taken r =

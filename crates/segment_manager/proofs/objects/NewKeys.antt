@@ -25,6 +25,7 @@ numbers-value k zs low high all = and_from (nat_le 1 (length zs) && nat_le (leng
     zs) (and_from (nat_le 1 (length zs)) (nat_le (length zs) 1048576) (le-leb 1 (length zs) low) (le-leb (length zs)
     1048576 high)) all
 
+-- so many equal values are a good value
 pub equal-good : (k : ScalarKind) (n : ℕ) (z : ℤ) → 1 ≤ n → n ≤ 1048576 → IsTrue (is_value k z)
     → IsTrue (is_good_value (Numbers k (replicate n z)))
 equal-good k n z low high h =
@@ -42,24 +43,28 @@ text-is_name name h = h
 abbrev pub object_of : Index → List ℕ → Value → Extent → Object
 object_of i name v x = record { class = class_of_index i; name = name; value = v; extent = x }
 
+-- the class of a new key is its index's
 pub key-class : (i : Index) (e : Entry) (key : names.Key) (name : List ℕ) (kind : Kind) → IsNewKeyOf i e key name kind
     → class_of key ≡ class_of_index i
 key-class Named (Name s) (names.ByName n) name kind h = refl
 key-class Unique (Code c) (names.ByKind u) name kind h = refl
 key-class i e key name kind h = absurd h
 
+-- the name of a new key is the entry's
 pub key-name : (i : Index) (e : Entry) (key : names.Key) {name : List ℕ} (kind : Kind) → IsNewKeyOf i e key name kind
     → name_of key ≡ name
 key-name Named (Name s) (names.ByName n) kind h = sym h.1
 key-name Unique (Code c) (names.ByKind u) kind h = sym h.1
 key-name i e key kind h = absurd h
 
+-- a new key is looked for in its index
 pub key-seeks : (i : Index) (e : Entry) (key : names.Key) (name : List ℕ) (kind : Kind) → IsNewKeyOf i e key name kind
     → Seeks i e key
 key-seeks Named (Name s) (names.ByName n) name kind h = h.0
 key-seeks Unique (Code c) (names.ByKind u) name kind h = h.0
 key-seeks i e key name kind h = absurd h
 
+-- a new key is sorted in its index
 pub key-sort : (i : Index) (e : Entry) (key : names.Key) (name : List ℕ) (kind : Kind) → IsNewKeyOf i e key name kind
     → index_of e ≡ i
 key-sort i e key name kind h = seeks-sort i e key (key-seeks i e key name kind h)
@@ -87,6 +92,7 @@ key-has Named (Name s) (names.ByName n) name v x h = ap (same_bytes n) h.1 ∙ s
 key-has Unique (Code c) (names.ByKind u) name v x h = eq-eqb (code_of u) (code_of (kind_of v)) (ap code_of h.2)
 key-has i e key name v x h = absurd h
 
+-- a new key is its object's own
 pub key-own : (i : Index) (e : Entry) (key : names.Key) (name : List ℕ) (v : Value) (d : Directory) (x : Extent)
     → IsNewKeyOf i e key name (kind_of v) → object_at d key ≡ None
     → object_at d (key_in i (object_of i name v x)) ≡ None

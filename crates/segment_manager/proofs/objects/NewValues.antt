@@ -6,9 +6,9 @@ use common.{◌≡◌, sym, true, ◌&&◌, Some, None, List, find, Kind, Value,
 use common.{EncodesLiveSet, live_of, Refusal, Content, FindsPosition, room_for, ap, Extent, place, KeepsBlocks}
 use common.{BackingArray, serves, Class, Index, Absent, Object, padded, subst, IsAbsentAt, IsReadyFor, LeadsThere}
 use common.{extents_of, object_len, entries_of, ◌∙◌, ℕ, ◌+◌, [], ◌∷◌, WindowState, Option, length, IsTrue}
-use common.{BeginsObjectOk, IsUnindexedObject, Denotes, has_key, kind_of, IsGiven, and_from, SameSurroundings}
+use common.{BeginsObjectOk, WritesUnindexedObject, Denotes, has_key, kind_of, IsGiven, and_from, SameSurroundings}
 use common.{ChangesBytes, laid-heap, IsNewKeyOf, RestoresBlocks, with_value, current, PendingEntry, WritesObjectHeader}
-use common.{IsReadyForEntry, count_of, IsDenied, table_of, head_len, bytes_of, added, place_of, AddKeeps, IsGrowth}
+use common.{IsReadyForEntry, count_of, IsDenied, table_of, head_len, bytes_of, added, place_of, AddKeeps, PreparesOk}
 use common.{prepared, IsSegment, DenotesCurrent, SameSurroundings-trans, BeginsAnonymous, is_good_value, value_extents}
 use common.{class_of_index, ObjectRole, AllocatesOk, is_kind_of, BeginsEntryOk, with_object, MakesValueOk, Anonymous}
 use common.{IsIndexOf, Directory, is_object, object_at, value_len, MakesValueErr, handle}
@@ -16,18 +16,21 @@ use Rattle.segment_manager.proofs.objects.Taking.{IsMade, IsTaken, taken-growth,
 use Rattle.segment_manager.proofs.objects.Taking.{growth-stays, made-key, made-stays, restored-taken}
 use Rattle.segment_manager.proofs.objects.MadeValues.{empty-taken, made-object, made-taken, placed-next}
 use Rattle.segment_manager.proofs.objects.Constructed.{IsNewObject, IsNoObject, content-denied, content-entered}
-use Rattle.segment_manager.proofs.{objects.Constructed.restored-denotes, Codes.known-kind, indexes.Bridge.lookup-absent}
-use Rattle.segment_manager.proofs.{Calling.denotes-live, Denoted.denotes-with, objects.Heads.object-entry}
-use Rattle.segment_manager.proofs.{blocks.NewBlocks.allocated-serves, Live.adding, Steps.perform-new}
+use Rattle.segment_manager.proofs.{objects.Constructed.restored-denotes, objects.KindCodes.known-kind}
+use Rattle.segment_manager.proofs.{indexes.Bridge.lookup-absent}
+use Rattle.segment_manager.proofs.{directory.HeapCalls.denotes-live, directory.OneObject.denotes-with}
+use Rattle.segment_manager.proofs.{objects.Heads.object-entry}
+use Rattle.segment_manager.proofs.{blocks.NewBlocks.allocated-serves, directory.LiveSet.adding}
+use Rattle.segment_manager.proofs.{directory.CommandSteps.perform-new}
 use Rattle.segment_manager.proofs.indexes.HeldIndexes.{denotes-index, denotes-sorted}
 use Rattle.segment_manager.proofs.objects.NewKeys.{key-object, key-of, key-seeks, key-short, key-sort, object_of}
 use Rattle.seg_index.specs.{declared.keys.Entry.Entry, Sorted.BelongsAt}
-use Rattle.segment_manager.specs.objects.PendingObjects.{GivesAllBack, IsEntryAdded}
+use Rattle.segment_manager.specs.objects.PendingObjects.{GivesAllBack, AddsPendingEntry}
 use Rattle.seg_index.proofs.Laws.{ObjectStays, belongs-at, keeps-sorted, place_behind, place_small, stays-trans}
 
 -- ---- places
 
-growth-place : {a b : WindowState} (at : ℕ) (g : Option ℕ) → IsGrowth a b at g → SameSurroundings a b
+growth-place : {a b : WindowState} (at : ℕ) (g : Option ℕ) → PreparesOk a b at g → SameSurroundings a b
 growth-place {a} at None h = subst (SameSurroundings a) (sym h.1) (record { before = refl; after = refl })
 growth-place at (Some g) h = h.1.keeps.place
 
@@ -120,7 +123,8 @@ module _ (content : Content) where
     absent = (lookup-absent e.index a g.entry key said (key-seeks e.index g.entry key g.name kind g.is)
         (away-in e.index g.entry e.place said g.absent)).none
 
-    entry-new : {w c : WindowState} → MakesValueOk content m w (record { handle = h; at = at }) → IsEntryAdded w c h e
+    entry-new : {w c : WindowState} → MakesValueOk content m w (record { handle = h; at = at })
+        → AddsPendingEntry w c h e
         → IsNewObject c d key content h
     entry-new {w} {c} r added =
         let b : WindowState = g.requested.between in let class = class_of_index e.index in
@@ -243,14 +247,16 @@ module _ (content : Content) where
           growth = taken-growth mid w _ (place_of i) e.growth.block taken (place_behind i) (place_small i) grown;
         }
 
+    -- a made value: the object is ready
     pub value-ready : (entry : Option PendingEntry) {w : WindowState} → BeginsObjectOk a m key kind many long h at entry
         → MakesValueOk content m w (record { handle = h; at = at }) → IsReadyFor w h entry
     value-ready None g r = tt
     value-ready (Some e) g r = entry-wanted g r
 
+    -- a value that was not made: the object has no entry
     pub value-loose : (entry : Option PendingEntry) (w : WindowState) (why : Refusal)
         → BeginsObjectOk a m key kind many long h at entry
-        → MakesValueErr content m w (record { handle = h; at = at }) why → IsUnindexedObject a w h entry
+        → MakesValueErr content m w (record { handle = h; at = at }) why → WritesUnindexedObject a w h entry
     value-loose None w why g r = record {
       len = room_for [] long;
       taken = w;
@@ -271,7 +277,7 @@ module _ (content : Content) where
     -- ---- all directories
 
     module _ {w c : WindowState} {e : PendingEntry} (g : BeginsEntryOk a m key kind many long h at e) where
-      entry-place : (r : MakesValueOk content m w (record { handle = h; at = at })) → IsEntryAdded w c h e
+      entry-place : (r : MakesValueOk content m w (record { handle = h; at = at })) → AddsPendingEntry w c h e
           → SameSurroundings a c
       entry-place r added =
           let i : Index = e.index in let mid : WindowState = g.requested.between in
@@ -281,7 +287,7 @@ module _ (content : Content) where
           (keeps-place (place_of i) q.table e.growth.block (added.keeps q.table q.handles q.index.index)))
 
       -- it is made
-      value-made : MakesValueOk content m w (record { handle = h; at = at }) → IsEntryAdded w c h e
+      value-made : MakesValueOk content m w (record { handle = h; at = at }) → AddsPendingEntry w c h e
           → IsMadeNow a c key content h
       value-made r added = record {
         place = entry-place r added;
@@ -313,6 +319,7 @@ module _ (content : Content) where
 
   -- the same whatever the key
   module _ {a m : WindowState} (b : IsSegment a.bytes) {key : names.Key} (h at : ℕ) where
+    -- a made value: the object is constructed
     pub value-built : (entry : Option PendingEntry) {w : WindowState} {c : WindowState}
         → BeginsObjectOk a m key kind many long h at entry
         → MakesValueOk content m w (record { handle = h; at = at }) → LeadsThere w c h entry
@@ -322,6 +329,7 @@ module _ (content : Content) where
         (alone-made h at (record { is = refl; taken = g.taken; takes = g.takes; headed = g.headed }) r))
     value-built (Some e) g r added = value-made a b key h at g r added
 
+    -- a value that was not made: the object is not constructed
     pub value-not_built : (entry : Option PendingEntry) {w : WindowState} {c : WindowState} {why : Refusal}
         → BeginsObjectOk a m key kind many long h at entry
         → MakesValueErr content m w (record { handle = h; at = at }) why

@@ -1,12 +1,14 @@
 -- An object that is not begun: why, and what the directory is then.
 use Rattle.seg_types.specs.Names as names
 use Rattle.segment_manager.proofs.Common.{◌≡◌, sym, ap, subst, ◌∙◌, inl, inr, Some, [], WindowState, place, Object}
-use Rattle.segment_manager.proofs.Common.{live, bare, refl, ObjectRole, IsNotBegun, RefusesKey, object_len, with_object}
+use Rattle.segment_manager.proofs.Common.{live, bare, refl, ObjectRole, BeginsObjectErr, RefusesKey, object_len}
+use Rattle.segment_manager.proofs.Common.{with_object}
 use Rattle.segment_manager.proofs.Common.{entries_of, current, NoSpace, Content, Denotes, kind_of, table_of, room_for}
 use Rattle.segment_manager.proofs.Common.{DenotesCurrent, SameSurroundings, AllocatesNoSpace, Anonymous, Directory}
 use Rattle.segment_manager.proofs.{Common.object_at, Common.value_len, Common.with_value, indexes.Bridge.lookup-absent}
-use Rattle.segment_manager.proofs.{indexes.Bridge.lookup-found, Calling.denotes-live, indexes.HeldIndexes.denotes-index}
-use Rattle.segment_manager.proofs.{objects.NewKeys.key-seeks, Steps.perform-no_space}
+use Rattle.segment_manager.proofs.{indexes.Bridge.lookup-found, directory.HeapCalls.denotes-live}
+use Rattle.segment_manager.proofs.{indexes.HeldIndexes.denotes-index}
+use Rattle.segment_manager.proofs.{objects.NewKeys.key-seeks, directory.CommandSteps.perform-no_space}
 use Rattle.segment_manager.proofs.objects.Constructed.{content-none, restored-denotes}
 use Rattle.segment_manager.proofs.objects.NewValues.{no_key-none, away-in, IsMadeNever}
 use Rattle.segment_manager.specs.objects.PendingObjects.{BeginsEntryErr}
@@ -57,6 +59,7 @@ module _ {a : WindowState} (key : names.Key) (content : Content) where
 
   -- a block is refused
   pub value-not_begun : {c : WindowState}
-      → IsNotBegun a c key (kind_of (bare content)) (value_len (bare content)) NoSpace → IsMadeNever a c key content
+      → BeginsObjectErr a c key (kind_of (bare content)) (value_len (bare content)) NoSpace
+      → IsMadeNever a c key content
   value-not_begun {c} (inl r) = subst (λ (q : names.Key). IsMadeNever a c q content) (sym r.0) (none-alone r.1)
   value-not_begun (inr u) = none-entry u

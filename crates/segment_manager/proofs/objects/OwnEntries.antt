@@ -30,6 +30,7 @@ pub seen-there : {s t : SegmentState} (view : s ≡ t) (h : ℕ) → AnswersWith
     → AnswersWith s (λ d. is_object_at d h) true
 seen-there view h = subst (λ (u : SegmentState). AnswersWith u (λ d. is_object_at d h) true) (sym view)
 
+-- the object of a handle is there
 pub has-own_object : {s t : SegmentState} (view : s ≡ t) (h : ℕ) → IsSegment s.cut.bytes
     → AnswersWith t (λ d. is_object_at d h) true → HasObject s.cut.bytes h
 has-own_object view h i a = has-object (names.ByHandle h) i (itself (seen-there view h a))

@@ -12,7 +12,7 @@ use Rattle.segment_manager.proofs.{Common.changed-room, blocks.NewBlocks.changed
 use Rattle.best_fit.specs.Heap.{payload_at}
 use Rattle.raw_region.proofs.{Laws.length-part, Laws.part-part, Laws.read-part, Bytes.HasBytesAt-append}
 use Rattle.best_fit.proofs.Laws.{block_payload, room-less}
-use Rattle.seg_vector.proofs.Storage.{live-if}
+use Rattle.seg_vector.proofs.storage.Storage.{live-if}
 use Rattle.std.proofs.lemmas.List.{take-replicate}
 
 -- ---- blocks with room are in use
@@ -28,6 +28,7 @@ pub record Lent (c : WindowState) (h n : ℕ) (p : List ℕ) : Type 0 where
   pub long : n ≤ length p
   pub content : (at len : ℕ) → at + len ≤ n → part p at len ≡ read (bytes_of c.bytes) (h + at) len
 
+-- a payload that is lent
 pub lent : (c : WindowState) (h n : ℕ) {p : List ℕ} → IsHeap current c.bytes → IsTrue (has_room (live_of c.bytes) h n)
     → p ≡ payload_at c.bytes (live_of c.bytes) h → Lent c h n p
 lent c h n {p} heap has e =
@@ -95,6 +96,7 @@ pub record Repeats (a b : WindowState) (from i : ℕ) (bytes : List ℕ) : Type 
   pub change : ChangesBytes current a b from (length bytes * i)
   pub content : HasBytesAt (bytes_of b.bytes) from (repeated i bytes)
 
+-- one repetition more is written
 pub repeats-more : {a b c : WindowState} (h at : ℕ) {i : ℕ} {bytes : List ℕ} → Repeats a b (h + at) i bytes
     → ChangesBytes current b c (h + (at + length bytes * i)) (length bytes)
     → HasBytesAt (bytes_of c.bytes) (h + (at + length bytes * i)) bytes → Repeats a c (h + at) (i + 1) bytes
@@ -123,6 +125,7 @@ pub record HasName (a c : WindowState) (h : ℕ) (name : List ℕ) : Type 0 wher
   pub change : ChangesBytes current a c (h + 16) (padded (length name))
   pub content : HasBytesAt (bytes_of c.bytes) (h + 16) (padded_name name)
 
+-- the name and the zeros behind it are written
 pub name-written : {a b c : WindowState} {h : ℕ} {name : List ℕ} {zeros : List ℕ}
     → zeros ≡ replicate (padded (length name) - length name) 0 → ChangesBytes current a b (h + 16) (length name)
     → HasBytesAt (bytes_of b.bytes) (h + 16) name → ChangesBytes current b c (h + (16 + length name)) (length zeros)
@@ -148,6 +151,7 @@ pub record HasHead (a d : WindowState) (h : ℕ) (kind : Kind) (count : ℕ) (cl
   pub change : ChangesBytes current a d h (16 + padded (length name))
   pub head : IsHeadAt (bytes_of d.bytes) h kind count class name
 
+-- the head of an object is written
 pub head-written : {a b c : WindowState} {d : WindowState} {h : ℕ} {kind : Kind} {count : ℕ} {class : Class}
     {name : List ℕ} → ChangesBytes current a b (h + 0) 8 → word_at (bytes_of b.bytes) (h + 0)
     ≡ two_halves (code_of kind) count → ChangesBytes current b c (h + 8) 8 → word_at (bytes_of c.bytes) (h + 8)

@@ -2,9 +2,11 @@
 use Rattle.segment_manager.proofs.Common.{◌≡◌, refl, sym, subst, ◌∙◌, ℕ, suc, Bool, true, false, ◌&&◌, List, [], ◌∷◌}
 use Rattle.segment_manager.proofs.Common.{cond, Class, Object, rises, ap, length, if◌then◌else◌, IsTrue, filter}
 use Rattle.segment_manager.proofs.Common.{AllByRecursion, and_from, is_class, remove_object, insert_by}
-use Rattle.segment_manager.proofs.Live.{IsFound, Place, here, behind, found-place, found-nothing, remove-here}
+use Rattle.segment_manager.proofs.directory.LiveSet.{IsFound, Place, here, behind, found-place, found-nothing}
+use Rattle.segment_manager.proofs.directory.LiveSet.{remove-here}
 use Rattle.segment_manager.proofs.objects.Ranks.{before, after, ranked-sym, AllRanked, put_all, all_of-insert_by}
-use Rattle.segment_manager.proofs.{Live.remove-behind, objects.Ranks.IsStrict, objects.Ranks.IsRanked, Faces.ordered}
+use Rattle.segment_manager.proofs.{directory.LiveSet.remove-behind, objects.Ranks.IsStrict, objects.Ranks.IsRanked}
+use Rattle.segment_manager.proofs.{directory.IndexedParts.ordered}
 use Rattle.raw_region.proofs.Facts.{first, second}
 
 -- ---- what rises is ranked, each two
@@ -156,6 +158,7 @@ module _ (lt : Object → Object → Bool) where
   insert_by-rises o (p ∷ ps) r h =
       rises-first-if ps (insert_by lt o ps) r.0 h (λ g. more-rises lt p o ps g r.1 h) (lt o p) refl
 
+  -- the rest of a list that rises rises
   pub rises-tail : (p : Object) (ps : List Object) → IsTrue (rises lt (p ∷ ps)) → IsTrue (rises lt ps)
   rises-tail p [] h = refl
   rises-tail p (q ∷ qs) h = second (lt p q) (rises lt (q ∷ qs)) h

@@ -2,8 +2,10 @@
 use Rattle.segment_manager.proofs.Common.{◌≡◌, refl, sym, ap, subst, ◌∙◌, ℕ, Bool, true, false, List, [], ◌∷◌}
 use Rattle.segment_manager.proofs.Common.{if◌then◌else◌, cond, nat_lt, filter, fold, AllByRecursion, Class, Object}
 use Rattle.segment_manager.proofs.Common.{is_class, put_object, remove_object, insert_by}
-use Rattle.segment_manager.proofs.Live.{IsFound, Place, here, behind, found-place, found-nothing, remove-here}
-use Rattle.segment_manager.proofs.{Faces.ordered, objects.ObjectLists.put-if, Live.remove-behind}
+use Rattle.segment_manager.proofs.directory.LiveSet.{IsFound, Place, here, behind, found-place, found-nothing}
+use Rattle.segment_manager.proofs.directory.LiveSet.{remove-here}
+use Rattle.segment_manager.proofs.{directory.IndexedParts.ordered, objects.ObjectLists.put-if}
+use Rattle.segment_manager.proofs.{directory.LiveSet.remove-behind}
 
 -- an order that is strict
 pub record IsStrict (lt : Object → Object → Bool) : Type 0 where
@@ -12,9 +14,12 @@ pub record IsStrict (lt : Object → Object → Bool) : Type 0 where
 
 -- one of the two comes first
 pub data IsRanked (lt : Object → Object → Bool) (o p : Object) : Type 0 where
+  -- an object before another is ranked
   before : lt o p ≡ true → lt p o ≡ false → IsRanked lt o p
+  -- an object behind another is ranked
   after : lt p o ≡ true → lt o p ≡ false → IsRanked lt o p
 
+-- two objects are ranked in either order
 pub ranked-sym : (lt : Object → Object → Bool) (o p : Object) → IsRanked lt o p → IsRanked lt p o
 ranked-sym lt o p (before e f) = after e f
 ranked-sym lt o p (after e f) = before e f
@@ -25,10 +30,12 @@ AllRanked lt o = AllByRecursion (IsRanked lt o)
 
 -- ---- one put in
 
+-- an object before the first is put in front
 pub insert_by-front : (lt : Object → Object → Bool) (o p : Object) (ps : List Object) → lt o p ≡ true
     → insert_by lt o (p ∷ ps) ≡ o ∷ p ∷ ps
 insert_by-front lt o p ps e = ap (λ b. if b then o ∷ p ∷ ps else p ∷ insert_by lt o ps) e
 
+-- an object not before the first is put behind it
 pub insert_by-behind : (lt : Object → Object → Bool) (o p : Object) (ps : List Object) → lt o p ≡ false
     → insert_by lt o (p ∷ ps) ≡ p ∷ insert_by lt o ps
 insert_by-behind lt o p ps e = ap (λ b. if b then o ∷ p ∷ ps else p ∷ insert_by lt o ps) e
@@ -65,6 +72,7 @@ insert_by-comm {lt} s {a} {b} (after e f) zs = sym (comm-before lt s b a e f zs)
 
 -- ---- all put in
 
+-- all of a list put into another
 abbrev pub put_all : (Object → Object → Bool) → List Object → List Object → List Object
 put_all lt acc os = fold (λ os o. insert_by lt o os) acc os
 

@@ -1,10 +1,11 @@
 -- An object and one in its place among the others of a directory.
 use Rattle.segment_manager.proofs.Common.{◌≡◌, sym, List, [], ◌∷◌, IsTrue, AllByRecursion, Extent, LiveSet, handle}
 use Rattle.segment_manager.proofs.Common.{is_proper, Object, Directory, live, without_object}
-use Rattle.segment_manager.proofs.{Live.adding, Live.IsFound, Order.Differs}
+use Rattle.segment_manager.proofs.{directory.LiveSet.adding, directory.LiveSet.IsFound, directory.ExtentOrder.Differs}
 
 -- ---- one extent among others
 
+-- a block that differs from all, seen from them
 pub differs-flip : (x : Extent) (ys : List Extent) → AllByRecursion (λ y. Differs y (x ∷ [])) ys → Differs x ys
 differs-flip x [] h = tt
 differs-flip x (y ∷ ys) h = ((λ e. h.0.0 (sym e)), differs-flip x ys h.1)

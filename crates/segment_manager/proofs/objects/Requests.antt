@@ -4,8 +4,10 @@ use Rattle.segment_manager.proofs.Common.{IsTrue, lt-ltb, le-ltb, Role, IndexRol
 use Rattle.segment_manager.proofs.Common.{place, resized, placed_is_proper, NoSpace, Index, grown_capacity, Refused}
 use Rattle.segment_manager.proofs.Common.{Directory, live, class_of_index, objects_of, table_of, with_table_of, Plan}
 use Rattle.segment_manager.proofs.Common.{perform, with_entry, with_new_index, with_place}
-use Rattle.segment_manager.proofs.{indexes.Tabled.grown_into, Steps.perform-no_space, indexes.Tables.same-table}
-use Rattle.segment_manager.proofs.{Steps.perform-new, Order.live-rises, Order.resized-fresh, Order.rising-insert}
+use Rattle.segment_manager.proofs.{indexes.Tabled.grown_into, directory.CommandSteps.perform-no_space}
+use Rattle.segment_manager.proofs.{indexes.Tables.same-table}
+use Rattle.segment_manager.proofs.{directory.CommandSteps.perform-new, directory.ExtentOrder.live-rises}
+use Rattle.segment_manager.proofs.{directory.ExtentOrder.resized-fresh, directory.ExtentOrder.rising-insert}
 use Rattle.seg_index.specs.declared.index.Index.TheVariants as index
 
 -- ---- a place in an index

@@ -2,7 +2,7 @@
 use Rattle.segment_manager.proofs.Common.{◌≡◌, sym, ◌∙◌, ℕ, ◌+◌, length, arith, Memory, SameBytes, handle, code_of}
 use Rattle.segment_manager.proofs.Common.{Value, Object, count_of, kind_of, padded, IsObjectAt, IsValueAt, padded_name}
 use Rattle.segment_manager.proofs.Common.{two_halves, HasBytesAt-same, SameBytes-word}
-use Rattle.segment_manager.proofs.Frame.{padded_name-length}
+use Rattle.segment_manager.proofs.directory.Frame.{padded_name-length}
 
 -- where the value of an object stands
 abbrev pub value_start : Object → ℕ

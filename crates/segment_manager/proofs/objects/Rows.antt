@@ -5,7 +5,7 @@ use Rattle.segment_manager.proofs.Common.{flat_map, flat_map_more, Memory, HasBy
 use Rattle.segment_manager.proofs.Common.{spelling, spelled, repeated, ◌≤◌, true, IsTrue, list_all, mul-le-mul_left}
 use Rattle.segment_manager.proofs.objects.Heads.{Has-front}
 use Rattle.std.proofs.{lemmas.List.replicate_more, Math.Seq.drop-append_seam}
-use Rattle.seg_vector.proofs.Typed.{flat-set}
+use Rattle.seg_vector.proofs.storage.TypedVectors.{flat-set}
 use Rattle.raw_region.proofs.Bytes.{HasBytesAt-patched, HasBytesAt-drop}
 
 -- ---- two rows
@@ -57,6 +57,7 @@ module _ {X : Type 0} (f : X → List ℕ) {n : ℕ} (each : (x : X) → length 
 
 -- ---- the same bytes several times
 
+-- so many repetitions have so many times the length
 pub repeated-length : (n : ℕ) (bytes : List ℕ) → length (repeated n bytes) ≡ length bytes * n
 repeated-length zero bytes = omega arith
 repeated-length (suc n) bytes = omega (arith, length-append bytes (repeated n bytes), repeated-length n bytes)

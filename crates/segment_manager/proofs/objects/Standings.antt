@@ -3,7 +3,7 @@ use Rattle.segment_manager.proofs.Common.{◌≡◌, ap, ◌∙◌, ◌+◌, ◌
 use Rattle.segment_manager.proofs.Common.{ℕ, replicate, bytes_of, has_room, class_code, count_of, object_len, value_len}
 use Rattle.segment_manager.proofs.Common.{length, IsTrue, current, word_at, handle, live_of, code_of, kind_of}
 use Rattle.segment_manager.proofs.Common.{IsObjectInBlock, sym, Kind, kind_of_code, same_Some}
-use Rattle.segment_manager.proofs.Codes.{code-read}
+use Rattle.segment_manager.proofs.objects.KindCodes.{code-read}
 use Rattle.segment_manager.proofs.objects.Heads.{Has-front, good-name, good_name-short, object-entry}
 use Rattle.best_fit.proofs.Laws.{room-less}
 use Rattle.segment_manager.specs.objects.Located.{located}
@@ -19,6 +19,7 @@ pub record HeadWords (b : List ℕ) (h : ℕ) (o : Object) : Type 0 where
   pub name_len : word_at (bytes_of b) (h + 8) % 4294967296 ≡ length o.name
   pub class : word_at (bytes_of b) (h + 8) / 4294967296 ≡ class_code o.class
 
+-- the words of the head of an object
 pub head-words : {b : List ℕ} {h : ℕ} {o : Object} → IsObjectInBlock b h o → HeadWords b h o
 head-words {b} {h} {o} s =
     let e = object-entry (bytes_of b) o (standing-short b h o s) s.said in

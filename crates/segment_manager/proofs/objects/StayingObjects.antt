@@ -5,8 +5,9 @@ use common.{◌==◌, Bool, true, false, Option, Some, Extent, handle, Object, A
 use common.{SegmentState, ap, is_some, LiveSet, resized, Refusal, NoSpace, ByHandle, Command, Directory, has_key}
 use common.{IsSegment, current, if◌then◌else◌, false≢true, replace_object, is_elementwise, step_of_kind, LeadsOnOfKind}
 use common.{option_map, IsDirectory, Denotes, Located, object_at, is_object_at, handle_at, same_Some}
-use Rattle.segment_manager.proofs.Refusals.{IsAnother, Leaves, by_change, by_other, by_refusal, by_request, by_same}
-use Rattle.segment_manager.proofs.Refusals.{extended-leaves, plan-leaves, plan_of_kind-leaves}
+use Rattle.segment_manager.proofs.directory.Refusals.{IsAnother, Leaves, by_change, by_other, by_refusal, by_request}
+use Rattle.segment_manager.proofs.directory.Refusals.{by_same}
+use Rattle.segment_manager.proofs.directory.Refusals.{extended-leaves, plan-leaves, plan_of_kind-leaves}
 use Rattle.segment_manager.proofs.containers.RangeCalls.{range_with, replaced-length, row_in}
 use Rattle.segment_manager.specs.containers.Ranges.{ExtendsVector, WritesRange, extended, is_row, range_at, range_in}
 use Rattle.segment_manager.specs.containers.Ranges.{replaced as replaced_range, with_range, written, written_if}
@@ -170,6 +171,7 @@ moved-keeps g m keeps q is = record {
       (keeps g.0 g.1.denotes.directory q.handle q (sym (is.answers g.0 g.1))));
 }
 
+-- law: objects stay
 pub objects_stay : ObjectsStay
 objects_stay = record {
   any = λ old new c answer g e m. moved-keeps g m (λ d is h q here. step-keeps d is h q here old.mode c e);

@@ -11,9 +11,12 @@ use common.{changed, Command, if◌then◌else◌, ScalarKind, OutOfRange, is_go
 use common.{AnswersQueryOfKind, step_of_kind, slice_get, current, WrongKind, same_kind, Directory, is_object, object_at}
 use common.{value_len, IsValueAt, literal_of, mul-le-mul_left, slice_get-get_or, slice_get_within, slice_get_past}
 use common.{value_of_literal, set as set_element}
-use Rattle.segment_manager.proofs.Steps.{open-reading, step_of_kind-found, step_of_kind-not_found, step_of_kind-other}
-use Rattle.segment_manager.proofs.{Codes.numbers-only, Frame.object-roomy, objects.Here.standing, Steps.with-found}
-use Rattle.segment_manager.proofs.{Steps.IsOpenFor, blocks.Blocks.spelling-length, objects.Standings.standing-room}
+use Rattle.segment_manager.proofs.directory.CommandSteps.{open-reading, step_of_kind-found, step_of_kind-not_found}
+use Rattle.segment_manager.proofs.directory.CommandSteps.{step_of_kind-other}
+use Rattle.segment_manager.proofs.{objects.KindCodes.numbers-only, directory.Frame.object-roomy, objects.Here.standing}
+use Rattle.segment_manager.proofs.{directory.CommandSteps.with-found}
+use Rattle.segment_manager.proofs.{directory.CommandSteps.IsOpenFor, blocks.Blocks.spelling-length}
+use Rattle.segment_manager.proofs.{objects.Standings.standing-room}
 use Rattle.segment_manager.proofs.{objects.Rows.HasBytesAt-element, containers.ContentPlans.of_slice}
 use Rattle.raw_region.proofs.Facts.{first, second}
 use Rattle.best_fit.specs.declared.places.Place.{Place}
@@ -138,6 +141,7 @@ missing-if : {d : Directory} {key : Key} {k : ScalarKind} {i : ℕ} {r : Refusal
 missing-if None e f = Nowhere e (cc)
 missing-if {k} {i} (Some o) e f = Within o e (within-if o k i (place_in o k i) refl f)
 
+-- an element that is not there, and why
 pub element-missing : {d : Directory} {key : Key} {k : ScalarKind} {i : ℕ} {r : Refusal} → Err r ≡ place_at d key k i
     → Missing d key k i r
 element-missing {d} {key} e = missing-if (object_at d key) refl e
@@ -208,6 +212,7 @@ get-effect : (d : Directory) (key : Key) {o : Object} (k : ScalarKind) (zs : Lis
 get-effect d key {o} k zs i r e f g = with-found d key o (λ o. get d o.value i) e ∙ ap (λ v. get d v i) f
     ∙ ap (λ (r : Option ℤ). with (of_slice r) (λ z. Reply (Element k z) d)) g
 
+-- the plan of `set` for an array
 pub set-effect : (d : Directory) (key : Key) {o : Object} (k : ScalarKind) (zs : List ℤ) (i : ℕ) (l : Literal) {z : ℤ}
     (r : Option ℤ) → object_at d key ≡ Some o → o.value ≡ Numbers k zs → value_of_literal k l ≡ Ok z
     → slice_get zs i ≡ r → effect d (asked.Set key i l) ≡ with (of_slice r)
@@ -243,6 +248,7 @@ lacking mode d key k i r c {o} may past e (Past s t f) =
     step_of_kind-found mode d key (Scalar k) c o may e s
     ∙ ap (perform d (live d)) (past n.0 n.1 (slice_get_past n.0 i behind)) ∙ (λ j. (Refused (sym f j), d))
 
+-- a command on an element that is not there is refused
 pub missing-steps : (mode : Mode) {d : Directory} {key : Key} {k : ScalarKind} {i : ℕ} {r : Refusal} (c : Command)
     → IsOpenFor mode c → ((o : Object) (zs : List ℤ) → object_at d key ≡ Some o → o.value ≡ Numbers k zs
     → slice_get zs i ≡ None → effect d c ≡ Refuse OutOfRange) → Missing d key k i r

@@ -5,11 +5,11 @@ use common.{◌≡◌, sym, ap, subst, ◌∙◌, ℕ, ◌+◌, ◌-◌, ◌/◌
 use common.{SameBlock, allocated-live, bytes_of, keeps-trans, word_at, IfSome, IsTrue, WindowState, current, ObjectRole}
 use common.{IndexRole, AllocatesOk, ChangesBytes, IsHeap, AllocatesNoSpace, KeepsBlocks, EncodesLiveSet, is_live_in}
 use common.{live_of, BackingArray, added, allocated-is_live, allocated-room, keeps-refl, laid-heap, Index, CanGrow}
-use common.{FreesGrowth, IsGrowth, grown_bytes, IsIndexOf, place_of, RequestsBlocksOk, RestoresBlocks}
+use common.{FreesGrowth, PreparesOk, grown_bytes, IsIndexOf, place_of, RequestsBlocksOk, RestoresBlocks}
 use common.{RequestsBlocksErr, ◌≤◌, Bool, [], ◌∷◌, find, SameBytes-part, SameBytes-word, SameBytes-link, Extent, handle}
 use common.{extent_at, lay_out_one, grown_capacity, Object, extents_of, is_object, IsObjectAt, value_extents}
-use Rattle.segment_manager.proofs.Order.{all_of-insert, live-rises, rising-insert, inserted}
-use Rattle.segment_manager.proofs.{Live.adding, indexes.HeldIndexes.key-fits}
+use Rattle.segment_manager.proofs.directory.ExtentOrder.{all_of-insert, live-rises, rising-insert, inserted}
+use Rattle.segment_manager.proofs.{directory.LiveSet.adding, indexes.HeldIndexes.key-fits}
 use Rattle.best_fit.proofs.Laws.{still_allocated-block, found-inserted, found-new, found-none}
 use Rattle.seg_index.proofs.Laws.{ObjectStays, all_found, place_behind, place_small, stays-itself, taken-stays}
 use Rattle.seg_index.proofs.Laws.{Around-kept, stays}
@@ -43,10 +43,12 @@ allocated-found {old} {new} {h} a = ap (λ (l : LiveSet). find (has_handle h) l.
 
 -- ---- after blocks are taken
 
+-- blocks that were taken are in the live set
 pub taken-live : (old new : WindowState) (xs : List Extent) → IsTaken old new xs
     → live_of new.bytes ≡ adding (live_of old.bytes) xs
 taken-live old new xs m = lay_out_one current new.bytes (adding (live_of old.bytes) xs) m.live
 
+-- a block in use is found after others were taken
 pub taken-found : (old new : WindowState) (xs : List Extent) (h : ℕ) {x : Extent} → IsTaken old new xs
     → extent_at (live_of old.bytes) h ≡ Some x → extent_at (live_of new.bytes) h ≡ Some x
 taken-found old new xs h {x} m e =
@@ -93,7 +95,7 @@ requested-taken a = record { live = a.live; keeps = a.keeps }
 -- ---- a request
 
 -- what an index has taken to grow into is in use
-pub growth-held : (a b : WindowState) (at : ℕ) (g : Option ℕ) → IsGrowth a b at g
+pub growth-held : (a b : WindowState) (at : ℕ) (g : Option ℕ) → PreparesOk a b at g
     → IfSome g (λ h. IsTrue (is_live_in (live_of b.bytes) h))
 growth-held a b at None h = tt
 growth-held a b at (Some g) h = allocated-is_live current a b _ IndexRole g h.1
@@ -103,7 +105,7 @@ unchanged {a} heap e =
     subst (RestoresBlocks a) (sym e) (record { laid = heap; keeps = keeps-refl a (live_of a.bytes).extents })
 
 -- what was taken before a refusal is given back
-pub request-unmet : (a b c d : WindowState) (at n : ℕ) (g : Option ℕ) → IsHeap current a.bytes → IsGrowth a b at g
+pub request-unmet : (a b c d : WindowState) (at n : ℕ) (g : Option ℕ) → IsHeap current a.bytes → PreparesOk a b at g
     → AllocatesNoSpace b c n ObjectRole → FreesGrowth c d g
     → IfSome g (λ h. (before : WindowState) (n : ℕ) → AllocatesOk current before c n IndexRole h
     → EncodesLiveSet current d.bytes (live_of before.bytes) × KeepsBlocks before d (live_of before.bytes).extents)
@@ -119,8 +121,9 @@ request-unmet a b c d at n (Some h) heap grows refused back restored =
 
 -- ---- an index while an object is made
 
+-- the index stays while it may grow
 pub growth-index : (i : Index) {a : WindowState} {b : WindowState} (g : Option ℕ) {t : BackingArray} {hs : List ℕ}
-    → IsGrowth a b (place_of i) g → IsIndexOf a (place_of i) t hs → IsIndexOf b (place_of i) t hs
+    → PreparesOk a b (place_of i) g → IsIndexOf a (place_of i) t hs → IsIndexOf b (place_of i) t hs
 growth-index i None {t} {hs} g x = subst (λ (c : WindowState). IsIndexOf c (place_of i) t hs) (sym g.1) x
 growth-index i (Some h) g x = taken-index _ (requested-taken g.1) (place_behind i) (place_small i) x
 
@@ -136,10 +139,11 @@ pub meant : {a b : WindowState} {at m n : ℕ} {g : Option ℕ} {h : ℕ} → m 
 meant {a} {b} {at} {g} {h} e r = subst (λ (k : ℕ). RequestsBlocksOk a b at k g h) e r
 
 -- the objects stay where the index takes its block, and where the object's own are taken
-pub growth-stays : {a b : WindowState} (at : ℕ) (g : Option ℕ) → IsGrowth a b at g → (h : ℕ) → ObjectStays a b h
+pub growth-stays : {a b : WindowState} (at : ℕ) (g : Option ℕ) → PreparesOk a b at g → (h : ℕ) → ObjectStays a b h
 growth-stays {a} at None g h = subst (λ (c : WindowState). ObjectStays a c h) (sym g.1) (stays-itself {a = a} h)
 growth-stays at (Some k) g h = taken-stays g.1 h
 
+-- objects stay while blocks are taken
 pub made-stays : {a b : WindowState} (xs : List Extent) → IsTaken a b xs → (h : ℕ) → ObjectStays a b h
 made-stays {a} {b} xs m h = record {
   each = λ x e role. (

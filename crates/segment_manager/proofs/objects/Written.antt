@@ -8,12 +8,14 @@ use common.{Directory, count_of, is_object, kind_of, padded, value_len, Denotes,
 use common.{Literal, value_of_literal, Mode, Refused, Done, live, perform, IsSegment, step_of_kind, done_answer, ◌&&◌}
 use common.{nat_le, and_from, WindowState, SameBytesExcept, ObjectRole, ChangesBytes, serves, literal_of, has_good_name}
 use common.{value_extents, with_changed, TakesStepOfKind, is_read_only}
-use Rattle.segment_manager.proofs.Steps.{step_of_kind-found, by_no_change_of_kind, by_step_of_kind, lands, open-writing}
+use Rattle.segment_manager.proofs.directory.CommandSteps.{step_of_kind-found, by_no_change_of_kind, by_step_of_kind}
+use Rattle.segment_manager.proofs.directory.CommandSteps.{lands, open-writing}
 use Rattle.segment_manager.proofs.objects.Stored.{ElementAt, numbers-good, element-found, element-missing}
 use Rattle.segment_manager.proofs.objects.Stored.{numbers-stand, set-effect, element-kind, missing-steps, literal-read}
 use Rattle.segment_manager.proofs.containers.Safely.{Answered, answered, done-so}
 use Rattle.segment_manager.proofs.objects.Rewritten.{value_start, with_value}
-use Rattle.segment_manager.proofs.{objects.Rows.HasBytesAt-set, Frame.object-roomy, blocks.Blocks.spelling-length}
+use Rattle.segment_manager.proofs.{objects.Rows.HasBytesAt-set, directory.Frame.object-roomy}
+use Rattle.segment_manager.proofs.{blocks.Blocks.spelling-length}
 use Rattle.segment_manager.proofs.{objects.ObjectLists.key-found, objects.Exchanged.denotes-rewritten}
 use Rattle.raw_region.proofs.Facts.{second, first}
 use Rattle.best_fit.specs.declared.places.Place.{Place}

@@ -14,7 +14,8 @@ use Rattle.seg_vector.specs.Containers.{place_at}
 use Rattle.segment_manager.specs.declared.objects.pending_object.PendingEntry.{PendingEntry}
 use Rattle.segment_manager.specs.declared.containers.fillings.ObjectShape.{ObjectShape}
 use Rattle.segment_manager.specs.{declared.modes.Mode.Mode, Answers.Answer, Answers.Refused, Answers.is_untouched}
-use Rattle.segment_manager.specs.{Denotes.IsValueAt, Directory.value_len, objects.Found.pair_answer, Keeping.IsBoundKey}
+use Rattle.segment_manager.specs.{Denotes.IsValueAt, Directory.value_len, objects.Found.found_object_answer}
+use Rattle.segment_manager.specs.{Keeping.IsBoundKey}
 use Rattle.segment_manager.specs.{objects.NewObjects.RestoresBlocks, Plan.Plan, Plan.bare, Plan.perform}
 use Rattle.segment_manager.specs.{Plan.with_value, Step.is_read_only}
 use Rattle.segment_manager.specs.objects.PendingObjects.{GivesAllBack, BeginsObjectOk, LeadsThere}
@@ -74,13 +75,13 @@ MakesValue content old new p result =
 -- ---- in an object that was begun
 
 -- an object was begun, for the content
-abbrev pub IsBegunFor : WindowState → WindowState → names.Key → Content → ℕ → ℕ → Option PendingEntry → Type 0
-IsBegunFor old now key content h at entry =
+abbrev pub BeginsObjectFor : WindowState → WindowState → names.Key → Content → ℕ → ℕ → Option PendingEntry → Type 0
+BeginsObjectFor old now key content h at entry =
     BeginsObjectOk old now key (kind_of (bare content)) (count_of (bare content)) (value_len (bare content)) h at entry
 
 abbrev pub HasBegun : WindowState → Content → ℕ → ℕ → Option PendingEntry → Type 0
 HasBegun now content h at entry =
-    (old : WindowState) × (IsSegment old.bytes × ((key : names.Key) × IsBegunFor old now key content h at entry))
+    (old : WindowState) × (IsSegment old.bytes × ((key : names.Key) × BeginsObjectFor old now key content h at entry))
 
 -- its value is made, and an entry leads to it, if it is to have one
 pub record FillsObjectOk (now new : WindowState) (h at : ℕ) (entry : Option PendingEntry) (content : Content)
@@ -91,7 +92,7 @@ pub record FillsObjectOk (now new : WindowState) (h at : ℕ) (entry : Option Pe
   pub entered : LeadsThere made new h entry
 
 -- or all is given back
-pub record IsNotBuilt (now new : WindowState) (h at : ℕ) (entry : Option PendingEntry) (content : Content)
+pub record FillsObjectErr (now new : WindowState) (h at : ℕ) (entry : Option PendingEntry) (content : Content)
     (why : Refusal) : Type 0 where
   pub left : WindowState
   pub none : MakesValueErr content now left (record { handle = h; at = at }) why
@@ -99,7 +100,7 @@ pub record IsNotBuilt (now new : WindowState) (h at : ℕ) (entry : Option Pendi
 
 abbrev pub FillsObject : WindowState → WindowState → ℕ → ℕ → Option PendingEntry → Content → Result ℕ Refusal → Type 0
 FillsObject now new h at entry content result =
-    MatchResult result (FillsObjectOk now new h at entry content) (IsNotBuilt now new h at entry content)
+    MatchResult result (FillsObjectOk now new h at entry content) (FillsObjectErr now new h at entry content)
 
 -- ---- a construction
 
@@ -114,7 +115,7 @@ pub record Constructs {A : Type 0} (old new : WindowState) (command : Command) (
 -- and nothing changes where an object has the key
 pub record FindsOrConstructs (old new : WindowState) (key : names.Key) (content : Content)
     (result : Result (ℕ × ℕ) Refusal) : Type 0 where
-  pub constructs : Constructs old new (FindOrConstruct key content) pair_answer result
+  pub constructs : Constructs old new (FindOrConstruct key content) found_object_answer result
   pub found : (d : Directory) → DenotesCurrent old.bytes d → IsBoundKey key d → new ≡ old
 
 -- a handle with the count of its object
@@ -130,8 +131,8 @@ ConstructsObject old new key content result = TakesStep old new (Construct key c
 
 -- or one is found there
 abbrev pub FindsOrMakes : SegmentState → SegmentState → names.Key → Content → Result (ℕ × ℕ) Refusal → Type 0
-FindsOrMakes old new key content result = TakesStep old new (FindOrConstruct key content) (pair_answer result)
+FindsOrMakes old new key content result = TakesStep old new (FindOrConstruct key content) (found_object_answer result)
 
 -- so many times the same number
-abbrev pub alike : ScalarKind → ℕ → ℤ → Content
-alike k count z = Numbers k (replicate count z)
+abbrev pub equal_numbers : ScalarKind → ℕ → ℤ → Content
+equal_numbers k count z = Numbers k (replicate count z)

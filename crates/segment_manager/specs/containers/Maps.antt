@@ -51,9 +51,9 @@ told_of say (Pairs k v ps) = Ok (say ps)
 told_of say (Texts ps t) = Err WrongKind
 
 -- the same of the object of a key, a map of the kinds
-abbrev pub told_of_map : {A : Type 0} → Directory → Key → ScalarKind → ScalarKind → (List NumberPair → A)
+abbrev pub answer_of_map : {A : Type 0} → Directory → Key → ScalarKind → ScalarKind → (List NumberPair → A)
     → Result A Refusal
-told_of_map d key k v say = elim (object_at d key) [
+answer_of_map d key k v say = elim (object_at d key) [
   | None ↦ Err NotFound
   | Some o ↦ if same_kind (Map k v) (kind_of o.value) then told_of say o.value else Err WrongKind
 ]

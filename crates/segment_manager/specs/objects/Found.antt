@@ -26,8 +26,8 @@ abbrev pub found_answer : Result (Option (ℕ × ℕ)) Refusal → Answer
 found_answer = answer_of found_or_absent
 
 -- a handle and a count as an answer
-abbrev pub pair_found : ℕ × ℕ → Answer
-pair_found (h, n) = Found h n
+abbrev pub found_object : ℕ × ℕ → Answer
+found_object (h, n) = Found h n
 
-abbrev pub pair_answer : Result (ℕ × ℕ) Refusal → Answer
-pair_answer = answer_of pair_found
+abbrev pub found_object_answer : Result (ℕ × ℕ) Refusal → Answer
+found_object_answer = answer_of found_object

@@ -31,17 +31,18 @@ pub record IsLocated (s : SegmentState) (key : Key) (o : Located) : Type 0 where
   pub here : IsObject o s
 
 -- where its value begins
-abbrev pub value_in : Located → ℕ
-value_in o = head_len + padded o.name_len
+abbrev pub value_offset : Located → ℕ
+value_offset o = head_len + padded o.name_len
 
 -- where its container stands, if it is of the kind
 abbrev pub container_in : Located → Kind → Result Place Refusal
 container_in o kind =
-    if same_kind kind o.kind then Ok (record { handle = o.handle; at = value_in o }) else Err WrongKind
+    if same_kind kind o.kind then Ok (record { handle = o.handle; at = value_offset o }) else Err WrongKind
 
 -- where its element of an index stands, if it has scalars of the kind
 abbrev pub element_in : Located → ScalarKind → ℕ → Result Place Refusal
 element_in o k i =
     if same_kind (Scalar k) o.kind then
-    (if nat_lt i o.count then Ok (record { handle = o.handle; at = value_in o + size_of k * i }) else Err OutOfRange)
+    (if nat_lt i o.count then Ok (record { handle = o.handle; at = value_offset o + size_of k * i }) else Err
+    OutOfRange)
     else Err WrongKind

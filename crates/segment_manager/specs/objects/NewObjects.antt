@@ -6,7 +6,8 @@ use Rattle.block_tags.specs.declared.tile.Role.TheVariants.{Object as ObjectRole
 use Rattle.best_fit.specs.{Fit.place, Heap.AllocatesOk, Heap.KeepsBlocks, Heap.EncodesLiveSet, Heap.live_of}
 use Rattle.seg_types.specs.{declared.kinds.ScalarKind.ScalarKind, declared.kinds.Kind.Kind}
 use Rattle.seg_types.specs.{declared.kinds.Kind.TheVariants.Scalar, Kinds.code_of, Names.is_name}
-use Rattle.seg_index.specs.{declared.index.Index.Index, declared.keys.Entry.Entry, Growth.IsGrowth, Growth.grown_bytes}
+use Rattle.seg_index.specs.{declared.index.Index.Index, declared.keys.Entry.Entry, Growth.PreparesOk}
+use Rattle.seg_index.specs.{Growth.grown_bytes}
 use Rattle.seg_index.specs.declared.index.Index.TheVariants.{Named, Unique}
 use Rattle.seg_index.specs.declared.keys.Entry.TheVariants.{Name, Code}
 use Rattle.seg_index.specs.Held.{capacity_at, entry_count}
@@ -17,14 +18,14 @@ use Rattle.segment_manager.specs.declared.blocks.requesting.Requested.{Requested
 -- what the index grows into where it is full, and the block of the object, with n bytes
 pub record RequestsBlocksOk (old new : WindowState) (at n : ℕ) (growth : Option ℕ) (h : ℕ) : Type 0 where
   pub between : WindowState
-  pub grows : IsGrowth old between at growth
+  pub grows : PreparesOk old between at growth
   pub takes : AllocatesOk current between new n ObjectRole h
 
 -- the index is full and finds no block; or the object finds none
 abbrev pub FindsNone : WindowState → ℕ → ℕ → Type 0
 FindsNone old at n =
     ((capacity_at old at ≤ entry_count old at) × (place (live_of old.bytes) (grown_bytes old at) IndexRole ≡ None))
-    ⊎ ((growth : Option ℕ) × (between : WindowState) × IsGrowth old between at growth
+    ⊎ ((growth : Option ℕ) × (between : WindowState) × PreparesOk old between at growth
     × (place (live_of between.bytes) n ObjectRole ≡ None))
 
 -- the same blocks are in use as before, and nothing in them changed

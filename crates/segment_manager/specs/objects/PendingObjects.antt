@@ -83,17 +83,17 @@ pub record BeginsEntryErr (old new : WindowState) (key : names.Key) (kind : Kind
   pub absent : IsAbsentAt old index entry place
   pub unmet : RequestsBlocksErr old new (place_of index) (room_for name body)
 
-abbrev pub IsNotBegun : WindowState → WindowState → names.Key → Kind → ℕ → Refusal → Type 0
-IsNotBegun old new key kind body Exists = RefusesKey old new key kind
-IsNotBegun old new key kind body NoSpace =
+abbrev pub BeginsObjectErr : WindowState → WindowState → names.Key → Kind → ℕ → Refusal → Type 0
+BeginsObjectErr old new key kind body Exists = RefusesKey old new key kind
+BeginsObjectErr old new key kind body NoSpace =
     ((key ≡ names.NoKey) × AllocatesNoSpace old new (room_for [] body) ObjectRole)
     ⊎ BeginsEntryErr old new key kind body
-IsNotBegun old new key kind body why = ⊥
+BeginsObjectErr old new key kind body why = ⊥
 
 abbrev pub BeginsObject : WindowState → WindowState → names.Key → Kind → ℕ → ℕ → Result PendingObject Refusal → Type 0
 BeginsObject old new key kind count body result =
     MatchResult result (λ b. BeginsObjectOk old new key kind count body b.handle b.at b.entry)
-    (IsNotBegun old new key kind body)
+    (BeginsObjectErr old new key kind body)
 
 -- the same where no object has the key, which would get its entry here
 abbrev pub BeginsEntry : WindowState → WindowState → Index → ℕ → Entry → names.Key → List ℕ → Kind → ℕ → ℕ
@@ -136,21 +136,21 @@ pub record Fills {S A : Type 0} (gives : S → Option A → S → Type 0) (whole
 -- ---- finished
 
 -- the block was taken and written, and no entry leads to it yet
-pub record IsLooseEntry (old now : WindowState) (h : ℕ) (e : PendingEntry) : Type 0 where
+pub record WritesUnindexedForEntry (old now : WindowState) (h : ℕ) (e : PendingEntry) : Type 0 where
   pub len : ℕ
   pub taken : WindowState
   pub requested : RequestsBlocksOk old taken (place_of e.index) len e.growth.block h
   pub change : ChangesBytes current taken now h len
 
-pub record IsLooseAlone (old now : WindowState) (h : ℕ) : Type 0 where
+pub record WritesUnindexedAlone (old now : WindowState) (h : ℕ) : Type 0 where
   pub len : ℕ
   pub taken : WindowState
   pub takes : AllocatesOk current old taken len ObjectRole h
   pub change : ChangesBytes current taken now h len
 
-abbrev pub IsUnindexedObject : WindowState → WindowState → ℕ → Option PendingEntry → Type 0
-IsUnindexedObject old now h None = IsLooseAlone old now h
-IsUnindexedObject old now h (Some e) = IsLooseEntry old now h e
+abbrev pub WritesUnindexedObject : WindowState → WindowState → ℕ → Option PendingEntry → Type 0
+WritesUnindexedObject old now h None = WritesUnindexedAlone old now h
+WritesUnindexedObject old now h (Some e) = WritesUnindexedForEntry old now h e
 
 -- an index has what it needs for an entry that leads to an object: its key belongs there
 pub record IsReadyForEntry (now : WindowState) (h : ℕ) (e : PendingEntry) : Type 0 where
@@ -162,7 +162,7 @@ IsReadyFor now h None = ⊤
 IsReadyFor now h (Some e) = IsReadyForEntry now h e
 
 -- the entry leads to it, if it is to have one
-pub record IsEntryAdded (now new : WindowState) (h : ℕ) (e : PendingEntry) : Type 0 where
+pub record AddsPendingEntry (now new : WindowState) (h : ℕ) (e : PendingEntry) : Type 0 where
   pub adds : (t : BackingArray) (hs : List ℕ) → IsIndexOf now (place_of e.index) t hs
       → AddsEntry now new (place_of e.index) t (insert hs e.place h) e.growth.block
   pub live : EncodesLiveSet current new.bytes (grown_live now (place_of e.index) e.growth.block)
@@ -171,11 +171,11 @@ pub record IsEntryAdded (now new : WindowState) (h : ℕ) (e : PendingEntry) : T
 
 abbrev pub LeadsThere : WindowState → WindowState → ℕ → Option PendingEntry → Type 0
 LeadsThere now new h None = new ≡ now
-LeadsThere now new h (Some e) = IsEntryAdded now new h e
+LeadsThere now new h (Some e) = AddsPendingEntry now new h e
 
 -- all that was taken is given back
 abbrev pub GivesAllBack : WindowState → WindowState → ℕ → Option PendingEntry → Type 0
-GivesAllBack now new h entry = (old : WindowState) → IsUnindexedObject old now h entry → RestoresBlocks old new
+GivesAllBack now new h entry = (old : WindowState) → WritesUnindexedObject old now h entry → RestoresBlocks old new
 
 -- ---- filled or not, with whatever it takes
 
@@ -183,7 +183,8 @@ GivesAllBack now new h entry = (old : WindowState) → IsUnindexedObject old now
 -- took
 abbrev pub IsEnding : WindowState → ℕ → Option PendingEntry → Result (Unit {0}) Refusal → Type 0
 IsEnding now h entry filled =
-    MatchResult filled (λ u. IsReadyFor now h entry) (λ why. (old : WindowState) × IsUnindexedObject old now h entry)
+    MatchResult filled (λ u. IsReadyFor now h entry) (λ why. (old : WindowState)
+    × WritesUnindexedObject old now h entry)
 
 -- the entry is made, or all is given back
 abbrev pub Ends : WindowState → WindowState → ℕ → Option PendingEntry → Result (Unit {0}) Refusal → Result ℕ Refusal

@@ -10,7 +10,7 @@ use crate::containers::text_lists::judge_all;
 use crate::layout::CONTAINER_LEN;
 use crate::objects::element::write_elements;
 use best_fit::Heap;
-use raw_region::hold_bytes;
+use raw_region::bytes_are_octets;
 use seg_map::SegMap;
 use seg_types::{Kind, MAX_ARRAY_LEN, Refusal, Scalar, ScalarKind};
 use seg_vector::{Place, SegString, SegTexts, SegVec};
@@ -124,7 +124,7 @@ impl ObjectInit for NewString<'_> {
 
     #[inline(always)]
     fn fill(&self, heap: &mut Heap, place: Place) -> Result<(), Refusal> {
-        hold_bytes(self.bytes);
+        bytes_are_octets(self.bytes);
         SegString::new(heap, place).assign(heap, self.bytes)
     }
 }

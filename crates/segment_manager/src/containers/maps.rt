@@ -6,7 +6,7 @@ ghost use Rattle.segment_manager.specs.containers.Contents.{container_at};
 ghost use Rattle.segment_manager.specs.containers.Maps.{pair_above, pair_at_end, pair_below, pair_from};
 ghost use Rattle.segment_manager.specs.containers.Maps.{pair_result};
 ghost use Rattle.segment_manager.specs.State.{AnswersWith, AnswersQueryOfKind, TakesStepOfKind, truth_answer};
-ghost use Rattle.segment_manager.specs.{containers.Maps.pair_up_to, containers.Maps.told_of_map};
+ghost use Rattle.segment_manager.specs.{containers.Maps.pair_up_to, containers.Maps.answer_of_map};
 ghost use Rattle.segment_manager.specs.{containers.Maps.value_answer, containers.Walks.pair_past};
 ghost use Rattle.segment_manager.specs.Keeping.{ChangesValue, UnchangedWhere, LacksPair};
 
@@ -52,7 +52,7 @@ impl Segment {
         from: K,
     ) -> Result<Option<(K, V)>, Refusal>
         requires { O.stands key.now self.now }
-        ensures { AnswersWith self.now (λ d. told_of_map d (O.key key.now) K.kind V.kind (pair_from (K.whole from)))
+        ensures { AnswersWith self.now (λ d. answer_of_map d (O.key key.now) K.kind V.kind (pair_from (K.whole from)))
             (pair_result K.whole V.whole result) }
     {
         self.pair_past(key, from, false)
@@ -71,7 +71,7 @@ impl Segment {
         after: K,
     ) -> Result<Option<(K, V)>, Refusal>
         requires { O.stands key.now self.now }
-        ensures { AnswersWith self.now (λ d. told_of_map d (O.key key.now) K.kind V.kind (pair_above (K.whole after)))
+        ensures { AnswersWith self.now (λ d. answer_of_map d (O.key key.now) K.kind V.kind (pair_above (K.whole after)))
             (pair_result K.whole V.whole result) }
     {
         self.pair_past(key, after, true)
@@ -88,7 +88,7 @@ impl Segment {
     ) -> Result<Option<(K, V)>, Refusal>
         requires { O.stands key.now self.now }
         ensures { AnswersWith self.now (λ d.
-            told_of_map d (O.key key.now) K.kind V.kind (pair_past above (K.whole bound)))
+            answer_of_map d (O.key key.now) K.kind V.kind (pair_past above (K.whole bound)))
             (pair_result K.whole V.whole result) }
     {
         let place = self.find_map::<K, V, O>(key)?;
@@ -112,7 +112,7 @@ impl Segment {
         key: &O,
     ) -> Result<Option<(K, V)>, Refusal>
         requires { O.stands key.now self.now }
-        ensures { AnswersWith self.now (λ d. told_of_map d (O.key key.now) K.kind V.kind pair_at_end)
+        ensures { AnswersWith self.now (λ d. answer_of_map d (O.key key.now) K.kind V.kind pair_at_end)
             (pair_result K.whole V.whole result) }
     {
         let place = self.find_map::<K, V, O>(key)?;
@@ -132,7 +132,7 @@ impl Segment {
         to: K,
     ) -> Result<Option<(K, V)>, Refusal>
         requires { O.stands key.now self.now }
-        ensures { AnswersWith self.now (λ d. told_of_map d (O.key key.now) K.kind V.kind (pair_up_to (K.whole to)))
+        ensures { AnswersWith self.now (λ d. answer_of_map d (O.key key.now) K.kind V.kind (pair_up_to (K.whole to)))
             (pair_result K.whole V.whole result) }
     {
         let place = self.find_map::<K, V, O>(key)?;
@@ -153,7 +153,8 @@ impl Segment {
         before: K,
     ) -> Result<Option<(K, V)>, Refusal>
         requires { O.stands key.now self.now }
-        ensures { AnswersWith self.now (λ d. told_of_map d (O.key key.now) K.kind V.kind (pair_below (K.whole before)))
+        ensures { AnswersWith self.now (λ d.
+            answer_of_map d (O.key key.now) K.kind V.kind (pair_below (K.whole before)))
             (pair_result K.whole V.whole result) }
     {
         let place = self.find_map::<K, V, O>(key)?;

@@ -12,7 +12,7 @@ ghost use Rattle.segment_manager.specs.State.{refusal_in};
 
 use crate::objects::object_ref::ObjectRef;
 use crate::segment::Segment;
-use raw_region::hold_bytes;
+use raw_region::bytes_are_octets;
 use seg_types::{Kind, Refusal};
 use seg_vector::SegTexts;
 
@@ -170,6 +170,6 @@ pub(crate) fn judge_all(texts: &[&[u8]])
     ensures { IsTrue (list_all are_bytes (map (λ text. text.now) texts.now)) }
 {
     for text in texts {
-        hold_bytes(text);
+        bytes_are_octets(text);
     }
 }

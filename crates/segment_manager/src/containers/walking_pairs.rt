@@ -2,7 +2,7 @@
 ghost use Rattle.std.specs.Prelude.{◌≡◌, option_map};
 ghost use Rattle.seg_types.specs.{Kinds.lowest, Values.kind_of_scalar, Values.value_of_scalar};
 ghost use Rattle.seg_map.specs.Places.{item_of};
-ghost use Rattle.segment_manager.specs.{containers.Maps.pair_above, containers.Maps.told_of_map, State.AnswersWith};
+ghost use Rattle.segment_manager.specs.{containers.Maps.pair_above, containers.Maps.answer_of_map, State.AnswersWith};
 ghost use Rattle.segment_manager.specs.containers.Walks.{AreOfKinds, HasValueOf, IsMap, first_of, item_of_kinds};
 ghost use Rattle.segment_manager.specs.containers.Walks.{item_seen, numbers_read, pair_past, pairs_at};
 
@@ -23,7 +23,8 @@ impl Segment {
     ) -> Result<Option<(ScalarValue, ScalarValue)>, Refusal>
         requires { O.stands key.now self.now }
         ensures pair { AnswersWith self.now
-            (λ d. told_of_map d (O.key key.now) (kind_of_scalar bound) values (pair_past above (value_of_scalar bound)))
+            (λ d. answer_of_map d (O.key key.now) (kind_of_scalar bound) values
+            (pair_past above (value_of_scalar bound)))
             (numbers_read value_of_scalar value_of_scalar result) }
         ensures kinds { AreOfKinds (kind_of_scalar bound) values result }
     {
@@ -44,7 +45,7 @@ impl Segment {
     ) -> Result<Option<(K, ScalarValue)>, Refusal>
         requires { O.stands key.now self.now }
         ensures pair { AnswersWith self.now
-            (λ d. told_of_map d (O.key key.now) K.kind values (pair_past above (K.whole bound)))
+            (λ d. answer_of_map d (O.key key.now) K.kind values (pair_past above (K.whole bound)))
             (numbers_read K.whole value_of_scalar result) }
         ensures kind { HasValueOf values result }
     {

@@ -6,7 +6,7 @@ ghost use Rattle.segment_manager.specs.{objects.Counted.RefusesCount, objects.Co
 ghost use Rattle.segment_manager.specs.objects.Counted.{refusal_of_count};
 ghost use Rattle.segment_manager.specs.{containers.Filled.FillsObject, containers.Filled.HasBegun};
 ghost use Rattle.segment_manager.specs.{containers.Filled.ConstructsObject};
-ghost use Rattle.segment_manager.specs.{containers.Filled.alike, Plan.bare, State.UnchangedIfRefused};
+ghost use Rattle.segment_manager.specs.{containers.Filled.equal_numbers, Plan.bare, State.UnchangedIfRefused};
 
 use crate::containers::fillings::{MAX_COUNT, NewNumbers, ObjectInit};
 use crate::objects::construct_keys::ConstructKey;
@@ -42,7 +42,7 @@ impl Segment {
         requires non_empty { 1 ≤ count }
         requires max_count { count ≤ 1048576 }
         ensures step { ConstructsObject self.old self.new (D.key key.now (ScalarOf T.kind))
-            (alike T.kind count (T.whole value)) result }
+            (equal_numbers T.kind count (T.whole value)) result }
         ensures refused { UnchangedIfRefused self.old self.new result }
     {
         self.construct_under(key, &NewNumbers { count, value })
@@ -65,7 +65,7 @@ impl Segment {
         requires kind { D.suits key.now (ScalarOf T.kind) }
         ensures step { is_count count ≡ true
             → ConstructsObject self.old self.new (D.key key.now (ScalarOf T.kind))
-            (alike T.kind count (T.whole value)) result }
+            (equal_numbers T.kind count (T.whole value)) result }
         ensures count { RefusesCount count self.old self.new result }
         ensures refused { UnchangedIfRefused self.old self.new result }
     {
@@ -89,7 +89,7 @@ impl Segment {
         requires non_empty { 1 ≤ count }
         requires max_count { count ≤ 1048576 }
         ensures step { ConstructsObject self.old self.new (D.key key.now (ScalarOf (kind_of_scalar value)))
-            (alike (kind_of_scalar value) count (value_of_scalar value)) result }
+            (equal_numbers (kind_of_scalar value) count (value_of_scalar value)) result }
         ensures refused { UnchangedIfRefused self.old self.new result }
     {
         by_value!(value, it => self.construct(key, count, it))

@@ -6,7 +6,7 @@ ghost use Rattle.segment_manager.specs.{objects.Counted.RefusesCount, objects.Co
 ghost use Rattle.segment_manager.specs.{Directory.kind_of, Keeping.IsBoundKey, Keeping.UnchangedWhere};
 ghost use Rattle.segment_manager.specs.{objects.NewObjects.IsNewKeyOf, Plan.bare, objects.Standing.HasObject};
 ghost use Rattle.segment_manager.specs.{objects.Standing.IsObjectInBlock, objects.Standing.pair_of_kind};
-ghost use Rattle.segment_manager.specs.containers.Filled.{FindsOrConstructs, FindsOrMakes, alike, with_count};
+ghost use Rattle.segment_manager.specs.containers.Filled.{FindsOrConstructs, FindsOrMakes, equal_numbers, with_count};
 ghost use Rattle.segment_manager.specs.State.{IsSegment, UnchangedIfRefused};
 
 use crate::containers::fillings::{MAX_COUNT, NewNumbers, ObjectInit};
@@ -49,7 +49,7 @@ impl Segment {
         requires non_empty { 1 ≤ count }
         requires max_count { count ≤ 1048576 }
         ensures step { FindsOrMakes self.old self.new (D.key key.now (ScalarOf T.kind))
-            (alike T.kind count (T.whole value)) result }
+            (equal_numbers T.kind count (T.whole value)) result }
         ensures refused { UnchangedIfRefused self.old self.new result }
         ensures search { UnchangedWhere self.old self.new (IsBoundKey (D.key key.now (ScalarOf T.kind))) }
     {
@@ -74,7 +74,7 @@ impl Segment {
         requires kind { D.suits key.now (ScalarOf T.kind) }
         ensures step { is_count count ≡ true
             → FindsOrMakes self.old self.new (D.key key.now (ScalarOf T.kind))
-            (alike T.kind count (T.whole value)) result }
+            (equal_numbers T.kind count (T.whole value)) result }
         ensures count { RefusesCount count self.old self.new result }
         ensures refused { UnchangedIfRefused self.old self.new result }
         ensures search { UnchangedWhere self.old self.new (IsBoundKey (D.key key.now (ScalarOf T.kind))) }
@@ -99,7 +99,7 @@ impl Segment {
         requires non_empty { 1 ≤ count }
         requires max_count { count ≤ 1048576 }
         ensures step { FindsOrMakes self.old self.new (D.key key.now (ScalarOf (kind_of_scalar value)))
-            (alike (kind_of_scalar value) count (value_of_scalar value)) result }
+            (equal_numbers (kind_of_scalar value) count (value_of_scalar value)) result }
         ensures refused { UnchangedIfRefused self.old self.new result }
         ensures search { UnchangedWhere self.old self.new
             (IsBoundKey (D.key key.now (ScalarOf (kind_of_scalar value)))) }

@@ -5,7 +5,7 @@ ghost use Rattle.segment_manager.specs.{Directory.Object as DirectoryObject, obj
 ghost use Rattle.segment_manager.specs.{objects.Instances.IsMissing, objects.Standing.HasObject, State.AnswersWith};
 ghost use Rattle.segment_manager.specs.{objects.Standing.IsObjectInBlock, State.SegmentState};
 ghost use Rattle.segment_manager.specs.objects.Located.{IsLocated, IsObject, container_in, element_in, located};
-ghost use Rattle.segment_manager.specs.objects.Located.{located_at, value_in};
+ghost use Rattle.segment_manager.specs.objects.Located.{located_at, value_offset};
 
 use crate::layout::value_at;
 use crate::objects::head::read_head;
@@ -29,7 +29,7 @@ pub struct Object {
 impl Object {
     /// Returns where its value begins, from its handle on.
     pub(crate) fn value_at(self) -> u64
-        ensures { result ≡ value_in self }
+        ensures { result ≡ value_offset self }
     {
         value_at(u64::from(self.name_len))
     }

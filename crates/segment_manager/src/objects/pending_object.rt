@@ -5,7 +5,7 @@ ghost use Rattle.raw_region.specs.Memory.{WindowState};
 ghost use Rattle.seg_types.specs.{Keys.new_key_seen, Names.Key as AnyKey, Names.NoKey};
 ghost use Rattle.seg_index.specs.{declared.keys.Entry.Entry as AnyEntry, Held.HasIndex, Held.place_of};
 ghost use Rattle.segment_manager.specs.objects.PendingObjects.{BeginsObject, BeginsEntry, Ends, GivesAllBack, IsEnding};
-ghost use Rattle.segment_manager.specs.objects.PendingObjects.{IsUnindexedObject};
+ghost use Rattle.segment_manager.specs.objects.PendingObjects.{WritesUnindexedObject};
 ghost use Rattle.segment_manager.specs.{indexes.Indexed.class_of_index, objects.NewObjects.IsNewKeyOf};
 ghost use Rattle.segment_manager.specs.{objects.NewObjects.IsOfKind};
 ghost use Rattle.segment_manager.specs.State.{IsSegment};
@@ -167,7 +167,7 @@ pub(crate) fn finish_object(
 
 /// Gives the blocks back that were taken for an object.
 fn give_back(heap: &mut Heap, handle: u64, entry: Option<PendingEntry>)
-    requires { (old : WindowState) × IsUnindexedObject old heap.old handle entry }
+    requires { (old : WindowState) × WritesUnindexedObject old heap.old handle entry }
     ensures { GivesAllBack heap.old heap.new handle entry }
 {
     heap.deallocate(handle, &mut Steps::new());

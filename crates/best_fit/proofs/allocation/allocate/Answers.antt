@@ -1,14 +1,14 @@
 -- The best gap leaves the tree and is taken, and a request is refused where there is none.
 use Rattle.best_fit.proofs.Common.{◌≡◌, refl, sym, ap, subst, ◌∙◌, ◌+◌, ◌-◌, ◌%◌, List, ◌++◌, ◌∷◌, length, arith}
 use Rattle.best_fit.proofs.Common.{None, filter, bits, Gap, least, gap_of, gaps_in, gaps_of, tiles_in, HasGapTree}
-use Rattle.best_fit.proofs.Common.{IsUnlinkedGap, Regrown, is_long}
-use Rattle.best_fit.proofs.Allocating.{Found, bits-le, bits_some, found, found_node, heap_bits, heap_tree, met}
-use Rattle.best_fit.proofs.Allocating.{none_found, out_of_tree, place_is, round_it, too_long}
-use Rattle.best_fit.proofs.GapFacts.{NodeAt, node_len}
-use Rattle.best_fit.proofs.GapSteps.{same_gaps}
-use Rattle.best_fit.proofs.Placing.{room-IsRoom}
-use Rattle.best_fit.proofs.Regrowths.{tree_says}
-use Rattle.best_fit.proofs.Replanting.{few_bits}
+use Rattle.best_fit.proofs.Common.{IsUnlinkedGap, ChangesGapTree, is_long}
+use Rattle.best_fit.proofs.allocation.LeastGap.{Found, bits-le, bits_some, found, found_node, heap_bits, heap_tree, met}
+use Rattle.best_fit.proofs.allocation.LeastGap.{none_found, out_of_tree, place_is, round_it, too_long}
+use Rattle.best_fit.proofs.gaps.Nodes.{NodeAt, node_len}
+use Rattle.best_fit.proofs.gaps.OneField.{same_gaps}
+use Rattle.best_fit.proofs.extents.FirstFit.{room-IsRoom}
+use Rattle.best_fit.proofs.gaps.LinksOnly.{tree_says}
+use Rattle.best_fit.proofs.free_tree.LinkAndUnlink.{few_bits}
 use Rattle.best_fit.proofs.allocation.allocate.Goals.{After-unlink_gap, In-Some}
 use Rattle.best_fit.proofs.allocation.allocate.Goals as goal
 
@@ -77,10 +77,11 @@ pub overflow_sub-node : goal.overflow_sub-node
 overflow_sub-node c = let low = (sought_node (goal.at.overflow_sub-node c).In-Some).low in omega arith
 
 -- once it is out of the tree
-regrown : (c : After-unlink_gap) → Regrown c.args.touches.now.gaps.now.window c.unlink_gap.new.self.gaps.now.window
+regrown : (c : After-unlink_gap)
+    → ChangesGapTree c.args.touches.now.gaps.now.window c.unlink_gap.new.self.gaps.now.window
 regrown c =
     let w = c.args.touches.now.gaps.now.window in let e : c.find_best_fit.new.self.gaps.now.window ≡ w = cc in
-    let r : Regrown w c.unlink_gap.new.self.gaps.now.window = rw e at c.unlink_gap.ensures.frame in r
+    let r : ChangesGapTree w c.unlink_gap.new.self.gaps.now.window = rw e at c.unlink_gap.ensures.frame in r
 
 out : (c : After-unlink_gap) (f : Found c.args.touches.now.gaps.now.window c.room-wanted.result c.in-Some.node)
     → NodeAt c.args.touches.now.gaps.now.window c.in-Some.node

@@ -1,6 +1,6 @@
 -- The tile is the one at its offset in each list that the tags say.
 use Rattle.best_fit.proofs.Common.{◌≡◌, sym, subst, SameExceptTags, EncodesTiles}
-use Rattle.best_fit.proofs.Cuts.{cut_list, kept_list}
+use Rattle.best_fit.proofs.tags.TileCuts.{cut_list, kept_list}
 use Rattle.best_fit.proofs.allocation.split_tail.Goals as goal
 
 pub returns-then-tile-len-clause-tags : goal.returns-then-tile-len-clause-tags

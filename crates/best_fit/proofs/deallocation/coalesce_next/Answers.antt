@@ -1,7 +1,7 @@
 -- The list that results is the one of the call that is made, or the old one.
 use Rattle.best_fit.proofs.Common.{◌≡◌, sym, subst, arith, HasFreeNext, SameExceptTags, EncodesTiles}
-use Rattle.best_fit.proofs.Cuts.{free_next, joined_list, unjoined_list}
-use Rattle.best_fit.proofs.Writes.{tile_in_list}
+use Rattle.best_fit.proofs.tags.TileCuts.{free_next, joined_list, unjoined_list}
+use Rattle.best_fit.proofs.tags.Writes.{tile_in_list}
 use Rattle.best_fit.proofs.deallocation.coalesce_next.Goals as goal
 
 pub merge_next-requires-clause-tile : goal.merge_next-requires-clause-tile

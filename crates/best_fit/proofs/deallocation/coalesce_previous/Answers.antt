@@ -1,6 +1,6 @@
 -- The tile before one stands in the list.
 use Rattle.best_fit.proofs.Common.{◌≡◌, sym, ◌∙◌, HasTileAt}
-use Rattle.best_fit.proofs.Cuts.{tile_before}
+use Rattle.best_fit.proofs.tags.TileCuts.{tile_before}
 use Rattle.best_fit.proofs.deallocation.coalesce_previous.Goals as goal
 
 pub coalesce_next-requires-clause-tile : goal.coalesce_next-requires-clause-tile

@@ -1,14 +1,16 @@
 -- Seven steps: the neighbours leave the tree, the block becomes a gap with them, and that enters the tree.
 use Rattle.best_fit.proofs.Common.{◌≡◌, ap, ◌∙◌, ◌+◌, ◌*◌, ◌≤◌, ◌∷◌, ◌++◌, length, arith, refl, Option, Tile}
 use Rattle.best_fit.proofs.Common.{first_in, last_in, without_last, HasTileAt, EncodesTiles, bits, gaps_of, gaps_in}
-use Rattle.best_fit.proofs.Common.{HasGapTree, Regrown, gap_offset, of_option, offset_of, start_of}
-use Rattle.best_fit.proofs.Allocating.{bits-le}
-use Rattle.best_fit.proofs.GivingBack.{GivenBack, HalfUprooted, Uprooted, few_steps, first_tree, given_back}
-use Rattle.best_fit.proofs.GivingBack.{half_uprooted, next_is, previous_is, r_colour, r_stands2, r_stands3, r_use}
-use Rattle.best_fit.proofs.GivingBack.{uprooted}
-use Rattle.best_fit.proofs.Joins.{rest_of}
-use Rattle.best_fit.proofs.Uprooting.{option_few, option_offset}
-use Rattle.best_fit.proofs.Writes.{Block, block_tile, live_block}
+use Rattle.best_fit.proofs.Common.{HasGapTree, ChangesGapTree, gap_offset, tile_list, offset_of, start_of}
+use Rattle.best_fit.proofs.allocation.LeastGap.{bits-le}
+use Rattle.best_fit.proofs.deallocation.Coalescing.{GivenBack, HalfUprooted, Uprooted, few_steps, first_tree}
+use Rattle.best_fit.proofs.deallocation.Coalescing.{given_back}
+use Rattle.best_fit.proofs.deallocation.Coalescing.{half_uprooted, next_is, previous_is, r_colour, r_stands2, r_stands3}
+use Rattle.best_fit.proofs.deallocation.Coalescing.{r_use}
+use Rattle.best_fit.proofs.deallocation.Coalescing.{uprooted}
+use Rattle.best_fit.proofs.tags.TileJoins.{rest_of}
+use Rattle.best_fit.proofs.free_tree.UnlinkIfGap.{option_few, option_offset}
+use Rattle.best_fit.proofs.tags.Writes.{Block, block_tile, live_block}
 use Rattle.best_fit.proofs.deallocation.release.Goals.{After-next-behind, After-previous-before, After-gap_at}
 use Rattle.best_fit.proofs.deallocation.release.Goals.{After-unlink_if_gap, After-gap_at-2, After-unlink_if_gap-2}
 use Rattle.best_fit.proofs.deallocation.release.Goals.{After-coalesce_previous}
@@ -46,8 +48,8 @@ unlink_if_gap-requires-clause-tree c =
     let w = c.args.touches.now.gaps.now.window in let b = block p in
     let e : c.previous-before.new.self.gaps.now.window ≡ w = cc in
     let is = c.gap_at.ensures ∙ ap gap_offset (behind p) ∙ option_offset (first_in b.back) in (
-      gaps_of (without_last b.front) ++ gaps_of (of_option (last_in b.front)),
-      gaps_of (of_option (first_in b.back)),
+      gaps_of (without_last b.front) ++ gaps_of (tile_list (last_in b.front)),
+      gaps_of (tile_list (first_in b.back)),
       gaps_of (rest_of b.back),
       is,
       option_few (first_in b.back),
@@ -62,14 +64,14 @@ half : (c : After-unlink_if_gap) (b : Block c.args.touches.now.gaps.now.window (
     c.args.touches.now.count c.unlink_if_gap.new.touches.count
 half c b behind_is =
     let w = c.args.touches.now.gaps.now.window in let d = c.unlink_if_gap.new.touches.gaps.now.window in
-    let init = gaps_of (without_last b.front) in let last = gaps_of (of_option (last_in b.front)) in
-    let first = gaps_of (of_option (first_in b.back)) in let tail = gaps_of (rest_of b.back) in
+    let init = gaps_of (without_last b.front) in let last = gaps_of (tile_list (last_in b.front)) in
+    let first = gaps_of (tile_list (first_in b.back)) in let tail = gaps_of (rest_of b.back) in
     let e : c.previous-before.new.self.gaps.now.window ≡ w = cc in
     let is : c.gap_at.result ≡ offset_of first = c.gap_at.ensures ∙ ap gap_offset behind_is
     ∙ option_offset (first_in b.back) in
     let tree : HasGapTree c.previous-before.new.self.gaps.now.window ((init ++ last) ++ (first ++ tail)) =
     rw e (first_tree w c.args.at c.requires.heap b) in
-    let rest : Regrown w d = rw e at c.unlink_if_gap.ensures.frame in
+    let rest : ChangesGapTree w d = rw e at c.unlink_if_gap.ensures.frame in
     half_uprooted w c.args.at c.requires.heap b d c.args.touches.now.count c.previous-before.new.self.count
     c.unlink_if_gap.new.touches.count
     (c.unlink_if_gap.ensures.tree (init ++ last) first tail is (option_few (first_in b.back)) tree) rest (omega arith)
@@ -80,7 +82,7 @@ unlink_if_gap-requires-2-clause-tree c =
     let g = goal.at.unlink_if_gap-requires-2-clause-tree c in let p = g.After-previous-before in let b = block p in
     let is = c.gap_at-2.ensures ∙ ap gap_offset (before p) ∙ option_offset (last_in b.front) in (
       gaps_of (without_last b.front),
-      gaps_of (of_option (last_in b.front)),
+      gaps_of (tile_list (last_in b.front)),
       gaps_of (rest_of b.back),
       is,
       option_few (last_in b.front),
@@ -105,7 +107,7 @@ both : (c : After-unlink_if_gap-2) (b : Block c.args.touches.now.gaps.now.window
     c.unlink_if_gap-2.new.touches.gaps.now.window
     c.args.touches.now.count c.unlink_if_gap-2.new.touches.count
 both c b before_is h =
-    let init = gaps_of (without_last b.front) in let last = gaps_of (of_option (last_in b.front)) in
+    let init = gaps_of (without_last b.front) in let last = gaps_of (tile_list (last_in b.front)) in
     let tail = gaps_of (rest_of b.back) in
     let is : c.gap_at-2.result ≡ offset_of last = c.gap_at-2.ensures ∙ ap gap_offset before_is
     ∙ option_offset (last_in b.front) in

@@ -1,6 +1,6 @@
 -- There is a gap, or the tree stays.
 use Rattle.best_fit.proofs.Common.{sym, ◌∙◌, arith}
-use Rattle.best_fit.proofs.Uprooting.{one_gap, one_listed, one_small}
+use Rattle.best_fit.proofs.free_tree.UnlinkIfGap.{one_gap, one_listed, one_small}
 use Rattle.best_fit.proofs.deallocation.unlink_if_gap.Goals as goal
 
 pub overflow_add-at : goal.overflow_add-at

@@ -1,6 +1,6 @@
 -- The window is longer, a free tile is added, and it is taken into use.
 use Rattle.best_fit.proofs.Common.{arith}
-use Rattle.best_fit.proofs.Appended.{longer_window}
+use Rattle.best_fit.proofs.ending.LastBlock.{longer_window}
 use Rattle.best_fit.proofs.ending.append_block.Goals as goal
 
 pub resize-requires : goal.resize-requires

@@ -1,12 +1,12 @@
 -- The last tile is free and dropped, or the window ends there already.
 use Rattle.best_fit.proofs.Common.{◌≡◌, ap, sym, ◌∙◌, ℕ, ◌+◌, ◌*◌, ◌≤◌, arith, List, ◌++◌, ◌∷◌, [], length, Some}
-use Rattle.best_fit.proofs.Common.{bits, Gap, gap_of, gaps_in, gaps_of, tiles_in, HasGapTree, Regrown}
-use Rattle.best_fit.proofs.Allocating.{heap_tree}
-use Rattle.best_fit.proofs.TagsAndLiveSet.{heap-says}
-use Rattle.best_fit.proofs.LastGap.{LastGap, end_cut, ends_there, last_gap, last_gaps, last_listed, last_node}
-use Rattle.best_fit.proofs.LastGap.{last_small, last_tree, left_alone, not_least}
-use Rattle.best_fit.proofs.Replanting.{few_bits}
-use Rattle.best_fit.proofs.Walks.{window_tiled}
+use Rattle.best_fit.proofs.Common.{bits, Gap, gap_of, gaps_in, gaps_of, tiles_in, HasGapTree, ChangesGapTree}
+use Rattle.best_fit.proofs.allocation.LeastGap.{heap_tree}
+use Rattle.best_fit.proofs.tags.TagsAndLiveSet.{heap-says}
+use Rattle.best_fit.proofs.ending.LastGap.{LastGap, end_cut, ends_there, last_gap, last_gaps, last_listed, last_node}
+use Rattle.best_fit.proofs.ending.LastGap.{last_small, last_tree, left_alone, not_least}
+use Rattle.best_fit.proofs.free_tree.LinkAndUnlink.{few_bits}
+use Rattle.best_fit.proofs.tile_walk.Walk.{window_tiled}
 use Rattle.best_fit.proofs.ending.cut_gap.Goals.{After-gap_at, After-unlink_gap}
 use Rattle.best_fit.proofs.ending.cut_gap.Goals as goal
 
@@ -51,7 +51,7 @@ left c l = c.unlink_gap.ensures.tree (gaps_of l.front) (gap_of l.tile) []
     (last_node c.args.touches.now.gaps.now.window c.requires.heap c.in-Some.at l)
 
 rest : (c : After-unlink_gap) → c.last-last.new.self.gaps.now.window ≡ c.args.touches.now.gaps.now.window
-    → Regrown c.args.touches.now.gaps.now.window c.unlink_gap.new.self.gaps.now.window
+    → ChangesGapTree c.args.touches.now.gaps.now.window c.unlink_gap.new.self.gaps.now.window
 rest c f = rw f at c.unlink_gap.ensures.frame
 
 -- few touches more

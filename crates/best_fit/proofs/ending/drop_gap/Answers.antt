@@ -1,5 +1,5 @@
 -- The tile is dropped, and the window is cut.
-use Rattle.best_fit.proofs.Dropped.{drop_fits, gap_dropped, has_free_last}
+use Rattle.best_fit.proofs.ending.DroppedGap.{drop_fits, gap_dropped, has_free_last}
 use Rattle.best_fit.proofs.ending.drop_gap.Goals as goal
 
 pub drop_last-size-requires-clause-tile : goal.drop_last-size-requires-clause-tile

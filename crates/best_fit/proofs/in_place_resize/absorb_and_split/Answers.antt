@@ -1,12 +1,13 @@
 -- The gap behind leaves the tree, the block takes it and is cut, and what is cut off enters the tree.
 use Rattle.best_fit.proofs.Common.{◌≡◌, refl, ap, ◌∙◌, ◌+◌, ◌++◌, ◌∷◌, length, arith, first_in, gaps_of, gaps_in}
-use Rattle.best_fit.proofs.Common.{HasGapTree, Regrown, gap_offset, of_option, offset_of}
-use Rattle.best_fit.proofs.Allocating.{bits-le}
-use Rattle.best_fit.proofs.Joins.{rest_of}
-use Rattle.best_fit.proofs.Recutting.{Recut, TailUprooted, behind_is, c_stands0, c_stands1, few_steps, recut}
-use Rattle.best_fit.proofs.Recutting.{tail_uprooted, tree_w}
-use Rattle.best_fit.proofs.Uprooting.{option_few, option_offset}
-use Rattle.best_fit.proofs.Writes.{Block, block_tile, live_block}
+use Rattle.best_fit.proofs.Common.{HasGapTree, ChangesGapTree, gap_offset, tile_list, offset_of}
+use Rattle.best_fit.proofs.allocation.LeastGap.{bits-le}
+use Rattle.best_fit.proofs.tags.TileJoins.{rest_of}
+use Rattle.best_fit.proofs.in_place_resize.CutOff.{Recut, TailUprooted, behind_is, c_stands0, c_stands1, few_steps}
+use Rattle.best_fit.proofs.in_place_resize.CutOff.{recut}
+use Rattle.best_fit.proofs.in_place_resize.CutOff.{tail_uprooted, tree_w}
+use Rattle.best_fit.proofs.free_tree.UnlinkIfGap.{option_few, option_offset}
+use Rattle.best_fit.proofs.tags.Writes.{Block, block_tile, live_block}
 use Rattle.best_fit.proofs.in_place_resize.absorb_and_split.Goals.{After-next-behind, After-gap_at, After-unlink_if_gap}
 use Rattle.best_fit.proofs.in_place_resize.absorb_and_split.Goals.{After-split_tail-is_cut}
 use Rattle.best_fit.proofs.in_place_resize.absorb_and_split.Goals as goal
@@ -32,7 +33,7 @@ unlink_if_gap-requires-clause-tree c =
     let e : c.next-behind.new.self.gaps.now.window ≡ w = cc in
     let is = c.gap_at.ensures ∙ ap gap_offset (behind p) ∙ option_offset (first_in b.back) in (
       gaps_of b.front,
-      gaps_of (of_option (first_in b.back)),
+      gaps_of (tile_list (first_in b.back)),
       gaps_of (rest_of b.back),
       is,
       option_few (first_in b.back),
@@ -46,13 +47,13 @@ gone : (c : After-unlink_if_gap) (b : Block c.args.touches.now.gaps.now.window (
     c.unlink_if_gap.new.touches.gaps.now.window c.args.touches.now.count c.unlink_if_gap.new.touches.count
 gone c b behind_is =
     let w = c.args.touches.now.gaps.now.window in let fs = gaps_of b.front in
-    let first = gaps_of (of_option (first_in b.back)) in let tail = gaps_of (rest_of b.back) in
+    let first = gaps_of (tile_list (first_in b.back)) in let tail = gaps_of (rest_of b.back) in
     let e : c.next-behind.new.self.gaps.now.window ≡ w = cc in
     let is : c.gap_at.result ≡ offset_of first = c.gap_at.ensures ∙ ap gap_offset behind_is
     ∙ option_offset (first_in b.back) in
     let tree : HasGapTree c.next-behind.new.self.gaps.now.window (fs ++ (first ++ tail)) =
     rw e (tree_w w c.args.at c.requires.heap b c.args.wanted) in
-    let rest : Regrown w c.unlink_if_gap.new.touches.gaps.now.window = rw e at c.unlink_if_gap.ensures.frame in
+    let rest : ChangesGapTree w c.unlink_if_gap.new.touches.gaps.now.window = rw e at c.unlink_if_gap.ensures.frame in
     tail_uprooted w c.args.at c.requires.heap b c.args.wanted c.unlink_if_gap.new.touches.gaps.now.window
     c.args.touches.now.count c.next-behind.new.self.count c.unlink_if_gap.new.touches.count
     (c.unlink_if_gap.ensures.tree fs first tail is (option_few (first_in b.back)) tree) rest (omega arith)

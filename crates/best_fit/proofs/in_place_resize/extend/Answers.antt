@@ -2,11 +2,11 @@
 use Rattle.best_fit.proofs.Common.{◌≡◌, refl, sym, subst, inl, inr, ◌+◌, ◌%◌, length, arith, WindowState, current}
 use Rattle.best_fit.proofs.Common.{HasTileAt}
 use Rattle.best_fit.proofs.Common.{gaps_in, TryExtends, SplitsBlock}
-use Rattle.best_fit.proofs.Allocating.{bits_some, heap_bits}
-use Rattle.best_fit.proofs.Lengths.{Measured, extended, measured, not_extended, room_above}
-use Rattle.best_fit.proofs.Placing.{room-IsRoom}
-use Rattle.best_fit.proofs.Resizes.{gap_high}
-use Rattle.best_fit.proofs.Writes.{Block, block_len, block_tile, live_block}
+use Rattle.best_fit.proofs.allocation.LeastGap.{bits_some, heap_bits}
+use Rattle.best_fit.proofs.in_place_resize.NewLength.{Measured, extended, measured, not_extended, room_above}
+use Rattle.best_fit.proofs.extents.FirstFit.{room-IsRoom}
+use Rattle.best_fit.proofs.in_place_resize.NextGap.{gap_high}
+use Rattle.best_fit.proofs.tags.Writes.{Block, block_len, block_tile, live_block}
 use Rattle.best_fit.proofs.in_place_resize.extend.Goals.{After-tile_at-len, After-next_gap_len-gap}
 use Rattle.best_fit.proofs.in_place_resize.extend.Goals as goal
 

@@ -2,11 +2,12 @@
 use Rattle.best_fit.proofs.Common.{◌≡◌, refl, sym, subst, ◌∙◌, ℕ, ◌+◌, ◌-◌, ◌%◌, ◌<◌, length, arith, WindowState}
 use Rattle.best_fit.proofs.Common.{current}
 use Rattle.best_fit.proofs.Common.{HasTileAt, gaps_in, ShrinksInPlace, live_of, SplitsBlock}
-use Rattle.best_fit.proofs.Allocating.{bits_some, heap_bits}
-use Rattle.best_fit.proofs.Lengths.{Measured, may_cut, may_cut-read, measured, not_cut, not_shortened, shortened}
-use Rattle.best_fit.proofs.Placing.{room-IsRoom}
-use Rattle.best_fit.proofs.Rows.{extent_of}
-use Rattle.best_fit.proofs.Writes.{Block, block_len, block_tile, live_block}
+use Rattle.best_fit.proofs.allocation.LeastGap.{bits_some, heap_bits}
+use Rattle.best_fit.proofs.in_place_resize.NewLength.{Measured, may_cut, may_cut-read, measured, not_cut, not_shortened}
+use Rattle.best_fit.proofs.in_place_resize.NewLength.{shortened}
+use Rattle.best_fit.proofs.extents.FirstFit.{room-IsRoom}
+use Rattle.best_fit.proofs.tags.TileRows.{extent_of}
+use Rattle.best_fit.proofs.tags.Writes.{Block, block_len, block_tile, live_block}
 use Rattle.best_fit.proofs.in_place_resize.shorten.Goals.{After-tile_at-len, After-next_gap_len-gap, After-leaves_gap}
 use Rattle.best_fit.proofs.in_place_resize.shorten.Goals as goal
 

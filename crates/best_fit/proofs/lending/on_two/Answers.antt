@@ -1,6 +1,6 @@
 -- What the call leaves behind the second reference is put back, and what was lent to be read stays.
 use Rattle.best_fit.proofs.Common.{part}
-use Rattle.best_fit.proofs.TwoLent.{called, second_written}
+use Rattle.best_fit.proofs.lending.TwoRanges.{called, second_written}
 use Rattle.best_fit.proofs.lending.on_two.Goals as goal
 
 pub returns : goal.returns

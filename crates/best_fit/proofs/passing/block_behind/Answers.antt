@@ -1,9 +1,9 @@
 -- The tile behind a block is one in use, or a gap, behind which another one in use stands.
 use Rattle.best_fit.proofs.Common.{◌≡◌, sym, subst, ◌∙◌, ◌-◌, List, arith, WindowState, Tile, next_in, HasTileAt}
 use Rattle.best_fit.proofs.Common.{EncodesTiles}
-use Rattle.best_fit.proofs.Walks.{left_goes_on, left_next}
-use Rattle.best_fit.proofs.HintedBlocks.{Beyond, beyond_next, beyond_other, left_behind, used_is_live}
-use Rattle.best_fit.proofs.Writes.{block_tile, live_block}
+use Rattle.best_fit.proofs.tile_walk.Walk.{left_goes_on, left_next}
+use Rattle.best_fit.proofs.tile_walk.Hints.{Beyond, beyond_next, beyond_other, left_behind, used_is_live}
+use Rattle.best_fit.proofs.tags.Writes.{block_tile, live_block}
 use Rattle.best_fit.proofs.passing.block_behind.Goals as goal
 
 pub overflow_sub-handle : goal.overflow_sub-handle

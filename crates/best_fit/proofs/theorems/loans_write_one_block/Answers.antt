@@ -1,5 +1,5 @@
 -- The law is the lemma.
-use Rattle.best_fit.proofs.Payloads.{loans_write_one_block}
+use Rattle.best_fit.proofs.lending.Payloads.{loans_write_one_block}
 use Rattle.best_fit.proofs.theorems.loans_write_one_block.Goals as goal
 
 pub returns : goal.returns

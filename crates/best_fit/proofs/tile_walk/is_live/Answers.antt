@@ -1,9 +1,9 @@
 -- Each turn of the walk passes one tile.
 use Rattle.best_fit.proofs.Common.{sym, ◌+◌, ◌-◌, subst, arith, Option, ne_eqb, Tile}
-use Rattle.best_fit.proofs.Walks.{Left, StillNames, left_start, left_next, left_goes_on, left_nearer, left_end}
-use Rattle.best_fit.proofs.Walks.{names_passed, names_start, window_tiled}
-use Rattle.best_fit.proofs.HintedBlocks.{left_from, names_told, nearest_block}
-use Rattle.best_fit.proofs.Writes.{block_tile}
+use Rattle.best_fit.proofs.tile_walk.Walk.{Left, StillNames, left_start, left_next, left_goes_on, left_nearer, left_end}
+use Rattle.best_fit.proofs.tile_walk.Walk.{names_passed, names_start, window_tiled}
+use Rattle.best_fit.proofs.tile_walk.Hints.{left_from, names_told, nearest_block}
+use Rattle.best_fit.proofs.tags.Writes.{block_tile}
 use Rattle.best_fit.proofs.tile_walk.is_live.Goals.{in-Some, in-None}
 use Rattle.best_fit.proofs.tile_walk.is_live.Goals as goal
 

@@ -1,6 +1,6 @@
 -- What the walk looks for is told by the tiles that are left.
 use Rattle.best_fit.proofs.Common.{length}
-use Rattle.best_fit.proofs.Walks.{Left, StillNames, to_go}
+use Rattle.best_fit.proofs.tile_walk.Walk.{Left, StillNames, to_go}
 use Rattle.best_fit.proofs.tile_walk.is_live.Given as goal
 
 abbrev pub invariant-tiles : goal.invariant-tiles

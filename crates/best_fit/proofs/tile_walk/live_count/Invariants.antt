@@ -1,6 +1,6 @@
 -- The blocks that are counted and those among the tiles that are left are all.
 use Rattle.best_fit.proofs.Common.{length}
-use Rattle.best_fit.proofs.Walks.{Left, StillLive, to_go}
+use Rattle.best_fit.proofs.tile_walk.Walk.{Left, StillLive, to_go}
 use Rattle.best_fit.proofs.tile_walk.live_count.Given as goal
 
 abbrev pub invariant-tiles : goal.invariant-tiles

@@ -1,5 +1,5 @@
 -- The tile of the index is to be found among those that are left.
-use Rattle.best_fit.proofs.Walks.{Left, StillAt}
+use Rattle.best_fit.proofs.tile_walk.Walk.{Left, StillAt}
 use Rattle.best_fit.proofs.tile_walk.tile.Given as goal
 
 abbrev pub invariant-tiles : goal.invariant-tiles

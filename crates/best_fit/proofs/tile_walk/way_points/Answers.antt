@@ -1,7 +1,7 @@
 -- Each turn of the walk passes one tile.
 use Rattle.best_fit.proofs.Common.{sym, subst, ◌∙◌, ◌+◌, List, arith, Tile, BlockHints, LeadToBlocks}
-use Rattle.best_fit.proofs.Walks.{left_start, left_next, left_goes_on, left_nearer, window_tiled}
-use Rattle.best_fit.proofs.HintedBlocks.{none-lead, noted-lead, used_is_live}
+use Rattle.best_fit.proofs.tile_walk.Walk.{left_start, left_next, left_goes_on, left_nearer, window_tiled}
+use Rattle.best_fit.proofs.tile_walk.Hints.{none-lead, noted-lead, used_is_live}
 use Rattle.best_fit.proofs.tile_walk.way_points.Goals.{then-is_some, else-is_some}
 use Rattle.best_fit.proofs.tile_walk.way_points.Goals as goal
 

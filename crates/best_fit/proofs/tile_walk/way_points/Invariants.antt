@@ -1,6 +1,6 @@
 -- Each block that was passed may be noted.
 use Rattle.best_fit.proofs.Common.{List, length, Tile, LeadToBlocks}
-use Rattle.best_fit.proofs.Walks.{Left, to_go}
+use Rattle.best_fit.proofs.tile_walk.Walk.{Left, to_go}
 use Rattle.best_fit.proofs.tile_walk.way_points.Given as goal
 
 abbrev pub invariant-tiles : goal.invariant-tiles

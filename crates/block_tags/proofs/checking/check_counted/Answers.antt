@@ -1,6 +1,6 @@
 use Rattle.std.proofs.Common.{◌-◌, ◌+◌, Bool, ap, sym, subst, ◌∙◌, length, arith}
 use Rattle.raw_region.specs.Memory.{bytes_of}
-use Rattle.block_tags.proofs.Walk.{Walking, starts, stops, goes_on, ends, none_of}
+use Rattle.block_tags.proofs.tiles.TagWalk.{Walking, starts, stops, goes_on, ends, none_of}
 use Rattle.block_tags.proofs.checking.check_counted.Goals as goal
 
 pub tags-init : goal.tags-init

@@ -1,6 +1,6 @@
 use Rattle.std.proofs.Common.{◌-◌, ◌+◌, ◌*◌, ◌≤◌, length}
 use Rattle.raw_region.specs.Memory.{bytes_of}
-use Rattle.block_tags.proofs.Walk.{Walking}
+use Rattle.block_tags.proofs.tiles.TagWalk.{Walking}
 use Rattle.block_tags.proofs.checking.check_counted.Given as goal
 
 -- the tags so far were good, and each took 32 bytes at least

@@ -1,4 +1,4 @@
-use Rattle.block_tags.proofs.Limits.{appended_says_of, appended_rest_of}
+use Rattle.block_tags.proofs.changes.EndOfTiles.{appended_says_of, appended_rest_of}
 use Rattle.block_tags.proofs.ends.append_free.Goals as goal
 
 pub returns-clause-tags : goal.returns-clause-tags

@@ -1,5 +1,5 @@
 use Rattle.std.proofs.Common.{arith}
-use Rattle.block_tags.proofs.Limits.{last_at_of, dropped_says_of, dropped_rest_of}
+use Rattle.block_tags.proofs.changes.EndOfTiles.{last_at_of, dropped_says_of, dropped_rest_of}
 use Rattle.block_tags.proofs.ends.drop_last.Goals as goal
 
 pub overflow_sub-last : goal.overflow_sub-last

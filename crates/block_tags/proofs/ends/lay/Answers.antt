@@ -1,4 +1,4 @@
-use Rattle.block_tags.proofs.Limits.{laid_says_of, laid_rest_of}
+use Rattle.block_tags.proofs.changes.EndOfTiles.{laid_says_of, laid_rest_of}
 use Rattle.block_tags.proofs.ends.lay.Goals as goal
 
 pub returns-clause-tags : goal.returns-clause-tags

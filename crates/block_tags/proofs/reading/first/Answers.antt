@@ -1,7 +1,7 @@
 use Rattle.std.proofs.Common.{◌<◌, ◌≤◌, ◌-◌, length, arith}
 use Rattle.raw_region.specs.Memory.{bytes_of}
 use Rattle.raw_region.specs.Format.{current}
-use Rattle.block_tags.proofs.Saying.{first_some, first_none}
+use Rattle.block_tags.proofs.tiles.TagsSayTiles.{first_some, first_none}
 use Rattle.block_tags.proofs.reading.first.Goals as goal
 
 pub returns-then-size-gt-HEADER_LEN : goal.returns-then-size-gt-HEADER_LEN

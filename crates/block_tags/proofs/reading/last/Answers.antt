@@ -1,7 +1,7 @@
 use Rattle.std.proofs.Common.{◌∙◌, sym, ap, Some, length, arith}
 use Rattle.block_tags.specs.declared.tile.Tile.{Tile}
-use Rattle.block_tags.proofs.Saying.{legal}
-use Rattle.block_tags.proofs.Lasting.{last_none, last_found}
+use Rattle.block_tags.proofs.tiles.TagsSayTiles.{legal}
+use Rattle.block_tags.proofs.tiles.LastTile.{last_none, last_found}
 use Rattle.block_tags.proofs.reading.last.Goals as goal
 
 pub overflow_sub-end : goal.overflow_sub-end

@@ -1,5 +1,5 @@
 use Rattle.std.proofs.Common.{sym, arith}
-use Rattle.block_tags.proofs.Saying.{fits_in, reads, next_some, next_none}
+use Rattle.block_tags.proofs.tiles.TagsSayTiles.{fits_in, reads, next_some, next_none}
 use Rattle.block_tags.proofs.reading.next.Goals as goal
 
 pub overflow_add-behind : goal.overflow_add-behind

@@ -1,6 +1,6 @@
 use Rattle.std.proofs.Common.{◌∙◌, sym, ap, Some, arith}
 use Rattle.block_tags.specs.declared.tile.Tile.{Tile}
-use Rattle.block_tags.proofs.Saying.{fits_in, previous_none, previous_found}
+use Rattle.block_tags.proofs.tiles.TagsSayTiles.{fits_in, previous_none, previous_found}
 use Rattle.block_tags.proofs.reading.previous.Goals as goal
 
 pub read_u64-before-requires : goal.read_u64-before-requires

@@ -1,5 +1,5 @@
 use Rattle.std.proofs.Common.{arith}
-use Rattle.block_tags.proofs.Saying.{fits_in, stands_in}
+use Rattle.block_tags.proofs.tiles.TagsSayTiles.{fits_in, stands_in}
 use Rattle.block_tags.proofs.reading.tile_at.Goals as goal
 
 pub tile_there-requires : goal.tile_there-requires

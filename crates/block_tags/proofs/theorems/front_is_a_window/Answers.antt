@@ -1,4 +1,4 @@
-use Rattle.block_tags.proofs.Stays.{front_is_a_window as law}
+use Rattle.block_tags.proofs.changes.UnchangedTags.{front_is_a_window as law}
 use Rattle.block_tags.proofs.theorems.front_is_a_window.Goals as goal
 
 pub returns : goal.returns

@@ -1,4 +1,4 @@
-use Rattle.block_tags.proofs.Stays.{header_may_change as law}
+use Rattle.block_tags.proofs.changes.UnchangedTags.{header_may_change as law}
 use Rattle.block_tags.proofs.theorems.header_may_change.Goals as goal
 
 pub returns : goal.returns

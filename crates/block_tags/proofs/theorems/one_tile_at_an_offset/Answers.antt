@@ -1,4 +1,4 @@
-use Rattle.block_tags.proofs.Lists.{one_tile_at_an_offset as law}
+use Rattle.block_tags.proofs.tiles.TileLists.{one_tile_at_an_offset as law}
 use Rattle.block_tags.proofs.theorems.one_tile_at_an_offset.Goals as goal
 
 pub returns : goal.returns

@@ -1,4 +1,4 @@
-use Rattle.block_tags.proofs.Lists.{payload_is_beside_tags as law}
+use Rattle.block_tags.proofs.tiles.TileLists.{payload_is_beside_tags as law}
 use Rattle.block_tags.proofs.theorems.payload_is_beside_tags.Goals as goal
 
 pub returns : goal.returns

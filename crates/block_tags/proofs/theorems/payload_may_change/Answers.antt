@@ -1,4 +1,4 @@
-use Rattle.block_tags.proofs.Stays.{payload_may_change as law}
+use Rattle.block_tags.proofs.changes.UnchangedTags.{payload_may_change as law}
 use Rattle.block_tags.proofs.theorems.payload_may_change.Goals as goal
 
 pub returns : goal.returns

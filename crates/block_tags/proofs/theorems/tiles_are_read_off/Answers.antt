@@ -1,4 +1,4 @@
-use Rattle.block_tags.proofs.Lists.{tiles_are_read_off as law}
+use Rattle.block_tags.proofs.tiles.TileLists.{tiles_are_read_off as law}
 use Rattle.block_tags.proofs.theorems.tiles_are_read_off.Goals as goal
 
 pub returns : goal.returns

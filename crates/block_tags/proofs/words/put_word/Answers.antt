@@ -1,5 +1,5 @@
 use Rattle.std.proofs.Common.{arith}
-use Rattle.block_tags.proofs.Puts.{put}
+use Rattle.block_tags.proofs.changes.WrittenWords.{put}
 use Rattle.block_tags.proofs.words.put_word.Goals as goal
 
 pub returns : goal.returns

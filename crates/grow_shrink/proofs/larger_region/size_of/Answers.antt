@@ -1,5 +1,5 @@
 use Rattle.std.proofs.Common.{length, arith}
-use Rattle.grow_shrink.proofs.Sizes.{segment-most}
+use Rattle.grow_shrink.proofs.resizing.Sizes.{segment-most}
 use Rattle.grow_shrink.proofs.larger_region.size_of.Goals as goal
 
 pub returns-clause-most : goal.returns-clause-most

@@ -1,7 +1,7 @@
 -- Each reason in its turn, or the segment grows.
 use Rattle.std.proofs.Common.{◌≡◌, sym, ◌∙◌, ◌%◌, ◌||◌, not, ◌==◌, nat_lt, false, arith}
 use Rattle.segment_manager.specs.Step.{is_read_only}
-use Rattle.grow_shrink.proofs.Reasons.{grown_small, not_refused, refused_large, refused_region}
+use Rattle.grow_shrink.proofs.resizing.Refusals.{grown_small, not_refused, refused_large, refused_region}
 use Rattle.grow_shrink.proofs.resizing.grow.Goals as goal
 use Rattle.grow_shrink.proofs.resizing.grow.Goals.{After-is_above}
 

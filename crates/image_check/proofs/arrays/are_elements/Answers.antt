@@ -2,7 +2,7 @@ use Rattle.std.proofs.Common.{◌≡◌, sym, subst, ◌∙◌, true, ℕ, Bool,
 use Rattle.std.specs.List.{list_all, range_with_len}
 use Rattle.raw_region.specs.Memory.{bytes_of}
 use Rattle.image_check.specs.Fields.{is_element_at}
-use Rattle.image_check.proofs.Ranges.{all-broken, all-further, all-map}
+use Rattle.image_check.proofs.bytes.Ranges.{all-broken, all-further, all-map}
 use Rattle.image_check.proofs.arrays.are_elements.Goals as goal
 
 pub returns-then-not-is_element-clause-value : goal.returns-then-not-is_element-clause-value

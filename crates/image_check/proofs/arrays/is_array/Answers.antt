@@ -1,6 +1,6 @@
 use Rattle.std.proofs.Common.{arith}
 use Rattle.image_check.specs.Passes.{tiles_in}
-use Rattle.image_check.proofs.StorageBlocks.{storage-read}
+use Rattle.image_check.proofs.containers.StorageBlocks.{storage-read}
 use Rattle.image_check.proofs.arrays.is_array.Goals as goal
 
 pub are_elements-requires-clause-aligned : goal.are_elements-requires-clause-aligned

@@ -4,8 +4,8 @@ use Rattle.block_tags.specs.declared.tile.Role.TheVariants.{Storage}
 use Rattle.seg_types.specs.Kinds.{size_of}
 use Rattle.image_check.specs.ObjectTests.{is_table_link}
 use Rattle.image_check.specs.Passes.{tiles_in}
-use Rattle.image_check.proofs.MapPairs.{size-times}
-use Rattle.image_check.proofs.StorageBlocks.{storage-read}
+use Rattle.image_check.proofs.containers.MapPairs.{size-times}
+use Rattle.image_check.proofs.containers.StorageBlocks.{storage-read}
 use Rattle.image_check.proofs.arrays.is_storage.Goals as goal
 
 pub are_spellings-requires-clause-in_bounds : goal.are_spellings-requires-clause-in_bounds

@@ -1,5 +1,5 @@
 use Rattle.std.proofs.Common.{sym, ap, ◌∙◌, ◌++◌, length, option_to_list, arith}
-use Rattle.image_check.proofs.Gathered.{entry-is}
+use Rattle.image_check.proofs.block_collection.Lookup.{entry-is}
 use Rattle.image_check.proofs.block_collection.add.Goals as goal
 
 pub add-requires-clause-room : goal.add-requires-clause-room

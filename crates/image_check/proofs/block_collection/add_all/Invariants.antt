@@ -1,5 +1,5 @@
-use Rattle.image_check.proofs.Gathered.{Gathering}
-use Rattle.image_check.proofs.WalkedTiles.{Walks, left_from}
+use Rattle.image_check.proofs.block_collection.Lookup.{Gathering}
+use Rattle.image_check.proofs.walks.Tiles.{Walks, left_from}
 use Rattle.image_check.proofs.block_collection.add_all.Given as goal
 
 -- the blocks of the tiles that the walk has passed are gathered

@@ -1,7 +1,7 @@
 use Rattle.std.proofs.Common.{◌∙◌, arith}
 use Rattle.image_check.specs.Passes.{tiles_in}
-use Rattle.image_check.proofs.Gathered.{gathering-weigh}
-use Rattle.image_check.proofs.OwnedRows.{entries-count}
+use Rattle.image_check.proofs.block_collection.Lookup.{gathering-weigh}
+use Rattle.image_check.proofs.block_collection.Owners.{entries-count}
 use Rattle.image_check.proofs.block_collection.collect_blocks.Goals as goal
 
 pub returns-in-Ok-clause-visits : goal.returns-in-Ok-clause-visits

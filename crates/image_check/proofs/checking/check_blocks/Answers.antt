@@ -9,10 +9,11 @@ use Rattle.image_check.specs.ObjectPlaces.{IsFirstTile, IsFirstWrongTile, IsWron
 use Rattle.image_check.specs.OwnerPlaces.{IsSharedAt}
 use Rattle.image_check.specs.Passes.{tiles_in}
 use Rattle.image_check.specs.Visits.{both, index_rates, object_rates, sharing_rates, container_rates, orphan_rates}
-use Rattle.image_check.proofs.Budget.{spend-both, spend-less}
-use Rattle.image_check.proofs.Checked.{blocks-class, frame-tiles, late-index, late-object, late-shared, late-container}
-use Rattle.image_check.proofs.Checked.{late-none, late-orphan, of-tiles}
-use Rattle.image_check.proofs.Following.{of-err, of-ok}
+use Rattle.image_check.proofs.budget.Visits.{spend-both, spend-less}
+use Rattle.image_check.proofs.frame.WholeCheck.{blocks-class, frame-tiles, late-index, late-object, late-shared}
+use Rattle.image_check.proofs.frame.WholeCheck.{late-container}
+use Rattle.image_check.proofs.frame.WholeCheck.{late-none, late-orphan, of-tiles}
+use Rattle.image_check.proofs.shared_blocks.Worklist.{of-err, of-ok}
 use Rattle.image_check.proofs.checking.check_blocks.Goals as goal
 
 pub check_indexes-requires-clause-tiles : goal.check_indexes-requires-clause-tiles

@@ -2,10 +2,10 @@ use Rattle.std.proofs.Common.{refl, ap, sym, ◌∙◌}
 use Rattle.std.specs.Prelude.{is_some}
 use Rattle.std.proofs.lemmas.Bool.{not-true, not-false}
 use Rattle.image_check.specs.Visits.{tag_rates, tree_rates}
-use Rattle.image_check.proofs.Budget.{frame-raised, spend-both, tags-raised, tags-spend}
-use Rattle.image_check.proofs.Checked.{IsChecked, checked-tags, checked-tiles, checked-tree, checked-frame}
-use Rattle.image_check.proofs.CountedTiles.{not-given}
-use Rattle.image_check.proofs.FirstClass.{first-reserved}
+use Rattle.image_check.proofs.budget.Visits.{frame-raised, spend-both, tags-raised, tags-spend}
+use Rattle.image_check.proofs.frame.WholeCheck.{IsChecked, checked-tags, checked-tiles, checked-tree, checked-frame}
+use Rattle.image_check.proofs.walks.Counts.{not-given}
+use Rattle.image_check.proofs.frame.FirstClass.{first-reserved}
 use Rattle.image_check.proofs.checking.check_frame.Goals as goal
 
 pub returns-in-Err-clause-verdict : goal.returns-in-Err-clause-verdict
@@ -68,7 +68,7 @@ pub returns-clause-steps_lower : goal.returns-clause-steps_lower
 returns-clause-steps_lower c = c.in-Some.ensures.steps_lower
 
 pub returns-clause-bytes : goal.returns-clause-bytes
-returns-clause-bytes c = c.hold_bytes.ensures
+returns-clause-bytes c = c.bytes_are_octets.ensures
 
 pub returns-clause-visits : goal.returns-clause-visits
 returns-clause-visits c =

@@ -3,7 +3,7 @@ use Rattle.std.proofs.Common.{◌≡◌, sym, subst, ◌∙◌, arith}
 use Rattle.image_check.specs.Checking.{IsWhyRefused}
 use Rattle.image_check.specs.Opening.{IsImage}
 use Rattle.image_check.specs.Reading.{HasFront}
-use Rattle.image_check.proofs.Filled.{HasFront-least, HasFront-version}
+use Rattle.image_check.proofs.reading.Buffer.{HasFront-least, HasFront-version}
 use Rattle.image_check.proofs.checking.examine_window.Goals as goal
 
 pub version-format-requires : goal.version-format-requires

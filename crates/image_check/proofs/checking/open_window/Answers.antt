@@ -9,10 +9,10 @@ use Rattle.image_check.specs.Owners.{entries_of}
 use Rattle.image_check.specs.Passes.{Spends, tiles_in}
 use Rattle.image_check.specs.Reading.{HasFront}
 use Rattle.image_check.specs.Visits.{all_rates}
-use Rattle.image_check.proofs.Budget.{noted-raised}
-use Rattle.image_check.proofs.Filled.{HasFront-least, HasFront-version}
-use Rattle.image_check.proofs.Gathered.{frame-AreBlocks, tags-blocks}
-use Rattle.image_check.proofs.OwnedRows.{rows-count, rows-weigh}
+use Rattle.image_check.proofs.budget.Visits.{noted-raised}
+use Rattle.image_check.proofs.reading.Buffer.{HasFront-least, HasFront-version}
+use Rattle.image_check.proofs.block_collection.Lookup.{frame-AreBlocks, tags-blocks}
+use Rattle.image_check.proofs.block_collection.Owners.{rows-count, rows-weigh}
 use Rattle.image_check.proofs.checking.open_window.Goals as goal
 
 pub version-format-requires : goal.version-format-requires

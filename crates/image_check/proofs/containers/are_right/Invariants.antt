@@ -1,6 +1,6 @@
 use Rattle.std.proofs.Common.{◌-◌, length}
-use Rattle.image_check.proofs.ContainerWalks.{IsPaid}
-use Rattle.image_check.proofs.RowWalks.{RowWalks}
+use Rattle.image_check.proofs.containers.Walk.{IsPaid}
+use Rattle.image_check.proofs.walks.Rows.{RowWalks}
 use Rattle.image_check.proofs.containers.are_right.Given as goal
 
 -- the tiles that the walk has passed are right, and paid for

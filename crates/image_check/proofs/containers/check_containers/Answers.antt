@@ -3,9 +3,9 @@ use Rattle.raw_region.specs.Memory.{bytes_of}
 use Rattle.image_check.specs.Containers.{has_container}
 use Rattle.image_check.specs.ObjectPlaces.{IsFirstWrongTile}
 use Rattle.image_check.specs.Passes.{ChecksClass, tiles_in}
-use Rattle.image_check.proofs.ContainerWalks.{containers-same, marked-followed, marked-ready}
-use Rattle.image_check.proofs.ContainerWeights.{blocks-weigh, both-weigh, few-blocks}
-use Rattle.image_check.proofs.CountedFields.{Contains-Mem}
+use Rattle.image_check.proofs.containers.Walk.{containers-same, marked-followed, marked-ready}
+use Rattle.image_check.proofs.containers.Weights.{blocks-weigh, both-weigh, few-blocks}
+use Rattle.image_check.proofs.claims.CountedFields.{Contains-Mem}
 use Rattle.image_check.proofs.containers.check_containers.Goals as goal
 
 pub are_right-requires-clause-rows : goal.are_right-requires-clause-rows

@@ -4,8 +4,8 @@ use Rattle.raw_region.specs.Memory.{bytes_of}
 use Rattle.block_tags.specs.declared.tile.Role.TheVariants.{Object}
 use Rattle.image_check.specs.ObjectTests.{is_use, kind_at, value_offset}
 use Rattle.image_check.specs.Containers.{is_scalar}
-use Rattle.image_check.proofs.ContainerWeights.{below-more, below-step, rooted-all}
-use Rattle.image_check.proofs.ObjectValues.{container-room, value-behind, walk-least, walk-object}
+use Rattle.image_check.proofs.containers.Weights.{below-more, below-step, rooted-all}
+use Rattle.image_check.proofs.containers.Objects.{container-room, value-behind, walk-least, walk-object}
 use Rattle.image_check.proofs.containers.is_right_tile.Goals as goal
 
 pub returns-then-not-is_object-clause-visits : goal.returns-then-not-is_object-clause-visits

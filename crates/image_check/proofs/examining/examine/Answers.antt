@@ -2,8 +2,8 @@ use Rattle.std.proofs.Common.{subst, sym, arith}
 use Rattle.std.proofs.lemmas.Result.{err_from_is_err_and}
 use Rattle.raw_region.specs.Device.{ReadsSource, read_delta}
 use Rattle.raw_region.specs.Format.{current}
-use Rattle.image_check.proofs.FrontAlone.{examined-reads, examined-roomy}
-use Rattle.image_check.proofs.Refused.{examines, unread}
+use Rattle.image_check.proofs.reading.FrontAlone.{examined-reads, examined-roomy}
+use Rattle.image_check.proofs.opening.Refusals.{examines, unread}
 use Rattle.image_check.proofs.examining.examine.Goals as goal
 
 pub returns-in_err-window-clause-examination : goal.returns-in_err-window-clause-examination

@@ -12,11 +12,11 @@ use Rattle.image_check.specs.Visits.{planting_rates, tree_rates}
 use Rattle.link_tree.specs.Checking.{IsLinkClosed}
 use Rattle.link_tree.specs.Nodes.{is_in, leads}
 use Rattle.link_tree.proofs.Laws.{some_same}
-use Rattle.image_check.proofs.Budget.{check-short, tree-planted, tree-steps}
-use Rattle.image_check.proofs.CountedTiles.{not-given}
-use Rattle.image_check.proofs.FewNodes.{nodes-few}
-use Rattle.image_check.proofs.FreePlaces.{good-leads}
-use Rattle.image_check.proofs.FreeTiles.{planted, tagged, tree-false, tree-true, unplanted}
+use Rattle.image_check.proofs.budget.Visits.{check-short, tree-planted, tree-steps}
+use Rattle.image_check.proofs.walks.Counts.{not-given}
+use Rattle.image_check.proofs.free_tree.NodeCount.{nodes-few}
+use Rattle.image_check.proofs.free_tree.Places.{good-leads}
+use Rattle.image_check.proofs.free_tree.Meaning.{planted, tagged, tree-false, tree-true, unplanted}
 use Rattle.image_check.proofs.free_tree.check_free_tree.Goals as goal
 
 pub returns-in_default-clause-value : goal.returns-in_default-clause-value

@@ -4,8 +4,8 @@ use Rattle.std.proofs.lemmas.Bool.{eq-eqb, ne_eqb}
 use Rattle.raw_region.specs.Memory.{bytes_of, word_at}
 use Rattle.image_check.specs.EarlyTests.{has_free_tree}
 use Rattle.image_check.specs.Passes.{tiles_in}
-use Rattle.image_check.proofs.Budget.{treeless-spend}
-use Rattle.image_check.proofs.FormatTags.{later-free_tree}
+use Rattle.image_check.proofs.budget.Visits.{treeless-spend}
+use Rattle.image_check.proofs.frame.FormatTags.{later-free_tree}
 use Rattle.image_check.proofs.free_tree.check_gaps.Goals as goal
 
 -- a format that is not 0 is one of the later ones

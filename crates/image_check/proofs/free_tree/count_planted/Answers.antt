@@ -5,12 +5,12 @@ use Rattle.block_tags.specs.declared.tile.Tile.{Tile}
 use Rattle.image_check.specs.FreeNodes.{is_planted}
 use Rattle.image_check.specs.Visits.{planting_rates}
 use Rattle.block_tags.proofs.Laws.{tiles_are_read_off}
-use Rattle.image_check.proofs.CountedTiles.{counted-few}
-use Rattle.image_check.proofs.Budget.{search-for-tile, within-all, within-more, within-none, within-stop}
-use Rattle.image_check.proofs.ReadTiles.{read-at, read-met, read-nearer}
-use Rattle.image_check.proofs.WalkedTiles.{all-fails, all-more, at-meets, tags-IsTiledWindow, walk-end}
-use Rattle.image_check.proofs.WalkedTiles.{walk-on, walk-start}
-use Rattle.image_check.proofs.FreeTiles.{at-len, at-place}
+use Rattle.image_check.proofs.walks.Counts.{counted-few}
+use Rattle.image_check.proofs.budget.Visits.{search-for-tile, within-all, within-more, within-none, within-stop}
+use Rattle.image_check.proofs.walks.OneTile.{read-at, read-met, read-nearer}
+use Rattle.image_check.proofs.walks.Tiles.{all-fails, all-more, at-meets, tags-IsTiledWindow, walk-end}
+use Rattle.image_check.proofs.walks.Tiles.{walk-on, walk-start}
+use Rattle.image_check.proofs.free_tree.Meaning.{at-len, at-place}
 use Rattle.image_check.proofs.free_tree.count_planted.Goals as goal
 
 pub first-tile-requires : goal.first-tile-requires

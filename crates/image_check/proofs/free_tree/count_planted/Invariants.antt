@@ -6,8 +6,8 @@ use Rattle.block_tags.specs.declared.tile.Tile.{Tile}
 use Rattle.image_check.specs.Counting.{AreCounted}
 use Rattle.image_check.specs.FreeNodes.{is_planted, place_cells, stands_before}
 use Rattle.image_check.specs.Visits.{planting_rates}
-use Rattle.image_check.proofs.Budget.{Within}
-use Rattle.image_check.proofs.WalkedTiles.{Walks, left_from}
+use Rattle.image_check.proofs.budget.Visits.{Within}
+use Rattle.image_check.proofs.walks.Tiles.{Walks, left_from}
 use Rattle.image_check.proofs.free_tree.count_planted.Given as goal
 
 -- all tiles that the walk has passed are planted in each tree at the root, and they and the visits to them are counted

@@ -1,9 +1,9 @@
 use Rattle.std.proofs.Common.{arith}
 use Rattle.image_check.specs.Visits.{tag_rates}
-use Rattle.image_check.proofs.CountedTiles.{counted-few}
-use Rattle.image_check.proofs.Budget.{two-for-tile, within-all, within-more, within-none}
-use Rattle.image_check.proofs.ReadTiles.{read-at, read-met, read-nearer}
-use Rattle.image_check.proofs.WalkedTiles.{at-meets, tags-IsTiledWindow, walk-end, walk-on, walk-start}
+use Rattle.image_check.proofs.walks.Counts.{counted-few}
+use Rattle.image_check.proofs.budget.Visits.{two-for-tile, within-all, within-more, within-none}
+use Rattle.image_check.proofs.walks.OneTile.{read-at, read-met, read-nearer}
+use Rattle.image_check.proofs.walks.Tiles.{at-meets, tags-IsTiledWindow, walk-end, walk-on, walk-start}
 use Rattle.image_check.proofs.free_tree.count_tiles.Goals as goal
 
 pub first-tile-requires : goal.first-tile-requires

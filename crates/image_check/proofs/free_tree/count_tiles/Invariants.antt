@@ -2,8 +2,8 @@ use Rattle.std.proofs.Common.{List}
 use Rattle.block_tags.specs.declared.tile.Tile.{Tile}
 use Rattle.image_check.specs.Counting.{AreCounted}
 use Rattle.image_check.specs.Visits.{tag_rates}
-use Rattle.image_check.proofs.Budget.{Within}
-use Rattle.image_check.proofs.WalkedTiles.{Walks, left_from}
+use Rattle.image_check.proofs.budget.Visits.{Within}
+use Rattle.image_check.proofs.walks.Tiles.{Walks, left_from}
 use Rattle.image_check.proofs.free_tree.count_tiles.Given as goal
 
 -- the tiles that the walk has passed and the visits to them are counted

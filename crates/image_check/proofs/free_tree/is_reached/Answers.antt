@@ -4,8 +4,8 @@ use Rattle.link_tree.specs.Tree.{nodes_of}
 use Rattle.best_fit.specs.GapLaws.{comes}
 use Rattle.image_check.specs.FreeNodes.{is_before, len_at, stands_before}
 use Rattle.image_check.specs.FreeLaws.{before_irreflexive}
-use Rattle.image_check.proofs.FreePlaces.{found-tells, nothing-tells}
-use Rattle.image_check.proofs.Budget.{search-short}
+use Rattle.image_check.proofs.free_tree.Places.{found-tells, nothing-tells}
+use Rattle.image_check.proofs.budget.Visits.{search-short}
 use Rattle.image_check.proofs.free_tree.is_reached.Goals as goal
 
 pub returns-in-Some-clause-value : goal.returns-in-Some-clause-value
@@ -14,7 +14,7 @@ returns-in-Some-clause-value c t s =
     let n = c.args.sought.node in
     found-tells (stands_before m) (is_before m c.args.sought.len n) n c.in-Some.found (nodes_of t)
     (λ k. ap (λ l. comes (len_at m k) k l n) (sym c.requires.len)) (before_irreflexive m n) s.ordered
-    (sym c.in-Some.is ∙ c.find_place.ensures.first t s)
+    (sym c.in-Some.is ∙ c.find_tile.ensures.first t s)
 
 pub returns-in-None-clause-value : goal.returns-in-None-clause-value
 returns-in-None-clause-value c t s =
@@ -22,18 +22,18 @@ returns-in-None-clause-value c t s =
     let n = c.args.sought.node in
     nothing-tells (stands_before m) (is_before m c.args.sought.len n) n (nodes_of t)
     (λ k. ap (λ l. comes (len_at m k) k l n) (sym c.requires.len)) (before_irreflexive m n) s.ordered
-    (sym c.in-None.is ∙ c.find_place.ensures.first t s)
+    (sym c.in-None.is ∙ c.find_tile.ensures.first t s)
 
 pub returns-in-Some-clause-visits_on_error : goal.returns-in-Some-clause-visits_on_error
 returns-in-Some-clause-visits_on_error c =
     let t = c.requires.tree in
-    let few = search-short (length (nodes_of t.0)) c.find_place.result.steps t.2 (c.find_place.ensures.steps t.0 t.1) in
-    let more = c.find_place.ensures.visits in
+    let few = search-short (length (nodes_of t.0)) c.find_tile.result.steps t.2 (c.find_tile.ensures.steps t.0 t.1) in
+    let more = c.find_tile.ensures.visits in
     omega arith
 
 pub returns-in-None-clause-visits_on_error : goal.returns-in-None-clause-visits_on_error
 returns-in-None-clause-visits_on_error c =
     let t = c.requires.tree in
-    let few = search-short (length (nodes_of t.0)) c.find_place.result.steps t.2 (c.find_place.ensures.steps t.0 t.1) in
-    let more = c.find_place.ensures.visits in
+    let few = search-short (length (nodes_of t.0)) c.find_tile.result.steps t.2 (c.find_tile.ensures.steps t.0 t.1) in
+    let more = c.find_tile.ensures.visits in
     omega arith

@@ -4,8 +4,8 @@ use Rattle.raw_region.specs.Memory.{bytes_of, word_at}
 use Rattle.segment_manager.specs.Denotes.{magic_number}
 use Rattle.block_tags.specs.Format.{is_legal_size}
 use Rattle.image_check.specs.Formats.{format_in}
-use Rattle.image_check.proofs.Fronts.{IsReadOf, front-version, front-size, front-right}
-use Rattle.image_check.proofs.ReadFormats.{other-format, taken-format}
+use Rattle.image_check.proofs.reading.Fronts.{IsReadOf, front-version, front-size, front-right}
+use Rattle.image_check.proofs.reading.Formats.{other-format, taken-format}
 use Rattle.image_check.proofs.header.judge_front.Goals as goal
 
 pub other_place-place-requires-clause-peer : goal.other_place-place-requires-clause-peer

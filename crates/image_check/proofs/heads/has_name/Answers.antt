@@ -1,6 +1,6 @@
 use Rattle.std.proofs.Common.{sym, ◌∙◌, length}
 use Rattle.raw_region.specs.Memory.{bytes_of}
-use Rattle.image_check.proofs.HeadBytes.{named-right}
+use Rattle.image_check.proofs.objects.HeadBytes.{named-right}
 use Rattle.image_check.proofs.heads.has_name.Goals as goal
 
 pub returns-then-name-le-MAX_NAME_LEN : goal.returns-then-name-le-MAX_NAME_LEN

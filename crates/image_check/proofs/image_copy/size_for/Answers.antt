@@ -1,6 +1,7 @@
 use Rattle.std.proofs.Common.{sym, length, arith}
 use Rattle.image_check.specs.Formats.{format_in}
-use Rattle.image_check.proofs.PlacedBytes.{front-place, misfit-cut, misfit-front, misfit-more, more-place, says-right}
+use Rattle.image_check.proofs.opening.InMemory.{front-place, misfit-cut, misfit-front, misfit-more, more-place}
+use Rattle.image_check.proofs.opening.InMemory.{says-right}
 use Rattle.image_check.proofs.image_copy.size_for.Goals as goal
 
 pub returns-in-Err-2-clause-fits : goal.returns-in-Err-2-clause-fits

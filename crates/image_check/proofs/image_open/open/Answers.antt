@@ -4,8 +4,8 @@ use Rattle.raw_region.specs.Format.{current}
 use Rattle.image_check.specs.declared.errors.OpenRefused.{OpenRefused}
 use Rattle.image_check.specs.Causes.{opened_as}
 use Rattle.image_check.specs.Opening.{Opens}
-use Rattle.image_check.proofs.FrontAlone.{opened-reads, opened-roomy}
-use Rattle.image_check.proofs.Refused.{opens, unread-opens}
+use Rattle.image_check.proofs.reading.FrontAlone.{opened-reads, opened-roomy}
+use Rattle.image_check.proofs.opening.Refusals.{opens, unread-opens}
 use Rattle.image_check.proofs.image_open.open.Goals as goal
 
 pub returns-in-Err-clause-opening : goal.returns-in-Err-clause-opening

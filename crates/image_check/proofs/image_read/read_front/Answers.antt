@@ -6,10 +6,10 @@ use Rattle.image_check.specs.Verdicts.{Shows}
 use Rattle.std.proofs.lemmas.Result.{err_from_is_err_and}
 use Rattle.image_check.specs.Formats.{format_in}
 use Rattle.image_check.specs.Reading.{front_of}
-use Rattle.image_check.proofs.FrontAlone.{short-roomy}
-use Rattle.image_check.proofs.Stopping.{front_stops, wrong_front_stops, wrong_front_decides}
-use Rattle.image_check.proofs.ReadFormats.{since-format}
-use Rattle.image_check.proofs.ToldPlaces.{end-shown, front-shown}
+use Rattle.image_check.proofs.reading.FrontAlone.{short-roomy}
+use Rattle.image_check.proofs.reading.Stops.{front_stops, wrong_front_stops, wrong_front_decides}
+use Rattle.image_check.proofs.reading.Formats.{since-format}
+use Rattle.image_check.proofs.reading.Places.{end-shown, front-shown}
 use Rattle.image_check.proofs.image_read.read_front.Goals as goal
 
 pub returns-in_err-read_all-clause-on_error : goal.returns-in_err-read_all-clause-on_error

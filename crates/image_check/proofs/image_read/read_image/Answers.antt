@@ -5,9 +5,9 @@ use Rattle.raw_region.specs.Regions.{with_bytes}
 use Rattle.image_check.specs.Causes.{IsShown, error_for}
 use Rattle.image_check.specs.Formats.{format_in}
 use Rattle.image_check.specs.Reading.{IsImageRead, IsNotRead}
-use Rattle.image_check.proofs.Filled.{HasFront-least}
-use Rattle.image_check.proofs.Placed.{IsBegun, begun-HasFront, begun-read, begun-start, begun-stops}
-use Rattle.image_check.proofs.ReadFormats.{since-format}
+use Rattle.image_check.proofs.reading.Buffer.{HasFront-least}
+use Rattle.image_check.proofs.opening.InRegion.{IsBegun, begun-HasFront, begun-read, begun-start, begun-stops}
+use Rattle.image_check.proofs.reading.Formats.{since-format}
 use Rattle.image_check.proofs.image_read.read_image.Goals as goal
 
 pub read_rest-requires-clause-min_len : goal.read_rest-requires-clause-min_len

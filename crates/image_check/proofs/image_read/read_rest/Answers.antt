@@ -2,9 +2,9 @@ use Rattle.std.proofs.Common.{◌≡◌, ◌-◌, ap, ◌∙◌, length, take, d
 use Rattle.std.proofs.lemmas.List.{length-append, length-drop, length-take-le}
 use Rattle.image_check.specs.Causes.{error_for, error_in}
 use Rattle.std.proofs.lemmas.Result.{err_from_is_err_and}
-use Rattle.image_check.proofs.Filled.{filled_short, filled_whole, rest-filled, front-length}
-use Rattle.image_check.proofs.FrontAlone.{end-roomy, short-roomy}
-use Rattle.image_check.proofs.ToldPlaces.{end-shown, err-in, err-out, whole-shown}
+use Rattle.image_check.proofs.reading.Buffer.{filled_short, filled_whole, rest-filled, front-length}
+use Rattle.image_check.proofs.reading.FrontAlone.{end-roomy, short-roomy}
+use Rattle.image_check.proofs.reading.Places.{end-shown, err-in, err-out, whole-shown}
 use Rattle.image_check.proofs.image_read.read_rest.Goals as goal
 
 pub returns-in_err-read_all-clause-on_error : goal.returns-in_err-read_all-clause-on_error

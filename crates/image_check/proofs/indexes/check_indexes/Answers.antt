@@ -2,10 +2,10 @@
 use Rattle.std.proofs.Common.{inl, inr, sym, subst}
 use Rattle.raw_region.specs.Memory.{bytes_of}
 use Rattle.image_check.specs.Passes.{tiles_in}
-use Rattle.image_check.proofs.IndexesEntered.{first-wrong, second-wrong, both-right, both-entered, entries-mark}
-use Rattle.image_check.proofs.IndexesEntered.{entries-unmarked, first-entered, none-entered}
-use Rattle.image_check.proofs.EntryPlaces.{entered-right}
-use Rattle.image_check.proofs.Gathered.{tags-blocks}
+use Rattle.image_check.proofs.indexes.BothIndexes.{first-wrong, second-wrong, both-right, both-entered, entries-mark}
+use Rattle.image_check.proofs.indexes.BothIndexes.{entries-unmarked, first-entered, none-entered}
+use Rattle.image_check.proofs.indexes.EntryPlaces.{entered-right}
+use Rattle.image_check.proofs.block_collection.Lookup.{tags-blocks}
 use Rattle.image_check.specs.Owners.{AreBlocks, Blocks}
 use Rattle.image_check.proofs.indexes.check_indexes.Goals as goal
 

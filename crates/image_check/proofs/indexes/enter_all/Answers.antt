@@ -4,12 +4,12 @@ use Rattle.std.specs.Prelude.{Option}
 use Rattle.std.proofs.lemmas.List.FromFn.{map-range_with_len_more}
 use Rattle.raw_region.specs.Memory.{bytes_of}
 use Rattle.offset_link.specs.Link.{link_at}
-use Rattle.image_check.specs.Entered.{AreAdded, are_enterable, can_enter, links_in}
+use Rattle.image_check.specs.Entered.{NotesEntries, are_enterable, can_enter, links_in}
 use Rattle.image_check.specs.IndexPlaces.{first_targets, is_new}
-use Rattle.image_check.proofs.EntryPlaces.{entered-new, not-new}
-use Rattle.image_check.proofs.Numbered.{one-more}
-use Rattle.image_check.proofs.Ranges.{split}
-use Rattle.image_check.proofs.EntriesNoted.{one-entered, wrong-entry, targets_of}
+use Rattle.image_check.proofs.indexes.EntryPlaces.{entered-new, not-new}
+use Rattle.image_check.proofs.block_collection.ByNumber.{one-more}
+use Rattle.image_check.proofs.bytes.Ranges.{split}
+use Rattle.image_check.proofs.indexes.AllEntries.{one-entered, wrong-entry, targets_of}
 use Rattle.image_check.proofs.indexes.enter_all.Goals as goal
 
 pub overflow_mul-place : goal.overflow_mul-place
@@ -56,7 +56,7 @@ entries-preserved c =
           let r = one-entered ts old c.entries.owners.blocks.entries c.args.root (c.args.block + 8 * c.entries.i)
           front c.link-link.result i.1 i.0 new c.if-not-enter.ensures.entry in (
             ap (are_enterable ts old) (sym here) ∙ r.0,
-            subst (λ (ls : List (Option ℕ)). AreAdded ts old new c.args.root (targets_of ls)) here r.1,
+            subst (λ (ls : List (Option ℕ)). NotesEntries ts old new c.args.root (targets_of ls)) here r.1,
           );
       new = λ ts b earlier have i l.
           let old = c.args.owners.now.blocks.entries in

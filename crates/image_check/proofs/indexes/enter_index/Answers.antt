@@ -4,8 +4,8 @@ use Rattle.raw_region.specs.Memory.{bytes_of, word_at}
 use Rattle.block_tags.specs.declared.tile.Role.TheVariants.{Index}
 use Rattle.image_check.specs.Passes.{tiles_in}
 use Rattle.image_check.specs.Visits.{index_rates, weigh}
-use Rattle.image_check.proofs.EntryPlaces.{index-entered, wrong-head}
-use Rattle.image_check.proofs.IndexPlaces.{IsIndexRoom, rows, in-row, room-of, weigh-one}
+use Rattle.image_check.proofs.indexes.EntryPlaces.{index-entered, wrong-head}
+use Rattle.image_check.proofs.indexes.Places.{IsIndexRoom, rows, in-row, room-of, weigh-one}
 use Rattle.image_check.proofs.indexes.enter_index.Goals as goal
 use Rattle.image_check.proofs.indexes.enter_index.Goals.{In-Some}
 

@@ -1,4 +1,4 @@
-use Rattle.image_check.proofs.Renewed.{replanted_stand}
+use Rattle.image_check.proofs.frame.OlderFormats.{replanted_stand}
 use Rattle.image_check.proofs.laws.replanted_stand.Goals as goal
 
 pub returns : goal.returns

@@ -1,5 +1,5 @@
 use Rattle.std.proofs.Common.{◌-◌}
-use Rattle.image_check.proofs.NotedLinks.{NotedElements}
+use Rattle.image_check.proofs.shared_blocks.Links.{NotedElements}
 use Rattle.image_check.proofs.links.mark_elements.Given as goal
 
 -- the elements before this one are noted

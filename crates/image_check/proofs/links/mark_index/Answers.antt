@@ -7,8 +7,8 @@ use Rattle.image_check.specs.ObjectTests.{index_capacity}
 use Rattle.image_check.specs.Owners.{MarksLink, IsSharedIn, owner}
 use Rattle.image_check.specs.Passes.{tiles_in}
 use Rattle.image_check.specs.Sharing.{IsIndexNoted}
-use Rattle.image_check.proofs.Following.{map-ok}
-use Rattle.image_check.proofs.NotedLinks.{few-wait, index-may, index-start, marked-index}
+use Rattle.image_check.proofs.shared_blocks.Worklist.{map-ok}
+use Rattle.image_check.proofs.shared_blocks.Links.{few-wait, index-may, index-start, marked-index}
 use Rattle.image_check.proofs.links.mark_index.Goals as goal
 
 pub mark-requires-clause-no_overflow : goal.mark-requires-clause-no_overflow

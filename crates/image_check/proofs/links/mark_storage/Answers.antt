@@ -5,8 +5,8 @@ use Rattle.block_tags.specs.declared.tile.Role.TheVariants.{Storage}
 use Rattle.image_check.specs.Owners.{MarksLink, IsSharedIn, owner}
 use Rattle.image_check.specs.Passes.{tiles_in}
 use Rattle.image_check.specs.Sharing.{IsStorageNoted}
-use Rattle.image_check.proofs.Following.{map-ok}
-use Rattle.image_check.proofs.NotedLinks.{Marks, few-wait, marked-storage}
+use Rattle.image_check.proofs.shared_blocks.Worklist.{map-ok}
+use Rattle.image_check.proofs.shared_blocks.Links.{Marks, few-wait, marked-storage}
 use Rattle.image_check.proofs.links.mark_storage.Goals as goal
 
 pub mark-requires-clause-no_overflow : goal.mark-requires-clause-no_overflow

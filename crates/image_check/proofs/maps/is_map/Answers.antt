@@ -3,7 +3,7 @@ use Rattle.std.specs.Prelude.{nat_eq}
 use Rattle.std.proofs.lemmas.Bool.{both_ways, cases_Bool, eqb-true, eq-eqb, ne_eqb}
 use Rattle.link_tree.specs.Tree.{nodes_of}
 use Rattle.link_tree.proofs.Laws.{some_same}
-use Rattle.image_check.proofs.MapFound.{found-map, not-map}
+use Rattle.image_check.proofs.containers.Maps.{found-map, not-map}
 use Rattle.image_check.proofs.maps.is_map.Goals as goal
 
 pub returns-in_default-clause-value : goal.returns-in_default-clause-value

@@ -7,10 +7,12 @@ use Rattle.image_check.specs.declared.owners.Block.{Block}
 use Rattle.image_check.specs.Passes.{HasTiles, tiles_in}
 use Rattle.image_check.specs.Owners.{IsMarkingOf, MarksLink, IsSharedIn, IsTurn, Blocks, block_at, next_in, root_in}
 use Rattle.image_check.specs.Owners.{owner}
-use Rattle.image_check.proofs.Inside.{IsInside, legal-small, payload-inside}
-use Rattle.image_check.proofs.Following.{leader, left-counts, left-rooted, map-ok, node-there, node-tile, of-err, of-ok}
-use Rattle.image_check.proofs.Following.{right-counts, right-rooted, root-is, taken, turn-keeps, turn-less, turned}
-use Rattle.image_check.proofs.Following.{debts-small}
+use Rattle.image_check.proofs.block_collection.Places.{IsInside, legal-small, payload-inside}
+use Rattle.image_check.proofs.shared_blocks.Worklist.{leader, left-counts, left-rooted, map-ok, node-there, node-tile}
+use Rattle.image_check.proofs.shared_blocks.Worklist.{of-err, of-ok}
+use Rattle.image_check.proofs.shared_blocks.Worklist.{right-counts, right-rooted, root-is, taken, turn-keeps, turn-less}
+use Rattle.image_check.proofs.shared_blocks.Worklist.{turned}
+use Rattle.image_check.proofs.shared_blocks.Worklist.{debts-small}
 use Rattle.image_check.proofs.marks.follow_next.Goals as goal
 
 -- the node lies in the window
@@ -70,7 +72,7 @@ mark-requires-in-Ok-clause-room g c =
     let r = its-root g.format b o.blocks.entries o.pending o.waiting c.requires.1.0 c.args.node c.requires.1.1
     c.block_of-block.result c.root_in-root.result c.block_of-block.ensures.value c.root_in-root.ensures in
     let first = c.mark.ensures.marks g.format (bytes_of b) (tiles_in b) (Some c.args.node) k
-    c.links-children.ensures.remainder
+    c.links-children.ensures.left
     (left-counts g.format (bytes_of b) (tiles_in b) o.blocks.entries o.pending o.waiting c.requires.1.0 c.args.node
     c.requires.1.1)
     (left-rooted g.format (bytes_of b) (tiles_in b) o.blocks.entries o.pending o.waiting c.requires.1.0 c.args.node
@@ -91,7 +93,7 @@ returns-in-Err-clause-turn g c =
     let r = its-root g.format b o.blocks.entries o.pending o.waiting c.requires.1.0 c.args.node c.requires.1.1
     c.block_of-block.result c.root_in-root.result c.block_of-block.ensures.value c.root_in-root.ensures in
     let first = c.mark.ensures.marks g.format (bytes_of b) (tiles_in b) (Some c.args.node) k
-    c.links-children.ensures.remainder
+    c.links-children.ensures.left
     (left-counts g.format (bytes_of b) (tiles_in b) o.blocks.entries o.pending o.waiting c.requires.1.0 c.args.node
     c.requires.1.1)
     (left-rooted g.format (bytes_of b) (tiles_in b) o.blocks.entries o.pending o.waiting c.requires.1.0 c.args.node
@@ -113,7 +115,7 @@ returns-in-Ok-clause-turn g c =
     let r = its-root g.format b o.blocks.entries o.pending o.waiting c.requires.1.0 c.args.node c.requires.1.1
     c.block_of-block.result c.root_in-root.result c.block_of-block.ensures.value c.root_in-root.ensures in
     let first = c.mark.ensures.marks g.format (bytes_of b) (tiles_in b) (Some c.args.node) k
-    c.links-children.ensures.remainder
+    c.links-children.ensures.left
     (left-counts g.format (bytes_of b) (tiles_in b) o.blocks.entries o.pending o.waiting c.requires.1.0 c.args.node
     c.requires.1.1)
     (left-rooted g.format (bytes_of b) (tiles_in b) o.blocks.entries o.pending o.waiting c.requires.1.0 c.args.node

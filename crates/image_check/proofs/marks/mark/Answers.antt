@@ -1,9 +1,9 @@
 use Rattle.std.proofs.Common.{sym, subst, ◌∙◌, ℕ, ◌+◌, Some}
 use Rattle.block_tags.specs.declared.tile.Role.TheVariants.{Node}
 use Rattle.image_check.specs.Owners.{MarksLink, Blocks}
-use Rattle.image_check.proofs.Standing.{same_role-is}
-use Rattle.image_check.proofs.Lookups.{differ}
-use Rattle.image_check.proofs.Marking.{no-block, other-role, shared, node-owned, other-owned}
+use Rattle.image_check.proofs.block_collection.UsedTile.{same_role-is}
+use Rattle.image_check.proofs.block_collection.GoodLinks.{differ}
+use Rattle.image_check.proofs.shared_blocks.OneLink.{no-block, other-role, shared, node-owned, other-owned}
 use Rattle.image_check.proofs.marks.mark.Goals as goal
 
 pub returns-in_default-find-clause-marks : goal.returns-in_default-find-clause-marks

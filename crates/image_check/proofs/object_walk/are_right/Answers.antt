@@ -13,12 +13,12 @@ use Rattle.image_check.specs.ObjectTests.{is_object_tile, is_use}
 use Rattle.image_check.specs.ObjectPasses.{is_right_tile, object_walk_rates}
 use Rattle.image_check.specs.Owners.{frame_of}
 use Rattle.image_check.specs.Visits.{rate_of, weigh}
-use Rattle.image_check.proofs.IndexPlaces.{InRow, in-row}
-use Rattle.image_check.proofs.Members.{mem_right}
-use Rattle.image_check.proofs.RowWalks.{PassesGaps, RowAt, free-object, recoloured, row-at, rows-end, rows-on}
-use Rattle.image_check.proofs.RowWalks.{rows-start}
-use Rattle.image_check.proofs.WalkedTiles.{all-more, fails-there, tags-IsTiledWindow}
-use Rattle.image_check.proofs.Weights.{weigh-more, weigh-front}
+use Rattle.image_check.proofs.indexes.Places.{InRow, in-row}
+use Rattle.image_check.proofs.bytes.Members.{mem_right}
+use Rattle.image_check.proofs.walks.Rows.{PassesGaps, RowAt, free-object, recoloured, row-at, rows-end, rows-on}
+use Rattle.image_check.proofs.walks.Rows.{rows-start}
+use Rattle.image_check.proofs.walks.Tiles.{all-more, fails-there, tags-IsTiledWindow}
+use Rattle.image_check.proofs.walks.Weights.{weigh-more, weigh-front}
 use Rattle.image_check.proofs.object_walk.are_right.Goals as goal
 use Rattle.image_check.proofs.object_walk.are_right.Goals.{After-row-payload}
 

@@ -4,7 +4,7 @@ use Rattle.raw_region.specs.Memory.{bytes_of}
 use Rattle.block_tags.specs.declared.tile.Tile.{Tile}
 use Rattle.image_check.specs.ObjectPasses.{is_right_tile, object_walk_rates}
 use Rattle.image_check.specs.Visits.{weigh}
-use Rattle.image_check.proofs.RowWalks.{RowWalks}
+use Rattle.image_check.proofs.walks.Rows.{RowWalks}
 use Rattle.image_check.proofs.object_walk.are_right.Given as goal
 
 -- all tiles that the walk has passed are right, and it spent no more than they weigh

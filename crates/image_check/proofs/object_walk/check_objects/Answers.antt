@@ -2,8 +2,9 @@
 use Rattle.std.proofs.Common.{arith, inl, inr}
 use Rattle.raw_region.specs.Memory.{bytes_of}
 use Rattle.image_check.specs.Passes.{tiles_in}
-use Rattle.image_check.proofs.ObjectsRight.{heads-of, named-index, unique-index, right-from, weights-sum, wrong-named}
-use Rattle.image_check.proofs.ObjectsRight.{wrong-tiles, wrong-unique}
+use Rattle.image_check.proofs.objects.AllObjects.{heads-of, named-index, unique-index, right-from, weights-sum}
+use Rattle.image_check.proofs.objects.AllObjects.{wrong-named}
+use Rattle.image_check.proofs.objects.AllObjects.{wrong-tiles, wrong-unique}
 use Rattle.image_check.proofs.object_walk.check_objects.Goals as goal
 
 pub returns-in-Err-clause-verdict : goal.returns-in-Err-clause-verdict

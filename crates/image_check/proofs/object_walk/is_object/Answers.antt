@@ -1,7 +1,7 @@
 -- A value is looked at where it has room.
 use Rattle.std.proofs.Common.{sym, ◌∙◌, length, arith}
 use Rattle.raw_region.specs.Memory.{bytes_of}
-use Rattle.image_check.proofs.ObjectTested.{no-room, room-wider}
+use Rattle.image_check.proofs.objects.OneObject.{no-room, room-wider}
 use Rattle.image_check.proofs.object_walk.is_object.Goals as goal
 
 pub returns-then-not-has_room-clause-test : goal.returns-then-not-has_room-clause-test

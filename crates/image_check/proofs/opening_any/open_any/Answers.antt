@@ -4,9 +4,9 @@ use Rattle.image_check.specs.declared.errors.OpenRefused.{OpenRefused}
 use Rattle.image_check.specs.Causes.{opened_as}
 use Rattle.image_check.specs.Formats.{format_of}
 use Rattle.image_check.specs.OpeningAny.{OpensAny}
-use Rattle.image_check.proofs.FrontAlone.{opened-reads, opened-roomy}
-use Rattle.image_check.proofs.OpenedAny.{opens-any, unread-any}
-use Rattle.image_check.proofs.ReadFormats.{format_of-few}
+use Rattle.image_check.proofs.reading.FrontAlone.{opened-reads, opened-roomy}
+use Rattle.image_check.proofs.opening.AnyFormat.{opens-any, unread-any}
+use Rattle.image_check.proofs.reading.Formats.{format_of-few}
 use Rattle.image_check.proofs.opening_any.open_any.Goals as goal
 
 pub returns-in-Err-clause-opening : goal.returns-in-Err-clause-opening

@@ -4,8 +4,8 @@ use Rattle.image_check.specs.Causes.{opened_as}
 use Rattle.image_check.specs.Formats.{format_of}
 use Rattle.image_check.specs.OpeningAny.{OpensAny}
 use Rattle.image_check.specs.OpeningBytes.{as_given}
-use Rattle.image_check.proofs.OpenedAny.{opens-any, unplaced-any}
-use Rattle.image_check.proofs.ReadFormats.{format_of-few}
+use Rattle.image_check.proofs.opening.AnyFormat.{opens-any, unplaced-any}
+use Rattle.image_check.proofs.reading.Formats.{format_of-few}
 use Rattle.image_check.proofs.opening_any_bytes.open_any_bytes.Goals as goal
 
 pub returns-in-Err-clause-opening : goal.returns-in-Err-clause-opening

@@ -3,7 +3,7 @@ use Rattle.raw_region.specs.Format.{current}
 use Rattle.image_check.specs.declared.errors.OpenRefused.{OpenRefused}
 use Rattle.image_check.specs.Causes.{opened_as}
 use Rattle.image_check.specs.OpeningBytes.{OpensBytes}
-use Rattle.image_check.proofs.PlacedBytes.{not-placed, opens-bytes}
+use Rattle.image_check.proofs.opening.InMemory.{not-placed, opens-bytes}
 use Rattle.image_check.proofs.opening_bytes.open_bytes.Goals as goal
 
 pub returns-in-Err-clause-opening : goal.returns-in-Err-clause-opening

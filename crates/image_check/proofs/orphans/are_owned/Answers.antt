@@ -5,9 +5,9 @@ use Rattle.block_tags.specs.declared.tile.Tile.{Tile}
 use Rattle.image_check.specs.declared.owners.Block.{Block}
 use Rattle.image_check.specs.Orphans.{is_owned}
 use Rattle.image_check.specs.Owners.{Blocks, block_at, frame_of, has_owner}
-use Rattle.image_check.proofs.OwnedRows.{free-tests, tile-tests}
-use Rattle.image_check.proofs.RowWalks.{PassesGaps, RowAt, row-at, rows-end, rows-on, rows-start}
-use Rattle.image_check.proofs.WalkedTiles.{all-more, fails-there, tags-IsTiledWindow}
+use Rattle.image_check.proofs.block_collection.Owners.{free-tests, tile-tests}
+use Rattle.image_check.proofs.walks.Rows.{PassesGaps, RowAt, row-at, rows-end, rows-on, rows-start}
+use Rattle.image_check.proofs.walks.Tiles.{all-more, fails-there, tags-IsTiledWindow}
 use Rattle.image_check.proofs.orphans.are_owned.Goals as goal
 
 -- what is kept of the tiles behind the walk

@@ -4,7 +4,7 @@ use Rattle.block_tags.specs.declared.tile.Tile.{Tile}
 use Rattle.raw_region.specs.Memory.{WindowState}
 use Rattle.image_check.specs.Owners.{entries_of, frames, has_owner}
 use Rattle.image_check.specs.Passes.{HasTiles, tiles_in}
-use Rattle.image_check.proofs.RowWalks.{RowWalks}
+use Rattle.image_check.proofs.walks.Rows.{RowWalks}
 use Rattle.image_check.proofs.orphans.are_owned.Given as goal
 
 -- the blocks that the walk has passed need no owner or have one

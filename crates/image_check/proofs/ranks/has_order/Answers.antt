@@ -6,9 +6,9 @@ use Rattle.block_tags.specs.declared.tile.Role.TheVariants.{Index}
 use Rattle.image_check.specs.Passes.{tiles_in}
 use Rattle.image_check.specs.ObjectPasses.{entry_rates}
 use Rattle.image_check.specs.Visits.{weigh}
-use Rattle.image_check.proofs.EntryPlaces.{order-found}
-use Rattle.image_check.proofs.IndexOrdered.{index-room, entry-some, entry-among}
-use Rattle.image_check.proofs.IndexPlaces.{IsIndexRoom, rows, in-row, weigh-one}
+use Rattle.image_check.proofs.indexes.EntryPlaces.{order-found}
+use Rattle.image_check.proofs.indexes.LinkOrder.{index-room, entry-some, entry-among}
+use Rattle.image_check.proofs.indexes.Places.{IsIndexRoom, rows, in-row, weigh-one}
 use Rattle.image_check.proofs.ranks.has_order.Goals as goal
 use Rattle.image_check.proofs.ranks.has_order.Goals.{In-Some}
 

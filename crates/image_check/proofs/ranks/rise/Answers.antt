@@ -10,9 +10,9 @@ use Rattle.seg_index.specs.Keys.{name_len_at}
 use Rattle.image_check.specs.Entered.{links_in}
 use Rattle.image_check.specs.ObjectPasses.{are_ranked, follows}
 use Rattle.image_check.specs.ObjectPlaces.{link_before}
-use Rattle.image_check.proofs.Ranges.{split}
-use Rattle.image_check.proofs.EntriesNoted.{targets_of, targets-split}
-use Rattle.image_check.proofs.Ranked.{last_of, last-of-more, ranked-more, ranked-broken}
+use Rattle.image_check.proofs.bytes.Ranges.{split}
+use Rattle.image_check.proofs.indexes.AllEntries.{targets_of, targets-split}
+use Rattle.image_check.proofs.indexes.Ranks.{last_of, last-of-more, ranked-more, ranked-broken}
 use Rattle.image_check.proofs.ranks.rise.Goals as goal
 
 pub returns-then-not-follows-clause-verdict : goal.returns-then-not-follows-clause-verdict

@@ -4,7 +4,7 @@ use Rattle.seg_index.specs.Keys.{name_len_at}
 use Rattle.image_check.specs.IndexPlaces.{first_targets}
 use Rattle.image_check.specs.ObjectPlaces.{link_before}
 use Rattle.image_check.specs.ObjectPasses.{are_ranked}
-use Rattle.image_check.proofs.Ranked.{last_of}
+use Rattle.image_check.proofs.indexes.Ranks.{last_of}
 use Rattle.image_check.proofs.ranks.rise.Given as goal
 
 -- the entries that were passed are in order

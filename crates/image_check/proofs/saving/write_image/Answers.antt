@@ -1,5 +1,5 @@
 use Rattle.std.proofs.Common.{arith}
-use Rattle.image_check.proofs.SavedImages.{accepted_image}
+use Rattle.image_check.proofs.opening.Saved.{accepted_image}
 use Rattle.image_check.proofs.saving.write_image.Goals as goal
 
 pub returns-clause-acceptance : goal.returns-clause-acceptance

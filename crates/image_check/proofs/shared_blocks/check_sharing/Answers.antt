@@ -1,12 +1,12 @@
 use Rattle.std.proofs.Common.{◌+◌, ◌*◌, ◌≤◌, arith}
-use Rattle.image_check.specs.Owners.{IsAllFollowed, IsSharedIn, IsWholeMarkingOf, unspent_budget}
+use Rattle.image_check.specs.Owners.{FollowsAll, IsSharedIn, IsWholeMarkingOf, unspent_budget}
 use Rattle.image_check.specs.Passes.{tiles_in}
-use Rattle.image_check.specs.Sharing.{AreIndexesNoted, AreValuesNoted, value_rates}
+use Rattle.image_check.specs.Sharing.{AreIndexesNoted, NotesValues, value_rates}
 use Rattle.image_check.specs.Visits.{weigh}
-use Rattle.image_check.proofs.Following.{of-err, of-ok}
-use Rattle.image_check.proofs.NotedAll.{finds-from, on-ok, whole}
-use Rattle.image_check.proofs.NotedTiles.{sharing-weigh}
-use Rattle.image_check.proofs.Owned.{none-shared-in, some-shared-in}
+use Rattle.image_check.proofs.shared_blocks.Worklist.{of-err, of-ok}
+use Rattle.image_check.proofs.shared_blocks.AllNoted.{finds-from, on-ok, whole}
+use Rattle.image_check.proofs.shared_blocks.Tiles.{sharing-weigh}
+use Rattle.image_check.proofs.shared_blocks.Meaning.{none-shared-in, some-shared-in}
 use Rattle.image_check.proofs.shared_blocks.check_sharing.Goals as goal
 
 pub returns-in-Err-clause-verdict : goal.returns-in-Err-clause-verdict
@@ -22,7 +22,7 @@ returns-in-Err-mark_values-clause-verdict g c =
     let b = c.args.window.now.bytes in
     let m = c.mark_indexes.new.owners in
     let n = c.mark_values.new.owners in
-    let e = of-err (λ x. AreValuesNoted g.said b m.blocks.entries n.blocks.entries n.pending n.waiting)
+    let e = of-err (λ x. NotesValues g.said b m.blocks.entries n.blocks.entries n.pending n.waiting)
     (IsSharedIn g.said b) c.mark_values.result c.in-Err-mark_values.place c.in-Err-mark_values.is
     c.mark_values.ensures.mark in
     (some-shared-in g.said b _ c.requires.0 e, e)
@@ -55,9 +55,9 @@ returns-clause-verdict g c =
     let k = c.follow.new.owners in
     let one = of-ok (λ x. AreIndexesNoted g.said b m.blocks.entries m.pending m.waiting) (IsSharedIn g.said b)
     c.mark_indexes.result _ c.in_default.is c.mark_indexes.ensures.mark in
-    let two = of-ok (λ x. AreValuesNoted g.said b m.blocks.entries n.blocks.entries n.pending n.waiting)
+    let two = of-ok (λ x. NotesValues g.said b m.blocks.entries n.blocks.entries n.pending n.waiting)
     (IsSharedIn g.said b) c.mark_values.result _ c.in_default-mark_values.is c.mark_values.ensures.mark in
-    finds-from g.said b (λ x. IsAllFollowed g.said b n.blocks.entries k.blocks.entries k.pending k.waiting)
+    finds-from g.said b (λ x. FollowsAll g.said b n.blocks.entries k.blocks.entries k.pending k.waiting)
     c.follow.result c.requires.0 c.follow.ensures.observed
     (λ x f. none-shared-in g.said b k.blocks.entries k.waiting c.requires.0
     (whole g.said b m.blocks.entries m.pending m.waiting n.blocks.entries n.pending n.waiting k.blocks.entries
@@ -71,9 +71,9 @@ returns-clause-contents g c =
     let k = c.follow.new.owners in
     let one = of-ok (λ x. AreIndexesNoted g.said b m.blocks.entries m.pending m.waiting) (IsSharedIn g.said b)
     c.mark_indexes.result _ c.in_default.is c.mark_indexes.ensures.mark in
-    let two = of-ok (λ x. AreValuesNoted g.said b m.blocks.entries n.blocks.entries n.pending n.waiting)
+    let two = of-ok (λ x. NotesValues g.said b m.blocks.entries n.blocks.entries n.pending n.waiting)
     (IsSharedIn g.said b) c.mark_values.result _ c.in_default-mark_values.is c.mark_values.ensures.mark in
-    on-ok (λ x. IsAllFollowed g.said b n.blocks.entries k.blocks.entries k.pending k.waiting) (IsSharedIn g.said b)
+    on-ok (λ x. FollowsAll g.said b n.blocks.entries k.blocks.entries k.pending k.waiting) (IsSharedIn g.said b)
     (IsWholeMarkingOf g.said b k.blocks.entries k.waiting) c.follow.result c.follow.ensures.observed
     (λ x f. whole g.said b m.blocks.entries m.pending m.waiting n.blocks.entries n.pending n.waiting
     k.blocks.entries k.pending k.waiting one two f)

@@ -3,8 +3,8 @@ use Rattle.raw_region.specs.Memory.{bytes_of}
 use Rattle.image_check.specs.ObjectTests.{kind_at, payload, value_offset}
 use Rattle.image_check.specs.Owners.{IsSharedIn}
 use Rattle.image_check.specs.Sharing.{IsTileGrown, IsValueGrown, IsValueReady}
-use Rattle.image_check.proofs.Following.{map-ok}
-use Rattle.image_check.proofs.NotedTiles.{tile-grown}
+use Rattle.image_check.proofs.shared_blocks.Worklist.{map-ok}
+use Rattle.image_check.proofs.shared_blocks.Tiles.{tile-grown}
 use Rattle.image_check.proofs.shared_blocks.mark_object.Goals as goal
 
 pub mark_value-requires : goal.mark_value-requires

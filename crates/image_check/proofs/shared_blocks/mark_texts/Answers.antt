@@ -3,8 +3,9 @@ use Rattle.raw_region.specs.Memory.{bytes_of, word_at}
 use Rattle.image_check.specs.Owners.{IsSharedIn}
 use Rattle.image_check.specs.Passes.{tiles_in}
 use Rattle.image_check.specs.Sharing.{AreElementsNoted, AreTextsNoted}
-use Rattle.image_check.proofs.Following.{map-ok}
-use Rattle.image_check.proofs.NotedValues.{array-aligned, array-at, array-inside, array-long, texts-noted, texts-starts}
+use Rattle.image_check.proofs.shared_blocks.Worklist.{map-ok}
+use Rattle.image_check.proofs.shared_blocks.Values.{array-aligned, array-at, array-inside, array-long, texts-noted}
+use Rattle.image_check.proofs.shared_blocks.Values.{texts-starts}
 use Rattle.image_check.proofs.shared_blocks.mark_texts.Goals as goal
 
 pub elements_in-count-requires : goal.elements_in-count-requires

@@ -6,9 +6,10 @@ use Rattle.image_check.specs.Fields.{has_storage}
 use Rattle.image_check.specs.Owners.{MarksLink, IsSharedIn, unspent_budget, owner}
 use Rattle.image_check.specs.Passes.{tiles_in}
 use Rattle.image_check.specs.Sharing.{IsStorageNoted, IsValueGrown, IsValueReady, has_link}
-use Rattle.image_check.proofs.Following.{map-ok}
-use Rattle.image_check.proofs.NotedLinks.{Marks, few-wait}
-use Rattle.image_check.proofs.NotedValues.{map-value, pays-from, root-may, storage-may, text-value, vector-value}
+use Rattle.image_check.proofs.shared_blocks.Worklist.{map-ok}
+use Rattle.image_check.proofs.shared_blocks.Links.{Marks, few-wait}
+use Rattle.image_check.proofs.shared_blocks.Values.{map-value, pays-from, root-may, storage-may, text-value}
+use Rattle.image_check.proofs.shared_blocks.Values.{vector-value}
 use Rattle.image_check.proofs.shared_blocks.mark_value.Goals as goal
 
 pub mark-requires-clause-no_overflow : goal.mark-requires-clause-no_overflow

@@ -3,12 +3,12 @@ use Rattle.std.proofs.Common.{◌≡◌, ◌+◌, ◌*◌, ◌≤◌, ◌∙◌,
 use Rattle.raw_region.specs.Memory.{bytes_of}
 use Rattle.image_check.specs.Owners.{IsSharedIn, unspent_budget, frame_of}
 use Rattle.image_check.specs.Sharing.{IsTileGrown, IsValueReady, object_cost}
-use Rattle.image_check.proofs.Following.{of-err, of-ok}
-use Rattle.image_check.proofs.NotedTiles.{Noting, cost-same, grown-same, noting-end, noting-gap, noting-on}
-use Rattle.image_check.proofs.NotedTiles.{noting-refused, noting-start, object-same, ready-here}
-use Rattle.image_check.proofs.NotedTiles.{room-here}
-use Rattle.image_check.proofs.RowWalks.{few-rows, row-at, rows-end, rows-on, rows-start}
-use Rattle.image_check.proofs.WalkedTiles.{tags-IsTiledWindow}
+use Rattle.image_check.proofs.shared_blocks.Worklist.{of-err, of-ok}
+use Rattle.image_check.proofs.shared_blocks.Tiles.{Noting, cost-same, grown-same, noting-end, noting-gap, noting-on}
+use Rattle.image_check.proofs.shared_blocks.Tiles.{noting-refused, noting-start, object-same, ready-here}
+use Rattle.image_check.proofs.shared_blocks.Tiles.{room-here}
+use Rattle.image_check.proofs.walks.Rows.{few-rows, row-at, rows-end, rows-on, rows-start}
+use Rattle.image_check.proofs.walks.Tiles.{tags-IsTiledWindow}
 use Rattle.image_check.proofs.shared_blocks.mark_values.Goals as goal
 
 pub rows-init : goal.rows-init

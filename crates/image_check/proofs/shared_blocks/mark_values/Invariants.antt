@@ -1,8 +1,8 @@
 use Rattle.std.proofs.Common.{◌+◌, ◌*◌, ◌-◌, length}
 use Rattle.image_check.specs.Owners.{unspent_budget, entries_of}
 use Rattle.image_check.specs.Passes.{tiles_in}
-use Rattle.image_check.proofs.NotedTiles.{Noting}
-use Rattle.image_check.proofs.RowWalks.{RowWalks}
+use Rattle.image_check.proofs.shared_blocks.Tiles.{Noting}
+use Rattle.image_check.proofs.walks.Rows.{RowWalks}
 use Rattle.image_check.proofs.shared_blocks.mark_values.Given as goal
 
 abbrev pub ghost-mark_object : goal.ghost-mark_object

@@ -2,9 +2,9 @@
 use Rattle.std.proofs.Common.{◌+◌, ◌*◌, sym, ◌∙◌, ℕ, Bool, arith}
 use Rattle.raw_region.specs.Memory.{bytes_of, read}
 use Rattle.seg_types.specs.Kinds.{is_spelling, size_of}
-use Rattle.image_check.proofs.HeadBytes.{element-spelled}
-use Rattle.image_check.proofs.MapPairs.{size-most}
-use Rattle.image_check.proofs.Ranges.{all-further, all-broken}
+use Rattle.image_check.proofs.objects.HeadBytes.{element-spelled}
+use Rattle.image_check.proofs.containers.MapPairs.{size-most}
+use Rattle.image_check.proofs.bytes.Ranges.{all-further, all-broken}
 use Rattle.image_check.proofs.spellings.are_spellings.Goals as goal
 
 pub element-requires-clause-max_len : goal.element-requires-clause-max_len

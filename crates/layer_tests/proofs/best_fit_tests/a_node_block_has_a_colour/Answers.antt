@@ -1,4 +1,4 @@
-use Rattle.layer_tests.proofs.HeapCalls.{allocated-is_node, recoloured-is_node}
+use Rattle.layer_tests.proofs.calls.HeapCalls.{allocated-is_node, recoloured-is_node}
 use Rattle.layer_tests.proofs.best_fit_tests.a_node_block_has_a_colour.Goals as goal
 
 pub set_node_red-requires : goal.set_node_red-requires

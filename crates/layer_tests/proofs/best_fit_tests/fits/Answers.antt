@@ -1,7 +1,7 @@
 -- The block is there, and its room is not less.
 use Rattle.std.proofs.lemmas.Bool.{leb-true}
 use Rattle.best_fit.specs.Heap.{live_of}
-use Rattle.layer_tests.proofs.HeapCalls.{room_found}
+use Rattle.layer_tests.proofs.calls.HeapCalls.{room_found}
 use Rattle.layer_tests.proofs.best_fit_tests.fits.Goals as goal
 
 pub returns : goal.returns

@@ -1,5 +1,5 @@
 use Rattle.std.proofs.Common.{refl, arith}
-use Rattle.layer_tests.proofs.HeapCalls.{two_links}
+use Rattle.layer_tests.proofs.calls.HeapCalls.{two_links}
 use Rattle.layer_tests.proofs.best_fit_tests.moves_links.Goals as goal
 
 pub shift_links-requires-clause-links : goal.shift_links-requires-clause-links

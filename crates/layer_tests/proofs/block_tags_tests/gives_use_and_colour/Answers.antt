@@ -2,7 +2,7 @@ use Rattle.std.proofs.Common.{refl, true, false, Some, [], ◌∷◌}
 use Rattle.block_tags.specs.declared.tile.Role.TheVariants.{Node}
 use Rattle.block_tags.specs.declared.tile.Tile.{Tile}
 use Rattle.block_tags.specs.Lists.{free_tile}
-use Rattle.layer_tests.proofs.FreshWindows.{has_tile, may_be_used, may_have_colour}
+use Rattle.layer_tests.proofs.calls.Windows.{has_tile, may_be_used, may_have_colour}
 use Rattle.layer_tests.proofs.block_tags_tests.gives_use_and_colour.Goals as goal
 
 -- the tile in use, black and red

@@ -1,6 +1,6 @@
 use Rattle.std.proofs.Common.{refl, ap, length, ℕ, List, arith}
 use Rattle.raw_region.proofs.Laws.{length-zeros}
-use Rattle.layer_tests.proofs.FreshWindows.{legal_fresh, laid_fresh}
+use Rattle.layer_tests.proofs.calls.Windows.{legal_fresh, laid_fresh}
 use Rattle.layer_tests.proofs.block_tags_tests.laid_window.Goals as goal
 
 pub new-window-requires-clause-in_bounds : goal.new-window-requires-clause-in_bounds

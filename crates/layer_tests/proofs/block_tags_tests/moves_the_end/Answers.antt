@@ -1,6 +1,6 @@
 use Rattle.std.proofs.Common.{refl, [], ◌∷◌}
 use Rattle.block_tags.specs.Lists.{free_tile}
-use Rattle.layer_tests.proofs.FreshWindows.{tiled, has_free_last, can_append}
+use Rattle.layer_tests.proofs.calls.Windows.{tiled, has_free_last, can_append}
 use Rattle.layer_tests.proofs.block_tags_tests.moves_the_end.Goals as goal
 
 pub drop_last-size-requires : goal.drop_last-size-requires

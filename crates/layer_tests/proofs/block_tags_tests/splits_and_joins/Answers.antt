@@ -1,6 +1,6 @@
 use Rattle.std.proofs.Common.{refl, lit≤, [], ◌∷◌}
 use Rattle.block_tags.specs.Lists.{free_tile}
-use Rattle.layer_tests.proofs.FreshWindows.{tiled, has_tile, can_split, has_free_next}
+use Rattle.layer_tests.proofs.calls.Windows.{tiled, has_tile, can_split, has_free_next}
 use Rattle.layer_tests.proofs.block_tags_tests.splits_and_joins.Goals as goal
 
 pub split-requires : goal.split-requires

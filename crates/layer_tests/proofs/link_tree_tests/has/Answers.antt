@@ -2,7 +2,7 @@ use Rattle.std.proofs.Common.{◌≡◌, nat_lt, true, Some, sym, ◌∙◌, rul
 use Rattle.std.proofs.lemmas.Bool.{eq-eqb}
 use Rattle.link_tree.specs.Tree.{nodes_of, is_sorted}
 use Rattle.link_tree.specs.Nodes.{first_not_before}
-use Rattle.layer_tests.proofs.Tables.{in_if_found, place_unless_found}
+use Rattle.layer_tests.proofs.calls.NodeTable.{in_if_found, place_unless_found}
 use Rattle.layer_tests.proofs.link_tree_tests.has.Goals as goal
 
 pub find_first_not_before-found-requires-clause-tree : goal.find_first_not_before-found-requires-clause-tree

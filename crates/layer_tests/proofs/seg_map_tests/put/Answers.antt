@@ -1,5 +1,5 @@
 -- The map stands with the pair, or as it was.
-use Rattle.layer_tests.proofs.Maps.{after_put}
+use Rattle.layer_tests.proofs.calls.Maps.{after_put}
 use Rattle.layer_tests.proofs.seg_map_tests.put.Goals as goal
 
 pub returns : goal.returns

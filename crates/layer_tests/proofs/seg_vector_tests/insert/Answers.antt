@@ -1,5 +1,5 @@
 -- The vector stands with the value, or as it was.
-use Rattle.layer_tests.proofs.Vectors.{after_insert}
+use Rattle.layer_tests.proofs.calls.Vectors.{after_insert}
 use Rattle.layer_tests.proofs.seg_vector_tests.insert.Goals as goal
 
 pub returns : goal.returns

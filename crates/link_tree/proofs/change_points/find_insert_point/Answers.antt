@@ -1,5 +1,5 @@
 use Rattle.std.proofs.Common.{◌∙◌}
-use Rattle.link_tree.proofs.Approaches.{way_in}
+use Rattle.link_tree.proofs.searching.ChangePoints.{way_in}
 use Rattle.link_tree.proofs.change_points.find_insert_point.Goals as goal
 
 pub returns-clause-first : goal.returns-clause-first

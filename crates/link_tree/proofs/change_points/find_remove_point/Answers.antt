@@ -1,5 +1,5 @@
-use Rattle.link_tree.proofs.Approaches.{way_out}
-use Rattle.link_tree.proofs.Keepers.{strict}
+use Rattle.link_tree.proofs.searching.ChangePoints.{way_out}
+use Rattle.link_tree.proofs.trees.NodeLaws.{strict}
 use Rattle.link_tree.proofs.change_points.find_remove_point.Goals as goal
 
 pub returns-clause-first : goal.returns-clause-first

@@ -6,8 +6,9 @@ use Rattle.link_tree.specs.Tree.{Tree, fork, height, nodes_of}
 use Rattle.link_tree.specs.Nodes.{is_in, leads}
 use Rattle.link_tree.specs.Between.{is_above, is_below, count_between}
 use Rattle.link_tree.specs.Checking.{IsLinkClosed, IsSound}
-use Rattle.link_tree.proofs.Soundness.{sound_fork, parts_of, HasParts, one_height, closed_link, counts_split, part_size}
-use Rattle.link_tree.proofs.Keepers.{strict}
+use Rattle.link_tree.proofs.checking.Soundness.{sound_fork, parts_of, HasParts, one_height, closed_link, counts_split}
+use Rattle.link_tree.proofs.checking.Soundness.{part_size}
+use Rattle.link_tree.proofs.trees.NodeLaws.{strict}
 use Rattle.link_tree.proofs.checking.+check_below.Goals as goal
 use Rattle.link_tree.proofs.checking.+check_below.Goals.{After-red-red, After-right-right}
 use Rattle.link_tree.proofs.checking.+check_below.Goals.{else-red-via-then-red+else-red_above}

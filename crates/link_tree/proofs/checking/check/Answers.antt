@@ -1,10 +1,10 @@
 use Rattle.std.proofs.Common.{Some, length, sym, ap, ◌∙◌, arith}
 use Rattle.std.proofs.lemmas.Bool.{false≢true}
 use Rattle.link_tree.specs.Tree.{nodes_of}
-use Rattle.link_tree.proofs.Trees.{one_tree, some_same, none_some}
-use Rattle.link_tree.proofs.Limits.{count_all}
-use Rattle.link_tree.proofs.Soundness.{only, length-only, leads_only, only_closed, sound_whole, whole_sound}
-use Rattle.link_tree.proofs.Keepers.{low_tree, strict}
+use Rattle.link_tree.proofs.trees.Linked.{one_tree, some_same, none_some}
+use Rattle.link_tree.proofs.trees.NodeCount.{count_all}
+use Rattle.link_tree.proofs.checking.Soundness.{only, length-only, leads_only, only_closed, sound_whole, whole_sound}
+use Rattle.link_tree.proofs.trees.NodeLaws.{low_tree, strict}
 use Rattle.link_tree.proofs.checking.check.Goals as goal
 
 pub check_below-requires-clause-no_overflow : goal.check_below-requires-clause-no_overflow

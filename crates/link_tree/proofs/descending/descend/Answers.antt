@@ -1,9 +1,9 @@
 use Rattle.std.proofs.Common.{◌≡◌, ℕ, ◌+◌, Bool, true, false, Option, Some, ◌∙◌, arith, refl}
 use Rattle.link_tree.specs.Tree.{Tree, IsSearchTree}
 use Rattle.link_tree.specs.Sides.{child_of}
-use Rattle.link_tree.proofs.Heights.{bounds_height}
-use Rattle.link_tree.proofs.Keepers.{low_tree, strict}
-use Rattle.link_tree.proofs.Seeking.{Seeking, onward, seek_start, seek_on, seek_end}
+use Rattle.link_tree.proofs.trees.Heights.{bounds_height}
+use Rattle.link_tree.proofs.trees.NodeLaws.{low_tree, strict}
+use Rattle.link_tree.proofs.searching.PathWalk.{Seeking, onward, seek_start, seek_on, seek_end}
 use Rattle.link_tree.proofs.descending.descend.Goals as goal
 use Rattle.link_tree.proofs.descending.descend.Given.{Over}
 

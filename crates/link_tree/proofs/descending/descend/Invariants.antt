@@ -1,7 +1,7 @@
 use Rattle.std.proofs.Common.{◌≡◌, ◌≤◌, ◌-◌, ◌^◌, true}
 use Rattle.link_tree.specs.Tree.{Tree, IsSearchTree}
 use Rattle.link_tree.specs.Nodes.{leads}
-use Rattle.link_tree.proofs.Seeking.{Seeking}
+use Rattle.link_tree.proofs.searching.PathWalk.{Seeking}
 use Rattle.link_tree.proofs.descending.descend.Given as goal
 
 abbrev pub invariant-loop-link : goal.invariant-loop-link

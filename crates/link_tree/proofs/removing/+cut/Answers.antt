@@ -2,9 +2,9 @@ use Rattle.std.proofs.Common.{◌≡◌, ℕ, ◌+◌, ◌*◌, ◌<◌, ◌^◌
 use Rattle.link_tree.specs.Tree.{Tree, height}
 use Rattle.link_tree.specs.Sides.{side_of}
 use Rattle.link_tree.specs.Shrinking.{IsOrderedTree}
-use Rattle.link_tree.proofs.Keepers.{strict}
-use Rattle.link_tree.proofs.Taking.{cut_step}
-use Rattle.link_tree.proofs.TakingLeast.{shrinks_below, ShrinksBelow}
+use Rattle.link_tree.proofs.trees.NodeLaws.{strict}
+use Rattle.link_tree.proofs.removing.RootRemoval.{cut_step}
+use Rattle.link_tree.proofs.removing.LeastRemoval.{shrinks_below, ShrinksBelow}
 use Rattle.link_tree.proofs.removing.+cut.Goals as goal
 use Rattle.link_tree.proofs.removing.+cut.Given.{Over}
 

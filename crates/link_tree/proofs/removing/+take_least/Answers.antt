@@ -1,10 +1,10 @@
 use Rattle.std.proofs.Common.{refl, ◌≡◌, ℕ, ◌+◌, ◌*◌, ◌<◌, ◌^◌, Some, sym, ap, ◌∙◌, arith, rules}
 use Rattle.link_tree.specs.Tree.{Tree, height}
 use Rattle.link_tree.specs.Shrinking.{IsOrderedTree, without_least}
-use Rattle.link_tree.proofs.Trees.{some_same}
-use Rattle.link_tree.proofs.TakingLeast.{sink_far, take_more, child_tree, HasChild, least_below}
+use Rattle.link_tree.proofs.trees.Linked.{some_same}
+use Rattle.link_tree.proofs.removing.LeastRemoval.{sink_far, take_more, child_tree, HasChild, least_below}
 use Rattle.link_tree.specs.declared.cursor.Side.TheVariants.{Left}
-use Rattle.link_tree.proofs.Keepers.{strict}
+use Rattle.link_tree.proofs.trees.NodeLaws.{strict}
 use Rattle.link_tree.proofs.removing.+take_least.Goals as goal
 use Rattle.link_tree.proofs.removing.+take_least.Given.{Over}
 

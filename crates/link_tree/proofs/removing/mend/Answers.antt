@@ -1,7 +1,7 @@
 use Rattle.std.proofs.Common.{◌≡◌, true, false, sym, ap, ◌∙◌}
 use Rattle.link_tree.specs.Nodes.{with_red}
-use Rattle.link_tree.proofs.Mending.{mend_black}
-use Rattle.link_tree.proofs.Keepers.{strict}
+use Rattle.link_tree.proofs.removing.RemovalSteps.{mend_black}
+use Rattle.link_tree.proofs.trees.NodeLaws.{strict}
 use Rattle.link_tree.proofs.removing.mend.Goals as goal
 
 pub returns-clause-repair : goal.returns-clause-repair

@@ -1,9 +1,9 @@
 use Rattle.std.proofs.Common.{◌≡◌, Some, ap, ◌∙◌}
 use Rattle.link_tree.specs.Sides.{with_child}
 use Rattle.link_tree.specs.declared.cursor.Side.{Side}
-use Rattle.link_tree.proofs.Growth.{nodes_of-rebalanced}
-use Rattle.link_tree.proofs.Mending.{mend_red_at}
-use Rattle.link_tree.proofs.Keepers.{strict}
+use Rattle.link_tree.proofs.inserting.Insertion.{nodes_of-rebalanced}
+use Rattle.link_tree.proofs.removing.RemovalSteps.{mend_red_at}
+use Rattle.link_tree.proofs.trees.NodeLaws.{strict}
 use Rattle.link_tree.proofs.removing.mend_red.Goals as goal
 
 pub returns-clause-repair : goal.returns-clause-repair

@@ -3,12 +3,12 @@ use Rattle.std.specs.Prelude.{IfSome}
 use Rattle.link_tree.specs.Tree.{Cell, Tree, IsSearchTree}
 use Rattle.link_tree.specs.Shrinking.{IsOrderedTree}
 use Rattle.link_tree.specs.Ways.{remove_point_of}
-use Rattle.link_tree.proofs.Trees.{one_tree, root_in}
-use Rattle.link_tree.proofs.Beginnings.{Begins}
-use Rattle.link_tree.proofs.Exits.{IsTurned, left, turned_whole}
-use Rattle.link_tree.proofs.Heights.{height_bits}
-use Rattle.link_tree.proofs.Keepers.{low_tree, node_of, strict}
-use Rattle.link_tree.proofs.Taking.{removed}
+use Rattle.link_tree.proofs.trees.Linked.{one_tree, root_in}
+use Rattle.link_tree.proofs.inserting.ChangePoint.{Begins}
+use Rattle.link_tree.proofs.removing.ExitPoint.{IsTurned, left, turned_whole}
+use Rattle.link_tree.proofs.trees.Heights.{height_bits}
+use Rattle.link_tree.proofs.trees.NodeLaws.{low_tree, node_of, strict}
+use Rattle.link_tree.proofs.removing.RootRemoval.{removed}
 use Rattle.link_tree.proofs.removing.remove_at.Goals as goal
 use Rattle.link_tree.proofs.removing.remove_at.Given.{Over}
 

@@ -1,7 +1,7 @@
 use Rattle.std.proofs.Common.{◌≡◌}
 use Rattle.link_tree.specs.Sides.{opposite}
-use Rattle.link_tree.proofs.Mending.{settle_done, settle_mended}
-use Rattle.link_tree.proofs.Keepers.{strict}
+use Rattle.link_tree.proofs.removing.RemovalSteps.{settle_done, settle_mended}
+use Rattle.link_tree.proofs.trees.NodeLaws.{strict}
 use Rattle.link_tree.proofs.removing.settle.Goals as goal
 
 pub returns-then-below-clause-settled : goal.returns-then-below-clause-settled

@@ -2,11 +2,11 @@ use Rattle.std.proofs.Common.{refl, ◌≡◌, Bool, ℕ, ◌+◌, ◌*◌, ◌�
 use Rattle.link_tree.specs.Tree.{Tree, height}
 use Rattle.link_tree.specs.Nodes.{with_left, with_red}
 use Rattle.link_tree.specs.Shrinking.{IsOrderedTree, uprooted}
-use Rattle.link_tree.proofs.Trees.{some_same}
-use Rattle.link_tree.proofs.Taking.{uproot_more}
-use Rattle.link_tree.proofs.TakingLeast.{child_tree, HasChild, sink_far}
+use Rattle.link_tree.proofs.trees.Linked.{some_same}
+use Rattle.link_tree.proofs.removing.RootRemoval.{uproot_more}
+use Rattle.link_tree.proofs.removing.LeastRemoval.{child_tree, HasChild, sink_far}
 use Rattle.link_tree.specs.declared.cursor.Side.TheVariants.{Right}
-use Rattle.link_tree.proofs.Keepers.{strict}
+use Rattle.link_tree.proofs.trees.NodeLaws.{strict}
 use Rattle.link_tree.proofs.removing.uproot.Goals as goal
 use Rattle.link_tree.proofs.removing.uproot.Goals.{After-child}
 use Rattle.link_tree.proofs.removing.uproot.Given.{Over}

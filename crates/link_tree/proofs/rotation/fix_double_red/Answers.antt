@@ -3,8 +3,8 @@ use Rattle.link_tree.specs.Tree.{Tree, IsTree}
 use Rattle.link_tree.specs.Sides.{opposite, child_of}
 use Rattle.link_tree.specs.Turning.{is_red_tree}
 use Rattle.link_tree.specs.declared.cursor.Side.{Side}
-use Rattle.link_tree.proofs.Turns.{balance_outer, balance_inner, balance_none}
-use Rattle.link_tree.proofs.Keepers.{strict}
+use Rattle.link_tree.proofs.inserting.Rotations.{balance_outer, balance_inner, balance_none}
+use Rattle.link_tree.proofs.trees.NodeLaws.{strict}
 use Rattle.link_tree.proofs.rotation.fix_double_red.Goals as goal
 use Rattle.link_tree.proofs.rotation.fix_double_red.Goals.{After-child-inner}
 use Rattle.link_tree.proofs.rotation.fix_double_red.Given.{Over}

@@ -1,5 +1,5 @@
-use Rattle.link_tree.proofs.Turns.{paint_turns}
-use Rattle.link_tree.proofs.Keepers.{strict}
+use Rattle.link_tree.proofs.inserting.Rotations.{paint_turns}
+use Rattle.link_tree.proofs.trees.NodeLaws.{strict}
 use Rattle.link_tree.proofs.rotation.paint.Goals as goal
 
 pub returns-in-Some-clause-colour : goal.returns-in-Some-clause-colour

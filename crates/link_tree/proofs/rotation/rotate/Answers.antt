@@ -2,8 +2,8 @@ use Rattle.std.proofs.Common.{◌≡◌, ℕ, Option, Some, sym, ap, ◌∙◌}
 use Rattle.link_tree.specs.Tree.{Cell}
 use Rattle.link_tree.specs.Sides.{opposite, child_of, with_child}
 use Rattle.link_tree.specs.declared.cursor.Side.{Side}
-use Rattle.link_tree.proofs.Turns.{lift_step}
-use Rattle.link_tree.proofs.Keepers.{strict}
+use Rattle.link_tree.proofs.inserting.Rotations.{lift_step}
+use Rattle.link_tree.proofs.trees.NodeLaws.{strict}
 use Rattle.link_tree.proofs.rotation.rotate.Goals as goal
 
 middle_is : (h h' : ℕ → Cell) (n : ℕ) (side other : Side) (link : Option ℕ) → link ≡ child_of other (h' n)

@@ -1,6 +1,6 @@
 use Rattle.std.proofs.Common.{◌∙◌, ap, refl}
 use Rattle.link_tree.specs.declared.searching.First.{First}
-use Rattle.link_tree.proofs.Finding.{first_from}
+use Rattle.link_tree.proofs.searching.Neighbours.{first_from}
 use Rattle.link_tree.proofs.searching.find_first_not_before.Goals as goal
 
 pub returns-clause-first : goal.returns-clause-first

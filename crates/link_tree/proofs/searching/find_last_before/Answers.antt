@@ -1,6 +1,6 @@
 use Rattle.std.proofs.Common.{◌∙◌, ap, refl}
 use Rattle.link_tree.specs.declared.searching.Last.{Last}
-use Rattle.link_tree.proofs.Finding.{last_noted, or_none}
+use Rattle.link_tree.proofs.searching.Neighbours.{last_noted, or_none}
 use Rattle.link_tree.proofs.searching.find_last_before.Goals as goal
 
 pub returns-clause-last : goal.returns-clause-last

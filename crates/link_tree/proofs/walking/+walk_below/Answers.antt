@@ -3,11 +3,11 @@ use Rattle.std.proofs.Common.{Option, Some, length, sym, ap, ◌∙◌, arith, r
 use Rattle.link_tree.specs.Tree.{Tree, nodes_of}
 use Rattle.link_tree.specs.Nodes.{leads}
 use Rattle.link_tree.specs.Walking.{IsAhead}
-use Rattle.link_tree.proofs.Orders.{outside_parts}
-use Rattle.link_tree.proofs.Folding.{folds_join}
-use Rattle.link_tree.proofs.Trees.{some_same}
-use Rattle.link_tree.proofs.Walks.{ahead_at, AreAhead, both_ahead, BothAhead}
-use Rattle.link_tree.proofs.Keepers.{strict}
+use Rattle.link_tree.proofs.trees.OrderedLists.{outside_parts}
+use Rattle.link_tree.proofs.walking.Steps.{folds_join}
+use Rattle.link_tree.proofs.trees.Linked.{some_same}
+use Rattle.link_tree.proofs.walking.Walks.{ahead_at, AreAhead, both_ahead, BothAhead}
+use Rattle.link_tree.proofs.trees.NodeLaws.{strict}
 use Rattle.link_tree.proofs.walking.+walk_below.Goals as goal
 use Rattle.link_tree.proofs.walking.+walk_below.Goals.{After-walk_below}
 use Rattle.link_tree.proofs.walking.+walk_below.Given.{Over}

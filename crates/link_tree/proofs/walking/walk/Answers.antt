@@ -2,7 +2,7 @@ use Rattle.std.proofs.Common.{◌≡◌, ℕ, true, Option, None, arith}
 use Rattle.link_tree.specs.Tree.{Tree, IsSearchTree}
 use Rattle.link_tree.specs.Nodes.{leads}
 use Rattle.link_tree.specs.Walking.{IsAhead}
-use Rattle.link_tree.proofs.Keepers.{low_tree}
+use Rattle.link_tree.proofs.trees.NodeLaws.{low_tree}
 use Rattle.link_tree.proofs.walking.walk.Goals as goal
 use Rattle.link_tree.proofs.walking.walk.Given.{Over}
 

@@ -1,7 +1,7 @@
 use Rattle.std.proofs.Common.{ℕ, ap, ◌∙◌}
 use Rattle.raw_region.specs.Memory.{WindowState, bytes_of, patched, word_bytes}
 use Rattle.offset_link.specs.Link.{link_at}
-use Rattle.offset_link.proofs.Links.{link_own, distance}
+use Rattle.offset_link.proofs.link.Targets.{link_own, distance}
 use Rattle.offset_link.proofs.link.store.Goals as goal
 
 pub returns-clause-link_target : goal.returns-clause-link_target

@@ -5,7 +5,7 @@ use Rattle.std.proofs.lemmas.Option.{same_Some}
 use Rattle.raw_region.specs.Memory.{Memory, bytes_of}
 use Rattle.offset_link.specs.Link.{link_at}
 use Rattle.offset_link.specs.Relinked.{AllLinksLead}
-use Rattle.offset_link.proofs.Shifting.{all_lead-non_null}
+use Rattle.offset_link.proofs.moves.ShiftedWords.{all_lead-non_null}
 use Rattle.offset_link.proofs.moves.all_lead.Goals as goal
 
 -- what the link at i leads to, where all lead

@@ -1,7 +1,7 @@
 use Rattle.std.proofs.Common.{◌≡◌, ℕ, ◌+◌, ◌-◌, ◌*◌, ◌≤◌, List, length, ap, subst, sym, ◌∙◌, arith}
 use Rattle.raw_region.specs.Memory.{bytes_of, patched}
 use Rattle.offset_link.specs.Relinked.{word_by_distance, reworded, HasNoNullLink}
-use Rattle.offset_link.proofs.Shifting.{non_null-join, non_null-same, run_before, words-before}
+use Rattle.offset_link.proofs.moves.ShiftedWords.{non_null-join, non_null-same, run_before, words-before}
 use Rattle.offset_link.proofs.moves.all_turns_up.Goals as goal
 
 -- all runs but the first eight, and then these
@@ -29,17 +29,18 @@ module _ (b one : List ℕ) (at by n : ℕ) (within : at + by + 64 * n ≤ lengt
 
 pub returns : goal.returns
 returns g c =
-    let b = c.args.bytes.now in let one = c.turns_up-far.new.bytes in let at = c.args.at in let by = c.args.by
+    let b = c.args.bytes.now in let one = c.move_runs_up-far.new.bytes in let at = c.args.at in let by = c.args.by
     in let n = c.args.n in
     let many : 8 ≤ n = omega (arith, c.if-n-le-NEAR.false) in
     record {
-      changes = both b one at by n c.requires.in_bounds many c.turns_up-far.ensures.changes c.turns_up-2.new.bytes
-          c.turns_up-2.ensures.changes;
+      changes = both b one at by n c.requires.in_bounds many c.move_runs_up-far.ensures.changes
+          c.move_runs_up-2.new.bytes
+          c.move_runs_up-2.ensures.changes;
       keys_seen = λ q even.
-          let near = c.turns_up-2.ensures.keys_seen q even in
-          set b one at by n c.requires.in_bounds many c.turns_up-far.ensures.changes near.1
-          (c.turns_up-far.ensures.keys_seen q near.0).1;
+          let near = c.move_runs_up-2.ensures.keys_seen q even in
+          set b one at by n c.requires.in_bounds many c.move_runs_up-far.ensures.changes near.1
+          (c.move_runs_up-far.ensures.keys_seen q near.0).1;
     }
 
 pub returns-then-n-le-NEAR-clause-keys_seen : goal.returns-then-n-le-NEAR-clause-keys_seen
-returns-then-n-le-NEAR-clause-keys_seen g c = λ q even. (c.turns_up.ensures.keys_seen q even).1
+returns-then-n-le-NEAR-clause-keys_seen g c = λ q even. (c.move_runs_up.ensures.keys_seen q even).1

@@ -2,7 +2,7 @@ use Rattle.std.proofs.Common.{◌≡◌, ℕ, ◌+◌, ◌-◌, ◌*◌, ◌<◌
 use Rattle.raw_region.specs.Memory.{bytes_of, patched}
 use Rattle.offset_link.specs.Link.{link, link_at}
 use Rattle.offset_link.specs.Relinked.{word_by_target, relinked}
-use Rattle.offset_link.proofs.Shifting.{one_after}
+use Rattle.offset_link.proofs.moves.ShiftedWords.{one_after}
 use Rattle.offset_link.proofs.moves.links_down.Goals as goal
 
 step : (b cur new : List ℕ) (at by n i : ℕ) → at + 8 * n ≤ length b → by ≤ at → i < n

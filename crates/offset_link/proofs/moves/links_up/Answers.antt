@@ -2,7 +2,7 @@ use Rattle.std.proofs.Common.{◌≡◌, ℕ, suc, ◌+◌, ◌-◌, ◌*◌, �
 use Rattle.raw_region.specs.Memory.{bytes_of, patched}
 use Rattle.offset_link.specs.Link.{link, link_at}
 use Rattle.offset_link.specs.Relinked.{word_by_target, relinked}
-use Rattle.offset_link.proofs.Shifting.{one_before}
+use Rattle.offset_link.proofs.moves.ShiftedWords.{one_before}
 use Rattle.offset_link.proofs.moves.links_up.Goals as goal
 
 step : (b cur new : List ℕ) (at by n left : ℕ) → at + by + 8 * n ≤ length b → 0 < left → left ≤ n

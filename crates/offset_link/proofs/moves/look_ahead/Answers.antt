@@ -1,4 +1,4 @@
-use Rattle.offset_link.proofs.Shifting.{or_even}
+use Rattle.offset_link.proofs.moves.ShiftedWords.{or_even}
 use Rattle.offset_link.proofs.moves.look_ahead.Goals as goal
 
 pub returns : goal.returns

@@ -1,7 +1,7 @@
 use Rattle.std.proofs.Common.{◌≡◌, ℕ, ◌+◌, ◌-◌, ◌*◌, ◌/◌, ◌%◌, ◌≤◌, List, length, ap, ◌∙◌, arith}
 use Rattle.raw_region.specs.Memory.{bytes_of, patched}
 use Rattle.offset_link.specs.Relinked.{word_by_target, relinked, HasNoNullLink}
-use Rattle.offset_link.proofs.Shifting.{non_null-part, non_null-same, run_after, words-after}
+use Rattle.offset_link.proofs.moves.ShiftedWords.{non_null-part, non_null-same, run_after, words-after}
 use Rattle.offset_link.proofs.moves.move_down.Goals as goal
 
 -- the first link, the runs behind it, and the rest behind them

@@ -1,7 +1,7 @@
 use Rattle.std.proofs.Common.{◌≡◌, ◌+◌, ◌≤◌, ◌<◌, ◌^◌, List, arith}
 use Rattle.raw_region.specs.Memory.{bytes_of, patched}
 use Rattle.offset_link.specs.Relinked.{word_by_distance, reworded}
-use Rattle.offset_link.proofs.Shifting.{eight_seen, put_first, put_next}
+use Rattle.offset_link.proofs.moves.ShiftedWords.{eight_seen, put_first, put_next}
 use Rattle.offset_link.proofs.moves.move_run.Goals as goal
 
 pub returns-clause-changes : goal.returns-clause-changes

@@ -1,7 +1,7 @@
 use Rattle.std.proofs.Common.{◌≡◌, ℕ, ◌+◌, ◌-◌, ◌*◌, ◌/◌, ◌%◌, ◌≤◌, List, length, ap, ◌∙◌, arith}
 use Rattle.raw_region.specs.Memory.{bytes_of, patched}
 use Rattle.offset_link.specs.Relinked.{word_by_target, relinked, HasNoNullLink}
-use Rattle.offset_link.proofs.Shifting.{non_null-part, non_null-same, run_before, words-before}
+use Rattle.offset_link.proofs.moves.ShiftedWords.{non_null-part, non_null-same, run_before, words-before}
 use Rattle.offset_link.proofs.moves.move_up.Goals as goal
 
 -- the last link, the runs before it, and the rest before them

@@ -2,7 +2,7 @@ use Rattle.std.proofs.Common.{◌≡◌, ℕ, suc, ◌+◌, ◌*◌, ◌≤◌, 
 use Rattle.std.specs.Prelude.{if◌then◌else◌}
 use Rattle.raw_region.specs.Memory.{bytes_of, patched, word_at, word_bytes}
 use Rattle.offset_link.specs.Relinked.{word_by_distance, reworded, unless_null}
-use Rattle.offset_link.proofs.Shifting.{one_after}
+use Rattle.offset_link.proofs.moves.ShiftedWords.{one_after}
 use Rattle.offset_link.proofs.moves.put_right.Goals as goal
 
 step : (b cur new : List ℕ) (from to null i w : ℕ) → to + 8 * (i + 1) ≤ length b → null ≡ word_by_distance from to 1

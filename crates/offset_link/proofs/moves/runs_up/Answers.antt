@@ -3,7 +3,7 @@ use Rattle.std.proofs.Common.{refl, arith, ◌==◌, not}
 use Rattle.std.specs.Prelude.{IsTrue, slice_index}
 use Rattle.raw_region.specs.Memory.{bytes_of, patched}
 use Rattle.offset_link.specs.Relinked.{relinked, BothEven, HasNoNullLink}
-use Rattle.offset_link.proofs.Shifting.{put_right, straight}
+use Rattle.offset_link.proofs.moves.ShiftedWords.{put_right, straight}
 use Rattle.offset_link.proofs.moves.runs_up.Goals as goal
 
 -- that none is null was known, or seen
@@ -20,7 +20,7 @@ returns-then-has_odd g c =
       arith,
       c.requires.in_bounds,
     )) c.all_turns_up-seen.ensures.changes
-    c.hold_bytes.ensures.each_element c.put_right.ensures
+    c.bytes_are_octets.ensures.each_element c.put_right.ensures
 
 pub returns-else-has_odd : goal.returns-else-has_odd
 returns-else-has_odd g c =

@@ -1,5 +1,5 @@
 use Rattle.std.proofs.Common.{◌≤◌, length, ◌+◌, ◌-◌, ◌*◌, arith}
-use Rattle.offset_link.proofs.Shifting.{lent_leads}
+use Rattle.offset_link.proofs.moves.ShiftedWords.{lent_leads}
 use Rattle.offset_link.proofs.moves.shift.Goals as goal
 
 pub returns-in-Up-clause-lead : goal.returns-in-Up-clause-lead

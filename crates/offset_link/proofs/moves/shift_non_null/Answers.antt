@@ -1,5 +1,5 @@
 use Rattle.std.proofs.Common.{◌≤◌, ℕ, List, subst, sym, length, ◌+◌, ◌-◌, ◌*◌, arith}
-use Rattle.offset_link.proofs.Shifting.{all_lead-links, all_lead-non_null, lent_leads, lent_whole}
+use Rattle.offset_link.proofs.moves.ShiftedWords.{all_lead-links, all_lead-non_null, lent_leads, lent_whole}
 use Rattle.raw_region.specs.Memory.{bytes_of}
 use Rattle.offset_link.specs.Relinked.{HasNoNullLink}
 use Rattle.offset_link.proofs.moves.shift_non_null.Goals as goal

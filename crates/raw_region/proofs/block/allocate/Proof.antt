@@ -30,9 +30,9 @@ use Rattle.std.proofs.alloc.Calls.{Al, seen, Takes, at_takes, Answered, Takes-go
 use Rattle.std.proofs.alloc.Shapes.{after, head, arm_body}
 use Rattle.std.proofs.option.Made.{Some-of, none_of}
 use Rattle.std.proofs.raw_atomic.Walks.{proved_at, leaves}
-use Rattle.raw_region.specs.Ownership.{IsPlaced, bytes_type}
-use Rattle.raw_region.proofs.Values.{none, mark, three, none_made, mark_made, three_made}
-use Rattle.raw_region.proofs.Bodies.{slot_at, then_runs}
+use Rattle.raw_region.specs.Ownership.{IsNonNull, bytes_type}
+use Rattle.raw_region.proofs.block.Values.{none, mark, three, none_made, mark_made, three_made}
+use Rattle.raw_region.proofs.block.Signatures.{slot_at, then_runs}
 use Rattle.raw_region.specs.contracts.block.Space as space
 use Rattle.raw_region.specs.contracts.block.Lease as lease
 use Rattle.raw_region.specs.contracts.block.allocate.{ended, clauses}
@@ -112,7 +112,7 @@ allocate_spec 𝓤 𝓛 𝓜 𝓡 wired A L g d dd met md =
     three_made ! RawPtr space.the_row Held p x k (vptr b o) none mark $
     use1 𝓛 (‵ (Out.own_val (Some (p, x, k)) (live 1 (vcons made vnil) ∷ []))) (Some-of 𝓛 Three (p, x, k) made) $
     move ! (1 ∷ 2 ∷ 3 ∷ []) $ group ! 3 $
-    use0 𝓛 (raw (fact 𝓤 (IsPlaced p × (p ≡ p) × (n ≡ n) × (p ≡ p) × (n ≡ n) × (h ≡ h)))) (fact_i 𝓤 _ (emp 𝓤) (
+    use0 𝓛 (raw (fact 𝓤 (IsNonNull p × (p ≡ p) × (n ≡ n) × (p ≡ p) × (n ≡ n) × (h ≡ h)))) (fact_i 𝓤 _ (emp 𝓤) (
       refl,
       refl,
       refl,

@@ -28,9 +28,9 @@ use Rattle.std.proofs.alloc.Calls.{Al, Goes-blank, Gives, at_gives, Gives-goes, 
 use Rattle.std.proofs.alloc.Shapes.{after}
 use denote.Triple.Table.{framed}
 use Rattle.std.proofs.raw_atomic.Walks.{proved_at, leaves}
-use Rattle.raw_region.specs.Ownership.{IsPlaced, bytes_type, block_owns}
-use Rattle.raw_region.proofs.Values.{none, mark, none_had, mark_had}
-use Rattle.raw_region.proofs.Bodies.{slot_at}
+use Rattle.raw_region.specs.Ownership.{IsNonNull, bytes_type, block_owns}
+use Rattle.raw_region.proofs.block.Values.{none, mark, none_had, mark_had}
+use Rattle.raw_region.proofs.block.Signatures.{slot_at}
 use Rattle.raw_region.specs.contracts.block.free.{ended, clauses}
 use Rattle.raw_region.specs.contracts.block.free.Key.{name as #self}
 use Rattle.raw_region.proofs.block.free.Statement.{statement}
@@ -75,7 +75,7 @@ free_spec 𝓤 𝓛 𝓜 𝓡 wired A L g d dd met md =
     let h = a.0.now in let handle = a.0.ref_ptr in
     let p = a.1.0 in let n = a.1.1.0 in let block = a.1.1.1.0 in let lease = a.1.1.1.1.0 in
     let b = block_of p in let o = count_of p in let τ : Ty = bytes_type n in
-    let Asked : Type 0 = IsPlaced p × (block.place ≡ p) × (length block.items ≡ n) × (lease.place ≡ p)
+    let Asked : Type 0 = IsNonNull p × (block.place ≡ p) × (length block.items ≡ n) × (lease.place ≡ p)
     × (lease.len ≡ n) × (lease.alloc ≡ h) in
     qed 𝓛 ((raw (alive 𝓛 S z.0.0 z.0.1) ⊛ ‵ (owns (types_at S.params z.0.0) a vss))
     ∷ (raw (fact 𝓤 (z.0.0.1.0 ⊑ A.lives)) ⊛ raw (fact 𝓤 Asked)) ∷ []) ∵

@@ -47,8 +47,8 @@ use Rattle.std.specs.List.{refill}
 use Rattle.raw_region.specs.Memory.{part, patched}
 use Rattle.raw_region.specs.Regions.{AreDisjoint}
 use Rattle.raw_region.specs.LentTwo.{with_two}
-use Rattle.raw_region.proofs.Parts.{Bytes, Parted, parted}
-use Rattle.raw_region.proofs.Patches.{length-part, length-patched}
+use Rattle.raw_region.proofs.block.Parts.{Bytes, Parted, parted}
+use Rattle.raw_region.proofs.words.Patches.{length-part, length-patched}
 use Rattle.raw_region.specs.contracts.block.two_parts as F
 use Rattle.raw_region.specs.contracts.block.two_parts.Key.{name as #self}
 use Rattle.raw_region.proofs.block.two_parts.Statement as stated

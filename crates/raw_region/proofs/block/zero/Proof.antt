@@ -41,8 +41,8 @@ use denote.Triple.Table.{entered}
 use denote.Triple.Walked.{says, Stays, stay_dropped, walk_of, ends_at, walk_Meets, Goes-dropped}
 use Rattle.std.proofs.alloc.Calls.{Goes-blank}
 use Rattle.std.proofs.alloc.Shapes.{after}
-use Rattle.raw_region.specs.Ownership.{IsPlaced, bytes_type, space_owns}
-use Rattle.raw_region.proofs.Values.{none, none_had, none_made}
+use Rattle.raw_region.specs.Ownership.{IsNonNull, bytes_type, space_owns}
+use Rattle.raw_region.proofs.block.Values.{none, none_had, none_made}
 use Rattle.raw_region.specs.contracts.block.Space as Space
 use Rattle.raw_region.specs.contracts.block.zero as F
 use Rattle.raw_region.specs.contracts.block.zero.Key.{name as #self}
@@ -160,7 +160,7 @@ module _ {M : Type 1} {𝓤 : Ura M} (𝓛 : Logic 𝓤) (at_mem : Memory → SP
         (WpFn 𝓤 H 𝓣.C 𝓣.Λ code.function ((walk_of 𝓛 F.ended stayed held).args z) Post)
     walks =
         let vss = z.0.4 in
-        let Asked = IsPlaced p × (space.place ≡ p) × (space.len ≡ n) in
+        let Asked = IsNonNull p × (space.place ≡ p) × (space.len ≡ n) in
         let none_yet : o ≡ 0 + o = omega arith in let all_left : n ≡ n - 0 = omega arith in
         qed 𝓛 ((raw (alive 𝓛 F.ended.signature z.0.0 z.0.1) ⊛ ‵
         (owns (types_at F.ended.signature.params z.0.0) z.0.3 vss)) ∷ raw (fact 𝓤 Asked) ∷ []) ∵

@@ -1,6 +1,6 @@
 use Rattle.std.proofs.Common.{◌≡◌, ◌-◌, length, ◌∙◌, arith}
 use Rattle.std.proofs.lemmas.Grind.{common_steps}
-use Rattle.raw_region.proofs.Pieces.{gave_more, gave_some, not_zero}
+use Rattle.raw_region.proofs.words.Pieces.{gave_more, gave_some, not_zero}
 use Rattle.raw_region.proofs.device.read_full.Goals as goal
 
 pub pieces-preserved : goal.pieces-preserved

@@ -1,6 +1,6 @@
 use Rattle.std.proofs.Common.{◌-◌, length, take, drop, arith}
 use Rattle.std.proofs.lemmas.Grind.{common_steps}
-use Rattle.raw_region.proofs.Pieces.{took_more, took_some}
+use Rattle.raw_region.proofs.words.Pieces.{took_more, took_some}
 use Rattle.raw_region.proofs.device.write_all.Goals as goal
 
 pub pieces-preserved : goal.pieces-preserved

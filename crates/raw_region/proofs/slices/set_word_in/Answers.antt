@@ -1,4 +1,4 @@
-use Rattle.raw_region.proofs.Patches.{word-put}
+use Rattle.raw_region.proofs.words.Patches.{word-put}
 use Rattle.raw_region.proofs.slices.set_word_in.Goals as goal
 
 pub returns : goal.returns

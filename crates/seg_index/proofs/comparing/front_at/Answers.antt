@@ -8,7 +8,7 @@ returns-then-len c =
     let b = c.args.heap.now.bytes in let h = c.args.handle in let len = name_len_at (bytes_of b) h in
     let word = c.read_u64-word.ensures
     ∙ ap (λ (l : List ℕ). big_number 8 (slice_range l (h + 16) (h + 16 + 8))) c.as_bytes-bytes.ensures in
-    long_front b (subst AreBytes c.as_bytes-bytes.ensures c.hold_bytes.ensures.each_element) h len
+    long_front b (subst AreBytes c.as_bytes-bytes.ensures c.bytes_are_octets.ensures.each_element) h len
     c.read_u64-word.result word (omega arith)
 
 pub returns : goal.returns
@@ -17,5 +17,6 @@ returns c =
     let word = c.read_u64-word.ensures
     ∙ ap (λ (l : List ℕ). big_number 8 (slice_range l (h + 16) (h + 16 + 8))) c.as_bytes-bytes.ensures in
     ap (λ (k : ℕ). c.read_u64-word.result - bit_and c.read_u64-word.result ((2 ^ 64 - 1) / 2 ^ (8 * k)))
-    c.requires.len ∙ short_front b (subst AreBytes c.as_bytes-bytes.ensures c.hold_bytes.ensures.each_element) h len
+    c.requires.len ∙ short_front b (subst AreBytes c.as_bytes-bytes.ensures c.bytes_are_octets.ensures.each_element)
+    h len
     c.read_u64-word.result word (omega arith)

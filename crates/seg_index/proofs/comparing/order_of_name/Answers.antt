@@ -14,7 +14,8 @@ returns-then-begun-front c =
     let m = bytes_of c.args.heap.now.bytes in let there = name_at m c.args.handle in
     let is = c.bytes-found.ensures ∙ ap (λ k. read m (c.args.handle + 16) (k % 4294967296)) c.word-len.ensures in
     apart there c.args.name.now c.front_at-begun.result c.args.front c.cmp.result
-    (subst AreBytes is c.hold_bytes.ensures.each_element) c.hold_bytes-2.ensures.each_element c.front_at-begun.ensures
+    (subst AreBytes is c.bytes_are_octets.ensures.each_element) c.bytes_are_octets-2.ensures.each_element
+    c.front_at-begun.ensures
     c.requires.front c.if-begun-front.true c.cmp.ensures
 
 alike : (xs ys : List ℕ) (f g : ℕ) → AreBytes xs → AreBytes ys → f ≡ front xs → g ≡ front ys → f ≡ g
@@ -28,5 +29,6 @@ returns-then-name-le8 c =
     let is = c.bytes-found.ensures ∙ ap (λ k. read m (c.args.handle + 16) (k % 4294967296)) c.word-len.ensures in
     let long = ap (λ (l : List ℕ). length l) is in
     alike there c.args.name.now c.front_at-begun.result c.args.front
-    (subst AreBytes is c.hold_bytes.ensures.each_element) c.hold_bytes-2.ensures.each_element c.front_at-begun.ensures
+    (subst AreBytes is c.bytes_are_octets.ensures.each_element) c.bytes_are_octets-2.ensures.each_element
+    c.front_at-begun.ensures
     c.requires.front c.if-begun-front.false (omega arith) (omega arith)

@@ -1,7 +1,7 @@
 -- The laws of the type, which tie its spellings to those of its kind.
 use Rattle.std.proofs.Common.{◌∙◌, arith}
 use Rattle.seg_types.proofs.theorems.scalar_is_number.Goals as goal
-use Rattle.seg_types.proofs.PlainReads.{scalar-read}
+use Rattle.seg_types.proofs.scalars.PlainReads.{scalar-read}
 
 pub returns : goal.returns
 returns g c =

@@ -2,7 +2,7 @@
 use Rattle.segment_c.proofs.elements.push.Goals as goal
 use Rattle.std.proofs.Common.{Ok, Err}
 use Rattle.seg_types.specs.{Keys.key_seen, Values.kind_of_scalar, declared.kinds.Kind.TheVariants.Vector}
-use Rattle.segment_c.proofs.PushedValues.{pushed-step}
+use Rattle.segment_c.proofs.views.Push.{pushed-step}
 
 pub returns-in-Ok-clause-step : goal.returns-in-Ok-clause-step
 returns-in-Ok-clause-step c = pushed-step c.args.segment.now c.vec_push_value.new.self (key_seen c.args.key.now)

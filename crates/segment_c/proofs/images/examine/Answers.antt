@@ -3,7 +3,7 @@ use Rattle.segment_c.proofs.images.examine.Goals as goal
 use Rattle.std.proofs.Common.{◌<◌, ◌≤◌, arith, inr, length, refl, subst, ℕ}
 use Rattle.std.specs.Prelude.{min}
 use Rattle.image_check.specs.declared.classes.ImageClass.TheVariants.{Truncated}
-use Rattle.segment_c.proofs.OpenedImages.{said_more}
+use Rattle.segment_c.proofs.transactions.Images.{said_more}
 
 pub returns-then-len-size-clause-cause : goal.returns-then-len-size-clause-cause
 returns-then-len-size-clause-cause c = λ _.

@@ -1,6 +1,6 @@
 -- What the check of the bytes answers.
 use Rattle.std.proofs.Common.{length}
-use Rattle.segment_c.proofs.OpenedImages.{explained, not_small}
+use Rattle.segment_c.proofs.transactions.Images.{explained, not_small}
 use Rattle.segment_c.proofs.images.examine_in.Goals as goal
 
 pub returns-in-Ok-clause-owner : goal.returns-in-Ok-clause-owner

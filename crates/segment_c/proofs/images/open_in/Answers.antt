@@ -1,5 +1,5 @@
 use Rattle.std.proofs.Common.{arith, length}
-use Rattle.segment_c.proofs.OpenedImages.{why_class, why_memory, why_room}
+use Rattle.segment_c.proofs.transactions.Images.{why_class, why_memory, why_room}
 use Rattle.segment_c.proofs.images.open_in.Goals as goal
 
 pub returns-in-Image : goal.returns-in-Image

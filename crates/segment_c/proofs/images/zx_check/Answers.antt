@@ -1,5 +1,5 @@
 -- The place is left out.
-use Rattle.segment_c.proofs.OpenedImages.{without_place}
+use Rattle.segment_c.proofs.transactions.Images.{without_place}
 use Rattle.segment_c.proofs.images.zx_check.Goals as goal
 
 pub returns-clause-cause : goal.returns-clause-cause

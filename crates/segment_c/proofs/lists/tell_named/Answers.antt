@@ -2,7 +2,7 @@ use Rattle.segment_c.proofs.lists.tell_named.Goals as goal
 use Rattle.std.proofs.{Common.arith, Common.refl, Common.subst, Common.sym, lemmas.Option.slice_get_past}
 use Rattle.segment_manager.specs.Directory.{named_objects}
 use Rattle.segment_c.specs.Lists.{WritesInfoIfFound}
-use Rattle.segment_c.proofs.Counts.{named_is}
+use Rattle.segment_c.proofs.views.Counts.{named_is}
 
 pub named_instance-requires : goal.named_instance-requires
 named_instance-requires c = record {

@@ -2,7 +2,7 @@ use Rattle.segment_c.proofs.lists.tell_unique.Goals as goal
 use Rattle.std.proofs.{Common.arith, Common.refl, Common.subst, Common.sym, lemmas.Option.slice_get_past}
 use Rattle.segment_manager.specs.Directory.{unique_objects}
 use Rattle.segment_c.specs.Lists.{TellsAlone}
-use Rattle.segment_c.proofs.Counts.{unique_is}
+use Rattle.segment_c.proofs.views.Counts.{unique_is}
 
 pub unique_instance-requires : goal.unique_instance-requires
 unique_instance-requires c = record {

@@ -3,7 +3,7 @@ use Rattle.std.proofs.Common.{Ok, option_map, subst}
 use Rattle.seg_types.specs.{declared.kinds.Kind.Kind, Keys.key_seen}
 use Rattle.segment_manager.specs.{Calls.kind_at, State.AnswersWith, containers.Walks.item_seen}
 use Rattle.segment_manager.proofs.Laws.{kind-by_key}
-use Rattle.segment_c.proofs.MapPairs.{first-missing, first-no_map, first-told}
+use Rattle.segment_c.proofs.views.Neighbours.{first-missing, first-no_map, first-told}
 
 pub returns-in-Err-clause-read : goal.returns-in-Err-clause-read
 returns-in-Err-clause-read c =

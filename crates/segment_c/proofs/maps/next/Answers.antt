@@ -6,7 +6,7 @@ use Rattle.segment_manager.specs.{Calls.kind_at, State.AnswersWith, containers.M
 use Rattle.segment_manager.proofs.Laws.{kind-by_key}
 use Rattle.segment_manager.specs.containers.Walks.{item_seen, pairs_at}
 use Rattle.segment_c.specs.Reads.{item_in}
-use Rattle.segment_c.proofs.MapPairs.{next-missing, next-no_map, next-refused, next-told}
+use Rattle.segment_c.proofs.views.Neighbours.{next-missing, next-no_map, next-refused, next-told}
 
 pub returns-in-Err-clause-read : goal.returns-in-Err-clause-read
 returns-in-Err-clause-read c =

@@ -1,6 +1,6 @@
 use Rattle.std.proofs.Common.{arith, sym, subst}
 use Rattle.segment_c.specs.Growing.{IsGrowthCode}
-use Rattle.segment_c.proofs.LongerSegments.{grown_code, is_code, kept_same, refused_code}
+use Rattle.segment_c.proofs.transactions.Resize.{grown_code, is_code, kept_same, refused_code}
 use Rattle.segment_c.proofs.resizing.grow.Goals as goal
 
 pub returns-in-Ok-clause-code : goal.returns-in-Ok-clause-code

@@ -2,7 +2,7 @@
 use Rattle.segment_c.proofs.transactions.code_to_put_back.Goals as goal
 use Rattle.std.proofs.{Common.◌∙◌, Common.ap, Common.length, Common.nat_le, Common.sym, lemmas.Bool.leb-true}
 use Rattle.grow_shrink.specs.Resized.{room_of}
-use Rattle.segment_c.proofs.Rooms.{no-room, put-back}
+use Rattle.segment_c.proofs.transactions.Rooms.{no-room, put-back}
 
 pub returns-then-has_room-clause-code : goal.returns-then-has_room-clause-code
 returns-then-has_room-clause-code c = put-back (sym c.is_read_only.ensures ∙ c.if-is_read_only.false)

@@ -1,6 +1,6 @@
 -- A region for the copy has room for it.
 use Rattle.std.proofs.Common.{arith}
-use Rattle.segment_c.proofs.Rooms.{segment-small}
+use Rattle.segment_c.proofs.transactions.Rooms.{segment-small}
 use Rattle.segment_c.proofs.transactions.copy_of.Goals as goal
 
 pub copy_into-requires : goal.copy_into-requires

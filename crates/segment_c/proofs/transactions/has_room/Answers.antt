@@ -1,7 +1,7 @@
 -- A region has room for what its segment has, and for what is behind it.
 use Rattle.segment_c.proofs.transactions.has_room.Goals as goal
 use Rattle.std.proofs.{Common.◌∙◌, Common.◌-◌, Common.ap, Common.arith, Common.nat_le, Common.sym, lemmas.Bool.le-leb}
-use Rattle.segment_c.proofs.Rooms.{fits-beyond, fits-within}
+use Rattle.segment_c.proofs.transactions.Rooms.{fits-beyond, fits-within}
 
 pub returns-then-len-size : goal.returns-then-len-size
 returns-then-len-size c =

@@ -1,8 +1,8 @@
 use Rattle.std.proofs.{Common.arith, lemmas.Result.err_from_is_err_and}
 use Rattle.raw_region.proofs.Laws.{added}
 use Rattle.segment_scripts.proofs.Laws.{none_failed, one_failed}
-use Rattle.segment_cli.proofs.Endings.{front_added, not_written}
-use Rattle.segment_cli.proofs.Migrated.{migrated, not-migrated, unmigrated}
+use Rattle.segment_cli.proofs.sessions.Ends.{front_added, not_written}
+use Rattle.segment_cli.proofs.migrations.Outcomes.{migrated, not-migrated, unmigrated}
 use Rattle.segment_cli.proofs.migrations.migrate.Goals as goal
 
 pub returns-in_err-segment-clause-migration : goal.returns-in_err-segment-clause-migration

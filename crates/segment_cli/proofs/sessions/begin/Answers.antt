@@ -1,6 +1,6 @@
 use Rattle.std.proofs.lemmas.Result.{err_from_is_err_and}
-use Rattle.segment_cli.proofs.Beginnings.{created_by, not_created_by, not_opened_by, opened_by}
-use Rattle.segment_cli.proofs.Endings.{not_asked}
+use Rattle.segment_cli.proofs.sessions.Start.{created_by, not_created_by, not_opened_by, opened_by}
+use Rattle.segment_cli.proofs.sessions.Ends.{not_asked}
 use Rattle.segment_cli.proofs.sessions.begin.Goals as goal
 
 pub returns-in_err-create-in-Fresh-clause-start : goal.returns-in_err-create-in-Fresh-clause-start

@@ -1,6 +1,6 @@
 use Rattle.std.proofs.{Common.◌≡◌, Common.rules, Common.sym, Common.◌∙◌, lemmas.Result.err_from_is_err_and}
 use Rattle.segment_manager.specs.declared.modes.Mode.TheVariants.{Write}
-use Rattle.segment_cli.proofs.Endings.{front_added, image_saved}
+use Rattle.segment_cli.proofs.sessions.Ends.{front_added, image_saved}
 use Rattle.segment_cli.proofs.sessions.save_segment.Goals as goal
 
 pub returns-in_err-save-clause-on_error : goal.returns-in_err-save-clause-on_error

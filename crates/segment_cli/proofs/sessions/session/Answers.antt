@@ -1,8 +1,8 @@
 use Rattle.std.proofs.{Common.arith, lemmas.Result.err_from_is_err_and}
 use Rattle.raw_region.proofs.Laws.{added}
 use Rattle.segment_scripts.proofs.Laws.{none_failed, one_failed}
-use Rattle.segment_cli.proofs.Endings.{at_first, first, not_asked, not_written, served, unbegun_session}
-use Rattle.segment_cli.proofs.Endings.{stopped_session, done_session, unsaved_session}
+use Rattle.segment_cli.proofs.sessions.Ends.{at_first, first, not_asked, not_written, served, unbegun_session}
+use Rattle.segment_cli.proofs.sessions.Ends.{stopped_session, done_session, unsaved_session}
 use Rattle.segment_cli.proofs.sessions.session.Goals as goal
 
 pub returns-in_err-segment-clause-session : goal.returns-in_err-segment-clause-session

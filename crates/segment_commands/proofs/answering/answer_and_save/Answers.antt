@@ -4,8 +4,8 @@ use Rattle.raw_region.specs.Device.{read_delta, write_delta}
 use Rattle.segment_manager.specs.declared.modes.Mode.TheVariants.{Write}
 use Rattle.segment_disk.specs.Events.{IsFlushed}
 use Rattle.segment_scripts.specs.declared.ends.End.{End}
-use Rattle.segment_commands.specs.Running.{IsAnswered}
-use Rattle.segment_commands.proofs.Ran.{refusing_run, stopped, unsaving, saved, unsaved}
+use Rattle.segment_commands.specs.Running.{AnswersScript}
+use Rattle.segment_commands.proofs.running.Ends.{refusing_run, stopped, unsaving, saved, unsaved}
 use Rattle.segment_commands.proofs.answering.answer_and_save.Goals as goal
 
 pub returns-in_err-run_script : goal.returns-in_err-run_script
@@ -28,7 +28,7 @@ returns-then-ne g c start mode capacity image h =
     (write_delta (Answers.history c.args.out.now) (Answers.history c.run_script.new.out))
     (IsFlushed Answers.history g.O.Output.flushes c.run_script.new.out)
     c.args.segment.now c.run_script.new.segment h c.args.disk.now
-    (subst (λ (e : End). IsAnswered c.args.until c.args.segment.now c.run_script.new.segment
+    (subst (λ (e : End). AnswersScript c.args.until c.args.segment.now c.run_script.new.segment
     (read_delta (Script.history c.args.script.now) (Script.history c.run_script.new.script))
     (write_delta (Answers.history c.args.out.now) (Answers.history c.run_script.new.out))
     (IsFlushed Answers.history g.O.Output.flushes c.run_script.new.out) e true) c.in-Whole.is
@@ -43,7 +43,7 @@ returns-in-Ok g c start mode capacity image h =
     (write_delta (Answers.history c.args.out.now) (Answers.history c.run_script.new.out))
     (IsFlushed Answers.history g.O.Output.flushes c.run_script.new.out)
     c.args.segment.now c.run_script.new.segment h c.args.disk.now
-    (subst (λ (e : End). IsAnswered c.args.until c.args.segment.now c.run_script.new.segment
+    (subst (λ (e : End). AnswersScript c.args.until c.args.segment.now c.run_script.new.segment
     (read_delta (Script.history c.args.script.now) (Script.history c.run_script.new.script))
     (write_delta (Answers.history c.args.out.now) (Answers.history c.run_script.new.out))
     (IsFlushed Answers.history g.O.Output.flushes c.run_script.new.out) e true) c.in-Whole.is
@@ -58,7 +58,7 @@ returns-in-Err g c start mode capacity image h =
     (write_delta (Answers.history c.args.out.now) (Answers.history c.run_script.new.out))
     (IsFlushed Answers.history g.O.Output.flushes c.run_script.new.out)
     c.args.segment.now c.run_script.new.segment h c.args.disk.now
-    (subst (λ (e : End). IsAnswered c.args.until c.args.segment.now c.run_script.new.segment
+    (subst (λ (e : End). AnswersScript c.args.until c.args.segment.now c.run_script.new.segment
     (read_delta (Script.history c.args.script.now) (Script.history c.run_script.new.script))
     (write_delta (Answers.history c.args.out.now) (Answers.history c.run_script.new.out))
     (IsFlushed Answers.history g.O.Output.flushes c.run_script.new.out) e true) c.in-Whole.is
@@ -72,7 +72,7 @@ returns-in-Refused g c start mode capacity image h =
     (write_delta (Answers.history c.args.out.now) (Answers.history c.run_script.new.out))
     (IsFlushed Answers.history g.O.Output.flushes c.run_script.new.out)
     c.args.segment.now c.run_script.new.segment h c.args.disk.now
-    (subst (λ (e : End). IsAnswered c.args.until c.args.segment.now c.run_script.new.segment
+    (subst (λ (e : End). AnswersScript c.args.until c.args.segment.now c.run_script.new.segment
     (read_delta (Script.history c.args.script.now) (Script.history c.run_script.new.script))
     (write_delta (Answers.history c.args.out.now) (Answers.history c.run_script.new.out))
     (IsFlushed Answers.history g.O.Output.flushes c.run_script.new.out) e true) c.in-Refused.is

@@ -1,5 +1,5 @@
 use Rattle.std.proofs.Common.{inr}
-use Rattle.segment_commands.proofs.Commanded.{written_whole, same_fault}
+use Rattle.segment_commands.proofs.changing.Outcome.{written_whole, same_fault}
 use Rattle.segment_commands.proofs.changing.migrate_held.Goals as goal
 
 pub returns : goal.returns

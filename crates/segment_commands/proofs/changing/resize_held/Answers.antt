@@ -3,8 +3,8 @@ use Rattle.segment_manager.specs.declared.modes.Mode.TheVariants.{Write}
 use Rattle.image_check.specs.declared.versions.AcceptedVersions.TheVariants.{Current}
 use Rattle.segment_commands.specs.Opening.{OpensWith}
 use Rattle.segment_commands.specs.Resizing.{more_by}
-use Rattle.segment_commands.proofs.Grown.{roomy_by}
-use Rattle.segment_commands.proofs.Commanded.{resized, not_resized, same_fault}
+use Rattle.segment_commands.proofs.changing.LargerRegion.{roomy_by}
+use Rattle.segment_commands.proofs.changing.Outcome.{resized, not_resized, same_fault}
 use Rattle.segment_commands.proofs.changing.resize_held.Goals as goal
 
 pub returns : goal.returns

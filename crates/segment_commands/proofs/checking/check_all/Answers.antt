@@ -1,7 +1,8 @@
 -- One more file was checked: its lines went out, or the output failed.
 use Rattle.std.proofs.Common.{ap, map, refl, Ok, ◌∙◌}
 use Rattle.segment_commands.specs.Checking.{worse}
-use Rattle.segment_commands.proofs.Checks.{going_lost, going_more, none_going, paths-more, paths-rest, unfit_heard}
+use Rattle.segment_commands.proofs.checking.Files.{going_lost, going_more, none_going, paths-more, paths-rest}
+use Rattle.segment_commands.proofs.checking.Files.{unfit_heard}
 use Rattle.segment_commands.proofs.checking.check_all.Goals as goal
 
 pub returns-in_default : goal.returns-in_default

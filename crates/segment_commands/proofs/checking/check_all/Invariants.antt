@@ -1,5 +1,5 @@
 use Rattle.std.proofs.Common.{map, take}
-use Rattle.segment_commands.proofs.Checks.{Going}
+use Rattle.segment_commands.proofs.checking.Files.{Going}
 use Rattle.segment_commands.proofs.checking.check_all.Given as goal
 
 abbrev pub invariant-files : goal.invariant-files

@@ -8,7 +8,7 @@ use Rattle.segment_cli.specs.declared.faults.Start.TheVariants.{Fresh}
 use Rattle.segment_cli.specs.Beginning.{BeginsSession}
 use Rattle.segment_commands.specs.Commands.{IsFreshSegment}
 use Rattle.segment_commands.specs.Faults.{region_refused}
-use Rattle.segment_commands.proofs.NewSegments.{made}
+use Rattle.segment_commands.proofs.changing.NewSegments.{made}
 use Rattle.segment_commands.proofs.creating.new_segment.Goals as goal
 
 fresh : (size capacity : ℕ) (image : ReadDelta) (result : Result SegmentState SessionFault)

@@ -1,7 +1,7 @@
 use Rattle.std.proofs.Common.{◌≡◌, ap₂, is_ok, rules, ◌∙◌}
 use Rattle.segment_scripts.specs.Linting.{start}
 use Rattle.segment_commands.specs.Linting.{answer_of}
-use Rattle.segment_commands.proofs.Linted.{linted}
+use Rattle.segment_commands.proofs.linting.Ends.{linted}
 use Rattle.segment_commands.proofs.linting.lint.Goals as goal
 
 pub returns : goal.returns

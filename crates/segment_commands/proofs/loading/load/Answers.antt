@@ -1,6 +1,6 @@
 use Rattle.std.proofs.Common.{rules, inl, inr, refl}
-use Rattle.segment_commands.proofs.Commanded.{written_whole}
-use Rattle.segment_commands.proofs.Loads.{unmade}
+use Rattle.segment_commands.proofs.changing.Outcome.{written_whole}
+use Rattle.segment_commands.proofs.loading.Loads.{unmade}
 use Rattle.segment_commands.proofs.loading.load.Goals as goal
 
 pub returns-clause-effect : goal.returns-clause-effect

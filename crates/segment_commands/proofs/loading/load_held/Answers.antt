@@ -1,5 +1,5 @@
 use Rattle.std.proofs.Common.{inr}
-use Rattle.segment_commands.proofs.Commanded.{written_whole}
+use Rattle.segment_commands.proofs.changing.Outcome.{written_whole}
 use Rattle.segment_commands.proofs.loading.load_held.Goals as goal
 
 pub returns : goal.returns

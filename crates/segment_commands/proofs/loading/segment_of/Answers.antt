@@ -1,5 +1,5 @@
 use Rattle.std.proofs.Common.{◌≤◌, length, min, arith}
-use Rattle.segment_commands.proofs.Loads.{refused-fits}
+use Rattle.segment_commands.proofs.loading.Loads.{refused-fits}
 use Rattle.segment_commands.proofs.loading.segment_of.Goals as goal
 
 pub returns-clause-creation : goal.returns-clause-creation

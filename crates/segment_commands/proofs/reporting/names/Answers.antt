@@ -1,5 +1,5 @@
 use Rattle.std.proofs.Common.{inr}
-use Rattle.segment_commands.proofs.Commanded.{same_fault}
+use Rattle.segment_commands.proofs.changing.Outcome.{same_fault}
 use Rattle.segment_commands.proofs.reporting.names.Goals as goal
 
 pub returns-in_err-tell_names : goal.returns-in_err-tell_names

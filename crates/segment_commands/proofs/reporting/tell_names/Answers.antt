@@ -1,5 +1,5 @@
 use Rattle.segment_report.specs.Names.{names_text}
-use Rattle.segment_commands.proofs.Reported.{went_out}
+use Rattle.segment_commands.proofs.changing.Flush.{went_out}
 use Rattle.segment_commands.proofs.reporting.tell_names.Goals as goal
 
 pub returns : goal.returns

@@ -1,5 +1,5 @@
 use Rattle.segment_disk.specs.Events.{IsFlushed}
-use Rattle.segment_commands.proofs.Opened.{made_run}
+use Rattle.segment_commands.proofs.running.Start.{made_run}
 use Rattle.segment_commands.proofs.running.run_made.Goals as goal
 
 pub returns : goal.returns

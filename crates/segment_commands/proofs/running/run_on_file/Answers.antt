@@ -3,7 +3,7 @@ use Rattle.raw_region.specs.Device.{ReaderHistory}
 use Rattle.segment_manager.specs.declared.modes.Mode.TheVariants.{Write}
 use Rattle.segment_disk.specs.Events.{IsFlushed}
 use Rattle.segment_commands.specs.Running.{RunsOpened}
-use Rattle.segment_commands.proofs.Opened.{in_reading}
+use Rattle.segment_commands.proofs.running.Start.{in_reading}
 use Rattle.segment_commands.proofs.running.run_on_file.Goals as goal
 
 pub returns-else-eq : goal.returns-else-eq

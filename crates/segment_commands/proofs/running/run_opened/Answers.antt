@@ -1,5 +1,5 @@
 use Rattle.segment_disk.specs.Events.{IsFlushed}
-use Rattle.segment_commands.proofs.Opened.{opened_run}
+use Rattle.segment_commands.proofs.running.Start.{opened_run}
 use Rattle.segment_commands.proofs.running.run_opened.Goals as goal
 
 pub returns : goal.returns

@@ -1,6 +1,6 @@
 use Rattle.segment_dump.proofs.Common.{arith, length, refl, ◌∙◌, false≢true}
-use Rattle.segment_dump.proofs.BuildLines.{as-long, build-cut, build-end, build-long, build-more, build-no_line}
-use Rattle.segment_dump.proofs.BuildLines.{build-start}
+use Rattle.segment_dump.proofs.building.Objects.{as-long, build-cut, build-end, build-long, build-more, build-no_line}
+use Rattle.segment_dump.proofs.building.Objects.{build-start}
 use Rattle.segment_dump.proofs.building.build.Goals as goal
 
 pub objects-init : goal.objects-init

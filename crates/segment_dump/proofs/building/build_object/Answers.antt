@@ -1,5 +1,5 @@
 use Rattle.segment_dump.proofs.Common.{length, subst, FillsNew}
-use Rattle.segment_dump.proofs.BuildLines.{object-built, object-unstarted}
+use Rattle.segment_dump.proofs.building.Objects.{object-built, object-unstarted}
 use Rattle.segment_dump.proofs.building.build_object.Goals as goal
 
 pub returns-in_err-handle : goal.returns-in_err-handle

@@ -1,4 +1,4 @@
-use Rattle.segment_dump.proofs.HereObjects.{begun_here}
+use Rattle.segment_dump.proofs.building.Presence.{begun_here}
 use Rattle.segment_dump.proofs.building.construct.Goals as goal
 
 pub returns-in-String-clause-in_place : goal.returns-in-String-clause-in_place

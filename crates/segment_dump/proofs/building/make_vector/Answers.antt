@@ -1,4 +1,4 @@
-use Rattle.segment_dump.proofs.HereObjects.{begun_here}
+use Rattle.segment_dump.proofs.building.Presence.{begun_here}
 use Rattle.segment_dump.proofs.building.make_vector.Goals as goal
 
 pub returns-clause-in_place : goal.returns-clause-in_place

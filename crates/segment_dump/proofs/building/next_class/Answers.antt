@@ -1,24 +1,24 @@
 use Rattle.segment_dump.proofs.Common.{refl, false≢true, Anonymous, Named, Unique}
-use Rattle.segment_dump.proofs.HeadReads.{class-is, class-none, class-unread}
+use Rattle.segment_dump.proofs.reading.ObjectHeads.{class-is, class-none, class-unread}
 use Rattle.segment_dump.proofs.building.next_class.Goals as goal
 
 pub returns-in_err-word : goal.returns-in_err-word
 returns-in_err-word c = class-unread c.args.words.now c.next_bare.new.self _ c.from_residual.result
     c.in_err-word.ensures
 
-pub returns-then-is : goal.returns-then-is
-returns-then-is c = class-is c.args.words.now c.next_bare.new.self c.in_ok-word.word.now Named
-    (c.if-is.ensures.0 refl) c.in_ok-word.ensures
+pub returns-then-is_word : goal.returns-then-is_word
+returns-then-is_word c = class-is c.args.words.now c.next_bare.new.self c.in_ok-word.word.now Named
+    (c.if-is_word.ensures.0 refl) c.in_ok-word.ensures
 
-pub returns-then-is-2 : goal.returns-then-is-2
-returns-then-is-2 c = class-is c.args.words.now c.next_bare.new.self c.in_ok-word.word.now Unique
-    (c.if-is-2.ensures.0 refl) c.in_ok-word.ensures
+pub returns-then-is_word-2 : goal.returns-then-is_word-2
+returns-then-is_word-2 c = class-is c.args.words.now c.next_bare.new.self c.in_ok-word.word.now Unique
+    (c.if-is_word-2.ensures.0 refl) c.in_ok-word.ensures
 
-pub returns-then-is-3 : goal.returns-then-is-3
-returns-then-is-3 c = class-is c.args.words.now c.next_bare.new.self c.in_ok-word.word.now Anonymous
-    (c.if-is-3.ensures.0 refl) c.in_ok-word.ensures
+pub returns-then-is_word-3 : goal.returns-then-is_word-3
+returns-then-is_word-3 c = class-is c.args.words.now c.next_bare.new.self c.in_ok-word.word.now Anonymous
+    (c.if-is_word-3.ensures.0 refl) c.in_ok-word.ensures
 
-pub returns-else-is-3 : goal.returns-else-is-3
-returns-else-is-3 c = class-none c.args.words.now c.next_bare.new.self c.in_ok-word.word.now _ (λ e.
-    false≢true (c.if-is.ensures.1 e)) (λ e. false≢true (c.if-is-2.ensures.1 e)) (λ e.
-    false≢true (c.if-is-3.ensures.1 e)) c.in_ok-word.ensures
+pub returns-else-is_word-3 : goal.returns-else-is_word-3
+returns-else-is_word-3 c = class-none c.args.words.now c.next_bare.new.self c.in_ok-word.word.now _ (λ e.
+    false≢true (c.if-is_word.ensures.1 e)) (λ e. false≢true (c.if-is_word-2.ensures.1 e)) (λ e.
+    false≢true (c.if-is_word-3.ensures.1 e)) c.in_ok-word.ensures

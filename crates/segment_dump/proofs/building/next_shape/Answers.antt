@@ -1,4 +1,4 @@
-use Rattle.segment_dump.proofs.HeadReads.{shape-more, shape-no_count, shape-no_kind, shape-some}
+use Rattle.segment_dump.proofs.reading.ObjectHeads.{shape-more, shape-no_count, shape-no_kind, shape-some}
 use Rattle.segment_dump.proofs.building.next_shape.Goals as goal
 
 pub returns-in_err-kind : goal.returns-in_err-kind

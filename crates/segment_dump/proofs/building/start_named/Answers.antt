@@ -1,5 +1,5 @@
 use Rattle.segment_dump.proofs.Common.{ap, option_map, name_seen}
-use Rattle.segment_dump.proofs.HeadReads.{named-none, named-some, named-unread}
+use Rattle.segment_dump.proofs.reading.ObjectHeads.{named-none, named-some, named-unread}
 use Rattle.segment_dump.proofs.building.start_named.Goals as goal
 
 pub returns-in_err-word-clause-start : goal.returns-in_err-word-clause-start

@@ -1,5 +1,5 @@
 use Rattle.segment_dump.proofs.Common.{sym, ap, ByKind, NoKey, key_in}
-use Rattle.segment_dump.proofs.HeadReads.{behind_class, next-named, next-under, next-unread}
+use Rattle.segment_dump.proofs.reading.ObjectHeads.{behind_class, next-named, next-under, next-unread}
 use Rattle.segment_dump.proofs.building.start_next.Goals as goal
 
 pub returns-in_err-next_class-clause-start : goal.returns-in_err-next_class-clause-start

@@ -1,8 +1,9 @@
 use Rattle.segment_dump.proofs.building.start_under.Goals as goal
 use Rattle.segment_dump.proofs.Common.{sym, ap, subst, ◌∙◌, Ok, IfOk}
 use Rattle.segment_manager.specs.State.{IsSegment}
-use Rattle.segment_dump.specs.Builders.{IsHere}
-use Rattle.segment_dump.proofs.{Found.never-ok, Found.ok-same, Makes.shape-unread, Makes.started}
+use Rattle.segment_dump.specs.Builders.{HasObjectAt}
+use Rattle.segment_dump.proofs.{texts.Options.never-ok, texts.Options.ok-same, building.NewObjects.shape-unread}
+use Rattle.segment_dump.proofs.{building.NewObjects.started}
 
 pub returns-in_err-shape-clause-start : goal.returns-in_err-shape-clause-start
 returns-in_err-shape-clause-start g c =
@@ -26,4 +27,4 @@ construct-requires-clause-segment g c = subst IsSegment c.as_bytes.ensures.bytes
 
 pub returns-in-Ok-clause-in_place : goal.returns-in-Ok-clause-in_place
 returns-in-Ok-clause-in_place g c =
-    subst (λ r. IfOk r (IsHere c.construct.new.segment)) c.in-Ok.is c.construct.ensures.in_place
+    subst (λ r. IfOk r (HasObjectAt c.construct.new.segment)) c.in-Ok.is c.construct.ensures.in_place

@@ -1,4 +1,4 @@
-use Rattle.segment_dump.proofs.Owed.{of-cut, of-then}
+use Rattle.segment_dump.proofs.dumping.Output.{of-cut, of-then}
 use Rattle.segment_dump.proofs.capacities.dump_with_capacities.Goals as goal
 
 pub returns-in_err-dump : goal.returns-in_err-dump

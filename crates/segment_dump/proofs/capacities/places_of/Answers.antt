@@ -1,4 +1,4 @@
-use Rattle.segment_dump.proofs.PlaceNotes.{map-without, others-measured, scalars-without}
+use Rattle.segment_dump.proofs.dumping.Capacities.{map-without, others-measured, scalars-without}
 use Rattle.segment_dump.proofs.capacities.places_of.Goals as goal
 
 pub returns-in-Scalar : goal.returns-in-Scalar

@@ -1,5 +1,6 @@
 use Rattle.segment_dump.proofs.capacities.put_capacities.Goals as goal
-use Rattle.segment_dump.proofs.{Common.all_notes, PlaceNotes.capacity-parts, Owed.of-cut, Owed.of-same, Owed.of-then}
+use Rattle.segment_dump.proofs.{Common.all_notes, dumping.Capacities.capacity-parts, dumping.Output.of-cut}
+use Rattle.segment_dump.proofs.{dumping.Output.of-same, dumping.Output.of-then}
 
 pub returns-in_err-put_indexes : goal.returns-in_err-put_indexes
 returns-in_err-put_indexes g c = of-same (of-cut (λ d. all_notes d) c.from_residual.ensures.0

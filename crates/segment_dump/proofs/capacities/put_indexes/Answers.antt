@@ -1,5 +1,5 @@
 use Rattle.segment_dump.proofs.Common.{◌∷◌, ◌++◌, [], sym, subst, append_assoc, codes, decimal, index_notes, Writes}
-use Rattle.segment_dump.proofs.Owed.{of-one}
+use Rattle.segment_dump.proofs.dumping.Output.{of-one}
 use Rattle.segment_dump.proofs.capacities.put_indexes.Goals as goal
 
 pub returns : goal.returns

@@ -1,16 +1,16 @@
 use Rattle.segment_dump.proofs.capacities.put_note.Goals as goal
 use Rattle.segment_dump.proofs.Common.{◌≡◌, ℕ, List, [], ◌∷◌, ◌++◌, ap, sym, subst, append_assoc, codes, Anonymous}
 use Rattle.segment_dump.proofs.Common.{Unique, Kind, kind_text, number_text, Writes}
-use Rattle.segment_dump.specs.{Capacities.Holds, Capacities.capacity_note, Texts.told_line}
+use Rattle.segment_dump.specs.{Capacities.Holds, Capacities.capacity_note, Texts.info_line}
 
 unique-note : (name : List ℕ) (kind : Kind) (n : ℕ)
-    → told_line (codes "# capacity of unique ") Unique name kind (codes ": ") n
+    → info_line (codes "# capacity of unique ") Unique name kind (codes ": ") n
     ≡ capacity_note (record { holder = Holds Unique name kind; places = n })
 unique-note name kind n = ap (λ l.
     codes "# capacity of unique " ++ l) (sym (append_assoc (kind_text kind) (codes ": " ++ number_text n) (0x0A ∷ [])))
 
 anonymous-note : (name : List ℕ) (kind : Kind) (n : ℕ)
-    → told_line (codes "# capacity of anonymous ") Anonymous name kind (codes ": ") n
+    → info_line (codes "# capacity of anonymous ") Anonymous name kind (codes ": ") n
     ≡ capacity_note (record { holder = Holds Anonymous name kind; places = n })
 anonymous-note name kind n = ap (λ l.
     codes "# capacity of anonymous " ++ l)

@@ -1,5 +1,5 @@
 use Rattle.segment_dump.proofs.Common.{ap, ◌∙◌, arith, ℕ, List, bytes_of, word_at}
-use Rattle.segment_dump.proofs.PlaceNotes.{header-inside, unique-places}
+use Rattle.segment_dump.proofs.dumping.Capacities.{header-inside, unique-places}
 use Rattle.segment_dump.proofs.capacities.unique_capacity.Goals as goal
 
 pub word_in-requires : goal.word_in-requires

@@ -1,5 +1,5 @@
 use Rattle.segment_dump.proofs.compare_sink.common.Goals as goal
-use Rattle.segment_dump.proofs.{Common.arith, Comparings.unlike-at}
+use Rattle.segment_dump.proofs.{Common.arith, comparing.Comparison.unlike-at}
 
 pub returns-then-some-index-clause-difference : goal.returns-then-some-index-clause-difference
 returns-then-some-index-clause-difference c =

@@ -1,4 +1,4 @@
-use Rattle.segment_dump.proofs.Fronts.{goes-on}
+use Rattle.segment_dump.proofs.texts.Prefixes.{goes-on}
 use Rattle.segment_dump.proofs.compare_sink.goes_on.Goals as goal
 
 pub returns-clause-unchanged : goal.returns-clause-unchanged

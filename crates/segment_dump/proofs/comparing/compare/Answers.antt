@@ -1,5 +1,5 @@
 use Rattle.segment_dump.proofs.Common.{sym, subst, ◌∙◌, false≢true, Writes, compared, portable, dump_text}
-use Rattle.segment_dump.proofs.Comparings.{is-written, never-fails, owed-alike}
+use Rattle.segment_dump.proofs.comparing.Comparison.{is-written, never-fails, owed-alike}
 use Rattle.segment_dump.proofs.comparing.compare.Goals as goal
 
 pub returns-then-has_all-clause-unchanged : goal.returns-then-has_all-clause-unchanged

@@ -1,5 +1,5 @@
 use Rattle.segment_dump.proofs.Common.{sym, subst, seen}
-use Rattle.segment_dump.proofs.Counts.{IsLined, content-lined, content-string}
+use Rattle.segment_dump.proofs.counting.Contents.{IsLined, content-lined, content-string}
 use Rattle.segment_dump.proofs.counting.count_content.Goals as goal
 
 pub returns-in-Scalar-clause-value : goal.returns-in-Scalar-clause-value

@@ -1,6 +1,6 @@
 use Rattle.segment_dump.proofs.Common.{refl, ap, subst, ◌∙◌, Needs, both, only_room}
 use Rattle.segment_dump.specs.Asked.{AreAtMost}
-use Rattle.segment_dump.proofs.DumpCounts.{dump-no_front, dump-no_objects, dump-some}
+use Rattle.segment_dump.proofs.counting.Dumps.{dump-no_front, dump-no_objects, dump-some}
 use Rattle.segment_dump.proofs.counting.count_dump.Goals as goal
 
 pub returns-in_default-clause-count : goal.returns-in_default-clause-count

@@ -1,8 +1,8 @@
 use Rattle.segment_dump.proofs.counting.count_object.Goals as goal
 use Rattle.segment_dump.proofs.Common.{None, sym, ap, subst, ◌∙◌, IsCountable, Needs, both, item_needs, only_room, Any}
-use Rattle.segment_dump.proofs.{Common.item_text, Askings.object-asks, Readers.as-seen}
+use Rattle.segment_dump.proofs.{Common.item_text, reading.Sizes.object-asks, reading.Prefixes.as-seen}
 use Rattle.segment_dump.specs.Asked.{AreAtMost}
-use Rattle.segment_dump.proofs.ObjectCounts.{object-no_content, object-no_lead, object-no_measure, object-some}
+use Rattle.segment_dump.proofs.counting.Objects.{object-no_content, object-no_lead, object-no_measure, object-some}
 
 pub returns-in_err-name_len-clause-value : goal.returns-in_err-name_len-clause-value
 returns-in_err-name_len-clause-value c =

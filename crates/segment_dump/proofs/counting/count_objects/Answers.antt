@@ -1,7 +1,7 @@
 use Rattle.segment_dump.proofs.Common.{◌≡◌, ◌++◌, List, ℕ, length, sym, subst, arith, ◌∙◌, false≢true, end_text}
 use Rattle.segment_dump.specs.Asked.{AskTogether, AsksObject, Begins}
-use Rattle.segment_dump.proofs.Askings.{more-asks, none-asks}
-use Rattle.segment_dump.proofs.DumpCounts.{objects-cut, objects-end, objects-long, objects-more, objects-start}
+use Rattle.segment_dump.proofs.reading.Sizes.{more-asks, none-asks}
+use Rattle.segment_dump.proofs.counting.Dumps.{objects-cut, objects-end, objects-long, objects-more, objects-start}
 use Rattle.segment_dump.proofs.counting.count_objects.Goals as goal
 
 pub objects-init : goal.objects-init

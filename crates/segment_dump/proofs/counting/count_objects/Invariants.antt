@@ -1,4 +1,4 @@
-use Rattle.segment_dump.proofs.DumpCounts.{InObjects}
+use Rattle.segment_dump.proofs.counting.Dumps.{InObjects}
 use Rattle.segment_dump.specs.Asked.{AskTogether, AsksObject, Begins}
 use Rattle.segment_dump.proofs.counting.count_objects.Given as goal
 

@@ -2,8 +2,8 @@ use Rattle.segment_dump.proofs.counting.count_texts.Goals as goal
 use Rattle.segment_dump.proofs.Common.{◌≡◌, ℕ, ◌+◌, ◌<◌, None, sym, subst, arith, flat_map, AreTexts, Needs, all_needs}
 use Rattle.segment_dump.proofs.Common.{both, text_needs, Any, text_lines}
 use Rattle.segment_dump.specs.Asked.{AskTogether, AsksText, Begins}
-use Rattle.segment_dump.proofs.{Askings.more-asks, Askings.none-asks, Readers.as-seen}
-use Rattle.segment_dump.proofs.Counts.{texts-cut, texts-end, texts-more, texts-start}
+use Rattle.segment_dump.proofs.{reading.Sizes.more-asks, reading.Sizes.none-asks, reading.Prefixes.as-seen}
+use Rattle.segment_dump.proofs.counting.Contents.{texts-cut, texts-end, texts-more, texts-start}
 
 pub texts-init : goal.texts-init
 texts-init c = record {

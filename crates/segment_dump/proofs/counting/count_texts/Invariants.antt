@@ -1,4 +1,4 @@
-use Rattle.segment_dump.proofs.Counts.{InTexts}
+use Rattle.segment_dump.proofs.counting.Contents.{InTexts}
 use Rattle.segment_dump.specs.Asked.{AskTogether, AsksText, Begins}
 use Rattle.segment_dump.proofs.counting.count_texts.Given as goal
 

@@ -1,7 +1,8 @@
 use Rattle.segment_dump.proofs.counting.front_left.Goals as goal
-use Rattle.segment_dump.proofs.{Common.sym, Common.ap, Common.◌∙◌, Common.length, Found.none-some, Found.same_Some}
+use Rattle.segment_dump.proofs.{Common.sym, Common.ap, Common.◌∙◌, Common.length, texts.Options.none-some}
+use Rattle.segment_dump.proofs.{texts.Options.same_Some}
 use Rattle.segment_dump.specs.Reads.{seen_rest}
-use Rattle.segment_dump.proofs.FrontPlaces.{third-left, third-none}
+use Rattle.segment_dump.proofs.reading.FrontFaults.{third-left, third-none}
 
 pub returns-in_default : goal.returns-in_default
 returns-in_default c = third-none c.args.text.now _ c.in_default.ensures

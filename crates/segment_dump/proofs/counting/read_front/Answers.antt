@@ -1,6 +1,6 @@
 use Rattle.segment_dump.proofs.Common.{None, sym, IsFront, fronted, Any, itself}
-use Rattle.segment_dump.proofs.FrontLines.{front-no_entries, front-none, front-some, front-whole}
-use Rattle.segment_dump.proofs.Readers.{as-seen}
+use Rattle.segment_dump.proofs.reading.FrontLines.{front-no_entries, front-none, front-some, front-whole}
+use Rattle.segment_dump.proofs.reading.Prefixes.{as-seen}
 use Rattle.segment_dump.proofs.counting.read_front.Goals as goal
 
 pub returns-in_err-behind-clause-value : goal.returns-in_err-behind-clause-value

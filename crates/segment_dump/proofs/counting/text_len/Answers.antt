@@ -1,6 +1,7 @@
 use Rattle.segment_dump.proofs.counting.text_len.Goals as goal
 use Rattle.segment_dump.proofs.Common.{length, Some, None, sym, Any, text_lines}
-use Rattle.segment_dump.proofs.{Askings.text-by, Counts.IsShort, Counts.text-none, Counts.text-some, Readers.as-seen}
+use Rattle.segment_dump.proofs.{reading.Sizes.text-by, counting.Contents.IsShort, counting.Contents.text-none}
+use Rattle.segment_dump.proofs.{counting.Contents.text-some, reading.Prefixes.as-seen}
 
 pub returns-in_err-len-clause-value : goal.returns-in_err-len-clause-value
 returns-in_err-len-clause-value c =

@@ -1,5 +1,6 @@
 use Rattle.segment_dump.proofs.dumping.dump.Goals as goal
-use Rattle.segment_dump.proofs.{Common.ap, Common.portable, Common.dump_text, Elements.size-is, Owed.of-same}
+use Rattle.segment_dump.proofs.{Common.ap, Common.portable, Common.dump_text, dumping.ObjectParts.size-is}
+use Rattle.segment_dump.proofs.{dumping.Output.of-same}
 
 pub returns : goal.returns
 returns g c =

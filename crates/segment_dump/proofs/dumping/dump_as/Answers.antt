@@ -1,5 +1,6 @@
 use Rattle.segment_dump.proofs.dumping.dump_as.Goals as goal
-use Rattle.segment_dump.proofs.{Common.all_text, Sections.dump-parts, Owed.of-cut, Owed.of-same, Owed.of-then}
+use Rattle.segment_dump.proofs.{Common.all_text, dumping.Sections.dump-parts, dumping.Output.of-cut}
+use Rattle.segment_dump.proofs.{dumping.Output.of-same, dumping.Output.of-then}
 
 pub returns-in_err-put_front : goal.returns-in_err-put_front
 returns-in_err-put_front g c = of-same (of-cut (λ d. all_text d) c.from_residual.ensures.0 c.in_err-put_front.ensures)

@@ -1,5 +1,6 @@
 use Rattle.segment_dump.proofs.dumping.put_front.Goals as goal
-use Rattle.segment_dump.proofs.{Common.front_text, Elements.named-is, Elements.unique-is, Owed.of-one}
+use Rattle.segment_dump.proofs.{Common.front_text, dumping.ObjectParts.named-is, dumping.ObjectParts.unique-is}
+use Rattle.segment_dump.proofs.{dumping.Output.of-one}
 
 pub returns : goal.returns
 returns g c =

@@ -1,5 +1,6 @@
 use Rattle.segment_dump.proofs.dumping.put_objects.Goals as goal
-use Rattle.segment_dump.proofs.{Common.refl, Common.end_text, Owed.of-cut, Owed.of-one, Owed.of-then}
+use Rattle.segment_dump.proofs.{Common.refl, Common.end_text, dumping.Output.of-cut, dumping.Output.of-one}
+use Rattle.segment_dump.proofs.{dumping.Output.of-then}
 
 pub returns-in_err-put_named : goal.returns-in_err-put_named
 returns-in_err-put_named g c = of-cut _ c.from_residual.ensures.0 c.in_err-put_named.ensures

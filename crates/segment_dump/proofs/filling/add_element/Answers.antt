@@ -1,5 +1,6 @@
 use Rattle.segment_dump.proofs.filling.add_element.Goals as goal
-use Rattle.segment_dump.proofs.{Common.length, Common.sym, Common.subst, Common.AddsElement, Starts.no-element}
+use Rattle.segment_dump.proofs.{Common.length, Common.sym, Common.subst, Common.AddsElement}
+use Rattle.segment_dump.proofs.{filling.EmptyObjects.no-element}
 
 pub returns-in-Scalar-clause-visits : goal.returns-in-Scalar-clause-visits
 returns-in-Scalar-clause-visits c =

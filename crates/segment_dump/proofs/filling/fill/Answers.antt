@@ -1,5 +1,5 @@
 use Rattle.segment_dump.proofs.Common.{length, sym, subst, IsVectorKind}
-use Rattle.segment_dump.proofs.Starts.{fills-plain, fills-text, not-vector}
+use Rattle.segment_dump.proofs.filling.EmptyObjects.{fills-plain, fills-text, not-vector}
 use Rattle.segment_dump.proofs.filling.fill.Goals as goal
 
 pub returns-in-String : goal.returns-in-String

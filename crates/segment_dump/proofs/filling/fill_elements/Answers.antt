@@ -1,5 +1,5 @@
 use Rattle.segment_dump.proofs.Common.{arith, length, refl, ◌∙◌}
-use Rattle.segment_dump.proofs.Starts.{as-room, elements-cut, elements-end, elements-more, elements-start}
+use Rattle.segment_dump.proofs.filling.EmptyObjects.{as-room, elements-cut, elements-end, elements-more, elements-start}
 use Rattle.segment_dump.proofs.filling.fill_elements.Goals as goal
 
 pub elements-init : goal.elements-init

@@ -1,5 +1,5 @@
 use Rattle.segment_dump.proofs.filling.fill_elements.Given as goal
-use Rattle.segment_dump.proofs.{Common.◌≡◌, Common.length, Starts.InElements}
+use Rattle.segment_dump.proofs.{Common.◌≡◌, Common.length, filling.EmptyObjects.InElements}
 use Rattle.segment_dump.specs.Builders.{HasLocatedObject}
 
 abbrev pub invariant-elements : goal.invariant-elements

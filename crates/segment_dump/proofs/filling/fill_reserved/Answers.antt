@@ -1,6 +1,6 @@
 use Rattle.segment_dump.proofs.filling.fill_reserved.Goals as goal
-use Rattle.segment_dump.proofs.{Common.length, Common.refl, HereObjects.still-here}
-use Rattle.segment_dump.proofs.Starts.{fills-refused, fills-reserved}
+use Rattle.segment_dump.proofs.{Common.length, Common.refl, building.Presence.still-here}
+use Rattle.segment_dump.proofs.filling.EmptyObjects.{fills-refused, fills-reserved}
 
 pub returns-in-Ok : goal.returns-in-Ok
 returns-in-Ok c = λ v.

@@ -1,5 +1,6 @@
 use Rattle.segment_dump.proofs.filling.push_next.Goals as goal
-use Rattle.segment_dump.proofs.{Common.refl, HereObjects.still_of_kind-here, Adds.push-adds, Adds.push-unread}
+use Rattle.segment_dump.proofs.{Common.refl, building.Presence.still_of_kind-here, filling.Addition.push-adds}
+use Rattle.segment_dump.proofs.{filling.Addition.push-unread}
 
 pub returns-in_err-value-clause-visits : goal.returns-in_err-value-clause-visits
 returns-in_err-value-clause-visits c =

@@ -1,6 +1,6 @@
 use Rattle.segment_dump.proofs.filling.put_next.Goals as goal
-use Rattle.segment_dump.proofs.{Common.true, Common.refl, Common.sym, Common.◌∙◌, HereObjects.still_of_kind-here}
-use Rattle.segment_dump.proofs.{Found.never-ok, Adds.put-adds, Adds.put-unread}
+use Rattle.segment_dump.proofs.{Common.true, Common.refl, Common.sym, Common.◌∙◌, building.Presence.still_of_kind-here}
+use Rattle.segment_dump.proofs.{texts.Options.never-ok, filling.Addition.put-adds, filling.Addition.put-unread}
 
 pub returns-in_err-key-clause-visits : goal.returns-in_err-key-clause-visits
 returns-in_err-key-clause-visits c =

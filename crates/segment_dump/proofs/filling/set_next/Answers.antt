@@ -1,5 +1,6 @@
 use Rattle.segment_dump.proofs.filling.set_next.Goals as goal
-use Rattle.segment_dump.proofs.{Common.refl, HereObjects.still_of_kind-here, Adds.set-adds, Adds.set-unread}
+use Rattle.segment_dump.proofs.{Common.refl, building.Presence.still_of_kind-here, filling.Addition.set-adds}
+use Rattle.segment_dump.proofs.{filling.Addition.set-unread}
 
 pub returns-in_err-value-clause-visits : goal.returns-in_err-value-clause-visits
 returns-in_err-value-clause-visits c =

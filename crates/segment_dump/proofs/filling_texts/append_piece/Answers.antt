@@ -1,6 +1,6 @@
 use Rattle.segment_dump.proofs.filling_texts.append_piece.Goals as goal
-use Rattle.segment_dump.proofs.{Common.refl, HereObjects.still_of_kind-here}
-use Rattle.segment_dump.proofs.Strings.{piece-appended, piece-unappended}
+use Rattle.segment_dump.proofs.{Common.refl, building.Presence.still_of_kind-here}
+use Rattle.segment_dump.proofs.filling.Strings.{piece-appended, piece-unappended}
 
 pub returns-in_err-piece-clause-append : goal.returns-in_err-piece-clause-append
 returns-in_err-piece-clause-append c =

@@ -1,6 +1,7 @@
 use Rattle.segment_dump.proofs.filling_texts.collect.Goals as goal
-use Rattle.segment_dump.proofs.{Common.arith, Common.◌∙◌, PieceReads.pieces-end, PieceReads.pieces-more}
-use Rattle.segment_dump.proofs.PieceReads.{collect-no_first, collect-no_copy, collect-start, more-no_copy, more-no_line}
+use Rattle.segment_dump.proofs.{Common.arith, Common.◌∙◌, reading.Pieces.pieces-end, reading.Pieces.pieces-more}
+use Rattle.segment_dump.proofs.reading.Pieces.{collect-no_first, collect-no_copy, collect-start, more-no_copy}
+use Rattle.segment_dump.proofs.reading.Pieces.{more-no_line}
 
 pub returns-in_err-words-clause-text : goal.returns-in_err-words-clause-text
 returns-in_err-words-clause-text c =

@@ -1,4 +1,4 @@
-use Rattle.segment_dump.proofs.PieceReads.{piece-unread_copied, was-copied}
+use Rattle.segment_dump.proofs.reading.Pieces.{piece-unread_copied, was-copied}
 use Rattle.segment_dump.proofs.filling_texts.copy_piece.Goals as goal
 
 pub returns-in_err-piece-clause-piece : goal.returns-in_err-piece-clause-piece

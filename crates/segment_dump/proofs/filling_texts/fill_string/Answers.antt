@@ -1,7 +1,8 @@
 use Rattle.segment_dump.proofs.filling_texts.fill_string.Goals as goal
-use Rattle.segment_dump.proofs.{Common.arith, Common.refl, HereObjects.still-here}
-use Rattle.segment_dump.proofs.Strings.{string-end, string-more, string-no_first, string-no_line, string-no_more}
-use Rattle.segment_dump.proofs.Strings.{string-no_piece, string-refused, string-start}
+use Rattle.segment_dump.proofs.{Common.arith, Common.refl, building.Presence.still-here}
+use Rattle.segment_dump.proofs.filling.Strings.{string-end, string-more, string-no_first, string-no_line}
+use Rattle.segment_dump.proofs.filling.Strings.{string-no_more}
+use Rattle.segment_dump.proofs.filling.Strings.{string-no_piece, string-refused, string-start}
 
 pub returns-in_err-words : goal.returns-in_err-words
 returns-in_err-words c = λ room.

@@ -1,5 +1,5 @@
 use Rattle.segment_dump.proofs.filling_texts.fill_string.Given as goal
-use Rattle.segment_dump.proofs.{Common.ℕ, Strings.InString}
+use Rattle.segment_dump.proofs.{Common.ℕ, filling.Strings.InString}
 use Rattle.segment_dump.specs.Builders.{HasLocatedObject}
 
 abbrev pub invariant-pieces : goal.invariant-pieces

@@ -1,4 +1,4 @@
-use Rattle.segment_dump.proofs.PieceReads.{first-no_line, first-no_number, first-some}
+use Rattle.segment_dump.proofs.reading.Pieces.{first-no_line, first-no_number, first-some}
 use Rattle.segment_dump.proofs.filling_texts.first_line.Goals as goal
 
 pub returns-in_err-words : goal.returns-in_err-words

@@ -1,4 +1,4 @@
-use Rattle.segment_dump.proofs.PieceReads.{piece-more, piece-some, piece-unread}
+use Rattle.segment_dump.proofs.reading.Pieces.{piece-more, piece-some, piece-unread}
 use Rattle.segment_dump.proofs.filling_texts.last_text.Goals as goal
 
 pub returns-in_err-piece-clause-piece : goal.returns-in_err-piece-clause-piece

@@ -1,5 +1,6 @@
 use Rattle.segment_dump.proofs.filling_texts.push_text.Goals as goal
-use Rattle.segment_dump.proofs.{Common.refl, HereObjects.still_of_kind-here, Adds.text-adds, Adds.text-unread}
+use Rattle.segment_dump.proofs.{Common.refl, building.Presence.still_of_kind-here, filling.Addition.text-adds}
+use Rattle.segment_dump.proofs.{filling.Addition.text-unread}
 
 pub returns-in_err-len-clause-visits : goal.returns-in_err-len-clause-visits
 returns-in_err-len-clause-visits c =

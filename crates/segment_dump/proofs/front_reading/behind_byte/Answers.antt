@@ -1,5 +1,5 @@
 use Rattle.segment_dump.proofs.front_reading.behind_byte.Goals as goal
-use Rattle.segment_dump.proofs.{Common.◌≤◌, Common.length, Common.arith, Common.ltb-false, Askings.can-name-first}
+use Rattle.segment_dump.proofs.{Common.◌≤◌, Common.length, Common.arith, Common.ltb-false, reading.Sizes.can-name-first}
 
 pub returns-in-92-clause-non_empty : goal.returns-in-92-clause-non_empty
 returns-in-92-clause-non_empty c = let long : 4 ≤ length c.args.text.now = omega arith

@@ -1,6 +1,6 @@
 use Rattle.segment_dump.proofs.front_reading.behind_lead.Goals as goal
 use Rattle.segment_dump.proofs.Common.{arith, codes, [], ◌∷◌}
-use Rattle.segment_dump.proofs.Askings.{can-name-between, can-name-fewer, can-name-here}
+use Rattle.segment_dump.proofs.reading.Sizes.{can-name-between, can-name-fewer, can-name-here}
 
 pub returns-in-Some-clause-min_len : goal.returns-in-Some-clause-min_len
 returns-in-Some-clause-min_len c =

@@ -1,6 +1,6 @@
 use Rattle.segment_dump.proofs.front_reading.behind_line.Goals as goal
 use Rattle.segment_dump.proofs.Common.{◌≢◌, get_or, arith}
-use Rattle.segment_dump.proofs.Askings.{first-ends, first-goes, first-starts, skip-ends, skip-goes}
+use Rattle.segment_dump.proofs.reading.Sizes.{first-ends, first-goes, first-starts, skip-ends, skip-goes}
 
 pub bytes-init : goal.bytes-init
 bytes-init c = record { skips = record { left = λ line a g e. (line, g, e) }; first = first-starts c.args.text.now }

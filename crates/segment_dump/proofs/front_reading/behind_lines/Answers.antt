@@ -1,8 +1,8 @@
 use Rattle.segment_dump.proofs.front_reading.behind_lines.Goals as goal
 use Rattle.segment_dump.proofs.Common.{◌≡◌, ℕ, sym, subst, arith, AreLines, Skips, lines_text, seen_rest}
 use Rattle.segment_dump.specs.Asked.{Begins, IsLined}
-use Rattle.segment_dump.proofs.Askings.{lined-more, lined-none}
-use Rattle.segment_dump.proofs.Readers.{lines-cut, lines-end, lines-more, lines-start}
+use Rattle.segment_dump.proofs.reading.Sizes.{lined-more, lined-none}
+use Rattle.segment_dump.proofs.reading.Prefixes.{lines-cut, lines-end, lines-more, lines-start}
 
 pub lines-init : goal.lines-init
 lines-init c = record { skips = lines-start c.args.text.now c.args.count; lined = lined-none c.args.text.now }

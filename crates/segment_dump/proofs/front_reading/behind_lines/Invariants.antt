@@ -1,4 +1,4 @@
-use Rattle.segment_dump.proofs.Readers.{InLines}
+use Rattle.segment_dump.proofs.reading.Prefixes.{InLines}
 use Rattle.segment_dump.specs.Asked.{Begins, IsLined}
 use Rattle.segment_dump.proofs.front_reading.behind_lines.Given as goal
 

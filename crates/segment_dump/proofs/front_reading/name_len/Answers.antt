@@ -1,7 +1,8 @@
 use Rattle.segment_dump.proofs.front_reading.name_len.Goals as goal
-use Rattle.segment_dump.proofs.{Common.◌+◌, Common.[], Common.◌∷◌, Common.arith, Readers.name-bare, Readers.name-long}
+use Rattle.segment_dump.proofs.{Common.◌+◌, Common.[], Common.◌∷◌, Common.arith, reading.Prefixes.name-bare}
+use Rattle.segment_dump.proofs.{reading.Prefixes.name-long}
 use Rattle.std.proofs.lemmas.Option.{IfSome_then}
-use Rattle.segment_dump.proofs.Askings.{can-name-fewer, can-name-here, can-name-more}
+use Rattle.segment_dump.proofs.reading.Sizes.{can-name-fewer, can-name-here, can-name-more}
 
 pub returns-then-len-gt-MAX_SEGMENT_LEN-clause-value : goal.returns-then-len-gt-MAX_SEGMENT_LEN-clause-value
 returns-then-len-gt-MAX_SEGMENT_LEN-clause-value c =

@@ -1,5 +1,5 @@
 use Rattle.segment_dump.proofs.Common.{◌∙◌, Some, None, sym, kind_text, Any, Breaks, itself}
-use Rattle.segment_dump.proofs.Readers.{as-seen, kind-reads}
+use Rattle.segment_dump.proofs.reading.Prefixes.{as-seen, kind-reads}
 use Rattle.segment_dump.proofs.front_reading.next_kind.Goals as goal
 
 pub returns-in_err-kind-clause-value : goal.returns-in_err-kind-clause-value

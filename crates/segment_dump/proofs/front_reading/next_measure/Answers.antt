@@ -1,4 +1,4 @@
-use Rattle.segment_dump.proofs.Askings.{measured-by}
+use Rattle.segment_dump.proofs.reading.Sizes.{measured-by}
 use Rattle.segment_dump.proofs.front_reading.next_measure.Goals as goal
 
 pub returns-clause-measure : goal.returns-clause-measure

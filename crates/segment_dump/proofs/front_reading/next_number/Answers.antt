@@ -1,5 +1,5 @@
 use Rattle.segment_dump.proofs.Common.{◌^◌, ◌<◌, ◌∙◌, Some, None, sym, number_text, Breaks, itself}
-use Rattle.segment_dump.proofs.Readers.{as-seen, number-reads, number-whole}
+use Rattle.segment_dump.proofs.reading.Prefixes.{as-seen, number-reads, number-whole_language}
 use Rattle.segment_dump.proofs.front_reading.next_number.Goals as goal
 
 pub returns-in_err-number-clause-value : goal.returns-in_err-number-clause-value
@@ -21,5 +21,6 @@ returns-clause-value c =
 pub returns-clause-spelled : goal.returns-clause-spelled
 returns-clause-spelled c =
     let w = c.next_word in
-    number-whole c.numbers_are_decimals.ensures c.args.text.now w.result.0.now w.result.1.now c.in_ok-number.number
+    number-whole_language c.numbers_are_decimals.ensures c.args.text.now w.result.0.now w.result.1.now
+    c.in_ok-number.number
     (sym c.number_of.ensures ∙ c.in_ok-number.was) w.ensures.contents

@@ -1,5 +1,5 @@
 use Rattle.segment_dump.proofs.front_reading.next_word.Goals as goal
-use Rattle.segment_dump.proofs.{Common.◌<◌, Common.get_or, Common.arith, Readers.word-goes}
+use Rattle.segment_dump.proofs.{Common.◌<◌, Common.get_or, Common.arith, reading.Prefixes.word-goes}
 
 pub word-preserved : goal.word-preserved
 word-preserved c =

@@ -1,6 +1,6 @@
 use Rattle.segment_dump.proofs.Common.{◌+◌, [], ◌∷◌, length, None, sym, closed_text, Any, arith}
-use Rattle.segment_dump.proofs.Askings.{can-name-fewer, can-name-here, can-name-more, can-name-none}
-use Rattle.segment_dump.proofs.Readers.{IsShort, as-seen, quotes-cut, quotes-end, quotes-more, quotes-start}
+use Rattle.segment_dump.proofs.reading.Sizes.{can-name-fewer, can-name-here, can-name-more, can-name-none}
+use Rattle.segment_dump.proofs.reading.Prefixes.{IsShort, as-seen, quotes-cut, quotes-end, quotes-more, quotes-start}
 use Rattle.segment_dump.proofs.front_reading.quoted_len.Goals as goal
 
 pub bytes-init : goal.bytes-init

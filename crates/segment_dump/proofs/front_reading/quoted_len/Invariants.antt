@@ -1,4 +1,4 @@
-use Rattle.segment_dump.proofs.Readers.{InQuotes}
+use Rattle.segment_dump.proofs.reading.Prefixes.{InQuotes}
 use Rattle.segment_dump.specs.Asked.{Begins, CanName}
 use Rattle.segment_dump.proofs.front_reading.quoted_len.Given as goal
 

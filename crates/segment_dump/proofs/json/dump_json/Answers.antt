@@ -1,5 +1,6 @@
 use Rattle.segment_dump.proofs.json.dump_json.Goals as goal
-use Rattle.segment_dump.proofs.{JsonLines.json-parts, Owed.of-cut, Owed.of-same, Owed.of-then}
+use Rattle.segment_dump.proofs.{dumping.Json.json-parts, dumping.Output.of-cut, dumping.Output.of-same}
+use Rattle.segment_dump.proofs.{dumping.Output.of-then}
 
 pub returns-in_err-put_named : goal.returns-in_err-put_named
 returns-in_err-put_named g c = of-same (of-cut _ c.from_residual.ensures.0 c.in_err-put_named.ensures)

@@ -1,5 +1,6 @@
 use Rattle.segment_dump.proofs.json.put_value.Goals as goal
-use Rattle.segment_dump.proofs.{Common.◌++◌, Common.ByHandle, Common.laid_at, Owed.of-cut, Owed.of-one, Owed.of-then}
+use Rattle.segment_dump.proofs.{Common.◌++◌, Common.ByHandle, Common.laid_at, dumping.Output.of-cut}
+use Rattle.segment_dump.proofs.{dumping.Output.of-one, dumping.Output.of-then}
 use Rattle.segment_dump.specs.Json.{closing, in_json, opening}
 
 pub returns-in_err-write_all : goal.returns-in_err-write_all

@@ -1,6 +1,6 @@
 use Rattle.segment_dump.proofs.json_texts.put_base64.Goals as goal
-use Rattle.segment_dump.proofs.{Common.[], Common.refl, Owed.writes_none}
-use Rattle.segment_dump.proofs.Base64.{group-front, left-cut, left-last, left-more}
+use Rattle.segment_dump.proofs.{Common.[], Common.refl, dumping.Output.writes_none}
+use Rattle.segment_dump.proofs.texts.Base64.{group-front, left-cut, left-last, left-more}
 
 pub groups-init : goal.groups-init
 groups-init g c = record { taken = []; told = writes_none (g.W.Sink.history c.args.out.now) 0 [] refl; all = refl }

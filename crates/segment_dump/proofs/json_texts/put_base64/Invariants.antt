@@ -1,5 +1,5 @@
 use Rattle.segment_dump.proofs.json_texts.put_base64.Given as goal
-use Rattle.segment_dump.proofs.{Common.length, Base64.IsLeft}
+use Rattle.segment_dump.proofs.{Common.length, texts.Base64.IsLeft}
 
 abbrev pub invariant-groups : goal.invariant-groups
 invariant-groups g l = IsLeft (g.W.Sink.history l.initial.out) (g.W.Sink.history l.out) l.bytes l.rest

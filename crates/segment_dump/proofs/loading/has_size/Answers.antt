@@ -1,5 +1,6 @@
 use Rattle.segment_dump.proofs.loading.has_size.Goals as goal
-use Rattle.segment_dump.proofs.{Judged.has-size, Judged.is-full, Succeeds.sizes-none, Succeeds.sizes-some}
+use Rattle.segment_dump.proofs.{loading.Judgement.has-size, loading.Judgement.is-full, loading.Success.sizes-none}
+use Rattle.segment_dump.proofs.{loading.Success.sizes-some}
 
 pub returns-in-Some-clause-content : goal.returns-in-Some-clause-content
 returns-in-Some-clause-content c =

@@ -1,4 +1,4 @@
-use Rattle.segment_dump.proofs.Succeeds.{judged-other, judged-unlike}
+use Rattle.segment_dump.proofs.loading.Success.{judged-other, judged-unlike}
 use Rattle.segment_dump.proofs.loading.judge.Goals as goal
 
 pub returns-in-Err-clause-success : goal.returns-in-Err-clause-success

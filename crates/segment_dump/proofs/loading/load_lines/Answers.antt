@@ -1,6 +1,8 @@
 use Rattle.segment_dump.proofs.loading.load_lines.Goals as goal
-use Rattle.segment_dump.proofs.{Common.length, Common.cause_in, Succeeds.succeeds-lacking, Succeeds.succeeds-made}
-use Rattle.segment_dump.proofs.Judged.{back-some, exact-done, exact-refused, lacking-made, lacking-refused, lacks}
+use Rattle.segment_dump.proofs.{Common.length, Common.cause_in, loading.Success.succeeds-lacking}
+use Rattle.segment_dump.proofs.{loading.Success.succeeds-made}
+use Rattle.segment_dump.proofs.loading.Judgement.{back-some, exact-done, exact-refused, lacking-made, lacking-refused}
+use Rattle.segment_dump.proofs.loading.Judgement.{lacks}
 
 pub returns-in-Some-clause-completion : goal.returns-in-Some-clause-completion
 returns-in-Some-clause-completion c = record {

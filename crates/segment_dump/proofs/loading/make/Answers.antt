@@ -1,6 +1,7 @@
 use Rattle.segment_dump.proofs.loading.make.Goals as goal
-use Rattle.segment_dump.proofs.{Common.length, Common.refl, Judged.back-some, Judged.judged, Judged.wrong-why}
-use Rattle.segment_dump.proofs.Succeeds.{good-judged, good-no_front, good-unbuilt, good-uncreated}
+use Rattle.segment_dump.proofs.{Common.length, Common.refl, loading.Judgement.back-some, loading.Judgement.judged}
+use Rattle.segment_dump.proofs.{loading.Judgement.wrong-why}
+use Rattle.segment_dump.proofs.loading.Success.{good-judged, good-no_front, good-unbuilt, good-uncreated}
 
 pub returns-in-Err-clause-completion : goal.returns-in-Err-clause-completion
 returns-in-Err-clause-completion c =

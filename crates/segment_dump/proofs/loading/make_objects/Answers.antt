@@ -1,5 +1,6 @@
 use Rattle.segment_dump.proofs.loading.make_objects.Goals as goal
-use Rattle.segment_dump.proofs.{Common.length, Succeeds.all-made, Succeeds.named-refused, Succeeds.unique-refused}
+use Rattle.segment_dump.proofs.{Common.length, loading.Success.all-made, loading.Success.named-refused}
+use Rattle.segment_dump.proofs.{loading.Success.unique-refused}
 
 pub returns-in-Err : goal.returns-in-Err
 returns-in-Err c =

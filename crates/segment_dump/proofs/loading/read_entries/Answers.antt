@@ -1,5 +1,5 @@
-use Rattle.segment_dump.proofs.FrontReads.{entries-more, entries-no_named, entries-no_unique, entries-none}
-use Rattle.segment_dump.proofs.FrontReads.{entries-some}
+use Rattle.segment_dump.proofs.reading.FrontSteps.{entries-more, entries-no_named, entries-no_unique, entries-none}
+use Rattle.segment_dump.proofs.reading.FrontSteps.{entries-some}
 use Rattle.segment_dump.proofs.loading.read_entries.Goals as goal
 
 pub returns-in_err-words : goal.returns-in_err-words

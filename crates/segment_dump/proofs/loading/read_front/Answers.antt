@@ -1,4 +1,4 @@
-use Rattle.segment_dump.proofs.FrontReads.{front-all, front-entries, front-size, front-version}
+use Rattle.segment_dump.proofs.reading.FrontSteps.{front-all, front-entries, front-size, front-version}
 use Rattle.segment_dump.proofs.loading.read_front.Goals as goal
 
 pub returns-in_err-read_version : goal.returns-in_err-read_version

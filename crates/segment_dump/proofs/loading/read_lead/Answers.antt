@@ -1,4 +1,4 @@
-use Rattle.segment_dump.proofs.FrontReads.{lead-none, lead-other, lead-some}
+use Rattle.segment_dump.proofs.reading.FrontSteps.{lead-none, lead-other, lead-some}
 use Rattle.segment_dump.proofs.loading.read_lead.Goals as goal
 
 pub returns-in_err-words : goal.returns-in_err-words

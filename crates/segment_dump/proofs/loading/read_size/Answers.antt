@@ -1,4 +1,4 @@
-use Rattle.segment_dump.proofs.FrontReads.{size-more, size-no_number, size-none, size-some}
+use Rattle.segment_dump.proofs.reading.FrontSteps.{size-more, size-no_number, size-none, size-some}
 use Rattle.segment_dump.proofs.loading.read_size.Goals as goal
 
 pub returns-in_err-words : goal.returns-in_err-words

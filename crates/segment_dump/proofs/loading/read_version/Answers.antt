@@ -1,4 +1,4 @@
-use Rattle.segment_dump.proofs.FrontReads.{version-no_dump, version-no_one, version-none, version-some}
+use Rattle.segment_dump.proofs.reading.FrontSteps.{version-no_dump, version-no_one, version-none, version-some}
 use Rattle.segment_dump.proofs.loading.read_version.Goals as goal
 
 pub returns-in_err-words : goal.returns-in_err-words

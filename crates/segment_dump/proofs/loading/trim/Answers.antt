@@ -1,4 +1,4 @@
-use Rattle.segment_dump.proofs.Succeeds.{trims-none, trims-some}
+use Rattle.segment_dump.proofs.loading.Success.{trims-none, trims-some}
 use Rattle.segment_dump.proofs.loading.trim.Goals as goal
 
 pub returns-in-None : goal.returns-in-None

@@ -1,5 +1,5 @@
 use Rattle.segment_dump.proofs.notes.is_note.Goals as goal
-use Rattle.segment_dump.proofs.{Common.◌==◌, Common.ap, Common.true, Common.false, NoteLines.note-told}
+use Rattle.segment_dump.proofs.{Common.◌==◌, Common.ap, Common.true, Common.false, reading.NoteLines.note-told}
 
 pub returns-clause-note : goal.returns-clause-note
 returns-clause-note c = λ e. note-told c.args.line.now true c.requires (ap (λ b. b == 0x23) c.if-line-ne35.false) e

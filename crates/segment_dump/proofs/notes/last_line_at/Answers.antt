@@ -1,5 +1,6 @@
 use Rattle.segment_dump.proofs.notes.last_line_at.Goals as goal
-use Rattle.segment_dump.proofs.{Common.ap, Common.◌==◌, Common.arith, NoteLines.last-byte, NoteLines.starts-at}
+use Rattle.segment_dump.proofs.{Common.ap, Common.◌==◌, Common.arith, reading.NoteLines.last-byte}
+use Rattle.segment_dump.proofs.{reading.NoteLines.starts-at}
 
 pub bytes-init : goal.bytes-init
 bytes-init c = (

@@ -1,5 +1,5 @@
 use Rattle.segment_dump.proofs.Common.{◌≡◌, ◌<◌, length, drop, sym, subst, ◌∙◌, true, false, arith, are_notes}
-use Rattle.segment_dump.proofs.NoteLines.{cut-last, kept-whole}
+use Rattle.segment_dump.proofs.reading.NoteLines.{cut-last, kept-whole}
 use Rattle.segment_dump.proofs.notes.without_notes.Goals as goal
 
 pub returns-then-not-is_note : goal.returns-then-not-is_note

@@ -2,8 +2,10 @@ use Rattle.segment_dump.proofs.objects.put_anonymous.Goals as goal
 use Rattle.segment_dump.proofs.Common.{◌≡◌, ◌≤◌, length, sym, ap, subst, ◌∙◌, Directory, SaysAt, SegmentState}
 use Rattle.segment_dump.proofs.Common.{DenotesCurrent, WritesOf, where_anonymous, parts_until}
 use Rattle.std.proofs.Common.{rules}
-use Rattle.segment_dump.proofs.{Members.all-objects, Members.said-of, Owed.of-same, Owed.of-start, PartLines.well}
-use Rattle.segment_dump.proofs.Sections.{anonymous-filtered, object_at_place, places-all, places-cut, places-more}
+use Rattle.segment_dump.proofs.{building.Members.all-objects, building.Members.said-of, dumping.Output.of-same}
+use Rattle.segment_dump.proofs.{dumping.Output.of-start, texts.Parts.well}
+use Rattle.segment_dump.proofs.dumping.Sections.{anonymous-filtered, object_at_place, places-all, places-cut}
+use Rattle.segment_dump.proofs.dumping.Sections.{places-more}
 
 pub objects-init : goal.objects-init
 objects-init g c =

@@ -1,7 +1,7 @@
 -- What has gone out is the text of the anonymous ones among the objects that came.
 use Rattle.segment_dump.proofs.objects.put_anonymous.Given as goal
 use Rattle.segment_dump.proofs.Common.{◌≡◌, Directory, WritesOf, where_anonymous, parts_until}
-use Rattle.segment_dump.proofs.{PartLines.well, Sections.object_at_place}
+use Rattle.segment_dump.proofs.{texts.Parts.well, dumping.Sections.object_at_place}
 
 abbrev pub invariant-objects : goal.invariant-objects
 invariant-objects g l = record {

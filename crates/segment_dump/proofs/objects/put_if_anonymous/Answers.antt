@@ -1,6 +1,7 @@
 use Rattle.segment_dump.proofs.objects.put_if_anonymous.Goals as goal
-use Rattle.segment_dump.proofs.{Common.object_at, Common.part_of, Common.ByHandle, Owed.of-none, Owed.of-same}
-use Rattle.segment_dump.proofs.Sections.{anonymous-said, other-said}
+use Rattle.segment_dump.proofs.{Common.object_at, Common.part_of, Common.ByHandle, dumping.Output.of-none}
+use Rattle.segment_dump.proofs.{dumping.Output.of-same}
+use Rattle.segment_dump.proofs.dumping.Sections.{anonymous-said, other-said}
 
 pub returns-in-Anonymous : goal.returns-in-Anonymous
 returns-in-Anonymous g c =

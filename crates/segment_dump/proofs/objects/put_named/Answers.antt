@@ -1,7 +1,8 @@
 use Rattle.segment_dump.proofs.objects.put_named.Goals as goal
 use Rattle.segment_dump.proofs.Common.{arith, named_objects}
-use Rattle.segment_dump.proofs.{Elements.named-is, Members.all-named, Members.said-of, Owed.of-start}
-use Rattle.segment_dump.proofs.Sections.{object_at_place, places-all, places-cut, places-more}
+use Rattle.segment_dump.proofs.{dumping.ObjectParts.named-is, building.Members.all-named, building.Members.said-of}
+use Rattle.segment_dump.proofs.{dumping.Output.of-start}
+use Rattle.segment_dump.proofs.dumping.Sections.{object_at_place, places-all, places-cut, places-more}
 
 pub named_instance-requires : goal.named_instance-requires
 named_instance-requires g c = record {

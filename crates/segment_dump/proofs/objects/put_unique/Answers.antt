@@ -1,7 +1,8 @@
 use Rattle.segment_dump.proofs.objects.put_unique.Goals as goal
 use Rattle.segment_dump.proofs.Common.{arith, unique_objects}
-use Rattle.segment_dump.proofs.{Elements.unique-is, Members.all-unique, Members.said-of, Owed.of-start}
-use Rattle.segment_dump.proofs.Sections.{object_at_place, places-all, places-cut, places-more}
+use Rattle.segment_dump.proofs.{dumping.ObjectParts.unique-is, building.Members.all-unique, building.Members.said-of}
+use Rattle.segment_dump.proofs.{dumping.Output.of-start}
+use Rattle.segment_dump.proofs.dumping.Sections.{object_at_place, places-all, places-cut, places-more}
 
 pub unique_instance-requires : goal.unique_instance-requires
 unique_instance-requires g c = record {

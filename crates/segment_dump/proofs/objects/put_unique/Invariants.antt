@@ -1,6 +1,6 @@
 use Rattle.segment_dump.proofs.objects.put_unique.Given as goal
 use Rattle.segment_dump.proofs.Common.{unique_objects, WritesOf, parts_until}
-use Rattle.segment_dump.proofs.{Sections.object_at_place, PartLines.well}
+use Rattle.segment_dump.proofs.{dumping.Sections.object_at_place, texts.Parts.well}
 
 abbrev pub invariant-kinds : goal.invariant-kinds
 invariant-kinds g l =

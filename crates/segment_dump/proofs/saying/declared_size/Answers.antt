@@ -1,4 +1,4 @@
-use Rattle.segment_dump.proofs.SaidSizes.{no-lead, no-number, said}
+use Rattle.segment_dump.proofs.reading.DumpSize.{no-lead, no-number, said}
 use Rattle.segment_dump.proofs.saying.declared_size.Goals as goal
 
 pub returns-in_err-behind : goal.returns-in_err-behind

@@ -1,6 +1,6 @@
 use Rattle.segment_dump.proofs.texts.put_all_pieces.Goals as goal
 use Rattle.segment_dump.proofs.Common.{◌≡◌, ◌++◌, length, ap, ◌∙◌, refl, arith, parts_until, piece_line, pieces_in}
-use Rattle.segment_dump.proofs.{Owed.writes_none, PartLines.part-cut, PartLines.part-told}
+use Rattle.segment_dump.proofs.{dumping.Output.writes_none, texts.Parts.part-cut, texts.Parts.part-told}
 
 pub pieces-init : goal.pieces-init
 pieces-init g c = writes_none (g.W.Sink.history c.args.out.now) 0 (parts_until (piece_line c.args.text.now) 0) refl

@@ -1,4 +1,4 @@
-use Rattle.segment_dump.proofs.Told.{dumps-tell-objects, dumps-tell-sizes}
+use Rattle.segment_dump.proofs.loading.DumpObjects.{dumps-tell-objects, dumps-tell-sizes}
 use Rattle.segment_dump.proofs.theorems.dumps_tell_objects.Goals as goal
 
 pub returns : goal.returns

@@ -1,5 +1,5 @@
-use Rattle.segment_dump.proofs.NoteLaws.{capacities-are-left-out, dumps-have-no-notes, notes-are-cut}
-use Rattle.segment_dump.proofs.NoteLaws.{notes-are-left-out}
+use Rattle.segment_dump.proofs.reading.Notes.{capacities-are-left-out, dumps-have-no-notes, notes-are-cut}
+use Rattle.segment_dump.proofs.reading.Notes.{notes-are-left-out}
 use Rattle.segment_dump.proofs.theorems.notes_are_left_out.Goals as goal
 
 pub returns : goal.returns

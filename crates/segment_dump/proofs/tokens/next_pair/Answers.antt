@@ -1,4 +1,4 @@
-use Rattle.segment_dump.proofs.ElementReads.{pair-more, pair-no_key, pair-no_line, pair-no_value, pair-some}
+use Rattle.segment_dump.proofs.reading.Elements.{pair-more, pair-no_key, pair-no_line, pair-no_value, pair-some}
 use Rattle.segment_dump.proofs.tokens.next_pair.Goals as goal
 
 pub returns-in_err-words : goal.returns-in_err-words

@@ -1,4 +1,4 @@
-use Rattle.segment_dump.proofs.ElementReads.{element-more, element-no_line, element-no_value, element-some}
+use Rattle.segment_dump.proofs.reading.Elements.{element-more, element-no_line, element-no_value, element-some}
 use Rattle.segment_dump.proofs.tokens.next_value.Goals as goal
 
 pub returns-in_err-words : goal.returns-in_err-words

@@ -5,8 +5,8 @@ use Rattle.image_check.specs.declared.versions.AcceptedVersions.TheVariants.{Cur
 use Rattle.image_check.specs.EarlyTests.{size_word}
 use Rattle.image_check.specs.Examining.{ExaminesBytes}
 use Rattle.grow_shrink.specs.LargerRegion.{region_len}
-use Rattle.segment_file.proofs.ReadOn.{says-on, text-fits, told-whole, unread-on, unroomed-on}
-use Rattle.segment_file.proofs.Unfits.{text-roomless}
+use Rattle.segment_file.proofs.opening.ReadAgain.{says-on, text-fits, told-whole, unread-on, unroomed-on}
+use Rattle.segment_file.proofs.examining.Outcomes.{text-roomless}
 use Rattle.segment_file.proofs.examining.examine_behind.Goals as goal
 
 pub returns-in_err-text : goal.returns-in_err-text

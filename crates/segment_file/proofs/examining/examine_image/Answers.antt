@@ -7,8 +7,8 @@ use Rattle.image_check.specs.declared.versions.AcceptedVersions.TheVariants.{Cur
 use Rattle.image_check.specs.Examining.{Examines}
 use Rattle.segment_disk.specs.Events.{nothing_given}
 use Rattle.segment_file.specs.Opening.{file_region}
-use Rattle.segment_file.proofs.Unfits.{unfit-by}
-use Rattle.segment_file.proofs.Unopened.{unread-image}
+use Rattle.segment_file.proofs.examining.Outcomes.{unfit-by}
+use Rattle.segment_file.proofs.opening.Refusals.{unread-image}
 use Rattle.segment_file.proofs.examining.examine_image.Goals as goal
 
 pub returns-in_err-region : goal.returns-in_err-region

@@ -3,7 +3,7 @@ use Rattle.raw_region.specs.Device.{read_delta}
 use Rattle.segment_disk.specs.Events.{nothing_given}
 use Rattle.image_check.specs.declared.versions.AcceptedVersions.{AcceptedVersions}
 use Rattle.segment_file.specs.Opening.{OpensAt}
-use Rattle.segment_file.proofs.Unopened.{alone-opened}
+use Rattle.segment_file.proofs.opening.Refusals.{alone-opened}
 use Rattle.segment_file.proofs.opening.open_at.Goals as goal
 
 pub returns-in-Current-clause-opening : goal.returns-in-Current-clause-opening

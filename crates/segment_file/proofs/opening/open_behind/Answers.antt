@@ -4,8 +4,8 @@ use Rattle.raw_region.specs.Device.{ReadDelta}
 use Rattle.image_check.specs.OpeningBytes.{as_given}
 use Rattle.grow_shrink.specs.LargerRegion.{region_len}
 use Rattle.segment_file.specs.Opening.{OpensAt, OpensImage}
-use Rattle.segment_file.proofs.ReadOn.{given-text, room-text, text-fits, unread-on, unroomed-on}
-use Rattle.segment_file.proofs.Unopened.{is-opened, no-place, not-opened}
+use Rattle.segment_file.proofs.opening.ReadAgain.{given-text, room-text, text-fits, unread-on, unroomed-on}
+use Rattle.segment_file.proofs.opening.Refusals.{is-opened, no-place, not-opened}
 use Rattle.segment_file.proofs.opening.open_behind.Goals as goal
 
 pub returns-in_err-text : goal.returns-in_err-text

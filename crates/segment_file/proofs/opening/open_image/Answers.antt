@@ -2,7 +2,8 @@ use Rattle.std.proofs.Common.{◌∙◌, sym}
 use Rattle.std.proofs.lemmas.Result.{err_from_is_err_and}
 use Rattle.raw_region.specs.Device.{read_delta}
 use Rattle.segment_disk.specs.Events.{nothing_given}
-use Rattle.segment_file.proofs.Unopened.{no-error, no-place, not-opened, opened-at, unread-image, widened-answer}
+use Rattle.segment_file.proofs.opening.Refusals.{no-error, no-place, not-opened, opened-at, unread-image}
+use Rattle.segment_file.proofs.opening.Refusals.{widened-answer}
 use Rattle.segment_file.proofs.opening.open_image.Goals as goal
 
 pub returns-in_err-region : goal.returns-in_err-region

@@ -2,7 +2,7 @@ use Rattle.std.proofs.Common.{subst, sym}
 use Rattle.image_check.specs.declared.versions.AcceptedVersions.{AcceptedVersions}
 use Rattle.image_check.specs.OpeningBytes.{as_given}
 use Rattle.segment_file.specs.Opening.{OpensAt}
-use Rattle.segment_file.proofs.Unopened.{text-at}
+use Rattle.segment_file.proofs.opening.Refusals.{text-at}
 use Rattle.segment_file.proofs.opening.open_text.Goals as goal
 
 pub returns-in-Current : goal.returns-in-Current

@@ -1,5 +1,5 @@
 use Rattle.std.proofs.Common.{◌+◌, arith}
-use Rattle.segment_file.proofs.Rooms.{region-holds}
+use Rattle.segment_file.proofs.opening.Rooms.{region-holds}
 use Rattle.segment_file.proofs.opening.with_room.Goals as goal
 
 pub copy_into-requires : goal.copy_into-requires

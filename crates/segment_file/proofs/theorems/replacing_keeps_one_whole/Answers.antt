@@ -1,4 +1,4 @@
-use Rattle.segment_file.proofs.Standings.{replacing_keeps}
+use Rattle.segment_file.proofs.writing.PathContents.{replacing_keeps}
 use Rattle.segment_file.proofs.theorems.replacing_keeps_one_whole.Goals as goal
 
 pub returns : goal.returns

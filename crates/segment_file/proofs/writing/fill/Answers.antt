@@ -1,5 +1,5 @@
 use Rattle.std.proofs.Common.{is_ok}
-use Rattle.segment_file.proofs.Written.{cut}
+use Rattle.segment_file.proofs.writing.Outcome.{cut}
 use Rattle.segment_file.proofs.writing.fill.Goals as goal
 
 pub returns-in_err-save : goal.returns-in_err-save

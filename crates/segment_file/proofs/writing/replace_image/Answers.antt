@@ -1,4 +1,4 @@
-use Rattle.segment_file.proofs.Written.{dropped, placed}
+use Rattle.segment_file.proofs.writing.Outcome.{dropped, placed}
 use Rattle.segment_file.proofs.writing.replace_image.Goals as goal
 
 pub returns-in-Ok-fill : goal.returns-in-Ok-fill

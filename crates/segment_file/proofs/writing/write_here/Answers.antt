@@ -1,4 +1,4 @@
-use Rattle.segment_file.proofs.Written.{written_here}
+use Rattle.segment_file.proofs.writing.Outcome.{written_here}
 use Rattle.segment_file.proofs.writing.write_here.Goals as goal
 
 pub returns : goal.returns

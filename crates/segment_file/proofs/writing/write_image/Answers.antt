@@ -1,6 +1,6 @@
 use Rattle.std.proofs.Common.{◌≡◌, ◌≢◌, rules}
 use Rattle.segment_disk.specs.declared.presence.CreateMode.TheVariants.{New}
-use Rattle.segment_file.proofs.Written.{made_anew, made_over, overtaken}
+use Rattle.segment_file.proofs.writing.Outcome.{made_anew, made_over, overtaken}
 use Rattle.segment_file.proofs.writing.write_image.Goals as goal
 
 pub returns-then-eq : goal.returns-then-eq

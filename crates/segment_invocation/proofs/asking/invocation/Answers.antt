@@ -5,9 +5,9 @@ use Rattle.std.proofs.lemmas.Result.{err_from_is_err_and}
 use Rattle.clap.specs.Matches.{found_of}
 use Rattle.clap.specs.Walk.{Text, rows_of}
 use Rattle.segment_invocation.specs.Invocations.{IsWrongBy}
-use Rattle.segment_invocation.proofs.CommandLines.{understood}
-use Rattle.segment_invocation.proofs.Unread.{asks, enters, faultless, read_given, read_wrong, unread_given}
-use Rattle.segment_invocation.proofs.Unread.{unread_read, unread_wrong, usage_same}
+use Rattle.segment_invocation.proofs.command_lines.AllUnderstood.{understood}
+use Rattle.segment_invocation.proofs.asking.Refusals.{asks, enters, faultless, read_given, read_wrong, unread_given}
+use Rattle.segment_invocation.proofs.asking.Refusals.{unread_read, unread_wrong, usage_same}
 use Rattle.segment_invocation.proofs.asking.invocation.Goals as goal
 
 pub returns-in-Err-clause-read : goal.returns-in-Err-clause-read

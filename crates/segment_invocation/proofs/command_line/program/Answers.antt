@@ -1,6 +1,6 @@
 -- Each setting changes its own field.
 use Rattle.clap.specs.declared.builder.command.Command.TheViews.{out-Command}
-use Rattle.segment_invocation.proofs.Settings.{help_wanted, subcommand_wanted, version_told}
+use Rattle.segment_invocation.proofs.command_lines.Settings.{help_wanted, subcommand_wanted, version_told}
 use Rattle.segment_invocation.proofs.command_line.program.Goals as goal
 
 pub returns : goal.returns

@@ -1,4 +1,4 @@
-use Rattle.segment_lang.proofs.CommandWords.{scalar_read}
+use Rattle.segment_lang.proofs.commands.Words.{scalar_read}
 use Rattle.segment_lang.proofs.contents.read_scalar.Goals as goal
 
 pub returns : goal.returns

@@ -1,4 +1,4 @@
-use Rattle.segment_lang.proofs.CommandWords.{elements_read}
+use Rattle.segment_lang.proofs.commands.Words.{elements_read}
 use Rattle.segment_lang.proofs.contents.read_vector.Goals as goal
 
 pub returns : goal.returns

@@ -1,5 +1,5 @@
 use Rattle.std.proofs.Common.{false, true, rules}
-use Rattle.segment_lang.proofs.FirstWords.{first_word, in_front}
+use Rattle.segment_lang.proofs.words.FirstWords.{first_word, in_front}
 use Rattle.segment_lang.proofs.forms.behind.Goals as goal
 
 pub returns-then-not-ends_word : goal.returns-then-not-ends_word

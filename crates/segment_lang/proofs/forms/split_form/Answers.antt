@@ -1,6 +1,6 @@
 use Rattle.std.proofs.Common.{map, rules}
 use Rattle.segment_lang.specs.declared.forms.TheConstants.{FORMS}
-use Rattle.segment_lang.proofs.FormTables.{form_in_tables, found_reader, place_of-lt}
+use Rattle.segment_lang.proofs.commands.Forms.{form_in_tables, found_reader, place_of-lt}
 use Rattle.segment_lang.proofs.forms.split_form.Goals as goal
 
 pub returns : goal.returns

@@ -1,6 +1,6 @@
 use Rattle.std.proofs.Common.{ap, sym, ◌∙◌}
 use Rattle.segment_lang.specs.Seen.{is_wrong}
-use Rattle.segment_lang.proofs.CommandWords.{bad_syntax, no_error}
+use Rattle.segment_lang.proofs.commands.Words.{bad_syntax, no_error}
 use Rattle.segment_lang.proofs.line.line_error.Goals as goal
 
 pub returns-in-Nothing : goal.returns-in-Nothing

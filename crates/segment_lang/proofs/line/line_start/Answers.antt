@@ -1,6 +1,6 @@
 use Rattle.std.proofs.Common.{arith}
 use Rattle.segment_lang.specs.Seen.{reader_of}
-use Rattle.segment_lang.proofs.CommandWords.{command_in_front}
+use Rattle.segment_lang.proofs.commands.Words.{command_in_front}
 use Rattle.segment_lang.proofs.line.line_start.Goals as goal
 
 pub returns-in-Some : goal.returns-in-Some

@@ -1,7 +1,7 @@
 use Rattle.std.proofs.Common.{sym, ◌∙◌, ap, not}
 use Rattle.segment_lang.specs.Arguments.{literals_at}
 use Rattle.segment_lang.specs.Words.{literal_of_word}
-use Rattle.segment_lang.proofs.EachWord.{literal_is, words_end, words_more, words_none}
+use Rattle.segment_lang.proofs.words.EachWord.{literal_is, words_end, words_more, words_none}
 use Rattle.segment_lang.proofs.lists.are_literals.Goals as goal
 
 pub returns-then-is_none : goal.returns-then-is_none

@@ -2,7 +2,7 @@ use Rattle.std.proofs.Common.{sym, ◌∙◌, ap, not}
 use Rattle.std.specs.Option.{is_some}
 use Rattle.segment_lang.specs.Arguments.{texts_at}
 use Rattle.segment_lang.specs.Reading.{quoted_of}
-use Rattle.segment_lang.proofs.EachWord.{words_end, words_more, words_none}
+use Rattle.segment_lang.proofs.words.EachWord.{words_end, words_more, words_none}
 use Rattle.segment_lang.proofs.lists.are_texts.Goals as goal
 
 pub returns-then-is_none : goal.returns-then-is_none

@@ -1,5 +1,5 @@
 use Rattle.std.proofs.Common.{sym, ◌∙◌}
-use Rattle.segment_lang.proofs.EachWord.{as_none, as_some}
+use Rattle.segment_lang.proofs.words.EachWord.{as_none, as_some}
 use Rattle.segment_lang.proofs.lists.read_literals.Goals as goal
 
 pub returns-then-not-are_literals : goal.returns-then-not-are_literals

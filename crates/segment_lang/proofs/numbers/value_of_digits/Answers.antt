@@ -1,6 +1,6 @@
 use Rattle.std.proofs.Common.{arith}
 use Rattle.std.proofs.lemmas.Bool.Decides.{nat_tests}
-use Rattle.segment_lang.proofs.Decimals.{further_digits}
+use Rattle.segment_lang.proofs.values.Decimals.{further_digits}
 use Rattle.segment_lang.proofs.numbers.value_of_digits.Goals as goal
 
 pub returns-then-next-from : goal.returns-then-next-from

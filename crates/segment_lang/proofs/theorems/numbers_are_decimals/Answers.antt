@@ -1,4 +1,4 @@
-use Rattle.segment_lang.proofs.Decimals.{numbers_are_decimals}
+use Rattle.segment_lang.proofs.values.Decimals.{numbers_are_decimals}
 use Rattle.segment_lang.proofs.theorems.numbers_are_decimals.Goals as goal
 
 pub returns : goal.returns

@@ -1,4 +1,4 @@
-use Rattle.segment_lang.proofs.TextSpelling.{texts_are_spelled}
+use Rattle.segment_lang.proofs.texts.Spelling.{texts_are_spelled}
 use Rattle.segment_lang.proofs.theorems.texts_are_spelled.Goals as goal
 
 pub returns : goal.returns

@@ -1,4 +1,4 @@
-use Rattle.segment_lang.proofs.Decimals.{wholes_are_decimals}
+use Rattle.segment_lang.proofs.values.Decimals.{wholes_are_decimals}
 use Rattle.segment_lang.proofs.theorems.wholes_are_decimals.Goals as goal
 
 pub returns : goal.returns

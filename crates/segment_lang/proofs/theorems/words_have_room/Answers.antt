@@ -1,4 +1,4 @@
-use Rattle.segment_lang.proofs.WordRoom.{words_room}
+use Rattle.segment_lang.proofs.words.Lengths.{words_room}
 use Rattle.segment_lang.proofs.theorems.words_have_room.Goals as goal
 
 pub returns : goal.returns

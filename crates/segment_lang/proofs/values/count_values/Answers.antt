@@ -1,5 +1,5 @@
 use Rattle.std.proofs.Common.{arith, sym, ◌∙◌, cond, ap, Some, None}
-use Rattle.segment_lang.proofs.ArrayValues.{count-end, count-more, count-none}
+use Rattle.segment_lang.proofs.values.Arrays.{count-end, count-more, count-none}
 use Rattle.segment_lang.proofs.values.count_values.Goals as goal
 
 pub returns-in_err-scalar_of : goal.returns-in_err-scalar_of

@@ -1,4 +1,4 @@
-use Rattle.segment_lang.proofs.WordList.{behind_front}
+use Rattle.segment_lang.proofs.words.AllWords.{behind_front}
 use Rattle.segment_lang.proofs.words.next_word.Goals as goal
 
 pub returns-clause-shrinking : goal.returns-clause-shrinking

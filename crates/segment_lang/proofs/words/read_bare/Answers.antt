@@ -1,5 +1,5 @@
 use Rattle.std.proofs.Common.{sym}
-use Rattle.segment_lang.proofs.BareWords.{front_is_none, front_is_word, word_and_rest}
+use Rattle.segment_lang.proofs.words.BareWords.{front_is_none, front_is_word, word_and_rest}
 use Rattle.segment_lang.proofs.words.read_bare.Goals as goal
 
 pub returns-then-not-ends_word-clause-value : goal.returns-then-not-ends_word-clause-value

@@ -1,6 +1,6 @@
 use Rattle.std.proofs.Common.{sym, ◌∙◌, arith}
-use Rattle.segment_lang.proofs.TextItems.{behind_text-end, text_at-none, text_at-some}
-use Rattle.segment_lang.proofs.TextSpelling.{text_length}
+use Rattle.segment_lang.proofs.texts.Items.{behind_text-end, text_at-none, text_at-some}
+use Rattle.segment_lang.proofs.texts.Spelling.{text_length}
 use Rattle.segment_lang.proofs.words.read_text.Goals as goal
 
 pub returns-in_err-rest-clause-value : goal.returns-in_err-rest-clause-value

@@ -1,5 +1,5 @@
 use Rattle.std.proofs.Common.{sym, ◌∙◌, arith}
-use Rattle.segment_lang.proofs.TextItems.{behind_text-item}
+use Rattle.segment_lang.proofs.texts.Items.{behind_text-item}
 use Rattle.segment_lang.proofs.words.skip_items.Goals as goal
 
 pub items-preserved : goal.items-preserved

@@ -1,5 +1,5 @@
 -- The law is the lemma.
-use Rattle.segment_manager.proofs.Unchanged.{step-reads, step_of_kind-reads}
+use Rattle.segment_manager.proofs.directory.Unchanged.{step-reads, step_of_kind-reads}
 use Rattle.segment_manager.proofs.theorems.reads_change_nothing.Goals as goal
 
 pub returns : goal.returns

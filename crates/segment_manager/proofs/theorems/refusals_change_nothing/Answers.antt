@@ -1,5 +1,6 @@
 -- The law, by the plans of the commands.
-use Rattle.segment_manager.proofs.Refusals.{step-refused, step_of_kind-refused, step-read_only, step_of_kind-read_only}
+use Rattle.segment_manager.proofs.directory.Refusals.{step-refused, step_of_kind-refused, step-read_only}
+use Rattle.segment_manager.proofs.directory.Refusals.{step_of_kind-read_only}
 use Rattle.segment_manager.proofs.theorems.refusals_change_nothing.Goals as goal
 
 pub returns : goal.returns

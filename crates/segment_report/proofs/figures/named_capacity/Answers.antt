@@ -1,6 +1,6 @@
 use Rattle.std.proofs.Common.{ap, ◌∙◌, arith, ℕ, List}
 use Rattle.raw_region.specs.Memory.{bytes_of, word_at}
-use Rattle.segment_report.proofs.Stated.{header-inside, named-places}
+use Rattle.segment_report.proofs.figures.Figures.{header-inside, named-places}
 use Rattle.segment_report.proofs.figures.named_capacity.Goals as goal
 
 pub word_in-requires : goal.word_in-requires

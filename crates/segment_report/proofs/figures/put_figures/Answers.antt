@@ -2,8 +2,8 @@ use Rattle.segment_manager.specs.Directory.{Directory}
 use Rattle.segment_report.specs.Objects.{object_tally_of}
 use Rattle.segment_report.specs.Stat.{figures_text}
 use Rattle.segment_report.specs.Usages.{tally_of}
-use Rattle.segment_report.proofs.Stated.{figures-are}
-use Rattle.segment_report.proofs.Telling.{tells-text}
+use Rattle.segment_report.proofs.figures.Figures.{figures-are}
+use Rattle.segment_report.proofs.page.Output.{tells-text}
 use Rattle.segment_report.proofs.figures.put_figures.Goals as goal
 
 pub returns : goal.returns

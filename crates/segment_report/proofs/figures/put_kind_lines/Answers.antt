@@ -1,4 +1,4 @@
-use Rattle.segment_report.proofs.Stated.{kind-cut}
+use Rattle.segment_report.proofs.figures.Figures.{kind-cut}
 use Rattle.segment_report.proofs.figures.put_kind_lines.Goals as goal
 
 pub returns-in_err-put_kind : goal.returns-in_err-put_kind

@@ -6,8 +6,8 @@ use Rattle.segment_manager.specs.Directory.{Directory}
 use Rattle.segment_report.specs.Objects.{count_of_kind, object_tally_of}
 use Rattle.segment_report.specs.Stat.{counted_line, figures_text, kinds_text}
 use Rattle.segment_report.specs.Usages.{tally_of}
-use Rattle.segment_report.proofs.Stated.{kinds-are}
-use Rattle.segment_report.proofs.Telling.{tells-cut, tells-text, tells-then}
+use Rattle.segment_report.proofs.figures.Figures.{kinds-are}
+use Rattle.segment_report.proofs.page.Output.{tells-cut, tells-text, tells-then}
 use Rattle.segment_report.proofs.figures.stat.Goals as goal
 
 pub returns-in_err-put_figures : goal.returns-in_err-put_figures

@@ -2,7 +2,7 @@ use Rattle.std.proofs.Common.{◌≡◌, ◌∙◌, Some, None, slice_get, sym, 
 use Rattle.segment_manager.specs.Directory.{Directory}
 use Rattle.segment_manager.specs.indexes.Iterating.{names_of}
 use Rattle.segment_manager.specs.State.{SegmentState, DenotesCurrent}
-use Rattle.segment_report.proofs.ListedNames.{IsListed, listed-all, listed-cut, listed-more, none_listed}
+use Rattle.segment_report.proofs.page.Names.{ListsFirstNames, listed-all, listed-cut, listed-more, none_listed}
 use Rattle.segment_report.proofs.names.put_names.Goals as goal
 
 pub names-init : goal.names-init
@@ -15,7 +15,7 @@ names-init g c =
       finite = tt;
       segment = ap (λ w. w.segment) same;
       told =
-          subst (λ n. IsListed s.cut.bytes old old c.args.prefix.now c.args.most c.args.most n)
+          subst (λ n. ListsFirstNames s.cut.bytes old old c.args.prefix.now c.args.most c.args.most n)
           (sym (ap (λ w. w.at) same))
           (none_listed s.cut.bytes old c.args.prefix.now c.args.most);
     }
@@ -52,7 +52,8 @@ names-preserved g c =
       finite = tt;
       segment = steps.segment ∙ c.names.invariant.segment;
       told =
-          subst (λ n. IsListed s.cut.bytes old new c.args.prefix.now c.args.most c.in_ok-left.left n) (sym steps.place)
+          subst (λ n. ListsFirstNames s.cut.bytes old new c.args.prefix.now c.args.most c.in_ok-left.left n)
+          (sym steps.place)
           (listed-more s old (g.W.Sink.history c.names.out) new c.args.prefix.now c.args.most c.names.left walk.at
           c.names.invariant.told
           c.in-Some.name.now next _ c.in_ok-left.left c.in_ok-left.ensures.remainder c.in_ok-left.ensures.output);

@@ -2,7 +2,7 @@ use Rattle.std.proofs.Common.{◌≡◌, ◌≤◌, length, sym, ap, subst, ◌�
 use Rattle.segment_manager.specs.Directory.{Directory}
 use Rattle.segment_manager.specs.objects.Instances.{SaysAt}
 use Rattle.segment_manager.specs.State.{IsSegment, SegmentState, DenotesCurrent}
-use Rattle.segment_report.proofs.CountedObjects.{AreCounted, no_objects, objects-all, objects-more, objects-room}
+use Rattle.segment_report.proofs.figures.Objects.{AreCounted, no_objects, objects-all, objects-more, objects-room}
 use Rattle.segment_report.proofs.objects.tally_objects.Goals as goal
 
 pub objects-init : goal.objects-init

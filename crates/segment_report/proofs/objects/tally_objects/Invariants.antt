@@ -1,6 +1,6 @@
 -- What was counted is the objects that came.
 use Rattle.std.proofs.Common.{◌≡◌}
-use Rattle.segment_report.proofs.CountedObjects.{AreCounted}
+use Rattle.segment_report.proofs.figures.Objects.{AreCounted}
 use Rattle.segment_report.proofs.objects.tally_objects.Given as goal
 
 abbrev pub invariant-objects : goal.invariant-objects

@@ -1,7 +1,7 @@
 use Rattle.std.proofs.Common.{◌++◌}
 use Rattle.segment_manager.specs.Directory.{Directory}
 use Rattle.segment_report.specs.Page.{figures_part, objects_part, picture_part}
-use Rattle.segment_report.proofs.Telling.{tells-cut, tells-then}
+use Rattle.segment_report.proofs.page.Output.{tells-cut, tells-then}
 use Rattle.segment_report.proofs.page.draw_page.Goals as goal
 
 pub returns-in_err-put_picture : goal.returns-in_err-put_picture

@@ -1,7 +1,7 @@
 use Rattle.std.proofs.Common.{◌++◌, refl}
 use Rattle.segment_manager.specs.Directory.{Directory}
 use Rattle.segment_report.specs.Page.{page_end, rows_text, table_head}
-use Rattle.segment_report.proofs.Telling.{tells-cut, tells-text, tells-then}
+use Rattle.segment_report.proofs.page.Output.{tells-cut, tells-text, tells-then}
 use Rattle.segment_report.proofs.page.put_objects.Goals as goal
 
 pub returns-in_err-put_table_head : goal.returns-in_err-put_table_head

@@ -2,7 +2,7 @@ use Rattle.std.proofs.Common.{refl}
 use Rattle.segment_manager.specs.Directory.{Directory}
 use Rattle.segment_report.specs.Page.{page_head}
 use Rattle.segment_report.specs.Picture.{picture_of}
-use Rattle.segment_report.proofs.Telling.{tells-cut, tells-text, tells-then}
+use Rattle.segment_report.proofs.page.Output.{tells-cut, tells-text, tells-then}
 use Rattle.segment_report.proofs.page.put_picture.Goals as goal
 
 pub returns-in_err-put_head : goal.returns-in_err-put_head

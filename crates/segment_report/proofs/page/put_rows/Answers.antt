@@ -3,8 +3,8 @@ use Rattle.segment_manager.specs.Directory.{Directory}
 use Rattle.segment_manager.specs.objects.Instances.{SaysAt}
 use Rattle.segment_manager.specs.State.{SegmentState, DenotesCurrent}
 use Rattle.segment_report.specs.Page.{instance_row, object_row}
-use Rattle.segment_report.proofs.Rows.{row-next}
-use Rattle.segment_report.proofs.Telling.{IsTold, none_told, told-all, told-cut, told-more, tells-text}
+use Rattle.segment_report.proofs.page.ObjectRow.{row-next}
+use Rattle.segment_report.proofs.page.Output.{IsTold, none_told, told-all, told-cut, told-more, tells-text}
 use Rattle.segment_report.proofs.page.put_rows.Goals as goal
 
 pub objects-init : goal.objects-init

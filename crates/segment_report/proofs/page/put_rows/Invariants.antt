@@ -2,7 +2,7 @@
 use Rattle.std.proofs.Common.{◌≡◌}
 use Rattle.segment_manager.specs.Directory.{Directory}
 use Rattle.segment_report.specs.Page.{object_row}
-use Rattle.segment_report.proofs.Telling.{IsTold}
+use Rattle.segment_report.proofs.page.Output.{IsTold}
 use Rattle.segment_report.proofs.page.put_rows.Given as goal
 
 abbrev pub invariant-objects : goal.invariant-objects

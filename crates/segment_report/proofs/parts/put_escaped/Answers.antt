@@ -1,5 +1,5 @@
 use Rattle.segment_report.specs.Parts.{xml_text}
-use Rattle.segment_report.proofs.Escapes.{cut-written}
+use Rattle.segment_report.proofs.picture.Escapes.{cut-written}
 use Rattle.segment_report.proofs.parts.put_escaped.Goals as goal
 
 pub returns-in_err-put_byte : goal.returns-in_err-put_byte

@@ -1,6 +1,6 @@
 use Rattle.std.proofs.Common.{drop}
 use Rattle.segment_report.specs.Parts.{xml_text}
-use Rattle.segment_report.proofs.Escapes.{IsWritten}
+use Rattle.segment_report.proofs.picture.Escapes.{IsWritten}
 use Rattle.segment_report.proofs.parts.put_escaped.Given as goal
 
 abbrev pub invariant-bytes : goal.invariant-bytes

@@ -1,7 +1,7 @@
 use Rattle.std.proofs.Common.{◌++◌}
 use Rattle.segment_manager.specs.Directory.{Directory}
 use Rattle.segment_report.specs.Picture.{end_text, front_text, spans_text}
-use Rattle.segment_report.proofs.Telling.{tells-cut, tells-then}
+use Rattle.segment_report.proofs.page.Output.{tells-cut, tells-then}
 use Rattle.segment_report.proofs.picture.draw.Goals as goal
 
 pub returns-in_err-put_front : goal.returns-in_err-put_front

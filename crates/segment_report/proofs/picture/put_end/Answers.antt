@@ -2,8 +2,8 @@ use Rattle.std.proofs.Common.{◌-◌, List, ℕ, refl, arith}
 use Rattle.std.specs.Prelude.{codes}
 use Rattle.segment_manager.specs.Directory.{Directory}
 use Rattle.segment_report.specs.Picture.{bytes_in_row, close_text, shape_text}
-use Rattle.segment_report.proofs.Drawn.{end-same, has_size}
-use Rattle.segment_report.proofs.Telling.{tells-cut, tells-text, tells-then}
+use Rattle.segment_report.proofs.picture.Blocks.{end-same, has_size}
+use Rattle.segment_report.proofs.page.Output.{tells-cut, tells-text, tells-then}
 use Rattle.segment_report.proofs.picture.put_end.Goals as goal
 
 pub overflow_sub-size_of : goal.overflow_sub-size_of

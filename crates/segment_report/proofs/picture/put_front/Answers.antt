@@ -3,8 +3,8 @@ use Rattle.std.specs.Prelude.{codes}
 use Rattle.best_fit.specs.Extents.{free_bytes}
 use Rattle.segment_manager.specs.Directory.{Directory, live}
 use Rattle.segment_report.specs.Picture.{bytes_in_row, head_text, shape_text}
-use Rattle.segment_report.proofs.Drawn.{head-same}
-use Rattle.segment_report.proofs.Telling.{tells-cut, tells-text, tells-then}
+use Rattle.segment_report.proofs.picture.Blocks.{head-same}
+use Rattle.segment_report.proofs.page.Output.{tells-cut, tells-text, tells-then}
 use Rattle.segment_report.proofs.picture.put_front.Goals as goal
 
 pub returns-in_err-put_head : goal.returns-in_err-put_head

@@ -2,8 +2,8 @@ use Rattle.std.proofs.Common.{◌+◌}
 use Rattle.seg_types.specs.Names.{ByHandle}
 use Rattle.segment_manager.specs.Directory.{Directory, object_at}
 use Rattle.segment_report.specs.Picture.{called, label_text, object_label}
-use Rattle.segment_report.proofs.Drawn.{label-said}
-use Rattle.segment_report.proofs.Telling.{tells-text}
+use Rattle.segment_report.proofs.picture.Blocks.{label-said}
+use Rattle.segment_report.proofs.page.Output.{tells-text}
 use Rattle.segment_report.proofs.picture.put_object.Goals as goal
 
 pub returns : goal.returns

@@ -3,9 +3,9 @@ use Rattle.best_fit.specs.Extents.{spans}
 use Rattle.best_fit.specs.FreeTree.{span}
 use Rattle.segment_manager.specs.Directory.{Directory, live}
 use Rattle.segment_report.specs.Picture.{object_in, object_label, shape_text, sort_of, span_text}
-use Rattle.segment_report.proofs.Counts.{end_is, ends_by_size, next_is, tile_stands}
-use Rattle.segment_report.proofs.Drawn.{has-owner, lies-in, next-text}
-use Rattle.segment_report.proofs.Telling.{told-all, told-cut, told-more}
+use Rattle.segment_report.proofs.figures.Counts.{end_is, ends_by_size, next_is, tile_stands}
+use Rattle.segment_report.proofs.picture.Blocks.{has-owner, lies-in, next-text}
+use Rattle.segment_report.proofs.page.Output.{told-all, told-cut, told-more}
 use Rattle.segment_report.proofs.picture.put_spans.Goals as goal
 
 pub put_tile-requires-clause-non_empty : goal.put_tile-requires-clause-non_empty

@@ -2,7 +2,7 @@ use Rattle.best_fit.specs.Extents.{spans}
 use Rattle.segment_manager.specs.Calls.{IsTileOfIndex}
 use Rattle.segment_manager.specs.Directory.{Directory, live}
 use Rattle.segment_report.specs.Picture.{span_text}
-use Rattle.segment_report.proofs.Telling.{IsTold}
+use Rattle.segment_report.proofs.page.Output.{IsTold}
 use Rattle.segment_report.proofs.picture.put_spans.Given as goal
 
 abbrev pub invariant-tiles : goal.invariant-tiles

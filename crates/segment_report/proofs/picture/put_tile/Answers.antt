@@ -1,7 +1,7 @@
 use Rattle.std.proofs.Common.{ap}
 use Rattle.segment_manager.specs.Directory.{Directory}
 use Rattle.segment_report.specs.Picture.{object_in, object_label, shape_text, sort_of}
-use Rattle.segment_report.proofs.Telling.{tells-cut, tells-text, tells-then}
+use Rattle.segment_report.proofs.page.Output.{tells-cut, tells-text, tells-then}
 use Rattle.segment_report.proofs.picture.put_tile.Goals as goal
 
 pub returns-in_err-put_shape : goal.returns-in_err-put_shape

@@ -1,7 +1,7 @@
 use Rattle.std.proofs.Common.{ap, ◌∙◌}
 use Rattle.segment_report.specs.Picture.{bytes_in_row}
-use Rattle.segment_report.proofs.Drawn.{has_size}
-use Rattle.segment_report.proofs.Replies.{size_is}
+use Rattle.segment_report.proofs.picture.Blocks.{has_size}
+use Rattle.segment_report.proofs.figures.Replies.{size_is}
 use Rattle.segment_report.proofs.picture.scale_of.Goals as goal
 
 pub of-requires : goal.of-requires

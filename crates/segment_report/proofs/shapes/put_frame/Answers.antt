@@ -1,7 +1,7 @@
 use Rattle.std.proofs.Common.{subst, ap, ◌∙◌}
 use Rattle.raw_region.specs.Device.{Writes}
 use Rattle.segment_report.specs.Picture.{frame_at}
-use Rattle.segment_report.proofs.Shaped.{AreCorners, framed}
+use Rattle.segment_report.proofs.picture.Shapes.{AreCorners, framed}
 use Rattle.segment_report.proofs.shapes.put_frame.Goals as goal
 
 pub returns : goal.returns

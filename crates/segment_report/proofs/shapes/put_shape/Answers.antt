@@ -1,6 +1,6 @@
 use Rattle.std.proofs.Common.{subst}
 use Rattle.raw_region.specs.Device.{Writes}
-use Rattle.segment_report.proofs.Shaped.{AreCorners, many-rows, one-row}
+use Rattle.segment_report.proofs.picture.Shapes.{AreCorners, many-rows, one-row}
 use Rattle.segment_report.proofs.shapes.put_shape.Goals as goal
 
 pub returns-then-corners : goal.returns-then-corners

@@ -1,7 +1,8 @@
 use Rattle.std.proofs.Common.{sym, subst, ◌∙◌, ◌+◌}
 use Rattle.best_fit.specs.FreeTree.{span}
-use Rattle.segment_report.proofs.Counts.{HasRoom, IsCounted, counted-all, counts-more, end_is, ends_by_size, has_room}
-use Rattle.segment_report.proofs.Counts.{next_is, tile_stands}
+use Rattle.segment_report.proofs.figures.Counts.{HasRoom, IsCounted, counted-all, counts-more, end_is, ends_by_size}
+use Rattle.segment_report.proofs.figures.Counts.{has_room}
+use Rattle.segment_report.proofs.figures.Counts.{next_is, tile_stands}
 use Rattle.segment_report.proofs.tallies.tally_blocks.Goals as goal
 
 pub next_tile-ahead-requires : goal.next_tile-ahead-requires

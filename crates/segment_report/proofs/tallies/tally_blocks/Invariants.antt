@@ -1,5 +1,5 @@
 use Rattle.segment_manager.specs.Calls.{IsTileOfIndex}
-use Rattle.segment_report.proofs.Counts.{IsCounted}
+use Rattle.segment_report.proofs.figures.Counts.{IsCounted}
 use Rattle.segment_report.proofs.tallies.tally_blocks.Given as goal
 
 abbrev pub invariant-tiles : goal.invariant-tiles

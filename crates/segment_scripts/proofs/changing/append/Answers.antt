@@ -3,7 +3,7 @@ use Rattle.seg_types.specs.declared.kinds.Kind.TheVariants.{String}
 use Rattle.seg_types.specs.Commands.{Append}
 use Rattle.seg_types.specs.Keys.{key_seen}
 use Rattle.segment_manager.specs.State.{TakesStepOfKind, done_answer}
-use Rattle.segment_scripts.proofs.ElementCalls.{append-steps}
+use Rattle.segment_scripts.proofs.changing.Elements.{append-steps}
 use Rattle.segment_scripts.proofs.changing.append.Goals as goal
 
 pub returns-clause-step : goal.returns-clause-step

@@ -3,7 +3,7 @@ use Rattle.seg_types.specs.Commands.{Assign}
 use Rattle.seg_types.specs.Keys.{key_seen}
 use Rattle.segment_manager.proofs.CommandLaws.{assign-unchangeable, handle-to-change}
 use Rattle.segment_manager.proofs.Laws.{step-by_key}
-use Rattle.segment_scripts.proofs.ElementCalls.{assign-neither}
+use Rattle.segment_scripts.proofs.changing.Elements.{assign-neither}
 use Rattle.segment_values.proofs.Exits.{exit-is}
 use Rattle.segment_scripts.proofs.changing.assign.Goals as goal
 

@@ -3,7 +3,7 @@ use Rattle.seg_types.specs.declared.kinds.Kind.TheVariants.{Vector}
 use Rattle.seg_types.specs.Commands.{Assign, literal_of}
 use Rattle.seg_types.specs.Names.{ByHandle}
 use Rattle.segment_manager.specs.State.{TakesStepOfKind, done_answer}
-use Rattle.segment_scripts.proofs.ElementCalls.{assign-no_values, assign-read}
+use Rattle.segment_scripts.proofs.changing.Elements.{assign-no_values, assign-read}
 use Rattle.segment_values.proofs.Exits.{exit-is}
 use Rattle.segment_scripts.proofs.changing.assign_row.Goals as goal
 

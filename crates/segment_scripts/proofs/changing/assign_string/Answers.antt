@@ -1,4 +1,4 @@
-use Rattle.segment_scripts.proofs.ElementCalls.{no_text-refused, text-read}
+use Rattle.segment_scripts.proofs.changing.Elements.{no_text-refused, text-read}
 use Rattle.segment_values.proofs.Exits.{exit-is}
 use Rattle.segment_scripts.proofs.changing.assign_string.Goals as goal
 

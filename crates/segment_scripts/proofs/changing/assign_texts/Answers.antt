@@ -1,6 +1,6 @@
 use Rattle.seg_types.specs.Names.{ByHandle}
 use Rattle.segment_manager.specs.State.{done_answer}
-use Rattle.segment_scripts.proofs.TextElements.{assign-no_texts, assign-texts}
+use Rattle.segment_scripts.proofs.changing.Texts.{assign-no_texts, assign-texts}
 use Rattle.segment_values.proofs.Exits.{exit-is}
 use Rattle.segment_scripts.proofs.changing.assign_texts.Goals as goal
 

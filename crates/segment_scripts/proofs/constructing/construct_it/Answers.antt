@@ -8,8 +8,8 @@ use Rattle.seg_types.specs.Values.{kind_of_scalar, value_of_scalar}
 use Rattle.segment_lang.specs.Arguments.{scalars_in}
 use Rattle.segment_manager.specs.objects.NewObjects.{IsOfItsKind}
 use Rattle.segment_manager.specs.objects.Items.{ConstructsFromItems}
-use Rattle.segment_scripts.proofs.ArrayCalls.{all-refused, all-step, taken-kind}
-use Rattle.segment_scripts.proofs.NewKinds.{array_kind}
+use Rattle.segment_scripts.proofs.values.Arrays.{all-refused, all-step, taken-kind}
+use Rattle.segment_scripts.proofs.values.Keys.{array_kind}
 use Rattle.segment_scripts.proofs.constructing.construct_it.Goals as goal
 
 pub construct_values-requires-clause-kind : goal.construct_values-requires-clause-kind

@@ -2,7 +2,7 @@ use Rattle.std.proofs.Common.{◌∙◌, ap, map, subst}
 use Rattle.seg_types.specs.Commands.{Construct, Strings}
 use Rattle.seg_types.specs.Keys.{new_key_seen}
 use Rattle.segment_manager.specs.State.{TakesStep, handle_answer}
-use Rattle.segment_scripts.proofs.NewKinds.{strings_kind}
+use Rattle.segment_scripts.proofs.values.Keys.{strings_kind}
 use Rattle.segment_scripts.proofs.constructing.construct_texts.Goals as goal
 
 pub construct_texts-requires : goal.construct_texts-requires

@@ -2,9 +2,9 @@ use Rattle.std.proofs.Common.{sym, ◌∙◌}
 use Rattle.best_fit.specs.Extents.{spans}
 use Rattle.segment_manager.specs.Directory.{live}
 use Rattle.segment_scripts.specs.Answer.{block_words}
-use Rattle.segment_scripts.proofs.BlockLines.{IsEnd, end_is, ends_by_size, next_line, next_within, tile_stands}
-use Rattle.segment_scripts.proofs.Listings.{listing-cut, listing-done, listing-more, line_part}
-use Rattle.segment_scripts.proofs.Owed.{of-start}
+use Rattle.segment_scripts.proofs.listing.Blocks.{IsEnd, end_is, ends_by_size, next_line, next_within, tile_stands}
+use Rattle.segment_scripts.proofs.listing.Lines.{listing-cut, listing-done, listing-more, line_part}
+use Rattle.segment_scripts.proofs.listing.Output.{of-start}
 use Rattle.segment_scripts.proofs.listing.put_blocks.Goals as goal
 use Rattle.segment_scripts.proofs.listing.put_blocks.Goals.{else-tiles-test, then-tiles-test+in_default}
 

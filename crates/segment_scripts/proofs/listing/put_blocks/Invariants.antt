@@ -6,7 +6,7 @@ use Rattle.segment_manager.proofs.PartLaws.{well}
 use Rattle.segment_scripts.specs.Answer.{block_words}
 use Rattle.segment_scripts.specs.Parts.{parts_until}
 use Rattle.segment_scripts.specs.Writing.{WritesFor}
-use Rattle.segment_scripts.proofs.Listings.{line_part}
+use Rattle.segment_scripts.proofs.listing.Lines.{line_part}
 use Rattle.segment_scripts.proofs.listing.put_blocks.Given as goal
 
 abbrev pub invariant-tiles : goal.invariant-tiles

@@ -7,10 +7,10 @@ use Rattle.seg_types.specs.Values.{kind_of_scalar, value_of_scalar}
 use Rattle.segment_manager.specs.Answers.{Element, Refused}
 use Rattle.segment_manager.specs.State.{scalar_answer}
 use Rattle.segment_manager.proofs.Laws.{located-steps, step-same}
-use Rattle.segment_scripts.proofs.Answering.{keeps-refused, kept-refused}
+use Rattle.segment_scripts.proofs.segments.CommandSteps.{keeps-refused, kept-refused}
 use Rattle.segment_manager.proofs.CommandLaws.{handle-to-change, pop-no_vector, pop-unchangeable}
-use Rattle.segment_scripts.proofs.Refusals.{answers-owed, answers-same}
-use Rattle.segment_scripts.proofs.TextElements.{executes-by_key, executes-step, step-answers}
+use Rattle.segment_scripts.proofs.segments.Refusals.{answers-owed, answers-same}
+use Rattle.segment_scripts.proofs.changing.Texts.{executes-by_key, executes-step, step-answers}
 use Rattle.segment_scripts.proofs.popping.pop.Goals as goal
 
 pub returns-in-Err-clause-execution : goal.returns-in-Err-clause-execution

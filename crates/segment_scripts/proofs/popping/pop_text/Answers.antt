@@ -5,8 +5,8 @@ use Rattle.seg_types.specs.Names.{ByHandle}
 use Rattle.segment_manager.specs.State.{refusal_in}
 use Rattle.segment_manager.proofs.Laws.{of_kind-leads_on}
 use Rattle.segment_scripts.specs.Replies.{text_at}
-use Rattle.segment_scripts.proofs.Refusals.{answers-same}
-use Rattle.segment_scripts.proofs.TextElements.{executes-leading, pop-text}
+use Rattle.segment_scripts.proofs.segments.Refusals.{answers-same}
+use Rattle.segment_scripts.proofs.changing.Texts.{executes-leading, pop-text}
 use Rattle.segment_scripts.proofs.popping.pop_text.Goals as goal
 
 pub returns-clause-execution : goal.returns-clause-execution

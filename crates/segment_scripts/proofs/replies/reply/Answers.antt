@@ -4,16 +4,18 @@ use Rattle.seg_types.specs.Commands.{AllDeallocated, Find, Free, Lookup, NumName
 use Rattle.seg_types.specs.Keys.{index_key_seen, key_seen}
 use Rattle.segment_lang.specs.Seen.{deed_of, content_of, literal_of}
 use Rattle.segment_manager.specs.Answers.{Done, Made, Number, Truth}
-use Rattle.segment_manager.specs.objects.Found.{found_answer, pair_found}
+use Rattle.segment_manager.specs.objects.Found.{found_answer, found_object}
 use Rattle.segment_manager.specs.containers.Maps.{any_value_answer}
 use Rattle.segment_manager.specs.State.{AnswersQuery}
 use Rattle.segment_scripts.specs.declared.replies.CommandAnswer.TheVariants as said
-use Rattle.segment_scripts.proofs.Answering.{keeps-refused, replies-as, replies-blocks, replies-command, replies-found}
-use Rattle.segment_scripts.proofs.Answering.{replies-info}
-use Rattle.segment_scripts.proofs.Answering.{has-found, lacks-found, named-found, places-found, unique-found}
-use Rattle.segment_scripts.proofs.Answering.{replies-kinds, replies-names, replies-read, replies-show}
+use Rattle.segment_scripts.proofs.segments.CommandSteps.{keeps-refused, replies-as, replies-blocks, replies-command}
+use Rattle.segment_scripts.proofs.segments.CommandSteps.{replies-found}
+use Rattle.segment_scripts.proofs.segments.CommandSteps.{replies-info}
+use Rattle.segment_scripts.proofs.segments.CommandSteps.{has-found, lacks-found, named-found, places-found}
+use Rattle.segment_scripts.proofs.segments.CommandSteps.{unique-found}
+use Rattle.segment_scripts.proofs.segments.CommandSteps.{replies-kinds, replies-names, replies-read, replies-show}
 use Rattle.segment_scripts.specs.Replies.{IsMeant}
-use Rattle.segment_scripts.proofs.TextElements.{has-room}
+use Rattle.segment_scripts.proofs.changing.Texts.{has-room}
 use Rattle.segment_scripts.proofs.replies.reply.Goals as goal
 
 pub returns-in-Construct : goal.returns-in-Construct
@@ -34,7 +36,7 @@ returns-in-Find c = replies-as c.in-Find.is
 
 pub returns-in-FindOrConstruct : goal.returns-in-FindOrConstruct
 returns-in-FindOrConstruct c =
-    replies-found c.in-FindOrConstruct.is pair_found (λ _.
+    replies-found c.in-FindOrConstruct.is found_object (λ _.
     refl) c.find_or_construct.result refl refl c.found.ensures c.find_or_construct.ensures.step
     c.find_or_construct.ensures.refused
     (has-found (index_key_seen c.in-FindOrConstruct.key) (content_of c.in-FindOrConstruct.content)

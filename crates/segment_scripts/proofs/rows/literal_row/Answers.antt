@@ -4,8 +4,8 @@ use Rattle.seg_types.specs.Commands.{value_of_literal}
 use Rattle.seg_types.specs.Kinds.{is_value}
 use Rattle.seg_types.specs.Values.{value_of_scalar}
 use Rattle.segment_lang.specs.Seen.{literal_of}
-use Rattle.segment_scripts.proofs.RowValues.{IsRead, next-literal, no-literal, read-all, read-out, read-passed}
-use Rattle.segment_scripts.proofs.RowValues.{read-past, read-value, read-wrong, value-fits}
+use Rattle.segment_scripts.proofs.values.Rows.{IsRead, next-literal, no-literal, read-all, read-out, read-passed}
+use Rattle.segment_scripts.proofs.values.Rows.{read-past, read-value, read-wrong, value-fits}
 use Rattle.segment_scripts.proofs.rows.literal_row.Goals as goal
 
 pub push-requires : goal.push-requires

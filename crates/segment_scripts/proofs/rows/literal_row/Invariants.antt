@@ -1,4 +1,4 @@
-use Rattle.segment_scripts.proofs.RowValues.{IsRead}
+use Rattle.segment_scripts.proofs.values.Rows.{IsRead}
 use Rattle.segment_scripts.proofs.rows.literal_row.Given as goal
 
 abbrev pub invariant-literals : goal.invariant-literals

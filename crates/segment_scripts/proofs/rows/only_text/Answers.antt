@@ -1,6 +1,6 @@
 use Rattle.std.proofs.Common.{ap, ◌∙◌, ◌∷◌}
 use Rattle.segment_lang.specs.Seen.{literal_of}
-use Rattle.segment_scripts.proofs.RowValues.{next-literal, text-fits}
+use Rattle.segment_scripts.proofs.values.Rows.{next-literal, text-fits}
 use Rattle.segment_scripts.proofs.rows.only_text.Goals as goal
 
 pub bytes-requires : goal.bytes-requires

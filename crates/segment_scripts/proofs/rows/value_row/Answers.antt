@@ -1,6 +1,6 @@
 use Rattle.std.proofs.Common.{◌≡◌, [], sym, subst, rules}
 use Rattle.segment_lang.specs.Arguments.{TypedNumbers}
-use Rattle.segment_scripts.proofs.RowValues.{IsFilled, filled-none}
+use Rattle.segment_scripts.proofs.values.Rows.{IsFilled, filled-none}
 use Rattle.segment_scripts.proofs.rows.value_row.Goals as goal
 
 pub values-init : goal.values-init

@@ -1,4 +1,4 @@
-use Rattle.segment_scripts.proofs.RowValues.{IsFilled}
+use Rattle.segment_scripts.proofs.values.Rows.{IsFilled}
 use Rattle.segment_scripts.proofs.rows.value_row.Given as goal
 
 abbrev pub invariant-values : goal.invariant-values

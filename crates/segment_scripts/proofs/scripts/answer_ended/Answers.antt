@@ -1,7 +1,7 @@
 use Rattle.std.proofs.Common.{sym, subst, ◌∙◌, ℕ, List}
 use Rattle.raw_region.specs.Device.{Writes}
 use Rattle.segment_scripts.specs.Refusing.{Tells}
-use Rattle.segment_scripts.proofs.RunLaws.{whole_line}
+use Rattle.segment_scripts.proofs.runs.AnswersSoFar.{whole_line}
 use Rattle.segment_scripts.proofs.scripts.answer_ended.Goals as goal
 
 pub returns-then-is_empty-clause-link_target : goal.returns-then-is_empty-clause-link_target

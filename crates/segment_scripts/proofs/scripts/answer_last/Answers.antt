@@ -1,9 +1,9 @@
 use Rattle.std.proofs.Common.{◌&&◌, ap, sym, ◌∙◌}
 use Rattle.std.proofs.lemmas.Result.{err_from_is_err_and}
 use Rattle.segment_scripts.specs.Stopping.{may_stop, stops_at}
-use Rattle.segment_scripts.proofs.RunLaws.{same_line}
-use Rattle.segment_scripts.proofs.Cuts.{stopped_at_last}
-use Rattle.segment_scripts.proofs.StopLaws.{ends_at_last, same_on, through, through_last}
+use Rattle.segment_scripts.proofs.runs.AnswersSoFar.{same_line}
+use Rattle.segment_scripts.proofs.runs.Stops.{stopped_at_last}
+use Rattle.segment_scripts.proofs.runs.Ends.{ends_at_last, same_on, through, through_last}
 use Rattle.segment_scripts.proofs.scripts.answer_last.Goals as goal
 
 pub returns-in_err-answered-clause-on_error : goal.returns-in_err-answered-clause-on_error

@@ -3,8 +3,8 @@ use Rattle.std.proofs.lemmas.List.{append_assoc}
 use Rattle.std.proofs.lemmas.Result.{err_from_is_err_and}
 use Rattle.segment_scripts.specs.RunProgress.{IsOn}
 use Rattle.segment_scripts.specs.Stopping.{may_stop, stops_at}
-use Rattle.segment_scripts.proofs.LineEnds.{first_end, no_end}
-use Rattle.segment_scripts.proofs.StopLaws.{ends_in, fails_in, on_line, on_open}
+use Rattle.segment_scripts.proofs.runs.LineEnds.{first_end, no_end}
+use Rattle.segment_scripts.proofs.runs.Ends.{ends_in, fails_in, on_line, on_open}
 use Rattle.segment_scripts.proofs.scripts.feed.Goals as goal
 
 pub returns-in_err-answered-clause-on_error : goal.returns-in_err-answered-clause-on_error

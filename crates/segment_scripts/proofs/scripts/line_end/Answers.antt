@@ -1,5 +1,5 @@
 use Rattle.memchr.specs.Find.{is_byte}
-use Rattle.segment_scripts.proofs.LineEnds.{first_place}
+use Rattle.segment_scripts.proofs.runs.LineEnds.{first_place}
 use Rattle.segment_scripts.proofs.scripts.line_end.Goals as goal
 
 pub returns : goal.returns

@@ -3,9 +3,9 @@ use Rattle.std.proofs.lemmas.Bool.{ne_eqb}
 use Rattle.raw_region.specs.Device.{WriterHistory, read_delta, write_delta}
 use Rattle.segment_scripts.specs.RunProgress.{LeavesPiece}
 use Rattle.segment_scripts.specs.Stopping.{stops_at}
-use Rattle.segment_scripts.proofs.Cuts.{since-more, none_failed, one_failed, cut_in, cut_at_limit, beyond_limit}
-use Rattle.segment_scripts.proofs.Cuts.{nothing_yet, on_at_limit, stopped_in}
-use Rattle.segment_scripts.proofs.StopLaws.{on_none}
+use Rattle.segment_scripts.proofs.runs.Stops.{since-more, none_failed, one_failed, cut_in, cut_at_limit, beyond_limit}
+use Rattle.segment_scripts.proofs.runs.Stops.{nothing_yet, on_at_limit, stopped_in}
+use Rattle.segment_scripts.proofs.runs.Ends.{on_none}
 use Rattle.segment_scripts.proofs.scripts.read_lines.Goals as goal
 
 pub pieces-init : goal.pieces-init

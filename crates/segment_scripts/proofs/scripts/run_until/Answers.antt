@@ -3,8 +3,8 @@ use Rattle.raw_region.specs.Device.{read_delta, write_delta}
 use Rattle.segment_scripts.specs.RunProgress.{LeavesEnded}
 use Rattle.segment_scripts.specs.Lines.{ended_lines, open_line, executable}
 use Rattle.segment_scripts.specs.Stopping.{stops_at}
-use Rattle.segment_scripts.proofs.Cuts.{none_failed, one_failed, printed_part, executable-whole, grows_last}
-use Rattle.segment_scripts.proofs.Cuts.{grows_stopped, until_last}
+use Rattle.segment_scripts.proofs.runs.Stops.{none_failed, one_failed, printed_part, executable-whole, grows_last}
+use Rattle.segment_scripts.proofs.runs.Stops.{grows_stopped, until_last}
 use Rattle.segment_scripts.proofs.scripts.run_until.Goals as goal
 
 pub returns-in-Refused-clause-remainder : goal.returns-in-Refused-clause-remainder

@@ -2,8 +2,8 @@ use Rattle.std.proofs.Common.{ap}
 use Rattle.seg_types.specs.declared.refusals.LineError.TheVariants.{BadSyntax}
 use Rattle.segment_lang.specs.Reading.{as_reading}
 use Rattle.segment_lang.specs.Seen.{deed_of}
-use Rattle.segment_scripts.proofs.WrongLines.{responds-wrong}
-use Rattle.segment_scripts.proofs.Zeros.{responds-replied}
+use Rattle.segment_scripts.proofs.segments.RefusedLines.{responds-wrong}
+use Rattle.segment_scripts.proofs.segments.ZeroGaps.{responds-replied}
 use Rattle.segment_scripts.proofs.segments.answer_deed.Goals as goal
 
 pub reply-answer-requires : goal.reply-answer-requires

@@ -4,8 +4,8 @@ use Rattle.seg_types.specs.Commands.{Get}
 use Rattle.seg_types.specs.Keys.{key_seen}
 use Rattle.segment_lang.specs.Reading.{as_reading}
 use Rattle.segment_lang.proofs.Laws.{of_key_number}
-use Rattle.segment_scripts.proofs.WrongLines.{responds-wrong}
-use Rattle.segment_scripts.proofs.Zeros.{responds-read}
+use Rattle.segment_scripts.proofs.segments.RefusedLines.{responds-wrong}
+use Rattle.segment_scripts.proofs.segments.ZeroGaps.{responds-read}
 use Rattle.segment_scripts.proofs.segments.answer_get.Goals as goal
 
 pub returns-in-Some : goal.returns-in-Some

@@ -4,8 +4,8 @@ use Rattle.seg_types.specs.Commands.{Pop}
 use Rattle.seg_types.specs.Keys.{key_seen}
 use Rattle.segment_lang.specs.Reading.{as_reading, key_of}
 use Rattle.segment_lang.proofs.Laws.{of_key}
-use Rattle.segment_scripts.proofs.WrongLines.{responds-wrong}
-use Rattle.segment_scripts.proofs.Zeros.{responds-popped}
+use Rattle.segment_scripts.proofs.segments.RefusedLines.{responds-wrong}
+use Rattle.segment_scripts.proofs.segments.ZeroGaps.{responds-popped}
 use Rattle.segment_scripts.proofs.segments.answer_pop.Goals as goal
 
 pub returns-in-Some : goal.returns-in-Some

@@ -6,10 +6,10 @@ use Rattle.segment_lang.specs.Reading.{as_reading}
 use Rattle.segment_lang.specs.Seen.{literal_of}
 use Rattle.segment_lang.proofs.Laws.{of_key_literal}
 use Rattle.segment_manager.specs.Answers.{Done}
-use Rattle.segment_scripts.proofs.Answering.{replies-plain}
-use Rattle.segment_scripts.proofs.TextElements.{has-room}
-use Rattle.segment_scripts.proofs.WrongLines.{responds-wrong}
-use Rattle.segment_scripts.proofs.Zeros.{responds-replied}
+use Rattle.segment_scripts.proofs.segments.CommandSteps.{replies-plain}
+use Rattle.segment_scripts.proofs.changing.Texts.{has-room}
+use Rattle.segment_scripts.proofs.segments.RefusedLines.{responds-wrong}
+use Rattle.segment_scripts.proofs.segments.ZeroGaps.{responds-replied}
 use Rattle.segment_scripts.proofs.segments.answer_push.Goals as goal
 
 pub add-requires : goal.add-requires

@@ -3,9 +3,9 @@ use Rattle.seg_types.specs.declared.refusals.LineError.TheVariants.{BadSyntax}
 use Rattle.segment_lang.specs.Reading.{as_reading}
 use Rattle.segment_lang.proofs.Laws.{of_putting}
 use Rattle.segment_manager.specs.Answers.{Truth}
-use Rattle.segment_scripts.proofs.Answering.{keeps-refused, replies-plain}
-use Rattle.segment_scripts.proofs.WrongLines.{responds-wrong}
-use Rattle.segment_scripts.proofs.Zeros.{responds-replied}
+use Rattle.segment_scripts.proofs.segments.CommandSteps.{keeps-refused, replies-plain}
+use Rattle.segment_scripts.proofs.segments.RefusedLines.{responds-wrong}
+use Rattle.segment_scripts.proofs.segments.ZeroGaps.{responds-replied}
 use Rattle.segment_scripts.proofs.segments.answer_put.Goals as goal
 
 pub returns-in-Some : goal.returns-in-Some

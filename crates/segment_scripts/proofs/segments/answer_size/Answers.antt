@@ -4,9 +4,9 @@ use Rattle.seg_types.specs.Commands.{Size}
 use Rattle.segment_lang.specs.Reading.{as_reading}
 use Rattle.segment_lang.proofs.Laws.{alone_at_end}
 use Rattle.segment_scripts.specs.declared.answered.Answered.TheVariants.{Done}
-use Rattle.segment_scripts.proofs.Refusals.{tells-once, writes-once}
-use Rattle.segment_scripts.proofs.WrongLines.{responds-wrong}
-use Rattle.segment_scripts.proofs.Zeros.{responds-number}
+use Rattle.segment_scripts.proofs.segments.Refusals.{tells-once, writes-once}
+use Rattle.segment_scripts.proofs.segments.RefusedLines.{responds-wrong}
+use Rattle.segment_scripts.proofs.segments.ZeroGaps.{responds-number}
 use Rattle.segment_scripts.proofs.segments.answer_size.Goals as goal
 
 pub returns-then-not-is_alone : goal.returns-then-not-is_alone

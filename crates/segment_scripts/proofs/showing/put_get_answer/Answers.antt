@@ -5,8 +5,8 @@ use Rattle.seg_types.specs.Names.{ByHandle}
 use Rattle.segment_manager.specs.Calls.{kind_at}
 use Rattle.segment_manager.specs.State.{AnswersWith, scalar_answer}
 use Rattle.segment_manager.proofs.Laws.{kind-by_key, kind-no_texts, located-here, scalars-replies, step-same}
-use Rattle.segment_scripts.proofs.Refusals.{answers-owed, answers-same}
-use Rattle.segment_scripts.proofs.TextElements.{get-missing, get-text}
+use Rattle.segment_scripts.proofs.segments.Refusals.{answers-owed, answers-same}
+use Rattle.segment_scripts.proofs.changing.Texts.{get-missing, get-text}
 use Rattle.segment_scripts.proofs.showing.put_get_answer.Goals as goal
 
 pub returns-in-Strings : goal.returns-in-Strings

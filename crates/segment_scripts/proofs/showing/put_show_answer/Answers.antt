@@ -1,9 +1,9 @@
 use Rattle.seg_types.specs.Keys.{key_seen}
 use Rattle.segment_manager.proofs.Laws.{located-here}
 use Rattle.segment_scripts.specs.declared.answered.Answered.TheVariants.{Done}
-use Rattle.segment_scripts.proofs.Owed.{writes_same}
-use Rattle.segment_scripts.proofs.Refusals.{answers-once, answers-owed}
-use Rattle.segment_scripts.proofs.ShownObjects.{shown-by_key, shown-here, shown-missing}
+use Rattle.segment_scripts.proofs.listing.Output.{writes_same}
+use Rattle.segment_scripts.proofs.segments.Refusals.{answers-once, answers-owed}
+use Rattle.segment_scripts.proofs.listing.Contents.{shown-by_key, shown-here, shown-missing}
 use Rattle.segment_scripts.proofs.showing.put_show_answer.Goals as goal
 
 pub put_value-requires-clause-object : goal.put_value-requires-clause-object

@@ -1,7 +1,7 @@
 use Rattle.seg_types.specs.Names.{ByHandle}
 use Rattle.segment_scripts.specs.declared.answered.Answered.TheVariants.{Done}
-use Rattle.segment_scripts.proofs.Refusals.{answers-owed, tells-once, writes-once}
-use Rattle.segment_scripts.proofs.TextElements.{text-asked}
+use Rattle.segment_scripts.proofs.segments.Refusals.{answers-owed, tells-once, writes-once}
+use Rattle.segment_scripts.proofs.changing.Texts.{text-asked}
 use Rattle.segment_scripts.proofs.showing.put_text_at.Goals as goal
 
 pub returns-in-Ok : goal.returns-in-Ok

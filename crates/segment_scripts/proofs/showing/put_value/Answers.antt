@@ -3,8 +3,8 @@ use Rattle.std.proofs.Common.{refl, [], ◌∷◌, ◌++◌}
 use Rattle.seg_types.specs.Names.{ByHandle}
 use Rattle.segment_values.specs.Layouts.{laid_at}
 use Rattle.segment_scripts.specs.Shown.{front_text, in_line}
-use Rattle.segment_scripts.proofs.Owed.{of-cut, of-then, writes_owed, writes_same}
-use Rattle.segment_scripts.proofs.ShownObjects.{shown-said}
+use Rattle.segment_scripts.proofs.listing.Output.{of-cut, of-then, writes_owed, writes_same}
+use Rattle.segment_scripts.proofs.listing.Contents.{shown-said}
 use Rattle.segment_scripts.proofs.showing.put_value.Goals as goal
 
 pub returns-in_err-put_front : goal.returns-in_err-put_front

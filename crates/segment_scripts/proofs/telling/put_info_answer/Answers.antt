@@ -2,8 +2,8 @@ use Rattle.std.proofs.Common.{ap, sym}
 use Rattle.seg_types.specs.Keys.{key_seen}
 use Rattle.segment_manager.proofs.Laws.{same-object}
 use Rattle.segment_scripts.specs.Replies.{told_of}
-use Rattle.segment_scripts.proofs.ListedObjects.{told-missing}
-use Rattle.segment_scripts.proofs.Refusals.{answers-owed, answers-same}
+use Rattle.segment_scripts.proofs.listing.Objects.{told-missing}
+use Rattle.segment_scripts.proofs.segments.Refusals.{answers-owed, answers-same}
 use Rattle.segment_scripts.proofs.telling.put_info_answer.Goals as goal
 
 pub returns-in-Ok : goal.returns-in-Ok

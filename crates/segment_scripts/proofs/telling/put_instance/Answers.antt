@@ -4,7 +4,7 @@ use Rattle.segment_lang.specs.Pieces.{piece_text}
 use Rattle.segment_lang.specs.Texts.{kind_text, number_text}
 use Rattle.segment_scripts.specs.Answer.{class_words, handle_text, line}
 use Rattle.segment_scripts.specs.Shown.{number_words}
-use Rattle.segment_scripts.proofs.InstanceLines.{instance-line}
+use Rattle.segment_scripts.proofs.listing.Instances.{instance-line}
 use Rattle.segment_scripts.proofs.telling.put_instance.Goals as goal
 
 pub returns : goal.returns

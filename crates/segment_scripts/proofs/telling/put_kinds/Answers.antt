@@ -1,10 +1,10 @@
 use Rattle.std.proofs.Common.{arith}
 use Rattle.segment_manager.specs.Directory.{unique_objects}
 use Rattle.segment_scripts.specs.Answer.{entry_words}
-use Rattle.segment_scripts.proofs.Answering.{unique_is}
-use Rattle.segment_scripts.proofs.ListedObjects.{unique-said, said-part}
-use Rattle.segment_scripts.proofs.Listings.{listing-cut, listing-done, listing-more, line_part}
-use Rattle.segment_scripts.proofs.Owed.{of-start}
+use Rattle.segment_scripts.proofs.segments.CommandSteps.{unique_is}
+use Rattle.segment_scripts.proofs.listing.Objects.{unique-said, said-part}
+use Rattle.segment_scripts.proofs.listing.Lines.{listing-cut, listing-done, listing-more, line_part}
+use Rattle.segment_scripts.proofs.listing.Output.{of-start}
 use Rattle.segment_scripts.proofs.telling.put_kinds.Goals as goal
 
 pub kinds-init : goal.kinds-init

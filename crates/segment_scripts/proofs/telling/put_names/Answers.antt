@@ -2,10 +2,10 @@ use Rattle.std.proofs.Common.{◌∷◌, arith}
 use Rattle.segment_lang.specs.Texts.{name_text}
 use Rattle.segment_manager.specs.Directory.{Object, named_objects}
 use Rattle.segment_scripts.specs.Answer.{entry_words}
-use Rattle.segment_scripts.proofs.Answering.{named_is}
-use Rattle.segment_scripts.proofs.ListedObjects.{named-said, said-part}
-use Rattle.segment_scripts.proofs.Listings.{listing-cut, listing-done, listing-more, line_part}
-use Rattle.segment_scripts.proofs.Owed.{of-start}
+use Rattle.segment_scripts.proofs.segments.CommandSteps.{named_is}
+use Rattle.segment_scripts.proofs.listing.Objects.{named-said, said-part}
+use Rattle.segment_scripts.proofs.listing.Lines.{listing-cut, listing-done, listing-more, line_part}
+use Rattle.segment_scripts.proofs.listing.Output.{of-start}
 use Rattle.segment_scripts.proofs.telling.put_names.Goals as goal
 
 pub names-init : goal.names-init

@@ -1,8 +1,8 @@
 use Rattle.seg_types.specs.Names.{ByHandle}
 use Rattle.segment_scripts.specs.declared.answered.Answered.TheVariants.{Done}
-use Rattle.segment_scripts.proofs.Owed.{writes_owed}
-use Rattle.segment_scripts.proofs.Refusals.{answers-once, answers-owed}
-use Rattle.segment_scripts.proofs.ListedObjects.{told-here, told-map, told-missing, told-numbers, told-said}
+use Rattle.segment_scripts.proofs.listing.Output.{writes_owed}
+use Rattle.segment_scripts.proofs.segments.Refusals.{answers-once, answers-owed}
+use Rattle.segment_scripts.proofs.listing.Objects.{told-here, told-map, told-missing, told-numbers, told-said}
 use Rattle.segment_scripts.proofs.telling.put_object.Goals as goal
 
 pub returns-in-Map : goal.returns-in-Map

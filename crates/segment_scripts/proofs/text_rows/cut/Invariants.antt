@@ -1,5 +1,5 @@
 use Rattle.std.specs.Prelude.{map}
-use Rattle.segment_scripts.proofs.TextParts.{IsCut}
+use Rattle.segment_scripts.proofs.values.Texts.{IsCut}
 use Rattle.segment_scripts.proofs.text_rows.cut.Given as goal
 
 abbrev pub invariant-texts : goal.invariant-texts

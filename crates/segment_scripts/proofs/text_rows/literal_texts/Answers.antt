@@ -1,7 +1,7 @@
 use Rattle.std.proofs.Common.{ap, sym, subst}
 use Rattle.segment_lang.specs.Seen.{literal_of}
-use Rattle.segment_scripts.proofs.RowValues.{next-literal, no-literal}
-use Rattle.segment_scripts.proofs.TextParts.{AreTexts, texts-all, texts-fit, texts-more, texts-wrong}
+use Rattle.segment_scripts.proofs.values.Rows.{next-literal, no-literal}
+use Rattle.segment_scripts.proofs.values.Texts.{AreTexts, texts-all, texts-fit, texts-more, texts-wrong}
 use Rattle.segment_scripts.proofs.text_rows.literal_texts.Goals as goal
 
 pub returns-in_default : goal.returns-in_default

@@ -1,4 +1,4 @@
-use Rattle.segment_scripts.proofs.TextParts.{AreTexts}
+use Rattle.segment_scripts.proofs.values.Texts.{AreTexts}
 use Rattle.segment_scripts.proofs.text_rows.literal_texts.Given as goal
 
 abbrev pub invariant-literals : goal.invariant-literals

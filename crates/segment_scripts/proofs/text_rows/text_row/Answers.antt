@@ -1,4 +1,4 @@
-use Rattle.segment_scripts.proofs.TextParts.{gathered-fits}
+use Rattle.segment_scripts.proofs.values.Texts.{gathered-fits}
 use Rattle.segment_scripts.proofs.text_rows.text_row.Goals as goal
 
 pub push-requires : goal.push-requires

@@ -1,4 +1,4 @@
-use Rattle.segment_scripts.proofs.TextParts.{IsGathered}
+use Rattle.segment_scripts.proofs.values.Texts.{IsGathered}
 use Rattle.segment_scripts.proofs.text_rows.text_row.Given as goal
 
 abbrev pub invariant-texts : goal.invariant-texts

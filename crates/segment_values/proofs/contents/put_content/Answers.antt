@@ -5,7 +5,7 @@ use Rattle.segment_manager.proofs.CommandLaws.{says-kind}
 use Rattle.segment_values.specs.Layouts.{part_at}
 use Rattle.segment_values.proofs.Owed.{of-same}
 use Rattle.segment_values.proofs.LaidElements.{parts-at}
-use Rattle.segment_values.proofs.WalkedPairs.{map-said}
+use Rattle.segment_values.proofs.pairs.Walk.{map-said}
 use Rattle.segment_values.proofs.contents.put_content.Goals as goal
 
 pub put_pairs-requires-clause-map : goal.put_pairs-requires-clause-map

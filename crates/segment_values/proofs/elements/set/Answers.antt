@@ -12,7 +12,7 @@ use Rattle.segment_manager.proofs.Laws.{step-by_key}
 use Rattle.seg_types.specs.Commands.{Set}
 use Rattle.seg_types.specs.Keys.{key_seen}
 use Rattle.segment_values.proofs.Exits.{exit-is}
-use Rattle.segment_values.proofs.ElementBytes.{element-by_key, element-each, element-text, on_ok-map}
+use Rattle.segment_values.proofs.elements.Bytes.{element-by_key, element-each, element-text, on_ok-map}
 use Rattle.segment_values.proofs.elements.set.Goals as goal
 
 pub returns-in_err-object-clause-step : goal.returns-in_err-object-clause-step

@@ -1,6 +1,6 @@
 -- The kind of the object says which keys it has.
 use Rattle.segment_manager.proofs.CommandLaws.{remove-no_map, remove-no_value, remove-unchangeable, removes-key}
-use Rattle.segment_values.proofs.AbsentPairs.{erases-absent}
+use Rattle.segment_values.proofs.pairs.Absent.{erases-absent}
 use Rattle.segment_values.proofs.Exits.{exit-is}
 use Rattle.segment_values.proofs.pairs.erase_pair.Goals as goal
 

@@ -2,7 +2,7 @@
 use Rattle.std.proofs.Common.{◌≡◌, ◌∙◌, ◌*◌, ◌+◌, ap, arith, drop, length, take}
 use Rattle.seg_types.specs.Kinds.{size_of}
 use Rattle.segment_values.specs.Ranges.{row_of}
-use Rattle.segment_values.proofs.RangeRuns.{row-bytes, row-bytes-inside, slice-part}
+use Rattle.segment_values.proofs.ranges.InPlace.{row-bytes, row-bytes-inside, slice-part}
 use Rattle.segment_values.proofs.reads.copy_row.Goals as goal
 
 pub overflow_mul-from : goal.overflow_mul-from

@@ -2,7 +2,7 @@
 use Rattle.std.proofs.Common.{length}
 use Rattle.segment_manager.proofs.Laws.{located-here}
 use Rattle.segment_values.specs.Ranges.{read_into}
-use Rattle.segment_values.proofs.RangeReads.{reads-by_key}
+use Rattle.segment_values.proofs.ranges.Reads.{reads-by_key}
 use Rattle.segment_values.proofs.reads.read_elements.Goals as goal
 
 pub read_object-requires : goal.read_object-requires

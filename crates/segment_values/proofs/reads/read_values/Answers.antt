@@ -1,7 +1,7 @@
 -- One value more.
 use Rattle.std.proofs.Common.{◌∙◌, ◌*◌, ◌<◌, ◌≤◌, ap, length, subst, sym}
 use Rattle.seg_types.specs.Kinds.{size_of}
-use Rattle.segment_values.proofs.RangeRuns.{reads-all, reads-value, slice-element}
+use Rattle.segment_values.proofs.ranges.InPlace.{reads-all, reads-value, slice-element}
 use Rattle.segment_values.proofs.reads.read_values.Goals as goal
 
 pub values-preserved : goal.values-preserved

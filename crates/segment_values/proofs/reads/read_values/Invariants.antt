@@ -1,5 +1,5 @@
 -- So many values were read.
-use Rattle.segment_values.proofs.RangeRuns.{AreReadOf}
+use Rattle.segment_values.proofs.ranges.InPlace.{AreReadOf}
 use Rattle.segment_values.proofs.reads.read_values.Given as goal
 
 abbrev pub invariant-values : goal.invariant-values

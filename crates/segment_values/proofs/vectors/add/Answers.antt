@@ -2,7 +2,7 @@ use Rattle.std.proofs.Common.{subst}
 use Rattle.seg_types.specs.Keys.{key_seen}
 use Rattle.segment_values.specs.Changes.{IsNewElement, IsTextElementFor}
 use Rattle.segment_values.proofs.Exits.{exit-is}
-use Rattle.segment_values.proofs.NewElements.{add-refused, scalar-added, text-added}
+use Rattle.segment_values.proofs.elements.Insertion.{add-refused, scalar-added, text-added}
 use Rattle.segment_values.proofs.vectors.add.Goals as goal
 
 pub returns-in_err-object-clause-step : goal.returns-in_err-object-clause-step

@@ -9,8 +9,8 @@ use Rattle.segment_manager.specs.containers.Maps.{numbers_in, pair_above, pair_f
 use Rattle.segment_manager.specs.State.{AnswersWith}
 use Rattle.segment_manager.specs.containers.Walks.{first_of, pairs_at_kinds}
 use Rattle.segment_views.specs.Ranged.{pair_or_none, range_of}
-use Rattle.segment_views.proofs.Between.{above-ranged, all-ranged, from-ranged}
-use Rattle.segment_views.proofs.RangeReads.{reads-told}
+use Rattle.segment_views.proofs.ranges.Bounds.{above-ranged, all-ranged, from-ranged}
+use Rattle.segment_views.proofs.ranges.Reads.{reads-told}
 use Rattle.segment_views.proofs.ranges.first_from.Goals as goal
 
 pub returns-in-Included : goal.returns-in-Included

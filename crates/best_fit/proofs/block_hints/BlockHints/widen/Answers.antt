@@ -1,6 +1,6 @@
 -- Zero is no handle.
 use Rattle.best_fit.proofs.Common.{place_of}
-use Rattle.best_fit.proofs.HintedBlocks.{none-noted}
+use Rattle.best_fit.proofs.tile_walk.Hints.{none-noted}
 use Rattle.best_fit.proofs.block_hints.BlockHints.widen.Goals as goal
 
 pub pieces-init : goal.pieces-init

@@ -1,4 +1,4 @@
-use Rattle.best_fit.proofs.HintedBlocks.{none-lead}
+use Rattle.best_fit.proofs.tile_walk.Hints.{none-lead}
 use Rattle.best_fit.proofs.heap.Heap.adopt_without_hints.Goals as goal
 
 pub invariant_of-result : goal.invariant_of-result

@@ -1,8 +1,8 @@
 -- Whatever is written to the payload of a block, the heap stays one.
 use Rattle.best_fit.proofs.Common.{◌≡◌, refl, sym, subst, ap, ◌∙◌, ◌-◌, arith, WindowState, part, live_of, payload_at}
-use Rattle.best_fit.proofs.Payloads.{ReadAt, live_at, payload_written, read_at, with_payload-lent}
-use Rattle.best_fit.proofs.Writes.{block_payload}
-use Rattle.best_fit.proofs.HintedBlocks.{held-same}
+use Rattle.best_fit.proofs.lending.Payloads.{ReadAt, live_at, payload_written, read_at, with_payload-lent}
+use Rattle.best_fit.proofs.tags.Writes.{block_payload}
+use Rattle.best_fit.proofs.tile_walk.Hints.{held-same}
 use Rattle.best_fit.proofs.heap.Heap.block_mut.Goals.{After-tile_at-len}
 use Rattle.best_fit.proofs.heap.Heap.block_mut.Goals as goal
 

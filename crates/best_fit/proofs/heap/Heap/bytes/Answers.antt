@@ -1,6 +1,6 @@
 -- The bytes lie in a block, and so in the window.
 use Rattle.best_fit.proofs.Common.{◌≡◌, sym, ap, ◌∙◌, ◌+◌, arith, WindowState, bytes_of, read, read-part}
-use Rattle.best_fit.proofs.Linked.{spot}
+use Rattle.best_fit.proofs.heap.BlockLinks.{spot}
 use Rattle.best_fit.proofs.heap.Heap.bytes.Goals as goal
 
 pub overflow_add-handle : goal.overflow_add-handle

@@ -1,7 +1,7 @@
 -- The bytes lie in two blocks, and no tag changes.
 use Rattle.best_fit.proofs.Common.{◌≡◌, sym, subst, ◌+◌, arith, WindowState, bytes_of, read, current, ChangesBytes}
-use Rattle.best_fit.proofs.Linked.{bytes_copied, spot}
-use Rattle.best_fit.proofs.HintedBlocks.{held-same}
+use Rattle.best_fit.proofs.heap.BlockLinks.{bytes_copied, spot}
+use Rattle.best_fit.proofs.tile_walk.Hints.{held-same}
 use Rattle.best_fit.proofs.heap.Heap.copy.Goals as goal
 
 pub overflow_add-from : goal.overflow_add-from

@@ -2,8 +2,8 @@
 use Rattle.best_fit.proofs.Common.{◌≡◌, subst, ◌∙◌, ◌*◌, ◌+◌, ◌≤◌, length, arith, WindowState, bits, gaps_in, current}
 use Rattle.best_fit.proofs.Common.{least_size}
 use Rattle.best_fit.proofs.Common.{of_size, EncodesLiveSet, heap_touches, live_of}
-use Rattle.best_fit.proofs.Allocating.{heap_bits}
-use Rattle.best_fit.proofs.HintedBlocks.{held-on}
+use Rattle.best_fit.proofs.allocation.LeastGap.{heap_bits}
+use Rattle.best_fit.proofs.tile_walk.Hints.{held-on}
 use Rattle.best_fit.proofs.heap.Heap.cut_end.Goals as goal
 
 pub invariant_of-self : goal.invariant_of-self

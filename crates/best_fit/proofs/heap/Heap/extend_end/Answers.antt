@@ -2,9 +2,9 @@
 use Rattle.best_fit.proofs.Common.{◌≡◌, ap, subst, ◌+◌, ◌≤◌, List, length, arith, WindowState, current, bits}
 use Rattle.best_fit.proofs.Common.{AppendsBlock}
 use Rattle.best_fit.proofs.Common.{MovesEnd, of_size, Gap, gaps_in, heap_touches, live_of}
-use Rattle.best_fit.proofs.Allocating.{heap_bits}
-use Rattle.best_fit.proofs.Appended.{behind_heap, behind_live, end_moved}
-use Rattle.best_fit.proofs.HintedBlocks.{held-on}
+use Rattle.best_fit.proofs.allocation.LeastGap.{heap_bits}
+use Rattle.best_fit.proofs.ending.LastBlock.{behind_heap, behind_live, end_moved}
+use Rattle.best_fit.proofs.tile_walk.Hints.{held-on}
 use Rattle.best_fit.proofs.heap.Heap.extend_end.Goals.{After-append_block-at}
 use Rattle.best_fit.proofs.heap.Heap.extend_end.Goals as goal
 

@@ -1,6 +1,6 @@
 -- The first tile is the one of index 0.
 use Rattle.best_fit.proofs.Common.{◌≡◌}
-use Rattle.best_fit.proofs.Walks.{heap_first, heap_span, window_tiled}
+use Rattle.best_fit.proofs.tile_walk.Walk.{heap_first, heap_span, window_tiled}
 use Rattle.best_fit.proofs.heap.Heap.first_tile.Goals as goal
 
 pub first-requires : goal.first-requires

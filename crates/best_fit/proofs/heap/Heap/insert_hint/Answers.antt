@@ -1,5 +1,5 @@
 use Rattle.best_fit.proofs.Common.{◌≡◌, subst, IsTrue, WindowState, is_live_in, live_of}
-use Rattle.best_fit.proofs.HintedBlocks.{noted-lead}
+use Rattle.best_fit.proofs.tile_walk.Hints.{noted-lead}
 use Rattle.best_fit.proofs.heap.Heap.insert_hint.Goals as goal
 
 pub invariant_of-self : goal.invariant_of-self

@@ -1,6 +1,6 @@
 -- The link lies in a block.
 use Rattle.best_fit.proofs.Common.{arith}
-use Rattle.best_fit.proofs.Linked.{spot}
+use Rattle.best_fit.proofs.heap.BlockLinks.{spot}
 use Rattle.best_fit.proofs.heap.Heap.link.Goals as goal
 
 pub overflow_add-handle : goal.overflow_add-handle

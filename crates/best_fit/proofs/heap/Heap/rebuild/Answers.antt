@@ -1,7 +1,7 @@
 -- An empty tree is written, and then one of all gaps.
 use Rattle.best_fit.proofs.Common.{length, bytes_of}
-use Rattle.best_fit.proofs.Planted.{rebuilt, rebuilt_heap}
-use Rattle.best_fit.proofs.Rebuilt.{tagged_says, tagged_too}
+use Rattle.best_fit.proofs.free_tree.Rebuild.{rebuilt, rebuilt_heap}
+use Rattle.best_fit.proofs.free_tree.EmptyTree.{tagged_says, tagged_too}
 use Rattle.best_fit.proofs.heap.Heap.rebuild.Goals as goal
 
 pub clear_gaps-requires-clause-tags : goal.clear_gaps-requires-clause-tags

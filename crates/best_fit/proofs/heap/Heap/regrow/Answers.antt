@@ -3,8 +3,9 @@ use Rattle.best_fit.proofs.Common.{◌≡◌, sym, subst, IsTrue, IfSome, Window
 use Rattle.best_fit.proofs.Common.{has_room}
 use Rattle.best_fit.proofs.Common.{live_of}
 use Rattle.best_fit.specs.Exchange.{block_of}
-use Rattle.best_fit.proofs.Exchanges.{given-same, given-longer, not_longer-same, regrows-replaced, regrows-none}
-use Rattle.best_fit.proofs.Allocated.{has_room-names}
+use Rattle.best_fit.proofs.exchange.OneExchange.{given-same, given-longer, not_longer-same, regrows-replaced}
+use Rattle.best_fit.proofs.exchange.OneExchange.{regrows-none}
+use Rattle.best_fit.proofs.allocation.NewBlock.{has_room-names}
 use Rattle.best_fit.proofs.heap.Heap.regrow.Goals as goal
 
 pub room-requires : goal.room-requires

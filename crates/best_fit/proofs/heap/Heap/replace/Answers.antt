@@ -3,8 +3,8 @@ use Rattle.best_fit.proofs.Common.{◌≡◌, ◌+◌, subst, arith, IsTrue, Win
 use Rattle.best_fit.proofs.Common.{IsHeap}
 use Rattle.best_fit.proofs.Common.{has_room}
 use Rattle.best_fit.proofs.Common.{live_of, Storage}
-use Rattle.best_fit.proofs.Allocated.{allocated-room, allocated-room_before, changed-room, has_room-names}
-use Rattle.best_fit.proofs.Exchanges.{allocated-fits, replaced}
+use Rattle.best_fit.proofs.allocation.NewBlock.{allocated-room, allocated-room_before, changed-room, has_room-names}
+use Rattle.best_fit.proofs.exchange.OneExchange.{allocated-fits, replaced}
 use Rattle.best_fit.proofs.heap.Heap.replace.Goals as goal
 
 pub copy-requires-clause-source : goal.copy-requires-clause-source

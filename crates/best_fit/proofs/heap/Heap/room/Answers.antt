@@ -1,7 +1,7 @@
 -- The tile of the block says its length.
 use Rattle.best_fit.proofs.Common.{◌≡◌, sym, subst, ap, ◌∙◌, ◌-◌, arith, IsTrue, Some, option_map, WindowState, Extent}
 use Rattle.best_fit.proofs.Common.{is_live_in, live_of, extent_at}
-use Rattle.best_fit.proofs.Writes.{live_block, block_tile, block_len}
+use Rattle.best_fit.proofs.tags.Writes.{live_block, block_tile, block_len}
 use Rattle.best_fit.proofs.heap.Heap.room.Goals as goal
 
 pub overflow_sub-handle : goal.overflow_sub-handle

@@ -1,7 +1,7 @@
 -- The link lies in the header, and no tag changes.
 use Rattle.best_fit.proofs.Common.{◌≡◌, sym, subst, WindowState, current, ChangesBytes}
-use Rattle.best_fit.proofs.Writes.{header_changed}
-use Rattle.best_fit.proofs.HintedBlocks.{held-same}
+use Rattle.best_fit.proofs.tags.Writes.{header_changed}
+use Rattle.best_fit.proofs.tile_walk.Hints.{held-same}
 use Rattle.best_fit.proofs.heap.Heap.set_header_link.Goals as goal
 
 pub invariant_of-self : goal.invariant_of-self

@@ -1,7 +1,7 @@
 -- The link lies in a block, and no tag changes.
 use Rattle.best_fit.proofs.Common.{◌≡◌, sym, subst, ◌+◌, arith, WindowState, current, ChangesBytes}
-use Rattle.best_fit.proofs.Linked.{link_changed, spot}
-use Rattle.best_fit.proofs.HintedBlocks.{held-same}
+use Rattle.best_fit.proofs.heap.BlockLinks.{link_changed, spot}
+use Rattle.best_fit.proofs.tile_walk.Hints.{held-same}
 use Rattle.best_fit.proofs.heap.Heap.set_link.Goals as goal
 
 pub overflow_add-handle : goal.overflow_add-handle

@@ -1,9 +1,9 @@
 -- A node's tile may have any colour.
 use Rattle.best_fit.proofs.Common.{◌≡◌, sym, subst, ◌-◌, arith, IsTrue, WindowState, current, Recolours, is_node_in}
 use Rattle.best_fit.proofs.Common.{live_of}
-use Rattle.best_fit.proofs.Recolours.{node_may, recoloured}
-use Rattle.best_fit.proofs.Writes.{node_block}
-use Rattle.best_fit.proofs.HintedBlocks.{held-same}
+use Rattle.best_fit.proofs.heap.Colours.{node_may, recoloured}
+use Rattle.best_fit.proofs.tags.Writes.{node_block}
+use Rattle.best_fit.proofs.tile_walk.Hints.{held-same}
 use Rattle.best_fit.proofs.heap.Heap.set_node_red.Goals as goal
 
 pub overflow_sub-handle : goal.overflow_sub-handle

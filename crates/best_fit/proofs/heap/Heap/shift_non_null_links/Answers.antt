@@ -1,7 +1,7 @@
 -- The links lie in blocks, and no tag changes.
 use Rattle.best_fit.proofs.Common.{◌≡◌, refl, sym, subst, ◌+◌, ◌*◌, arith, WindowState, current, ChangesBytes}
-use Rattle.best_fit.proofs.Linked.{links_changed, spot}
-use Rattle.best_fit.proofs.HintedBlocks.{held-same}
+use Rattle.best_fit.proofs.heap.BlockLinks.{links_changed, spot}
+use Rattle.best_fit.proofs.tile_walk.Hints.{held-same}
 use Rattle.best_fit.proofs.heap.Heap.shift_non_null_links.Goals as goal
 
 pub overflow_add-from : goal.overflow_add-from

@@ -1,9 +1,9 @@
 -- Two blocks share no byte, and whatever is written to the payload of the second, the heap stays one.
 use Rattle.best_fit.proofs.Common.{◌≡◌, sym, subst, ap, ◌∙◌, ◌-◌, List, ℕ, arith, refill, part, patched, with_bytes}
 use Rattle.best_fit.proofs.Common.{live_of, payload_at, IsHintedHeap}
-use Rattle.best_fit.proofs.Payloads.{ReadAt, live_at, payload_written, read_at, with_payload-lent}
-use Rattle.best_fit.proofs.TwoLent.{all_lent, blocks_apart, called_at, payload_lent}
-use Rattle.best_fit.proofs.HintedBlocks.{held-same}
+use Rattle.best_fit.proofs.lending.Payloads.{ReadAt, live_at, payload_written, read_at, with_payload-lent}
+use Rattle.best_fit.proofs.lending.TwoRanges.{all_lent, blocks_apart, called_at, payload_lent}
+use Rattle.best_fit.proofs.tile_walk.Hints.{held-same}
 use Rattle.best_fit.proofs.heap.Heap.two.Given.{Over}
 use Rattle.best_fit.proofs.heap.Heap.two.Goals.{After-bytes_mut-bytes, After-on_two}
 use Rattle.best_fit.proofs.heap.Heap.two.Goals as goal

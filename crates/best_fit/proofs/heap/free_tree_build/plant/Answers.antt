@@ -1,9 +1,9 @@
 -- `insert` puts the node in, and the new root is stored.
 use Rattle.best_fit.proofs.Common.{ap, ◌∙◌, ℕ, Bool}
-use Rattle.best_fit.proofs.FreeTrees.{root_leads, search_tree}
-use Rattle.best_fit.proofs.GapSetters.{target_whole}
-use Rattle.best_fit.proofs.Planted.{is_a_node, next_place, next_tree}
-use Rattle.best_fit.proofs.Replanting.{node_inside, taken_rest}
+use Rattle.best_fit.proofs.free_tree.Trees.{root_leads, search_tree}
+use Rattle.best_fit.proofs.gaps.Setters.{target_whole}
+use Rattle.best_fit.proofs.free_tree.Rebuild.{is_a_node, next_place, next_tree}
+use Rattle.best_fit.proofs.free_tree.LinkAndUnlink.{node_inside, taken_rest}
 use Rattle.best_fit.proofs.heap.free_tree_build.plant.Goals as goal
 
 pub insert-changed-requires-clause-root : goal.insert-changed-requires-clause-root

@@ -1,10 +1,12 @@
 -- Each turn of the walk passes one tile, and puts it into the tree where it is a gap.
 use Rattle.best_fit.proofs.Common.{ap, ◌∙◌, not, refl, [], arith, length, WindowState, GapTree, gap_of, gaps_of}
 use Rattle.best_fit.proofs.Common.{tiles_in}
-use Rattle.best_fit.proofs.Planted.{HasPlanted, next_gap, planted_all, planted_block, planted_gap, planted_start}
-use Rattle.best_fit.proofs.Regrowths.{tree_says}
-use Rattle.best_fit.proofs.Turns.{Passed, passed_goes_on, passed_has, passed_in, passed_nearer, turn, walk_end}
-use Rattle.best_fit.proofs.Turns.{walk_start}
+use Rattle.best_fit.proofs.free_tree.Rebuild.{HasPlanted, next_gap, planted_all, planted_block, planted_gap}
+use Rattle.best_fit.proofs.free_tree.Rebuild.{planted_start}
+use Rattle.best_fit.proofs.gaps.LinksOnly.{tree_says}
+use Rattle.best_fit.proofs.free_tree.WalkTurns.{Passed, passed_goes_on, passed_has, passed_in, passed_nearer, turn}
+use Rattle.best_fit.proofs.free_tree.WalkTurns.{walk_end}
+use Rattle.best_fit.proofs.free_tree.WalkTurns.{walk_start}
 use Rattle.best_fit.proofs.heap.free_tree_build.plant_gaps.Goals.{then-is_none, else-is_none}
 use Rattle.best_fit.proofs.heap.free_tree_build.plant_gaps.Goals as goal
 

@@ -1,6 +1,6 @@
 -- A tree of one node, or of none.
 use Rattle.best_fit.proofs.Common.{◌<◌, ◌≤◌, length, arith}
-use Rattle.best_fit.proofs.Fresh.{none_links, planted_links, planted_none, planted_one}
+use Rattle.best_fit.proofs.heap.EmptyHeap.{none_links, planted_links, planted_none, planted_one}
 use Rattle.best_fit.proofs.heap.nodes.plant_first.Goals as goal
 
 pub returns-then-size-gt-FIRST_GAP-clause-live : goal.returns-then-size-gt-FIRST_GAP-clause-live

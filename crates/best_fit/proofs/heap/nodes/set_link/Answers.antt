@@ -1,6 +1,6 @@
 -- A link is eight bytes.
 use Rattle.best_fit.proofs.Common.{Some, None}
-use Rattle.best_fit.proofs.GapSetters.{link-SameBytesExcept}
+use Rattle.best_fit.proofs.gaps.Setters.{link-SameBytesExcept}
 use Rattle.best_fit.proofs.heap.nodes.set_link.Goals as goal
 
 pub returns-in-Some-clause-frame : goal.returns-in-Some-clause-frame

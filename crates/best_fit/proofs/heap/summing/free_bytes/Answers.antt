@@ -2,9 +2,9 @@
 use Rattle.best_fit.proofs.Common.{◌≡◌, refl, sym, ◌∙◌, arith, zero-add, nodes_of, free_bytes, live_of, gaps_in}
 use Rattle.best_fit.proofs.Common.{is_gap_node, len_in}
 use Rattle.std.proofs.Common.{rules}
-use Rattle.best_fit.proofs.Allocating.{heap_tree}
-use Rattle.best_fit.proofs.FreeTrees.{root_leads, search_tree, tree_nodes}
-use Rattle.best_fit.proofs.Sums.{adds_up, tree_summed}
+use Rattle.best_fit.proofs.allocation.LeastGap.{heap_tree}
+use Rattle.best_fit.proofs.free_tree.Trees.{root_leads, search_tree, tree_nodes}
+use Rattle.best_fit.proofs.gaps.Sums.{adds_up, tree_summed}
 use Rattle.best_fit.proofs.heap.summing.free_bytes.Goals as goal
 
 pub walk-requires-clause-root : goal.walk-requires-clause-root

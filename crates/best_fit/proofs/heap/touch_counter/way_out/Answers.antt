@@ -2,12 +2,12 @@
 use Rattle.best_fit.proofs.Common.{◌≡◌, refl, sym, ap, subst, ◌∙◌, ℕ, ◌-◌, arith, Option, Some, IfSome, WindowState}
 use Rattle.best_fit.proofs.Common.{Tile}
 use Rattle.best_fit.proofs.Common.{IsSearchTree, comes_before, gap_cells, gaps_in, len_in, is_gap_node-GapNode}
-use Rattle.best_fit.proofs.Common.{MayBegin}
+use Rattle.best_fit.proofs.Common.{CanBeginRemoval}
 use Rattle.best_fit.specs.declared.heap.nodes.GapProbe.{GapProbe}
-use Rattle.best_fit.proofs.Exits.{found_itself, may_begin}
-use Rattle.best_fit.proofs.FreeTrees.{root_leads, search_tree, tree_size}
-use Rattle.best_fit.proofs.GapFacts.{NodeAt, node_at, node_len, node_read, node_tile}
-use Rattle.best_fit.proofs.Replanting.{few_bits, node_of_tree}
+use Rattle.best_fit.proofs.free_tree.ExitPoint.{found_itself, may_begin}
+use Rattle.best_fit.proofs.free_tree.Trees.{root_leads, search_tree, tree_size}
+use Rattle.best_fit.proofs.gaps.Nodes.{NodeAt, node_at, node_len, node_read, node_tile}
+use Rattle.best_fit.proofs.free_tree.LinkAndUnlink.{few_bits, node_of_tree}
 use Rattle.best_fit.proofs.heap.touch_counter.way_out.Goals as goal
 use Rattle.best_fit.proofs.heap.touch_counter.way_out.Goals.{After-tile_at-len, Start}
 
@@ -55,7 +55,7 @@ returns-clause-exit c =
     rw c.requires.root (search_tree w hs h) in
     let found : way.result.node ≡ Some c.args.node = way.ensures.first h.tree.tree s
     ∙ found_itself w hs h c.args.node _ c.requires.tree.2 (sought_is g.After-tile_at-len) in
-    subst (λ (o : Option ℕ). IfSome o (λ n. MayBegin w n way.result.exit)) found
+    subst (λ (o : Option ℕ). IfSome o (λ n. CanBeginRemoval w n way.result.exit)) found
     (may_begin w way.result.node way.result.exit (λ t k. way.ensures.exit t (rw c.requires.root k)))
 
 pub returns-clause-steps : goal.returns-clause-steps

@@ -1,5 +1,5 @@
 use Rattle.std.proofs.Common.{refl}
-use Rattle.image_check.proofs.CountedTiles.{counted-free, counted-used}
+use Rattle.image_check.proofs.walks.Counts.{counted-free, counted-used}
 use Rattle.image_check.proofs.counting.Counts.add.Goals as goal
 
 pub returns-in-None : goal.returns-in-None

@@ -8,9 +8,9 @@ use Rattle.best_fit.specs.Heap.{is_live_in, live_of}
 use Rattle.best_fit.specs.Rebuilding.{RebuildsFreeTree}
 use Rattle.image_check.specs.Opening.{IsImage}
 use Rattle.image_check.specs.OpeningAny.{UpgradesFormat}
-use Rattle.image_check.proofs.LiveBlocks.{block_live}
-use Rattle.image_check.proofs.OpenedAny.{renewed-segment}
-use Rattle.image_check.proofs.Renewed.{image-heap, upgraded, upgraded-live, upgraded-place}
+use Rattle.image_check.proofs.block_collection.InLiveSet.{block_live}
+use Rattle.image_check.proofs.opening.AnyFormat.{renewed-segment}
+use Rattle.image_check.proofs.frame.OlderFormats.{image-heap, upgraded, upgraded-live, upgraded-place}
 use Rattle.image_check.proofs.image_window.ImageWindow.into_segment.Goals as goal
 
 pub as_heap-heap-requires : goal.as_heap-heap-requires

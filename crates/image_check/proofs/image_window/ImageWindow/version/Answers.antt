@@ -1,5 +1,5 @@
 use Rattle.std.proofs.Common.{arith}
-use Rattle.image_check.proofs.ReadFormats.{version-part}
+use Rattle.image_check.proofs.reading.Formats.{version-part}
 use Rattle.image_check.proofs.image_window.ImageWindow.version.Goals as goal
 
 pub returns : goal.returns

@@ -5,7 +5,7 @@ use Rattle.raw_region.specs.Memory.{bytes_of}
 use Rattle.link_tree.specs.Tree.{IsSearchTree}
 use Rattle.link_tree.specs.Nodes.{leads}
 use Rattle.image_check.specs.MapNodes.{is_pair, key_before, pair_cells}
-use Rattle.image_check.proofs.MapWeights.{check-visits}
+use Rattle.image_check.proofs.containers.MapWeights.{check-visits}
 use Rattle.image_check.proofs.image_window.pairs.check_pairs.Goals as goal
 
 pub returns-then-not-has_at-clause-count : goal.returns-then-not-has_at-clause-count

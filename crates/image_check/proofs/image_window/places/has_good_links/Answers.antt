@@ -2,12 +2,12 @@ use Rattle.std.proofs.Common.{arith, length}
 use Rattle.image_check.specs.FreeLaws.{is_place-PayloadBounds, small_size}
 use Rattle.image_check.proofs.image_window.places.has_good_links.Goals as goal
 
-pub checked-requires-clause-aligned : goal.checked-requires-clause-aligned
-checked-requires-clause-aligned c = let whole =
+pub load_checked-requires-clause-aligned : goal.load_checked-requires-clause-aligned
+load_checked-requires-clause-aligned c = let whole =
     (is_place-PayloadBounds c.args.window.now c.args.node c.requires).whole in omega arith
 
-pub checked-requires-clause-in_bounds : goal.checked-requires-clause-in_bounds
-checked-requires-clause-in_bounds c = let high =
+pub load_checked-requires-clause-in_bounds : goal.load_checked-requires-clause-in_bounds
+load_checked-requires-clause-in_bounds c = let high =
     (is_place-PayloadBounds c.args.window.now c.args.node c.requires).high in omega arith
 
 pub overflow_add-node : goal.overflow_add-node
@@ -17,10 +17,10 @@ overflow_add-node c =
     let small = small_size (length c.args.window.now.bytes) p.size in
     omega arith
 
-pub checked-requires-then-is_ok-clause-aligned : goal.checked-requires-then-is_ok-clause-aligned
-checked-requires-then-is_ok-clause-aligned c = let whole =
+pub load_checked-requires-then-is_ok-clause-aligned : goal.load_checked-requires-then-is_ok-clause-aligned
+load_checked-requires-then-is_ok-clause-aligned c = let whole =
     (is_place-PayloadBounds c.args.window.now c.args.node c.requires).whole in omega arith
 
-pub checked-requires-then-is_ok-clause-inside : goal.checked-requires-then-is_ok-clause-inside
-checked-requires-then-is_ok-clause-inside c = let high =
+pub load_checked-requires-then-is_ok-clause-inside : goal.load_checked-requires-then-is_ok-clause-inside
+load_checked-requires-then-is_ok-clause-inside c = let high =
     (is_place-PayloadBounds c.args.window.now c.args.node c.requires).high in omega arith

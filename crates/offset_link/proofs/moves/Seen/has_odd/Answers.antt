@@ -1,4 +1,4 @@
-use Rattle.offset_link.proofs.Shifting.{even_of}
+use Rattle.offset_link.proofs.moves.ShiftedWords.{even_of}
 use Rattle.offset_link.proofs.moves.Seen.has_odd.Goals as goal
 
 pub returns : goal.returns

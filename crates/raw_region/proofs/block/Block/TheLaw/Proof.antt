@@ -6,7 +6,7 @@ use denote.RawPtr.{block_of, count_of}
 use denote.Slice.{elements_shr_laws}
 use denote.Struct.Lending.{of_Lends}
 use Rattle.raw_region.specs.contracts.block.Block as C
-use Rattle.raw_region.proofs.Lending.{Lends-bytes}
+use Rattle.raw_region.proofs.block.Lending.{Lends-bytes}
 use Rattle.raw_region.proofs.block.Block.TheLaw.Statement.{statement}
 
 pub shares : statement

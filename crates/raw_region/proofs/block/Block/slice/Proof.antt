@@ -31,8 +31,8 @@ use denote.Triple.Spec.{Meets, triple_of}
 use denote.Triple.Table.{entered}
 use denote.Triple.Walked.{says, Stays, stay_dropped, walk_of, ends_at, walk_Meets, Goes-dropped}
 use Rattle.raw_region.specs.Memory.{part}
-use Rattle.raw_region.specs.Ownership.{IsPlaced, block_shares}
-use Rattle.raw_region.proofs.Parts.{seen_part}
+use Rattle.raw_region.specs.Ownership.{IsNonNull, block_shares}
+use Rattle.raw_region.proofs.block.Parts.{seen_part}
 use Rattle.raw_region.specs.contracts.block.Block as Block
 use Rattle.raw_region.specs.contracts.block.Block.slice as F
 use Rattle.raw_region.specs.contracts.block.Block.slice.Key.{name as #self}
@@ -64,7 +64,7 @@ module _ {M : Type 1} {𝓤 : Ura M} (𝓛 : Logic 𝓤) (at_mem : Memory → SP
         let a = z.0.3 in let vss = z.0.4 in let κ : Lft = z.0.0.0 in
         let d = a.0.now in let p = a.1.0 in let from = a.1.1.0 in let len = a.1.1.1.0 in
         let xs = d.items in let b = block_of p in let o = count_of p in let ys = part xs from len in
-        let Asked = IsPlaced p × (d.place ≡ p) × (from + len ≤ length xs) × (length xs < 2 ^ 63) in
+        let Asked = IsNonNull p × (d.place ≡ p) × (from + len ≤ length xs) × (length xs < 2 ^ 63) in
         qed 𝓛 ((raw (alive 𝓛 F.ended.signature z.0.0 z.0.1) ⊛ ‵
         (owns (types_at F.ended.signature.params z.0.0) a vss)) ∷ raw (fact 𝓤 Asked) ∷ []) ∵
         move ! (1 ∷ []) $ heard ! Asked (λ asked. split ! $ move ! (1 ∷ []) $

@@ -44,9 +44,9 @@ use denote.Triple.Table.{entered}
 use denote.Triple.Walked.{says, Stays, stay_dropped, walk_of, ends_at, walk_Meets, Goes-dropped, Goes-spent_ref}
 use Rattle.std.specs.List.{refill}
 use Rattle.raw_region.specs.Memory.{part, patched}
-use Rattle.raw_region.specs.Ownership.{IsPlaced, block_owns}
+use Rattle.raw_region.specs.Ownership.{IsNonNull, block_owns}
 use Rattle.raw_region.specs.Loans.{rewritten}
-use Rattle.raw_region.proofs.Parts.{Bytes, Around, part_out, part_in}
+use Rattle.raw_region.proofs.block.Parts.{Bytes, Around, part_out, part_in}
 use Rattle.raw_region.specs.contracts.block.Block as Block
 use Rattle.raw_region.specs.contracts.block.Block.slice_mut as F
 use Rattle.raw_region.specs.contracts.block.Block.slice_mut.Key.{name as #self}
@@ -113,7 +113,7 @@ module _ {M : Type 1} {𝓤 : Ura M} (𝓛 : Logic 𝓤) (at_mem : Memory → SP
     o = count_of p
 
     abbrev Asked : Type 0
-    Asked = IsPlaced p × (self.now.place ≡ p) × (from + len ≤ length xs) × (length xs < 2 ^ 63)
+    Asked = IsNonNull p × (self.now.place ≡ p) × (from + len ≤ length xs) × (length xs < 2 ^ 63)
 
     abbrev new : List ℕ → B.Denot
     new = rewritten self.now from len

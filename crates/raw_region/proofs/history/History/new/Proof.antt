@@ -13,7 +13,7 @@ use denote.Steps.{nothing}
 use denote.Triple.Entry.{alive}
 use denote.Triple.Walked.{says, Stays, walk_of, ends_at}
 use Rattle.std.proofs.raw_atomic.Walks.{proved_at}
-use Rattle.raw_region.proofs.Values.{none, none_made}
+use Rattle.raw_region.proofs.block.Values.{none, none_made}
 use Rattle.raw_region.specs.contracts.history.History.new as F
 use Rattle.raw_region.specs.contracts.history.History.new.Key.{name as #self}
 use Rattle.raw_region.proofs.history.History.new.Statement.{statement}

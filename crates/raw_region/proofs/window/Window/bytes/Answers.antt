@@ -1,5 +1,5 @@
 use Rattle.std.proofs.Common.{◌∙◌}
-use Rattle.raw_region.proofs.Windows.{reads}
+use Rattle.raw_region.proofs.words.Windows.{reads}
 use Rattle.raw_region.proofs.window.Window.bytes.Goals as goal
 
 pub returns-clause-bytes : goal.returns-clause-bytes

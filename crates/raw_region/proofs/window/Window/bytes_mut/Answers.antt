@@ -1,5 +1,5 @@
 use Rattle.std.proofs.Common.{refl, ◌∙◌}
-use Rattle.raw_region.proofs.Windows.{reads, lends}
+use Rattle.raw_region.proofs.words.Windows.{reads, lends}
 use Rattle.raw_region.proofs.window.Window.bytes_mut.Goals as goal
 
 pub returns : goal.returns

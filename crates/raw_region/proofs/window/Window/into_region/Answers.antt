@@ -1,5 +1,5 @@
 use Rattle.std.proofs.Common.{◌∙◌}
-use Rattle.raw_region.proofs.Windows.{is_whole}
+use Rattle.raw_region.proofs.words.Windows.{is_whole}
 use Rattle.raw_region.proofs.window.Window.into_region.Goals as goal
 
 pub returns : goal.returns

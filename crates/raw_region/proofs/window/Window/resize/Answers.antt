@@ -1,4 +1,4 @@
-use Rattle.raw_region.proofs.Windows.{resizes, stays_whole}
+use Rattle.raw_region.proofs.words.Windows.{resizes, stays_whole}
 use Rattle.raw_region.proofs.window.Window.resize.Goals as goal
 
 pub returns-clause-cut : goal.returns-clause-cut

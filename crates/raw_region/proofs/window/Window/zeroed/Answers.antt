@@ -1,6 +1,6 @@
 use Rattle.std.proofs.Common.{ap, ◌∙◌, List, ℕ}
 use Rattle.raw_region.specs.Memory.{cut_at}
-use Rattle.raw_region.proofs.Windows.{all-zeros}
+use Rattle.raw_region.proofs.words.Windows.{all-zeros}
 use Rattle.raw_region.proofs.window.Window.zeroed.Goals as goal
 
 pub returns-else-not-clean-clause-cut : goal.returns-else-not-clean-clause-cut

@@ -7,7 +7,7 @@ use Rattle.seg_index.proofs.{IsIndexOf, block_and_count, capacity_at, filled, ga
 use Rattle.seg_index.proofs.{in_header, index_in, insert_all, inserted, links_lead, offer, place_of, same_live, source}
 use Rattle.seg_index.proofs.{target, written, written_both, written_keeps, ChangesBytes, Offer, Placed, bytes_of}
 use Rattle.seg_index.proofs.{link_at, added-sorted, aligned, beside-stays, extent_at, inl, inr, keeps-sorted, live_of}
-use Rattle.seg_index.proofs.{moved-stays, none-some, unlinked}
+use Rattle.seg_index.proofs.{moved-stays, none-some, without_index_block}
 use Rattle.best_fit.proofs.Laws.{lay_out_one}
 use Rattle.best_fit.specs.Table.{BackingArray as ATable}
 use Rattle.seg_index.specs.{Growth.AddKeeps, Growth.AddsEntry, Growth.CanGrow, Growth.grown_live, Held.entry_count}
@@ -115,10 +115,10 @@ spread-requires-in-Some c =
       handle = (aligned c.requires.entry);
     }
 
-pub settle-requires : goal.settle-requires
-settle-requires c =
-    let at = goal.at.settle-requires c in
-    let cap = c.grown-capacity.ensures ∙ ap grown_capacity c.capacity.ensures.word in
+pub install_block-requires : goal.install_block-requires
+install_block-requires c =
+    let at = goal.at.install_block-requires c in
+    let cap = c.grown_capacity-capacity.ensures ∙ ap grown_capacity c.capacity.ensures.word in
     let p = written (given at.After-unwrap_or-from c.requires.entry.index.index) (all at.After-spread-in-Some)
     (omega arith) in
     record {
@@ -132,7 +132,7 @@ settle-requires c =
 pub returns-in-Some-clause-index : goal.returns-in-Some-clause-index
 returns-in-Some-clause-index c = λ t hs i.
     let A = c.args.heap.now in let at = goal.at.returns-in-Some-clause-index c in let place = c.args.place in
-    let cap = c.grown-capacity.ensures ∙ ap grown_capacity c.capacity.ensures.word in
+    let cap = c.grown_capacity-capacity.ensures ∙ ap grown_capacity c.capacity.ensures.word in
     let before = given at.After-unwrap_or-from i in
     let behind = written before c.shift_non_null_links.ensures.changes (omega arith) in
     let long = c.len-count.ensures.len t hs i in let more = length-insert hs place c.args.handle (omega arith) in
@@ -140,34 +140,36 @@ returns-in-Some-clause-index c = λ t hs i.
     long (omega arith) c.shift_non_null_links.ensures.lead c.spread-in-Some.ensures.changes
     c.spread-in-Some.ensures.in_place c.spread-in-Some.ensures.tail in
     let whole = insert_all (λ k. k % 16 ≡ 0) hs place c.args.handle (omega arith) i.whole (aligned c.requires.entry) in
-    subst (λ b. AddsEntry A c.settle.new.heap (place_of c.args.self) t (insert hs place c.args.handle) b)
+    subst (λ b. AddsEntry A c.install_block.new.heap (place_of c.args.self) t (insert hs place c.args.handle) b)
     (sym c.in-Some.is)
-    (index_in A c.spread-in-Some.new.heap c.settle.new.heap c.in-Some.block (same_live (all at.After-spread-in-Some))
-    cap (c.settle.ensures.index (insert hs place c.args.handle) links (omega arith) whole))
+    (index_in A c.spread-in-Some.new.heap c.install_block.new.heap c.in-Some.block
+    (same_live (all at.After-spread-in-Some))
+    cap (c.install_block.ensures.index (insert hs place c.args.handle) links (omega arith) whole))
 
 pub returns-in-Some-clause-live : goal.returns-in-Some-clause-live
 returns-in-Some-clause-live c =
     let at = goal.at.returns-in-Some-clause-live c in let d = all at.After-spread-in-Some in
-    let o = given at.After-unwrap_or-from c.requires.entry.index.index in let E = c.settle.new.heap in
+    let o = given at.After-unwrap_or-from c.requires.entry.index.index in let E = c.install_block.new.heap in
     subst (λ b. EncodesLiveSet current E.bytes (grown_live c.args.heap.now (place_of c.args.self) b)) (sym c.in-Some.is)
     (subst (λ (l : LiveSet). EncodesLiveSet current E.bytes l)
-    (ap₂ without_link (same_live d) ((written o d (omega arith)).leads ∙ sym o.leads)) c.settle.ensures.live)
+    (ap₂ without_link (same_live d) ((written o d (omega arith)).leads ∙ sym o.leads)) c.install_block.ensures.live)
 
 pub returns-in-Some-clause-frame : goal.returns-in-Some-clause-frame
 returns-in-Some-clause-frame c = λ t hs i.
     let at = goal.at.returns-in-Some-clause-frame c in let o =
     given at.After-unwrap_or-from c.requires.entry.index.index in
-    subst (λ b. AddKeeps c.args.heap.now c.settle.new.heap (place_of c.args.self) t b) (sym c.in-Some.is)
-    (written_keeps o (all at.After-spread-in-Some) (omega arith) c.settle.ensures.frame)
+    subst (λ b. AddKeeps c.args.heap.now c.install_block.new.heap (place_of c.args.self) t b) (sym c.in-Some.is)
+    (written_keeps o (all at.After-spread-in-Some) (omega arith) c.install_block.ensures.frame)
 
 pub returns-in-Some-clause-progress : goal.returns-in-Some-clause-progress
 returns-in-Some-clause-progress c =
     let at = goal.at.returns-in-Some-clause-progress c in let o =
     given at.After-unwrap_or-from c.requires.entry.index.index in
-    let more = λ (l : Option ℕ). IfSome l (λ old. c.args.steps.now < c.settle.new.steps) in
+    let more = λ (l : Option ℕ). IfSome l (λ old. c.args.steps.now < c.install_block.new.steps) in
     subst (λ (b : Option ℕ). IfSome b (λ block. more (link_at (bytes_of c.args.heap.now.bytes) (place_of c.args.self))))
     (sym c.in-Some.is)
-    (subst more ((written o (all at.After-spread-in-Some) (omega arith)).leads ∙ sym o.leads) c.settle.ensures.progress)
+    (subst more ((written o (all at.After-spread-in-Some) (omega arith)).leads
+    ∙ sym o.leads) c.install_block.ensures.progress)
 
 -- ---- the order
 
@@ -188,11 +190,12 @@ pub returns-in-Some-clause-order : goal.returns-in-Some-clause-order
 returns-in-Some-clause-order c =
     let at = goal.at.returns-in-Some-clause-order c in let d = all at.After-spread-in-Some in
     let q = c.requires.entry.index.index in let o = given at.After-unwrap_or-from q in
-    let A = c.args.heap.now in let E = c.settle.new.heap in
-    let live : live_of E.bytes ≡ unlinked A (place_of c.args.self) =
-    lay_out_one current E.bytes (unlinked c.spread-in-Some.new.heap (place_of c.args.self)) c.settle.ensures.live
+    let A = c.args.heap.now in let E = c.install_block.new.heap in
+    let live : live_of E.bytes ≡ without_index_block A (place_of c.args.self) =
+    lay_out_one current E.bytes (without_index_block c.spread-in-Some.new.heap (place_of c.args.self))
+    c.install_block.ensures.live
     ∙ ap₂ without_link (same_live d) ((written o d (omega arith)).leads ∙ sym o.leads) in
-    keeps-sorted (moved-stays q o.offered live (written_keeps o d (omega arith) c.settle.ensures.frame))
+    keeps-sorted (moved-stays q o.offered live (written_keeps o d (omega arith) c.install_block.ensures.frame))
 
 pub returns-in-Some-clause-sorted : goal.returns-in-Some-clause-sorted
 returns-in-Some-clause-sorted c = λ t hs i. returns-in-Some-clause-order c c.args.self
@@ -204,5 +207,5 @@ returns-in-Some-clause-noop c =
     let o = given at.After-unwrap_or-from c.requires.entry.index.index in
     let leads = (written o (all at.After-spread-in-Some) (omega arith)).leads ∙ sym o.leads in λ either. elim either [
       | inl none ↦ absurd (none-some c.in-Some.block (sym none ∙ c.in-Some.is))
-      | inr none ↦ c.settle.ensures.noop (leads ∙ none)
+      | inr none ↦ c.install_block.ensures.noop (leads ∙ none)
     ]

@@ -3,7 +3,8 @@ use Rattle.seg_index.proofs.{◌≡◌, ap, ap₂, refl, sym, subst, ◌∙◌, 
 use Rattle.seg_index.proofs.{current, Extent, LiveSet, added, place, EncodesLiveSet, extent_at, heap_touches, live_of}
 use Rattle.seg_index.proofs.{allocated-live, without_link, IsIndexOf, capacity_at, place_of, same_live, in_header}
 use Rattle.seg_index.proofs.{links_lead, asked, is_found, meant, moved, source, taken_keeps, taken_offer, target}
-use Rattle.seg_index.proofs.{written, written_keeps, IndexRole, bytes_of, link_at, unlinked, found_still, in-kept}
+use Rattle.seg_index.proofs.{written, written_keeps, IndexRole, bytes_of, link_at, without_index_block, found_still}
+use Rattle.seg_index.proofs.{in-kept}
 use Rattle.seg_index.proofs.{keeps-sorted, unlinked-found}
 use Rattle.best_fit.proofs.Laws.{lay_out_one}
 use Rattle.seg_index.specs.Capacities.{KeepsRoomyIndex}
@@ -35,8 +36,8 @@ shift_non_null_links-requires c =
       links = links_lead c.unwrap_or-from.result 0 count q.handles s.links q.index.whole (omega arith);
     }
 
-pub settle-requires : goal.settle-requires
-settle-requires c =
+pub install_block-requires : goal.install_block-requires
+install_block-requires c =
     let q = c.requires.index in
     let o = taken_offer (in_header c.args.self) c.in_ok-block.ensures.answer c.saturating_mul.ensures
     c.header_offset.ensures c.header_link.ensures c.unwrap_or-from.ensures q.index in
@@ -51,7 +52,7 @@ settle-requires c =
 
 pub returns : goal.returns
 returns c =
-    let A = c.args.heap.now in let B = c.allocate.new.self in let E = c.settle.new.heap in
+    let A = c.args.heap.now in let B = c.allocate.new.self in let E = c.install_block.new.heap in
     let at = place_of c.args.self in let q = c.requires.index in let n = c.args.n in let h = c.in_ok-block.block in
     let al = c.in_ok-block.ensures.answer in let w = in_header c.args.self in
     let one = c.shift_non_null_links.ensures.changes in let k = meant n q.index.heap al c.saturating_mul.ensures in
@@ -62,9 +63,10 @@ returns c =
     let p = written o one few in let same = o.index.stands.link ∙ sym q.index.stands.link in
     let live : live_of c.shift_non_null_links.new.self.bytes ≡ added (live_of A.bytes) al.extent =
     same_live one ∙ allocated-live current A B c.saturating_mul.result IndexRole h al in
-    let keeps = taken_keeps w al same (written_keeps o one few c.settle.ensures.frame) in
+    let keeps = taken_keeps w al same (written_keeps o one few c.install_block.ensures.frame) in
     let laid = subst (λ (l : LiveSet).
-    EncodesLiveSet current E.bytes l) (ap₂ without_link live (p.leads ∙ sym o.leads ∙ same)) c.settle.ensures.live in
+    EncodesLiveSet current E.bytes l) (ap₂ without_link live (p.leads ∙ sym o.leads ∙ same))
+    c.install_block.ensures.live in
     let before_live = allocated-live current A B c.saturating_mul.result IndexRole h al in
     let now = lay_out_one current E.bytes (without_link (added (live_of A.bytes) al.extent)
     (link_at (bytes_of A.bytes) at)) laid in
@@ -84,24 +86,27 @@ returns c =
               c.shift_non_null_links.ensures.lead in
               subst (λ (x : Option Extent). IsIndexOf E at (record { capacity = n; extent = x }) hs)
               (ap (λ (l : LiveSet). extent_at l h) (same_live one) ∙ is_found al)
-              (c.settle.ensures.index hs links many i.whole);
+              (c.install_block.ensures.index hs links many i.whole);
           live = laid;
           keeps = keeps;
           order = keeps-sorted (λ g. record {
             each = λ x f role. (
               ap (λ (l : LiveSet). extent_at l g) now ∙ unlinked-found q.index g x f role (added (live_of A.bytes)
                   al.extent) (sym (ap (λ (l : LiveSet). extent_at l g) before_live) ∙ found_still g x al f),
-              in-kept (unlinked A at).extents g x keeps (unlinked-found q.index g x f role (live_of A.bytes) f),
+              in-kept (without_index_block A at).extents g x keeps
+                  (unlinked-found q.index g x f role (live_of A.bytes) f),
             );
           });
         };
       };
       noop = λ f. absurd (omega arith);
-      steps_lower = let second = c.settle.ensures.steps_lower in omega arith;
-      progress = λ differ. omega (arith, c.in_ok-block.ensures.progress refl, c.settle.ensures.steps_lower);
-      steps = subst (λ (x : Option Extent). c.settle.new.steps ≤ c.args.steps.now + (heap_touches (live_of A.bytes)
+      steps_lower = let second = c.install_block.ensures.steps_lower in omega arith;
+      progress = λ differ. omega (arith, c.in_ok-block.ensures.progress refl, c.install_block.ensures.steps_lower);
+      steps = subst (λ (x : Option Extent).
+          c.install_block.new.steps ≤ c.args.steps.now + (heap_touches (live_of A.bytes)
           + elim x [ None ↦ 0 | Some y ↦ heap_touches (added (live_of A.bytes) y) ])) (sym there)
-          (let second : c.settle.new.steps ≤ c.allocate.new.steps
+          (let second : c.install_block.new.steps ≤ c.allocate.new.steps
           + heap_touches (added (live_of A.bytes) al.extent) = subst (λ (l : LiveSet).
-          c.settle.new.steps ≤ c.allocate.new.steps + heap_touches l) live c.settle.ensures.steps in omega arith);
+          c.install_block.new.steps ≤ c.allocate.new.steps + heap_touches l) live c.install_block.ensures.steps
+          in omega arith);
     }

@@ -1,8 +1,8 @@
 -- The node enters the tree, and the three words say so.
 use Rattle.seg_map.proofs.{sym, ap, ◌∙◌, ◌+◌, ◌-◌, Some, arith, bits, laws, can_link, few_steps, fewer, kept_proper}
 use Rattle.seg_map.proofs.{kept_room, own_nodes, planted, planted_tree, relinked, rules, top_whole, Relinked}
-use Rattle.seg_map.proofs.{Entering.few_in_map, maps.SegMap.link_pair.Goals.After-add}
-use Rattle.link_tree.specs.Nodes.{put}
+use Rattle.seg_map.proofs.{pairs.SearchTree.few_in_map, maps.SegMap.link_pair.Goals.After-add}
+use Rattle.link_tree.specs.Nodes.{insert_in_order}
 use Rattle.seg_map.specs.{Linking.keys_in, PairNodes.comes_before}
 use Rattle.seg_map.proofs.maps.SegMap.link_pair.Goals as goal
 
@@ -18,7 +18,7 @@ insert_at-changed-requires g c =
 entered : (g : _) (c : After-add g) → let ns =
     own_nodes c.args.heap.now.bytes c.args.trace.now.root (Some c.args.node) in
     Relinked g.K.Plain ns c.args.heap.now c.heap-1.given.0 c.args.trace.now.root c.insert_at-changed.result.root
-    (put (comes_before g.K.Plain.order (keys_in g.K.Plain ns c.args.heap.now)) c.args.node)
+    (insert_in_order (comes_before g.K.Plain.order (keys_in g.K.Plain ns c.args.heap.now)) c.args.node)
     (c.add.new.self - c.args.steps.now)
 entered g c =
     let f = c.insert_at-changed.ensures in let lent = c.lend-pairs in let r = c.insert_at-changed.result in

@@ -20,7 +20,7 @@ use denote.Triple.Walked.{Stays, stay_dropped, walk_of, Goes-dropped}
 use Rattle.std.proofs.{alloc.Calls.handle_tells, raw_atomic.Walks.proved_at, raw_atomic.Walks.leaves}
 use Rattle.std.specs.{declared.option.Option.Option, declared.option.Option.TheVariants.None}
 use Rattle.boxed.proofs.Values.{both}
-use Rattle.segment_c.proofs.HandleValues.{Z, al, null_good, handle_in}
+use Rattle.segment_c.proofs.segment_slot.MachineValues.{Z, al, null_good, handle_in}
 use Rattle.segment_manager.specs.contracts.Segment.{the_row as R}
 use Rattle.segment_c.proofs.segment_slot.HeldSegment.closed.Statement.{statement}
 

@@ -26,7 +26,7 @@ use Rattle.std.proofs.{option.Made.none_of, ResultValues.and_tt, raw_atomic.Walk
 use Rattle.std.specs.declared.option.Option.TheVariants.{None, Some}
 use Rattle.std.specs.contracts.impls.GlobalAllocator.TheImpl.{ghosts}
 use Rattle.boxed.proofs.Values.{both, LooseRow, fits_pair, loose_made}
-use Rattle.segment_c.proofs.HandleValues.{Z, LZ, null_good, either, handle_out}
+use Rattle.segment_c.proofs.segment_slot.MachineValues.{Z, LZ, null_good, either, handle_out}
 use Rattle.segment_manager.specs.contracts.Segment.{the_row as R}
 use Rattle.segment_c.proofs.segment_slot.HeldSegment.into_loose.Statement.{statement}
 

@@ -20,7 +20,7 @@ use denote.Triple.Walked.{Stays, stay_dropped, walk_of}
 use Rattle.std.proofs.{alloc.Calls.Goes-blank, raw_atomic.Walks.proved_at, raw_atomic.Walks.leaves}
 use Rattle.std.specs.{declared.option.Option.TheVariants.Some, contracts.impls.GlobalAllocator.TheImpl.ghosts}
 use Rattle.boxed.proofs.Values.{both, LooseRow, fits_pair, loose_apart}
-use Rattle.segment_c.proofs.HandleValues.{Z, LZ, handle_in}
+use Rattle.segment_c.proofs.segment_slot.MachineValues.{Z, LZ, handle_in}
 use Rattle.segment_manager.specs.contracts.Segment.{the_row as R}
 use Rattle.segment_c.proofs.segment_slot.HeldSegment.of.Statement.{statement}
 

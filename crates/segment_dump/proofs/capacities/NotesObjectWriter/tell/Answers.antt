@@ -1,7 +1,7 @@
 use Rattle.segment_dump.proofs.capacities.NotesObjectWriter.tell.Goals as goal
 use Rattle.segment_dump.proofs.Common.{subst, ByHandle, AnswersWith, Holds, capacity_note, places_at}
-use Rattle.segment_dump.proofs.{Elements.said-here, Owed.of-none, Owed.of-one}
-use Rattle.segment_dump.proofs.PlaceNotes.{none-told, note-told}
+use Rattle.segment_dump.proofs.{dumping.ObjectParts.said-here, dumping.Output.of-none, dumping.Output.of-one}
+use Rattle.segment_dump.proofs.dumping.Capacities.{none-told, note-told}
 
 pub object_here-object-requires : goal.object_here-object-requires
 object_here-object-requires g c = said-here c.args.segment.now c.args.said c.requires.text

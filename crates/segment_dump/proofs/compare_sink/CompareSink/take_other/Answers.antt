@@ -1,5 +1,5 @@
 use Rattle.segment_dump.proofs.Common.{arith, sym}
-use Rattle.segment_dump.proofs.Comparings.{all-taken, other-compares, other-taken}
+use Rattle.segment_dump.proofs.comparing.Comparison.{all-taken, other-compares, other-taken}
 use Rattle.segment_dump.proofs.compare_sink.CompareSink.take_other.Goals as goal
 
 pub returns-then-count-bytes-clause-bytes : goal.returns-then-count-bytes-clause-bytes

@@ -1,7 +1,7 @@
 use Rattle.segment_dump.proofs.entries.EntriesObjectWriter.tell.Goals as goal
 use Rattle.segment_dump.proofs.Common.{refl, ByHandle, head_line, in_lines, laid_at}
-use Rattle.segment_dump.proofs.{Elements.said-here, Sections.entry-text}
-use Rattle.segment_dump.proofs.Owed.{of-cut, of-one, of-same, of-then}
+use Rattle.segment_dump.proofs.{dumping.ObjectParts.said-here, dumping.Sections.entry-text}
+use Rattle.segment_dump.proofs.dumping.Output.{of-cut, of-one, of-same, of-then}
 
 pub object_here-object-requires : goal.object_here-object-requires
 object_here-object-requires g c = said-here c.args.segment.now c.args.said c.requires.text

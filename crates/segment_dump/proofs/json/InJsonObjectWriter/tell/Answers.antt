@@ -1,8 +1,8 @@
 use Rattle.segment_dump.proofs.json.InJsonObjectWriter.tell.Goals as goal
 use Rattle.segment_dump.proofs.Common.{◌++◌, ap, refl, ByHandle, laid_at}
 use Rattle.segment_dump.specs.Json.{closing, in_json, json_key, json_kind, opening}
-use Rattle.segment_dump.proofs.{Elements.said-here, JsonLines.kind-said, JsonLines.line-said}
-use Rattle.segment_dump.proofs.Owed.{of-cut, of-one, of-same, of-then}
+use Rattle.segment_dump.proofs.{dumping.ObjectParts.said-here, dumping.Json.kind-said, dumping.Json.line-said}
+use Rattle.segment_dump.proofs.dumping.Output.{of-cut, of-one, of-same, of-then}
 
 pub object_here-object-requires : goal.object_here-object-requires
 object_here-object-requires g c = said-here c.args.segment.now c.args.said c.requires.text

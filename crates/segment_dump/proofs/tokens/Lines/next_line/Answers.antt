@@ -1,5 +1,5 @@
 use Rattle.segment_dump.proofs.Common.{ap, ◌∙◌, drop, position, take}
-use Rattle.segment_dump.proofs.LineReads.{is_end, long-line, no-line, this-line}
+use Rattle.segment_dump.proofs.reading.Lines.{is_end, long-line, no-line, this-line}
 use Rattle.segment_dump.proofs.tokens.Lines.next_line.Goals as goal
 
 pub returns-in_default : goal.returns-in_default

@@ -1,5 +1,6 @@
 use Rattle.segment_dump.proofs.tokens.Words.expect.Goals as goal
-use Rattle.segment_dump.proofs.{Common.false≢true, LineReads.is-this, LineReads.not-this, LineReads.other-this}
+use Rattle.segment_dump.proofs.{Common.false≢true, reading.Lines.is-this, reading.Lines.not-this}
+use Rattle.segment_dump.proofs.{reading.Lines.other-this}
 
 pub returns-in_err-bytes : goal.returns-in_err-bytes
 returns-in_err-bytes c = not-this c.args.self.now c.next_bare.new.self c.args.word.now _ c.from_residual.result

@@ -1,6 +1,6 @@
 use Rattle.segment_dump.proofs.Common.{ap, word_of, bare_word}
 use Rattle.segment_dump.specs.Lines.{seen_bytes}
-use Rattle.segment_dump.proofs.LineReads.{no-word, other-word, this-word}
+use Rattle.segment_dump.proofs.reading.Lines.{no-word, other-word, this-word}
 use Rattle.segment_dump.proofs.tokens.Words.next_bare.Goals as goal
 
 pub returns-in_err-bytes : goal.returns-in_err-bytes

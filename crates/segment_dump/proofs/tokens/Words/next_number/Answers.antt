@@ -1,4 +1,4 @@
-use Rattle.segment_dump.proofs.LineReads.{no-number, other-number, this-number}
+use Rattle.segment_dump.proofs.reading.Lines.{no-number, other-number, this-number}
 use Rattle.segment_dump.proofs.tokens.Words.next_number.Goals as goal
 
 pub returns-in_err-next_bare : goal.returns-in_err-next_bare

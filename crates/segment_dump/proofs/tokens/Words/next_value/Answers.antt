@@ -1,5 +1,5 @@
 use Rattle.segment_dump.proofs.Common.{sym, ◌∙◌, word_of, value_word}
-use Rattle.segment_dump.proofs.LineReads.{no-word, other-word, this-word}
+use Rattle.segment_dump.proofs.reading.Lines.{no-word, other-word, this-word}
 use Rattle.segment_dump.proofs.tokens.Words.next_value.Goals as goal
 
 pub returns-in_err-next_word : goal.returns-in_err-next_word

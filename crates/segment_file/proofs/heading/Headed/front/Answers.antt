@@ -1,5 +1,5 @@
 use Rattle.std.proofs.Common.{length, arith}
-use Rattle.segment_file.proofs.Kept.{front_kept}
+use Rattle.segment_file.proofs.opening.ReaderFront.{front_kept}
 use Rattle.segment_file.proofs.heading.Headed.front.Goals as goal
 
 pub returns : goal.returns

@@ -1,4 +1,4 @@
-use Rattle.segment_lang.proofs.Buffers.{room_filled}
+use Rattle.segment_lang.proofs.values.Buffers.{room_filled}
 use Rattle.segment_lang.proofs.buffer.Buffer.extend.Goals as goal
 
 pub returns : goal.returns

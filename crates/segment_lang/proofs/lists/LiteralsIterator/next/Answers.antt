@@ -1,7 +1,7 @@
 use Rattle.std.proofs.Common.{sym}
 use Rattle.segment_lang.specs.Arguments.{literals_at}
 use Rattle.segment_lang.specs.Words.{literal_of_word}
-use Rattle.segment_lang.proofs.EachWord.{each_first, each_last, each_stays, literal_back, literals, moves_on}
+use Rattle.segment_lang.proofs.words.EachWord.{each_first, each_last, each_stays, literal_back, literals, moves_on}
 use Rattle.segment_lang.proofs.lists.LiteralsIterator.next.Goals as goal
 
 pub returns-in_err-word-clause-steps : goal.returns-in_err-word-clause-steps

@@ -1,7 +1,7 @@
 use Rattle.std.proofs.Common.{sym}
 use Rattle.segment_lang.specs.Arguments.{texts_at}
 use Rattle.segment_lang.specs.Reading.{quoted_of}
-use Rattle.segment_lang.proofs.EachWord.{each_first, each_last, each_stays, moves_on, text_back, texts}
+use Rattle.segment_lang.proofs.words.EachWord.{each_first, each_last, each_stays, moves_on, text_back, texts}
 use Rattle.segment_lang.proofs.lists.TextLiteralsIterator.next.Goals as goal
 
 pub returns-in_err-word-clause-steps : goal.returns-in_err-word-clause-steps

@@ -1,4 +1,4 @@
-use Rattle.segment_lang.proofs.ArrayValues.{values_in_range}
+use Rattle.segment_lang.proofs.values.Arrays.{values_in_range}
 use Rattle.segment_lang.proofs.values.LiteralValues.kind.Goals as goal
 
 pub returns-clause-values : goal.returns-clause-values

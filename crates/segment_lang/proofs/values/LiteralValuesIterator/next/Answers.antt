@@ -1,6 +1,6 @@
 use Rattle.std.proofs.Common.{sym}
-use Rattle.segment_lang.proofs.ArrayValues.{first_left, none_left, stays_good}
-use Rattle.segment_lang.proofs.EachWord.{moves_on}
+use Rattle.segment_lang.proofs.values.Arrays.{first_left, none_left, stays_good}
+use Rattle.segment_lang.proofs.words.EachWord.{moves_on}
 use Rattle.segment_lang.proofs.values.LiteralValuesIterator.next.Goals as goal
 
 pub returns-in_err-word-clause-steps : goal.returns-in_err-word-clause-steps

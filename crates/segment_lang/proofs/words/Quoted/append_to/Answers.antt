@@ -1,5 +1,5 @@
 use Rattle.std.proofs.Common.{sym, ◌∙◌, ap, arith, length}
-use Rattle.segment_lang.proofs.TextItems.{text_in-item, text_in-end, moved_byte, moved_room, last_byte}
+use Rattle.segment_lang.proofs.texts.Items.{text_in-item, text_in-end, moved_byte, moved_room, last_byte}
 use Rattle.segment_lang.proofs.words.Quoted.append_to.Goals as goal
 
 pub push-requires : goal.push-requires

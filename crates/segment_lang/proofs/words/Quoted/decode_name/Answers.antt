@@ -1,6 +1,6 @@
 use Rattle.std.proofs.Common.{◌∙◌, ◌∷◌, [], sym, ap, arith, length, length-append}
-use Rattle.segment_lang.proofs.TextItems.{text_in-item, text_in-end, moved_byte, last_byte}
-use Rattle.segment_lang.proofs.QuotedNames.{byte_too_much, named_bytes}
+use Rattle.segment_lang.proofs.texts.Items.{text_in-item, text_in-end, moved_byte, last_byte}
+use Rattle.segment_lang.proofs.words.QuotedNames.{byte_too_much, named_bytes}
 use Rattle.segment_lang.proofs.words.Quoted.decode_name.Goals as goal
 
 pub returns-then-len-eq-MAX_NAME_LEN : goal.returns-then-len-eq-MAX_NAME_LEN

@@ -1,5 +1,5 @@
 use Rattle.std.proofs.Common.{◌∙◌, sym}
-use Rattle.segment_lang.proofs.TextItems.{quote_in_front, unescaped_text}
+use Rattle.segment_lang.proofs.texts.Items.{quote_in_front, unescaped_text}
 use Rattle.segment_lang.proofs.words.Quoted.lent.Goals as goal
 
 pub returns : goal.returns

@@ -1,4 +1,4 @@
-use Rattle.segment_lang.proofs.QuotedNames.{named_bytes}
+use Rattle.segment_lang.proofs.words.QuotedNames.{named_bytes}
 use Rattle.segment_lang.proofs.words.Quoted.to_name.Goals as goal
 
 pub returns-in-Some : goal.returns-in-Some

@@ -1,6 +1,7 @@
 -- An object is found under the entry, or made with one, or a block is refused.
 use Rattle.segment_manager.proofs.Common.{exit-is, ◌≡◌, sym, subst, Ok, Err, Write, Object, kind_of, Constructs}
-use Rattle.segment_manager.proofs.Common.{FindsOrConstructs, with_count, pair_answer, IsNewKeyOf, bare, IsObjectInBlock}
+use Rattle.segment_manager.proofs.Common.{FindsOrConstructs, with_count, found_object_answer, IsNewKeyOf, bare}
+use Rattle.segment_manager.proofs.Common.{IsObjectInBlock}
 use Rattle.segment_manager.proofs.objects.FilledCalls.{begun-for, found-absent, found-all, found-built, found-not_begun}
 use Rattle.segment_manager.proofs.objects.NewKeys.{key-seeks, key-short, key-sort}
 use Rattle.segment_manager.proofs.objects.KeyCalls.{place-below, found-answers, segment-index}
@@ -63,7 +64,7 @@ returns g c = λ key n.
     let away = c.in-Absent.ensures.place in let b = c.in_ok-begun.begun in
     subst (FindsOrConstructs c.args.heap.now c.build.new.heap key content) (sym c.counted.ensures)
     (found-absent c.args.index c.args.entry c.in-Absent.place c.args.name.now (kind_of (bare content)) n away
-    (subst (λ m. Constructs c.args.heap.now c.build.new.heap (asked.FindOrConstruct key content) pair_answer
+    (subst (λ m. Constructs c.args.heap.now c.build.new.heap (asked.FindOrConstruct key content) found_object_answer
     (with_count m c.build.result)) (sym is.count)
     (found-built c.requires.segment key content b.entry c.begin_at.new.heap b.handle b.at c.build.result
     (begun-for c.args.heap.now c.begin_at.new.heap key (Ok b) is (c.in_ok-begun.ensures key c.args.entry

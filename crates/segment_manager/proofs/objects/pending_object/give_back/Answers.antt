@@ -1,5 +1,5 @@
 -- The object's block goes back first, and then what its index took.
-use Rattle.segment_manager.proofs.Common.{subst, IsUnindexedObject, IsLooseEntry}
+use Rattle.segment_manager.proofs.Common.{subst, WritesUnindexedObject, WritesUnindexedForEntry}
 use Rattle.segment_manager.proofs.objects.Loose.{alone-back, entry-back, loose-held, loose-live}
 use Rattle.segment_manager.proofs.objects.pending_object.give_back.Goals as goal
 
@@ -8,16 +8,16 @@ deallocate-requires c = loose-live c.args.entry c.requires.0 c.args.heap.now c.a
 
 pub give_back-requires : goal.give_back-requires
 give_back-requires c =
-    let l : IsLooseEntry c.requires.0 c.args.heap.now c.args.handle c.in-Some.new =
-    subst (IsUnindexedObject c.requires.0 c.args.heap.now c.args.handle) c.in-Some.is c.requires.1 in
+    let l : WritesUnindexedForEntry c.requires.0 c.args.heap.now c.args.handle c.in-Some.new =
+    subst (WritesUnindexedObject c.requires.0 c.args.heap.now c.args.handle) c.in-Some.is c.requires.1 in
     record { lock = loose-held l c.deallocate.ensures.released }
 
 pub returns-in-Some : goal.returns-in-Some
 returns-in-Some c = λ old loose.
-    entry-back (subst (IsUnindexedObject old c.args.heap.now c.args.handle) c.in-Some.is loose)
+    entry-back (subst (WritesUnindexedObject old c.args.heap.now c.args.handle) c.in-Some.is loose)
     c.deallocate.ensures.released c.give_back.ensures.changes
 
 pub returns-in_default : goal.returns-in_default
 returns-in_default c = λ old loose.
-    alone-back (subst (IsUnindexedObject old c.args.heap.now c.args.handle) c.in_default.is loose)
+    alone-back (subst (WritesUnindexedObject old c.args.heap.now c.args.handle) c.in_default.is loose)
     c.deallocate.ensures.released

@@ -5,7 +5,8 @@ use Rattle.segment_manager.proofs.Common.{Err, TakesStep, Key, Kind, Located, Re
 use Rattle.segment_manager.proofs.Common.{StringsKind, command_of, container_at, ap, done_answer, has_storage, inl, inr}
 use Rattle.segment_manager.proofs.{Common.is_read_only, containers.Safely.Answered, containers.Safely.answered}
 use Rattle.segment_manager.proofs.{containers.KeptContainers.texts-kept, containers.Released.has_storage-left}
-use Rattle.segment_manager.proofs.{Steps.open-writing, Steps.refuses-read_only, containers.Refilled.finds-no_container}
+use Rattle.segment_manager.proofs.{directory.CommandSteps.open-writing, directory.CommandSteps.refuses-read_only}
+use Rattle.segment_manager.proofs.{containers.Refilled.finds-no_container}
 use Rattle.segment_manager.proofs.objects.Locating.{enough-by_key, kind-by_key, located-changes}
 use Rattle.segment_manager.proofs.containers.OneLength.{elements-changed, elements-kept, some-elements}
 use Rattle.segment_manager.proofs.containers.TextListCalls.{texts-changed, texts-standing}

@@ -2,7 +2,8 @@
 use Rattle.segment_manager.proofs.Common.{exit-is, refl, sym, ap, subst, ◌∙◌, Err, Ok, Key, Constructs, bare}
 use Rattle.segment_manager.proofs.objects.FilledCalls.{begun-for, has-begun, construct-built, construct-not_begun}
 use Rattle.segment_manager.proofs.objects.FilledCalls.{made-segment, made-step}
-use Rattle.segment_manager.proofs.{Common.handle_answer, Common.kind_of, Common.new_key_seen, Steps.refuses-read_only}
+use Rattle.segment_manager.proofs.{Common.handle_answer, Common.kind_of, Common.new_key_seen}
+use Rattle.segment_manager.proofs.{directory.CommandSteps.refuses-read_only}
 use Rattle.seg_types.specs.Commands.{Construct}
 use Rattle.segment_manager.proofs.segment.Segment.construct_under.{Goals.After-build, Goals.In_err-begun, Given.Over}
 use Rattle.segment_manager.proofs.segment.Segment.construct_under.Goals as goal

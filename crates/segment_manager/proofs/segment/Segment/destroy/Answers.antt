@@ -1,6 +1,7 @@
 -- The key says which index has the entry. It is removed with its object, or there is none.
 use Rattle.segment_manager.proofs.segment.Segment.destroy.Goals as goal
-use Rattle.segment_manager.proofs.{Keeping.keeps-found, Common.refl, Common.sym, Common.◌∙◌, Steps.refuses-read_only}
+use Rattle.segment_manager.proofs.{objects.KeyFrames.keeps-found, Common.refl, Common.sym, Common.◌∙◌}
+use Rattle.segment_manager.proofs.{directory.CommandSteps.refuses-read_only}
 use Rattle.segment_manager.proofs.{indexes.Bridge.seeks-sort, indexes.HeldIndexes.denotes-sorted_index}
 use Rattle.segment_manager.proofs.objects.Destroys.{destroys-entered, destroys-none, found-entry}
 use Rattle.seg_types.specs.{Commands.Destroy, Keys.index_key_seen}

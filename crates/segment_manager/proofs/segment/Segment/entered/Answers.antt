@@ -1,6 +1,7 @@
 -- The object at the entry is read.
 use Rattle.segment_manager.proofs.Common.{subst, current, objects_of, SaysAt, SegmentState}
-use Rattle.segment_manager.proofs.{Calling.denotes-heap, objects.KeyCalls.below-count, objects.KeyCalls.segment-index}
+use Rattle.segment_manager.proofs.{directory.HeapCalls.denotes-heap, objects.KeyCalls.below-count}
+use Rattle.segment_manager.proofs.{objects.KeyCalls.segment-index}
 use Rattle.segment_manager.proofs.objects.KeyCalls.{entered-object, entered-says}
 use Rattle.segment_manager.proofs.segment.Segment.entered.Goals as goal
 

@@ -3,7 +3,7 @@ use Rattle.segment_manager.proofs.Common.{refl, sym, ap, subst, ◌∙◌, Key, 
 use Rattle.segment_manager.proofs.segment.Segment.find_or_construct_under.Goals.{After-find_or_construct_entered}
 use Rattle.segment_manager.proofs.segment.Segment.find_or_construct_under.Given.{Over}
 use Rattle.segment_manager.proofs.{Common.index_key_seen, Common.kind_of, objects.FilledCalls.made-segment}
-use Rattle.segment_manager.proofs.{containers.KeptContainers.keeps-cut, Steps.refuses-read_only}
+use Rattle.segment_manager.proofs.{containers.KeptContainers.keeps-cut, directory.CommandSteps.refuses-read_only}
 use Rattle.segment_manager.specs.Keeping.{IsBoundKey}
 use Rattle.segment_manager.proofs.segment.Segment.find_or_construct_under.Goals as goal
 

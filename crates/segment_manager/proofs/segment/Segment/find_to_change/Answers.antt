@@ -1,5 +1,5 @@
 -- The segment is open for reading, or the container is found or not.
-use Rattle.segment_manager.proofs.{Common.sym, Common.◌∙◌, Steps.refuses_of_kind-read_only}
+use Rattle.segment_manager.proofs.{Common.sym, Common.◌∙◌, directory.CommandSteps.refuses_of_kind-read_only}
 use Rattle.segment_manager.proofs.{containers.ToChange.to_change}
 use Rattle.segment_manager.proofs.segment.Segment.find_to_change.Goals as goal
 

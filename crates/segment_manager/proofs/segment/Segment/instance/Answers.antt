@@ -1,5 +1,5 @@
 -- The object of the key is read.
-use Rattle.segment_manager.proofs.{Common.subst, Common.current, Common.SaysOf, Calling.denotes-heap}
+use Rattle.segment_manager.proofs.{Common.subst, Common.current, Common.SaysOf, directory.HeapCalls.denotes-heap}
 use Rattle.segment_manager.proofs.{objects.Here.seen-handle, objects.Here.seen-object, objects.KeyCalls.key-says}
 use Rattle.segment_manager.proofs.objects.Locating.{handle-located}
 use Rattle.segment_manager.proofs.segment.Segment.instance.Goals as goal

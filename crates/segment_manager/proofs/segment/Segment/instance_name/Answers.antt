@@ -2,7 +2,7 @@
 use Rattle.segment_manager.proofs.Common.{◌≡◌, refl, sym, ap, ◌∙◌, Some, None, inl, inr, Class, Anonymous, UniqueClass}
 use Rattle.segment_manager.proofs.Common.{current, key_seen}
 use Rattle.segment_manager.specs.objects.Instances.{name_in, own_name}
-use Rattle.segment_manager.proofs.{Calling.denotes-heap, objects.Here.seen-object, objects.Here.seen-tells}
+use Rattle.segment_manager.proofs.{directory.HeapCalls.denotes-heap, objects.Here.seen-object, objects.Here.seen-tells}
 use Rattle.segment_manager.proofs.segment.Segment.instance_name.Goals as goal
 
 pub read_head-requires : goal.read_head-requires

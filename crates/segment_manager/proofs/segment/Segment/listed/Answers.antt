@@ -1,6 +1,6 @@
 -- The head says the class, and with it the key.
 use Rattle.segment_manager.proofs.objects.OwnEntries.{has-own_object, listed-kind, listed-name, listed-none}
-use Rattle.segment_manager.proofs.{Common.current, Calling.denotes-heap}
+use Rattle.segment_manager.proofs.{Common.current, directory.HeapCalls.denotes-heap}
 use Rattle.seg_index.specs.declared.keys.Entry.TheVariants as entry
 use Rattle.segment_manager.proofs.segment.Segment.listed.Goals as goal
 

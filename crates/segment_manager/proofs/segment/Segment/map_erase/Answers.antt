@@ -2,7 +2,8 @@
 use Rattle.segment_manager.proofs.Common.{exit-is, refl, sym, ◌∙◌, Command, Remove, literal_of}
 use Rattle.segment_manager.proofs.{containers.KeptContainers.map-kept, containers.MapAnswers.erased-there}
 use Rattle.segment_manager.proofs.{containers.MapAnswers.some-there, containers.MapCalls.finds-no_map}
-use Rattle.segment_manager.proofs.{containers.ScalarTypes.of-map, Steps.open-writing, Steps.refuses_of_kind-read_only}
+use Rattle.segment_manager.proofs.{containers.ScalarTypes.of-map, directory.CommandSteps.open-writing}
+use Rattle.segment_manager.proofs.{directory.CommandSteps.refuses_of_kind-read_only}
 use Rattle.segment_manager.proofs.segment.Segment.map_erase.Goals as goal
 
 pub returns-then-is_read_only-clause-step : goal.returns-then-is_read_only-clause-step

@@ -1,7 +1,8 @@
 -- The value is read from the map that is found.
 use Rattle.segment_manager.proofs.Common.{exit-is, refl, Command, Lookup, literal_of}
 use Rattle.segment_manager.proofs.{containers.MapAnswers.got-there, containers.MapAnswers.some-there}
-use Rattle.segment_manager.proofs.{containers.MapCalls.finds-no_map, containers.ScalarTypes.of-map, Steps.open-reading}
+use Rattle.segment_manager.proofs.{containers.MapCalls.finds-no_map, containers.ScalarTypes.of-map}
+use Rattle.segment_manager.proofs.{directory.CommandSteps.open-reading}
 use Rattle.segment_manager.proofs.{containers.StorageSteps.step_of_kind-reply}
 use Rattle.segment_manager.proofs.segment.Segment.map_get.Goals as goal
 

@@ -4,7 +4,8 @@ use Rattle.segment_manager.proofs.{containers.MapAnswers.put-there, containers.M
 use Rattle.segment_manager.proofs.{containers.MapCalls.finds-no_map, containers.MapCalls.put_result}
 use Rattle.segment_manager.proofs.{containers.Safely.Answered, containers.ScalarTypes.of-map}
 use Rattle.segment_manager.proofs.containers.KeptContainers.{map-again}
-use Rattle.segment_manager.proofs.{Steps.open-writing, Steps.refuses_of_kind-read_only}
+use Rattle.segment_manager.proofs.{directory.CommandSteps.open-writing}
+use Rattle.segment_manager.proofs.{directory.CommandSteps.refuses_of_kind-read_only}
 use Rattle.segment_manager.proofs.segment.Segment.map_put.Goals as goal
 use Rattle.segment_manager.proofs.segment.Segment.map_put.{Goals.Joined-put, Goals.in-Err, Goals.in-Ok, Given.Over}
 

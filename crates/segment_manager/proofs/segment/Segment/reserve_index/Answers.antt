@@ -1,7 +1,7 @@
 -- The places are there, or they are taken, or their block is refused.
 use Rattle.segment_manager.proofs.indexes.Reserves.{reserve-changes, reserves, reserves-none}
 use Rattle.segment_manager.proofs.{Common.sym, Common.◌∙◌, Common.reserve_of}
-use Rattle.segment_manager.proofs.{objects.KeyCalls.segment-index, Steps.refuses-read_only}
+use Rattle.segment_manager.proofs.{objects.KeyCalls.segment-index, directory.CommandSteps.refuses-read_only}
 use Rattle.segment_manager.proofs.segment.Segment.reserve_index.Goals.{in-Ok, in-Err}
 use Rattle.segment_manager.proofs.segment.Segment.reserve_index.Goals as goal
 

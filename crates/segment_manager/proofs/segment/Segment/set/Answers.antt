@@ -1,7 +1,7 @@
 -- The bytes that spell the value are written at the place that is found.
 use Rattle.segment_manager.proofs.Common.{exit-is, refl, sym, ap, subst, ◌∙◌, length, List, ℕ, Ok, Err, AnswersWith}
 use Rattle.segment_manager.proofs.{blocks.Blocks.spelling-length, objects.Stored.place-room}
-use Rattle.segment_manager.proofs.{Steps.refuses_of_kind-read_only, objects.Written.stores-nothing}
+use Rattle.segment_manager.proofs.{directory.CommandSteps.refuses_of_kind-read_only, objects.Written.stores-nothing}
 use Rattle.segment_manager.proofs.{objects.Written.stores-number}
 use Rattle.segment_manager.specs.objects.Standing.{place_at}
 use Rattle.segment_manager.proofs.segment.Segment.set.Goals as goal

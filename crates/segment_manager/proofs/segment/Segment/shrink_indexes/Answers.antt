@@ -1,6 +1,6 @@
 -- One index is shrunk, and then the other.
 use Rattle.segment_manager.proofs.{Common.refl, Common.sym, Common.◌∙◌, Common.Named, indexes.Reserves.shrinks}
-use Rattle.segment_manager.proofs.{indexes.Reserves.shrunk-index, Steps.refuses-read_only}
+use Rattle.segment_manager.proofs.{indexes.Reserves.shrunk-index, directory.CommandSteps.refuses-read_only}
 use Rattle.segment_manager.proofs.{objects.KeyCalls.segment-index}
 use Rattle.seg_types.specs.Commands.{ShrinkIndexes}
 use Rattle.segment_manager.proofs.segment.Segment.shrink_indexes.Goals as goal

@@ -2,7 +2,7 @@
 use Rattle.segment_manager.proofs.segment.Segment.write_in_array.Goals as goal
 use Rattle.segment_manager.proofs.Common.{sym, ◌∙◌, ◌*◌, length, length-map, map, subst, ByHandle, IsLocated}
 use Rattle.segment_manager.proofs.Common.{SegmentState, current, eqb-true}
-use Rattle.segment_manager.proofs.{Calling.denotes-heap, containers.ScalarTypes.of-vector}
+use Rattle.segment_manager.proofs.{directory.HeapCalls.denotes-heap, containers.ScalarTypes.of-vector}
 use Rattle.segment_manager.proofs.containers.RangeCalls.{array-empty, array-framed, array-kind, array-other, array-room}
 use Rattle.segment_manager.proofs.containers.RangeCalls.{array-short, array-spelled, array-unlike, row-test}
 

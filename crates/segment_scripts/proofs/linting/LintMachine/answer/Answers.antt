@@ -1,8 +1,8 @@
 use Rattle.std.proofs.Common.{subst, sym}
 use Rattle.segment_scripts.specs.declared.answered.Answered.TheVariants.{Done, Refused}
 use Rattle.segment_scripts.specs.Refusing.{Tells}
-use Rattle.segment_scripts.proofs.LintAnswers.{finds, quiet, quiet_leads, quiet_writes, told_missed}
-use Rattle.segment_scripts.proofs.Refusals.{tells-once, writes-once}
+use Rattle.segment_scripts.proofs.linting.Outcomes.{finds, quiet, quiet_leads, quiet_writes, told_missed}
+use Rattle.segment_scripts.proofs.segments.Refusals.{tells-once, writes-once}
 use Rattle.segment_scripts.proofs.linting.LintMachine.answer.Goals as goal
 
 pub returns-in-Some-clause-output : goal.returns-in-Some-clause-output

@@ -1,8 +1,8 @@
 use Rattle.std.proofs.Common.{◌∙◌, ap, sym}
 use Rattle.segment_lang.specs.Seen.{reading_by}
 use Rattle.segment_scripts.specs.Refusing.{refuses}
-use Rattle.segment_scripts.proofs.Meant.{asked-meant}
-use Rattle.segment_scripts.proofs.WrongLines.{responds-form, responds-wrong}
+use Rattle.segment_scripts.proofs.segments.LineBounds.{asked-meant}
+use Rattle.segment_scripts.proofs.segments.RefusedLines.{responds-form, responds-wrong}
 use Rattle.segment_scripts.proofs.segments.SegmentMachine.answer.Goals as goal
 
 pub answer_push-requires-clause-meaning : goal.answer_push-requires-clause-meaning

@@ -1,5 +1,5 @@
 use Rattle.std.proofs.Common.{ap, sym, ◌∙◌, arith, length, rules, take}
-use Rattle.segment_scripts.proofs.TextParts.{parts-length}
+use Rattle.segment_scripts.proofs.values.Texts.{parts-length}
 use Rattle.segment_scripts.proofs.text_rows.TextRow.few.Goals as goal
 
 pub cut-requires : goal.cut-requires

@@ -1,5 +1,5 @@
 use Rattle.std.proofs.Common.{ap, sym, arith, length, take}
-use Rattle.segment_scripts.proofs.TextParts.{parts-length}
+use Rattle.segment_scripts.proofs.values.Texts.{parts-length}
 use Rattle.segment_scripts.proofs.text_rows.TextRow.len.Goals as goal
 
 pub returns : goal.returns

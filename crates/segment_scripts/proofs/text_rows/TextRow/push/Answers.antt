@@ -1,7 +1,7 @@
 use Rattle.std.proofs.Common.{◌≡◌, ◌+◌, ◌-◌, ◌∷◌, [], ◌++◌, ap, ◌∙◌, length, set, take, arith}
 use Rattle.std.proofs.lemmas.List.{length-append, take_more_set}
 use Rattle.segment_scripts.specs.TextRows.{parts, total}
-use Rattle.segment_scripts.proofs.TextParts.{parts-more, row-slot, row-taken, total-more}
+use Rattle.segment_scripts.proofs.values.Texts.{parts-more, row-slot, row-taken, total-more}
 use Rattle.segment_scripts.proofs.text_rows.TextRow.push.Goals as goal
 
 pub append_to-requires : goal.append_to-requires

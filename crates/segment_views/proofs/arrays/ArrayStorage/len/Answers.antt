@@ -1,6 +1,6 @@
 -- It is the length of the list.
 use Rattle.seg_types.specs.Names.{ByHandle}
-use Rattle.segment_views.proofs.Reading.{array-many}
+use Rattle.segment_views.proofs.elements.OneElement.{array-many}
 use Rattle.segment_views.proofs.arrays.ArrayStorage.len.Goals as goal
 
 pub returns-clause-count : goal.returns-clause-count

@@ -1,5 +1,5 @@
 -- The object stays.
-use Rattle.segment_views.proofs.Here.{stays_written}
+use Rattle.segment_views.proofs.elements.SameObject.{stays_written}
 use Rattle.segment_views.proofs.arrays.View+Row+T+Array.copy_from.Goals as goal
 
 pub invariant_of-self : goal.invariant_of-self

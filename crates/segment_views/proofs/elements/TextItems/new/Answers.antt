@@ -3,7 +3,7 @@ use Rattle.std.proofs.Common.{sym, subst, length}
 use Rattle.seg_types.specs.Names.{ByHandle}
 use Rattle.segment_manager.specs.objects.ElementLists.{texts_at}
 use Rattle.segment_manager.specs.State.{AnswersWith}
-use Rattle.segment_views.proofs.Reading.{texts-many}
+use Rattle.segment_views.proofs.elements.OneElement.{texts-many}
 use Rattle.segment_views.proofs.elements.TextItems.new.Goals as goal
 
 pub invariant_of-result : goal.invariant_of-result

@@ -6,7 +6,7 @@ use Rattle.seg_types.specs.Names.{ByHandle}
 use Rattle.segment_manager.specs.objects.ElementLists.{texts_at}
 use Rattle.segment_manager.specs.State.{AnswersWith}
 use Rattle.segment_views.specs.Walked.{ElementWalk, GoesOnElements, element_of}
-use Rattle.segment_views.proofs.Reading.{text-item}
+use Rattle.segment_views.proofs.elements.OneElement.{text-item}
 use Rattle.segment_views.proofs.elements.TextItemsIterator.next.Goals as goal
 
 abbrev bytes : Bor (List ℕ) → List ℕ

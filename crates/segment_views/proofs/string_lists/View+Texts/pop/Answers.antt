@@ -1,6 +1,6 @@
 -- The object stays.
 use Rattle.std.proofs.Common.{refl}
-use Rattle.segment_views.proofs.Here.{stays_led}
+use Rattle.segment_views.proofs.elements.SameObject.{stays_led}
 use Rattle.segment_views.proofs.string_lists.View+Texts.pop.Goals as goal
 
 pub invariant_of-self : goal.invariant_of-self

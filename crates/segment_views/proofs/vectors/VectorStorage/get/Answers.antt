@@ -1,6 +1,6 @@
 -- What is read stands at the place.
 use Rattle.seg_types.specs.Names.{ByHandle}
-use Rattle.segment_views.proofs.Reading.{vector-item}
+use Rattle.segment_views.proofs.elements.OneElement.{vector-item}
 use Rattle.segment_views.proofs.vectors.VectorStorage.get.Goals as goal
 
 pub returns-clause-object : goal.returns-clause-object

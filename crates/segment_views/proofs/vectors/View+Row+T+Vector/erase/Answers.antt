@@ -1,6 +1,6 @@
 -- The object stays.
 use Rattle.std.proofs.Common.{refl}
-use Rattle.segment_views.proofs.Here.{stays_of_kind}
+use Rattle.segment_views.proofs.elements.SameObject.{stays_of_kind}
 use Rattle.segment_views.proofs.vectors.View+Row+T+Vector.erase.Goals as goal
 
 pub invariant_of-self : goal.invariant_of-self

@@ -1,5 +1,5 @@
 -- The object stays.
-use Rattle.segment_views.proofs.Here.{stays_extended}
+use Rattle.segment_views.proofs.elements.SameObject.{stays_extended}
 use Rattle.segment_views.proofs.vectors.View+Row+T+Vector.extend.Goals as goal
 
 pub invariant_of-self : goal.invariant_of-self

@@ -1,7 +1,7 @@
 -- The length is that of the tile.
 use Rattle.best_fit.proofs.Common.{◌≡◌, ◌-◌, refl, sym, ap, ◌∙◌, arith, Tile, gaps_in, len_in, is_gap_node-GapNode}
-use Rattle.best_fit.proofs.Compared.{as_long, longer, shorter}
-use Rattle.best_fit.proofs.GapFacts.{NodeAt, node_at, node_tile, node_read, node_len}
+use Rattle.best_fit.proofs.gaps.Comparisons.{as_long, longer, shorter}
+use Rattle.best_fit.proofs.gaps.Nodes.{NodeAt, node_at, node_tile, node_read, node_len}
 use Rattle.best_fit.proofs.heap.nodes.GapTreeNodes.before_probe.Goals as goal
 use Rattle.best_fit.proofs.heap.nodes.GapTreeNodes.before_probe.Goals.{After-tile_at-len, Start}
 

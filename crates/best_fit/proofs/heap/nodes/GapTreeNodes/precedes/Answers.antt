@@ -1,7 +1,7 @@
 -- The lengths are those of the two tiles.
 use Rattle.best_fit.proofs.Common.{◌-◌, sym, ap, ◌∙◌, arith, Tile, gaps_in, len_in, is_gap_node-GapNode}
-use Rattle.best_fit.proofs.Compared.{as_long, longer, shorter}
-use Rattle.best_fit.proofs.GapFacts.{node_at, node_tile, node_read, node_len}
+use Rattle.best_fit.proofs.gaps.Comparisons.{as_long, longer, shorter}
+use Rattle.best_fit.proofs.gaps.Nodes.{node_at, node_tile, node_read, node_len}
 use Rattle.best_fit.proofs.heap.nodes.GapTreeNodes.precedes.Goals as goal
 
 pub overflow_sub-a : goal.overflow_sub-a

@@ -1,6 +1,6 @@
 -- The colour is that of the tile.
 use Rattle.best_fit.proofs.Common.{◌-◌, sym, ap, ◌∙◌, arith, Tile, Cell, cells_at, is_gap_node-GapNode}
-use Rattle.best_fit.proofs.GapFacts.{node_at, node_tile, node_read, node_colour}
+use Rattle.best_fit.proofs.gaps.Nodes.{node_at, node_tile, node_read, node_colour}
 use Rattle.best_fit.proofs.heap.nodes.GapTreeNodes.red.Goals as goal
 
 pub overflow_sub-node : goal.overflow_sub-node

@@ -1,6 +1,6 @@
 -- The link stands 8 bytes behind.
 use Rattle.best_fit.proofs.Common.{sym, ap, ◌∙◌, arith, Cell, cells_at, is_gap_node-GapNode}
-use Rattle.best_fit.proofs.GapFacts.{node_at}
+use Rattle.best_fit.proofs.gaps.Nodes.{node_at}
 use Rattle.best_fit.proofs.heap.nodes.GapTreeNodes.right.Goals as goal
 
 pub load-requires-clause-aligned : goal.load-requires-clause-aligned

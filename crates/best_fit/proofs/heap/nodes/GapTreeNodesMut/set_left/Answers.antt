@@ -1,7 +1,7 @@
 -- One link changes.
 use Rattle.best_fit.proofs.Common.{is_gap_node-GapNode}
-use Rattle.best_fit.proofs.GapSetters.{target_whole, link_fits, left_changed, left_cells}
-use Rattle.best_fit.proofs.NodesStay.{same_beside_cells}
+use Rattle.best_fit.proofs.gaps.Setters.{target_whole, link_fits, left_changed, left_cells}
+use Rattle.best_fit.proofs.gaps.UnchangedNodes.{same_beside_cells}
 use Rattle.best_fit.proofs.heap.nodes.GapTreeNodesMut.set_left.Goals as goal
 
 pub set_link-requires-clause-aligned : goal.set_link-requires-clause-aligned

@@ -1,8 +1,8 @@
 -- One colour changes.
 use Rattle.best_fit.proofs.Common.{◌-◌, arith, is_gap_node-GapNode}
-use Rattle.best_fit.proofs.GapFacts.{node_at}
-use Rattle.best_fit.proofs.GapSetters.{gap_may, red_changed, red_cells}
-use Rattle.best_fit.proofs.NodesStay.{same_beside_cells}
+use Rattle.best_fit.proofs.gaps.Nodes.{node_at}
+use Rattle.best_fit.proofs.gaps.Setters.{gap_may, red_changed, red_cells}
+use Rattle.best_fit.proofs.gaps.UnchangedNodes.{same_beside_cells}
 use Rattle.best_fit.proofs.heap.nodes.GapTreeNodesMut.set_red.Goals as goal
 
 pub overflow_sub-node : goal.overflow_sub-node

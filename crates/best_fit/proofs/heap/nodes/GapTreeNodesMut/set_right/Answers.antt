@@ -1,8 +1,8 @@
 -- One link changes.
 use Rattle.best_fit.proofs.Common.{arith, is_gap_node-GapNode}
-use Rattle.best_fit.proofs.GapFacts.{node_at}
-use Rattle.best_fit.proofs.GapSetters.{target_whole, link_fits, right_changed, right_cells}
-use Rattle.best_fit.proofs.NodesStay.{same_beside_cells}
+use Rattle.best_fit.proofs.gaps.Nodes.{node_at}
+use Rattle.best_fit.proofs.gaps.Setters.{target_whole, link_fits, right_changed, right_cells}
+use Rattle.best_fit.proofs.gaps.UnchangedNodes.{same_beside_cells}
 use Rattle.best_fit.proofs.heap.nodes.GapTreeNodesMut.set_right.Goals as goal
 
 pub set_link-requires-clause-aligned : goal.set_link-requires-clause-aligned

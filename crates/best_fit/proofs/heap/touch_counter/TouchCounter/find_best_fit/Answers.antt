@@ -1,9 +1,9 @@
 -- The tree of the gaps is a search tree, and its first node that is long enough is the least gap that is.
 use Rattle.best_fit.proofs.Common.{ap, ◌∙◌, arith, IsSearchTree, first_not_before, comes_before, gap_cells, gaps_in}
 use Rattle.best_fit.proofs.Common.{from_first, stands_before}
-use Rattle.best_fit.proofs.FreeTrees.{root_leads, search_tree, tree_size}
-use Rattle.best_fit.proofs.GapOrder.{first_is_least}
-use Rattle.best_fit.proofs.Replanting.{few_bits}
+use Rattle.best_fit.proofs.free_tree.Trees.{root_leads, search_tree, tree_size}
+use Rattle.best_fit.proofs.gaps.Order.{first_is_least}
+use Rattle.best_fit.proofs.free_tree.LinkAndUnlink.{few_bits}
 use Rattle.best_fit.proofs.heap.touch_counter.TouchCounter.find_best_fit.Goals as goal
 
 pub find_first_not_before-found-requires-clause-root : goal.find_first_not_before-found-requires-clause-root

@@ -1,9 +1,9 @@
 -- The links are made null, `insert` puts the node in, and the new root is stored.
 use Rattle.best_fit.proofs.Common.{ap, ◌∙◌, ℕ, Bool, ◌++◌, arith, IsSearchTree, comes_before, gap_cells, gaps_in}
 use Rattle.best_fit.proofs.Common.{HasGapTree}
-use Rattle.best_fit.proofs.FreeTrees.{root_leads, search_tree, tree_size}
-use Rattle.best_fit.proofs.GapSetters.{target_whole}
-use Rattle.best_fit.proofs.Replanting.{few_bits, node_inside, put_place, put_tree, taken_rest}
+use Rattle.best_fit.proofs.free_tree.Trees.{root_leads, search_tree, tree_size}
+use Rattle.best_fit.proofs.gaps.Setters.{target_whole}
+use Rattle.best_fit.proofs.free_tree.LinkAndUnlink.{few_bits, node_inside, put_place, put_tree, taken_rest}
 use Rattle.best_fit.proofs.heap.touch_counter.TouchCounter.link_gap.Goals as goal
 
 pub insert-changed-requires-clause-root : goal.insert-changed-requires-clause-root

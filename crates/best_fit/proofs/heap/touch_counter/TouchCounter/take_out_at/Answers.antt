@@ -1,8 +1,9 @@
 -- `remove_at` takes the node out, and the new root is stored.
 use Rattle.best_fit.proofs.Common.{ap, ◌∙◌, ℕ, Bool, arith, IsSearchTree, comes_before, gap_cells, gaps_in}
-use Rattle.best_fit.proofs.FreeTrees.{root_leads, search_tree, tree_size}
-use Rattle.best_fit.proofs.GapSetters.{target_whole}
-use Rattle.best_fit.proofs.Replanting.{few_bits, in_tree_of, node_inside, node_of_tree, taken_rest, taken_tree}
+use Rattle.best_fit.proofs.free_tree.Trees.{root_leads, search_tree, tree_size}
+use Rattle.best_fit.proofs.gaps.Setters.{target_whole}
+use Rattle.best_fit.proofs.free_tree.LinkAndUnlink.{few_bits, in_tree_of, node_inside, node_of_tree, taken_rest}
+use Rattle.best_fit.proofs.free_tree.LinkAndUnlink.{taken_tree}
 use Rattle.best_fit.proofs.heap.touch_counter.TouchCounter.take_out_at.Goals as goal
 
 pub remove_at-changed-requires-clause-root : goal.remove_at-changed-requires-clause-root

@@ -1,6 +1,6 @@
 -- The search takes few steps.
 use Rattle.best_fit.proofs.Common.{arith}
-use Rattle.best_fit.proofs.Replanting.{few_bits}
+use Rattle.best_fit.proofs.free_tree.LinkAndUnlink.{few_bits}
 use Rattle.best_fit.proofs.heap.touch_counter.TouchCounter.take_out_below.Goals as goal
 
 pub overflow_add-self : goal.overflow_add-self

@@ -4,7 +4,7 @@ use Rattle.indexmap.proofs.CallerLemmas.{insert_entry-new}
 use Rattle.image_check.specs.declared.owners.Block.{Block}
 use Rattle.image_check.specs.Owners.{BlockMap}
 use Rattle.image_check.specs.Rows.{AreBelow, AreSortedBlocks}
-use Rattle.image_check.proofs.Numbered.{below-new, ok-then, order-push}
+use Rattle.image_check.proofs.block_collection.ByNumber.{below-new, ok-then, order-push}
 use Rattle.image_check.proofs.image_window.blocks.BlockTable.add.Goals as goal
 use Rattle.image_check.proofs.image_window.blocks.BlockTable.add.Goals.{then-stretch-len, else-stretch-len}
 

@@ -4,7 +4,7 @@ use Rattle.std.specs.Option.{option_map}
 use Rattle.std.specs.Map.Iter.{deref_pair}
 use Rattle.image_check.specs.declared.owners.Block.{Block}
 use Rattle.image_check.specs.Owners.{BlockMap, block_at}
-use Rattle.image_check.proofs.Numbered.{entry-found}
+use Rattle.image_check.proofs.block_collection.ByNumber.{entry-found}
 use Rattle.image_check.proofs.image_window.blocks.BlockTable.entry.Goals as goal
 
 pub returns-clause-block : goal.returns-clause-block

@@ -3,7 +3,7 @@ use Rattle.std.specs.Prelude.{IfSome, nat_eq, position, slice_get}
 use Rattle.std.specs.Map.{keys_of}
 use Rattle.image_check.specs.Owners.{BlockMap, block_at}
 use Rattle.image_check.specs.Rows.{IsRow}
-use Rattle.image_check.proofs.Numbered.{bound-absent, key-row, position-row}
+use Rattle.image_check.proofs.block_collection.ByNumber.{bound-absent, key-row, position-row}
 use Rattle.image_check.proofs.image_window.blocks.BlockTable.number_of.Goals as goal
 
 pub returns-in-Some-clause-search : goal.returns-in-Some-clause-search

@@ -4,7 +4,7 @@ use Rattle.indexmap.specs.IndexMap.{set_value_at}
 use Rattle.image_check.specs.declared.owners.Block.{Block}
 use Rattle.image_check.specs.Owners.{BlockMap}
 use Rattle.image_check.specs.Rows.{IsRow}
-use Rattle.image_check.proofs.Numbered.{order-put, put-row}
+use Rattle.image_check.proofs.block_collection.ByNumber.{order-put, put-row}
 use Rattle.image_check.proofs.image_window.blocks.BlockTable.put.Goals as goal
 
 pub invariant_of-self : goal.invariant_of-self

@@ -1,4 +1,4 @@
-use Rattle.image_check.proofs.HeadBytes.{padding-read}
+use Rattle.image_check.proofs.objects.HeadBytes.{padding-read}
 use Rattle.image_check.proofs.image_window.objects.Object.padding.Goals as goal
 
 pub returns : goal.returns

@@ -1,5 +1,5 @@
 use Rattle.std.proofs.Common.{arith, sym, ◌∙◌}
-use Rattle.image_check.proofs.MapPairs.{place-lies}
+use Rattle.image_check.proofs.containers.MapPairs.{place-lies}
 use Rattle.image_check.proofs.image_window.pairs.CheckedPairTree.is_pair.Goals as goal
 
 pub overflow_add-node : goal.overflow_add-node

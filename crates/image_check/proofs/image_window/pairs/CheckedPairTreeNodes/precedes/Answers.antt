@@ -1,5 +1,5 @@
 use Rattle.std.proofs.Common.{arith}
-use Rattle.image_check.proofs.MapPairs.{pair-lies, parts-before}
+use Rattle.image_check.proofs.containers.MapPairs.{pair-lies, parts-before}
 use Rattle.image_check.proofs.image_window.pairs.CheckedPairTreeNodes.precedes.Goals as goal
 
 pub overflow_add-a : goal.overflow_add-a

@@ -1,6 +1,6 @@
 use Rattle.std.proofs.Common.{arith}
 use Rattle.image_check.specs.FreeLaws.{is_place-PayloadBounds}
-use Rattle.image_check.proofs.FreePlaces.{left-is}
+use Rattle.image_check.proofs.free_tree.Places.{left-is}
 use Rattle.image_check.proofs.image_window.places.PayloadTreeNodes.left.Goals as goal
 
 pub placed_link-requires-clause-aligned : goal.placed_link-requires-clause-aligned

@@ -1,6 +1,6 @@
 use Rattle.std.proofs.Common.{arith, length}
 use Rattle.image_check.specs.FreeLaws.{is_place-PayloadBounds, small_size}
-use Rattle.image_check.proofs.FreePlaces.{right-is}
+use Rattle.image_check.proofs.free_tree.Places.{right-is}
 use Rattle.image_check.proofs.image_window.places.PayloadTreeNodes.right.Goals as goal
 
 pub overflow_add-node : goal.overflow_add-node

@@ -2,7 +2,7 @@
 use Rattle.std.proofs.Common.{ap, ◌∙◌, List, ℕ, w64, to_z, arith}
 use Rattle.std.specs.Int.{from_le_bytes}
 use Rattle.seg_types.proofs.scalars.i64.I64Plain.read.Goals as goal
-use Rattle.seg_types.proofs.EightBytes.{reads-i64}
+use Rattle.seg_types.proofs.scalars.EightBytes.{reads-i64}
 
 pub returns : goal.returns
 returns c =

@@ -4,5 +4,5 @@ use Rattle.segment_manager.proofs.containers.fillings.NewStringObjectInit.fill.G
 
 pub returns : goal.returns
 returns c = string-made c.args.heap.now c.new.new.heap c.assign.new.heap c.args.place c.new.result.place
-    c.args.self.now.bytes.now c.assign.result c.hold_bytes.ensures.every c.new.ensures.place
+    c.args.self.now.bytes.now c.assign.result c.bytes_are_octets.ensures.every c.new.ensures.place
     c.new.ensures.changes c.new.ensures.text c.assign.ensures

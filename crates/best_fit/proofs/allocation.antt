@@ -1,0 +1,5 @@
+-- Allocation: the new block has room for what was asked for, and the other blocks stay (`NewBlock`).
+pub mod NewBlock
+pub mod LeastGap
+pub mod GapToBlock
+pub mod GapFront

@@ -1,0 +1,5 @@
+-- Changes at the end of a window: a block behind all others (`LastBlock`), and the last gap dropped.
+pub mod LastBlock
+pub mod DroppedGap
+pub mod LastGap
+pub mod TwoMemories

@@ -1,0 +1,2 @@
+-- The free bytes of gaps made zero (`ZeroGaps`).
+pub mod ZeroGaps

@@ -1,0 +1,89 @@
+-- What the rows of the map say of their owners is what the tiles say of theirs.
+use Rattle.std.proofs.Common.{◌≡◌, refl, ap, ◌∙◌, ℕ, ◌+◌, ◌-◌, ◌*◌, ◌/◌, ◌≤◌, Bool, true, false, not, ◌||◌, List, []}
+use Rattle.std.proofs.Common.{◌∷◌, length, arith, cond}
+use Rattle.std.specs.Prelude.{Option, Some, None, filter_map, is_some}
+use Rattle.std.specs.List.{cons_option}
+use Rattle.raw_region.specs.Memory.{bytes_of}
+use Rattle.raw_region.specs.Format.{current}
+use Rattle.block_tags.specs.declared.tile.Role.{Role}
+use Rattle.block_tags.specs.declared.tile.Role.TheVariants.{Object, Index, Storage, Node}
+use Rattle.block_tags.specs.declared.tile.Tile.{Tile}
+use Rattle.best_fit.specs.Table.{same_role}
+use Rattle.best_fit.proofs.Laws.{Row}
+use Rattle.image_check.specs.declared.owners.Block.{Block}
+use Rattle.image_check.specs.declared.owners.Owner.{Owner}
+use Rattle.image_check.specs.ObjectTests.{payload}
+use Rattle.image_check.specs.Orphans.{is_owned}
+use Rattle.image_check.specs.Owners.{Blocks, block_at, entries_of, frames, has_owner, new_block, owner_at, owner_in}
+use Rattle.image_check.specs.Passes.{HasTiles, blocks_in, tiles_in}
+use Rattle.image_check.specs.Visits.{orphan_rates, rate_of, weigh}
+use Rattle.image_check.proofs.walks.Rows.{few-rows}
+use Rattle.image_check.proofs.frame.Tags.{has_tags-AreWholeTiles}
+
+-- ---- a tile and its block
+
+-- by the use of a tile and what is noted at its payload
+abbrev tested : Option Role → Option Owner → Bool
+tested u o = not (elim u [ None ↦ false | Some r ↦ same_role Index r ] || elim u
+    [ None ↦ false | Some r ↦ same_role Storage r ] || elim u [ None ↦ false | Some r ↦ same_role Node r ]) || is_some o
+
+-- a block that has what it needs is one of a tile that does, and the other way round
+same-test : (role : Role) (o : Option Owner) → tested (Some role) (cond (same_role role Object) None o) ≡
+    (same_role role Object || is_some o)
+same-test Object o = refl
+same-test Index o = refl
+same-test Storage o = refl
+same-test Node o = refl
+
+-- a tile in use has an owner if its row has one
+pub tile-tests : (es : Blocks) (t : Tile) (b : Block) → t.use_of ≡ Some b.role → block_at es (payload t) ≡ Some b
+    → has_owner es t ≡ is_owned b
+tile-tests es t b e f =
+    ap (λ (u : Option Role). tested u (owner_at es (payload t))) e
+    ∙ ap (λ (x : Option Block). tested (Some b.role) (owner_in x)) f ∙ same-test b.role b.owner
+
+-- a free tile needs no owner
+pub free-tests : (es : Blocks) (t : Tile) → t.use_of ≡ None → has_owner es t ≡ true
+free-tests es t e = ap (λ (u : Option Role). tested u (owner_at es (payload t))) e
+
+-- ---- visits
+
+used-few : (offset len : ℕ) (u : Option Role) (es : Blocks) (n : ℕ) → 32 ≤ len → length es ≤ n
+    → length (cons_option (elim u [ None ↦ None | Some role ↦ Some (offset + 16, new_block role len) ]) es) ≤ rate_of
+    orphan_rates u * (len / 16) + n
+used-few offset len None es n long l = omega arith
+used-few offset len (Some Object) es n long l = omega arith
+used-few offset len (Some Index) es n long l = omega arith
+used-few offset len (Some Storage) es n long l = omega arith
+used-few offset len (Some Node) es n long l = omega arith
+
+entries-few : (at : ℕ) (ts : List Tile) (end : ℕ) → Row at ts end → length (entries_of ts) ≤ weigh orphan_rates ts
+entries-few at [] end a = omega arith
+entries-few at (t ∷ ts) end a = used-few t.offset t.len t.use_of (entries_of ts) (weigh orphan_rates ts) a.1
+    (entries-few (at + t.len) ts end a.3)
+
+-- a visit for each row is within the rate
+pub rows-weigh : (b : List ℕ) (es : Blocks) → HasTiles b → frames es ≡ frames (entries_of (tiles_in b))
+    → length es ≤ weigh orphan_rates (tiles_in b)
+rows-weigh b es h f =
+    let few = entries-few 128 (tiles_in b) (length b - 16) (has_tags-AreWholeTiles current (bytes_of b) (length b)
+    h.tags).row in
+    let same = few-rows b es f in
+    omega arith
+
+-- there is a row for each tile in use
+used-count : (o : Option Role) (offset len : ℕ) (es : Blocks) (rs : List Role) → length es ≡ length rs
+    → length (cons_option (elim o [ None ↦ None | Some role ↦ Some (offset + 16, new_block role len) ]) es)
+    ≡ length (cons_option o rs)
+used-count None offset len es rs e = e
+used-count (Some role) offset len es rs e = omega arith
+
+-- as many rows as tiles with a role
+pub entries-count : (ts : List Tile) → length (entries_of ts) ≡ length (filter_map (λ (t : Tile). t.use_of) ts)
+entries-count [] = refl
+entries-count (t ∷ ts) = used-count t.use_of t.offset t.len (entries_of ts) (filter_map (λ (u : Tile). u.use_of) ts)
+    (entries-count ts)
+
+-- as many rows as blocks
+pub rows-count : (b : List ℕ) (es : Blocks) → frames es ≡ frames (entries_of (tiles_in b)) → length es ≡ blocks_in b
+rows-count b es f = few-rows b es f ∙ entries-count (tiles_in b)

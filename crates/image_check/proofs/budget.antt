@@ -1,0 +1,3 @@
+-- Visits: all passes together stay within their bound (`Visits`).
+pub mod Visits
+pub mod Passes

@@ -1,0 +1,94 @@
+-- Where a pair of a map lies, and what its fields say.
+use Rattle.std.proofs.Common.{◌≡◌, sym, ap, ◌∙◌, ℕ, ◌+◌, ◌*◌, ◌%◌, ◌≤◌, true, length, arith}
+use Rattle.std.specs.Prelude.{Option, int_lt}
+use Rattle.raw_region.specs.Memory.{WindowState, bytes_of, read, part}
+use Rattle.raw_region.proofs.Laws.{read-part}
+use Rattle.offset_link.specs.Link.{link_at}
+use Rattle.byteorder.specs.Endian.{little_number}
+use Rattle.seg_types.specs.declared.kinds.ScalarKind.{ScalarKind}
+use Rattle.seg_types.specs.declared.kinds.ScalarKind.TheVariants.{Bool as BoolKind, U8, I32, I64, U64}
+use Rattle.seg_types.specs.Kinds.{size_of, value_of}
+use Rattle.image_check.specs.FreeNodes.{is_place}
+use Rattle.image_check.specs.FreeLaws.{is_place-PayloadBounds, small_size}
+use Rattle.image_check.specs.Owners.{Blocks}
+use Rattle.image_check.specs.MapNodes.{is_pair, kept_link, key_before, pair_cells}
+use Rattle.image_check.specs.MapLaws.{is_pair-IsPairNode}
+
+-- a scalar has at most 8 bytes
+pub size-most : (k : ScalarKind) → size_of k ≤ 8
+size-most BoolKind = omega arith
+size-most U8 = omega arith
+size-most I32 = omega arith
+size-most I64 = omega arith
+size-most U64 = omega arith
+
+-- a scalar has at least 1 byte
+pub size-least : (k : ScalarKind) → 1 ≤ size_of k
+size-least BoolKind = omega arith
+size-least U8 = omega arith
+size-least I32 = omega arith
+size-least I64 = omega arith
+size-least U64 = omega arith
+
+-- elements take at least as many bytes as there are
+pub size-times : (k : ScalarKind) (n : ℕ) → n ≤ size_of k * n
+size-times BoolKind n = omega arith
+size-times U8 n = omega arith
+size-times I32 n = omega arith
+size-times I64 n = omega arith
+size-times U64 n = omega arith
+
+-- a place has room for links, key and value, far below the limits of numbers
+pub record Lies (c : WindowState) (k v : ScalarKind) (n : ℕ) : Type 0 where
+  pub whole : n % 16 ≡ 0
+  pub low : 144 ≤ n
+  pub fields : n + 16 + size_of k + size_of v ≤ length c.bytes
+  pub high : n + 32 ≤ length c.bytes
+  pub small : length c.bytes ≤ 1073741824
+
+-- a place of a pair lies in the window
+pub place-lies : (c : WindowState) (k v : ScalarKind) (n : ℕ) → is_place c n ≡ true → Lies c k v n
+place-lies c k v n h =
+    let p = is_place-PayloadBounds c n h in
+    let a = size-most k in
+    let b = size-most v in
+    let high = p.high in
+    record {
+      whole = p.whole;
+      low = p.low;
+      fields = omega arith;
+      high = high;
+      small = small_size (length c.bytes) p.size;
+    }
+
+-- a pair lies in the window
+pub pair-lies : (c : WindowState) (es : Blocks) (root : ℕ) (k v : ScalarKind) (n : ℕ)
+    → is_pair c es root k v n ≡ true → Lies c k v n
+pair-lies c es root k v n h = place-lies c k v n (is_pair-IsPairNode c es root k v n h).place
+
+-- ---- fields
+
+-- the left link as it is read
+pub left-kept : (c : WindowState) (es : Blocks) (root : ℕ) (k v : ScalarKind) (n : ℕ) (o : Option ℕ)
+    → o ≡ kept_link (is_pair c es root k v) n (link_at (bytes_of c.bytes) n) → o ≡ (pair_cells c es root k v n).left
+unfolding pair_cells
+left-kept c es root k v n o e = e
+
+-- the right link as it is read
+pub right-kept : (c : WindowState) (es : Blocks) (root : ℕ) (k v : ScalarKind) (n : ℕ) (o : Option ℕ)
+    → o ≡ kept_link (is_pair c es root k v) n (link_at (bytes_of c.bytes) (n + 8))
+    → o ≡ (pair_cells c es root k v n).right
+unfolding pair_cells
+right-kept c es root k v n o e = e
+
+-- keys that are compared as parts of the window
+pub parts-before : (c : WindowState) (k : ScalarKind) (a b : ℕ) → a + 16 + size_of k ≤ length c.bytes
+    → b + 16 + size_of k ≤ length c.bytes
+    → int_lt (value_of k (little_number (size_of k) (part c.bytes (a + 16) (size_of k))))
+    (value_of k (little_number (size_of k) (part c.bytes (b + 16) (size_of k)))) ≡ key_before (bytes_of c.bytes) k a b
+parts-before c k a b x y =
+    ap (λ p. int_lt (value_of k (little_number (size_of k) p))
+    (value_of k (little_number (size_of k) (part c.bytes (b + 16) (size_of k)))))
+    (sym (read-part c.bytes (a + 16) (size_of k) x))
+    ∙ ap (λ p. int_lt (value_of k (little_number (size_of k) (read (bytes_of c.bytes) (a + 16) (size_of k))))
+    (value_of k (little_number (size_of k) p))) (sym (read-part c.bytes (b + 16) (size_of k) y))

@@ -1,0 +1,288 @@
+-- Header, tags and free tree of an image, in each format: what the first seven classes leave, and what leaves none of
+-- them.
+use Rattle.std.proofs.Common.{◌≡◌, refl, sym, ap, subst, ◌∙◌, ℕ, zero, suc, ◌+◌, ◌-◌, ◌*◌, ◌≤◌, ◌<◌, inl, Bool, true}
+use Rattle.std.proofs.Common.{false, not, ◌&&◌, List, [], ◌∷◌, ◌++◌, length, map, arith}
+use Rattle.std.specs.Prelude.{IsTrue, Option, Some, None, is_none, nat_le, nat_lt, nat_eq, filter}
+use Rattle.std.specs.List.{list_all}
+use Rattle.std.specs.Cmp.Lexicographic.{pointwise}
+use Rattle.std.proofs.lemmas.Bool.{and_parts, and_from, and_right, or_parts, or_from, eqb-true, eq-eqb, leb-true}
+use Rattle.std.proofs.lemmas.Bool.{le-leb, le-ltb, ltb-false, false≢true, not_from_true, not-false, cond-true}
+use Rattle.std.proofs.lemmas.Bool.{cond-false}
+use Rattle.raw_region.specs.Memory.{Memory, bytes_of, word_at, half_word_at}
+use Rattle.offset_link.specs.Link.{link_at}
+use Rattle.link_tree.specs.Tree.{Tree, nodes_of, tree_from, is_red_black}
+use Rattle.link_tree.proofs.Laws.{reads_off}
+use Rattle.block_tags.specs.declared.tile.Tile.{Tile}
+use Rattle.block_tags.specs.Format.{is_legal_size}
+use Rattle.block_tags.specs.Tiles.{tiles_of, has_tags, is_free}
+use Rattle.best_fit.specs.Extents.{LiveSet, Gap, gaps, is_proper}
+use Rattle.best_fit.specs.FreeTree.{span, cells_of, sorted_gaps, payloads, IsTreeOf, IsFreeTree}
+use Rattle.best_fit.specs.GapNodes.{gaps_of}
+use Rattle.best_fit.specs.Heap.{EncodesLiveSet}
+use Rattle.best_fit.proofs.Laws.{Apart, Row, extents_of as used, gaps-live_in, gaps_of-free, gaps_of-used, legal_size}
+use Rattle.best_fit.proofs.Laws.{length-sorted, proper_live, spans_from-row, span_between-none, unused, use_cases}
+use Rattle.best_fit.proofs.Laws.{used as in_use}
+use Rattle.segment_manager.specs.Denotes.{IsHeader, magic_number}
+use Rattle.segment_manager.proofs.Laws.{Rising, live-rises, rising-weak}
+use Rattle.image_check.specs.declared.classes.ImageClass.TheVariants.{Truncated, BadMagic, UnsupportedVersion, BadSize}
+use Rattle.image_check.specs.declared.classes.ImageClass.TheVariants.{BadReserved, BadTag, BadFreeTree}
+use Rattle.image_check.specs.EarlyTests.{size_word, has_magic, has_version, has_front, has_size, has_reserved, is_tiled}
+use Rattle.image_check.specs.EarlyTests.{is_among, free_gaps, free_payloads, has_free_tree}
+use Rattle.image_check.specs.Classes.{holds}
+use Rattle.image_check.proofs.bytes.Numbers.{two_rows, from_two_rows, AreSmall, half_word_at-AreZero}
+use Rattle.image_check.proofs.bytes.Numbers.{AreZero-half_word_at}
+use Rattle.image_check.proofs.bytes.Words.{word_at-halves, half_word_at-low, half_word_at-high}
+use Rattle.image_check.proofs.frame.Tags.{has_tags-AreWholeTiles}
+use Rattle.image_check.proofs.bytes.Members.{list_all_from, Mem-is_among}
+use Rattle.image_check.proofs.read_off.Values.{height-nodes}
+use Rattle.image_check.proofs.law.Uniqueness.{tiles_in}
+
+-- ---- rows of numbers that are one
+
+-- equal rows are equal place by place
+pub same-pointwise : (xs ys : List ℕ) → xs ≡ ys → IsTrue (pointwise nat_eq xs ys)
+same-pointwise xs ys e = subst (λ zs. IsTrue (pointwise nat_eq xs zs)) e (itself xs)
+  where
+    itself : (xs : List ℕ) → IsTrue (pointwise nat_eq xs xs)
+    itself [] = refl
+    itself (x ∷ xs) = and_from (nat_eq x x) (pointwise nat_eq xs xs) (eq-eqb x x refl) (itself xs)
+
+-- and rows that are equal place by place are equal
+pub pointwise-same : (xs ys : List ℕ) → IsTrue (pointwise nat_eq xs ys) → xs ≡ ys
+pointwise-same [] [] h = refl
+pointwise-same [] (y ∷ ys) h = absurd (false≢true h)
+pointwise-same (x ∷ xs) [] h = absurd (false≢true h)
+pointwise-same (x ∷ xs) (y ∷ ys) h =
+    let parts = and_parts (nat_eq x y) (pointwise nat_eq xs ys) h in
+    let first = eqb-true x y parts.0 in
+    let rest = pointwise-same xs ys parts.1 in
+    λ i. first i ∷ rest i
+
+-- ---- the free tiles are the gaps
+
+pub free-gaps : (ts : List Tile) → free_gaps ts ≡ gaps_of ts
+free-gaps [] = refl
+free-gaps (t ∷ ts) =
+    let rest = free-gaps ts in
+    let gap : Tile → Gap = λ u. record { offset = u.offset; len = u.len } in
+    elim (use_cases t) [
+      | unused e ↦ ap (map gap) (cond-true (is_free t) (t ∷ filter is_free ts) (filter is_free ts) (ap is_none e))
+          ∙ ap (λ (gs : List Gap). gap t ∷ gs) rest ∙ sym (gaps_of-free t ts e)
+      | in_use role e ↦ ap (map gap)
+          (cond-false (is_free t) (t ∷ filter is_free ts) (filter is_free ts) (ap is_none e)) ∙ rest
+          ∙ sym (gaps_of-used t ts role e)
+    ]
+
+-- so their payloads, in order, are those of the gaps in order
+pub free-payloads : (ts : List Tile) → free_payloads ts ≡ payloads (sorted_gaps (gaps_of ts))
+free-payloads ts = ap (λ (gs : List Gap). payloads (sorted_gaps gs)) (free-gaps ts)
+
+-- there are no more of them than tiles
+pub few-free : (ts : List Tile) → length (gaps_of ts) ≤ length ts
+few-free [] = omega arith
+few-free (t ∷ ts) =
+    let rest = few-free ts in
+    elim (use_cases t) [
+      | unused e ↦ let n = ap (λ (gs : List Gap). length gs) (gaps_of-free t ts e) in omega arith
+      | in_use role e ↦ let n = ap (λ (gs : List Gap). length gs) (gaps_of-used t ts role e) in omega arith
+    ]
+
+payloads-length : (ts : List Tile) → length (free_payloads ts) ≤ length ts
+payloads-length ts = let same = ap length (free-payloads ts) ∙ length-sorted (gaps_of ts) in let few = few-free ts
+    in omega arith
+
+-- ---- the free tree
+
+-- the live set of tiles
+abbrev row_live : ℕ → List Tile → LiveSet
+row_live n ts = record { size = n; extents = used ts }
+
+-- what the test of the tree that is read off says
+abbrev is_tree_of : List ℕ → Option Tree → Bool
+is_tree_of ns o = elim o [ None ↦ false | Some t ↦ is_red_black t && pointwise nat_eq (nodes_of t) ns ]
+
+-- a tree that lists them in order and is red-black passes the test
+pub tree-passes : (format : ℕ) (m : Memory) (ts : List Tile) → IsTreeOf m 24 (free_payloads ts)
+    → IsTrue (has_free_tree (suc format) m ts)
+tree-passes format m ts h =
+    let t : Tree = h.tree in
+    let ns : List ℕ = free_payloads ts in
+    let low = height-nodes t in
+    let same = ap length h.lists in
+    let most = payloads-length ts in
+    let good : IsTrue (list_all (is_among ns) (nodes_of t)) =
+    ap (list_all (is_among ns)) h.lists ∙ list_all_from (is_among ns) ns (λ x k. Mem-is_among ns x k) in
+    ap (is_tree_of ns) (reads_off.whole (length ts) (is_among ns) (cells_of m) (link_at m 24) t h.linked good
+    (omega arith))
+    ∙ and_from (is_red_black t) (pointwise nat_eq (nodes_of t) ns) ((reads_off.red_black t).1 h.red_black)
+    (same-pointwise (nodes_of t) ns h.lists)
+
+tree-said-if : (m : Memory) (ts : List Tile) (o : Option Tree)
+    → tree_from (length ts) (is_among (free_payloads ts)) (cells_of m) (link_at m 24) ≡ o
+    → IsTrue (is_tree_of (free_payloads ts) o) → IsTreeOf m 24 (free_payloads ts)
+tree-said-if m ts None e h = absurd (false≢true h)
+tree-said-if m ts (Some t) e h =
+    let parts = and_parts (is_red_black t) (pointwise nat_eq (nodes_of t) (free_payloads ts)) h in
+    record {
+      tree = t;
+      linked = (reads_off.sound (length ts) (is_among (free_payloads ts)) (cells_of m) (link_at m 24) t e).0;
+      red_black = (reads_off.red_black t).0 parts.0;
+      lists = pointwise-same (nodes_of t) (free_payloads ts) parts.1;
+    }
+
+-- the tree that passes the test is there
+pub tree-said : (format : ℕ) (m : Memory) (ts : List Tile) → IsTrue (has_free_tree (suc format) m ts)
+    → IsTreeOf m 24 (free_payloads ts)
+tree-said format m ts h = tree-said-if m ts
+    (tree_from (length ts) (is_among (free_payloads ts)) (cells_of m) (link_at m 24)) refl h
+
+-- the gaps of a row's live set are those among its tiles
+row-payloads : (n : ℕ) (ts : List Tile) → Row 128 ts (n - 16) → Apart false ts
+    → free_payloads ts ≡ payloads (sorted_gaps (gaps (row_live n ts)))
+row-payloads n ts row apart = free-payloads ts
+    ∙ ap (λ (gs : List Gap). payloads (sorted_gaps gs)) (sym (gaps-live_in n ts row apart))
+
+-- the test of the free tree, and what the heap of a row asks of it
+pub free_tree-passes : (format : ℕ) (m : Memory) (n : ℕ) (ts : List Tile) → Row 128 ts (n - 16) → Apart false ts
+    → IsFreeTree format m (row_live n ts) → IsTrue (has_free_tree format m ts)
+free_tree-passes zero m n ts row apart h = eq-eqb (word_at m 24) 1 h
+free_tree-passes (suc format) m n ts row apart h =
+    tree-passes format m ts (subst (IsTreeOf m 24) (sym (row-payloads n ts row apart)) h)
+
+-- where the test holds, the heap has the free tree that it asks for
+pub free_tree-said : (format : ℕ) (m : Memory) (n : ℕ) (ts : List Tile) → Row 128 ts (n - 16) → Apart false ts
+    → IsTrue (has_free_tree format m ts) → IsFreeTree format m (row_live n ts)
+free_tree-said zero m n ts row apart h = eqb-true (word_at m 24) 1 h
+free_tree-said (suc format) m n ts row apart h =
+    subst (IsTreeOf m 24) (row-payloads n ts row apart) (tree-said format m ts h)
+
+-- ---- the frame
+
+-- magic, version, size, reserved bytes, tags and free tree of an image are right
+pub record IsFramed (format : ℕ) (b : List ℕ) : Type 0 where
+  pub legal : IsTrue (is_legal_size (length b))
+  pub size : size_word b ≡ length b
+  pub header : IsHeader format (bytes_of b) (length b)
+  pub tags : IsTrue (has_tags format (bytes_of b) (length b))
+  pub free_tree : IsTrue (has_free_tree format (bytes_of b) (tiles_in b))
+
+-- the first seven tests fail
+pub record IsEarlyClean (format : ℕ) (b : List ℕ) : Type 0 where
+  pub truncated : holds format b Truncated ≡ false
+  pub magic : holds format b BadMagic ≡ false
+  pub version : holds format b UnsupportedVersion ≡ false
+  pub size : holds format b BadSize ≡ false
+  pub reserved : holds format b BadReserved ≡ false
+  pub tags : holds format b BadTag ≡ false
+  pub free_tree : holds format b BadFreeTree ≡ false
+
+-- so none of the first seven classes holds
+pub framed-clean : (format : ℕ) (b : List ℕ) → format < 4294967296 → AreSmall (bytes_of b) → IsFramed format b
+    → IsEarlyClean format b
+framed-clean format b small s f =
+    let m : Memory = bytes_of b in
+    let least = (legal_size (length b) f.legal).low in
+    let same = f.size in
+    let legal : IsTrue (is_legal_size (size_word b)) = subst (λ n. IsTrue (is_legal_size n)) (sym same) f.legal in
+    let low = half_word_at-low m 8 s in
+    let high = half_word_at-high m 8 s in
+    let word = f.header.version in
+    let version : half_word_at m 8 ≡ format = omega arith in
+    let rest : half_word_at m 12 ≡ 0 = omega arith in
+    let tiled : IsTrue (is_tiled format b) = subst (λ n. IsTrue (has_tags format m n)) (sym same) f.tags in
+    let tree : IsTrue (has_free_tree format m (tiles_of m (size_word b))) =
+    subst (λ n. IsTrue (has_free_tree format m (tiles_of m n))) (sym same) f.free_tree in
+    record {
+      truncated = or_from (nat_lt (length b) 144) (has_front format b && nat_lt (length b) (size_word b))
+          (le-ltb (length b) 144 (omega arith))
+          (and_right (has_front format b) (nat_lt (length b) (size_word b))
+          (le-ltb (length b) (size_word b) (omega arith)));
+      magic = not_from_true (has_magic b) (eq-eqb (word_at m 0) magic_number f.header.magic);
+      version = not_from_true (has_version format b) (eq-eqb (half_word_at m 8) format version);
+      size = not_from_true (has_size b)
+          (and_from (is_legal_size (size_word b)) (nat_le (length b) (size_word b)) legal
+          (le-leb (length b) (size_word b) (omega arith)));
+      reserved = not_from_true (has_reserved b)
+          (from_two_rows m 12 4 80 48 (half_word_at-AreZero m 12 rest) f.header.zeros);
+      tags = not_from_true (is_tiled format b) tiled;
+      free_tree = and_right (is_tiled format b) (not (has_free_tree format m (tiles_of m (size_word b))))
+          (not_from_true (has_free_tree format m (tiles_of m (size_word b))) tree);
+    }
+
+-- of a test that holds and one that does not
+pub second-fails : (p q : Bool) → IsTrue p → (p && q) ≡ false → q ≡ false
+second-fails true q e h = h
+second-fails false q e h = absurd (false≢true e)
+
+-- where none of the first seven classes holds, the frame is right
+pub clean-framed : (format : ℕ) (b : List ℕ) → AreSmall (bytes_of b) → IsEarlyClean format b → IsFramed format b
+clean-framed format b s c =
+    let m : Memory = bytes_of b in
+    let magic = not-false (has_magic b) c.magic in
+    let version = not-false (has_version format b) c.version in
+    let size = and_parts (is_legal_size (size_word b)) (nat_le (length b) (size_word b))
+    (not-false (has_size b) c.size) in
+    let most = leb-true (length b) (size_word b) size.1 in
+    let cut = or_parts (nat_lt (length b) 144) (has_front format b && nat_lt (length b) (size_word b)) c.truncated in
+    let front : IsTrue (has_front format b) =
+    and_from (has_magic b && has_version format b) (is_legal_size (size_word b))
+    (and_from (has_magic b) (has_version format b) magic version) size.0 in
+    let least = ltb-false (length b) (size_word b)
+    (second-fails (has_front format b) (nat_lt (length b) (size_word b)) front cut.1) in
+    let same : size_word b ≡ length b = omega arith in
+    let rows = two_rows m 12 4 80 48 (not-false (has_reserved b) c.reserved) in
+    let low : half_word_at m 8 ≡ format = eqb-true (half_word_at m 8) format version in
+    let high : half_word_at m 12 ≡ 0 = AreZero-half_word_at m 12 rows.0 in
+    let both : word_at m 8 ≡ half_word_at m 8 + 4294967296 * half_word_at m 12 = word_at-halves m 8 in
+    let tiled : IsTrue (is_tiled format b) = not-false (is_tiled format b) c.tags in
+    let tree : IsTrue (has_free_tree format m (tiles_of m (size_word b))) =
+    not-false (has_free_tree format m (tiles_of m (size_word b)))
+    (second-fails (is_tiled format b) (not (has_free_tree format m (tiles_of m (size_word b)))) tiled c.free_tree) in
+    record {
+      legal = subst (λ n. IsTrue (is_legal_size n)) same size.0;
+      size = same;
+      header = record {
+        magic = eqb-true (word_at m 0) magic_number magic;
+        version = omega arith;
+        size_word = same;
+        zeros = rows.1;
+      };
+      tags = subst (λ n. IsTrue (has_tags format m n)) same tiled;
+      free_tree = subst (λ n. IsTrue (has_free_tree format m (tiles_of m n))) same tree;
+    }
+
+-- ---- the heap
+
+-- the tiles in use, as a live set
+abbrev pub live_in : List ℕ → LiveSet
+live_in b = record { size = length b; extents = used (tiles_in b) }
+
+-- the tiles stand one behind the other from 128 to the end tag
+pub framed-tiles : (format : ℕ) (b : List ℕ) → IsFramed format b → Row 128 (tiles_in b) (length b - 16)
+framed-tiles format b f = (has_tags-AreWholeTiles format (bytes_of b) (length b) f.tags).row
+
+-- the tiles in use are a proper live set
+pub framed-proper : (format : ℕ) (b : List ℕ) → IsFramed format b → IsTrue (is_proper (live_in b))
+framed-proper format b f = let whole = has_tags-AreWholeTiles format (bytes_of b) (length b) f.tags
+    in proper_live (length b) (tiles_in b) f.legal whole.row whole.apart
+
+-- so they stand by offset
+pub framed-rising : (format : ℕ) (b : List ℕ) → IsFramed format b → Rising 0 (used (tiles_in b))
+framed-rising format b f = rising-weak 0 128 (used (tiles_in b)) (omega arith)
+    (live-rises (live_in b) (framed-proper format b f))
+
+-- and the bytes lay it out
+pub framed-heap : (format : ℕ) (b : List ℕ) → IsFramed format b → EncodesLiveSet format b (live_in b)
+framed-heap format b f =
+    let whole = has_tags-AreWholeTiles format (bytes_of b) (length b) f.tags in
+    record {
+      size = refl;
+      proper = framed-proper format b f;
+      tiles = record {
+        tags = f.tags;
+        tiles = sym
+            (spans_from-row false 128 128 (tiles_in b) (length b - 16) (inl (refl, refl)) whole.row whole.apart
+            ∙ ap (λ ss. ss ++ map span (tiles_in b)) (span_between-none 128 128 (omega arith)));
+      };
+      free = free_tree-said format (bytes_of b) (length b) (tiles_in b) whole.row whole.apart f.free_tree;
+    }

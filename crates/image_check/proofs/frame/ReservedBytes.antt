@@ -1,0 +1,23 @@
+-- The bytes of the header that are kept for later.
+use Rattle.std.proofs.Common.{◌≡◌, ℕ, false, true, List}
+use Rattle.std.specs.Prelude.{◌⊎◌}
+use Rattle.std.proofs.Common.{inl, inr}
+use Rattle.std.proofs.lemmas.Bool.{false_from_ne_true}
+use Rattle.raw_region.specs.Memory.{AreZero, bytes_of}
+use Rattle.image_check.specs.EarlyTests.{has_reserved}
+use Rattle.image_check.specs.HeaderPlaces.{IsFirstNonzero}
+use Rattle.image_check.proofs.bytes.Numbers.{from_two_rows, two_rows}
+
+-- zeros pass the test of reserved bytes
+pub all-reserved : (b : List ℕ) → AreZero (bytes_of b) 12 16 → AreZero (bytes_of b) 80 128 → has_reserved b ≡ true
+all-reserved b h k = from_two_rows (bytes_of b) 12 4 80 48 h k
+
+-- a byte that is not zero fails the test
+pub not-reserved : (b : List ℕ) (at : ℕ) → IsFirstNonzero (bytes_of b) 12 16 at ⊎ IsFirstNonzero (bytes_of b) 80 128 at
+    → has_reserved b ≡ false
+not-reserved b at f = false_from_ne_true (has_reserved b) (λ h. by (two_rows (bytes_of b) 12 4 80 48 h) f)
+  where
+    by : AreZero (bytes_of b) 12 16 × AreZero (bytes_of b) 80 128
+        → IsFirstNonzero (bytes_of b) 12 16 at ⊎ IsFirstNonzero (bytes_of b) 80 128 at → ⊥
+    by z (inl s) = s.filled (z.0.at at s.above s.below)
+    by z (inr s) = s.filled (z.1.at at s.above s.below)

@@ -1,0 +1,79 @@
+-- A tree over the places of a window where a payload may begin has few nodes.
+use Rattle.std.proofs.Common.{◌≡◌, refl, sym, ap, subst, ℕ, zero, suc, ◌+◌, ◌-◌, ◌*◌, ◌/◌, ◌^◌, ◌<◌, ◌≤◌, ◌⊎◌, inl, inr}
+use Rattle.std.proofs.Common.{true, List, [], ◌∷◌, ◌==◌, length, arith, IsTrue}
+use Rattle.std.specs.Prelude.{Option}
+use Rattle.std.proofs.lemmas.Bool.{cases_lt, eq-eqb, false≢true, or_left, or_right}
+use Rattle.raw_region.specs.Memory.{WindowState, bytes_of}
+use Rattle.link_tree.specs.Nodes.{is_in, leads}
+use Rattle.link_tree.specs.Tree.{Cell, AreCellsOf, IsSearchTree, Tree, fork, leaf, nodes_of, root_of}
+use Rattle.link_tree.proofs.Laws.{in_parts, tree_limit}
+use Rattle.block_tags.specs.Format.{is_legal_size}
+use Rattle.image_check.specs.FreeNodes.{is_place, place_cells, stands_before}
+use Rattle.image_check.specs.FreeLaws.{before_irreflexive, before_transitive, is_place-PayloadBounds, places_left}
+use Rattle.image_check.specs.FreeLaws.{places_right, small_size}
+
+-- so many places from the first on
+places : ℕ → List ℕ
+places zero = []
+places (suc k) = (144 + 16 * k) ∷ places k
+
+length-places : (k : ℕ) → length (places k) ≡ k
+unfolding places
+length-places zero = refl
+length-places (suc k) = ap suc (length-places k)
+
+in_places : (k i : ℕ) → i < k → is_in (144 + 16 * i) (places k) ≡ true
+unfolding places
+in_places zero i l = absurd (omega arith)
+in_places (suc k) i l = by_test (cases_lt i k) (in_places k i)
+  where
+    by_test : (i < k) ⊎ (k ≤ i) → (i < k → is_in (144 + 16 * i) (places k) ≡ true)
+        → is_in (144 + 16 * i) (places (suc k)) ≡ true
+    by_test (inl h) rest = or_right (144 + 16 * i == 144 + 16 * k) (is_in (144 + 16 * i) (places k)) (rest h)
+    by_test (inr h) rest = or_left (144 + 16 * i == 144 + 16 * k) (is_in (144 + 16 * i) (places k))
+        (eq-eqb (144 + 16 * i) (144 + 16 * k) (omega arith))
+
+-- those of a window
+abbrev all_places : WindowState → List ℕ
+all_places c = places (length c.bytes / 16 - 10)
+
+listed : (c : WindowState) (n : ℕ) → is_place c n ≡ true → is_in n (all_places c) ≡ true
+listed c n h =
+    let p = is_place-PayloadBounds c n h in
+    let whole = p.whole in
+    let low = p.low in
+    let high = p.high in
+    let i = n / 16 - 9 in
+    let e : 144 + 16 * (n / 16 - 9) ≡ n = omega arith in
+    subst (λ k. is_in k (all_places c) ≡ true) e (in_places (length c.bytes / 16 - 10) (n / 16 - 9) (omega arith))
+
+-- the nodes of a tree are places
+nodes-places : (c : WindowState) (t : Tree) → AreCellsOf (place_cells c) t → leads (is_place c) (root_of t) ≡ true
+    → (m : ℕ)
+    → is_in m (nodes_of t) ≡ true → is_place c m ≡ true
+nodes-places c leaf h r m i = absurd (false≢true i)
+nodes-places c (fork red left n right) h r m i =
+    let below = λ (o : Option ℕ). leads (is_place c) o ≡ true in
+    let on_left = subst below (ap (λ (x : Cell). x.left) h.0) (places_left c n r) in
+    let on_right = subst below (ap (λ (x : Cell). x.right) h.0) (places_right c n r) in
+    elim (in_parts m (nodes_of left) n (nodes_of right) i) [
+      | inl a ↦ nodes-places c left h.1 on_left m a
+      | inr b ↦ elim b [
+        | inl e ↦ subst (λ k. is_place c k ≡ true) (sym e) r
+        | inr d ↦ nodes-places c right h.2 on_right m d
+      ]
+    ]
+
+-- a tree over places of the window has at most as many nodes as places
+pub nodes-few : (c : WindowState) (root : Option ℕ) (t : Tree) → IsTrue (is_legal_size (length c.bytes))
+    → leads (is_place c) root ≡ true
+    → IsSearchTree (stands_before (bytes_of c.bytes)) (place_cells c) root t → length (nodes_of t) < 2 ^ 26 - 1
+nodes-few c root t legal good s =
+    let m = bytes_of c.bytes in
+    let below = subst (λ (o : Option ℕ). leads (is_place c) o ≡ true) s.tree.root good in
+    let few =
+    tree_limit (stands_before m) (before_transitive m) (before_irreflexive m) (all_places c) t s.ordered
+    (λ n i. listed c n (nodes-places c t s.tree.holds below n i)) in
+    let count = length-places (length c.bytes / 16 - 10) in
+    let small = small_size (length c.bytes) legal in
+    omega arith

@@ -1,0 +1,19 @@
+use Rattle.std.proofs.Common.{◌≡◌, ap, refl, subst, ◌∙◌, List, [], ◌∷◌, ℕ, drop, length, take}
+use Rattle.std.specs.Prelude.{MatchOption}
+use Rattle.std.proofs.Math.Seq.{take-length}
+use Rattle.raw_region.specs.Memory.{AreZero, bytes_of, part}
+use Rattle.image_check.specs.HeaderPlaces.{IsFirstNonzero}
+use Rattle.image_check.proofs.image_window.ImageWindow.first_nonzero.Goals as goal
+
+drop-none : (b : List ℕ) → drop 0 b ≡ b
+drop-none [] = refl
+drop-none (x ∷ b) = refl
+
+whole-part : (b : List ℕ) (n : ℕ) → n ≡ length b → part b 0 n ≡ b
+whole-part b n e = ap (take n) (drop-none b) ∙ ap (λ k. take k b) e ∙ take-length b
+
+pub returns : goal.returns
+returns c =
+    subst (λ (x : List ℕ). MatchOption c.first_nonzero.result (AreZero (bytes_of x) c.args.from c.args.to)
+    (IsFirstNonzero (bytes_of x) c.args.from c.args.to))
+    (c.bytes.ensures.bytes ∙ whole-part c.args.self.now.bytes _ c.size.ensures) c.first_nonzero.ensures

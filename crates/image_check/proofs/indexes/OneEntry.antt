@@ -1,0 +1,168 @@
+-- Noting one entry more at the object that it leads to.
+use Rattle.std.proofs.Common.{◌≡◌, ◌≢◌, refl, sym, ap, subst, ◌∙◌, ℕ, Bool, true, false, ◌||◌, ◌==◌, List, [], ◌∷◌}
+use Rattle.std.proofs.Common.{◌++◌, cond}
+use Rattle.std.specs.Prelude.{Option, Some, None, nat_eq, is_some, is_none}
+use Rattle.std.specs.Map.{set_value}
+use Rattle.std.proofs.lemmas.Bool.{and_parts, cases_Bool, cond-false, cond-true, ne_eqb, cases_eq, false≢true}
+use Rattle.std.proofs.lemmas.List.Folds.{list_any-append}
+use mathlib.Core.Logic.{inl, inr}
+use Rattle.block_tags.specs.declared.tile.Role.{Role}
+use Rattle.block_tags.specs.declared.tile.Role.TheVariants.{Object}
+use Rattle.block_tags.specs.declared.tile.Tile.{Tile}
+use Rattle.best_fit.specs.Table.{same_role}
+use Rattle.image_check.specs.declared.owners.Block.{Block}
+use Rattle.image_check.specs.declared.owners.Owner.{Owner}
+use Rattle.image_check.specs.EarlyTests.{is_among}
+use Rattle.image_check.specs.ObjectTests.{tile_of, good_for}
+use Rattle.image_check.specs.Owners.{Blocks, block_at, entry_in, owner_at, owner_in, IsTileAt, IsBlockAt, frames}
+use Rattle.image_check.specs.Owners.{frame_of}
+use Rattle.image_check.specs.Entered.{NotesEntries, EntersLink, index_of, is_new_block, root_in, with_entry}
+use Rattle.image_check.proofs.bytes.Members.{Mem-is_among, mem_right}
+use Rattle.image_check.proofs.shared_blocks.OneLink.{put-other, put-same}
+use Rattle.image_check.proofs.block_collection.UsedTile.{same_role-is}
+
+-- ---- one block in the place of another
+
+frame-if : (n k : ℕ) (c b w : Block) (es fs : Blocks) (x : Bool) → w.role ≡ b.role → w.len ≡ b.len
+    → (block_at es n ≡ Some b → frames fs ≡ frames es) → cond x (Some c) (block_at es n) ≡ Some b
+    → frames (cond x ((k, w) ∷ es) ((k, c) ∷ fs)) ≡ frames ((k, c) ∷ es)
+frame-if n k c b w es fs true r l ih h =
+    let same : c ≡ b = cc in
+    let r2 : w.role ≡ c.role = r ∙ ap (λ (x : Block). x.role) (sym same) in
+    let l2 : w.len ≡ c.len = l ∙ ap (λ (x : Block). x.len) (sym same) in
+    λ i. (k, r2 i, l2 i) ∷ frames es
+frame-if n k c b w es fs false r l ih h = ap (λ ys. frame_of (k, c) ∷ ys) (ih h)
+
+frame-put : (n : ℕ) (b w : Block) (es : Blocks) → w.role ≡ b.role → w.len ≡ b.len → block_at es n ≡ Some b
+    → frames (set_value (nat_eq n) es w) ≡ frames es
+frame-put n b w [] r l h = refl
+frame-put n b w (e ∷ es) r l h =
+    frame-if n e.0 e.1 b w es (set_value (nat_eq n) es w) (nat_eq n e.0) r l (λ i. frame-put n b w es r l i) h
+
+-- ---- an object without an entry
+
+new-object : (b : Block) → is_new_block b ≡ true → (same_role b.role Object ≡ true) × (b.owner ≡ None)
+new-object b h = let p = and_parts (same_role b.role Object) (is_none b.owner) h in (p.0, no-owner b.owner p.1)
+  where
+    no-owner : (o : Option Owner) → is_none o ≡ true → o ≡ None
+    no-owner None e = refl
+    no-owner (Some o) e = absurd (false≢true e)
+
+owner-of-object : (b : Block) → same_role b.role Object ≡ true → owner_in (Some b) ≡ None
+owner-of-object b h = cond-true (same_role b.role Object) None b.owner h
+
+entry-of-object : (b : Block) → same_role b.role Object ≡ true → entry_in (Some b) ≡ b.owner
+entry-of-object b h = cond-true (same_role b.role Object) b.owner None h
+
+-- ---- one entry more
+
+module _ (ts : List Tile) (old es new : Blocks) (root place : ℕ) (xs : List ℕ) (link : Option ℕ)
+    (a : NotesEntries ts old es root xs) (e : EntersLink es new link place root) where
+  abbrev n : ℕ
+  n = e.target
+
+  abbrev w : Block
+  w = with_entry e.block place root
+
+  object : same_role e.block.role Object ≡ true
+  object = (new-object e.block e.new_block).0
+
+  here : block_at new n ≡ Some w
+  here = ap (λ (es : Blocks). block_at es n) e.after ∙ put-same n w es (ap is_some e.is)
+
+  there : (q : ℕ) → q ≢ n → block_at new q ≡ block_at es q
+  there q d = ap (λ (es : Blocks). block_at es q) e.after ∙ put-other n q w es d
+
+  owner-stays : (q : ℕ) → owner_at new q ≡ owner_at es q
+  owner-stays q = elim (cases_eq q n) [
+    | inl f ↦
+        ap (owner_at new) f ∙ ap owner_in here ∙ owner-of-object w object ∙ sym (owner-of-object e.block object)
+        ∙ sym (ap owner_in e.is) ∙ sym (ap (owner_at es) f)
+    | inr d ↦ ap owner_in (there q d)
+  ]
+
+  index-here : index_of new n ≡ Some root
+  index-here = ap (λ o. root_in (entry_in o)) here ∙ ap root_in (entry-of-object w object)
+
+  index-there : (q : ℕ) → q ≢ n → index_of new q ≡ index_of es q
+  index-there q d = ap (λ o. root_in (entry_in o)) (there q d)
+
+  -- it had no entry
+  index-before : index_of es n ≡ None
+  index-before = ap (λ o. root_in (entry_in o)) e.is
+      ∙ ap root_in (entry-of-object e.block object ∙ (new-object e.block e.new_block).1)
+
+  same-block : (q : ℕ) (c : Block) → q ≡ n → block_at new q ≡ Some c → c ≡ w
+  same-block q c f g = let h : block_at new q ≡ Some w = ap (block_at new) f ∙ here in cc
+
+  tiles-after : (q : ℕ) (c : Block) → block_at new q ≡ Some c → IsTileAt ts q c
+  tiles-after q c g = elim (cases_eq q n) [
+    | inl f ↦
+        let t = a.blocks.tiles n e.block e.is in
+        let o : IsTileAt ts n w = record { tile = t.tile; is = t.is; len = t.len } in
+        subst (λ x. IsTileAt ts q x) (sym (same-block q c f g)) (subst (λ x. IsTileAt ts x w) (sym f) o)
+    | inr d ↦ a.blocks.tiles q c (sym (there q d) ∙ g)
+  ]
+
+  blocks-after : (q : ℕ) (r : Role) (t : Tile) → tile_of ts r q ≡ Some t → IsBlockAt new q r t
+  blocks-after q r t g = elim (cases_eq q n) [
+    | inl f ↦
+        let v = a.blocks.blocks q r t g in
+        let k : block_at es q ≡ Some e.block = ap (block_at es) f ∙ e.is in
+        let h = v.is in
+        let same : e.block ≡ v.block = cc in
+        record {
+          block = w;
+          is = ap (block_at new) f ∙ here;
+          role_is = ap (λ (x : Block). x.role) same ∙ v.role_is;
+          len = ap (λ (x : Block). x.len) same ∙ v.len;
+        }
+    | inr d ↦ let v = a.blocks.blocks q r t g
+        in record { block = v.block; is = there q d ∙ v.is; role_is = v.role_is; len = v.len }
+  ]
+
+  among-more : (q : ℕ) → is_among (xs ++ n ∷ []) q ≡ (is_among xs q || (q == n || false))
+  among-more q = list_any-append (λ y. q == y) xs (n ∷ [])
+
+  entered-after : (q : ℕ) → index_of new q ≡ cond (is_among (xs ++ n ∷ []) q) (Some root) (index_of old q)
+  entered-after q = elim (cases_eq q n) [
+    | inl f ↦
+        let yes : is_among (xs ++ n ∷ []) q ≡ true = Mem-is_among (xs ++ n ∷ []) q (mem_right q xs (n ∷ []) (inl f)) in
+        ap (index_of new) f ∙ index-here ∙ sym (cond-true (is_among (xs ++ n ∷ []) q) (Some root) (index_of old q) yes)
+    | inr d ↦ index-there q d ∙ a.entered q
+        ∙ ap (λ b. cond b (Some root) (index_of old q))
+        (sym (among-more q ∙ only-one (is_among xs q) (q == n) (ne_eqb q n d)))
+  ]
+    where
+      only-one : (x y : Bool) → y ≡ false → (x || (y || false)) ≡ x
+      only-one true y h = refl
+      only-one false y h = ap (λ z. z || false) h
+
+  -- the object is noted, and all that was noted stays
+  pub added-more : NotesEntries ts old new root (xs ++ n ∷ [])
+  added-more = record {
+    blocks = record { tiles = tiles-after; blocks = blocks-after };
+    frame = ap frames e.after ∙ frame-put n e.block w es refl refl e.is ∙ a.frame;
+    owners = λ q. owner-stays q ∙ a.owners q;
+    entered = entered-after;
+  }
+
+  -- it is none of those before
+  pub not-before : is_among xs n ≡ false
+  not-before = elim (cases_Bool (is_among xs n)) [
+    | inl h ↦ (let k : Some root ≡ None = sym (cond-true (is_among xs n) (Some root) (index_of old n) h)
+        ∙ sym (a.entered n) ∙ index-before in absurd (cc))
+    | inr h ↦ h
+  ]
+
+  -- the object had no entry before
+  pub new-before : index_of old n ≡ None
+  new-before = sym (cond-false (is_among xs n) (Some root) (index_of old n) not-before) ∙ sym (a.entered n)
+      ∙ index-before
+
+  -- the link leads to an object
+  pub good : is_some (good_for ts Object link) ≡ true
+  good =
+      let t = a.blocks.tiles n e.block e.is in
+      ap (λ l. is_some (good_for ts Object l)) e.leads
+      ∙ ap (λ r. is_some (tile_of ts r n)) (sym (same_role-is e.block.role Object object)) ∙ ap is_some t.is

@@ -1,0 +1,126 @@
+-- Where tiles lie in a row, how long the block of an index is, and how much a tile weighs.
+use Rattle.std.proofs.Common.{◌≡◌, refl, sym, ap, subst, ◌∙◌, ℕ, ◌+◌, ◌-◌, ◌*◌, ◌/◌, ◌%◌, ◌≤◌, true, false, ◌&&◌, ◌==◌}
+use Rattle.std.proofs.Common.{List, [], ◌∷◌, length, arith}
+use Rattle.std.specs.Prelude.{IsTrue, Option, Some, None, nat_le}
+use Rattle.std.proofs.lemmas.Bool.{and_parts, cases_Bool, cond-false, cond-true, eqb-true, false≢true, leb-true}
+use mathlib.Core.Logic.{inl, inr}
+use Rattle.raw_region.specs.Memory.{WindowState, Memory, word_at}
+use Rattle.offset_link.specs.Link.{link_at}
+use Rattle.block_tags.specs.declared.tile.Role.{Role}
+use Rattle.block_tags.specs.declared.tile.Role.TheVariants.{Index}
+use Rattle.block_tags.specs.declared.tile.Tile.{Tile}
+use Rattle.block_tags.proofs.Laws.{tiles_are_read_off}
+use Rattle.best_fit.specs.Table.{same_role}
+use Rattle.best_fit.proofs.Laws.{Row, said_row}
+use Rattle.image_check.specs.ObjectTests.{index_capacity, is_table_link, is_use, leads_to, tile_of}
+use Rattle.image_check.specs.Passes.{HasTiles, tiles_in}
+use Rattle.image_check.specs.Visits.{Rates, rate_of, weigh}
+use Rattle.image_check.proofs.bytes.Members.{Mem, find_mem}
+use Rattle.image_check.proofs.block_collection.UsedTile.{same_role-is}
+use Rattle.image_check.proofs.walks.Tiles.{tags-IsTiledWindow}
+
+-- ---- tiles in a row
+
+-- good tags make up a row
+pub rows : (c : WindowState) → HasTiles c.bytes → Row 128 (tiles_in c.bytes) (length c.bytes - 16)
+rows c h =
+    let t = tags-IsTiledWindow c h.size h.tags in
+    subst (λ ts. Row 128 ts (length c.bytes - 16)) (sym (tiles_are_read_off c t.tiles t.said))
+    (said_row c t.tiles t.said)
+
+-- where a tile of a row lies
+pub record InRow (at end : ℕ) (t : Tile) : Type 0 where
+  pub low : at ≤ t.offset
+  pub long : 32 ≤ t.len
+  pub whole : t.len % 16 ≡ 0
+  pub even : at % 16 ≡ 0 → t.offset % 16 ≡ 0
+  pub within : t.offset + t.len ≤ end
+
+row-long : (at : ℕ) (ts : List Tile) (end : ℕ) → Row at ts end → at ≤ end
+row-long at [] end r = let e : at ≡ end = r in omega arith
+row-long at (t ∷ ts) end r = let l = row-long (at + t.len) ts end r.3 in omega arith
+
+-- a tile of a row stands in it
+pub in-row : (at : ℕ) (ts : List Tile) (end : ℕ) (t : Tile) → Row at ts end → Mem t ts → InRow at end t
+in-row at [] end t r h = absurd h
+in-row at (u ∷ ts) end t r (inl e) =
+    let o : t.offset ≡ at = ap (λ (x : Tile). x.offset) e ∙ r.0 in
+    let l : t.len ≡ u.len = ap (λ (x : Tile). x.len) e in
+    let long = r.1 in
+    let whole : t.len % 16 ≡ 0 = ap (λ n. n % 16) l ∙ r.2 in
+    let rest = row-long (at + u.len) ts end r.3 in
+    record {
+      low = omega arith;
+      long = omega arith;
+      whole = whole;
+      even = λ w. ap (λ n. n % 16) o ∙ w;
+      within = omega arith;
+    }
+in-row at (u ∷ ts) end t r (inr h) =
+    let i = in-row (at + u.len) ts end t r.3 h in
+    let low = i.low in
+    let whole = r.2 in
+    record { low = omega arith; long = i.long; whole = i.whole; even = λ w. i.even (omega arith); within = i.within }
+
+-- ---- the block of an index
+
+-- the tile whose payload begins at a block of an index, with room for so many entries
+pub record IsIndexRoom (ts : List Tile) (block count : ℕ) : Type 0 where
+  pub tile : Tile
+  pub mem : Mem tile ts
+  pub use_of : IsTrue (is_use Index tile)
+  pub at : block ≡ tile.offset + 16
+  pub room : 8 * count + 16 ≤ tile.len
+
+-- an index that passes its test has a block with room
+pub room-of : (m : Memory) (ts : List Tile) (at block : ℕ)
+    → (nat_le (word_at m (at + 8)) (index_capacity m at)
+    && is_table_link ts Index (link_at m at) 8 (index_capacity m at)) ≡ true → link_at m at ≡ Some block
+    → IsIndexRoom ts block (word_at m (at + 8))
+room-of m ts at block h e =
+    let p = and_parts (nat_le (word_at m (at + 8)) (index_capacity m at))
+    (is_table_link ts Index (link_at m at) 8 (index_capacity m at)) h in
+    let few = leb-true (word_at m (at + 8)) (index_capacity m at) p.0 in
+    let k : is_table_link ts Index (Some block) 8 (index_capacity m at) ≡ true =
+    ap (λ l. is_table_link ts Index l 8 (index_capacity m at)) (sym e) ∙ p.1 in
+    elim (cases_Bool (index_capacity m at == 0)) [
+      | inl z ↦ absurd (false≢true (sym
+          (cond-true (index_capacity m at == 0) false (leads_to ts Index (Some block) (8 * index_capacity m at)) z)
+          ∙ k))
+      | inr z ↦ found (tile_of ts Index block) refl
+          (sym (cond-false (index_capacity m at == 0) false
+          (leads_to ts Index (Some block) (8 * index_capacity m at)) z) ∙ k) few
+    ]
+  where
+    found : (o : Option Tile) → tile_of ts Index block ≡ o
+        → elim o [ None ↦ false | Some t ↦ nat_le (8 * index_capacity m at + 16) t.len ] ≡ true
+        → word_at m (at + 8) ≤ index_capacity m at → IsIndexRoom ts block (word_at m (at + 8))
+    found None f g few = absurd (false≢true g)
+    found (Some t) f g few =
+        let w = find_mem (λ (t : Tile). is_use Index t && (t.offset + 16 == block)) t ts f in
+        let q = and_parts (is_use Index t) (t.offset + 16 == block) w.is in
+        let long = leb-true (8 * index_capacity m at + 16) t.len g in
+        record {
+          tile = t;
+          mem = w.mem;
+          use_of = q.0;
+          at = sym (eqb-true (t.offset + 16) block q.1);
+          room = omega arith;
+        }
+
+-- ---- weights
+
+used-as : (r : Role) (o : Option Role) → IsTrue (elim o [ None ↦ false | Some s ↦ same_role r s ]) → o ≡ Some r
+used-as r None h = absurd (false≢true h)
+used-as r (Some s) h = ap Some (sym (same_role-is r s h))
+
+-- a tile of a role weighs no more than all
+pub weigh-one : (r : Rates) (ts : List Tile) (t : Tile) (role : Role) → Mem t ts → IsTrue (is_use role t)
+    → rate_of r (Some role) * (t.len / 16) ≤ weigh r ts
+weigh-one r [] t role h u = absurd h
+weigh-one r (s ∷ ts) t role (inl e) u =
+    let k : rate_of r (Some role) * (t.len / 16) ≡ rate_of r s.use_of * (s.len / 16) =
+    ap (λ o. rate_of r o * (t.len / 16)) (sym (used-as role t.use_of u))
+    ∙ ap (λ (x : Tile). rate_of r x.use_of * (x.len / 16)) e in
+    omega arith
+weigh-one r (s ∷ ts) t role (inr h) u = let l = weigh-one r ts t role h u in omega arith

@@ -1,0 +1,77 @@
+-- The format that bytes say, and that of bytes which begin with them.
+use Rattle.std.proofs.Common.{◌≡◌, refl, sym, ap, ◌∙◌, ℕ, ◌≤◌, inl, inr, Bool, true, false, ◌==◌, List, ◌++◌, length}
+use Rattle.std.proofs.Common.{take, drop, arith}
+use Rattle.std.specs.Prelude.{nat_le, if◌then◌else◌}
+use Rattle.std.proofs.lemmas.Bool.{cases_Bool, eqb-true, eq-eqb, leb-true, le-leb, both_ways}
+use Rattle.std.proofs.lemmas.List.{take-append-drop}
+use Rattle.raw_region.specs.Memory.{part}
+use Rattle.raw_region.specs.Format.{current}
+use Rattle.raw_region.proofs.Laws.{added, both_added}
+use Rattle.image_check.specs.declared.versions.AcceptedVersions.{AcceptedVersions}
+use Rattle.image_check.specs.declared.versions.AcceptedVersions.TheVariants.{Current, All}
+use Rattle.image_check.specs.Formats.{format_in, format_of, is_taken, version_word}
+use Rattle.image_check.proofs.reading.Deciding.{half_word_at-front}
+
+-- ---- bytes that follow change nothing
+
+pub version-front : (b rest : List ℕ) → 12 ≤ length b → version_word (b ++ rest) ≡ version_word b
+version-front b rest l = half_word_at-front b rest 8 l
+
+-- the first 24 bytes tell
+pub version-part : (b xs : List ℕ) (v : ℕ) → v ≡ version_word xs → xs ≡ part b 0 24 → length xs ≡ 24
+    → v ≡ version_word b
+version-part b xs v e p l =
+    let long = sym (ap (λ (ys : List ℕ). length ys) p) ∙ l in
+    e ∙ ap version_word p ∙ sym (version-front (take 24 b) (drop 24 b) (omega arith))
+    ∙ ap version_word (take-append-drop 24 b)
+
+-- the format stands in the first 12 bytes
+pub format_of-front : (b rest : List ℕ) → 12 ≤ length b → format_of (b ++ rest) ≡ format_of b
+format_of-front b rest l = ap (λ v. if nat_le v 2 then v else current) (version-front b rest l)
+
+pub format_in-front : (versions : AcceptedVersions) (b rest : List ℕ) → 12 ≤ length b
+    → format_in versions (b ++ rest) ≡ format_in versions b
+format_in-front Current b rest l = refl
+format_in-front All b rest l = format_of-front b rest l
+
+-- of what was given since, where it begins with a front
+pub since-format : (versions : AcceptedVersions) (old mid new front more : List ℕ) → 12 ≤ length front
+    → mid ≡ old ++ front → new ≡ mid ++ more
+    → format_in versions (drop (length old) new) ≡ format_in versions front
+since-format versions old mid new front more l e f =
+    ap (format_in versions) (added old new (front ++ more) (both_added old mid new front more e f))
+    ∙ format_in-front versions front more l
+
+-- ---- what is read by a format
+
+else-current : (v : ℕ) (p : Bool) → p ≡ false → (if p then v else current) ≡ current
+else-current v p e = ap (λ x. if x then v else current) e
+
+then-said : (v : ℕ) (p : Bool) → p ≡ true → (if p then v else current) ≡ v
+then-said v p e = ap (λ x. if x then v else current) e
+
+-- a version that is taken is the format
+pub taken-format : (versions : AcceptedVersions) (b : List ℕ) (v : ℕ) → v ≡ version_word b
+    → is_taken versions v ≡ true → v ≡ format_in versions b
+taken-format Current b v e t = eqb-true v current t
+taken-format All b v e t = e ∙ sym
+    (then-said (version_word b) (nat_le (version_word b) 2) (sym (ap (λ n. nat_le n 2) e) ∙ t))
+
+-- another is not
+pub other-format : (versions : AcceptedVersions) (b : List ℕ) (v : ℕ) → v ≡ version_word b
+    → is_taken versions v ≡ false → v ≡ format_in versions b → ⊥
+unfolding current
+other-format Current b v e t s = both_ways (v == 2) t (eq-eqb v 2 s)
+other-format All b v e t s =
+    let two : v ≡ 2 = s ∙ else-current (version_word b) (nat_le (version_word b) 2) (sym (ap (λ n. nat_le n 2) e)
+    ∙ t) in
+    both_ways (nat_le v 2) t (le-leb v 2 (omega arith))
+
+-- no format is later than the current one
+pub format_of-few : (b : List ℕ) → format_of b ≤ 2
+unfolding current
+format_of-few b = elim (cases_Bool (nat_le (version_word b) 2)) [
+  | inl e ↦ let said = then-said (version_word b) (nat_le (version_word b) 2) e in let few =
+      leb-true (version_word b) 2 e in omega arith
+  | inr e ↦ let other = else-current (version_word b) (nat_le (version_word b) 2) e in omega arith
+]

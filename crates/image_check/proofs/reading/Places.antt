@@ -1,0 +1,113 @@
+-- The places that the reading of an image tells.
+use Rattle.std.proofs.Common.{◌≡◌, sym, ap, subst, ◌∙◌, ℕ, ◌-◌, ◌<◌, ◌≤◌, List, [], ◌∷◌, ◌++◌, length, take, drop, true}
+use Rattle.std.proofs.Common.{arith, inl, inr}
+use Rattle.std.specs.Prelude.{IfErr, Ok, Err, Result, codes, slice_index}
+use Rattle.std.proofs.lemmas.Bool.{cond-false, cond-true}
+use Rattle.std.proofs.lemmas.List.{get_or_append_left, length-append, length-take-le}
+use Rattle.raw_region.specs.Memory.{WindowState}
+use Rattle.raw_region.proofs.Laws.{added, both_added}
+use Rattle.block_tags.specs.Format.{is_legal_size}
+use Rattle.image_check.specs.declared.classes.ImageClass.{ImageClass}
+use Rattle.image_check.specs.declared.classes.ImageClass.TheVariants.{Truncated, BadMagic, UnsupportedVersion, BadSize}
+use Rattle.image_check.specs.declared.classes.ImageClass.TheVariants.{BadReserved, BadTag, BadFreeTree, BadIndex}
+use Rattle.image_check.specs.declared.classes.ImageClass.TheVariants.{BadObject, SharedBlock, BadContainer, OrphanBlock}
+use Rattle.image_check.specs.declared.errors.ExamineError.{ExamineError}
+use Rattle.image_check.specs.declared.errors.ExamineError.TheVariants.{Image, RegionTooSmall, OutOfMemory, ReadFault}
+use Rattle.image_check.specs.declared.errors.OpenError.{OpenError}
+use Rattle.image_check.specs.declared.verdict.Verdict.{Verdict}
+use Rattle.image_check.specs.Causes.{IsNodeLink, IsEnd, IsShown, error_for, error_in}
+use Rattle.image_check.specs.EarlyTests.{size_word}
+use Rattle.image_check.specs.HeaderPlaces.{IsFirstOther, IsFrontPlace}
+use Rattle.image_check.specs.Reading.{ReadsPastEnd, HasFront}
+use Rattle.image_check.specs.Verdicts.{Shows}
+use Rattle.image_check.proofs.reading.Deciding.{size_word-front}
+use Rattle.image_check.proofs.reading.Buffer.{HasFront-IsRight}
+use Rattle.image_check.proofs.reading.Fronts.{IsRight-append, IsRight-take}
+
+-- the end of what came
+pub end-shown : (format : ℕ) (b : List ℕ) (n : ℕ) (cause : ExamineError) → n ≡ length b → IsEnd n cause
+    → IsShown format b cause
+end-shown format b n (Image v) e h = subst (λ c. Shows format b c v.place) (sym h.0) (h.1 ∙ e)
+end-shown format b n RegionTooSmall e h = tt
+end-shown format b n (OutOfMemory refusal) e h = tt
+end-shown format b n ReadFault e h = tt
+
+-- the size that was said
+behind-shown : (format : ℕ) (b : List ℕ) (n : ℕ) (v : Verdict) → n ≡ size_word b → is_legal_size (size_word b) ≡ true
+    → IsNodeLink n (Image v) → Shows format b v.class v.place
+behind-shown format b n v e legal h = subst (λ c. Shows format b c v.place) (sym h.0)
+    (h.1 ∙ e ∙ sym (cond-true (is_legal_size (size_word b)) (size_word b) 16 legal))
+
+-- ---- in the first words
+
+module _ (format : ℕ) (front more : List ℕ) (long : 24 ≤ length front) where
+  same-there : (i : ℕ) → i < 24 → slice_index (front ++ more) i ≡ slice_index front i
+  same-there i l = get_or_append_left front more 0 i (omega arith)
+
+  magic-shown : (at : ℕ) → IsFirstOther front (codes "MSEGFILE") at → IsFirstOther (front ++ more) (codes "MSEGFILE") at
+  magic-shown at p =
+      let inside : at < 8 = p.inside in
+      record {
+        inside = p.inside;
+        other = λ e. p.other (sym (same-there at (omega arith)) ∙ e);
+        same = λ i l. same-there i (omega arith) ∙ p.same i l;
+      }
+
+  -- the place in a wrong front is told
+  pub front-shown : (c : ImageClass) (at : ℕ) → IsFrontPlace front c at → Shows format (front ++ more) c at
+  front-shown Truncated at p = absurd p
+  front-shown BadMagic at p = magic-shown at p
+  front-shown UnsupportedVersion at p = p
+  front-shown BadSize at p =
+      p.0 ∙ sym (cond-false (is_legal_size (size_word (front ++ more))) (size_word (front ++ more)) 16
+      (ap is_legal_size (size_word-front front more long) ∙ p.1))
+  front-shown BadReserved at p = absurd p
+  front-shown BadTag at p = absurd p
+  front-shown BadFreeTree at p = absurd p
+  front-shown BadIndex at p = absurd p
+  front-shown BadObject at p = absurd p
+  front-shown SharedBlock at p = absurd p
+  front-shown BadContainer at p = absurd p
+  front-shown OrphanBlock at p = absurd p
+
+-- ---- behind the whole image
+
+module _ (w : WindowState) (old mid new ws : List ℕ) (n : ℕ) (is : n ≡ length w.bytes) (rest : mid ≡ old ++ ws) where
+  one-behind : (format : ℕ) → HasFront format w → (start : List ℕ) → old ≡ start ++ take 24 w.bytes → (byte : ℕ)
+      → new ≡ mid ++ byte ∷ [] → (v : Verdict) → IsNodeLink n (Image v)
+      → Shows format (drop (length start) new) v.class v.place
+  one-behind format h start e byte g v s =
+      let one : List ℕ = byte ∷ [] in
+      let all : List ℕ = (take 24 w.bytes ++ ws) ++ one in
+      let said : drop (length start) new ≡ all =
+      added start new all (both_added start mid new (take 24 w.bytes ++ ws) one
+      (both_added start old mid (take 24 w.bytes) ws e rest) g) in
+      let right = IsRight-append format (take 24 w.bytes ++ ws) one (length w.bytes)
+      (IsRight-append format (take 24 w.bytes) ws (length w.bytes)
+      (IsRight-take format w.bytes (length w.bytes) (HasFront-IsRight format w h))) in
+      subst (λ b. Shows format b v.class v.place) (sym said)
+      (behind-shown format all n v (is ∙ sym right.says) (ap is_legal_size right.says ∙ right.legal) s)
+
+  -- the place of a node link is told
+  pub whole-shown : (r : Result (Unit {0}) ExamineError) → IfErr r (λ cause. ReadsPastEnd mid new (error_for cause))
+      → IfErr r (IsNodeLink n)
+      → IfErr r (λ cause. (format : ℕ) → HasFront format w → (start : List ℕ) → old ≡ start ++ take 24 w.bytes
+      → IsShown format (drop (length start) new) cause)
+  whole-shown (Ok done) g s = tt
+  whole-shown (Err (Image v)) (inl g) s = absurd (cc)
+  whole-shown (Err (Image v)) (inr g) s = λ format h start e. one-behind format h start e g.1.0 g.1.1 v s
+  whole-shown (Err RegionTooSmall) g s = λ format h start e. tt
+  whole-shown (Err (OutOfMemory refusal)) g s = λ format h start e. tt
+  whole-shown (Err ReadFault) g s = λ format h start e. tt
+
+-- what is so of a cause without its place
+pub err-in : {A : Type 0} (Q : OpenError → Type 0) (r : Result A ExamineError)
+    → IfErr r (λ cause. Q (error_for cause)) → IfErr (error_in r) Q
+err-in Q (Ok x) h = tt
+err-in Q (Err cause) h = h
+
+-- what is said of an error is said of the cause
+pub err-out : {A : Type 0} (Q : OpenError → Type 0) (r : Result A ExamineError) → IfErr (error_in r) Q
+    → IfErr r (λ cause. Q (error_for cause))
+err-out Q (Ok x) h = tt
+err-out Q (Err cause) h = h

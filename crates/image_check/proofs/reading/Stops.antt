@@ -1,0 +1,237 @@
+-- Why the reading of an image stops: too few bytes came, the first ones are wrong, or more follow.
+use Rattle.std.proofs.Common.{◌≡◌, refl, sym, ap, subst, ◌∙◌, ℕ, ◌+◌, ◌<◌, ◌≤◌, Bool, true, false, inl, inr}
+use Rattle.std.proofs.Common.{List, [], ◌∷◌, ◌++◌, length, take, arith, Some, None, Ok, Err}
+use Rattle.std.specs.Prelude.{IsTrue, nat_lt, nat_le, if◌then◌else◌}
+use Rattle.std.proofs.lemmas.Bool.{and_from, and_right, lt-ltb, le-ltb, lt-leb, le-leb, both_ways}
+use Rattle.std.proofs.lemmas.List.{length-append, length-take}
+use Rattle.raw_region.specs.Answers.{AppendsProperPrefix}
+use Rattle.raw_region.specs.Device.{ReadDelta, read_delta}
+use Rattle.raw_region.proofs.Laws.{added, both_added}
+use Rattle.block_tags.specs.Format.{is_legal_size}
+use Rattle.best_fit.proofs.Laws.{legal_size}
+use Rattle.image_check.specs.declared.classes.ImageClass.{ImageClass}
+use Rattle.image_check.specs.declared.classes.ImageClass.TheVariants.{Truncated, BadMagic, UnsupportedVersion, BadSize}
+use Rattle.image_check.specs.declared.errors.OpenError.{OpenError}
+use Rattle.image_check.specs.declared.errors.OpenError.TheVariants.{Image, ReadFault}
+use Rattle.image_check.specs.EarlyTests.{size_word, has_magic, has_version, has_front, has_size}
+use Rattle.image_check.specs.Classes.{holds}
+use Rattle.image_check.specs.Deciding.{decided, decided_by}
+use Rattle.image_check.specs.Opening.{IsTooSmallFor, failed_reads, is_late}
+use Rattle.image_check.specs.Reading.{front_of, IsShort, ReadsPastEnd, Stops}
+use Rattle.image_check.proofs.reading.Deciding.{decided-some, decided-none, first_class}
+use Rattle.image_check.proofs.frame.EarlyClasses.{short-Truncated, cut-Truncated}
+use Rattle.image_check.proofs.reading.Fronts.{IsRight, IsRight-append, front_of-append, front-wrong, front-decided}
+
+-- ---- what a reader gave
+
+-- bytes that were read, and the counts of failed reads before and after
+abbrev pub given : List ℕ → Bool → ℕ → ℕ → ReadDelta
+given b ended f f' = record { bytes = b; ended = ended; failed = nat_lt f f' }
+
+-- what was given in a call, from the bytes given before and after it, and the counts
+abbrev pub read_since : List ℕ → List ℕ → Bool → ℕ → ℕ → ReadDelta
+read_since old new ended f f' =
+    read_delta (record { bytes = old; ended = ended; ends = 0; failures = f })
+    (record { bytes = new; ended = ended; ends = 0; failures = f' })
+
+-- by how much a cause raises the count of failed reads
+abbrev pub rise : OpenError → ℕ
+rise cause = failed_reads {T = Unit {0}} (Err cause)
+
+-- no read failed where the count did not rise
+none_failed : (f f' : ℕ) → f' ≡ f + 0 → nat_lt f f' ≡ false
+none_failed f f' e = le-ltb f f' (omega arith)
+
+pub stops_since : (format : ℕ) (old new b : List ℕ) (ended : Bool) (f f' base capacity : ℕ) (cause : OpenError)
+    → new ≡ old ++ b → Stops format (given b ended f f') base capacity cause
+    → Stops format (read_since old new ended f f') base capacity cause
+stops_since format old new b ended f f' base capacity cause e s =
+    subst (λ x. Stops format (given x ended f f') base capacity cause) (sym (added old new b e)) s
+
+-- ---- too few bytes
+
+-- fewer than 144 bytes decide nothing
+pub short-undecided : (format : ℕ) (b : List ℕ) → length b < 144 → decided format b ≡ None
+unfolding decided
+short-undecided format b l = ap (λ s. decided_by s (has_magic b) (has_version format b) (has_size b))
+    (lt-ltb (length b) 144 l)
+
+-- nor do right ones, with a right size
+none_by : (s : Bool) → decided_by s true true true ≡ None
+none_by true = refl
+none_by false = refl
+
+right-undecided : (format : ℕ) (b : List ℕ) (size : ℕ) → IsRight format b size → length b ≤ size
+    → decided format b ≡ None
+unfolding decided
+right-undecided format b size r l =
+    let says = r.says in
+    let s : has_size b ≡ true = and_from (is_legal_size (size_word b)) (nat_le (length b) (size_word b))
+    (ap is_legal_size says ∙ r.legal) (le-leb (length b) (size_word b) (omega arith)) in
+    let m = r.magic in
+    let v = r.version in
+    (λ i. decided_by (nat_lt (length b) 144) (m i) (v i) (s i)) ∙ none_by (nat_lt (length b) 144)
+
+-- a reader failed where nothing is decided
+fault_stops : (format : ℕ) (b : List ℕ) (ended : Bool) (f f' base capacity : ℕ) → decided format b ≡ None
+    → (IsTooSmallFor format (given b ended f f') base capacity → ⊥) → f' ≡ f + 1
+    → Stops format (given b ended f f') base capacity ReadFault
+fault_stops format b ended f f' base capacity d n g = record {
+  why = record { failed = lt-ltb f f' (omega arith); open_class = decided-none format b d };
+  too_small = λ t. absurd (n t);
+  early = refl;
+}
+
+-- too few bytes came, and what came decides nothing
+short_stops : (format : ℕ) (b : List ℕ) (ended : Bool) (f f' base capacity : ℕ) (cause : OpenError)
+    → IsTrue (holds format b Truncated) → decided format b ≡ None
+    → (IsTooSmallFor format (given b ended f f') base capacity → ⊥) → IsShort ended cause → f' ≡ f + rise cause
+    → Stops format (given b ended f f') base capacity cause
+short_stops format b ended f f' base capacity cause t d n (inl e) g =
+    subst (Stops format (given b ended f f') base capacity) (sym e)
+    (fault_stops format b ended f f' base capacity d n (g ∙ ap (λ c. f + rise c) e))
+short_stops format b ended f f' base capacity cause t d n (inr h) g =
+    let same : f' ≡ f + 0 = g ∙ ap (λ c. f + rise c) h.0 in
+    subst (Stops format (given b ended f f') base capacity) (sym h.0)
+    (record {
+      why = record { sound = none_failed f f' same; right = inl (h.1, first_class (holds format b) t) };
+      too_small = λ s. absurd (n s);
+      early = refl;
+    })
+
+-- ---- in the first 24 bytes, and in the others where these are wrong
+
+-- as many bytes as are taken
+some_taken : (n count : ℕ) (xs : List ℕ) → length xs ≡ n → count < length xs → length (take count xs) < n
+some_taken n count xs e l = let cut = length-take count xs in omega arith
+
+-- too few bytes for a front: the reading stops
+pub front_stops : (format : ℕ) (old new xs : List ℕ) (ended : Bool) (f f' base capacity : ℕ) (cause : OpenError)
+    → length xs ≡ 24 → AppendsProperPrefix old new xs → IsShort ended cause → f' ≡ f + rise cause
+    → Stops format (read_since old new ended f f') base capacity cause
+front_stops format old new xs ended f f' base capacity cause l a s g =
+    let b : List ℕ = take a.count xs in
+    let less = some_taken 24 a.count xs l a.fewer in
+    stops_since format old new b ended f f' base capacity cause a.added
+    (short_stops format b ended f f' base capacity cause (short-Truncated format b (omega arith))
+    (short-undecided format b (omega arith)) (λ t. let many = t.read in omega arith) s g)
+
+-- no size is too small where none is said
+none_too_small : (format : ℕ) (b : List ℕ) (ended : Bool) (f f' base capacity : ℕ) (c : ImageClass)
+    → front_of format b ≡ Err c → IsTooSmallFor format (given b ended f f') base capacity → ⊥
+none_too_small format b ended f f' base capacity c e t =
+    both_ways (has_front format b) (front-wrong format b c e) t.front
+
+-- a wrong front: the reading stops
+pub wrong_front_stops : (format : ℕ) (old mid new front xs : List ℕ) (ended : Bool) (f f' base capacity : ℕ)
+    (c : ImageClass) (cause : OpenError) → length front ≡ 24 → length xs ≡ 120 → mid ≡ old ++ front
+    → front_of format front ≡ Err c → AppendsProperPrefix mid new xs → IsShort ended cause → f' ≡ f + rise cause
+    → Stops format (read_since old new ended f f') base capacity cause
+wrong_front_stops format old mid new front xs ended f f' base capacity c cause l k e w a s g =
+    let b : List ℕ = front ++ take a.count xs in
+    let less = some_taken 120 a.count xs k a.fewer in
+    let both = length-append front (take a.count xs) in
+    stops_since format old new b ended f f' base capacity cause
+    (both_added old mid new front (take a.count xs) e a.added)
+    (short_stops format b ended f f' base capacity cause (short-Truncated format b (omega arith))
+    (short-undecided format b (omega arith))
+    (none_too_small format b ended f f' base capacity c
+    (front_of-append format front (take a.count xs) (omega arith) ∙ w)) s g)
+
+-- what is wrong with the first words is no class from the eighth on
+early-by : (m v l : Bool) (n : ℕ) (c : ImageClass)
+    → (if m then (if v then (if l then Ok n else Err BadSize) else Err UnsupportedVersion) else Err BadMagic) ≡ Err c
+    → is_late (Image c) ≡ false
+early-by true true true n c e = absurd (cc)
+early-by true true false n c e = let same : BadSize ≡ c = cc in ap (λ k. is_late (Image k)) (sym same)
+early-by true false l n c e = let same : UnsupportedVersion ≡ c = cc in ap (λ k. is_late (Image k)) (sym same)
+early-by false v l n c e = let same : BadMagic ≡ c = cc in ap (λ k. is_late (Image k)) (sym same)
+
+-- the class of a front is an early one
+pub front-early : (format : ℕ) (b : List ℕ) (c : ImageClass) → front_of format b ≡ Err c → is_late (Image c) ≡ false
+front-early format b c e =
+    early-by (has_magic b) (has_version format b) (is_legal_size (size_word b)) (size_word b) c e
+
+-- with 144 bytes the wrong front decides
+pub wrong_front_decides : (format : ℕ) (old mid new front xs : List ℕ) (ended : Bool) (f f' base capacity : ℕ)
+    (c : ImageClass) → length front ≡ 24 → length xs ≡ 120 → mid ≡ old ++ front
+    → front_of format front ≡ Err c → new ≡ mid ++ xs → f' ≡ f + 0
+    → Stops format (read_since old new ended f f') base capacity (Image c)
+wrong_front_decides format old mid new front xs ended f f' base capacity c l k e w a g =
+    let b : List ℕ = front ++ xs in
+    let both = length-append front xs in
+    let wrong = front_of-append format front xs (omega arith) ∙ w in
+    stops_since format old new b ended f f' base capacity (Image c) (both_added old mid new front xs e a)
+    (record {
+      why = record {
+        sound = none_failed f f' g;
+        right = inr (decided-some format b c (front-decided format b c (omega arith) wrong));
+      };
+      too_small = λ t. absurd (none_too_small format b ended f f' base capacity c wrong t);
+      early = front-early format front c w;
+    })
+
+-- ---- behind a right front
+
+-- there is room for the size that is said
+room_for : (format : ℕ) (b : List ℕ) (size : ℕ) (ended : Bool) (f f' base capacity : ℕ) → IsRight format b size
+    → base + size ≤ capacity → IsTooSmallFor format (given b ended f f') base capacity → ⊥
+room_for format b size ended f f' base capacity r l t = let says = r.says in let small = t.small in omega arith
+
+-- too few bytes behind the front: the reading stops
+pub rest_stops : (format : ℕ) (old mid new front xs : List ℕ) (size : ℕ) (ended : Bool) (f f' base capacity : ℕ)
+    (cause : OpenError) → IsRight format front size → length front + length xs ≡ size → base + size ≤ capacity
+    → mid ≡ old ++ front → AppendsProperPrefix mid new xs → IsShort ended cause → f' ≡ f + rise cause
+    → Stops format (read_since old new ended f f') base capacity cause
+rest_stops format old mid new front xs size ended f f' base capacity cause r l room e a s g =
+    let b : List ℕ = front ++ take a.count xs in
+    let fewer = a.fewer in
+    let cut = length-take a.count xs in
+    let both = length-append front (take a.count xs) in
+    let right = IsRight-append format front (take a.count xs) size r in
+    let says = right.says in
+    stops_since format old new b ended f f' base capacity cause
+    (both_added old mid new front (take a.count xs) e a.added)
+    (short_stops format b ended f f' base capacity cause
+    (cut-Truncated format b right.magic right.version (ap is_legal_size says ∙ right.legal) (omega arith))
+    (right-undecided format b size right (omega arith))
+    (room_for format b size ended f f' base capacity right room) s g)
+
+-- more bytes than the size says are a wrong size
+pub more-decided : (format : ℕ) (b : List ℕ) (size : ℕ) → IsRight format b size → size < length b
+    → decided format b ≡ Some BadSize
+unfolding decided
+more-decided format b size r l =
+    let says = r.says in
+    let least = (legal_size size r.legal).low in
+    let m = r.magic in
+    let v = r.version in
+    let long : nat_lt (length b) 144 ≡ false = le-ltb (length b) 144 (omega arith) in
+    let s : has_size b ≡ false = and_right (is_legal_size (size_word b)) (nat_le (length b) (size_word b))
+    (lt-leb (length b) (size_word b) (omega arith)) in
+    λ i. decided_by (long i) (m i) (v i) (s i)
+
+-- the image is whole, and the reader does not end
+pub whole_stops : (format : ℕ) (old mid new b : List ℕ) (size : ℕ) (ended : Bool) (f f' base capacity : ℕ)
+    (cause : OpenError) → IsRight format b size → length b ≡ size → base + size ≤ capacity
+    → mid ≡ old ++ b → ReadsPastEnd mid new cause → f' ≡ f + rise cause
+    → Stops format (read_since old new ended f f') base capacity cause
+whole_stops format old mid new b size ended f f' base capacity cause r l room e (inl h) g =
+    stops_since format old new b ended f f' base capacity cause (h.1 ∙ e)
+    (subst (Stops format (given b ended f f') base capacity) (sym h.0)
+    (fault_stops format b ended f f' base capacity (right-undecided format b size r (omega arith))
+    (room_for format b size ended f f' base capacity r room) (g ∙ ap (λ c. f + rise c) h.0)))
+whole_stops format old mid new b size ended f f' base capacity cause r l room e (inr h) g =
+    let one : List ℕ = h.1.0 ∷ [] in
+    let both : length (b ++ one) ≡ length b + 1 = length-append b one in
+    let right = IsRight-append format b one size r in
+    stops_since format old new (b ++ one) ended f f' base capacity cause (both_added old mid new b one e h.1.1)
+    (subst (Stops format (given (b ++ one) ended f f') base capacity) (sym h.0)
+    (record {
+      why = record {
+        sound = none_failed f f' (g ∙ ap (λ c. f + rise c) h.0);
+        right = inr (decided-some format (b ++ one) BadSize (more-decided format (b ++ one) size right (omega arith)));
+      };
+      too_small = λ t. absurd (room_for format (b ++ one) size ended f f' base capacity right room t);
+      early = refl;
+    }))

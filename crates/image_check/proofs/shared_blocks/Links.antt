@@ -1,0 +1,171 @@
+-- Links of indexes, of storage and of elements, noted one by one.
+use Rattle.std.proofs.Common.{◌≡◌, refl, sym, ap, subst, ℕ, ◌+◌, ◌*◌, ◌^◌, ◌≤◌, ◌<◌, List, length, arith}
+use Rattle.std.specs.Prelude.{MatchResult, Option, None, Result}
+use Rattle.std.proofs.lemmas.Bool.{cases_eq}
+use mathlib.Core.Logic.{inl, inr}
+use Rattle.raw_region.specs.Memory.{Memory, bytes_of}
+use Rattle.raw_region.specs.Format.{current}
+use Rattle.offset_link.specs.Link.{link_at}
+use Rattle.block_tags.specs.declared.tile.Role.{Role}
+use Rattle.block_tags.specs.declared.tile.Role.TheVariants.{Index, Storage, Node}
+use Rattle.block_tags.specs.declared.tile.Tile.{Tile}
+use Rattle.image_check.specs.declared.owners.Owner.{Owner}
+use Rattle.image_check.specs.ObjectTests.{index_capacity}
+use Rattle.image_check.specs.Meaning.{IsCountedLink}
+use Rattle.image_check.specs.Owners.{Blocks, IsIndexPlace, MarksLink, IsMarkingOf, IsMarkedLink, IsRooted, IsSharedIn}
+use Rattle.image_check.specs.Owners.{IsStart, MayCount, owner}
+use Rattle.image_check.specs.Passes.{HasTiles, tiles_in}
+use Rattle.image_check.specs.Sharing.{AreElementsNoted, IsElementPlace, MarksLinks, IsIndexNoted, IsStorageNoted}
+use Rattle.image_check.specs.Visits.{AddsVisits}
+use Rattle.image_check.proofs.shared_blocks.Worklist.{debts-small}
+use Rattle.image_check.proofs.block_collection.Places.{payload-inside}
+
+-- what noting a link at a place does, where no other link leads to it
+abbrev pub Marks : ℕ → List ℕ → Role → Option ℕ → Blocks → ℕ → Blocks → Option ℕ → ℕ → Result (Unit {0}) ℕ → ℕ → Type 0
+Marks format b role target old waited es pending waiting r at =
+    target ≡ link_at (bytes_of b) at → MayCount format (bytes_of b) (tiles_in b) role at
+    → IsRooted (tiles_in b) old (owner at at)
+    → MatchResult r (λ done. MarksLink format (bytes_of b) (tiles_in b) None role (owner at at) old waited es
+    pending waiting) (IsSharedIn format b)
+
+-- few nodes wait
+pub few-wait : (format : ℕ) (b : List ℕ) (now : Option ℕ) (es : Blocks) (pending : Option ℕ) (waiting : ℕ)
+    → HasTiles b → IsMarkingOf format b now es pending waiting → waiting + 1 < 2 ^ 64
+few-wait format b now es pending waiting h k =
+    let room = k.room in
+    let small = debts-small b h in
+    omega arith
+
+-- the links of the indexes stand before all tiles
+pub index-start : (b : List ℕ) (at : ℕ) → HasTiles b → IsIndexPlace at → IsStart (tiles_in b) at
+index-start b at h p n t e =
+    let low = (payload-inside current (bytes_of b) (length b) Node n t h.tags e).low in
+    let small : at ≤ 56 = below p in
+    (λ f. absurd (omega arith), λ f. absurd (omega arith))
+  where
+    below : IsIndexPlace at → at ≤ 56
+    below (inl e) = omega arith
+    below (inr e) = omega arith
+
+-- the link of an index with places may count
+pub index-may : (format : ℕ) (m : Memory) (ts : List Tile) (at : ℕ) → IsIndexPlace at → 0 < index_capacity m at
+    → MayCount format m ts Index at
+index-may format m ts at (inl e) =
+    subst (λ (x : ℕ). 0 < index_capacity m x
+    → MayCount format m ts Index x) (sym e) (λ p target l. IsCountedLink.named p l)
+index-may format m ts at (inr e) =
+    subst (λ (x : ℕ). 0 < index_capacity m x
+    → MayCount format m ts Index x) (sym e) (λ p target l. IsCountedLink.unique p l)
+
+-- ---- what grows
+
+-- no link more is noted
+pub grown-none : (format : ℕ) (b : List ℕ) (At : ℕ → Type 0) (es : Blocks) (pending : Option ℕ) (waiting : ℕ)
+    → IsMarkingOf format b None es pending waiting → MarksLinks format b At es waiting es pending waiting
+grown-none format b At es pending waiting k =
+    record { marking = k; keeps = λ n o e. e; only = λ n o e. inl e; less = omega arith }
+
+-- links noted in two steps are noted in both together
+pub grown-on : (format : ℕ) (b : List ℕ) (At Be In : ℕ
+    → Type 0) (old : Blocks) (waited : ℕ) (es : Blocks) (pending : Option ℕ) (waiting : ℕ) (fs : Blocks)
+    (p2 : Option ℕ) (w2 : ℕ)
+    → ((p : ℕ) → At p → In p) → ((p : ℕ) → Be p → In p) → MarksLinks format b At old waited es pending waiting
+    → MarksLinks format b Be es waiting fs p2 w2 → MarksLinks format b In old waited fs p2 w2
+grown-on format b At Be In old waited es pending waiting fs p2 w2 f g x y =
+    let l = x.less in
+    let k = y.less in
+    record {
+      marking = y.marking;
+      keeps = λ n o e. y.keeps n o (x.keeps n o e);
+      only = λ n o e. elim (y.only n o e) [
+        | inl h ↦ elim (x.only n o h) [ inl i ↦ inl i | inr i ↦ inr (f o.at i) ]
+        | inr h ↦ inr (g o.at h)
+      ];
+      less = omega arith;
+    }
+
+-- links that were noted are among wider ones
+pub grown-in : (format : ℕ) (b : List ℕ) (At In : ℕ
+    → Type 0) (old : Blocks) (waited : ℕ) (es : Blocks) (pending : Option ℕ) (waiting : ℕ)
+    → ((p : ℕ) → At p → In p) → MarksLinks format b At old waited es pending waiting
+    → MarksLinks format b In old waited es pending waiting
+grown-in format b At In old waited es pending waiting f x = record {
+  marking = x.marking;
+  keeps = x.keeps;
+  only = λ n o e. elim (x.only n o e) [ inl i ↦ inl i | inr i ↦ inr (f o.at i) ];
+  less = x.less;
+}
+
+module _ (format : ℕ) (b : List ℕ) (old : Blocks) (waited : ℕ) (es : Blocks) (pending : Option ℕ) (waiting : ℕ) where
+  -- a link that was noted is one more
+  pub marked-grown : (role : Role) (at : ℕ)
+      → MarksLink format (bytes_of b) (tiles_in b) None role (owner at at) old waited es pending waiting
+      → MarksLinks format b (λ p. p ≡ at) old waited es pending waiting
+  marked-grown role at d = record {
+    marking = d.marking;
+    keeps = d.keeps;
+    only = λ n o e. elim (d.only n o e) [ inl f ↦ inl f | inr f ↦ inr (ap (λ (x : Owner). x.at) f) ];
+    less = d.less;
+  }
+
+  -- the link of an index is noted
+  pub marked-index : (at : ℕ) → MarksLink format (bytes_of b) (tiles_in b) None Index (owner at at) old waited es
+      pending waiting → IsIndexNoted format b at old waited es pending waiting
+  marked-index at d = record { grown = marked-grown Index at d; noted = λ p. d.noted }
+
+  -- the link of storage is noted
+  pub marked-storage : (at : ℕ) → MarksLink format (bytes_of b) (tiles_in b) None Storage (owner at at) old waited
+      es pending waiting → IsStorageNoted format b at old waited es pending waiting
+  marked-storage at d = record { grown = marked-grown Storage at d; noted = λ p. d.noted; paid = λ p. d.paid refl }
+
+-- ---- elements
+
+-- the elements before the i-th are noted
+pub record NotedElements (format : ℕ) (b : List ℕ) (array : ℕ) (old : Blocks) (waited seen i count : ℕ)
+    (es : Blocks) (pending : Option ℕ) (waiting visits : ℕ) : Type 0 where
+  pub done : AreElementsNoted format b array i old waited es pending waiting
+  pub below : i ≤ count
+  pub more : seen ≤ visits
+  pub most : visits ≤ seen + 3 * i
+
+pub elements-start : (format : ℕ) (b : List ℕ) (array count seen : ℕ) (es : Blocks) (pending : Option ℕ)
+    (waiting : ℕ) → IsMarkingOf format b None es pending waiting
+    → NotedElements format b array es waiting seen 0 count es pending waiting seen
+elements-start format b array count seen es pending waiting k = record {
+  done = record {
+    grown = grown-none format b (IsElementPlace array 0) es pending waiting k;
+    noted = λ i l. absurd (omega arith);
+  };
+  below = omega arith;
+  more = omega arith;
+  most = omega arith;
+}
+
+-- the links of elements, noted in two steps
+pub elements-on : (format : ℕ) (b : List ℕ) (array : ℕ) (old : Blocks) (waited seen i count : ℕ) (es : Blocks)
+    (pending : Option ℕ) (waiting visits : ℕ) (fs : Blocks) (p2 : Option ℕ) (w2 v2 : ℕ)
+    → NotedElements format b array old waited seen i count es pending waiting visits → i < count
+    → MarksLink format (bytes_of b) (tiles_in b) None Storage (owner (array + 16 * i) (array + 16 * i)) es waiting
+    fs p2 w2 → AddsVisits 3 visits v2
+    → NotedElements format b array old waited seen (i + 1) count fs p2 w2 v2
+elements-on format b array old waited seen i count es pending waiting visits fs p2 w2 v2 k below d v =
+    let x = k.more in
+    let y = k.most in
+    let lo = v.0 in
+    let hi = v.1 in
+    record {
+      done = record {
+        grown = grown-on format b (IsElementPlace array i) (λ p.
+            p ≡ array + 16 * i) (IsElementPlace array (i + 1)) old waited es pending waiting fs p2 w2
+            (λ p h. let l = h.1 in (h.0, omega arith, h.2)) (λ p h.
+            (i, omega arith, h)) k.done.grown (marked-grown format b es waiting fs p2 w2 Storage (array + 16 * i) d);
+        noted = λ j l. elim (cases_eq j i) [
+          | inl e ↦ subst (λ x. IsMarkedLink (bytes_of b) (tiles_in b) fs Storage (array + 16 * x) (array + 16 * x))
+              (sym e) d.noted
+          | inr f ↦ (λ n h. d.keeps n _ (k.done.noted j (omega (arith, l, f)) n h))
+        ];
+      };
+      below = omega arith;
+      more = omega arith;
+      most = omega arith;
+    }

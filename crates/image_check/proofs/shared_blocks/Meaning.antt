@@ -1,0 +1,155 @@
+-- What is noted in the end decides which blocks are shared and which have no owner.
+use Rattle.std.proofs.Common.{◌≡◌, refl, sym, ap, subst, ◌∙◌, ℕ, ◌-◌, Bool, true, false, not, ◌&&◌, ◌||◌, ◌==◌, List}
+use Rattle.std.proofs.Common.{[], ◌∷◌, length}
+use Rattle.std.specs.Prelude.{Option, Some, None, IsTrue, Result, Ok, Err, find, is_some}
+use Rattle.std.specs.List.{list_all, list_any}
+use Rattle.std.proofs.lemmas.Bool.{eqb-true, eq-eqb, false≢true}
+use Rattle.raw_region.specs.Memory.{Memory, bytes_of}
+use Rattle.raw_region.specs.Format.{current}
+use Rattle.block_tags.specs.declared.tile.Tile.{Tile}
+use Rattle.best_fit.proofs.Laws.{Row}
+use Rattle.image_check.specs.declared.owners.Owner.{Owner}
+use Rattle.image_check.specs.ObjectTests.{payload}
+use Rattle.image_check.specs.Fields.{Field, counted_fields, is_left, is_orphaned, is_shared, leads_there, leave_some}
+use Rattle.image_check.specs.Fields.{needs_owner}
+use Rattle.image_check.specs.Meaning.{IsCountedLink, IsShared}
+use Rattle.image_check.specs.OwnerPlaces.{IsSharedAt}
+use Rattle.image_check.specs.Owners.{Blocks, IsWholeMarking, IsWholeMarkingOf, has_owner, owner, owner_at}
+use Rattle.image_check.specs.ObjectPlaces.{IsFirstTile, IsFirstWrongTile}
+use Rattle.image_check.specs.Passes.{ChecksClass, HasTiles, tiles_in}
+use Rattle.image_check.proofs.bytes.Members.{list_any_from, list_any_of}
+use Rattle.image_check.proofs.frame.Tags.{has_tags-AreWholeTiles}
+use Rattle.image_check.proofs.claims.CountedFields.{Contains-Mem, Mem-Contains, counted-means}
+use Rattle.image_check.proofs.containers.Meaning.{shared-means}
+use Rattle.image_check.proofs.claims.ReachedLinks.{field}
+use Rattle.image_check.proofs.shared_blocks.Roots.{IsLed, covers}
+
+same-bool : (a b : Bool) → (IsTrue a → IsTrue b) → (IsTrue b → IsTrue a) → a ≡ b
+same-bool true b f g = sym (f refl)
+same-bool false true f g = g refl
+same-bool false false f g = refl
+
+module _ (format : ℕ) (m : Memory) (ts : List Tile) (es : Blocks) (waiting : ℕ)
+    (w : IsWholeMarking format m ts es waiting) where
+  noted-all : (at n : ℕ) → IsCountedLink format m ts at n → IsLed es at n
+  noted-all at n c = covers format m ts es waiting w at n c
+
+  -- no two lead to one block
+  pub none-shared : IsShared format m ts → ⊥
+  none-shared s =
+      let a = (noted-all s.first s.target s.from_first).1 in
+      let b = (noted-all s.second s.target s.from_second).1 in
+      let x : Some (owner s.first (noted-all s.first s.target s.from_first).0)
+      ≡ Some (owner s.second (noted-all s.second s.target s.from_second).0) = sym a ∙ b in
+      s.two (place-of x)
+    where
+      place-of : {p q : Owner} → Some p ≡ Some q → p.at ≡ q.at
+      place-of {p} {q} e = let f : p ≡ q = cc in ap (λ (o : Owner). o.at) f
+
+  module _ (end : ℕ) (a : Row 128 ts end) where
+    pub not-shared : is_shared format m ts ≡ false
+    not-shared = not-true (is_shared format m ts) (λ h. none-shared ((shared-means format m ts end a).0 h))
+      where
+        not-true : (b : Bool) → (IsTrue b → ⊥) → b ≡ false
+        not-true true h = absurd (h refl)
+        not-true false h = refl
+
+    found-owner : (n : ℕ) → IsTrue (list_any (λ (f : Field). f.target == n) (counted_fields format m ts))
+        → IsTrue (is_some (owner_at es n))
+    found-owner n h =
+        let s = list_any_of (λ (f : Field). f.target == n) (counted_fields format m ts) h in
+        let f : Field = s.one in
+        let c = (counted-means format m ts end a f.at f.target).0 (Mem-Contains (counted_fields format m ts) f s.mem) in
+        subst (λ x. IsTrue (is_some (owner_at es x))) (eqb-true f.target n s.is)
+        (ap is_some (noted-all f.at f.target c).1)
+
+    some-field : (n : ℕ) (o : Option Owner) → owner_at es n ≡ o → IsTrue (is_some o)
+        → IsTrue (list_any (λ (f : Field). f.target == n) (counted_fields format m ts))
+    some-field n None e h = absurd (false≢true h)
+    some-field n (Some o) e h =
+        let c = (counted-means format m ts end a o.at n).1 (w.marking.counts n o e) in
+        list_any_from (λ (f : Field). f.target == n) (counted_fields format m ts) (field o.at n)
+        (Contains-Mem (counted_fields format m ts) (field o.at n) c) (eq-eqb n n refl)
+
+    pub same-owner : (n : ℕ) → list_any (λ (f : Field). f.target == n) (counted_fields format m ts)
+        ≡ is_some (owner_at es n)
+    same-owner n = same-bool (list_any (λ (f : Field). f.target == n) (counted_fields format m ts))
+        (is_some (owner_at es n)) (found-owner n) (λ h. some-field n (owner_at es n) refl h)
+
+    flipped : (a b c : Bool) → b ≡ c → (a && not b) ≡ not (not a || c)
+    flipped true true c e = ap not e
+    flipped true false c e = ap not e
+    flipped false b c e = refl
+
+    not-and : (a b : Bool) → (not a || not b) ≡ not (a && b)
+    not-and true b = refl
+    not-and false b = refl
+
+    -- a tile to which no field leads is one without an owner
+    pub left-owner : (t : Tile) → is_left (counted_fields format m ts) t ≡ not (has_owner es t)
+    left-owner t = flipped (needs_owner t) (list_any (leads_there t) (counted_fields format m ts))
+        (is_some (owner_at es (payload t))) (same-owner (payload t))
+
+    left-some : (us : List Tile) → leave_some us (counted_fields format m ts) ≡ not (list_all (has_owner es) us)
+    left-some [] = refl
+    left-some (t ∷ us) =
+        (λ i. left-owner t i || left-some us i)
+        ∙ not-and (has_owner es t) (list_all (has_owner es) us)
+
+    -- the test of orphans goes through the tiles and looks each up
+    pub orphaned : is_orphaned format m ts ≡ not (list_all (has_owner es) ts)
+    orphaned = left-some ts
+
+-- ---- of an image with good tags
+
+-- all links noted: no block is shared
+pub none-shared-in : (format : ℕ) (b : List ℕ) (es : Blocks) (waiting : ℕ) → HasTiles b
+    → IsWholeMarkingOf format b es waiting → not (is_shared format (bytes_of b) (tiles_in b)) ≡ true
+none-shared-in format b es waiting h w =
+    ap not (not-shared format (bytes_of b) (tiles_in b) es waiting w (length b - 16)
+    (has_tags-AreWholeTiles current (bytes_of b) (length b) h.tags).row)
+
+-- a shared block fails the test
+pub some-shared-in : (format : ℕ) (b : List ℕ) (at : ℕ) → HasTiles b
+    → IsSharedAt format (bytes_of b) (tiles_in b) at → not (is_shared format (bytes_of b) (tiles_in b)) ≡ false
+some-shared-in format b at h s =
+    ap not ((shared-means format (bytes_of b) (tiles_in b) (length b - 16)
+    (has_tags-AreWholeTiles current (bytes_of b) (length b) h.tags).row).1
+    (record {
+      first = at;
+      second = s.other;
+      target = s.target;
+      two = s.apart;
+      from_first = s.here;
+      from_second = s.there;
+    }))
+
+owned-in : (format : ℕ) (b : List ℕ) (es : Blocks) (waiting : ℕ) → HasTiles b → IsWholeMarkingOf format b es waiting
+    → not (is_orphaned format (bytes_of b) (tiles_in b)) ≡ list_all (has_owner es) (tiles_in b)
+owned-in format b es waiting h w =
+    ap not (orphaned format (bytes_of b) (tiles_in b) es waiting w (length b - 16)
+    (has_tags-AreWholeTiles current (bytes_of b) (length b) h.tags).row)
+    ∙ twice (list_all (has_owner es) (tiles_in b))
+  where
+    twice : (x : Bool) → not (not x) ≡ x
+    twice true = refl
+    twice false = refl
+
+-- a look at the owners finds the first block without one
+pub orphan-found : (format : ℕ) (b : List ℕ) (es : Blocks) (waiting : ℕ) → HasTiles b
+    → IsWholeMarkingOf format b es waiting → (k : Result (Unit {0}) ℕ)
+    → ChecksClass (list_all (has_owner es) (tiles_in b)) (IsFirstWrongTile (has_owner es) (tiles_in b)) k
+    → ChecksClass (not (is_orphaned format (bytes_of b) (tiles_in b)))
+    (IsFirstTile (is_left (counted_fields format (bytes_of b) (tiles_in b))) (tiles_in b)) k
+orphan-found format b es waiting h w (Ok done) f = owned-in format b es waiting h w ∙ f
+orphan-found format b es waiting h w (Err place) f =
+    let m = bytes_of b in
+    let ts = tiles_in b in
+    let row = (has_tags-AreWholeTiles current m (length b) h.tags).row in (
+      owned-in format b es waiting h w ∙ f.0,
+      record {
+        tile = f.1.tile;
+        is = (λ i. find (λ t. left-owner format m ts es waiting w (length b - 16) row t i) ts) ∙ f.1.is;
+        at = f.1.at;
+      },
+    )

@@ -1,0 +1,46 @@
+-- Where the links begin that lead to a block, once all that count are noted.
+use Rattle.std.proofs.Common.{◌≡◌, ℕ, ◌+◌, List}
+use Rattle.std.specs.Prelude.{Some}
+use mathlib.Core.Logic.{inl, inr}
+use Rattle.raw_region.specs.Memory.{Memory}
+use Rattle.block_tags.specs.declared.tile.Role.TheVariants.{Node}
+use Rattle.block_tags.specs.declared.tile.Tile.{Tile}
+use Rattle.image_check.specs.declared.owners.Owner.{Owner}
+use Rattle.image_check.specs.ObjectTests.{tile_of}
+use Rattle.image_check.specs.Meaning.{IsCountedLink, LeadsTo}
+use Rattle.image_check.specs.Owners.{Blocks, IsFollowed, IsWholeMarking, owner, owner_at}
+use Rattle.image_check.proofs.shared_blocks.Worklist.{none-waits}
+
+-- a field that is noted, with the place where the links begin that lead to it
+abbrev pub IsLed : Blocks → ℕ → ℕ → Type 0
+IsLed es at n = (root : ℕ) × (owner_at es n ≡ Some (owner at root))
+
+module _ (format : ℕ) (m : Memory) (ts : List Tile) (es : Blocks) (waiting : ℕ)
+    (w : IsWholeMarking format m ts es waiting) where
+  -- the links of a node that has an owner are noted
+  pub node-followed : (n : ℕ) (o : Owner) (t : Tile) → tile_of ts Node n ≡ Some t → owner_at es n ≡ Some o
+      → IsFollowed m ts es n o.root
+  node-followed n o t f e = elim (w.marking.followed n o t f e) [
+    | inl s ↦ absurd (none-waits es w.marking.chain n w.marking.linked s)
+    | inr (inl g) ↦ absurd (cc)
+    | inr (inr g) ↦ g
+  ]
+
+  -- what a node leads to has its root
+  pub left-root : (n child : ℕ) (o : Owner) (t : Tile) → tile_of ts Node n ≡ Some t → owner_at es n ≡ Some o
+      → LeadsTo m ts Node n child → owner_at es child ≡ Some (owner n o.root)
+  left-root n child o t f e l = (node-followed n o t f e).0 child l
+
+  pub right-root : (n child : ℕ) (o : Owner) (t : Tile) → tile_of ts Node n ≡ Some t → owner_at es n ≡ Some o
+      → LeadsTo m ts Node (n + 8) child → owner_at es child ≡ Some (owner (n + 8) o.root)
+  right-root n child o t f e l = (node-followed n o t f e).1 child l
+
+  -- each field that counts is noted
+  pub covers : (at n : ℕ) → IsCountedLink format m ts at n → IsLed es at n
+  covers at n (IsCountedLink.named c l) = (32, w.named c n l)
+  covers at n (IsCountedLink.unique c l) = (56, w.unique c n l)
+  covers at n (IsCountedLink.storage v h c l) = (_, w.storage _ _ v h c n l)
+  covers at n (IsCountedLink.element array i v c g a b l) = (_, w.element array i _ v c g a b n l)
+  covers at n (IsCountedLink.root v l) = (_, w.root _ _ _ v n l)
+  covers at n (IsCountedLink.left c k l) = let o = covers _ _ c in (_, left-root _ n _ k.1.0 k.1.1 o.1 l)
+  covers at n (IsCountedLink.right c k l) = let o = covers _ _ c in (_, right-root _ n _ k.1.0 k.1.1 o.1 l)

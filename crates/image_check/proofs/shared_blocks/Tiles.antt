@@ -1,0 +1,459 @@
+-- The links behind all values, noted in a walk over the tiles.
+use Rattle.std.proofs.Common.{◌≡◌, ◌≢◌, refl, sym, ap, subst, ◌∙◌, ℕ, suc, ◌+◌, ◌-◌, ◌*◌, ◌/◌, ◌≤◌, ◌<◌, Bool, true}
+use Rattle.std.proofs.Common.{false, ◌&&◌, ◌==◌, List, [], ◌∷◌, ◌++◌, length, arith, cond}
+use Rattle.std.specs.Prelude.{Option, Some, None, IsTrue, ◌⊎◌, option_map, Contains, nat_le, if◌then◌else◌}
+use Rattle.std.specs.List.{list_all}
+use Rattle.std.proofs.lemmas.Bool.{and_parts, false≢true, leb-true}
+use mathlib.Core.Logic.{inl, inr}
+use Rattle.raw_region.specs.Memory.{WindowState, Memory, bytes_of}
+use Rattle.raw_region.specs.Format.{current}
+use Rattle.block_tags.specs.declared.tile.Role.{Role}
+use Rattle.block_tags.specs.declared.tile.Role.TheVariants.{Object, Index, Storage, Node}
+use Rattle.block_tags.specs.declared.tile.Tile.{Tile}
+use Rattle.best_fit.proofs.Laws.{Row, said_row}
+use Rattle.seg_types.specs.declared.kinds.Kind.{Kind}
+use Rattle.seg_types.specs.declared.kinds.Kind.TheVariants.{Scalar, String, Vector, Map, Strings}
+use Rattle.seg_index.specs.Keys.{class_at, code_before, count_at, name_before}
+use Rattle.image_check.specs.declared.owners.Owner.{Owner}
+use Rattle.image_check.specs.ObjectTests.{has_name, has_objects, has_padding, is_indexed, is_object_tile, is_use}
+use Rattle.image_check.specs.ObjectTests.{is_value_in, kind_at, object_tiles, payload, rise_by, targets, value_offset}
+use Rattle.image_check.specs.Fields.{values}
+use Rattle.image_check.specs.Meaning.{IsCountedLink}
+use Rattle.image_check.specs.Owners.{Blocks, IsMarkingOf, IsStart, KeepsMarks, unspent_budget, debts, visit_budget}
+use Rattle.image_check.specs.Owners.{owner_at}
+use Rattle.image_check.specs.Passes.{HasTiles, tiles_in}
+use Rattle.image_check.specs.Sharing.{AllElements, NotesValues, IsInStorage, IsPlaceOf, IsTileGrown, IsValueGrown}
+use Rattle.image_check.specs.Sharing.{IsValueNoted, IsValueReady, OfObject, has_link, object_cost, value_rates}
+use Rattle.image_check.specs.Visits.{Rates, rate_of, sharing_rates, weigh}
+use Rattle.image_check.proofs.claims.CountedFields.{Contains-Mem, Mem-Contains}
+use Rattle.image_check.proofs.claims.FieldPlaces.{Lies, in-one, one-use}
+use Rattle.image_check.proofs.block_collection.Lookup.{at-all}
+use Rattle.image_check.proofs.block_collection.Places.{InRow, found, in_row}
+use Rattle.best_fit.specs.Table.{same_role}
+use Rattle.image_check.proofs.shared_blocks.Links.{grown-in}
+use Rattle.image_check.proofs.bytes.Members.{Mem, list_all_mem, mem_filter, mem_filter_map, mem_left, mem_of_filter}
+use Rattle.image_check.proofs.bytes.Members.{mem_of_filter_map, mem_parts, mem_right}
+use Rattle.image_check.proofs.claims.ReachedLinks.{good_for-IsGood}
+use Rattle.image_check.proofs.walks.Rows.{PassesGaps, free-object, recoloured}
+use Rattle.image_check.proofs.frame.Tags.{has_tags-AreWholeTiles}
+use Rattle.image_check.proofs.walks.Tiles.{WalksAt}
+
+-- ---- places in tiles
+
+-- a place in a tile that is no node is no link of a node
+pub start-in : (b : List ℕ) → HasTiles b → (u : Tile) (r : Role) (at : ℕ) → Mem u (tiles_in b) → IsTrue (is_use r u)
+    → r ≢ Node → Lies at u → IsStart (tiles_in b) at
+start-in b h u r at k uses d l n t e =
+    let f = found current (bytes_of b) (length b) Node n t h.tags e in
+    let there = f.there in
+    let long = f.lies.long in
+    let row = (has_tags-AreWholeTiles current (bytes_of b) (length b) h.tags).row in
+    let apart : Lies at t → ⊥ = λ x.
+    d (one-use u r Node uses (subst (λ y.
+    IsTrue (is_use Node y)) (in-one 128 (tiles_in b) (length b - 16) at t u row f.mem k x l) f.use_of)) in (
+      λ g. apart (record { from = omega arith; to = omega arith }),
+      λ g. apart (record { from = omega arith; to = omega arith }),
+    )
+
+-- a tile before another ends before it
+tile-before : (at : ℕ) (front : List Tile) (here : Tile) (back : List Tile) (end : ℕ) (t : Tile)
+    → Row at (front ++ here ∷ back) end → Mem t front → t.offset + t.len ≤ here.offset
+tile-before at [] here back end t a h = absurd h
+tile-before at (f ∷ front) here back end t a (inl e) =
+    let low =
+    (in_row (at + f.len) (front ++ here ∷ back) end here a.3 (mem_right here front (here ∷ back) (inl refl))).low in
+    let x = ap (λ (y : Tile). y.offset) e in
+    let y = ap (λ (y : Tile). y.len) e in
+    let there = a.0 in
+    omega arith
+tile-before at (f ∷ front) here back end t a (inr h) = tile-before (at + f.len) front here back end t a.3 h
+
+-- ---- what good objects have
+
+room-in : (m : Memory) (kind : Kind) (count at end : ℕ) → IsTrue (has_link kind)
+    → IsTrue (is_value_in m kind count at end) → at + 24 ≤ end
+room-in m (Scalar k) count at end l h = absurd (false≢true l)
+room-in m String count at end l h = leb-true (at + 24) end (and_parts (count == 1) (nat_le (at + 24) end) h).1
+room-in m (Vector k) count at end l h = leb-true (at + 24) end (and_parts (count == 1) (nat_le (at + 24) end) h).1
+room-in m (Map k v) count at end l h = leb-true (at + 24) end (and_parts (count == 1) (nat_le (at + 24) end) h).1
+room-in m Strings count at end l h = leb-true (at + 24) end (and_parts (count == 1) (nat_le (at + 24) end) h).1
+
+abbrev value_fits : Memory → Tile → Option Kind → Bool
+value_fits m t o = elim o [
+  | None ↦ false
+  | Some k ↦ is_value_in m k (count_at m (payload t)) (value_offset m (payload t)) (t.offset + t.len)
+]
+
+fits-if : (format : ℕ) (m : Memory) (t : Tile) (c : Bool)
+    → IsTrue (cond c (value_fits m t (kind_at format m (payload t)) && has_padding m (payload t)
+    && is_indexed m (payload t)) false) → IsTrue (value_fits m t (kind_at format m (payload t)))
+fits-if format m t true h =
+    (and_parts (value_fits m t (kind_at format m (payload t))) (has_padding m (payload t))
+    (and_parts (value_fits m t (kind_at format m (payload t)) && has_padding m (payload t))
+    (is_indexed m (payload t)) h).0).0
+fits-if format m t false h = absurd (false≢true h)
+
+object-fits : (format : ℕ) (m : Memory) (ts : List Tile) (t : Tile) (kind : Kind) → has_objects format m ts ≡ true
+    → Mem t ts → IsTrue (is_use Object t) → kind_at format m (payload t) ≡ Some kind
+    → IsTrue (is_value_in m kind (count_at m (payload t)) (value_offset m (payload t)) (t.offset + t.len))
+object-fits format m ts t kind h k u e =
+    let all = first-of (list_all (is_object_tile format m) (object_tiles ts))
+    (list_all (λ at. class_at m at == 1) (targets m 32)) (list_all (λ at. class_at m at == 2) (targets m 56))
+    (rise_by (name_before m) (targets m 32)) (rise_by (code_before m) (targets m 56)) h in
+    let one = list_all_mem (is_object_tile format m) (object_tiles ts) t all (mem_filter (is_use Object) t ts k u) in
+    sym (ap (value_fits m t) e) ∙ fits-if format m t (has_name format m (payload t)) one
+  where
+    first-of : (a c d e f : Bool) → (a && c && d && e && f) ≡ true → a ≡ true
+    first-of a c d e f h =
+        (and_parts a c (and_parts (a && c) d (and_parts (a && c && d) e (and_parts (a && c && d && e) f h).0).0).0).0
+
+value-mem : (format : ℕ) (m : Memory) (ts : List Tile) (t : Tile) (kind : Kind) → Mem t ts
+    → IsTrue (is_use Object t) → kind_at format m (payload t) ≡ Some kind
+    → Contains (values format m ts) (kind, value_offset m (payload t))
+value-mem format m ts t kind k u e =
+    Mem-Contains (values format m ts) (kind, value_offset m (payload t))
+    (mem_filter_map (λ t. option_map (λ k. (k, value_offset m (payload t))) (kind_at format m (payload t))) t (
+      kind,
+      value_offset m (payload t),
+    ) (object_tiles ts) (mem_filter (is_use Object) t ts k u)
+    (ap (option_map (λ (k : Kind). (k, value_offset m (payload t)))) e))
+
+-- ---- visits
+
+weigh-push : (r : Rates) (front : List Tile) (here : Tile)
+    → weigh r (front ++ here ∷ []) ≡ weigh r front + rate_of r here.use_of * (here.len / 16)
+weigh-push r [] here = omega arith
+weigh-push r (t ∷ front) here = let l = weigh-push r front here in omega arith
+
+weigh-behind : (r : Rates) (front : List Tile) (here : Tile) (back : List Tile)
+    → weigh r front + rate_of r here.use_of * (here.len / 16) ≤ weigh r (front ++ here ∷ back)
+weigh-behind r [] here back = omega arith
+weigh-behind r (t ∷ front) here back = let l = weigh-behind r front here back in omega arith
+
+each-use : (o : Option Role) (len : ℕ) → 32 ≤ len
+    → suc (if elim o [ None ↦ false | Some r ↦ same_role Object r ] then 4 else 0) ≤ rate_of value_rates o * (len / 16)
+each-use None len h = omega arith
+each-use (Some Object) len h = omega arith
+each-use (Some Index) len h = omega arith
+each-use (Some Storage) len h = omega arith
+each-use (Some Node) len h = omega arith
+
+each-value : (t : Tile) → 32 ≤ t.len → suc (object_cost t) ≤ rate_of value_rates t.use_of * (t.len / 16)
+each-value t h = each-use t.use_of t.len h
+
+each-visit_budget : (o : Option Role) (len : ℕ) → 32 ≤ len
+    → rate_of value_rates o * (len / 16) + elim o [ None ↦ 0 | Some role ↦ visit_budget role len ]
+    ≤ rate_of sharing_rates o * (len / 16)
+each-visit_budget None len h = omega arith
+each-visit_budget (Some Object) len h = omega arith
+each-visit_budget (Some Index) len h = omega arith
+each-visit_budget (Some Storage) len h = omega arith
+each-visit_budget (Some Node) len h = omega arith
+
+row-dues : (at : ℕ) (ts : List Tile) (end : ℕ) → Row at ts end
+    → weigh value_rates ts + debts ts ≤ weigh sharing_rates ts
+row-dues at [] end a = omega arith
+row-dues at (t ∷ ts) end a =
+    let l = row-dues (at + t.len) ts end a.3 in
+    let d = each-visit_budget t.use_of t.len a.1 in
+    omega arith
+
+-- values and debts weigh together what sharing does
+pub sharing-weigh : (b : List ℕ) → HasTiles b
+    → weigh value_rates (tiles_in b) + debts (tiles_in b) ≤ weigh sharing_rates (tiles_in b)
+sharing-weigh b h = row-dues 128 (tiles_in b) (length b - 16)
+    (has_tags-AreWholeTiles current (bytes_of b) (length b) h.tags).row
+
+-- what is noted of a value stays
+pub value-keeps : (m : Memory) (ts : List Tile) (kind : Kind) (at : ℕ) (es fs : Blocks) → KeepsMarks es fs
+    → IsValueNoted m ts kind at es → IsValueNoted m ts kind at fs
+value-keeps m ts kind at es fs k d = record {
+  storage = λ h p n l. k n _ (d.storage h p n l);
+  element = λ e array i p g l r n x. k n _ (d.element e array i p g l r n x);
+  root = λ x v e n l. k n _ (d.root x v e n l);
+}
+
+-- ---- a tile but for its colour
+
+module _ (t u : Tile) (e : t.offset ≡ u.offset) (f : t.len ≡ u.len) (g : t.use_of ≡ u.use_of) where
+  -- tiles that differ in colour hold the same object
+  pub object-same : (format : ℕ) (m : Memory) (Is : Kind → ℕ → Type 0) → OfObject format m t Is → OfObject format m u Is
+  object-same format m Is k = subst (λ (x : Tile). OfObject format m x Is) (recoloured t u e f g) k
+
+  -- tiles that differ in colour cost the same
+  pub cost-same : object_cost t ≡ object_cost u
+  cost-same = ap object_cost (recoloured t u e f g)
+
+  -- tiles that differ in colour are noted alike
+  pub grown-same : (format : ℕ) (b : List ℕ) (old : Blocks) (waited : ℕ) (es : Blocks) (pending : Option ℕ)
+      (waiting : ℕ) → IsTileGrown format b t old waited es pending waiting
+      → IsTileGrown format b u old waited es pending waiting
+  grown-same format b old waited es pending waiting d =
+      let black : Tile = record { offset = u.offset; len = u.len; use_of = u.use_of; red = t.red } in
+      let x = subst (λ (y : Tile). IsTileGrown format b y old waited es pending waiting) (recoloured t u e f g) d in
+      record {
+        grown = grown-in format b (IsPlaceOf format (bytes_of b) (tiles_in b) black)
+            (IsPlaceOf format (bytes_of b) (tiles_in b) u) old waited es pending waiting place x.grown;
+        noted = x.noted;
+      }
+    where
+      place : (p : ℕ) → IsPlaceOf format (bytes_of b) (tiles_in b)
+          (record { offset = u.offset; len = u.len; use_of = u.use_of; red = t.red }) p
+          → IsPlaceOf format (bytes_of b) (tiles_in b) u p
+      place p (inl l) = inl (record { kind = l.kind; object = l.object; is = l.is; link = l.link; place = l.place })
+      place p (inr s) = inr s
+
+-- ---- the walk
+
+-- a place before all tiles, in one that was passed, or in storage
+abbrev pub IsPassed : List Tile → List Tile → ℕ → Type 0
+IsPassed ts front p = (p < 128) ⊎ (((t : Tile) × Mem t front × Lies p t) ⊎ IsInStorage ts p)
+
+still-passed : (ts front : List Tile) (here : Tile) (p : ℕ) → IsPassed ts front p → IsPassed ts (front ++ here ∷ []) p
+still-passed ts front here p (inl l) = inl l
+still-passed ts front here p (inr (inl w)) = inr (inl (w.0, mem_left w.0 front (here ∷ []) w.1, w.2))
+still-passed ts front here p (inr (inr w)) = inr (inr w)
+
+-- the values in the tiles passed are noted
+pub record Noting (format : ℕ) (b : List ℕ) (old : Blocks) (owed seen : ℕ) (es : Blocks) (pending : Option ℕ)
+    (waiting visits : ℕ) (front : List Tile) : Type 0 where
+  pub marking : IsMarkingOf format b None es pending waiting
+  pub keeps : KeepsMarks old es
+  pub passed : (n : ℕ) (o : Owner) → owner_at es n ≡ Some o → IsPassed (tiles_in b) front o.at
+  pub noted : (t : Tile) → Mem t front
+      → OfObject format (bytes_of b) t (λ kind at. IsValueNoted (bytes_of b) (tiles_in b) kind at es)
+  pub more : seen ≤ visits
+  pub most : visits + (6 * waiting + unspent_budget es) ≤ seen + (owed + weigh value_rates front)
+
+-- before the first tile nothing is noted
+pub noting-start : (format : ℕ) (b : List ℕ) (es : Blocks) (pending : Option ℕ) (waiting seen : ℕ)
+    → IsMarkingOf format b None es pending waiting → ((n : ℕ) (o : Owner) → owner_at es n ≡ Some o → o.at < 128)
+    → Noting format b es (6 * waiting + unspent_budget es) seen es pending waiting seen []
+noting-start format b es pending waiting seen k f = record {
+  marking = k;
+  keeps = λ n o e. e;
+  passed = λ n o e. inl (f n o e);
+  noted = λ t h. absurd h;
+  more = omega arith;
+  most = omega arith;
+}
+
+-- a free tile is passed over
+pub noting-gap : (format : ℕ) (c : WindowState) (old : Blocks) (owed seen : ℕ) (es : Blocks) (pending : Option ℕ)
+    (waiting visits : ℕ) → PassesGaps c (Noting format c.bytes old owed seen es pending waiting visits)
+noting-gap format c old owed seen es pending waiting visits g u a =
+    let push = weigh-push value_rates a.front g in
+    let most = a.kept.most in
+    record {
+      marking = a.kept.marking;
+      keeps = a.kept.keeps;
+      passed = λ n o e. still-passed (tiles_in c.bytes) a.front g o.at (a.kept.passed n o e);
+      noted = λ t k kind v e. elim (mem_parts t a.front (g ∷ []) k) [
+        | inl x ↦ a.kept.noted t x kind v e
+        | inr (inl x) ↦ absurd (false≢true (sym (free-object g u) ∙ sym (ap (is_use Object) x) ∙ v))
+        | inr (inr x) ↦ absurd x
+      ];
+      more = a.kept.more;
+      most = omega arith;
+    }
+
+-- a place of the value of this object
+record IsHere (format : ℕ) (b : List ℕ) (here : Tile) (at : ℕ) : Type 0 where
+  lies : Lies at here
+  inside : at + 24 ≤ length b
+  start : IsStart (tiles_in b) at
+
+module _ (format : ℕ) (c : WindowState) (here : Tile) (h : HasTiles c.bytes)
+    (good : has_objects format (bytes_of c.bytes) (tiles_in c.bytes) ≡ true)
+    (old : Blocks) (owed seen : ℕ) (es : Blocks) (pending : Option ℕ) (waiting visits : ℕ)
+    (a : WalksAt c (Noting format c.bytes old owed seen es pending waiting visits) here) where
+  abbrev b : List ℕ
+  b = c.bytes
+
+  row-of : Row 128 (tiles_in b) (length b - 16)
+  row-of = (has_tags-AreWholeTiles current (bytes_of b) (length b) h.tags).row
+
+  mem-here : Mem here (tiles_in b)
+  mem-here =
+      subst (Mem here) (sym (at-all c (Noting format c.bytes old owed seen es pending waiting visits) here a))
+      (mem_right here a.front (here ∷ a.back) (inl refl))
+
+  lies-here : InRow 128 (length b - 16) here
+  lies-here = in_row 128 (tiles_in b) (length b - 16) here row-of mem-here
+
+  at-here : (kind : Kind) → IsTrue (is_use Object here) → kind_at format (bytes_of b) (payload here) ≡ Some kind
+      → IsTrue (has_link kind) → IsHere format b here (value_offset (bytes_of b) (payload here))
+  at-here kind u e l =
+      let at : ℕ = value_offset (bytes_of b) (payload here) in
+      let room = room-in (bytes_of b) kind (count_at (bytes_of b) (payload here)) at (here.offset + here.len) l
+      (object-fits format (bytes_of b) (tiles_in b) here kind good mem-here u e) in
+      let high = lies-here.high in
+      let long = lies-here.long in
+      let there : Lies at here = record { from = omega arith; to = omega arith } in
+      record {
+        lies = there;
+        inside = omega arith;
+        start = start-in b h here Object at mem-here u (λ x. absurd (cc)) there;
+      }
+
+  not-passed : (kind : Kind) → IsTrue (is_use Object here) → kind_at format (bytes_of b) (payload here) ≡ Some kind
+      → IsTrue (has_link kind) → IsPassed (tiles_in b) a.front (value_offset (bytes_of b) (payload here)) → ⊥
+  not-passed kind u e l (inl x) = let low = lies-here.low in let f = (at-here kind u e l).lies.from
+      in absurd (omega arith)
+  not-passed kind u e l (inr (inl x)) =
+      let f = (at-here kind u e l).lies.from in
+      let to = x.2.to in
+      let before = tile-before 128 a.front here a.back (length b - 16) x.0
+      (said_row c (a.front ++ here ∷ a.back) a.said) x.1 in
+      absurd (omega arith)
+  not-passed kind u e l (inr (inr x)) =
+      let at : ℕ = value_offset (bytes_of b) (payload here) in
+      let s = found current (bytes_of b) (length b) Storage x.start x.tile h.tags x.is in
+      let there = s.there in
+      let from = x.from in
+      let to = x.to in
+      let lies : Lies at x.tile = record { from = omega arith; to = omega arith } in
+      let same = in-one 128 (tiles_in b) (length b - 16) at here x.tile row-of mem-here s.mem
+      (at-here kind u e l).lies lies in
+      let other = one-use x.tile Storage Object s.use_of (subst (λ y. IsTrue (is_use Object y)) same u) in
+      absurd (cc)
+
+  elements-start : AllElements (bytes_of b) (tiles_in b) (value_offset (bytes_of b) (payload here))
+      (IsStart (tiles_in b))
+  elements-start array i p g l r =
+      let k = good_for-IsGood (tiles_in b) Storage _ array g in
+      start-in b h array Storage (payload array + 16 * i) k.mem k.use_of (λ x.
+      absurd (cc)) (record { from = omega arith; to = omega arith })
+
+  -- the value of the object here was not met before
+  pub ready-here : OfObject format (bytes_of b) here (λ kind at. IsValueReady format b kind at es)
+  ready-here kind u e =
+      let even = lies-here.whole refl in
+      record {
+        value = value-mem format (bytes_of b) (tiles_in b) here kind mem-here u e;
+        inside = λ l. (at-here kind u e l).inside;
+        aligned = omega arith;
+        start = λ l. (at-here kind u e l).start;
+        fresh = λ l n o f g. not-passed kind u e l (subst (IsPassed (tiles_in b) a.front) g (a.kept.passed n o f));
+        elements = λ t array i p g l r. (
+          elements-start array i p g l r,
+          λ target k. IsCountedLink.element array i
+              (subst (λ x. Contains (values format (bytes_of b) (tiles_in b)) (
+                x,
+                value_offset (bytes_of b) (payload here),
+              )) t (value-mem format (bytes_of b) (tiles_in b) here kind mem-here u e)) p g l r k,
+        );
+      }
+
+  -- the tile has room in the window
+  pub room-here : here.offset + 32 ≤ length b
+  room-here = let high = lies-here.high in let long = lies-here.long in omega arith
+
+  module _ (fs : Blocks) (p2 : Option ℕ) (w2 v2 : ℕ) (d : IsTileGrown format b here es waiting fs p2 w2)
+      (lo : visits ≤ v2) (hi : v2 + (6 * w2 + unspent_budget fs)
+      ≤ visits + (6 * waiting + unspent_budget es + suc (object_cost here))) where
+    place-passed : (p : ℕ) → IsPlaceOf format (bytes_of b) (tiles_in b) here p
+        → IsPassed (tiles_in b) (a.front ++ here ∷ []) p
+    place-passed p (inl w) =
+        inr (inl (
+          here,
+          mem_right here a.front (here ∷ []) (inl refl),
+          subst (λ x. Lies x here) (sym w.place) (at-here w.kind w.object w.is w.link).lies,
+        ))
+    place-passed p (inr w) = inr (inr w)
+
+    noted-here : (t : Tile) → Mem t (a.front ++ here ∷ [])
+        → OfObject format (bytes_of b) t (λ kind at. IsValueNoted (bytes_of b) (tiles_in b) kind at fs)
+    noted-here t k kind u e = elim (mem_parts t a.front (here ∷ []) k) [
+      | inl x ↦ value-keeps (bytes_of b) (tiles_in b) kind (value_offset (bytes_of b) (payload t)) es fs
+          d.grown.keeps (a.kept.noted t x kind u e)
+      | inr (inl x) ↦ (subst (λ y. OfObject format (bytes_of b) y (λ kind at.
+          IsValueNoted (bytes_of b) (tiles_in b) kind at fs)) (sym x) d.noted) kind u e
+      | inr (inr x) ↦ absurd x
+    ]
+
+    -- one tile more is noted
+    pub noting-on : Noting format b old owed seen fs p2 w2 v2 (a.front ++ here ∷ [])
+    noting-on =
+        let push = weigh-push value_rates a.front here in
+        let cost = each-value here lies-here.long in
+        let m1 = a.kept.more in
+        let m2 = a.kept.most in
+        record {
+          marking = d.grown.marking;
+          keeps = λ n o e. d.grown.keeps n o (a.kept.keeps n o e);
+          passed = λ n o e. elim (d.grown.only n o e) [
+            | inl f ↦ still-passed (tiles_in b) a.front here o.at
+                (a.kept.passed n o f)
+            | inr f ↦ place-passed o.at f
+          ];
+          noted = noted-here;
+          more = omega arith;
+          most = omega arith;
+        }
+
+  -- also where it was refused
+  pub noting-refused : (v2 : ℕ) → visits ≤ v2
+      → v2 ≤ visits + (6 * waiting + unspent_budget es + suc (object_cost here))
+      → (seen ≤ v2) × (v2 ≤ seen + (owed + weigh value_rates (tiles_in b)))
+  noting-refused v2 lo hi =
+      let behind = weigh-behind value_rates a.front here a.back in
+      let all = ap (weigh value_rates)
+      (at-all c (Noting format c.bytes old owed seen es pending waiting visits) here a) in
+      let cost = each-value here lies-here.long in
+      let m1 = a.kept.more in
+      let m2 = a.kept.most in
+      (omega arith, omega arith)
+
+-- ---- the end
+
+abbrev paired : Memory → Tile → Kind → Kind × ℕ
+paired m t k = (k, value_offset m (payload t))
+
+value-if : (m : Memory) (t : Tile) (kind : Kind) (at : ℕ) (o : Option Kind)
+    → option_map (paired m t) o ≡ Some (kind, at) → (o ≡ Some kind) × (value_offset m (payload t) ≡ at)
+value-if m t kind at None e = absurd (cc)
+value-if m t kind at (Some k) e =
+    let f : (k, value_offset m (payload t)) ≡ (kind, at) = cc in
+    (ap (λ (p : Kind × ℕ). Some p.0) f, ap (λ (p : Kind × ℕ). p.1) f)
+
+-- behind the last tile all values are noted
+pub noting-end : (format : ℕ) (b : List ℕ) (old : Blocks) (owed seen : ℕ) (es : Blocks) (pending : Option ℕ)
+    (waiting visits : ℕ) → Noting format b old owed seen es pending waiting visits (tiles_in b)
+    → NotesValues format b old es pending waiting
+noting-end format b old owed seen es pending waiting visits n = record {
+  marking = n.marking;
+  keeps = n.keeps;
+  noted = λ kind at v.
+      let w = mem_of_filter_map (λ t.
+      option_map (λ k. (k, value_offset (bytes_of b) (payload t))) (kind_at format (bytes_of b) (payload t))) (
+        kind,
+        at,
+      ) (object_tiles (tiles_in b)) (Contains-Mem (values format (bytes_of b) (tiles_in b)) (kind, at) v) in
+      let k = mem_of_filter (is_use Object) w.one (tiles_in b) w.mem in
+      let e = value-if (bytes_of b) w.one kind at (kind_at format (bytes_of b) (payload w.one)) w.is in
+      subst (λ x. IsValueNoted (bytes_of b) (tiles_in b) kind x es) e.1 (n.noted w.one k.mem kind k.is e.0);
+}
+
+-- ---- one object
+
+-- a tile with an object: its value is noted
+pub tile-grown : (format : ℕ) (b : List ℕ) (t : Tile) (kind : Kind) (at : ℕ) → IsTrue (is_use Object t)
+    → kind_at format (bytes_of b) (payload t) ≡ Some kind → at ≡ value_offset (bytes_of b) (payload t)
+    → (old : Blocks) (waited : ℕ) (es : Blocks) (pending : Option ℕ) (waiting : ℕ)
+    → IsValueGrown format b kind at old waited es pending waiting → IsTileGrown format b t old waited es pending waiting
+tile-grown format b t kind at u e there old waited es pending waiting d = record {
+  grown = grown-in format b (λ p. (IsTrue (has_link kind) × (p ≡ at))
+      ⊎ IsInStorage (tiles_in b) p) (IsPlaceOf format (bytes_of b) (tiles_in b) t) old waited es pending waiting
+      place d.grown;
+  noted = λ k v f. subst (λ x. IsValueNoted (bytes_of b) (tiles_in b) k x es) there
+      (subst (λ x. IsValueNoted (bytes_of b) (tiles_in b) x at es) (same k f) d.noted);
+}
+  where
+    place : (p : ℕ) → (IsTrue (has_link kind) × (p ≡ at)) ⊎ IsInStorage (tiles_in b) p
+        → IsPlaceOf format (bytes_of b) (tiles_in b) t p
+    place p (inl w) = inl (record { kind = kind; object = u; is = e; link = w.0; place = w.1 ∙ there })
+    place p (inr w) = inr w
+
+    same : (k : Kind) → kind_at format (bytes_of b) (payload t) ≡ Some k → kind ≡ k
+    same k f = cc

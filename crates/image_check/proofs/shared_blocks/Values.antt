@@ -1,0 +1,190 @@
+-- The links behind a value, noted one after another.
+use Rattle.std.proofs.Common.{◌≡◌, refl, sym, ap, subst, ◌∙◌, ℕ, ◌+◌, ◌*◌, ◌%◌, ◌≤◌, ◌<◌, List, length, arith}
+use Rattle.std.specs.Prelude.{Option, Some, None, IsTrue, ◌⊎◌, option_map}
+use Rattle.std.proofs.lemmas.Bool.{false≢true}
+use mathlib.Core.Logic.{inl, inr}
+use Rattle.raw_region.specs.Memory.{bytes_of, word_at}
+use Rattle.raw_region.specs.Format.{current}
+use Rattle.offset_link.specs.Link.{link_at}
+use Rattle.block_tags.specs.declared.tile.Role.TheVariants.{Storage, Node}
+use Rattle.block_tags.specs.declared.tile.Tile.{Tile}
+use Rattle.seg_types.specs.declared.kinds.ScalarKind.{ScalarKind}
+use Rattle.seg_types.specs.declared.kinds.Kind.{Kind}
+use Rattle.seg_types.specs.declared.kinds.Kind.TheVariants.{Scalar, String, Vector, Map, Strings}
+use Rattle.image_check.specs.ObjectTests.{good_for, payload, tile_of}
+use Rattle.image_check.specs.Fields.{has_storage}
+use Rattle.image_check.specs.Meaning.{IsCountedLink}
+use Rattle.image_check.specs.Owners.{Blocks, MarksLink, IsMarkingOf, IsMarkedLink, MayCount, owner}
+use Rattle.image_check.specs.Passes.{HasTiles, tiles_in}
+use Rattle.image_check.specs.Sharing.{AllElements, AreElementsNoted, AreTextsNoted, IsElementPlace, IsInStorage}
+use Rattle.image_check.specs.Sharing.{IsStorageNoted, IsStorageStart, IsValueGrown, IsValueReady, has_link}
+use Rattle.std.specs.Prelude.{Result, Ok, Err, MatchResult}
+use Rattle.image_check.specs.Sharing.{Pays}
+use Rattle.image_check.proofs.block_collection.Places.{Found, found}
+use Rattle.image_check.proofs.shared_blocks.Links.{grown-in, grown-none, grown-on, marked-grown}
+use Rattle.image_check.proofs.claims.ReachedLinks.{good_for-IsGood}
+
+-- ---- the array of a vector of texts
+
+-- what is found where the link leads to storage
+pub record IsArrayAt (b : List ℕ) (at array len : ℕ) : Type 0 where
+  pub tile : Tile
+  pub good : good_for (tiles_in b) Storage (link_at (bytes_of b) at) ≡ Some tile
+  pub there : payload tile ≡ array
+  pub long : tile.len ≡ len
+  pub found : tile_of (tiles_in b) Storage array ≡ Some tile
+
+array-if : (b : List ℕ) (at array len : ℕ) (o : Option Tile)
+    → good_for (tiles_in b) Storage (link_at (bytes_of b) at) ≡ o → Some len ≡ option_map (λ (t : Tile). t.len) o
+    → Some array ≡ link_at (bytes_of b) at → IsArrayAt b at array len
+array-if b at array len None e l k = absurd (cc)
+array-if b at array len (Some t) e l k =
+    let g = good_for-IsGood (tiles_in b) Storage (link_at (bytes_of b) at) t e in
+    let f : Some array ≡ Some (payload t) = k ∙ g.leads in
+    record {
+      tile = t;
+      good = e;
+      there = sym (some-is f);
+      long = sym (some-is l);
+      found = ap (good_for (tiles_in b) Storage) k ∙ e;
+    }
+  where
+    some-is : {x y : ℕ} → Some x ≡ Some y → x ≡ y
+    some-is {x} {y} e = cc
+
+-- an array that a link leads to
+pub array-at : (b : List ℕ) (at array len : ℕ)
+    → Some len ≡ option_map (λ (t : Tile). t.len) (good_for (tiles_in b) Storage (Some array))
+    → Some array ≡ link_at (bytes_of b) at → IsArrayAt b at array len
+array-at b at array len l k =
+    array-if b at array len (good_for (tiles_in b) Storage (link_at (bytes_of b) at)) refl (l
+    ∙ ap (λ x. option_map (λ (t : Tile). t.len) (good_for (tiles_in b) Storage x)) k) k
+
+module _ (b : List ℕ) (at array len : ℕ) (h : HasTiles b) (w : IsArrayAt b at array len) where
+  place : Found (tiles_in b) Storage array (length b) w.tile
+  place = found current (bytes_of b) (length b) Storage array w.tile h.tags w.found
+
+  -- an array has at least 32 bytes
+  pub array-long : 32 ≤ len
+  array-long = let l = place.lies.long in let e = w.long in omega arith
+
+  -- an array stands at a multiple of 16
+  pub array-aligned : array % 16 ≡ 0
+  array-aligned = let a = place.lies.whole refl in let t = place.there in omega arith
+
+  -- the elements of an array lie in the window
+  pub array-inside : (count : ℕ) → 16 * count + 16 ≤ len → array + 16 * count ≤ length b
+  array-inside count r =
+      let hi = place.lies.high in
+      let t = place.there in
+      let e = w.long in
+      let l = place.lies.long in
+      omega arith
+
+  element-in : (i count p : ℕ) → i < count → 16 * count + 16 ≤ len → p ≡ array + 16 * i → IsInStorage (tiles_in b) p
+  element-in i count p l r e = let n = w.long
+      in record { start = array; tile = w.tile; is = w.found; from = omega arith; to = omega arith }
+
+  same-tile : (t : Tile) → good_for (tiles_in b) Storage (link_at (bytes_of b) at) ≡ Some t → t ≡ w.tile
+  same-tile t e = let g = w.good in cc
+
+  -- before the first string nothing is noted
+  pub texts-starts : (format length count : ℕ) → count ≤ length → length ≡ word_at (bytes_of b) (at + 8)
+      → 16 * count + 16 ≤ len → 0 < word_at (bytes_of b) (at + 16)
+      → AllElements (bytes_of b) (tiles_in b) at (IsStorageStart format b) → (i : ℕ) → i < count
+      → IsStorageStart format b (array + 16 * i)
+  texts-starts format n count l e r p all i k =
+      let long = w.long in
+      subst (λ x. IsStorageStart format b (x + 16 * i)) w.there (all w.tile i p w.good (omega arith) (omega arith))
+
+  -- all strings of the array are noted
+  pub texts-noted : (format n count : ℕ) → n ≡ word_at (bytes_of b) (at + 8) → 16 * count + 16 ≤ len
+      → ((i : ℕ) → i < n → 16 * i + 32 ≤ len → i < count)
+      → (old : Blocks) (waited : ℕ) (es : Blocks) (pending : Option ℕ) (waiting : ℕ)
+      → AreElementsNoted format b array count old waited es pending waiting
+      → AreTextsNoted format b at old waited es pending waiting
+  texts-noted format n count e r fits old waited es pending waiting d = record {
+    grown = grown-in format b (IsElementPlace array count) (IsInStorage (tiles_in b)) old waited es pending waiting
+        (λ p k. element-in k.0 count p k.1 r k.2) d.grown;
+    noted = λ t i p g l k.
+        let same = same-tile t g in
+        let long : t.len ≡ len = ap (λ (x : Tile). x.len) same ∙ w.long in
+        let there : payload t ≡ array = ap payload same ∙ w.there in
+        subst (λ x. IsMarkedLink (bytes_of b) (tiles_in b) es Storage (x + 16 * i) (x + 16 * i)) (sym there)
+        (d.noted i (fits i (omega arith) (omega arith)));
+  }
+
+-- ---- values
+
+module _ (format : ℕ) (b : List ℕ) (at : ℕ) (old : Blocks) (waited : ℕ) (es : Blocks) (pending : Option ℕ)
+    (waiting : ℕ) where
+  pub scalar-value : (k : ScalarKind) → IsMarkingOf format b None old pending waited
+      → IsValueGrown format b (Scalar k) at old waited old pending waited
+  scalar-value k marking = record {
+    grown = grown-none format b (λ p. (IsTrue (has_link (Scalar k)) × (p ≡ at))
+        ⊎ IsInStorage (tiles_in b) p) old pending waited marking;
+    noted = record { storage = λ h. absurd (false≢true h); element = λ e. absurd (cc); root = λ x v e. absurd (cc) };
+  }
+
+  -- the root of a map is noted
+  pub map-value : (k v : ScalarKind)
+      → MarksLink format (bytes_of b) (tiles_in b) None Node (owner at at) old waited es pending waiting
+      → IsValueGrown format b (Map k v) at old waited es pending waiting
+  map-value k v d = record {
+    grown = grown-in format b (λ p. p ≡ at) (λ p. (IsTrue (has_link (Map k v)) × (p ≡ at))
+        ⊎ IsInStorage (tiles_in b) p) old waited es pending waiting (λ p e.
+        inl (refl, e)) (marked-grown format b old waited es pending waiting Node at d);
+    noted = record { storage = λ h. absurd (false≢true h); element = λ e. absurd (cc); root = λ x y e. d.noted };
+  }
+
+  -- the storage of a string is noted
+  pub text-value : IsStorageNoted format b at old waited es pending waiting
+      → IsValueGrown format b String at old waited es pending waiting
+  text-value d = record {
+    grown = grown-in format b (λ p. p ≡ at) (λ p. (IsTrue (has_link String) × (p ≡ at))
+        ⊎ IsInStorage (tiles_in b) p) old waited es pending waiting (λ p e. inl (refl, e)) d.grown;
+    noted = record { storage = λ h. d.noted; element = λ e. absurd (cc); root = λ x y e. absurd (cc) };
+  }
+
+  -- the storage of a vector is noted
+  pub vector-value : (k : ScalarKind) → IsStorageNoted format b at old waited es pending waiting
+      → IsValueGrown format b (Vector k) at old waited es pending waiting
+  vector-value k d = record {
+    grown = grown-in format b (λ p. p ≡ at) (λ p. (IsTrue (has_link (Vector k)) × (p ≡ at))
+        ⊎ IsInStorage (tiles_in b) p) old waited es pending waiting (λ p e. inl (refl, e)) d.grown;
+    noted = record { storage = λ h. d.noted; element = λ e. absurd (cc); root = λ x y e. absurd (cc) };
+  }
+
+  module _ (d : IsStorageNoted format b at old waited es pending waiting) (fs : Blocks) (p2 : Option ℕ) (w2 : ℕ)
+      (t : AreTextsNoted format b at es waiting fs p2 w2) where
+    -- the array of a vector of strings is noted
+    pub array-value : IsValueGrown format b Strings at old waited fs p2 w2
+    array-value = record {
+      grown = grown-on format b (λ p. p ≡ at) (IsInStorage (tiles_in b)) (λ p.
+          (IsTrue (has_link Strings) × (p ≡ at)) ⊎ IsInStorage (tiles_in b) p) old waited es pending waiting fs p2 w2
+          (λ p e. inl (refl, e)) (λ p h. inr h) d.grown t.grown;
+      noted = record {
+        storage = λ h p n l. t.grown.keeps n _ (d.noted p n l);
+        element = λ e. t.noted;
+        root = λ x y e. absurd (cc);
+      };
+    }
+
+-- ---- links of values count
+
+-- the link of storage may count
+pub storage-may : (format : ℕ) (b : List ℕ) (kind : Kind) (at : ℕ) (es : Blocks) → IsValueReady format b kind at es
+    → IsTrue (has_storage kind) → IsTrue (has_link kind) → 0 < word_at (bytes_of b) (at + 16)
+    → IsStorageStart format b at
+storage-may format b kind at es r s l p = (r.start l, λ target k. IsCountedLink.storage r.value s p k)
+
+-- the root of a map may count
+pub root-may : (format : ℕ) (b : List ℕ) (k v : ScalarKind) (at : ℕ) (es : Blocks)
+    → IsValueReady format b (Map k v) at es → MayCount format (bytes_of b) (tiles_in b) Node at
+root-may format b k v at es r = λ target l. IsCountedLink.root r.value l
+
+-- a call that adds few visits, and nothing to what is due
+pub pays-from : {A E : Type 0} (P : A → Type 0) (Q : E → Type 0) (n : ℕ) (r : Result A E) (old owed new owes : ℕ)
+    → MatchResult r P Q → old ≤ new → new ≤ old + n → ((x : A) → P x → owes ≤ owed) → Pays n r old owed new owes
+pays-from P Q n (Ok x) old owed new owes h lo hi f = let l = f x h in (lo, omega arith)
+pays-from P Q n (Err x) old owed new owes h lo hi f = (lo, omega arith)

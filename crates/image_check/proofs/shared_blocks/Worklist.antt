@@ -1,0 +1,276 @@
+-- Going through the nodes that wait: one turn notes the links of the first of them.
+use Rattle.std.proofs.Common.{◌≡◌, refl, sym, ap, subst, ◌∙◌, ℕ, suc, ◌+◌, ◌-◌, ◌*◌, ◌≤◌, List, [], ◌∷◌, length, arith}
+use Rattle.std.specs.Prelude.{Option, Some, None, IsSome, ◌⊎◌, Result, Ok, Err, MatchResult}
+use Rattle.std.proofs.lemmas.Bool.{false≢true}
+use mathlib.Core.Logic.{inl, inr}
+use Rattle.raw_region.specs.Memory.{Memory}
+use Rattle.offset_link.specs.Link.{link_at}
+use Rattle.block_tags.specs.declared.tile.Role.{Role}
+use Rattle.block_tags.specs.declared.tile.Role.TheVariants.{Node}
+use Rattle.block_tags.specs.declared.tile.Tile.{Tile}
+use Rattle.image_check.specs.declared.owners.Block.{Block}
+use Rattle.image_check.specs.declared.owners.Owner.{Owner}
+use Rattle.image_check.specs.ObjectTests.{tile_of}
+use Rattle.image_check.specs.Meaning.{LeadsTo, IsCountedLink}
+use Rattle.image_check.specs.Owners.{Blocks, block_at, owner_in, owner_at, IsTileAt, unspent_budget, IsWaiting, IsChain}
+use Rattle.image_check.specs.Owners.{IsMember, MayCount, IsFollowed, IsRooted, IsMarking, IsMarkingOf, MarksLink}
+use Rattle.image_check.specs.Owners.{next_in, next_at, root_in, KeepsMarks}
+use Rattle.block_tags.specs.declared.tile.Role.TheVariants.{Object, Index, Storage}
+use Rattle.best_fit.specs.Table.{same_role}
+use Rattle.image_check.specs.Owners.{owner}
+use Rattle.image_check.specs.Owners.{visit_budget, debts}
+use Rattle.image_check.specs.Passes.{HasTiles, tiles_in}
+use Rattle.best_fit.proofs.Laws.{Row}
+use Rattle.raw_region.specs.Memory.{bytes_of}
+use Rattle.raw_region.specs.Format.{current}
+use Rattle.std.specs.Prelude.{◌/◌}
+use Rattle.image_check.proofs.frame.Tags.{has_tags-AreWholeTiles}
+use Rattle.image_check.proofs.block_collection.Places.{legal-small}
+use Rattle.image_check.proofs.shared_blocks.OneLink.{owner-is}
+
+-- a field that counts leads where it is said to
+pub counts-link : (format : ℕ) (m : Memory) (ts : List Tile) (at n : ℕ) → IsCountedLink format m ts at n
+    → link_at m at ≡ Some n
+counts-link format m ts at n (IsCountedLink.named c l) = l.0
+counts-link format m ts at n (IsCountedLink.unique c l) = l.0
+counts-link format m ts at n (IsCountedLink.storage v h c l) = l.0
+counts-link format m ts at n (IsCountedLink.element array i v c g a b l) = l.0
+counts-link format m ts at n (IsCountedLink.root v l) = l.0
+counts-link format m ts at n (IsCountedLink.left c k l) = l.0
+counts-link format m ts at n (IsCountedLink.right c k l) = l.0
+
+-- what is due is not much
+use-visit_budget : (o : Option Role) (len : ℕ) → 32 ≤ len
+    → elim o [ None ↦ 0 | Some role ↦ visit_budget role len ] ≤ 3 * (len / 16)
+use-visit_budget None len h = omega arith
+use-visit_budget (Some Object) len h = omega arith
+use-visit_budget (Some Index) len h = omega arith
+use-visit_budget (Some Storage) len h = omega arith
+use-visit_budget (Some Node) len h = omega arith
+
+row-debts : (at : ℕ) (ts : List Tile) (end : ℕ) → Row at ts end → debts ts + at ≤ end
+row-debts at [] end a = omega arith
+row-debts at (t ∷ ts) end a =
+    let l = row-debts (at + t.len) ts end a.3 in
+    let d = use-visit_budget t.use_of t.len a.1 in
+    let long = a.1 in
+    omega arith
+
+-- the debts of all tiles are at most 2^30
+pub debts-small : (b : List ℕ) → HasTiles b → debts (tiles_in b) ≤ 1073741824
+debts-small b h =
+    let l = row-debts 128 (tiles_in b) (length b - 16)
+    (has_tags-AreWholeTiles current (bytes_of b) (length b) h.tags).row in
+    let s = legal-small (length b) h.size in
+    omega arith
+
+-- ---- the first that waits
+
+pub record IsFirst (es : Blocks) (chain : List ℕ) (n : ℕ) : Type 0 where
+  pub next : Option ℕ
+  pub waits : IsWaiting es n next
+  pub rest : List ℕ
+  pub linked : IsChain es next rest
+  pub long : suc (length rest) ≡ length chain
+  pub parts : (x : ℕ) → IsMember x chain → (x ≡ n) ⊎ IsMember x rest
+
+pub first-of : (es : Blocks) (head : Option ℕ) (chain : List ℕ) (n : ℕ) → IsChain es head chain → head ≡ Some n
+    → IsFirst es chain n
+first-of es head [] n h e = absurd (cc)
+first-of es head (x ∷ xs) n h e =
+    let f = h.1 in
+    let same : x ≡ n = cc in
+    record {
+      next = h.0;
+      waits = subst (λ y. IsWaiting es y h.0) same h.2;
+      rest = xs;
+      linked = h.3;
+      long = refl;
+      parts = λ y s. elim s [ inl g ↦ inl (g ∙ same) | inr g ↦ inr g ];
+    }
+
+-- none waits
+pub none-waits : (es : Blocks) (chain : List ℕ) (x : ℕ) → IsChain es None chain → IsMember x chain → ⊥
+none-waits es [] x h s = s
+none-waits es (y ∷ ys) x h s = let f = h.1 in absurd (cc)
+
+module _ (format : ℕ) (m : Memory) (ts : List Tile) (es : Blocks) (pending : Option ℕ) (waiting : ℕ)
+    (k : IsMarking format m ts None es pending waiting) (n : ℕ) (e : pending ≡ Some n) where
+  pub the-first : IsFirst es k.chain n
+  the-first = first-of es pending k.chain n k.linked e
+
+  pub some-waits : 1 ≤ waiting
+  some-waits = let l = the-first.long in let c = k.count in omega arith
+
+  the-next : next_at es n ≡ the-first.next
+  the-next = let w = the-first.waits in ap next_in w.is ∙ w.next_is
+
+  -- the node that waits stands in a tile
+  pub node-tile : IsTileAt ts n (the-first.waits.block)
+  node-tile = k.blocks.tiles n (the-first.waits.block) (the-first.waits.is)
+
+  -- the tile of the node is found
+  pub node-there : tile_of ts Node n ≡ Some node-tile.tile
+  node-there = ap (λ r. tile_of ts r n) (sym the-first.waits.node) ∙ node-tile.is
+
+  abbrev the-block : Block
+  the-block = the-first.waits.block
+
+  owner-there : (o : Option Owner) → the-block.owner ≡ o → IsSome o → (w : Owner) × (owner_at es n ≡ Some w)
+  owner-there None f s = absurd (false≢true s)
+  owner-there (Some w) f s = (
+    w,
+    ap owner_in the-first.waits.is
+        ∙ owner-is the-block (ap (λ r. same_role r Object) the-first.waits.node) ∙ f,
+  )
+
+  -- the link that leads to it
+  pub leader : (w : Owner) × (owner_at es n ≡ Some w)
+  leader = owner-there the-block.owner refl the-first.waits.owned
+
+  counted : IsCountedLink format m ts leader.0.at n
+  counted = k.counts n leader.0 leader.1
+
+  led : LeadsTo m ts Node leader.0.at n
+  led = (counts-link format m ts leader.0.at n counted, (node-tile.tile, node-there))
+
+  -- its links count
+  pub left-counts : MayCount format m ts Node n
+  left-counts = λ target l. IsCountedLink.left counted led l
+
+  -- the right link of the node counts
+  pub right-counts : MayCount format m ts Node (n + 8)
+  right-counts = λ target l. IsCountedLink.right counted led l
+
+  -- the root of the node's map is that of its leader
+  pub root-is : root_in (block_at es n) n ≡ leader.0.root
+  root-is = ap (λ (o : Option Owner). elim o [ None ↦ n | Some w ↦ w.root ]) leader.1
+
+  -- and begin where the link to it does
+  pub left-rooted : (root : ℕ) → root ≡ leader.0.root → IsRooted ts es (owner n root)
+  left-rooted root e = inr (
+    record {
+      node = n;
+      tile = node-tile.tile;
+      is = node-there;
+      led = leader.0;
+      noted = leader.1;
+      link = inl refl;
+    },
+    e,
+  )
+
+  -- the right link has the root of the node's map
+  pub right-rooted : (root : ℕ) → root ≡ leader.0.root → (fs : Blocks) → KeepsMarks es fs
+      → IsRooted ts fs (owner (n + 8) root)
+  right-rooted root e fs keeps =
+      inr (
+        record {
+          node = n;
+          tile = node-tile.tile;
+          is = node-there;
+          led = leader.0;
+          noted = keeps n leader.0 leader.1;
+          link = inr refl;
+        },
+        e,
+      )
+
+  turn-of : (x root : ℕ) → IsMember x k.chain ⊎ ((None ≡ Some x) ⊎ IsFollowed m ts es x root)
+      → IsMember x the-first.rest ⊎ ((Some n ≡ Some x) ⊎ IsFollowed m ts es x root)
+  turn-of x root (inl s) = elim (the-first.parts x s) [ inl f ↦ inr (inl (ap Some (sym f))) | inr f ↦ inl f ]
+  turn-of x root (inr (inl f)) = absurd (cc)
+  turn-of x root (inr (inr f)) = inr (inr f)
+
+  -- it waits no more, and it is its turn
+  pub taken : IsMarking format m ts (Some n) es (next_at es n) (waiting - 1)
+  taken =
+      let l = the-first.long in
+      let c = k.count in
+      let room = k.room in
+      record {
+        blocks = k.blocks;
+        frame = k.frame;
+        aligned = k.aligned;
+        counts = k.counts;
+        rooted = k.rooted;
+        chain = the-first.rest;
+        linked = subst (λ h. IsChain es h the-first.rest) (sym the-next) the-first.linked;
+        count = omega arith;
+        room = omega arith;
+        followed = λ x o t g f. turn-of x o.root (k.followed x o t g f);
+      }
+
+  module _ (root : ℕ) (rooted : root ≡ leader.0.root) (es1 : Blocks) (p1 : Option ℕ) (w1 : ℕ)
+      (a : MarksLink format m ts (Some n) Node (owner n root) es (waiting - 1) es1 p1 w1)
+      (es2 : Blocks) (p2 : Option ℕ) (w2 : ℕ)
+      (b : MarksLink format m ts (Some n) Node (owner (n + 8) root) es1 w1 es2 p2 w2) where
+    same-leader : (o : Owner) → owner_at es2 n ≡ Some o → root ≡ o.root
+    same-leader o f =
+        let g = b.keeps n leader.0 (a.keeps n leader.0 leader.1) in
+        let same : leader.0 ≡ o = cc in
+        rooted ∙ ap (λ (x : Owner). x.root) same
+
+    ends-turn : (x : ℕ) (o : Owner) → owner_at es2 x ≡ Some o
+        → IsMember x b.marking.chain ⊎ ((Some n ≡ Some x) ⊎ IsFollowed m ts es2 x o.root)
+        → IsMember x b.marking.chain ⊎ ((None ≡ Some x) ⊎ IsFollowed m ts es2 x o.root)
+    ends-turn x o g (inl s) = inl s
+    ends-turn x o g (inr (inl f)) =
+        let same : n ≡ x = cc in
+        let done : IsFollowed m ts es2 n root = (λ t l. b.keeps t _ (a.noted t l), b.noted) in
+        inr (inr (subst (λ r. IsFollowed m ts es2 x r) (same-leader o (ap (owner_at es2) same ∙ g))
+        (subst (λ y. IsFollowed m ts es2 y root) same done)))
+    ends-turn x o g (inr (inr f)) = inr (inr f)
+
+    -- one turn keeps the marking
+    pub turned : IsMarking format m ts None es2 p2 w2
+    turned = record {
+      blocks = b.marking.blocks;
+      frame = b.marking.frame;
+      aligned = b.marking.aligned;
+      counts = b.marking.counts;
+      rooted = b.marking.rooted;
+      chain = b.marking.chain;
+      linked = b.marking.linked;
+      count = b.marking.count;
+      room = b.marking.room;
+      followed = λ x o t g f. ends-turn x o f (b.marking.followed x o t g f);
+    }
+
+    -- one turn keeps the marks
+    pub turn-keeps : KeepsMarks es es2
+    turn-keeps x place f = b.keeps x place (a.keeps x place f)
+
+    -- one turn makes what is left less
+    pub turn-less : 6 * w2 + unspent_budget es2 + 6 ≤ 6 * waiting + unspent_budget es
+    turn-less = let x = a.less in let y = b.less in let s = some-waits in omega arith
+
+-- ---- answers of calls
+
+-- a result that is an error meets what is said of errors
+pub of-err : {A E : Type 0} (P : A → Type 0) (Q : E → Type 0) (r : Result A E) (x : E) → r ≡ Err x
+    → MatchResult r P Q → Q x
+of-err P Q (Ok y) x e h = absurd (cc)
+of-err P Q (Err y) x e h = let same : y ≡ x = cc in subst Q same h
+
+-- a result that is a success meets what is said of successes
+pub of-ok : {A E : Type 0} (P : A → Type 0) (Q : E → Type 0) (r : Result A E) (x : A) → r ≡ Ok x → MatchResult r P Q
+    → P x
+of-ok P Q (Ok y) x e h = let same : y ≡ x = cc in subst P same h
+of-ok P Q (Err y) x e h = absurd (cc)
+
+-- what is said of successes, if more follows
+pub map-ok : {A E : Type 0} (P P2 : A → Type 0) (Q : E → Type 0) (r : Result A E) → ((x : A) → P x → P2 x)
+    → MatchResult r P Q → MatchResult r P2 Q
+map-ok P P2 Q (Ok y) f h = f y h
+map-ok P P2 Q (Err y) f h = h
+
+-- ---- all turns
+
+-- the nodes that wait, and the marks so far
+pub record IsGoing (format : ℕ) (b : List ℕ) (old : Blocks) (waited seen : ℕ) (es : Blocks) (pending : Option ℕ)
+    (waiting visits : ℕ) : Type 0 where
+  pub marking : IsMarkingOf format b None es pending waiting
+  pub keeps : KeepsMarks old es
+  pub more : seen ≤ visits
+  pub most : visits + (6 * waiting + unspent_budget es) ≤ seen + (6 * waited + unspent_budget old)

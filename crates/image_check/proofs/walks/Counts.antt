@@ -1,0 +1,71 @@
+-- What is counted of tiles, with one more behind them.
+use Rattle.std.proofs.Common.{◌≡◌, refl, sym, ap, ◌∙◌, ℕ, ◌+◌, ◌<◌, ◌^◌, false, List, [], ◌∷◌, ◌++◌, length, arith}
+use Rattle.std.proofs.Common.{IsTrue}
+use Rattle.std.specs.Prelude.{Option, Some, None, is_none, is_some}
+use Rattle.raw_region.specs.Memory.{WindowState}
+use Rattle.block_tags.specs.declared.tile.Role.{Role}
+use Rattle.block_tags.specs.declared.tile.Tile.{Tile}
+use Rattle.block_tags.specs.Format.{is_legal_size}
+use Rattle.image_check.specs.declared.counting.Counts.{Counts}
+use Rattle.image_check.specs.Counting.{AreCounted, last_used}
+use Rattle.image_check.specs.FreeLaws.{small_size}
+use Rattle.image_check.proofs.frame.Formats.{few-free}
+use Rattle.image_check.proofs.free_tree.Meaning.{free-more, none-free}
+use Rattle.image_check.proofs.block_collection.Lookup.{count-free, count-most, count-push, count-used}
+use Rattle.image_check.proofs.walks.Tiles.{WalksAt, walk-few}
+
+last-push : (at : ℕ) (ts : List Tile) (here : Tile)
+    → last_used at (ts ++ here ∷ []) ≡ elim here.use_of [ None ↦ last_used at ts | Some role ↦ here.offset ]
+last-push at [] here = refl
+last-push at (t ∷ ts) here = last-push (elim t.use_of [ None ↦ at | Some role ↦ t.offset ]) ts here
+
+module _ (ts : List Tile) (old new : Counts) (here : Tile) (k : AreCounted ts old) where
+  -- a free one
+  pub counted-free : here.use_of ≡ None → new.free ≡ old.free + 1 → new.used ≡ old.used → new.end ≡ old.end
+      → AreCounted (ts ++ here ∷ []) new
+  counted-free e f u l =
+      let more = free-more ts here (ap is_none e) in
+      let push = count-push ts here in
+      let one = count-free here (ap is_some e) in
+      let free = k.free in
+      let used = k.used in
+      record {
+        free = omega arith;
+        used = omega arith;
+        end = l ∙ k.end ∙ sym (last-push 0 ts here
+            ∙ ap (λ (o : Option Role). elim o [ None ↦ last_used 0 ts | Some role ↦ here.offset ]) e);
+      }
+
+  -- one in use
+  pub counted-used : (role : Role) → here.use_of ≡ Some role → new.free ≡ old.free → new.used ≡ old.used + 1
+      → new.end ≡ here.offset → AreCounted (ts ++ here ∷ []) new
+  counted-used role e f u l =
+      let same = none-free ts here (ap is_none e) in
+      let push = count-push ts here in
+      let one = count-used here (ap is_some e) in
+      let free = k.free in
+      let used = k.used in
+      record {
+        free = omega arith;
+        used = omega arith;
+        end = l ∙ sym (last-push 0 ts here
+            ∙ ap (λ (o : Option Role). elim o [ None ↦ last_used 0 ts | Some role ↦ here.offset ]) e);
+      }
+
+-- so the counts stay small
+pub counted-few : (c : WindowState) (Kept : List Tile → Type 0) (here : Tile) (counts : Counts)
+    → IsTrue (is_legal_size (length c.bytes)) → (a : WalksAt c Kept here)
+    → AreCounted a.front counts → (counts.free < 2 ^ 63) × (counts.used < 2 ^ 63)
+counted-few c Kept here counts legal a k =
+    let few = walk-few c Kept here a in
+    let free = few-free a.front in
+    let used = count-most a.front in
+    let small = small_size (length c.bytes) legal in
+    let f = k.free in
+    let u = k.used in
+    (omega arith, omega arith)
+
+-- what was not given is none
+pub not-given : {X : Type 0} (o : Option X) → ((x : X) → o ≡ Some x → ⊥) → is_some o ≡ false
+not-given None h = refl
+not-given (Some x) h = absurd (h x refl)

@@ -1,0 +1,362 @@
+-- Rotations and recolourings of cells do to trees what their names say.
+use Rattle.std.proofs.Common.{◌≡◌, ℕ, Bool, true, false, Option, Some, List, refl, sym, ap, ◌∙◌, subst, not}
+use Rattle.std.proofs.lemmas.Bool.{true≢false, false≢true, not-false}
+use Rattle.link_tree.specs.Tree.{has_black_root, Cell, Tree, leaf, fork, root_of, nodes_of, AreCellsOf, IsTree}
+use Rattle.link_tree.specs.Tree.{is_sorted}
+use Rattle.link_tree.specs.Nodes.{is_in, with_red}
+use Rattle.link_tree.specs.Sides.{opposite, child_of, with_child, tree_on, joined_at}
+use Rattle.link_tree.specs.Turning.{balanced_inner, balanced_outer, BecomesTree, blackened, painted, rotated}
+use Rattle.link_tree.specs.Turning.{rebalanced}
+use Rattle.link_tree.specs.Turning.{is_red_tree}
+use Rattle.link_tree.specs.declared.cursor.Side.{Side}
+use Rattle.link_tree.specs.declared.cursor.Side.TheVariants.{Left, Right}
+use Rattle.link_tree.proofs.trees.OrderedLists.{IsStrict}
+use Rattle.link_tree.proofs.trees.Linked.{holds_same, some_same, none_some}
+use Rattle.link_tree.proofs.trees.OneSided.{Makes, cell_at, with_child-other, with_child-near, with_child-far}
+use Rattle.link_tree.proofs.trees.OneSided.{with_red-other}
+use Rattle.link_tree.proofs.trees.OneSided.{with_red-same, fork_joined, root_joined, joint_of, tree_joint, open_side}
+use Rattle.link_tree.proofs.trees.OneSided.{apart_of}
+use Rattle.link_tree.proofs.trees.OneSided.{in_near, in_far, in_root, outside_all, other_than, nodes_of-joined}
+use Rattle.link_tree.proofs.trees.OneSided.{nodes_of-painted, nodes_of-turn, rotated-joined}
+
+-- the tree on one side is another now, and the root's link leads to it
+pub graft : (side : Side) (h h1 h2 : ℕ → Cell) (red : Bool) (near near' : Tree) (n : ℕ) (far : Tree) (link : Option ℕ)
+    (xs : List ℕ) → AreCellsOf h (joined_at side red near n far) → BecomesTree h h1 xs link near'
+    → is_in n xs ≡ false → ((m : ℕ) → is_in m (nodes_of far) ≡ true → is_in m xs ≡ false)
+    → is_in n (nodes_of near') ≡ false → is_in n (nodes_of far) ≡ false
+    → h2 n ≡ cell_at side red link (root_of far) → ((m : ℕ) → (m ≡ n → ⊥) → h2 m ≡ h1 m)
+    → IsTree h2 (Some n) (joined_at side red near' n far)
+graft side h h1 h2 red near near' n far link xs w u nx fx nn nf at_n rest =
+    let j = joint_of h side red near n far w in
+    tree_joint h2 side red near' n far (record {
+      cell = at_n ∙ ap (λ o. cell_at side red o (root_of far)) u.tree.root;
+      near_holds = holds_same h1 h2 near' (λ m i. rest m (other_than m n (nodes_of near') i nn)) u.tree.holds;
+      far_holds = holds_same h h2 far (λ m i. rest m (other_than m n (nodes_of far) i nf)
+          ∙ u.frame m (fx m i)) j.far_holds;
+    })
+
+with_red-cell : (side : Side) (h : ℕ → Cell) (n : ℕ) (old red : Bool) (near far : Option ℕ)
+    → h n ≡ cell_at side old near far → with_red h n red n ≡ cell_at side red near far
+with_red-cell Left h n old red near far e = with_red-same h n old red near far e
+with_red-cell Right h n old red near far e = with_red-same h n old red far near e
+
+-- a root of another colour
+pub recolour : (side : Side) (h h2 : ℕ → Cell) (n : ℕ) (old red : Bool) (near far : Tree)
+    → AreCellsOf h (joined_at side old near n far)
+    → is_in n (nodes_of near) ≡ false → is_in n (nodes_of far) ≡ false → h2 ≡ with_red h n red
+    → BecomesTree h h2 (nodes_of (joined_at side old near n far)) (Some n) (joined_at side red near n far)
+recolour side h h2 n old red near far w nn nf set =
+    let j = joint_of h side old near n far w in
+    let at : (m : ℕ) → h2 m ≡ with_red h n red m = λ m. ap (λ (f : ℕ → Cell). f m) set in
+    let rest : (m : ℕ) → (m ≡ n → ⊥) → h2 m ≡ h m = λ m d. at m ∙ with_red-other h n m red d in
+    record {
+      tree = tree_joint h2 side red near n far (record {
+        cell = at n ∙ with_red-cell side h n old red (root_of near) (root_of far) j.cell;
+        near_holds = holds_same h h2 near (λ m i. rest m (other_than m n (nodes_of near) i nn)) j.near_holds;
+        far_holds = holds_same h h2 far (λ m i. rest m (other_than m n (nodes_of far) i nf)) j.far_holds;
+      });
+      frame = λ m i. rest m (outside_all side old near n far m i).root_out;
+    }
+
+module _ {lt : ℕ → ℕ → Bool} (strict : IsStrict lt) where
+  pub lift_turns : (side : Side) (h h' : ℕ → Cell) (c d : Bool) (a : Tree) (m : ℕ) (b : Tree) (n : ℕ) (far : Tree)
+      → AreCellsOf h (joined_at side c (joined_at side d a m b) n far)
+      → is_sorted lt (nodes_of (joined_at side c (joined_at side d a m b) n far)) ≡ true
+      → h' ≡ with_child side (with_child (opposite side) h m (Some n)) n (root_of b)
+      → BecomesTree h h' (nodes_of (joined_at side c (joined_at side d a m b) n far)) (Some m)
+      (joined_at side d a m (joined_at side c b n far))
+  lift_turns side h h' c d a m b n far w o e =
+      let inner = joined_at side d a m b in
+      let j = joint_of h side c inner n far w in
+      let k = joint_of h side d a m b j.near_holds in
+      let ap1 = apart_of strict side c inner n far o in
+      let ap2 = apart_of strict side d a m b ap1.near_rises in
+      let h1 : ℕ → Cell = with_child (opposite side) h m (Some n) in
+      let mn : m ≡ n → ⊥ = other_than m n (nodes_of inner) (in_root side d a m b) ap1.not_near in
+      let nm : n ≡ m → ⊥ = λ q. mn (sym q) in
+      let rest : (x : ℕ) → (x ≡ n → ⊥) → (x ≡ m → ⊥) → h' x ≡ h x =
+      λ x xn xm. ap (λ (f : ℕ → Cell). f x) e ∙ with_child-other side h1 n x (root_of b) xn
+      ∙ with_child-other (opposite side) h m x (Some n) xm in
+      let at_n : h' n ≡ cell_at side c (root_of b) (root_of far) =
+      ap (λ (f : ℕ → Cell). f n) e ∙ with_child-near side h1 n c (root_of inner) (root_of far) (root_of b)
+      (with_child-other (opposite side) h m n (Some n) nm ∙ j.cell) in
+      let at_m : h' m ≡ cell_at side d (root_of a) (Some n) =
+      ap (λ (f : ℕ → Cell). f m) e ∙ with_child-other side h1 n m (root_of b) mn
+      ∙ with_child-far side h m d (root_of a) (root_of b) (Some n) k.cell in
+      let a_same = holds_same h h' a
+      (λ x i. rest x (other_than x n (nodes_of inner) (in_near side d a m b x i) ap1.not_near)
+      (other_than x m (nodes_of a) i ap2.not_near)) k.near_holds in
+      let b_same = holds_same h h' b
+      (λ x i. rest x (other_than x n (nodes_of inner) (in_far side d a m b x i) ap1.not_near)
+      (other_than x m (nodes_of b) i ap2.not_far)) k.far_holds in
+      let f_same = holds_same h h' far
+      (λ x i. rest x (other_than x n (nodes_of far) i ap1.not_far) (λ q. true≢false (sym (in_root side d a m b)
+      ∙ ap1.near_of_far m (subst (λ y. is_in y (nodes_of far) ≡ true) q i)))) j.far_holds in
+      let low = tree_joint h' side c b n far (record { cell = at_n; near_holds = b_same; far_holds = f_same }) in
+      record {
+        tree = tree_joint h' side d a m (joined_at side c b n far) (record {
+          cell = at_m ∙ ap (λ x. cell_at side d (root_of a) x) low.root;
+          near_holds = a_same;
+          far_holds = low.holds;
+        });
+        frame = λ x i.
+            let p = outside_all side c inner n far x i in
+            let q = outside_all side d a m b x p.near_out in
+            rest x p.root_out q.root_out;
+      }
+
+  -- what `lift` does
+  pub lift_step : (side : Side) (h h' : ℕ → Cell) (top child : ℕ) (middle : Option ℕ) (t : Tree)
+      → IsTree h (Some top) t → is_sorted lt (nodes_of t) ≡ true
+      → child_of side (h top) ≡ Some child → child_of (opposite side) (h child) ≡ middle
+      → h' ≡ with_child side (with_child (opposite side) h child (Some top)) top middle
+      → BecomesTree h h' (nodes_of t) (Some child) (rotated side t)
+  lift_step side h h' top child middle t w o e1 e2 e3 =
+      let p = open_side h side top t w in
+      let near_tree = rw e1 at p.near_tree in
+      let q = open_side h side child p.near near_tree in
+      let is : t ≡ joined_at side (h top).red (joined_at side (h child).red q.near child q.far) top p.far = p.is
+      ∙ ap (λ s. joined_at side (h top).red s top p.far) q.is in
+      let holds = rw is at w.holds in
+      let order = rw is at o in
+      let e4 : h' ≡ with_child side (with_child (opposite side) h child (Some top)) top (root_of q.far) = e3
+      ∙ ap (λ x. with_child side (with_child (opposite side) h child (Some top)) top x) (sym e2 ∙ q.far_tree.root) in
+      let turned = lift_turns side h h' (h top).red (h child).red q.near child q.far top p.far holds order e4 in
+      rw (is, rotated-joined side (h top).red (h child).red q.near child q.far top p.far) turned
+
+  -- what `paint` does
+  pub paint_turns : (h h' : ℕ → Cell) (n : ℕ) (red : Bool) (t : Tree) → IsTree h (Some n) t
+      → is_sorted lt (nodes_of t) ≡ true → h' ≡ with_red h n red
+      → BecomesTree h h' (nodes_of t) (Some n) (painted red t)
+  paint_turns h h' n red leaf w o e = absurd (none_some n (sym w.root))
+  paint_turns h h' n red (fork old l m r) w o e =
+      let same = some_same n m w.root in
+      let e' : h' ≡ with_red h m red = rw (← same) e in
+      let apart = apart_of strict Left old l m r o in
+      rw same (recolour Left h h' m old red l r w.holds apart.not_near apart.not_far e')
+
+rebalanced-outer : (side : Side) (a : Tree) (m : ℕ) (b : Tree) (n : ℕ) (far : Tree) → is_red_tree a ≡ true
+    → rebalanced side (joined_at side false (joined_at side true a m b) n far) ≡ joined_at side true (blackened a) m
+    (joined_at side false b n far)
+rebalanced-outer Left a m b n far e = rw e refl
+rebalanced-outer Right a m b n far e = rw e refl
+
+rebalanced-inner : (side : Side) (a : Tree) (m : ℕ) (p : Tree) (k : ℕ) (q : Tree) (n : ℕ) (far : Tree)
+    → is_red_tree a ≡ false
+    → rebalanced side (joined_at side false (joined_at side true a m (joined_at side true p k q)) n far)
+    ≡ joined_at side true (joined_at side false a m p) k (joined_at side false q n far)
+rebalanced-inner Left a m p k q n far e = rw e refl
+rebalanced-inner Right a m p k q n far e = rw e refl
+
+-- where there is no red pair nothing is turned
+inner_same : (side : Side) (a : Tree) (m : ℕ) (b : Tree) (n : ℕ) (far : Tree) → has_black_root b ≡ true
+    → balanced_inner side a m b n far ≡ joined_at side false (joined_at side true a m b) n far
+inner_same side a m leaf n far k = refl
+inner_same side a m (fork false p i q) n far k = refl
+inner_same side a m (fork true p i q) n far k = absurd (false≢true k)
+
+-- a tree with no red child is not changed by balancing
+pub outer_same : (side : Side) (a : Tree) (m : ℕ) (b : Tree) (n : ℕ) (far : Tree) → has_black_root a ≡ true
+    → has_black_root b ≡ true → balanced_outer side a m b n far ≡ joined_at side false (joined_at side true a m b) n far
+outer_same side a m b n far j k = let e = ap not j in rw e (inner_same side a m b n far k)
+
+rebalanced-none : (side : Side) (a : Tree) (m : ℕ) (b : Tree) (n : ℕ) (far : Tree) → is_red_tree a ≡ false
+    → is_red_tree b ≡ false → rebalanced side (joined_at side false (joined_at side true a m b) n far)
+    ≡ joined_at side false (joined_at side true a m b) n far
+rebalanced-none Left a m b n far e f =
+    outer_same Left a m b n far (not-false (has_black_root a) e) (not-false (has_black_root b) f)
+rebalanced-none Right a m b n far e f =
+    outer_same Right a m b n far (not-false (has_black_root a) e) (not-false (has_black_root b) f)
+
+-- a black node over a red child, each seen from the side of the child
+record IsBlackRed (h : ℕ → Cell) (side : Side) (top near : ℕ) (t : Tree) : Type 0 where
+  a : Tree
+  b : Tree
+  far : Tree
+  is : t ≡ joined_at side false (joined_at side true a near b) top far
+  a_tree : IsTree h (child_of side (h near)) a
+  b_tree : IsTree h (child_of (opposite side) (h near)) b
+
+black_red : (side : Side) (h : ℕ → Cell) (top near : ℕ) (t : Tree) → IsTree h (Some top) t
+    → child_of side (h top) ≡ Some near → (h top).red ≡ false → (h near).red ≡ true → IsBlackRed h side top near t
+black_red side h top near t w e1 e2 e3 =
+    let p = open_side h side top t w in
+    let near_tree = rw e1 at p.near_tree in
+    let q = open_side h side near p.near near_tree in
+    record {
+      a = q.near;
+      b = q.far;
+      far = p.far;
+      is = p.is ∙ ap (λ s. joined_at side (h top).red s top p.far) q.is ∙ rw (e2, e3) refl;
+      a_tree = q.near_tree;
+      b_tree = q.far_tree;
+    }
+
+-- a red tree, seen from a side
+record IsRedAt (side : Side) (t : Tree) : Type 0 where
+  p : Tree
+  k : ℕ
+  q : Tree
+  is : t ≡ joined_at side true p k q
+
+red_at : (side : Side) (t : Tree) → is_red_tree t ≡ true → IsRedAt side t
+red_at side leaf e = absurd (false≢true e)
+red_at side (fork false l n r) e = absurd (false≢true e)
+red_at side (fork true l n r) e =
+    record { p = tree_on side l r; k = n; q = tree_on (opposite side) l r; is = fork_joined side true l n r }
+
+rotated-opposite : (side : Side) (a : Tree) (m : ℕ) (p : Tree) (k : ℕ) (q : Tree)
+    → rotated (opposite side) (joined_at side true a m (joined_at side true p k q)) ≡ joined_at side true
+    (joined_at side true a m p) k q
+rotated-opposite Left a m p k q = refl
+rotated-opposite Right a m p k q = refl
+
+blackened-joined : (side : Side) (red : Bool) (near : Tree) (n : ℕ) (far : Tree)
+    → blackened (joined_at side red near n far) ≡ joined_at side false near n far
+blackened-joined Left red near n far = refl
+blackened-joined Right red near n far = refl
+
+-- links of joined trees lead to their roots
+same_root : (side : Side) (h : ℕ → Cell) (m n : ℕ) (red : Bool) (near far : Tree)
+    → IsTree h (Some m) (joined_at side red near n far) → m ≡ n
+same_root side h m n red near far w = some_same m n (w.root ∙ root_joined side red near n far)
+
+module _ {lt : ℕ → ℕ → Bool} (strict : IsStrict lt) where
+  -- balancing a tree with no red pair changes no cell
+  pub balance_none : (side : Side) (h : ℕ → Cell) (top near : ℕ) (t : Tree) → IsTree h (Some top) t
+      → is_sorted lt (nodes_of t) ≡ true → child_of side (h top) ≡ Some near → (h top).red ≡ false → (h near).red ≡ true
+      → ((u : Tree) → IsTree h (child_of side (h near)) u → false ≡ is_red_tree u)
+      → ((u : Tree) → IsTree h (child_of (opposite side) (h near)) u → false ≡ is_red_tree u)
+      → BecomesTree h h (nodes_of t) (Some top) (rebalanced side t)
+  balance_none side h top near t w o e1 e2 e3 v1 v2 =
+      let s = black_red side h top near t w e1 e2 e3 in
+      let e = rebalanced-none side s.a near s.b top s.far (sym (v1 s.a s.a_tree)) (sym (v2 s.b s.b_tree)) in
+      let same : rebalanced side t ≡ t = ap (λ x. rebalanced side x) s.is ∙ e ∙ sym s.is in
+      record { tree = rw same w; frame = λ m i. refl }
+
+  -- balancing an outer red pair: a rotation of the cells
+  pub balance_outer : (side : Side) (h h1 h2 : ℕ → Cell) (top near risen : ℕ) (outer : Option ℕ) (t : Tree)
+      → IsTree h (Some top) t → is_sorted lt (nodes_of t) ≡ true
+      → child_of side (h top) ≡ Some near → (h top).red ≡ false → (h near).red ≡ true → child_of side (h near) ≡ outer
+      → ((u : Tree) → IsTree h outer u → true ≡ is_red_tree u) → Makes lt h h1 (Some top) (Some risen) (rotated side)
+      → Makes lt h1 h2 outer outer blackened → BecomesTree h h2 (nodes_of t) (Some risen) (rebalanced side t)
+  balance_outer side h h1 h2 top near risen outer t w o e1 e2 e3 e4 red lift blacken =
+      let s = black_red side h top near t w e1 e2 e3 in
+      let low = joined_at side false s.b top s.far in
+      let is_lifted : rotated side t ≡ joined_at side true s.a near low = ap (λ x. rotated side x) s.is
+      ∙ rotated-joined side false true s.a near s.b top s.far in
+      let first = lift t w o in
+      let turned = rw is_lifted at first in
+      let same = same_root side h1 risen near true s.a low turned.tree in
+      let nodes = nodes_of-turn side false true false true s.a near s.b top s.far in
+      let is_nodes : nodes_of t ≡ nodes_of (joined_at side false (joined_at side true s.a near s.b) top s.far) =
+      ap nodes_of s.is in
+      let order : is_sorted lt (nodes_of (joined_at side true s.a near low)) ≡ true =
+      ap (is_sorted lt) (nodes ∙ sym is_nodes)
+      ∙ o in
+      let apart = apart_of strict side true s.a near low order in
+      let joint = joint_of h1 side true s.a near low turned.tree.holds in
+      let a_root : outer ≡ root_of s.a = sym e4 ∙ s.a_tree.root in
+      let a_tree : IsTree h1 outer s.a = record { root = a_root; holds = joint.near_holds } in
+      let black = blacken s.a a_tree apart.near_rises in
+      let here : h2 near ≡ cell_at side true outer (root_of low) = black.frame near apart.not_near ∙ joint.cell
+      ∙ ap (λ x. cell_at side true x (root_of low)) (sym a_root) in
+      let whole = graft side h1 h2 h2 true s.a (blackened s.a) near low outer (nodes_of s.a) turned.tree.holds black
+      apart.not_near apart.near_of_far
+      (ap (is_in near) (nodes_of-painted false s.a) ∙ apart.not_near) apart.not_far here (λ m d. refl) in
+      let red_a : is_red_tree s.a ≡ true = sym (red s.a (record { root = a_root; holds = s.a_tree.holds })) in
+      let is_balanced : rebalanced side t ≡ joined_at side true (blackened s.a) near low =
+      ap (λ x. rebalanced side x) s.is ∙ rebalanced-outer side s.a near s.b top s.far red_a in
+      record {
+        tree = rw (is_balanced, same) whole;
+        frame = λ m i.
+            let i' : is_in m (nodes_of (joined_at side true s.a near low)) ≡ false =
+            ap (is_in m) (nodes ∙ sym is_nodes) ∙ i in
+            let p = outside_all side true s.a near low m i' in
+            black.frame m p.near_out ∙ (lift t w o).frame m i;
+      }
+
+  balance_inner_at : (side : Side) (h h1 h2 h3 h4 : ℕ → Cell) (a : Tree) (near : ℕ) (p : Tree) (k : ℕ) (q : Tree)
+      (top : ℕ) (far : Tree) (lower risen : ℕ)
+      → AreCellsOf h (joined_at side false (joined_at side true a near (joined_at side true p k q)) top far)
+      → is_sorted lt (nodes_of (joined_at side false (joined_at side true a near (joined_at side true p k q)) top far))
+      ≡ true → Makes lt h h1 (Some near) (Some lower) (rotated (opposite side))
+      → h2 ≡ with_child side h1 top (Some lower) → Makes lt h2 h3 (Some top) (Some risen) (rotated side)
+      → h4 ≡ with_red h3 near false
+      → BecomesTree h h4 (nodes_of (joined_at side false (joined_at side true a near (joined_at side true p k q))
+      top far))
+      (Some risen) (joined_at side true (joined_at side false a near p) k (joined_at side false q top far))
+  balance_inner_at side h h1 h2 h3 h4 a near p k q top far lower risen w o lift1 set lift2 blacken =
+      let old = joined_at side true a near (joined_at side true p k q) in
+      let new = joined_at side true (joined_at side true a near p) k q in
+      let joint = joint_of h side false old top far w in
+      let apart = apart_of strict side false old top far o in
+      let old_tree : IsTree h (Some near) old =
+      record { root = sym (root_joined side true a near (joined_at side true p k q)); holds = joint.near_holds } in
+      let l1 = rw (rotated-opposite side a near p k q) at (lift1 old old_tree apart.near_rises) in
+      let same1 = same_root side h1 lower k true (joined_at side true a near p) q l1.tree in
+      let nodes1 : nodes_of new ≡ nodes_of old = sym (nodes_of-turn side true true true true a near p k q) in
+      let set_at : (m : ℕ) → h2 m ≡ with_child side h1 top (Some lower) m = λ m. ap (λ (f : ℕ → Cell). f m) set in
+      let top_cell = set_at top ∙ with_child-near side h1 top false (root_of old) (root_of far) (Some lower)
+      (l1.frame top apart.not_near ∙ joint.cell) in
+      let rest2 : (m : ℕ) → (m ≡ top → ⊥) → h2 m ≡ h1 m = λ m d. set_at m
+      ∙ with_child-other side h1 top m (Some lower) d in
+      let t2 = graft side h h1 h2 false old new top far (Some lower) (nodes_of old) w l1 apart.not_near
+      apart.near_of_far (ap (is_in top) nodes1 ∙ apart.not_near) apart.not_far top_cell rest2 in
+      let nodes2 = nodes_of-joined side false false old new top far nodes1 in
+      let o2 : is_sorted lt (nodes_of (joined_at side false new top far)) ≡ true = ap (is_sorted lt) nodes2 ∙ o in
+      let low = joined_at side false q top far in
+      let up = joined_at side true a near p in
+      let l2 = rw (rotated-joined side false true up k q top far) at (lift2 (joined_at side false new top far) t2 o2) in
+      let same2 = same_root side h3 risen k true up low l2.tree in
+      let nodes3 = nodes_of-turn side false true false true up k q top far in
+      let o3 : is_sorted lt (nodes_of (joined_at side true up k low)) ≡ true = ap (is_sorted lt) nodes3 ∙ o2 in
+      let apart3 = apart_of strict side true up k low o3 in
+      let joint3 = joint_of h3 side true up k low l2.tree.holds in
+      let up_tree : IsTree h3 (Some near) up =
+      record { root = sym (root_joined side true a near p); holds = joint3.near_holds } in
+      let black = rw (blackened-joined side true a near p) at
+      (paint_turns strict h3 h4 near false up up_tree apart3.near_rises blacken) in
+      let nodes4 = nodes_of-painted false up in
+      let top4 : h4 k ≡ cell_at side true (Some near) (root_of low) =
+      black.frame k apart3.not_near ∙ joint3.cell
+      ∙ ap (λ x. cell_at side true x (root_of low)) (root_joined side true a near p) in
+      let k_out : is_in k (nodes_of (joined_at side false a near p)) ≡ false =
+      ap (λ x. is_in k (nodes_of x)) (sym (blackened-joined side true a near p)) ∙ ap (is_in k) nodes4
+      ∙ apart3.not_near in
+      let whole = graft side h3 h4 h4 true up (joined_at side false a near p) k low (Some near)
+      (nodes_of up) l2.tree.holds black apart3.not_near apart3.near_of_far k_out apart3.not_far top4 (λ m d. refl) in
+      record {
+        tree = rw same2 whole;
+        frame = λ m i.
+            let i2 : is_in m (nodes_of (joined_at side false new top far)) ≡ false = ap (is_in m) nodes2 ∙ i in
+            let i3 : is_in m (nodes_of (joined_at side true up k low)) ≡ false = ap (is_in m) nodes3 ∙ i2 in
+            let out = outside_all side false old top far m i in
+            let out3 = outside_all side true up k low m i3 in
+            black.frame m out3.near_out ∙ l2.frame m i2 ∙ rest2 m out.root_out ∙ l1.frame m out.near_out;
+      }
+
+  -- balancing an inner red pair: two rotations of the cells
+  pub balance_inner : (side : Side) (h h1 h2 h3 h4 : ℕ → Cell) (top near lower risen : ℕ) (inner : Option ℕ) (t : Tree)
+      → IsTree h (Some top) t → is_sorted lt (nodes_of t) ≡ true
+      → child_of side (h top) ≡ Some near → (h top).red ≡ false → (h near).red ≡ true
+      → child_of (opposite side) (h near) ≡ inner
+      → ((u : Tree) → IsTree h (child_of side (h near)) u → false ≡ is_red_tree u)
+      → ((u : Tree) → IsTree h inner u → true ≡ is_red_tree u)
+      → Makes lt h h1 (Some near) (Some lower) (rotated (opposite side)) → h2 ≡ with_child side h1 top (Some lower)
+      → Makes lt h2 h3 (Some top) (Some risen) (rotated side) → h4 ≡ with_red h3 near false
+      → BecomesTree h h4 (nodes_of t) (Some risen) (rebalanced side t)
+  balance_inner side h h1 h2 h3 h4 top near lower risen inner t w o e1 e2 e3 e4 outer_black inner_red lift1 set lift2
+      blacken =
+      let s = black_red side h top near t w e1 e2 e3 in
+      let b_root : inner ≡ root_of s.b = sym e4 ∙ s.b_tree.root in
+      let r = red_at side s.b (sym (inner_red s.b (record { root = b_root; holds = s.b_tree.holds }))) in
+      let is : t ≡ joined_at side false (joined_at side true s.a near (joined_at side true r.p r.k r.q)) top s.far =
+      s.is ∙ ap (λ x. joined_at side false (joined_at side true s.a near x) top s.far) r.is in
+      let turned = balance_inner_at side h h1 h2 h3 h4 s.a near r.p r.k r.q top s.far lower risen (rw is at w.holds)
+      (rw is at o) lift1 set lift2 blacken in
+      let is_balanced : rebalanced side t ≡ joined_at side true (joined_at side false s.a near r.p) r.k
+      (joined_at side false r.q top s.far) =
+      ap (λ x. rebalanced side x) is ∙ rebalanced-inner side s.a near r.p r.k r.q top s.far
+      (sym (outer_black s.a s.a_tree)) in
+      record { tree = rw is_balanced turned.tree; frame = λ m i. let i' = rw is at i in turned.frame m i' }

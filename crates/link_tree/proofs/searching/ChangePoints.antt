@@ -1,0 +1,165 @@
+-- What a search notes on its way down says where an insertion or a removal would begin.
+use Rattle.std.proofs.Common.{◌≡◌, ℕ, Bool, true, false, not, Option, Some, None, nat_eq, refl, sym, ap, ◌∙◌, inl, inr}
+use Rattle.std.specs.Prelude.{IfSome, if◌then◌else◌}
+use Rattle.std.specs.Option.{option_or}
+use Rattle.std.proofs.lemmas.Bool.{cases_Bool, eq-eqb, false_from_ne_true, ne_eqb, true≢false}
+use Rattle.std.proofs.lemmas.Option.{none-some}
+use Rattle.link_tree.specs.Tree.{Tree, leaf, fork, nodes_of, has_black_root, is_sorted}
+use Rattle.link_tree.specs.Nodes.{first_not_before, is_in}
+use Rattle.link_tree.specs.Searching.{noted}
+use Rattle.link_tree.specs.Ways.{insert_point_of, entry_over, remove_point_of, exit_over, followed, passed}
+use Rattle.link_tree.specs.declared.change_points.Followed.{Followed}
+use Rattle.link_tree.specs.declared.change_points.Passed.{Passed}
+use Rattle.link_tree.proofs.trees.OrderedLists.{IsStrict, Splits, all_at, all_from, in_left, in_middle, in_right}
+use Rattle.link_tree.proofs.trees.OrderedLists.{rises_split}
+use Rattle.link_tree.proofs.searching.Neighbours.{first_from, first_in, first_not_before-left, first_not_before-right}
+use Rattle.link_tree.proofs.searching.Neighbours.{or_none}
+
+either_none : (b : Bool) (a : Option ℕ) → option_or a (if b then None else None) ≡ a
+either_none true a = or_none a
+either_none false a = or_none a
+
+-- ---- where an insertion begins
+
+-- below the node that was passed last, or with what was noted above it
+abbrev entry_with : Passed → Tree → Option ℕ → Option ℕ
+entry_with notes t below = option_or below (if has_black_root t then option_or notes.above notes.entry else notes.entry)
+
+entry_step : (notes : Passed) (red : Bool) (l : Tree) (n : ℕ) (r next : Tree) (below : Option ℕ) (before : Bool)
+    → entry_with (passed notes n red before) next below ≡ entry_with notes (fork red l n r)
+    (entry_over red n next below)
+entry_step notes red l n r next (Some m) before = refl
+entry_step notes true l n r next None before =
+    elim (cases_Bool (has_black_root next)) [ inl k ↦ rw k refl | inr k ↦ rw k refl ]
+entry_step notes false l n r next None before =
+    elim (cases_Bool (has_black_root next)) [ inl k ↦ rw k refl | inr k ↦ rw k refl ]
+
+entry_noted : (before : ℕ → Bool) (notes : Passed) (t : Tree)
+    → option_or (noted passed before notes t).above (noted passed before notes t).entry
+    ≡ entry_with notes t (insert_point_of before t)
+entry_noted before notes leaf = refl
+entry_noted before notes (fork red l n r) =
+    elim (cases_Bool (before n)) [
+      | inl e ↦ rw e (entry_noted before (passed notes n red true) r
+          ∙ entry_step notes red l n r r (insert_point_of before r) true)
+      | inr e ↦ rw e (entry_noted before (passed notes n red false) l
+          ∙ entry_step notes red l n r l (insert_point_of before l) false)
+    ]
+
+-- what a search notes of an insertion is where it would begin
+pub way_in : {lt : ℕ → ℕ → Bool} {before : ℕ → Bool} → ((a b : ℕ) → lt a b ≡ true → before b ≡ true → before a ≡ true)
+    → (notes : Passed) (t : Tree) → is_sorted lt (nodes_of t) ≡ true
+    → notes ≡ noted passed before (record { node = None; above = None; entry = None }) t
+    → (notes.node ≡ first_not_before before (nodes_of t))
+    × (option_or notes.above notes.entry ≡ insert_point_of before t)
+way_in {before = before} agrees notes t o e =
+    let start : Passed = record { node = None; above = None; entry = None } in (
+      ap (λ (m : Passed). m.node) e
+          ∙ first_from agrees passed (λ (m : Passed). m.node) (λ m n red b. refl) start t o refl,
+      rw e (entry_noted before start t ∙ either_none (has_black_root t) (insert_point_of before t)),
+    )
+
+-- ---- where a removal begins
+
+-- of the node that is found in a tree, or else of the last one that was found above it
+abbrev exit_with : (ℕ → ℕ → Bool) → Followed → Tree → Option ℕ → Option ℕ
+exit_with lt notes t None = notes.of_node
+exit_with lt notes t (Some x) =
+    option_or (remove_point_of lt x t) (if has_black_root t then notes.exit else notes.above)
+
+exit_step : (notes : Followed) (red : Bool) (n : ℕ) (next : Tree) (below : Option ℕ)
+    → option_or below (if has_black_root next then (if red then notes.above else notes.exit) else Some n)
+    ≡ option_or (exit_over n next below) (if not red then notes.exit else notes.above)
+exit_step notes red n next (Some m) = refl
+exit_step notes true n next None = elim (cases_Bool (has_black_root next)) [ inl k ↦ rw k refl | inr k ↦ rw k refl ]
+exit_step notes false n next None = elim (cases_Bool (has_black_root next)) [ inl k ↦ rw k refl | inr k ↦ rw k refl ]
+
+module _ {lt : ℕ → ℕ → Bool} (strict : IsStrict lt) (before : ℕ → Bool) where
+  exit_right : (notes : Followed) (red : Bool) (l : Tree) (n : ℕ) (r : Tree) → Splits lt (nodes_of l) n (nodes_of r)
+      → (o : Option ℕ) → first_not_before before (nodes_of r) ≡ o
+      → exit_with lt (followed notes n red true) r o ≡ exit_with lt notes (fork red l n r) o
+  exit_right notes red l n r sp None e = refl
+  exit_right notes red l n r sp (Some x) e =
+      let k : lt n x ≡ true = all_at (lt n) (nodes_of r) x sp.above (first_in before (nodes_of r) x e) in
+      let d : nat_eq n x ≡ false = ne_eqb n x (λ q. true≢false (sym k ∙ rw q (strict.irreflexive x))) in
+      let a : lt x n ≡ false = false_from_ne_true (lt x n)
+      (λ i. true≢false (sym (strict.transitive n x n k i) ∙ strict.irreflexive n)) in
+      rw (d, a) (exit_step notes red n r (remove_point_of lt x r))
+
+  exit_left : (notes : Followed) (red : Bool) (l : Tree) (n : ℕ) (r : Tree) → Splits lt (nodes_of l) n (nodes_of r)
+      → (o : Option ℕ) → first_not_before before (nodes_of l) ≡ o
+      → exit_with lt (followed notes n red false) l o ≡ exit_with lt notes (fork red l n r) (option_or o (Some n))
+  exit_left notes true l n r sp None e = let d = eq-eqb n n refl in rw d refl
+  exit_left notes false l n r sp None e = let d = eq-eqb n n refl in rw d refl
+  exit_left notes red l n r sp (Some x) e =
+      let k : lt x n ≡ true = all_at (λ m. lt m n) (nodes_of l) x sp.below (first_in before (nodes_of l) x e) in
+      let d : nat_eq n x ≡ false = ne_eqb n x (λ q. true≢false (sym k ∙ rw q (strict.irreflexive x))) in
+      rw (d, k) (exit_step notes red n l (remove_point_of lt x l))
+
+  module _ (agrees : (a b : ℕ) → lt a b ≡ true → before b ≡ true → before a ≡ true) where
+    exit_noted : (notes : Followed) (t : Tree) → is_sorted lt (nodes_of t) ≡ true
+        → (noted followed before notes t).of_node ≡ exit_with lt notes t (first_not_before before (nodes_of t))
+    exit_noted notes leaf o = refl
+    exit_noted notes (fork red l n r) o =
+        let a = nodes_of l in
+        let b = nodes_of r in
+        let sp = rises_split lt a n b o in
+        elim (cases_Bool (before n)) [
+          | inl e ↦
+              let passed = all_from before a (λ m i. agrees m n (all_at (λ k. lt k n) a m sp.below i) e) in
+              rw e (exit_noted (followed notes n red true) r sp.right
+              ∙ exit_right notes red l n r sp (first_not_before before b) refl
+              ∙ ap (exit_with lt notes (fork red l n r)) (sym (first_not_before-right before a n b passed e)))
+          | inr e ↦ rw e (exit_noted (followed notes n red false) l sp.left
+              ∙ exit_left notes red l n r sp (first_not_before before a) refl
+              ∙ ap (exit_with lt notes (fork red l n r)) (sym (first_not_before-left before a n b e)))
+        ]
+
+    exit_found : (t : Tree) (exit found : Option ℕ)
+        → exit ≡ exit_with lt (record { node = None; above = None; exit = None; of_node = None }) t found
+        → IfSome found (λ x. exit ≡ remove_point_of lt x t)
+    exit_found t exit None e = tt
+    exit_found t exit (Some x) e = e ∙ either_none (has_black_root t) (remove_point_of lt x t)
+
+    -- where none is found
+    exit_none : (t : Tree) (exit found : Option ℕ)
+        → exit ≡ exit_with lt (record { node = None; above = None; exit = None; of_node = None }) t found
+        → found ≡ None → exit ≡ None
+    exit_none t exit None e none = e
+    exit_none t exit (Some x) e none = absurd (none-some x (sym none))
+
+    -- what a search notes of a removal is where it would begin
+    pub way_out : (notes : Followed) (t : Tree) → is_sorted lt (nodes_of t) ≡ true
+        → notes ≡ noted followed before (record { node = None; above = None; exit = None; of_node = None }) t
+        → (notes.node ≡ first_not_before before (nodes_of t))
+        × IfSome notes.node (λ x. notes.of_node ≡ remove_point_of lt x t)
+        × (notes.node ≡ None → notes.of_node ≡ None)
+    way_out notes t o e =
+        let start : Followed = record { node = None; above = None; exit = None; of_node = None } in
+        let first : notes.node ≡ first_not_before before (nodes_of t) = ap (λ (m : Followed). m.node) e
+        ∙ first_from agrees followed (λ (m : Followed). m.node) (λ m n red b. refl) start t o refl in
+        let exit : notes.of_node ≡ exit_with lt start t notes.node = ap (λ (m : Followed). m.of_node) e
+        ∙ exit_noted start t o ∙ ap (exit_with lt start t) (sym first) in
+        (first, exit_found t notes.of_node notes.node exit, exit_none t notes.of_node notes.node exit)
+
+-- ---- searches that are the same
+
+-- what is asked of the nodes of the tree alone says where an insertion begins
+pub entry_same : (f g : ℕ → Bool) (t : Tree) → ((m : ℕ) → is_in m (nodes_of t) ≡ true → f m ≡ g m)
+    → insert_point_of f t ≡ insert_point_of g t
+entry_same f g leaf same = refl
+entry_same f g (fork red l n r) same =
+    let here = same n (in_middle (nodes_of l) n (nodes_of r)) in
+    let left = entry_same f g l (λ m i. same m (in_left m (nodes_of l) n (nodes_of r) i)) in
+    let right = entry_same f g r (λ m i. same m (in_right m (nodes_of l) n (nodes_of r) i)) in
+    rw (here, left, right) refl
+
+-- so does it for a removal, where the order of the nodes of the tree and of that node is the same
+pub exit_same : (f g : ℕ → ℕ → Bool) (x : ℕ) (t : Tree) → ((m : ℕ) → is_in m (nodes_of t) ≡ true → f x m ≡ g x m)
+    → remove_point_of f x t ≡ remove_point_of g x t
+exit_same f g x leaf same = refl
+exit_same f g x (fork red l n r) same =
+    let here = same n (in_middle (nodes_of l) n (nodes_of r)) in
+    let left = exit_same f g x l (λ m i. same m (in_left m (nodes_of l) n (nodes_of r) i)) in
+    let right = exit_same f g x r (λ m i. same m (in_right m (nodes_of l) n (nodes_of r) i)) in
+    rw (here, left, right) refl

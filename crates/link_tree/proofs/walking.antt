@@ -1,0 +1,3 @@
+-- Walks over a tree: what is ahead of a node.
+pub mod Walks
+pub mod Steps

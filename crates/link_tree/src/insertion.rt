@@ -1,0 +1,171 @@
+//! Putting a node into a tree.
+
+ghost use Rattle.std.specs.Prelude.{◌≡◌, ◌≢◌, ℕ, ◌+◌, ◌*◌, ◌<◌, ◌≤◌, ◌^◌, Bool, true, false, Option, Some, None, List};
+ghost use Rattle.std.specs.Prelude.{[], ◌∷◌, length, IfSome, IsTrue, not};
+ghost use Rattle.link_tree.specs.Tree.{Cell, Tree, leaf, fork, IsTree, IsSearchTree, nodes_of, is_sorted, height, bits};
+ghost use Rattle.link_tree.specs.Nodes.{leads, is_in, is_ordered_with, insert_in_order};
+ghost use Rattle.link_tree.specs.Turning.{BecomesTree};
+ghost use Rattle.link_tree.specs.Growing.{CanInsert, after_insert};
+ghost use Rattle.link_tree.specs.Ways.{insert_point_of};
+ghost use Rattle.link_tree.specs.Frame.{SameExceptCells};
+
+use crate::change_points::find_insert_point;
+use crate::cursor::{NodeCursorMut, Side};
+use crate::nodes::NodesMut;
+use crate::rotation::{fix_double_red, paint};
+use crate::search_adaptors::SearchForNode;
+
+/// The root of a tree after a change, and the steps that the change took.
+#[derive(Clone, Copy, Debug, PartialEq, Eq)]
+pub struct TreeChange {
+    /// The link to the tree from now on, which the caller keeps; none if no node is left.
+    pub root: Option<u64>,
+    /// How often the call went to a node.
+    pub steps: u64,
+}
+
+/// Makes the node a red one with no node below it.
+fn make_red_leaf<N: NodesMut>(visits: &mut NodeCursorMut<N>, node: u64)
+    requires node { N.is_node visits.old.nodes.now node ≡ true }
+    requires no_overflow { visits.old.steps + 3 < 2 ^ 64 }
+    ensures layout { BecomesTree (N.cells visits.old.nodes.now) (N.cells visits.new.nodes.now) (node ∷ [])
+        (Some node) (fork true leaf node leaf) }
+    ensures steps_upper { visits.new.steps ≤ visits.old.steps + 3 }
+    ensures steps_lower { visits.old.steps ≤ visits.new.steps }
+    ensures progress { visits.old.at ≡ None → visits.old.steps < visits.new.steps }
+    ensures same_borrow { visits.new.nodes.ghost_name ≡ visits.old.nodes.ghost_name }
+    ensures keeper { SameExceptCells N.Nodes visits.old.nodes.now visits.new.nodes.now }
+{
+    visits.set_child(node, Side::Left, None);
+    visits.set_child(node, Side::Right, None);
+    visits.set_red(node, true);
+}
+
+/// Puts the node into the tree that the link leads to, and returns the root of what it has become.
+fn insert_below<N: NodesMut>(visits: &mut NodeCursorMut<N>, link: Option<u64>, node: u64) -> u64
+    requires link { leads (N.is_node visits.old.nodes.now) link ≡ true }
+    requires node { N.is_node visits.old.nodes.now node ≡ true }
+    requires tree { (t : Tree)
+        × CanInsert (N.order visits.old.nodes.now) (N.cells visits.old.nodes.now) link node t
+        × (visits.old.steps + 13 * height t + 16 < 2 ^ 64) }
+    ensures growth { (t : Tree)
+        → CanInsert (N.order visits.old.nodes.now) (N.cells visits.old.nodes.now) link node t
+        → BecomesTree (N.cells visits.old.nodes.now) (N.cells visits.new.nodes.now) (node ∷ nodes_of t)
+        (Some result) (after_insert (N.order visits.old.nodes.now) node t) }
+    ensures steps { (t : Tree)
+        → CanInsert (N.order visits.old.nodes.now) (N.cells visits.old.nodes.now) link node t
+        → visits.new.steps ≤ visits.old.steps + 13 * height t + 3 }
+    ensures root { N.is_node visits.old.nodes.now result ≡ true }
+    ensures steps_lower { visits.old.steps ≤ visits.new.steps }
+    ensures progress { visits.old.at ≡ None → visits.old.steps < visits.new.steps }
+    ensures same_borrow { visits.new.nodes.ghost_name ≡ visits.old.nodes.ghost_name }
+    ensures keeper { SameExceptCells N.Nodes visits.old.nodes.now visits.new.nodes.now }
+{
+    let Some(at) = link else {
+        make_red_leaf(visits, node);
+        return node;
+    };
+    let way = visits.toward(node, at);
+    let child = insert_below(visits, way.link, node);
+    visits.set_child(at, way.side, Some(child));
+    fix_double_red(visits, at, way.side)
+}
+
+/// Puts the node into the tree, from where a search for its place has found that the tree changes.
+///
+/// Only links and colours of the tree's nodes and of the node change.
+/// A step is going to a node, with all that is read and written there before the call goes to another.
+/// Chris Okasaki, Red-Black Trees in a Functional Setting, 1999.
+pub fn insert_at<N: NodesMut>(
+    nodes: &mut N,
+    root: Option<u64>,
+    entry: Option<u64>,
+    node: u64,
+) -> TreeChange
+    requires root { leads (N.is_node nodes.old) root ≡ true }
+    requires node { N.is_node nodes.old node ≡ true }
+    // The node must precede or follow each node of the tree, and the insertion begin at the root or where
+    // `find_insert_point` says.
+    requires tree { (t : Tree) × IsSearchTree (N.order nodes.old) (N.cells nodes.old) root t
+        × IsTrue (is_ordered_with (N.order nodes.old) node (nodes_of t))
+        × IfSome entry (λ n. insert_point_of (λ m. not (N.order nodes.old node m)) t ≡ Some n) }
+    // `insert_in_order` puts the node before the first one that it precedes.
+    ensures tree { (t : Tree) → IsSearchTree (N.order nodes.old) (N.cells nodes.old) root t
+        → (after_insert : Tree) × IsSearchTree (N.order nodes.new) (N.cells nodes.new) result.root after_insert
+        × (nodes_of after_insert ≡ insert_in_order (N.order nodes.old) node (nodes_of t)) }
+    // No other node's links or colour changed.
+    ensures frame { (t : Tree) → IsSearchTree (N.order nodes.old) (N.cells nodes.old) root t
+        → (m : ℕ) → m ≢ node → is_in m (nodes_of t) ≡ false
+        → N.cells nodes.new m ≡ N.cells nodes.old m }
+    // `bits` counts binary digits, here of the number of nodes before the call and one.
+    ensures steps { (t : Tree) → IsSearchTree (N.order nodes.old) (N.cells nodes.old) root t
+        → result.steps ≤ 28 * bits (length (nodes_of t) + 1) + 32 }
+    ensures steps_lower { 0 < result.steps }
+    ensures root { leads (N.is_node nodes.new) result.root ≡ true }
+    // Nothing but links and colours changed: the nodes, their order, the reference they are reached by, and what else
+    // there is stay.
+    ensures keeper { SameExceptCells N.Nodes nodes.old nodes.new }
+{
+    let mut visits = NodeCursorMut::new(nodes);
+    if let Some(start) = entry {
+        insert_below(&mut visits, Some(start), node);
+        return TreeChange {
+            root,
+            steps: visits.steps(),
+        };
+    }
+    let top = insert_below(&mut visits, root, node);
+    paint(&mut visits, Some(top), false);
+    TreeChange {
+        root: Some(top),
+        steps: visits.steps(),
+    }
+}
+
+/// Puts the node into the tree: a search for its place, and `insert_at` where that ended. Each node on the way is
+/// compared with it, and a comparison goes to both, so the search takes two steps for each.
+///
+/// Only links and colours of the tree's nodes and of the node change.
+/// A step is going to a node, with all that is read and written there before the call goes to another.
+/// Chris Okasaki, Red-Black Trees in a Functional Setting, 1999.
+pub fn insert<N: NodesMut>(nodes: &mut N, root: Option<u64>, node: u64) -> TreeChange
+    requires root { leads (N.is_node nodes.old) root ≡ true }
+    requires node { N.is_node nodes.old node ≡ true }
+    // The node must precede or follow each node of the tree.
+    requires tree { (t : Tree) × IsSearchTree (N.order nodes.old) (N.cells nodes.old) root t
+        × IsTrue (is_ordered_with (N.order nodes.old) node (nodes_of t)) }
+    // `insert_in_order` puts the node before the first one that it precedes.
+    ensures tree { (t : Tree) → IsSearchTree (N.order nodes.old) (N.cells nodes.old) root t
+        → (after_insert : Tree) × IsSearchTree (N.order nodes.new) (N.cells nodes.new) result.root after_insert
+        × (nodes_of after_insert ≡ insert_in_order (N.order nodes.old) node (nodes_of t)) }
+    // No other node's links or colour changed.
+    ensures frame { (t : Tree) → IsSearchTree (N.order nodes.old) (N.cells nodes.old) root t
+        → (m : ℕ) → m ≢ node → is_in m (nodes_of t) ≡ false
+        → N.cells nodes.new m ≡ N.cells nodes.old m }
+    // `bits` counts binary digits, here of the number of nodes before the call and one.
+    ensures steps { (t : Tree) → IsSearchTree (N.order nodes.old) (N.cells nodes.old) root t
+        → result.steps ≤ 32 * bits (length (nodes_of t) + 1) + 32 }
+    ensures steps_lower { 0 < result.steps }
+    ensures root { leads (N.is_node nodes.new) result.root ≡ true }
+    // Nothing but links and colours changed: the nodes, their order, the reference they are reached by, and what else
+    // there is stay.
+    ensures keeper { SameExceptCells N.Nodes nodes.old nodes.new }
+{
+    // A tree with nothing in it needs no search, as that of the gaps has where there was one.
+    if root.is_none() {
+        return insert_at(nodes, root, None, node);
+    }
+    let way = find_insert_point(
+        &SearchForNode {
+            nodes: &*nodes,
+            node,
+        },
+        root,
+        &(),
+    );
+    let changed = insert_at(nodes, root, way.entry, node);
+    TreeChange {
+        root: changed.root,
+        steps: 2 * way.steps + changed.steps,
+    }
+}

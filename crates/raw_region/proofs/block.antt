@@ -1,0 +1,5 @@
+-- The machine values of memory: a part of the bytes is taken out and put back (`Parts`). These files assume `Logic`.
+pub mod Parts
+pub mod Values
+pub mod Lending
+pub mod Signatures

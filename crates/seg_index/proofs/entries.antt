@@ -1,0 +1,6 @@
+-- The entries of an index: they stay sorted (`Sorted`) if one comes or goes, or if a block moves.
+pub mod Entries
+pub mod Sorted
+pub mod Changes
+pub mod Frame
+pub mod HeapChanges

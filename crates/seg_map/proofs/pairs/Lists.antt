@@ -1,0 +1,453 @@
+-- Lists of pairs: what is found, put and removed, their nodes and their keys.
+use Rattle.seg_map.proofs.Common.{◌≡◌, refl, sym, ap, subst, ◌∙◌, inl, inr, Bool, List, ◌∷◌, map, reverse, Option, Some}
+use Rattle.seg_map.proofs.Common.{find, option_map, AllByRecursion, last_or, cases_Bool, true, false, ◌||◌, not, None}
+use Rattle.seg_map.proofs.Common.{if◌then◌else◌, and_parts, Chains, Pair, is_rising, pair_at, first_pair, ℕ, suc, ◌≢◌}
+use Rattle.seg_map.proofs.Common.{length, ◌==◌, both_ways, or_left, or_right, eq-eqb, ne_eqb, is_in, without, IsStrict}
+use Rattle.seg_map.proofs.Common.{is_key, remove_pair, nodes_of_pairs, pair_node, LiveSet, eqb-true, false≢true}
+use Rattle.seg_map.proofs.Common.{or_cases, ◌⊎◌, is_ordered_with, insert_in_order, put_pair, before_key, comes_before}
+use Rattle.seg_map.proofs.Common.{Plain}
+use Rattle.seg_map.proofs.Common.{Memory}
+use Rattle.seg_map.proofs.Common.{IsPairAt, IsPairIn, IfSome, stands, stands_before, [], or_parts, false_from_ne_true}
+use Rattle.std.proofs.lemmas.{Bool.and_from, Bool.true≢false, Bool.not-false, List.map-append}
+use Rattle.std.proofs.Common.{◌++◌, nat_eq}
+use mathlib.Core.List.{reverse-cons}
+use Rattle.link_tree.proofs.Laws.{without_none}
+
+-- what follows of each from what holds of each
+pub each : {A : Type 0} {P Q : A → Type 0} (xs : List A) → AllByRecursion P xs → ((x : A) → P x → Q x)
+    → AllByRecursion Q xs
+each [] a f = tt
+each (x ∷ xs) a f = (f x a.0, each xs a.1 f)
+
+-- what holds by two facts of each element holds of all
+pub each_both : {A : Type 0} {P Q R : A → Type 0} (xs : List A) → AllByRecursion P xs → AllByRecursion Q xs
+    → ((x : A) → P x → Q x → R x) → AllByRecursion R xs
+each_both [] a b f = tt
+each_both (x ∷ xs) a b f = (f x a.0 b.0, each_both xs a.1 b.1 f)
+
+all_append : {A : Type 0} (P : A → Type 0) (xs ys : List A) → AllByRecursion P xs → AllByRecursion P ys
+    → AllByRecursion P (xs ++ ys)
+all_append P [] ys a b = b
+all_append P (x ∷ xs) ys a b = (a.0, all_append P xs ys a.1 b)
+
+-- what holds of each holds of each of them the other way round
+pub all_reversed : {A : Type 0} (P : A → Type 0) (xs : List A) → AllByRecursion P xs → AllByRecursion P (reverse xs)
+all_reversed P [] a = tt
+all_reversed P (x ∷ xs) a = subst (AllByRecursion P) (sym (reverse-cons x xs))
+    (all_append P (reverse xs) (x ∷ []) (all_reversed P xs a.1) (a.0, tt))
+
+-- a list is mapped and reversed in either order
+pub map_reversed : {A B : Type 0} (f : A → B) (xs : List A) → reverse (map f xs) ≡ map f (reverse xs)
+map_reversed f [] = refl
+map_reversed f (x ∷ xs) = reverse-cons (f x) (map f xs) ∙ ap (λ zs. zs ++ f x ∷ []) (map_reversed f xs)
+    ∙ sym (ap (map f) (reverse-cons x xs) ∙ map-append f (reverse xs) (x ∷ []))
+
+-- where a test says of what is made of each what another says of it, the first that passes is made of the first that
+-- passes
+pub find_mapped : {A B : Type 0} (f : A → B) (test : B → Bool) (test' : A → Bool) (xs : List A)
+    → AllByRecursion (λ x. test (f x) ≡ test' x) xs → find test (map f xs) ≡ option_map f (find test' xs)
+find_mapped f test test' [] a = refl
+find_mapped f test test' (x ∷ xs) a =
+    let rest = find_mapped f test test' xs a.1 in
+    elim (cases_Bool (test' x)) [
+      | inl e ↦ rw (a.0 ∙ e, e) refl
+      | inr e ↦ rw (a.0 ∙ e, e) rest
+    ]
+
+-- the last of a mapped list is the mapped last
+pub last_mapped : {A B : Type 0} (f : A → B) (o : Option A) (xs : List A)
+    → last_or (option_map f o) (map f xs) ≡ option_map f (last_or o xs)
+last_mapped f o [] = refl
+last_mapped f o (x ∷ xs) = last_mapped f (Some x) xs
+
+-- ---- lists of pairs: the pair of a key, and pairs that are put and removed, and their nodes
+
+-- all are pairs of a map, and the bytes of each are there
+abbrev pub AreIn : {K V : Type 0} → Plain K → Plain V → LiveSet → ℕ → List (Pair K V) → Type 0
+AreIn kp vp live h = AllByRecursion (IsPairIn kp vp live h)
+
+-- the pairs stand in memory at their nodes
+abbrev pub AreAt : {K V : Type 0} → Plain K → Plain V → Memory → List (Pair K V) → Type 0
+AreAt kp vp m = AllByRecursion (IsPairAt kp.SIZE kp.spelling vp.spelling m)
+
+-- the keys are those of the pairs
+abbrev pub HaveKeys : {K V : Type 0} → (ℕ → Option K) → List (Pair K V) → Type 0
+HaveKeys {K} {V} keys ps = AllByRecursion (λ (p : Pair K V). keys (pair_node p) ≡ Some p.key) ps
+
+-- the first that is not below the key has it, or none has
+abbrev pub by_key : {K V : Type 0} → (K → K → Bool) → K → Option (Pair K V) → Option (Pair K V)
+by_key less key None = None
+by_key less key (Some p) = if less key p.key then None else Some p
+
+module _ {K V : Type 0} (less : K → K → Bool) (on : Chains less) where
+  pub none_above : (key : K) (q : Pair K V) (qs : List (Pair K V)) → is_rising less (q ∷ qs) ≡ true → less key q.key
+      ≡ true → pair_at less qs key ≡ None
+  none_above key q [] r l = refl
+  none_above key q (p ∷ ps) r l =
+      let two = and_parts _ _ r in
+      let far = on key q.key p.key l two.0 in rw far (none_above key p ps two.1 far)
+
+  -- the rest of a list whose keys rise has rising keys
+  pub rising_rest : (q : Pair K V) (qs : List (Pair K V)) → is_rising less (q ∷ qs) ≡ true → is_rising less qs ≡ true
+  rising_rest q [] r = refl
+  rising_rest q (p ∷ ps) r = (and_parts _ _ r).1
+
+  -- the pair of a key is the first one not before it, if it has that key
+  pub pair_by_key : (key : K) (ps : List (Pair K V)) → is_rising less ps ≡ true
+      → pair_at less ps key ≡ by_key less key (first_pair less false key ps)
+  pair_by_key key [] r = refl
+  pair_by_key key (q ∷ qs) r =
+      let rest = pair_by_key key qs (rising_rest q qs r) in
+      elim (cases_Bool (less q.key key)) [
+        | inl f ↦ elim (cases_Bool (less key q.key)) [ inl y ↦ rw (f, y) rest | inr n ↦ rw (f, n) rest ]
+        | inr t ↦ elim (cases_Bool (less key q.key)) [
+          | inl y ↦ rw (t, y) (none_above key q qs r y)
+          | inr n ↦ rw (t, n) refl
+        ]
+      ]
+
+-- ---- a node that is taken out
+
+-- a node that was taken out is not left
+pub none_left : (n : ℕ) (ns : List ℕ) → is_in n (without n ns) ≡ false
+none_left n [] = refl
+none_left n (m ∷ ms) =
+    elim (cases_Bool (nat_eq n m)) [ inl t ↦ rw t (none_left n ms) | inr f ↦ rw (f, f) (none_left n ms) ]
+
+-- pairs whose nodes are others
+pub other_nodes : {K V : Type 0} (n : ℕ) (ps : List (Pair K V)) → is_in n (nodes_of_pairs ps) ≡ false
+    → AllByRecursion (λ p. pair_node p ≢ n) ps
+other_nodes n [] h = tt
+other_nodes n (p ∷ ps) h =
+    let two = or_parts (n == pair_node p) (is_in n (nodes_of_pairs ps)) h in
+    ((λ e. both_ways _ two.0 (eq-eqb _ _ (sym e))), other_nodes n ps two.1)
+
+-- a node that differs from all pairs' is none of theirs
+pub not_among : {K V : Type 0} (n : ℕ) (ps : List (Pair K V)) → AllByRecursion (λ p. pair_node p ≢ n) ps
+    → is_in n (nodes_of_pairs ps) ≡ false
+not_among n [] a = refl
+not_among n (p ∷ ps) a = ap (λ (b : Bool). b || is_in n (nodes_of_pairs ps))
+    (ne_eqb n (pair_node p) (λ e. a.0 (sym e))) ∙ not_among n ps a.1
+
+-- the object's block is no node
+pub apart_all : {K V : Type 0} (kp : Plain K) (vp : Plain V) (live : LiveSet) (h : ℕ) (ps : List (Pair K V))
+    → AreIn kp vp live h ps → is_in h (nodes_of_pairs ps) ≡ false
+apart_all kp vp live h ps a = not_among h ps (each ps a (λ q i. i.apart))
+
+-- nodes of pairs that are all in a list
+pub in_from : {K V : Type 0} (ms : List ℕ) (ps : List (Pair K V)) → AllByRecursion (λ p. is_in (pair_node p) ms ≡ true)
+    ps → (m : ℕ) → is_in m (nodes_of_pairs ps) ≡ true → is_in m ms ≡ true
+in_from ms [] a m i = absurd (false≢true i)
+in_from ms (p ∷ ps) a m i =
+    elim (or_cases _ _ i) [
+      | inl e ↦ ap (λ n. is_in n ms) (eqb-true m (pair_node p) e) ∙ a.0
+      | inr e ↦ in_from ms ps a.1 m e
+    ]
+
+-- each pair's node is among the nodes
+pub nodes_in : {K V : Type 0} (ms : List ℕ) (ps : List (Pair K V)) → ((m : ℕ) → is_in m (nodes_of_pairs ps) ≡ true
+    → is_in m ms ≡ true) → AllByRecursion (λ p. is_in (pair_node p) ms ≡ true) ps
+nodes_in ms [] f = tt
+nodes_in ms (p ∷ ps) f = (
+  f (pair_node p) (or_left _ _ (eq-eqb (pair_node p) (pair_node p) refl)),
+  nodes_in ms ps (λ m i. f m (or_right _ _ i)),
+)
+
+module _ {K V : Type 0} (less : K → K → Bool) where
+  -- a pair that is found has its node among the nodes
+  pub in_nodes : (ps : List (Pair K V)) (key : K) (p : Pair K V) → pair_at less ps key ≡ Some p
+      → is_in (pair_node p) (nodes_of_pairs ps) ≡ true
+  in_nodes [] key p e = absurd (cc)
+  in_nodes (q ∷ qs) key p e =
+      elim (cases_Bool (is_key less key q)) [
+        | inl y ↦
+            let same : p ≡ q = cc in
+            or_left _ _ (eq-eqb _ _ (ap pair_node same))
+        | inr z ↦ or_right _ _ (in_nodes qs key p (rw z at e))
+      ]
+
+  -- what holds of all pairs holds of those that are left
+  pub removed_all : (P : Pair K V → Type 0) (ps : List (Pair K V)) (key : K) → AllByRecursion P ps
+      → AllByRecursion P (remove_pair less ps key)
+  removed_all P [] key a = tt
+  removed_all P (q ∷ qs) key a =
+      elim (cases_Bool (is_key less key q)) [ inl y ↦ rw y a.1 | inr z ↦ rw z (a.0, removed_all P qs key a.1) ]
+
+  -- a removed pair leaves one less
+  pub removed_length : (ps : List (Pair K V)) (key : K) (p : Pair K V) → pair_at less ps key ≡ Some p
+      → length ps ≡ suc (length (remove_pair less ps key))
+  removed_length [] key p e = absurd (cc)
+  removed_length (q ∷ qs) key p e =
+      elim (cases_Bool (is_key less key q)) [
+        | inl y ↦ rw y refl
+        | inr z ↦ rw z (ap suc (removed_length qs key p (rw z at e)))
+      ]
+
+  -- ---- rising
+
+  -- all keys are above a key
+  abbrev pub Below : K → List (Pair K V) → Type 0
+  Below key ps = AllByRecursion (λ (p : Pair K V). less key p.key ≡ true) ps
+
+  -- the first key is below all others
+  pub rising_below : Chains less → (q : Pair K V) (qs : List (Pair K V)) → is_rising less (q ∷ qs) ≡ true
+      → Below q.key qs
+  rising_below on q [] r = tt
+  rising_below on q (p ∷ ps) r =
+      let two = and_parts _ _ r in
+      (two.0, further p.key ps two.0 (rising_below on p ps two.1))
+    where
+      further : (k : K) (rs : List (Pair K V)) → less q.key k ≡ true → Below k rs → Below q.key rs
+      further k [] l b = tt
+      further k (x ∷ rs) l b = (on q.key k x.key l b.0, further k rs l b.1)
+
+  pub below_rising : (q : Pair K V) (qs : List (Pair K V)) → Below q.key qs → is_rising less qs ≡ true
+      → is_rising less (q ∷ qs) ≡ true
+  below_rising q [] b r = refl
+  below_rising q (p ∷ ps) b r = rw (b.0, r) refl
+
+  module _ (on : Chains less) where
+    -- keys still rise without a pair
+    pub removed_rising : (ps : List (Pair K V)) (key : K) → is_rising less ps ≡ true
+        → is_rising less (remove_pair less ps key) ≡ true
+    removed_rising [] key r = refl
+    removed_rising (q ∷ qs) key r =
+        let rest = rising_rest less on q qs r in
+        elim (cases_Bool (is_key less key q)) [
+          | inl y ↦ rw y rest
+          | inr z ↦ rw z (below_rising q (remove_pair less qs key) (removed_all (λ (p : Pair K V). less q.key p.key
+              ≡ true) qs key (rising_below on q qs r)) (removed_rising qs key rest))
+        ]
+
+-- behind a pair all nodes have greater keys
+none_behind : {K V : Type 0} (less : K → K → Bool) → IsStrict less
+    → (keys : ℕ → Option K) (q : Pair K V) (qs : List (Pair K V)) → keys (pair_node q) ≡ Some q.key → HaveKeys keys qs
+    → Below less q.key qs → is_in (pair_node q) (nodes_of_pairs qs) ≡ false
+none_behind less strict keys q [] e k b = refl
+none_behind {K} {V} less strict keys q (p ∷ ps) e k b = ap (λ (x : Bool). x || is_in (pair_node q) (nodes_of_pairs ps))
+    (ne_eqb _ _ differs) ∙ none_behind less strict keys q ps e k.1 b.1
+  where
+    differs : pair_node q ≡ pair_node p → ⊥
+    differs f =
+        let same : Some q.key ≡ Some p.key = sym e ∙ ap keys f ∙ k.0 in let is : q.key ≡ p.key = cc same in
+        both_ways _ (ap (less q.key) (sym is) ∙ strict q.key) b.0
+
+module _ {K V : Type 0} (less : K → K → Bool) (strict : IsStrict less) (on : Chains less) (keys : ℕ → Option K) where
+  -- the nodes without that of a pair
+  pub without_nodes : (p : Pair K V) (key : K) (ps : List (Pair K V)) → HaveKeys keys ps → is_rising less ps ≡ true
+      → pair_at less ps key ≡ Some p
+      → without (pair_node p) (nodes_of_pairs ps) ≡ nodes_of_pairs (remove_pair less ps key)
+  without_nodes p key [] k r h = absurd (cc)
+  without_nodes p key (q ∷ qs) k r h =
+      let behind = none_behind less strict keys q qs k.0 k.1 (rising_below less on q qs r) in
+      elim (cases_Bool (is_key less key q)) [
+        | inl y ↦
+            let found = rw y at h in let same : p ≡ q = cc in
+            let here : is_in (pair_node p) (nodes_of_pairs qs) ≡ false =
+            ap (λ (x : Pair K V). is_in (pair_node x) (nodes_of_pairs qs)) same ∙ behind in
+            rw (eq-eqb _ _ (ap pair_node same), y) (without_none (pair_node p) (nodes_of_pairs qs) here)
+        | inr z ↦
+            let found = rw z at h in
+            let differs : pair_node p ≡ pair_node q → ⊥ =
+            λ e. both_ways _ (ap (λ n. is_in n (nodes_of_pairs qs)) e ∙ behind) (in_nodes less qs key p found) in
+            rw (ne_eqb _ _ differs, z)
+            (ap (λ ms. pair_node q ∷ ms) (without_nodes p key qs k.1 (rising_rest less on q qs r) found))
+      ]
+
+pub either_one : (b c : Bool) → not (b || c) ≡ false → b ≡ false → c ≡ true
+either_one b c e f = rw f at (not-false (b || c) e)
+
+module _ {K V : Type 0} (less : K → K → Bool) where
+  -- a key that no pair has
+  pub absent_here : (key : K) (q : Pair K V) (qs : List (Pair K V)) → pair_at less (q ∷ qs) key ≡ None
+      → (is_key less key q ≡ false) × (pair_at less qs key ≡ None)
+  absent_here key q qs e =
+      elim (cases_Bool (is_key less key q)) [ inl y ↦ absurd (cc) | inr z ↦ (z, rw z at e) ]
+
+  -- the pair that is found is one of them, and has the key
+  pub pair_of : (P : Pair K V → Type 0) (ps : List (Pair K V)) (key : K) (p : Pair K V) → pair_at less ps key ≡ Some p
+      → AllByRecursion P ps → P p × (is_key less key p ≡ true)
+  pair_of P [] key p e a = absurd (cc)
+  pair_of P (q ∷ qs) key p e a =
+      elim (cases_Bool (is_key less key q)) [
+        | inl y ↦
+            let same : q ≡ p = cc in
+            (subst P same a.0, ap (is_key less key) (sym same) ∙ y)
+        | inr z ↦ pair_of P qs key p (rw z at e) a.1
+      ]
+
+  -- ---- a new pair
+
+  -- what holds of all pairs and of one more holds with it put in
+  pub put_all : (P : Pair K V → Type 0) (p : Pair K V) (ps : List (Pair K V)) → P p → AllByRecursion P ps
+      → AllByRecursion P (put_pair less p ps)
+  put_all P p [] h a = (h, tt)
+  put_all P p (q ∷ qs) h a =
+      elim (cases_Bool (less p.key q.key)) [
+        | inl y ↦ rw y (h, a)
+        | inr n ↦ rw n (elim (cases_Bool (less q.key p.key)) [
+          | inl y ↦ rw y (a.0, put_all P p qs h a.1)
+          | inr z ↦ rw z (h, a.1)
+        ])
+      ]
+
+  -- a new pair makes one more
+  pub put_length : (p : Pair K V) (ps : List (Pair K V)) → pair_at less ps p.key ≡ None
+      → length (put_pair less p ps) ≡ suc (length ps)
+  put_length p [] e = refl
+  put_length p (q ∷ qs) e =
+      let two = absent_here p.key q qs e in
+      elim (cases_Bool (less p.key q.key)) [
+        | inl y ↦ rw y refl
+        | inr n ↦ rw (n, either_one _ _ two.0 n) (ap suc (put_length p qs two.1))
+      ]
+
+  -- keys still rise with a pair put in
+  pub put_rising : Chains less → (p : Pair K V) (ps : List (Pair K V))
+      → pair_at less ps p.key ≡ None → is_rising less ps ≡ true → is_rising less (put_pair less p ps) ≡ true
+  put_rising on p [] e r = refl
+  put_rising on p (q ∷ qs) e r =
+      let two = absent_here p.key q qs e in
+      elim (cases_Bool (less p.key q.key)) [
+        | inl y ↦ rw y (rw (y, r) refl)
+        | inr n ↦
+            let below = either_one _ _ two.0 n in
+            rw (n, below) (below_rising less q (put_pair less p qs) (put_all (λ (x : Pair K V). less q.key x.key ≡ true)
+            p qs below (rising_below less on q qs r)) (put_rising on p qs two.1 (rising_rest less on q qs r)))
+      ]
+
+  module _ (keys : ℕ → Option K) (p : Pair K V) (own : keys (pair_node p) ≡ Some p.key) where
+    -- the node has a place among those of the others
+    pub place_of : (ps : List (Pair K V)) → HaveKeys keys ps → pair_at less ps p.key ≡ None
+        → is_ordered_with (comes_before less keys) (pair_node p) (nodes_of_pairs ps) ≡ true
+    place_of [] k e = refl
+    place_of (q ∷ qs) k e =
+        let two = absent_here p.key q qs e in
+        and_from (comes_before less keys (pair_node p) (pair_node q) || comes_before less keys (pair_node q)
+        (pair_node p)) (is_ordered_with (comes_before less keys) (pair_node p) (nodes_of_pairs qs))
+        ((λ i. before_key less (own i) (k.0 i) || before_key less (k.0 i) (own i))
+        ∙ not-false (less p.key q.key || less q.key p.key) two.0) (place_of qs k.1 two.1)
+
+    -- the nodes with that of a new pair
+    pub put_nodes : (ps : List (Pair K V)) → HaveKeys keys ps → pair_at less ps p.key ≡ None
+        → insert_in_order (comes_before less keys) (pair_node p) (nodes_of_pairs ps)
+        ≡ nodes_of_pairs (put_pair less p ps)
+    put_nodes [] k e = refl
+    put_nodes (q ∷ qs) k e =
+        let two = absent_here p.key q qs e in
+        let same : comes_before less keys (pair_node p) (pair_node q) ≡ less p.key q.key = λ i.
+        before_key less (own i) (k.0 i) in
+        elim (cases_Bool (less p.key q.key)) [
+          | inl y ↦ rw (same ∙ y, y) refl
+          | inr n ↦ rw (same ∙ n, n, either_one _ _ two.0 n)
+              (ap (λ (ms : List ℕ). pair_node q ∷ ms) (put_nodes qs k.1 two.1))
+        ]
+
+  -- ---- a pair in the place of another
+
+  module _ (on : Chains less) (p p' : Pair K V) (same : p'.key ≡ p.key) where
+    -- the pair with the key stands behind this one, or is it
+    later : (q : Pair K V) (qs : List (Pair K V)) → is_rising less (q ∷ qs) ≡ true
+        → pair_at less (q ∷ qs) p'.key ≡ Some p → less p'.key q.key ≡ false
+    later q qs r e =
+        elim (cases_Bool (less p'.key q.key)) [
+          | inl y ↦ let f = rw y at e in let g = none_above less on p'.key q qs r y in absurd (cc)
+          | inr n ↦ n
+        ]
+
+    module _ (P Q : Pair K V → Type 0) (step : (q : Pair K V) → P q
+        → (less p'.key q.key ≡ true) ⊎ (less q.key p'.key ≡ true) → Q q) (own : Q p') where
+      behind : (qs : List (Pair K V)) → Below less p'.key qs → AllByRecursion P qs → AllByRecursion Q qs
+      behind [] b a = tt
+      behind (q ∷ qs) b a = (step q a.0 (inl b.0), behind qs b.1 a.1)
+
+      pub replaced_all : (ps : List (Pair K V)) → is_rising less ps ≡ true → pair_at less ps p'.key ≡ Some p
+          → AllByRecursion P ps → AllByRecursion Q (put_pair less p' ps)
+      replaced_all [] r e a = absurd (cc)
+      replaced_all (q ∷ qs) r e a =
+          let n = later q qs r e in
+          elim (cases_Bool (less q.key p'.key)) [
+            | inl y ↦ rw (n, y) (step q a.0 (inr y), replaced_all qs (rising_rest less on q qs r) (rw (n, y) at e) a.1)
+            | inr z ↦
+                let is : q.key ≡ p'.key = cc in
+                rw (n, z) (own, behind qs (subst (λ k. Below less k qs) is (rising_below less on q qs r)) a.1)
+          ]
+
+    -- a pair put over another keeps the nodes
+    pub replaced_nodes : pair_node p' ≡ pair_node p → (ps : List (Pair K V)) → is_rising less ps ≡ true
+        → pair_at less ps p'.key ≡ Some p → nodes_of_pairs (put_pair less p' ps) ≡ nodes_of_pairs ps
+    replaced_nodes at [] r e = absurd (cc)
+    replaced_nodes at (q ∷ qs) r e =
+        let n = later q qs r e in
+        elim (cases_Bool (less q.key p'.key)) [
+          | inl y ↦ rw (n, y) (ap (λ (ms : List ℕ). pair_node q ∷ ms)
+              (replaced_nodes at qs (rising_rest less on q qs r) (rw (n, y) at e)))
+          | inr z ↦
+              let is : p ≡ q = cc in
+              rw (n, z) (ap (λ (m : ℕ). m ∷ nodes_of_pairs qs) (at ∙ ap pair_node is))
+        ]
+
+    -- keys still rise with a pair put over another
+    pub replaced_rising : (ps : List (Pair K V)) → is_rising less ps ≡ true → pair_at less ps p'.key ≡ Some p
+        → is_rising less (put_pair less p' ps) ≡ true
+    replaced_rising [] r e = absurd (cc)
+    replaced_rising (q ∷ qs) r e =
+        let n = later q qs r e in let rest = rising_rest less on q qs r in
+        elim (cases_Bool (less q.key p'.key)) [
+          | inl y ↦
+              let found = rw (n, y) at e in
+              rw (n, y) (below_rising less q (put_pair less p' qs)
+              (replaced_all (λ (x : Pair K V). less q.key x.key ≡ true) (λ (x : Pair K V). less q.key x.key ≡ true)
+              (λ x h o. h) y qs rest found (rising_below less on q qs r)) (replaced_rising qs rest found))
+          | inr z ↦
+              let is : q.key ≡ p'.key = cc in
+              rw (n, z) (below_rising less p' qs (subst (λ k. Below less k qs) is (rising_below less on q qs r)) rest)
+        ]
+
+-- ---- what is known of a beginning
+
+-- what was found is there
+pub known : (start o : Option ℕ) → start ≡ o → IfSome start (λ n. o ≡ Some n)
+known None o e = tt
+known (Some n) o e = sym e
+
+-- what is said of the node that was found is said of what is left of it
+pub narrowed : (r f : Option ℕ) (P : ℕ → Type 0) → IfSome r (λ n. f ≡ Some n) → IfSome f P → IfSome r P
+narrowed None f P e h = tt
+narrowed (Some n) f P e h = let k = rw e at h in k
+
+-- ---- keys of nodes
+
+-- two ways to read keys that read those of the pairs read the same of their nodes
+pub keys_agree : {K V : Type 0} (f g : ℕ → Option K) (ps : List (Pair K V)) → HaveKeys f ps → HaveKeys g ps → (m : ℕ)
+    → is_in m (nodes_of_pairs ps) ≡ true → f m ≡ g m
+keys_agree f g [] k j m i = absurd (false≢true i)
+keys_agree f g (p ∷ ps) k j m i =
+    elim (or_cases _ _ i) [
+      | inl e ↦ let here = eqb-true m (pair_node p) e in ap f here ∙ k.0 ∙ sym (ap g here ∙ j.0)
+      | inr e ↦ keys_agree f g ps k.1 j.1 m e
+    ]
+
+module _ {K : Type 0} (less : K → K → Bool) (irreflexive : IsStrict less) (transitive : Chains less) where
+  -- of two keys of which one is below the other, one is not
+  one_side : (x y : K) → not (less x y || less y x) ≡ false → less y x ≡ not (less x y)
+  one_side x y e =
+      elim (cases_Bool (less x y)) [
+        | inl a ↦ rw a (false_from_ne_true (less y x) (λ b. true≢false (sym (transitive x y x a b) ∙ irreflexive x)))
+        | inr a ↦ rw a (either_one _ _ e a)
+      ]
+
+  -- the nodes that stand before a key are those that its node does not come before
+  pub beside : {V : Type 0} (keys : ℕ → Option K) (p : Pair K V) → keys (pair_node p) ≡ Some p.key
+      → (ps : List (Pair K V)) → HaveKeys keys ps → pair_at less ps p.key ≡ None → (m : ℕ) → is_in m (nodes_of_pairs ps)
+      ≡ true → stands_before less keys false p.key m ≡ not (comes_before less keys (pair_node p) m)
+  beside keys p own [] k absent m i = absurd (false≢true i)
+  beside keys p own (q ∷ qs) k absent m i =
+      let two = absent_here less p.key q qs absent in
+      elim (or_cases _ _ i) [
+        | inl e ↦
+            let key : keys m ≡ Some q.key = ap keys (eqb-true m (pair_node q) e) ∙ k.0 in
+            ap (stands less false p.key) key ∙ one_side p.key q.key two.0
+            ∙ sym (λ j. not (before_key less (own j) (key j)))
+        | inr e ↦ beside keys p own qs k.1 two.1 m e
+      ]

@@ -1,0 +1,36 @@
+use Rattle.std.proofs.Common.{◌≡◌, ◌<◌, ◌^◌, false, ap, rules, ◌∙◌, arith}
+use Rattle.segment_answers.specs.Numbers.{has_number, is_in_text}
+use Rattle.segment_answers.proofs.numbering.Texts.{number_end, number_text, part_end, part_text}
+use Rattle.segment_answers.proofs.numbered_output.NumberedOutput.put_number.Goals as goal
+
+pub invariant_of-self : goal.invariant_of-self
+invariant_of-self g c =
+    let was = c.args.self.now in
+    let old = (g.O.Sink.history was.inner).bytes in
+    let new = (g.O.Sink.history c.put_pieces.new.out).bytes in
+    let front : is_in_text false old ≡ false = was.place ∙ ap has_number c.requires.front in
+    let fits : was.number < 2 ^ 64 = search rules in
+    record {
+      few = omega (arith, was.few, c.in-Ok.ensures.counted);
+      told = number_text was.number fits old new front c.in-Ok.ensures.ok ∙ was.told;
+      place = number_end was.number fits old new front c.in-Ok.ensures.ok;
+      passing = was.passing;
+      broken = λ e. cc;
+      faultless = λ h. omega (arith, was.faultless h, c.in-Ok.ensures.counted);
+    }
+
+pub invariant_of-self-in-Err : goal.invariant_of-self-in-Err
+invariant_of-self-in-Err g c =
+    let was = c.args.self.now in
+    let old = (g.O.Sink.history was.inner).bytes in
+    let new = (g.O.Sink.history c.put_pieces.new.out).bytes in
+    let front : is_in_text false old ≡ false = was.place ∙ ap has_number c.requires.front in
+    let fits : was.number < 2 ^ 64 = search rules in
+    record {
+      few = omega (arith, was.few, c.in-Err.ensures.counted);
+      told = part_text was.number fits old new front c.in-Err.ensures.err ∙ was.told;
+      place = part_end was.number fits old new front c.in-Err.ensures.err;
+      passing = was.passing;
+      broken = λ e. omega (arith, c.in-Err.ensures.counted);
+      faultless = λ h. omega (arith, c.in-Err.ensures.counted);
+    }

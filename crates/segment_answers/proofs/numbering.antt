@@ -1,0 +1,2 @@
+-- Numbers in front of lines, and the texts of several lines that they stand beside.
+pub mod Texts

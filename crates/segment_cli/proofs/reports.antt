@@ -1,0 +1,2 @@
+-- What the program says of its faults, and the status that it ends with.
+pub mod Lines

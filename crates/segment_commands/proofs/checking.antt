@@ -1,0 +1,2 @@
+-- Checks of several files.
+pub mod Files

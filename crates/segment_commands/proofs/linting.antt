@@ -1,0 +1,2 @@
+-- Lints: how one ends.
+pub mod Ends

@@ -1,0 +1,4 @@
+-- Runs: how one ends (`Ends`), from the segment that it began with.
+pub mod Ends
+pub mod Start
+pub mod Session

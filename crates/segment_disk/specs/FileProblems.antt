@@ -1,0 +1,36 @@
+-- What an error of the system says of a file.
+use Rattle.std.specs.Prelude.{◌==◌, ◌-◌, ℕ, Bool, true, List, Option, Some, None, length, slice_get, if◌then◌else◌}
+use Rattle.std_io.specs.declared.io.kind.ErrorKind.{ErrorKind}
+use Rattle.std_io.specs.declared.io.kind.ErrorKind.TheVariants.{AlreadyExists, NotFound, PermissionDenied, IsADirectory}
+use Rattle.segment_disk.specs.declared.presence.CreateMode.{CreateMode}
+use Rattle.segment_disk.specs.declared.presence.CreateMode.TheVariants.{New, Truncate, Replacement}
+use Rattle.segment_disk.specs.declared.presence.FileProblem.{FileProblem}
+use Rattle.segment_disk.specs.declared.presence.FileProblem.TheVariants.{Missing, NoParentFolder, Unnamed, Folder}
+use Rattle.segment_disk.specs.declared.presence.FileProblem.TheVariants.{Denied, Exists}
+
+-- of a file that was to be opened
+abbrev pub problem_of : ErrorKind → Option FileProblem
+problem_of NotFound = Some Missing
+problem_of IsADirectory = Some Folder
+problem_of PermissionDenied = Some Denied
+problem_of AlreadyExists = Some Exists
+problem_of _ = None
+
+-- no file can be made by this path: it is empty, or ends as that of a folder does
+abbrev pub ends_none : Option ℕ → Bool
+ends_none None = true
+ends_none (Some last) = last == 0x2F
+
+abbrev pub names_none : List ℕ → Bool
+names_none path = ends_none (slice_get path (length path - 1))
+
+-- of a file that was to be made by a path, or beside the file of one
+abbrev pub problem_where : Bool → Option FileProblem → Option FileProblem
+problem_where unnamed (Some Missing) = if unnamed then Some Unnamed else Some NoParentFolder
+problem_where unnamed (Some Folder) = if unnamed then Some Unnamed else Some Folder
+problem_where unnamed trouble = trouble
+
+abbrev pub creation_problem : ErrorKind → List ℕ → CreateMode → Option FileProblem
+creation_problem kind path Replacement = problem_of kind
+creation_problem kind path New = problem_where (names_none path) (problem_of kind)
+creation_problem kind path Truncate = problem_where (names_none path) (problem_of kind)

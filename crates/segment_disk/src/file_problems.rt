@@ -1,0 +1,46 @@
+//! What an error of the system says of a file.
+ghost use Rattle.std.specs.Prelude.{◌≡◌};
+ghost use Rattle.segment_disk.specs.FileProblems.{creation_problem, names_none, problem_of};
+
+use crate::presence::{CreateMode, FileProblem};
+use std::io::ErrorKind;
+
+/// What an error says of a file that was to be opened.
+pub(crate) fn problem_of(kind: ErrorKind) -> Option<FileProblem>
+    ensures { result ≡ problem_of kind }
+{
+    match kind {
+        ErrorKind::NotFound => Some(FileProblem::Missing),
+        ErrorKind::IsADirectory => Some(FileProblem::Folder),
+        ErrorKind::PermissionDenied => Some(FileProblem::Denied),
+        ErrorKind::AlreadyExists => Some(FileProblem::Exists),
+        _ => None,
+    }
+}
+
+/// Whether no file can be made by a path, whatever there is: it is empty, or ends as that of a folder does.
+fn names_none(path: &str) -> bool
+    ensures { result ≡ names_none path.now }
+{
+    match path.as_bytes().last() {
+        Some(last) => *last == b'/',
+        None => true,
+    }
+}
+
+/// What an error says of a file that was to be made.
+pub(crate) fn creation_problem(kind: ErrorKind, path: &str, how: CreateMode) -> Option<FileProblem>
+    ensures { result ≡ creation_problem kind path.now how }
+{
+    let trouble = problem_of(kind);
+    if how == CreateMode::Replacement {
+        return trouble;
+    }
+    match trouble {
+        Some(FileProblem::Missing | FileProblem::Folder) if names_none(path) => Some(
+            FileProblem::Unnamed,
+        ),
+        Some(FileProblem::Missing) => Some(FileProblem::NoParentFolder),
+        _ => trouble,
+    }
+}

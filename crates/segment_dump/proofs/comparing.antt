@@ -1,0 +1,2 @@
+-- Comparing a text with the dump of a segment.
+pub mod Comparison

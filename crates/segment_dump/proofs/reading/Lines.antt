@@ -1,0 +1,167 @@
+-- Lines and words of a text are read.
+use Rattle.segment_dump.proofs.Common.{◌≡◌, ◌≢◌, ℕ, suc, ◌+◌, ◌<◌, ◌==◌, Bool, true, false, List, [], ◌∷◌, ◌++◌, length}
+use Rattle.segment_dump.proofs.Common.{take, drop, cond, not, nat_lt, Option, Some, None, Result, Ok, Err, refl, sym}
+use Rattle.segment_dump.proofs.Common.{ap, ◌∙◌, arith, append_assoc, position, length-append, take-append_seam}
+use Rattle.segment_dump.proofs.Common.{nat_tests, number, next_word, Word, Bare, Text, number_of, ReadsLine, ReadsThis}
+use Rattle.segment_dump.proofs.Common.{ReadsWord, any_word, bare_word, HasNoEnd, ended, lt-ltb}
+use Rattle.std.specs.List.{position_or_len}
+use Rattle.std.proofs.Math.Seq.{drop-append_seam}
+use Rattle.segment_dump.proofs.texts.Options.{never-ok, none-some, ok-same, same_Some}
+
+-- ---- a word
+
+no-bare : {E : Type 0} (text rest : List ℕ) (e : E) (w : Word) (a : List ℕ) (x : ℕ)
+    → ReadsWord bare_word text rest (Err e) → next_word text ≡ Some (w, a) → number w ≡ Some x → ⊥
+no-bare text rest e (Bare v) a x h f g = never-ok e v (h.reads (Bare v) a v f refl).0
+no-bare text rest e (Text v) a x h f g = none-some x g
+
+module _ {E : Type 0} (text rest : List ℕ) where
+  -- none was read
+  pub no-word : {X : Type 0} (value : Word → Option X) (e : E) (result : Result X E)
+      → ReadsWord any_word text rest (Err e) → ReadsWord value text rest result
+  no-word value e result h = record { reads = λ w a x f g. absurd (never-ok e w (h.reads w a w f refl).0) }
+
+  -- this one was
+  pub this-word : {X : Type 0} (value : Word → Option X) (w : Word) (y : X)
+      → ReadsWord {E = E} any_word text rest (Ok w) → value w ≡ Some y → ReadsWord {E = E} value text rest (Ok y)
+  this-word {X} value w y h e = record {
+    reads = λ v a x f g.
+        let r = h.reads v a v f refl in
+        let same : w ≡ v = ok-same {E = E} w v r.0 in
+        let is : y ≡ x = same_Some y x (sym e ∙ ap value same ∙ g) in
+        (ap Ok is, r.1);
+  }
+
+  -- it is none that was wanted
+  pub other-word : {X : Type 0} (value : Word → Option X) (w : Word) (result : Result X E)
+      → ReadsWord {E = E} any_word text rest (Ok w) → value w ≡ None → ReadsWord value text rest result
+  other-word value w result h e = record {
+    reads = λ v a x f g.
+        let r = h.reads v a v f refl in
+        let same : w ≡ v = ok-same {E = E} w v r.0 in
+        absurd (none-some x (sym e ∙ ap value same ∙ g));
+  }
+
+  -- ---- a number
+
+  -- no word: no number is read
+  pub no-number : (e : E) (result : Result ℕ E) → ReadsWord bare_word text rest (Err e)
+      → ReadsWord number text rest result
+  no-number e result h = record { reads = λ w a x f g. absurd (no-bare text rest e w a x h f g) }
+
+  number-in : (bytes : List ℕ) (o : Option ℕ) (w : Word) (a : List ℕ) (x : ℕ)
+      → ReadsWord {E = E} bare_word text rest (Ok bytes) → o ≡ number_of bytes → next_word text ≡ Some (w, a)
+      → number w ≡ Some x → (o ≡ Some x) × (rest ≡ a)
+  number-in bytes o (Bare v) a x h q f g =
+      let r = h.reads (Bare v) a v f refl in
+      let same : bytes ≡ v = ok-same {E = E} bytes v r.0 in
+      (q ∙ ap number_of same ∙ g, r.1)
+  number-in bytes o (Text v) a x h q f g = absurd (none-some x g)
+
+  -- the word of a number: the number is read
+  pub this-number : (bytes : List ℕ) (n : ℕ) (o : Option ℕ) → ReadsWord {E = E} bare_word text rest (Ok bytes)
+      → o ≡ number_of bytes → o ≡ Some n → ReadsWord {E = E} number text rest (Ok n)
+  this-number bytes n o h q e = record {
+    reads = λ w a x f g.
+        let r = number-in bytes o w a x h q f g in
+        (ap Ok (same_Some n x (sym e ∙ r.0)), r.1);
+  }
+
+  -- another word: no number is read
+  pub other-number : (bytes : List ℕ) (o : Option ℕ) (result : Result ℕ E)
+      → ReadsWord {E = E} bare_word text rest (Ok bytes) → o ≡ number_of bytes → o ≡ None
+      → ReadsWord number text rest result
+  other-number bytes o result h q e = record {
+    reads = λ w a x f g. absurd
+        (none-some x (sym e ∙ (number-in bytes o w a x h q f g).0));
+  }
+
+  -- ---- this word
+
+  -- no word: the word that was wanted is not read
+  pub not-this : (word : List ℕ) (e : E) (result : Result (Unit {0}) E) → ReadsWord bare_word text rest (Err e)
+      → ReadsThis word text rest result
+  not-this word e result h = record { reads = λ a f. absurd (never-ok e word (h.reads (Bare word) a word f refl).0) }
+
+  -- the word that was wanted is read
+  pub is-this : (word bytes : List ℕ) → ReadsWord {E = E} bare_word text rest (Ok bytes)
+      → ReadsThis {E = E} word text rest (Ok tt)
+  is-this word bytes h = record { reads = λ a f. (refl, (h.reads (Bare word) a word f refl).1) }
+
+  -- another word: the word that was wanted is not read
+  pub other-this : (word bytes : List ℕ) (result : Result (Unit {0}) E)
+      → ReadsWord {E = E} bare_word text rest (Ok bytes) → bytes ≢ word → ReadsThis word text rest result
+  other-this word bytes result h n =
+      record { reads = λ a f. absurd (n (ok-same {E = E} bytes word (h.reads (Bare word) a word f refl).0)) }
+
+-- ---- a line
+
+-- whether a byte ends a line
+abbrev pub is_end : ℕ → Bool
+is_end b = b == 0x0A
+
+no-end : (c : ℕ) → c ≢ 0x0A → is_end c ≡ false
+no-end c n = grind (arith, nat_tests)
+
+end-of-line : (line a : List ℕ) → HasNoEnd line → position_or_len is_end (line ++ 0x0A ∷ a) ≡ length line
+end-of-line [] a h = refl
+end-of-line (c ∷ line) a h =
+    let one : position_or_len is_end ((c ∷ line) ++ 0x0A ∷ a) ≡ 1 + position_or_len is_end (line ++ 0x0A ∷ a) =
+    ap (λ b. cond (not b) (1 + position_or_len is_end (line ++ 0x0A ∷ a)) 0) (no-end c h.0) in
+    omega (arith, one, end-of-line line a h.1)
+
+ended-apart : (line a : List ℕ) → ended line ++ a ≡ line ++ 0x0A ∷ a
+ended-apart line a = append_assoc line (0x0A ∷ []) a
+
+-- where the line is read
+record IsCut (text : List ℕ) (n : ℕ) (line a : List ℕ) : Type 0 where
+  long : n ≡ length line
+  front : take n text ≡ line
+  behind : drop n text ≡ 0x0A ∷ a
+
+line-end : (text line a : List ℕ) → HasNoEnd line → text ≡ ended line ++ a → position is_end text ≡ Some (length line)
+line-end text line a h e =
+    let whole : text ≡ line ++ 0x0A ∷ a = e ∙ ended-apart line a in
+    let at : position_or_len is_end text ≡ length line = ap (position_or_len is_end) whole ∙ end-of-line line a h in
+    let long : length text ≡ length line + suc (length a) = ap length whole ∙ length-append line (0x0A ∷ a) in
+    let inside : nat_lt (position_or_len is_end text) (length text) ≡ true = lt-ltb (position_or_len is_end text)
+    (length text) (omega (arith, at, long)) in
+    ap (λ b. cond b (Some (position_or_len is_end text)) None) inside ∙ ap Some at
+
+line-cut : (text line a : List ℕ) (n : ℕ) → HasNoEnd line → text ≡ ended line ++ a → position is_end text ≡ Some n
+    → IsCut text n line a
+line-cut text line a n h e p =
+    let whole : text ≡ line ++ 0x0A ∷ a = e ∙ ended-apart line a in
+    let long : n ≡ length line = same_Some n (length line) (sym p ∙ line-end text line a h e) in
+    record {
+      long = long;
+      front = (λ i. take (long i) (whole i)) ∙ take-append_seam line (0x0A ∷ a);
+      behind = (λ i. drop (long i) (whole i)) ∙ drop-append_seam line (0x0A ∷ a);
+    }
+
+module _ {E : Type 0} (text : List ℕ) where
+  -- no line end: no line is read
+  pub no-line : (rest : List ℕ) (o : Option ℕ) (result : Result (List ℕ) E) → o ≡ position is_end text → o ≡ None
+      → ReadsLine text rest result
+  no-line rest o result p e = record {
+    reads = λ line a h s f. absurd
+        (none-some (length line) (sym e ∙ p ∙ line-end text line a h f));
+  }
+
+  -- a line that is too long is not read
+  pub long-line : (rest front : List ℕ) (o : Option ℕ) (n : ℕ) (result : Result (List ℕ) E)
+      → o ≡ position is_end text → o ≡ Some n → front ≡ take n text → 4096 < length front → ReadsLine text rest result
+  long-line rest front o n result p e f l = record {
+    reads = λ line a h s g.
+        let r = line-cut text line a n h g (sym p ∙ e) in
+        absurd (omega (arith, s, l, ap length (f ∙ r.front)));
+  }
+
+  -- a line with its end is read
+  pub this-line : (rest front behind : List ℕ) (o : Option ℕ) (n : ℕ) → o ≡ position is_end text → o ≡ Some n
+      → front ≡ take n text → behind ≡ drop n text → rest ≡ drop 1 behind → ReadsLine {E = E} text rest (Ok front)
+  this-line rest front behind o n p e f g k = record {
+    reads = λ line a h s q.
+        let r = line-cut text line a n h q (sym p ∙ e) in
+        (ap Ok (f ∙ r.front), k ∙ ap (drop 1) (g ∙ r.behind));
+  }

@@ -1,0 +1,85 @@
+-- Kinds are words, and are found by them.
+use Rattle.segment_dump.proofs.Common.{◌≡◌, ℕ, true, Some, List, ◌++◌, refl, ◌<◌, length, sym, ap, ◌∙◌, arith, codes}
+use Rattle.segment_dump.proofs.Common.{list_all, current, Kind, Scalar, ScalarKind, U8, I32, I64, U64, kind_text}
+use Rattle.segment_dump.proofs.Common.{scalar_text, whole_language, kind_named, is_bare}
+use Rattle.seg_types.specs.declared.kinds.Kind.TheVariants.{String, Vector, Map, Strings}
+use Rattle.seg_types.specs.declared.kinds.ScalarKind.TheVariants.{Bool as BoolKind}
+use Rattle.segment_dump.proofs.{texts.OneReading.IsWord, texts.OneReading.Breaks, texts.OneReading.words-read}
+use Rattle.segment_dump.proofs.{texts.AllElements.AllByRecursion-append}
+use Rattle.segment_dump.proofs.{texts.Words.AreBare, texts.Words.bare-test, texts.Words.bare-word}
+use Rattle.segment_dump.proofs.{texts.Options.same_Some}
+
+-- ---- words
+
+scalar-bare : (k : ScalarKind) → AreBare (scalar_text k)
+scalar-bare BoolKind = bare-test (scalar_text BoolKind) refl
+scalar-bare k = bare-test (scalar_text k) refl
+
+led-bare : (lead : List ℕ) (k : ScalarKind) (end : List ℕ) → list_all is_bare lead ≡ true
+    → list_all is_bare end ≡ true → AreBare (lead ++ scalar_text k ++ end)
+led-bare lead k end e f = AllByRecursion-append (λ c. is_bare c ≡ true) (lead ++ scalar_text k) end
+    (AllByRecursion-append (λ c. is_bare c ≡ true) lead (scalar_text k) (bare-test lead e) (scalar-bare k))
+    (bare-test end f)
+
+-- the bytes of a kind's word are bare
+pub kind-bare : (k : Kind) → AreBare (kind_text k)
+kind-bare (Scalar k) = scalar-bare k
+kind-bare String = bare-test (codes "string") refl
+kind-bare (Vector k) = led-bare (codes "vec<") k (codes ">") refl refl
+kind-bare Strings = bare-test (codes "vec<string>") refl
+kind-bare (Map k v) =
+    let keys : AreBare (codes "map<" ++ scalar_text k ++ codes ",") = led-bare (codes "map<") k (codes ",") refl refl in
+    AllByRecursion-append (λ c. is_bare c ≡ true) (codes "map<" ++ scalar_text k ++ codes "," ++ scalar_text v)
+    (codes ">") (AllByRecursion-append (λ c. is_bare c ≡ true) (codes "map<" ++ scalar_text k ++ codes ",")
+    (scalar_text v) keys (scalar-bare v)) (bare-test (codes ">") refl)
+
+-- a kind is a word
+pub kind-word : (k : Kind) → IsWord (kind_text k)
+kind-word k = bare-word (kind_text k) (kind-bare k)
+
+scalar-long : (k : ScalarKind) → 0 < length (scalar_text k)
+scalar-long BoolKind = omega arith
+scalar-long k = omega arith
+
+-- a kind's word is not empty
+pub kind-long : (k : Kind) → 0 < length (kind_text k)
+kind-long (Scalar k) = scalar-long k
+kind-long String = omega arith
+kind-long (Vector k) = omega arith
+kind-long Strings = omega arith
+kind-long (Map k v) = omega arith
+
+-- ---- the kind of its word
+
+map-named : (k v : ScalarKind) → kind_named (whole_language current) (kind_text (Map k v)) ≡ Some (Map k v)
+unfolding kind_named current
+map-named BoolKind BoolKind = refl
+map-named U8 U8 = refl
+map-named I32 I32 = refl
+map-named I64 I64 = refl
+map-named U64 U64 = refl
+map-named k v = refl
+
+-- a kind is found by its word
+pub kind-named : (k : Kind) → kind_named (whole_language current) (kind_text k) ≡ Some k
+unfolding kind_named current
+kind-named (Scalar BoolKind) = refl
+kind-named (Scalar U8) = refl
+kind-named (Scalar I32) = refl
+kind-named (Scalar I64) = refl
+kind-named (Scalar U64) = refl
+kind-named String = refl
+kind-named (Vector BoolKind) = refl
+kind-named (Vector U8) = refl
+kind-named (Vector I32) = refl
+kind-named (Vector I64) = refl
+kind-named (Vector U64) = refl
+kind-named Strings = refl
+kind-named (Map k v) = map-named k v
+
+-- so it tells the kind
+pub kinds-read : (k l : Kind) (a b : List ℕ) → Breaks a → Breaks b → kind_text k ++ a ≡ kind_text l ++ b
+    → (k ≡ l) × (a ≡ b)
+kinds-read k l a b f g e =
+    let r = words-read (kind_text k) (kind_text l) a b (kind-word k) (kind-word l) f g e in
+    (same_Some k l (sym (kind-named k) ∙ ap (kind_named (whole_language current)) r.0 ∙ kind-named l), r.1)

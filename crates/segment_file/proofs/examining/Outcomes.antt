@@ -1,0 +1,62 @@
+-- What an examination answers, as it is told of a file.
+use Rattle.std.proofs.Common.{◌≡◌, ℕ, inl, inr, List, [], length, Option, Some, None, refl, sym, subst}
+use Rattle.std.proofs.lemmas.List.{append-nil}
+use Rattle.raw_region.specs.Device.{ReadDelta}
+use Rattle.raw_region.specs.Format.{current}
+use Rattle.image_check.specs.declared.classes.ImageClass.{ImageClass}
+use Rattle.image_check.specs.declared.errors.ExamineError.{ExamineError}
+use Rattle.image_check.specs.declared.errors.ExamineError.TheVariants.{Image as Judged, RegionTooSmall as TooSmall}
+use Rattle.image_check.specs.declared.errors.ExamineError.TheVariants.{OutOfMemory as NoMap, ReadFault as Unread}
+use Rattle.image_check.specs.declared.errors.MemoryFault.TheVariants.{BlockMap}
+use Rattle.image_check.specs.declared.errors.OpenError.TheVariants.{RegionTooSmall as NoRoom}
+use Rattle.image_check.specs.Causes.{IsShown, error_for}
+use Rattle.image_check.specs.Classes.{class_of}
+use Rattle.image_check.specs.Opening.{IsRefusedAs, IsTooSmallFor, IsOpenCause}
+use Rattle.image_check.specs.OpeningBytes.{IsWhyNotOf, as_given}
+use Rattle.segment_file.specs.declared.file_errors.OpenFault.{OpenFault}
+use Rattle.segment_file.specs.declared.file_errors.OpenFault.TheVariants.{Image, OutOfMemory, ReadFault}
+use Rattle.segment_file.specs.Opening.{IsWhyUnfit, unfit_for}
+
+-- the class of an image that is refused
+known : (image : ReadDelta) (class : ImageClass) → IsRefusedAs current image class
+    → class_of current image.bytes ≡ Some class
+known image class r = elim r.right [
+  | inl e ↦ e.1
+  | inr d ↦ subst (λ (b : List ℕ). class_of current b ≡ Some class) (append-nil image.bytes) (d [] refl)
+]
+
+some_unfit : (a b : OpenFault) → Some a ≡ Some b → b ≡ a
+some_unfit a b e = cc
+
+none_unfit : (a : OpenFault) → (let none : Option OpenFault = None in none ≡ Some a) → ⊥
+none_unfit a e = cc
+
+unfit_none : (a : OpenFault) → (let none : Option OpenFault = None in Some a ≡ none) → ⊥
+unfit_none a e = cc
+
+module _ (most capacity : ℕ) (image : ReadDelta) where
+  as_unfit : (a unfit : OpenFault) → Some a ≡ Some unfit → IsWhyUnfit most image a → IsWhyUnfit most image unfit
+  as_unfit a unfit e = subst (IsWhyUnfit most image) (sym (some_unfit a unfit e))
+
+  -- a file that is unfit is so by the cause
+  pub unfit-by : (cause : ExamineError) (unfit : OpenFault) → IsOpenCause current image 0 capacity (error_for cause)
+      → IsShown current image.bytes cause → unfit_for cause ≡ Some unfit
+      → IsWhyUnfit most image unfit
+  unfit-by (Judged v) unfit w s e = as_unfit (Image v) unfit e (record { why = w; told = (known image v.class w, s) })
+  unfit-by TooSmall unfit w s e = absurd (none_unfit unfit e)
+  unfit-by (NoMap refusal) unfit w s e =
+      as_unfit (OutOfMemory (BlockMap refusal)) unfit e (record { why = w; told = tt })
+  unfit-by Unread unfit w s e = as_unfit ReadFault unfit e (record { why = w; told = tt })
+
+-- want of room
+pub no-unfit : (cause : ExamineError) → unfit_for cause ≡ None → error_for cause ≡ NoRoom
+no-unfit (Judged v) e = absurd (unfit_none (Image v) e)
+no-unfit TooSmall e = refl
+no-unfit (NoMap refusal) e = absurd (unfit_none (OutOfMemory (BlockMap refusal)) e)
+no-unfit Unread e = absurd (unfit_none ReadFault e)
+
+-- a file without room is so by its size
+pub text-roomless : (b : List ℕ) (capacity : ℕ) (cause : ExamineError)
+    → IsWhyNotOf current b 0 capacity (error_for cause) → unfit_for cause ≡ None
+    → IsTooSmallFor current (as_given b) 0 capacity
+text-roomless b capacity cause w e = subst (IsWhyNotOf current b 0 capacity) (no-unfit cause e) w

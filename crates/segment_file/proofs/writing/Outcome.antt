@@ -1,0 +1,183 @@
+-- What became of a file that an image was written to, by the answers of the disk.
+use Rattle.std.proofs.Common.{◌≡◌, ◌≢◌, ◌⊎◌, ℕ, Bool, true, false, inl, inr, List, [], ◌++◌, length, take, drop, Result}
+use Rattle.std.proofs.Common.{Ok, Err, MatchResult, is_ok, refl, sym, ap₂, subst, arith}
+use Rattle.std.proofs.lemmas.List.{take-append-drop, length-drop}
+use Rattle.raw_region.specs.Device.{WriterHistory, WriteDelta, Writes, write_delta, IsProperPrefix}
+use Rattle.raw_region.specs.Answers.{AppendsProperPrefix}
+use Rattle.raw_region.proofs.Laws.{added}
+use Rattle.segment_manager.specs.Directory.{Directory}
+use Rattle.segment_manager.specs.State.{DenotesCurrent}
+use Rattle.image_check.specs.Saving.{IsSaved}
+use Rattle.segment_disk.specs.declared.presence.CreateMode.{CreateMode}
+use Rattle.segment_disk.specs.declared.presence.CreateMode.TheVariants.{New, Truncate, Replacement}
+use Rattle.segment_disk.specs.Events.{Event, Compared, Made, Wrote, Discarded, After, nothing_taken}
+use Rattle.segment_file.specs.Files.{WriteOutcome, Overtaken, NotMade, Closed, Offered, IsPartialWrite, IsUnwritten}
+use Rattle.segment_file.specs.Files.{FillsFile, MakesImage, WritesImage, all_of, compare_events, is_same, make_events}
+use Rattle.segment_file.specs.Files.{place_events}
+use Rattle.segment_file.specs.Files.{whole_outcome}
+
+front_taken : (new image : List ℕ) → AppendsProperPrefix [] new image
+    → IsProperPrefix (drop (length nothing_taken.bytes) new) image
+front_taken new image h =
+    let parts : image ≡ take h.count image ++ drop h.count image = sym (take-append-drop h.count image) in (
+      drop h.count image,
+      rw (added [] new (take h.count image) h.added) parts,
+      let more = length-drop h.count image
+          in omega (arith, h.fewer),
+    )
+
+-- ---- a file that is filled
+
+module _ {D E : Type 0} (step : D → Event → D → Type 0) (old new : D) (image : List ℕ) (good : (d : Directory)
+    → DenotesCurrent image d → IsSaved image d) (took : WriterHistory) where
+  -- a write that was cut leaves a front
+  pub cut : (lasts : Bool) (e : E) → step old (Wrote (write_delta nothing_taken took) lasts) new
+      → Writes {A = Unit {0}} {E = E} nothing_taken took (Err e) image
+      → FillsFile {E = E} step old new image (Err e)
+  cut lasts e closed h = record {
+    taken = write_delta nothing_taken took;
+    lasts = lasts;
+    asked = closed;
+    fate = inl (record { part = front_taken took.bytes image h.err; failed = rw h.counted refl });
+    accepted = good;
+  }
+
+-- ---- what became of it
+
+abbrev Fate : {E : Type 0} → CreateMode → List ℕ → WriteOutcome → Result (Unit {0}) E → Type 0
+Fate how image written result =
+    MatchResult result (λ u. written ≡ whole_outcome how image) (λ e. IsUnwritten how image written)
+
+abbrev Filling : {E : Type 0} → List ℕ → WriteDelta → Bool → Result (Unit {0}) E → Type 0
+Filling image taken lasts result =
+    MatchResult result (λ u. (taken ≡ all_of image) × (lasts ≡ true)) (λ e. IsPartialWrite image taken
+    ⊎ ((taken ≡ all_of image) × (lasts ≡ false)))
+
+unwritten : (how : CreateMode) (image : List ℕ) (taken : WriteDelta) (lasts : Bool)
+    → IsPartialWrite image taken ⊎ ((taken ≡ all_of image) × (lasts ≡ false))
+    → IsUnwritten how image (Closed taken lasts)
+unwritten how image taken lasts (inl p) =
+    inr (inr (inl (record { taken = taken; lasts = lasts; closed = refl; is_part = p })))
+unwritten how image taken lasts (inr e) = inr (inr (inr (inl (ap₂ Closed e.0 e.1))))
+
+module _ {E : Type 0} (image : List ℕ) (taken : WriteDelta) (lasts : Bool) where
+  fate-new : (result : Result (Unit {0}) E) → Filling image taken lasts result
+      → Fate New image (Closed taken lasts) result
+  fate-new (Ok u) e = ap₂ Closed e.0 e.1
+  fate-new (Err e) h = unwritten New image taken lasts h
+
+  fate-emptied : (result : Result (Unit {0}) E) → Filling image taken lasts result
+      → Fate Truncate image (Closed taken lasts) result
+  fate-emptied (Ok u) e = ap₂ Closed e.0 e.1
+  fate-emptied (Err e) h = unwritten Truncate image taken lasts h
+
+module _ {D E : Type 0} (step : D → Event → D → Type 0) (old made new : D) (path image : List ℕ) where
+  pub not_made : (how : CreateMode) (e : E) → step old (Made how path false) new
+      → MakesImage {E = E} step old new how path image (Err e)
+  not_made how e asked = record {
+    written = NotMade;
+    same = refl;
+    asked = (new, asked, refl);
+    fate = inr (inl refl);
+    accepted = λ n. absurd n;
+  }
+
+  -- a new file is written in its place
+  pub written_here : (how : CreateMode) → how ≢ Replacement → step old (Made how path true) made
+      → (result : Result (Unit {0}) E) → FillsFile step made new image result
+      → MakesImage step old new how path image result
+  written_here New n asked result f =
+      record {
+        written = Closed f.taken f.lasts;
+        same = refl;
+        asked = (made, asked, (new, f.asked, refl));
+        fate = fate-new image f.taken f.lasts result f.fate;
+        accepted = λ m. f.accepted;
+      }
+  written_here Truncate n asked result f =
+      record {
+        written = Closed f.taken f.lasts;
+        same = refl;
+        asked = (made, asked, (new, f.asked, refl));
+        fate = fate-emptied image f.taken f.lasts result f.fate;
+        accepted = λ m. f.accepted;
+      }
+  written_here Replacement n asked result f = absurd (n refl)
+
+  module _ (asked : step old (Made Replacement path true) made) (filled : D) where
+    -- the file took not all of the image, or need not last
+    pub dropped : (e e' : E) → FillsFile {E = E} step made filled image (Err e) → step filled (Discarded path) new
+        → MakesImage {E = E} step old new Replacement path image (Err e')
+    dropped e e' f gone = record {
+      written = Closed f.taken f.lasts;
+      same = refl;
+      asked = (made, asked, (filled, f.asked, (new, gone, refl)));
+      fate = unwritten Replacement image f.taken f.lasts f.fate;
+      accepted = λ m. f.accepted;
+    }
+
+    fate-placed : (placed : Result (Unit {0}) E) → Fate Replacement image (Offered image (is_ok placed)) placed
+    fate-placed (Ok u) = refl
+    fate-placed (Err e) = inr (inr (inr (inr (record { beside = refl; offered = refl }))))
+
+    -- a file that was filled is placed
+    pub placed : FillsFile {E = E} step made filled image (Ok tt) → (result : Result (Unit {0}) E)
+        → After step filled (place_events path (is_ok result)) new
+        → MakesImage {E = E} step old new Replacement path image result
+    placed f result put = record {
+      written = Offered image (is_ok result);
+      same = refl;
+      asked = (
+        made,
+        asked,
+        (
+          filled,
+          subst (λ (t : WriteDelta). step made (Wrote t true) filled) f.fate.0
+              (subst (λ (l : Bool). step made (Wrote f.taken l) filled) f.fate.1 f.asked),
+          put,
+        ),
+      );
+      fate = fate-placed result;
+      accepted = λ m. f.accepted;
+    }
+
+-- ---- a file that is compared before
+
+with_comparison : {D : Type 0} (step : D → Event → D → Type 0) (old same new : D) (path : List ℕ) (how : CreateMode)
+    → how ≢ New → (b : Bool) (events : List Event)
+    → step old (Compared path b) same → After step same events new
+    → After step old (compare_events how path b events) new
+with_comparison step old same new path New n b events asked rest = absurd (n refl)
+with_comparison step old same new path Truncate n b events asked rest = (same, asked, rest)
+with_comparison step old same new path Replacement n b events asked rest = (same, asked, rest)
+
+module _ {D E : Type 0} (step : D → Event → D → Type 0) (old same new : D) (path image : List ℕ) where
+  -- one that is new is not
+  pub made_anew : (result : Result (Unit {0}) E) → MakesImage {E = E} step old new New path image result
+      → WritesImage {E = E} step old new New path image result
+  made_anew result m = record { written = m.written; asked = m.asked; fate = m.fate; accepted = m.accepted }
+
+  -- it is the same
+  pub made_over : (how : CreateMode) → how ≢ New → (result : Result (Unit {0}) E)
+      → step old (Compared path true) same → MakesImage {E = E} step same new how path image result
+      → WritesImage {E = E} step old new how path image result
+  made_over how n result asked m = record {
+    written = m.written;
+    asked = subst (λ (b : Bool). After step old (compare_events how path b (make_events how path m.written)) new)
+        (sym m.same)
+        (with_comparison step old same new path how n true (make_events how path m.written) asked m.asked);
+    fate = m.fate;
+    accepted = m.accepted;
+  }
+
+-- another has its name
+pub overtaken : {D E : Type 0} (step : D → Event → D
+    → Type 0) (old new : D) (path image : List ℕ) (how : CreateMode) → how ≢ New → (e : E)
+    → step old (Compared path false) new
+    → WritesImage {E = E} step old new how path image (Err e)
+overtaken {E = E} step old new path image how n e asked = record {
+  written = Overtaken;
+  asked = with_comparison step old new new path how n false [] asked refl;
+  fate = inl (record { old = n; left = refl });
+  accepted = λ m. absurd m;
+}

@@ -1,0 +1,5 @@
+-- Command lines: those that are always understood (`AllUnderstood`), and what the parser makes of each.
+pub mod AllUnderstood
+pub mod Subcommands
+pub mod PlainWords
+pub mod Settings

@@ -1,0 +1,722 @@
+-- What a parse makes of the words behind each command of the program.
+use Rattle.std.proofs.Common.{◌≡◌, refl, ap, ap₂, ◌∙◌, ℕ, Bool, true, false, ◌&&◌, List, [], ◌∷◌, ◌++◌, Option, Some}
+use Rattle.std.proofs.Common.{None, codes, fold}
+use Rattle.std.specs.List.{list_all}
+use Rattle.std.specs.Prelude.{⊤, option_and_then, option_map, unwrap_or}
+use Rattle.std.proofs.lemmas.Bool.{and_parts}
+use Rattle.std.proofs.lemmas.List.{append_assoc}
+use Rattle.clap.proofs.OnLiterals.{clap_on_literals}
+use Rattle.clap.specs.Walk.{Held, Row, Text, Waiting, Walk, finished, idle, option as waits, nothing_held, plain_word}
+use Rattle.clap.specs.Walk.{rows_after, settled, walk_from, walked}
+use Rattle.clap.specs.Simple.{Shape, built_leaf, inherited}
+use Rattle.clap.specs.Takes.{default_passes, is_valid, level_passes, settle_passes, step_passes, turn_passes}
+use Rattle.clap.specs.Takes.{walk_passes}
+use Rattle.clap.specs.declared.builder.value_parser.Reading.TheVariants as reading
+use Rattle.clap.specs.declared.parser.matches.ValueSource.TheVariants.{CommandLine}
+use Rattle.segment_lang.specs.Words.{number_of}
+use Rattle.segment_invocation.specs.Invocations.{InvocationValue, RunWords, asked_change, asked_in, check, check_all}
+use Rattle.segment_invocation.specs.Invocations.{check_command, create, create_command, draw_command, dump_command}
+use Rattle.segment_invocation.specs.Invocations.{explain, file_command, flag_words, grow_command, kept_command}
+use Rattle.segment_invocation.specs.Invocations.{line_words, load, load_command, names, names_command, program}
+use Rattle.segment_invocation.specs.Invocations.{run_command, run_words, saving_part, seconds_of, size_of, tell}
+use Rattle.segment_invocation.specs.declared.invocations.FileChange.TheVariants as change
+use Rattle.segment_invocation.specs.declared.invocations.Report.TheVariants.{Figures, Picture, Page, Dump, Capacities}
+use Rattle.segment_invocation.specs.declared.invocations.Report.TheVariants.{Json}
+use Rattle.segment_invocation.specs.declared.invocations.SaveMode.{SaveMode}
+use Rattle.segment_invocation.specs.declared.invocations.SaveMode.TheVariants.{InPlace, Replacing}
+use Rattle.segment_invocation.proofs.command_lines.PlainWords.{IsPlain, plain_step, turn-plain, walked-plain}
+
+-- a command as it is built
+abbrev pub leaf : Shape → Shape
+leaf s = built_leaf (inherited program.top s)
+
+-- the last tests of a level, behind the test of its words
+abbrev passes_at : Shape → Bool → Walk → Bool
+passes_at s words_pass end =
+    words_pass && (settle_passes s.rules s.args_override_self end.held
+    && (list_all default_passes s.rules && is_valid s (finished s.rules end.held) false))
+
+-- ---- a walk over some of the words
+
+-- where it leads, and that each word passes
+record IsSteps (s : Shape) (from : Walk) (words : List Text) (to : Walk) : Type 0 where
+  walk : fold (walked s.rules []) from words ≡ to
+  passes : walk_passes s [] from words ≡ true
+
+-- between two words
+abbrev at : Held → Waiting → ℕ → Walk
+at h waiting position = record { held = h; waiting = waiting; position = position; is_trailing = false; stopped = None }
+
+-- behind the name of an option, and behind its value
+abbrev at_option : Shape → Text → Walk → Walk
+at_option s id w = record w {
+  held = record w.held {
+    rows = (settled s.rules w.held).rows;
+    pending = Some (id, []);
+  };
+  waiting = waits id;
+}
+
+abbrev after_option : Shape → Text → Text → Walk → Walk
+after_option s id v w = plain_step s.rules (at_option s id w) v
+
+-- behind the file
+abbrev after_file : Shape → Text → Walk
+after_file s f = plain_step s.rules (walk_from nothing_held) f
+
+-- the word passes that is a value, or goes to its place
+abbrev IsTaken : Shape → Held → Waiting → ℕ → Text → Type 0
+IsTaken s h waiting position word =
+    (let met = plain_word s.rules waiting word h in step_passes s position met.0 met.1) ≡ true
+
+module _ (s : Shape) where
+  walk-behind : (words : List Text) (w : Walk) (more : List Text)
+      → fold (walked s.rules []) w (words ++ more) ≡ fold (walked s.rules []) (fold (walked s.rules []) w words) more
+  walk-behind [] w more = refl
+  walk-behind (y ∷ ys) w more = walk-behind ys (walked s.rules [] w y) more
+
+  passes-behind : (words : List Text) (w : Walk) (more : List Text) → walk_passes s [] w words ≡ true
+      → walk_passes s [] (fold (walked s.rules []) w words) more ≡ true
+      → walk_passes s [] w (words ++ more) ≡ true
+  unfolding walk_passes
+  passes-behind [] w more h t = t
+  passes-behind (y ∷ ys) w more h t =
+      let both = and_parts (turn_passes s [] w y) _ h in
+      ap₂ ◌&&◌ both.0 (passes-behind ys (walked s.rules [] w y) more both.1 t)
+
+  steps : (from to end : Walk) (words more : List Text) → IsSteps s from words to → IsSteps s to more end
+      → IsSteps s from (words ++ more) end
+  steps from to end words more a b = record {
+    walk = walk-behind words from more ∙ (ap (λ (w : Walk). fold (walked s.rules []) w more) a.walk ∙ b.walk);
+    passes = passes-behind words from more a.passes (ap (λ (w : Walk). walk_passes s [] w more) a.walk ∙ b.passes);
+  }
+
+  -- one word that is no option
+  plain : (h : Held) (waiting : Waiting) (position : ℕ) (word : Text) → IsPlain word → IsTaken s h waiting position word
+      → IsSteps s (at h waiting position) (word ∷ []) (plain_step s.rules (at h waiting position) word)
+  unfolding walk_passes
+  plain h waiting position word p t = record {
+    walk = walked-plain s.rules h waiting position word p;
+    passes = ap (λ b. b && true) (turn-plain s h waiting position word p ∙ t);
+  }
+
+  -- an option and its value
+  option-steps : (h : Held) (waiting : Waiting) (position : ℕ) (word id v : Text) → IsPlain v
+      → walked s.rules [] (at h waiting position) word ≡ at_option s id (at h waiting position)
+      → turn_passes s [] (at h waiting position) word ≡ true
+      → IsTaken s (at_option s id (at h waiting position)).held (waits id) position v
+      → IsSteps s (at h waiting position) (word ∷ v ∷ []) (after_option s id v (at h waiting position))
+  unfolding walk_passes
+  option-steps h waiting position word id v p e t u =
+      steps (at h waiting position) (at_option s id (at h waiting position))
+      (after_option s id v (at h waiting position)) (word ∷ []) (v ∷ [])
+      (record { walk = e; passes = ap (λ b. b && true) t })
+      (plain (at_option s id (at h waiting position)).held (waits id) position v p u)
+
+  -- flags
+  flags : (w : Walk) (words : List Text) → walk_passes s [] w words ≡ true
+      → IsSteps s w words (fold (walked s.rules []) w words)
+  flags w words t = record { walk = refl; passes = t }
+
+-- ---- what all words ask for, and that they pass
+
+-- a command line that is parsed asks for this
+pub record IsAsk {A : Type 0} (s : Shape) (ask : List Row → A) (words : List Text) (a : A) : Type 0 where
+  pub found : ask (rows_after s.rules [] words) ≡ a
+  pub passes : level_passes s [] nothing_held words false ≡ true
+
+module _ {A : Type 0} (s : Shape) (ask : List Row → A) where
+  asks : (words : List Text) (end : Walk) (a : A) → IsSteps s (walk_from nothing_held) words end
+      → ask (finished s.rules end.held) ≡ a → passes_at s true end ≡ true → IsAsk s ask words a
+  asks words end a w h t = record {
+    found = ap (λ (e : Walk). ask (finished s.rules e.held)) w.walk ∙ h;
+    passes = ap₂ (passes_at s) w.passes w.walk ∙ t;
+  }
+
+  -- a file with flags behind it
+  flagged : (f : Text) (words : List Text) (a : A) → IsPlain f → IsTaken s nothing_held idle 1 f
+      → walk_passes s [] (after_file s f) words ≡ true
+      → ask (finished s.rules (fold (walked s.rules []) (after_file s f) words).held) ≡ a
+      → passes_at s true (fold (walked s.rules []) (after_file s f) words) ≡ true
+      → IsAsk s ask (f ∷ words) a
+  flagged f words a p t u h v =
+      asks (f ∷ words) (fold (walked s.rules []) (after_file s f) words) a
+      (steps s (walk_from nothing_held) (after_file s f) (fold (walked s.rules []) (after_file s f) words) (f ∷ [])
+      words
+      (plain s nothing_held idle 1 f p t) (flags s (after_file s f) words u)) h v
+
+  -- a file, more words that lead to a place, and flags behind them
+  behind : (f : Text) (words more : List Text) (to : Walk) (a : A) → IsPlain f → IsTaken s nothing_held idle 1 f
+      → IsSteps s (after_file s f) words to → walk_passes s [] to more ≡ true
+      → ask (finished s.rules (fold (walked s.rules []) to more).held) ≡ a
+      → passes_at s true (fold (walked s.rules []) to more) ≡ true
+      → IsAsk s ask (f ∷ words ++ more) a
+  behind f words more to a p t w u h v =
+      asks (f ∷ words ++ more) (fold (walked s.rules []) to more) a
+      (steps s (walk_from nothing_held) (after_file s f) (fold (walked s.rules []) to more) (f ∷ []) (words ++ more)
+      (plain s nothing_held idle 1 f p t)
+      (steps s (after_file s f) to (fold (walked s.rules []) to more) words more w (flags s to more u))) h v
+
+-- ---- a file, which may have flags behind it
+
+-- `stat` asks for figures
+pub stat-asks : (f : Text) → IsPlain f
+    → IsAsk (leaf (file_command (codes "stat"))) (asked_in (codes "stat")) (f ∷ []) (Some (tell f Figures))
+unfolding clap_on_literals
+stat-asks f p = flagged (leaf (file_command (codes "stat"))) (asked_in (codes "stat")) f [] (Some (tell f Figures))
+    p refl refl refl refl
+
+-- `check` asks for a check
+pub check-asks : (f : Text) → IsPlain f
+    → IsAsk (leaf check_command) (asked_in (codes "check")) (f ∷ []) (Some (check f))
+unfolding clap_on_literals
+check-asks f p = flagged (leaf check_command) (asked_in (codes "check")) f [] (Some (check f)) p refl refl refl refl
+
+-- `check --quiet` asks for a quiet check
+pub quiet-asks : (f : Text) → IsPlain f
+    → IsAsk (leaf check_command) (asked_in (codes "check")) (f ∷ codes "--quiet" ∷ []) (Some (check_all (f ∷ []) true))
+unfolding clap_on_literals
+quiet-asks f p = flagged (leaf check_command) (asked_in (codes "check")) f (codes "--quiet" ∷ [])
+    (Some (check_all (f ∷ []) true)) p refl refl refl refl
+
+-- `check --explain` asks for an explanation
+pub explain-asks : (f : Text) → IsPlain f
+    → IsAsk (leaf check_command) (asked_in (codes "check")) (f ∷ codes "--explain" ∷ []) (Some (explain f))
+unfolding clap_on_literals
+explain-asks f p = flagged (leaf check_command) (asked_in (codes "check")) f (codes "--explain" ∷ [])
+    (Some (explain f)) p refl refl refl refl
+
+-- `draw` asks for a picture
+pub draw-asks : (f : Text) → IsPlain f
+    → IsAsk (leaf draw_command) (asked_in (codes "draw")) (f ∷ []) (Some (tell f Picture))
+unfolding clap_on_literals
+draw-asks f p = flagged (leaf draw_command) (asked_in (codes "draw")) f [] (Some (tell f Picture)) p refl refl refl refl
+
+-- `draw --html` asks for a page
+pub html-asks : (f : Text) → IsPlain f
+    → IsAsk (leaf draw_command) (asked_in (codes "draw")) (f ∷ codes "--html" ∷ []) (Some (tell f Page))
+unfolding clap_on_literals
+html-asks f p = flagged (leaf draw_command) (asked_in (codes "draw")) f (codes "--html" ∷ []) (Some (tell f Page)) p
+    refl refl refl refl
+
+-- `dump` asks for a dump
+pub dump-asks : (f : Text) → IsPlain f
+    → IsAsk (leaf dump_command) (asked_in (codes "dump")) (f ∷ []) (Some (tell f Dump))
+unfolding clap_on_literals
+dump-asks f p = flagged (leaf dump_command) (asked_in (codes "dump")) f [] (Some (tell f Dump)) p refl refl refl refl
+
+-- `dump --capacities` asks for a dump with capacities
+pub capacities-asks : (f : Text) → IsPlain f
+    → IsAsk (leaf dump_command) (asked_in (codes "dump")) (f ∷ codes "--capacities" ∷ []) (Some (tell f Capacities))
+unfolding clap_on_literals
+capacities-asks f p = flagged (leaf dump_command) (asked_in (codes "dump")) f (codes "--capacities" ∷ [])
+    (Some (tell f Capacities)) p refl refl refl refl
+
+-- `dump --json` asks for a dump in JSON
+pub json-asks : (f : Text) → IsPlain f
+    → IsAsk (leaf dump_command) (asked_in (codes "dump")) (f ∷ codes "--json" ∷ []) (Some (tell f Json))
+unfolding clap_on_literals
+json-asks f p = flagged (leaf dump_command) (asked_in (codes "dump")) f (codes "--json" ∷ []) (Some (tell f Json)) p
+    refl refl refl refl
+
+-- ---- a file and a number
+
+-- the number goes to its place
+number : (s : Shape) (h : Held) (d : Text) → IsPlain d → IsTaken s h idle 2 d
+    → IsSteps s (at h idle 2) (d ∷ []) (plain_step s.rules (at h idle 2) d)
+number s h d q t = plain s h idle 2 d q t
+
+-- `create` asks for a new segment of a size
+pub create-asks : (f d : Text) → IsPlain f → IsPlain d
+    → IsAsk (leaf create_command) (asked_in (codes "create")) (f ∷ d ∷ [])
+    (option_and_then (λ n. Some (create f n)) (number_of d))
+unfolding clap_on_literals
+create-asks f d p q =
+    let s : Shape = leaf create_command in
+    behind s (asked_in (codes "create")) f (d ∷ []) [] (plain_step s.rules (after_file s f) d)
+    (option_and_then (λ n. Some (create f n)) (number_of d)) p refl
+    (number s (after_file s f).held d q refl) refl refl refl
+
+-- ---- options that may be left out
+
+-- `NAME VALUE`, or nothing
+abbrev pub option_words : Text → Option Text → List Text
+option_words name None = []
+option_words name (Some v) = name ∷ v ∷ []
+
+-- the value is no option
+abbrev pub IsPlainIn : Option Text → Type 0
+IsPlainIn None = ⊤
+IsPlainIn (Some v) = IsPlain v
+
+-- an option right behind the file
+abbrev with_option : Shape → Text → Text → Text → Walk
+with_option s f id v = after_option s id v (after_file s f)
+
+-- an option behind words that lead to a place
+module _ (s : Shape) (from : Walk) (words : List Text) (h : Held) (position : ℕ) (word id v : Text) where
+  optioned : IsPlain v → IsSteps s from words (at h idle position)
+      → walked s.rules [] (at h idle position) word ≡ at_option s id (at h idle position)
+      → turn_passes s [] (at h idle position) word ≡ true
+      → IsTaken s (at_option s id (at h idle position)).held (waits id) position v
+      → IsSteps s from (words ++ word ∷ v ∷ []) (after_option s id v (at h idle position))
+  optioned q w e t u = steps s from (at h idle position) (after_option s id v (at h idle position)) words
+      (word ∷ v ∷ []) w (option-steps s h idle position word id v q e t u)
+
+-- a place, with how a file is saved behind it
+abbrev IsSaved : {A : Type 0} → Shape → (List Row → A) → Walk → SaveMode → A → Type 0
+IsSaved s ask to saving a = (walk_passes s [] to (saving_part saving) ≡ true)
+    × (ask (finished s.rules (fold (walked s.rules []) to (saving_part saving)).held) ≡ a)
+    × (passes_at s true (fold (walked s.rules []) to (saving_part saving)) ≡ true)
+
+module _ {A : Type 0} (s : Shape) (ask : List Row → A) (f : Text) (words : List Text) (to : Walk) (a : SaveMode
+    → A) where
+  saved : (saving : SaveMode) → IsPlain f → IsTaken s nothing_held idle 1 f → IsSteps s (after_file s f) words to
+      → IsSaved s ask to InPlace (a InPlace) → IsSaved s ask to Replacing (a Replacing)
+      → IsAsk s ask (f ∷ words ++ saving_part saving) (a saving)
+  saved InPlace p t w h k = behind s ask f words (saving_part InPlace) to (a InPlace) p t w h.0 h.1 h.2
+  saved Replacing p t w h k = behind s ask f words (saving_part Replacing) to (a Replacing) p t w k.0 k.1 k.2
+
+-- ---- a change
+
+-- the command `shrink`
+abbrev pub shrink_leaf : Shape
+shrink_leaf = leaf (kept_command (codes "shrink"))
+
+-- `shrink` asks for a smaller file
+pub shrink-asks : (f : Text) (wait : Option Text) (saving : SaveMode) → IsPlain f → IsPlainIn wait
+    → IsAsk shrink_leaf (asked_in (codes "shrink")) (f ∷ option_words (codes "--wait") wait ++ saving_part saving)
+    (option_map (asked_change f change.Shrink saving) (seconds_of wait))
+unfolding clap_on_literals
+shrink-asks f None saving p q =
+    saved shrink_leaf (asked_in (codes "shrink")) f [] (after_file shrink_leaf f) (λ v.
+    option_map (asked_change f change.Shrink v) (seconds_of None)) saving p refl
+    (record { walk = refl; passes = refl }) (refl, refl, refl) (refl, refl, refl)
+shrink-asks f (Some w) saving p q =
+    saved shrink_leaf (asked_in (codes "shrink")) f (codes "--wait" ∷ w ∷ [])
+    (with_option shrink_leaf f (codes "wait") w)
+    (λ v. option_map (asked_change f change.Shrink v) (seconds_of (Some w))) saving p refl
+    (option-steps shrink_leaf (after_file shrink_leaf f).held idle 2 (codes "--wait") (codes "wait") w q refl refl
+    refl) (refl, refl, refl) (refl, refl, refl)
+
+-- the command `migrate`
+abbrev pub migrate_leaf : Shape
+migrate_leaf = leaf (kept_command (codes "migrate"))
+
+-- `migrate` asks for the current format
+pub migrate-asks : (f : Text) (wait : Option Text) (saving : SaveMode) → IsPlain f → IsPlainIn wait
+    → IsAsk migrate_leaf (asked_in (codes "migrate")) (f ∷ option_words (codes "--wait") wait ++ saving_part saving)
+    (option_map (asked_change f change.Migrate saving) (seconds_of wait))
+unfolding clap_on_literals
+migrate-asks f None saving p q =
+    saved migrate_leaf (asked_in (codes "migrate")) f [] (after_file migrate_leaf f) (λ v.
+    option_map (asked_change f change.Migrate v) (seconds_of None)) saving p refl
+    (record { walk = refl; passes = refl }) (refl, refl, refl) (refl, refl, refl)
+migrate-asks f (Some w) saving p q =
+    saved migrate_leaf (asked_in (codes "migrate")) f (codes "--wait" ∷ w ∷ [])
+    (with_option migrate_leaf f (codes "wait") w)
+    (λ v. option_map (asked_change f change.Migrate v) (seconds_of (Some w))) saving p refl
+    (option-steps migrate_leaf (after_file migrate_leaf f).held idle 2 (codes "--wait") (codes "wait") w q refl refl
+    refl) (refl, refl, refl) (refl, refl, refl)
+
+-- the command `grow`
+abbrev pub grow_leaf : Shape
+grow_leaf = leaf grow_command
+
+-- behind the number of a growth
+abbrev at_bytes : Text → Text → Walk
+at_bytes f d = plain_step grow_leaf.rules (after_file grow_leaf f) d
+
+-- `grow` asks for a larger file
+pub grow-asks : (f d : Text) (wait : Option Text) (saving : SaveMode) → IsPlain f → IsPlain d → IsPlainIn wait
+    → IsAsk grow_leaf (asked_in (codes "grow")) (f ∷ d ∷ option_words (codes "--wait") wait ++ saving_part saving)
+    (option_and_then (λ n. option_map (asked_change f (change.Grow n) saving) (seconds_of wait)) (number_of d))
+unfolding clap_on_literals
+grow-asks f d None saving p q r = saved grow_leaf (asked_in (codes "grow")) f (d ∷ []) (at_bytes f d)
+    (λ v. option_and_then (λ n. option_map (asked_change f (change.Grow n) v) (seconds_of None)) (number_of d))
+    saving p refl
+    (number grow_leaf (after_file grow_leaf f).held d q refl) (refl, refl, refl) (refl, refl, refl)
+grow-asks f d (Some w) saving p q r =
+    saved grow_leaf (asked_in (codes "grow")) f (d ∷ codes "--wait" ∷ w ∷ [])
+    (after_option grow_leaf (codes "wait") w (at_bytes f d))
+    (λ v. option_and_then (λ n. option_map (asked_change f (change.Grow n) v) (seconds_of (Some w))) (number_of d))
+    saving p refl
+    (optioned grow_leaf (after_file grow_leaf f) (d ∷ []) (at_bytes f d).held 3 (codes "--wait") (codes "wait") w r
+    (number grow_leaf (after_file grow_leaf f).held d q refl) refl refl refl) (refl, refl, refl) (refl, refl, refl)
+
+-- ---- a load
+
+-- the command `load`
+abbrev pub load_leaf : Shape
+load_leaf = leaf load_command
+
+-- what a load is asked for, by its words
+abbrev pub loaded : Text → Option Text → Option Text → SaveMode → Option InvocationValue
+loaded f size wait saving = option_and_then (λ n. option_map (load f n saving) (seconds_of wait)) (size_of size)
+
+size-steps : (f d : Text) → IsPlain d
+    → IsSteps load_leaf (after_file load_leaf f) (codes "--size" ∷ d ∷ []) (with_option load_leaf f (codes "size") d)
+unfolding clap_on_literals
+size-steps f d q = option-steps load_leaf (after_file load_leaf f).held idle 2 (codes "--size") (codes "size") d q
+    refl refl refl
+
+-- `load` asks for a load
+pub load-asks : (f : Text) (size wait : Option Text) (saving : SaveMode) → IsPlain f → IsPlainIn size → IsPlainIn wait
+    → IsAsk load_leaf (asked_in (codes "load")) (f ∷ option_words (codes "--size") size
+    ++ (option_words (codes "--wait") wait ++ saving_part saving)) (loaded f size wait saving)
+unfolding clap_on_literals
+load-asks f None None saving p q r =
+    saved load_leaf (asked_in (codes "load")) f [] (after_file load_leaf f) (loaded f None None) saving p refl
+    (record { walk = refl; passes = refl }) (refl, refl, refl) (refl, refl, refl)
+load-asks f (Some d) None saving p q r =
+    saved load_leaf (asked_in (codes "load")) f (codes "--size" ∷ d ∷ []) (with_option load_leaf f (codes "size") d)
+    (loaded f (Some d) None) saving p refl
+    (size-steps f d q) (refl, refl, refl) (refl, refl, refl)
+load-asks f None (Some w) saving p q r =
+    saved load_leaf (asked_in (codes "load")) f (codes "--wait" ∷ w ∷ []) (with_option load_leaf f (codes "wait") w)
+    (loaded f None (Some w)) saving p refl
+    (option-steps load_leaf (after_file load_leaf f).held idle 2 (codes "--wait") (codes "wait") w r refl refl refl)
+    (refl, refl, refl) (refl, refl, refl)
+load-asks f (Some d) (Some w) saving p q r =
+    saved load_leaf (asked_in (codes "load")) f (codes "--size" ∷ d ∷ codes "--wait" ∷ w ∷ [])
+    (after_option load_leaf (codes "wait") w (with_option load_leaf f (codes "size") d))
+    (loaded f (Some d) (Some w)) saving p refl
+    (optioned load_leaf (after_file load_leaf f) (codes "--size" ∷ d ∷ [])
+    (with_option load_leaf f (codes "size") d).held 2 (codes "--wait") (codes "wait") w r
+    (size-steps f d q) refl refl refl) (refl, refl, refl) (refl, refl, refl)
+
+-- ---- names
+
+-- the command `names`
+abbrev pub names_leaf : Shape
+names_leaf = leaf names_command
+
+-- what names are asked for, by their words
+abbrev pub listed : Text → Option Text → Option Text → Option InvocationValue
+listed f prefix most = option_map (names f (unwrap_or prefix [])) (size_of most)
+
+prefix-steps : (f t : Text) → IsPlain t
+    → IsSteps names_leaf (after_file names_leaf f) (codes "--prefix" ∷ t ∷ [])
+    (with_option names_leaf f (codes "prefix") t)
+unfolding clap_on_literals
+prefix-steps f t q = option-steps names_leaf (after_file names_leaf f).held idle 2 (codes "--prefix")
+    (codes "prefix") t q refl refl refl
+
+-- `names` asks for names
+pub names-asks : (f : Text) (prefix most : Option Text) → IsPlain f → IsPlainIn prefix → IsPlainIn most
+    → IsAsk names_leaf (asked_in (codes "names")) (f ∷ option_words (codes "--prefix") prefix
+    ++ option_words (codes "--most") most) (listed f prefix most)
+unfolding clap_on_literals
+names-asks f None None p q r =
+    flagged names_leaf (asked_in (codes "names")) f [] (listed f None None) p refl refl refl refl
+names-asks f (Some t) None p q r =
+    behind names_leaf (asked_in (codes "names")) f (codes "--prefix" ∷ t ∷ []) []
+    (with_option names_leaf f (codes "prefix") t) (listed f (Some t) None) p refl
+    (prefix-steps f t q) refl refl refl
+names-asks f None (Some d) p q r =
+    behind names_leaf (asked_in (codes "names")) f (codes "--most" ∷ d ∷ []) []
+    (with_option names_leaf f (codes "most") d) (listed f None (Some d)) p refl
+    (option-steps names_leaf (after_file names_leaf f).held idle 2 (codes "--most") (codes "most") d r refl refl
+    refl) refl refl refl
+names-asks f (Some t) (Some d) p q r =
+    behind names_leaf (asked_in (codes "names")) f (codes "--prefix" ∷ t ∷ codes "--most" ∷ d ∷ []) []
+    (after_option names_leaf (codes "most") d (with_option names_leaf f (codes "prefix") t))
+    (listed f (Some t) (Some d)) p refl
+    (optioned names_leaf (after_file names_leaf f) (codes "--prefix" ∷ t ∷ [])
+    (with_option names_leaf f (codes "prefix") t).held 2 (codes "--most") (codes "most") d r
+    (prefix-steps f t q) refl refl refl) refl refl refl
+
+-- ---- a run
+
+-- the command `run`
+abbrev pub run_leaf : Shape
+run_leaf = leaf run_command
+
+-- a flag has a value where it is left out too
+abbrev pub saving_word : SaveMode → Text
+saving_word InPlace = codes "false"
+saving_word Replacing = codes "true"
+
+-- the word of a setting that is on or off
+abbrev pub truth_word : Bool → Text
+truth_word true = codes "true"
+truth_word false = codes "false"
+
+-- what the words of a run of standard input say
+abbrev pub said : Text → Option Text → Option Text → Option Text → SaveMode → Bool → Bool → RunWords
+said f mode size wait saving strict numbered = record {
+  file = Some f;
+  mode = mode;
+  size = size;
+  script = None;
+  lines = [];
+  replace = Some (saving_word saving);
+  wait = wait;
+  strict = Some (truth_word strict);
+  numbered = Some (truth_word numbered);
+}
+
+-- a place, with the flags of a run behind it
+abbrev IsFlagged : Walk → (SaveMode → Bool → Bool → RunWords) → SaveMode → Bool → Bool → Type 0
+IsFlagged to a saving strict numbered = (walk_passes run_leaf [] to (flag_words saving strict numbered) ≡ true)
+    × (run_words (finished run_leaf.rules
+    (fold (walked run_leaf.rules []) to (flag_words saving strict numbered)).held) ≡ a saving strict numbered)
+    × (passes_at run_leaf true (fold (walked run_leaf.rules []) to (flag_words saving strict numbered)) ≡ true)
+
+all-flags : (P : SaveMode → Bool → Bool → Type 0) → P InPlace false false → P InPlace false true
+    → P InPlace true false → P InPlace true true
+    → P Replacing false false → P Replacing false true → P Replacing true false → P Replacing true true
+    → (saving : SaveMode) (strict numbered : Bool) → P saving strict numbered
+all-flags P a b c d e f g h InPlace false false = a
+all-flags P a b c d e f g h InPlace false true = b
+all-flags P a b c d e f g h InPlace true false = c
+all-flags P a b c d e f g h InPlace true true = d
+all-flags P a b c d e f g h Replacing false false = e
+all-flags P a b c d e f g h Replacing false true = f
+all-flags P a b c d e f g h Replacing true false = g
+all-flags P a b c d e f g h Replacing true true = h
+
+-- words that lead from the file of a run to a place, and there say this beside its flags
+record IsRunPart (f : Text) (words : List Text) (to : Walk) (a : SaveMode → Bool → Bool → RunWords) : Type 0 where
+  path : IsSteps run_leaf (after_file run_leaf f) words to
+  flagged : (saving : SaveMode) (strict numbered : Bool) → IsFlagged to a saving strict numbered
+
+run-flagged : (f : Text) (words : List Text) (to : Walk) (a : SaveMode → Bool → Bool → RunWords) → IsPlain f
+    → IsRunPart f words to a → (saving : SaveMode) (strict numbered : Bool)
+    → IsAsk run_leaf run_words (f ∷ words ++ flag_words saving strict numbered) (a saving strict numbered)
+run-flagged f words to a p w saving strict numbered =
+    let h = w.flagged saving strict numbered in
+    behind run_leaf run_words f words (flag_words saving strict numbered) to (a saving strict numbered) p refl
+    w.path h.0 h.1 h.2
+
+-- `--mode M` and `--size N` right behind the file, and both
+abbrev at_mode : Text → Text → Walk
+at_mode f m = with_option run_leaf f (codes "mode") m
+
+abbrev at_size : Text → Text → Walk
+at_size f d = with_option run_leaf f (codes "size") d
+
+abbrev at_both : Text → Text → Text → Walk
+at_both f m d = after_option run_leaf (codes "size") d (at_mode f m)
+
+mode-steps : (f m : Text) → IsPlain m → IsSteps run_leaf (after_file run_leaf f) (codes "--mode" ∷ m ∷ []) (at_mode f m)
+unfolding clap_on_literals
+mode-steps f m q = option-steps run_leaf (after_file run_leaf f).held idle 2 (codes "--mode") (codes "mode") m q
+    refl refl refl
+
+run-size-steps : (f d : Text) → IsPlain d
+    → IsSteps run_leaf (after_file run_leaf f) (codes "--size" ∷ d ∷ []) (at_size f d)
+unfolding clap_on_literals
+run-size-steps f d q = option-steps run_leaf (after_file run_leaf f).held idle 2 (codes "--size") (codes "size") d q
+    refl refl refl
+
+both-steps : (f m d : Text) → IsPlain m → IsPlain d
+    → IsSteps run_leaf (after_file run_leaf f) (codes "--mode" ∷ m ∷ codes "--size" ∷ d ∷ []) (at_both f m d)
+unfolding clap_on_literals
+both-steps f m d q r = optioned run_leaf (after_file run_leaf f) (codes "--mode" ∷ m ∷ []) (at_mode f m).held 2
+    (codes "--size") (codes "size") d r (mode-steps f m q) refl refl refl
+
+file-part : (f : Text) → IsRunPart f [] (after_file run_leaf f) (said f None None None)
+unfolding clap_on_literals
+file-part f = record {
+  path = record { walk = refl; passes = refl };
+  flagged = all-flags (IsFlagged (after_file run_leaf f) (said f None None None))
+      (refl, refl, refl) (refl, refl, refl) (refl, refl, refl) (refl, refl, refl)
+      (refl, refl, refl) (refl, refl, refl) (refl, refl, refl) (refl, refl, refl);
+}
+
+mode-part : (f m : Text) → IsPlain m → IsRunPart f (codes "--mode" ∷ m ∷ []) (at_mode f m) (said f (Some m) None None)
+unfolding clap_on_literals
+mode-part f m q = record {
+  path = mode-steps f m q;
+  flagged = all-flags (IsFlagged (at_mode f m) (said f (Some m) None None))
+      (refl, refl, refl) (refl, refl, refl) (refl, refl, refl) (refl, refl, refl)
+      (refl, refl, refl) (refl, refl, refl) (refl, refl, refl) (refl, refl, refl);
+}
+
+size-part : (f d : Text) → IsPlain d → IsRunPart f (codes "--size" ∷ d ∷ []) (at_size f d) (said f None (Some d) None)
+unfolding clap_on_literals
+size-part f d q = record {
+  path = run-size-steps f d q;
+  flagged = all-flags (IsFlagged (at_size f d) (said f None (Some d) None))
+      (refl, refl, refl) (refl, refl, refl) (refl, refl, refl) (refl, refl, refl)
+      (refl, refl, refl) (refl, refl, refl) (refl, refl, refl) (refl, refl, refl);
+}
+
+both-part : (f m d : Text) → IsPlain m → IsPlain d
+    → IsRunPart f (codes "--mode" ∷ m ∷ codes "--size" ∷ d ∷ []) (at_both f m d) (said f (Some m) (Some d) None)
+unfolding clap_on_literals
+both-part f m d q r = record {
+  path = both-steps f m d q r;
+  flagged = all-flags (IsFlagged (at_both f m d) (said f (Some m) (Some d) None))
+      (refl, refl, refl) (refl, refl, refl) (refl, refl, refl) (refl, refl, refl)
+      (refl, refl, refl) (refl, refl, refl) (refl, refl, refl) (refl, refl, refl);
+}
+
+wait-part : (f w : Text) → IsPlain w
+    → IsRunPart f (codes "--wait" ∷ w ∷ []) (with_option run_leaf f (codes "wait") w) (said f None None (Some w))
+unfolding clap_on_literals
+wait-part f w q = record {
+  path = option-steps run_leaf (after_file run_leaf f).held idle 2 (codes "--wait") (codes "wait") w q refl refl refl;
+  flagged = all-flags (IsFlagged (with_option run_leaf f (codes "wait") w) (said f None None (Some w)))
+      (refl, refl, refl) (refl, refl, refl) (refl, refl, refl) (refl, refl, refl)
+      (refl, refl, refl) (refl, refl, refl) (refl, refl, refl) (refl, refl, refl);
+}
+
+mode-wait-part : (f m w : Text) → IsPlain m → IsPlain w
+    → IsRunPart f (codes "--mode" ∷ m ∷ codes "--wait" ∷ w ∷ [])
+    (after_option run_leaf (codes "wait") w (at_mode f m)) (said f (Some m) None (Some w))
+unfolding clap_on_literals
+mode-wait-part f m w q r = record {
+  path = optioned run_leaf (after_file run_leaf f) (codes "--mode" ∷ m ∷ []) (at_mode f m).held 2 (codes "--wait")
+      (codes "wait") w r (mode-steps f m q) refl refl refl;
+  flagged = all-flags (IsFlagged (after_option run_leaf (codes "wait") w (at_mode f m)) (said f (Some m) None (Some w)))
+      (refl, refl, refl) (refl, refl, refl) (refl, refl, refl) (refl, refl, refl)
+      (refl, refl, refl) (refl, refl, refl) (refl, refl, refl) (refl, refl, refl);
+}
+
+size-wait-part : (f d w : Text) → IsPlain d → IsPlain w
+    → IsRunPart f (codes "--size" ∷ d ∷ codes "--wait" ∷ w ∷ [])
+    (after_option run_leaf (codes "wait") w (at_size f d)) (said f None (Some d) (Some w))
+unfolding clap_on_literals
+size-wait-part f d w q r = record {
+  path = optioned run_leaf (after_file run_leaf f) (codes "--size" ∷ d ∷ []) (at_size f d).held 2 (codes "--wait")
+      (codes "wait") w r (run-size-steps f d q) refl refl refl;
+  flagged = all-flags (IsFlagged (after_option run_leaf (codes "wait") w (at_size f d)) (said f None (Some d) (Some w)))
+      (refl, refl, refl) (refl, refl, refl) (refl, refl, refl) (refl, refl, refl)
+      (refl, refl, refl) (refl, refl, refl) (refl, refl, refl) (refl, refl, refl);
+}
+
+all-part : (f m d w : Text) → IsPlain m → IsPlain d → IsPlain w
+    → IsRunPart f (codes "--mode" ∷ m ∷ codes "--size" ∷ d ∷ codes "--wait" ∷ w ∷ [])
+    (after_option run_leaf (codes "wait") w (at_both f m d)) (said f (Some m) (Some d) (Some w))
+unfolding clap_on_literals
+all-part f m d w q r t = record {
+  path = optioned run_leaf (after_file run_leaf f) (codes "--mode" ∷ m ∷ codes "--size" ∷ d ∷ [])
+      (at_both f m d).held 2 (codes "--wait") (codes "wait") w t (both-steps f m d q r) refl refl refl;
+  flagged = all-flags (IsFlagged (after_option run_leaf (codes "wait") w (at_both f m d))
+      (said f (Some m) (Some d) (Some w)))
+      (refl, refl, refl) (refl, refl, refl) (refl, refl, refl) (refl, refl, refl)
+      (refl, refl, refl) (refl, refl, refl) (refl, refl, refl) (refl, refl, refl);
+}
+
+-- `run` asks for a run
+pub run-asks : (f : Text) (mode size wait : Option Text) (saving : SaveMode) (strict numbered : Bool) → IsPlain f
+    → IsPlainIn mode → IsPlainIn size → IsPlainIn wait
+    → IsAsk run_leaf run_words (f ∷ option_words (codes "--mode") mode
+    ++ (option_words (codes "--size") size
+    ++ (option_words (codes "--wait") wait ++ flag_words saving strict numbered)))
+    (said f mode size wait saving strict numbered)
+run-asks f None None None saving strict numbered p q r t = run-flagged _ _ _ _ p (file-part f) saving strict numbered
+run-asks f (Some m) None None saving strict numbered p q r t =
+    run-flagged _ _ _ _ p (mode-part f m q) saving strict numbered
+run-asks f None (Some d) None saving strict numbered p q r t =
+    run-flagged _ _ _ _ p (size-part f d r) saving strict numbered
+run-asks f (Some m) (Some d) None saving strict numbered p q r t =
+    run-flagged _ _ _ _ p (both-part f m d q r) saving strict numbered
+run-asks f None None (Some w) saving strict numbered p q r t =
+    run-flagged _ _ _ _ p (wait-part f w t) saving strict numbered
+run-asks f (Some m) None (Some w) saving strict numbered p q r t =
+    run-flagged _ _ _ _ p (mode-wait-part f m w q t) saving strict numbered
+run-asks f None (Some d) (Some w) saving strict numbered p q r t =
+    run-flagged _ _ _ _ p (size-wait-part f d w r t) saving strict numbered
+run-asks f (Some m) (Some d) (Some w) saving strict numbered p q r t =
+    run-flagged _ _ _ _ p (all-part f m d w q r t) saving strict numbered
+
+-- ---- a run whose script is a file, or lines
+
+abbrev pub said_with : Text → Option Text → List Text → RunWords
+said_with f script lines = record (said f None None None InPlace false false) { script = script; lines = lines }
+
+-- `run` with a script asks for a run of it
+pub script-asks : (f t : Text) → IsPlain f → IsPlain t → IsAsk run_leaf run_words (f ∷ t ∷ []) (said_with f (Some t) [])
+unfolding clap_on_literals
+script-asks f t p q = behind run_leaf run_words f (t ∷ []) [] (plain_step run_leaf.rules (after_file run_leaf f) t)
+    (said_with f (Some t) []) p refl
+    (number run_leaf (after_file run_leaf f).held t q refl) refl refl refl
+
+-- the row of a word, which may have more than one value
+abbrev word_row : Text → List Text → Row
+word_row id words = record {
+  id = id;
+  values = words;
+  count = None;
+  source = Some CommandLine;
+  reading = reading.AsWritten;
+}
+
+-- the rows with these lines
+abbrev line_rows : Text → List Text → List Row
+line_rows f [] = word_row (codes "file") (f ∷ []) ∷ []
+line_rows f (l ∷ ls) = word_row (codes "file") (f ∷ []) ∷ word_row (codes "line") (l ∷ ls) ∷ []
+
+-- behind the last line, with those before it
+abbrev at_line : Text → List Text → Text → Walk
+at_line f done last = at (record { rows = line_rows f done; pending = Some (codes "line", last ∷ []); skip = 0 }) idle 2
+
+first-line : (f l : Text) → IsPlain l → IsSteps run_leaf (after_file run_leaf f) (codes "-c" ∷ l ∷ []) (at_line f [] l)
+unfolding clap_on_literals
+first-line f l q = option-steps run_leaf (after_file run_leaf f).held idle 2 (codes "-c") (codes "line") l q refl
+    refl refl
+
+next-line : (f : Text) (done : List Text) (last l : Text) → IsPlain l
+    → IsSteps run_leaf (at_line f done last) (codes "-c" ∷ l ∷ []) (at_line f (done ++ last ∷ []) l)
+unfolding clap_on_literals
+next-line f [] last l q = option-steps run_leaf (at_line f [] last).held idle 2 (codes "-c") (codes "line") l q refl
+    refl refl
+next-line f (x ∷ xs) last l q =
+    option-steps run_leaf (at_line f (x ∷ xs) last).held idle 2 (codes "-c") (codes "line") l q refl refl refl
+
+-- each is a word that is no option
+abbrev pub ArePlain : List Text → Type 0
+ArePlain [] = ⊤
+ArePlain (l ∷ ls) = IsPlain l × ArePlain ls
+
+-- where lines lead behind one
+record IsLined (f : Text) (done : List Text) (last : Text) (words : List Text) : Type 0 where
+  before : List Text
+  final : Text
+  path : IsSteps run_leaf (at_line f done last) (line_words words) (at_line f before final)
+  all : before ++ final ∷ [] ≡ done ++ last ∷ words
+
+lined : (f : Text) (done : List Text) (last : Text) (words : List Text) → ArePlain words → IsLined f done last words
+unfolding walk_passes
+lined f done last [] q = record {
+  before = done;
+  final = last;
+  path = record { walk = refl; passes = refl };
+  all = refl;
+}
+lined f done last (l ∷ ls) (q, qs) =
+    let rest = lined f (done ++ last ∷ []) l ls qs in
+    record {
+      before = rest.before;
+      final = rest.final;
+      path = steps run_leaf (at_line f done last) (at_line f (done ++ last ∷ []) l)
+          (at_line f rest.before rest.final) (codes "-c" ∷ l ∷ []) (line_words ls) (next-line f done last l q)
+          rest.path;
+      all = rest.all ∙ append_assoc done (last ∷ []) (l ∷ ls);
+    }
+
+lines-found : (f : Text) (before : List Text) (final : Text)
+    → run_words (finished run_leaf.rules (at_line f before final).held) ≡ said_with f None (before ++ final ∷ [])
+unfolding clap_on_literals
+lines-found f [] final = refl
+lines-found f (x ∷ xs) final = refl
+
+lines-pass : (f : Text) (before : List Text) (final : Text) → passes_at run_leaf true (at_line f before final) ≡ true
+unfolding clap_on_literals
+lines-pass f [] final = refl
+lines-pass f (x ∷ xs) final = refl
+
+-- `run` with lines asks for a run of them
+pub lines-ask : (f l : Text) (ls : List Text) → IsPlain f → IsPlain l → ArePlain ls
+    → IsAsk run_leaf run_words (f ∷ line_words (l ∷ ls)) (said_with f None (l ∷ ls))
+lines-ask f l ls p q qs =
+    let more = lined f [] l ls qs in
+    asks run_leaf run_words (f ∷ line_words (l ∷ ls)) (at_line f more.before more.final) (said_with f None (l ∷ ls))
+    (steps run_leaf (walk_from nothing_held) (after_file run_leaf f) (at_line f more.before more.final) (f ∷ [])
+    (line_words (l ∷ ls)) (plain run_leaf nothing_held idle 1 f p refl)
+    (steps run_leaf (after_file run_leaf f) (at_line f [] l) (at_line f more.before more.final)
+    (codes "-c" ∷ l ∷ []) (line_words ls) (first-line f l q) more.path))
+    (lines-found f more.before more.final ∙ ap (λ t. said_with f None t) more.all) (lines-pass f more.before more.final)

@@ -1,0 +1,83 @@
+-- A bare word, read by its own bytes: it is one where a blank or the end follows them.
+use Rattle.std.proofs.Common.{◌≡◌, ℕ, suc, ◌+◌, ◌≤◌, Bool, true, false, cond, List, [], ◌∷◌, Option, Some, None, refl}
+use Rattle.std.proofs.Common.{sym, ap}
+use Rattle.std.proofs.Common.{◌∙◌, arith, take, drop, length, not}
+use Rattle.std.specs.List.{list_all, prefix_len}
+use Rattle.std.proofs.lemmas.List.{length-drop}
+use Rattle.std.proofs.lemmas.List.Folds.{length-prefix_len}
+use Rattle.std.proofs.lemmas.List.Sums.{prefix_len-le-length}
+use Rattle.std.proofs.lemmas.Option.{same_Some}
+use Rattle.std.proofs.lemmas.Bool.Decides.{nat_tests}
+use Rattle.segment_lang.specs.Words.{is_bare, is_blank}
+use Rattle.segment_lang.specs.Tokens.{bare_at, ends_word, longer, up_to_blank}
+use Rattle.segment_lang.proofs.words.AllWords.{bare_at_blank, bare_at_more}
+
+-- the bytes in front that may stand in a bare word, where the word ends behind them
+abbrev pub bare_front : List ℕ → Option (List ℕ × List ℕ)
+bare_front bs =
+    cond (ends_word (drop (prefix_len is_bare bs) bs))
+    (Some (take (prefix_len is_bare bs) bs, drop (prefix_len is_bare bs) bs)) None
+
+blank_not_bare : (c : ℕ) → is_blank c ≡ true → is_bare c ≡ false
+blank_not_bare c h = grind (arith, nat_tests, h)
+
+one_more : (e : Bool) (c : ℕ) (w r : List ℕ)
+    → longer c (cond e (Some (w, r)) None) ≡ cond {A = Option (List ℕ × List ℕ)} e (Some (c ∷ w, r)) None
+one_more true c w r = refl
+one_more false c w r = refl
+
+front_blank : (c : ℕ) (cs : List ℕ) → is_blank c ≡ true → is_bare c ≡ false → bare_front (c ∷ cs) ≡ Some ([], c ∷ cs)
+front_blank c cs h k = rw k (rw h refl)
+
+front_other : (c : ℕ) (cs : List ℕ) → is_blank c ≡ false → is_bare c ≡ false → bare_front (c ∷ cs) ≡ None
+front_other c cs h k = rw k (rw h refl)
+
+len_more : (c : ℕ) (cs : List ℕ) → is_bare c ≡ true → prefix_len is_bare (c ∷ cs) ≡ suc (prefix_len is_bare cs)
+len_more c cs k = rw k (omega arith)
+
+-- the same by the number of those bytes
+abbrev front_of : List ℕ → ℕ → Option (List ℕ × List ℕ)
+front_of bs n = cond (ends_word (drop n bs)) (Some (take n bs, drop n bs)) None
+
+front_more : (c : ℕ) (cs : List ℕ) → is_bare c ≡ true → bare_front (c ∷ cs) ≡ longer c (bare_front cs)
+front_more c cs k =
+    let n = prefix_len is_bare cs in
+    ap (front_of (c ∷ cs)) (len_more c cs k) ∙ sym (one_more (ends_word (drop n cs)) c (take n cs) (drop n cs))
+
+step : (k b : Bool) (c : ℕ) (cs : List ℕ) → is_blank c ≡ k → is_bare c ≡ b → bare_at cs ≡ bare_front cs
+    → bare_at (c ∷ cs) ≡ bare_front (c ∷ cs)
+step true b c cs h e i = bare_at_blank c cs h ∙ sym (front_blank c cs h (blank_not_bare c h))
+step false true c cs h e i = bare_at_more c cs h ∙ rw e (ap (longer c) i) ∙ sym (front_more c cs e)
+step false false c cs h e i = bare_at_more c cs h ∙ rw e refl ∙ sym (front_other c cs h e)
+
+pub bare_at_front : (bs : List ℕ) → bare_at bs ≡ bare_front bs
+unfolding bare_at
+bare_at_front [] = refl
+bare_at_front (c ∷ cs) = step (is_blank c) (is_bare c) c cs refl refl (bare_at_front cs)
+
+-- what is found in front is the word, and what is found not to be one is none
+pub front_is_word : (bs w r : List ℕ) (e : Bool) → w ≡ take (prefix_len is_bare bs) bs
+    → r ≡ drop (prefix_len is_bare bs) bs
+    → e ≡ ends_word r → e ≡ true → Some (w, r) ≡ bare_at bs
+front_is_word bs w r e f g h t = rw f (rw g (sym (bare_at_front bs ∙ rw (sym (ap ends_word g) ∙ sym h ∙ t) refl)))
+
+-- a bare front that ends nowhere is no word
+pub front_is_none : (bs r : List ℕ) (e : Bool) → r ≡ drop (prefix_len is_bare bs) bs → e ≡ ends_word r → e ≡ false
+    → None ≡ bare_at bs
+front_is_none bs r e g h t = sym (bare_at_front bs ∙ rw (sym (ap ends_word g) ∙ sym h ∙ t) refl)
+
+ended : (a : Bool) (up bs w r : List ℕ) → length up ≤ length bs
+    → cond {A = Option (List ℕ × List ℕ)} a (Some (up, drop (length up) bs)) None ≡ Some (w, r)
+    → length up + length r ≡ length bs
+ended true up bs w r h e =
+    let d : drop (length up) bs ≡ r =
+    ap (λ (x : List ℕ × List ℕ). x.1) (same_Some (up, drop (length up) bs) (w, r) e) in
+    omega (arith, sym (ap length d) ∙ length-drop (length up) bs)
+ended false up bs w r h e = absurd (cc)
+
+-- the bytes up to a blank and those behind a word are all
+pub word_and_rest : (bs w r : List ℕ) → bare_at bs ≡ Some (w, r) → length (up_to_blank bs) + length r ≡ length bs
+unfolding bare_at
+word_and_rest bs w r e =
+    ended (list_all is_bare (up_to_blank bs)) (up_to_blank bs) bs w r
+    (omega (arith, length-prefix_len (λ c. not (is_blank c)) bs, prefix_len-le-length (λ c. not (is_blank c)) bs)) e

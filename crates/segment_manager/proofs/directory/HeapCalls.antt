@@ -1,0 +1,57 @@
+-- What the contracts of the heap come to for a directory: blocks asked for, released and written.
+use Rattle.segment_manager.proofs.Common.{◌≡◌, sym, ap, ◌∙◌, ℕ, Bool, true, ◌&&◌, ◌==◌, List, WindowState, live, []}
+use Rattle.segment_manager.proofs.Common.{◌∷◌, refl, is_live_in, value_extents, without_object, lay_out_one}
+use Rattle.segment_manager.proofs.Common.{list_any-insert, subst, IsTrue, eq-eqb, Extent, handle, holds, KeepsBlocks}
+use Rattle.segment_manager.proofs.Common.{Object, has_key, Denotes, list_any, is_proper, Deallocates, Directory}
+use Rattle.segment_manager.proofs.Common.{IsObjectAt, Anonymous, extents_of, and_from, bytes_of, LiveSet, released}
+use Rattle.segment_manager.proofs.Common.{EncodesLiveSet, live_of, has_room, ByHandle}
+use Rattle.segment_manager.proofs.directory.LiveSet.{IsFound, IsIn, live-split, removing}
+use Rattle.segment_manager.proofs.{directory.ExtentOrder.inserted, objects.ObjectLists.all-found}
+use Rattle.segment_manager.proofs.{directory.OneObject.denotes-without}
+
+-- ---- objects are live blocks
+
+-- the block of an object passes a test that its extent passes
+pub any-object : (d : Directory) (o : Object) (t : Extent → Bool) → IsIn d o → IsTrue (is_proper (live d))
+    → t o.extent ≡ true → list_any t (live d).extents ≡ true
+any-object d o t f p h = ap (λ (l : LiveSet). list_any t l.extents) (live-split d o f p)
+    ∙ list_any-insert t o.extent (inserted (value_extents o.value) (live (without_object d o)).extents) h
+
+-- the block of an object is in use
+pub object-live : (d : Directory) (o : Object) → IsIn d o → IsTrue (is_proper (live d))
+    → is_live_in (live d) (handle o.extent) ≡ true
+object-live d o f p =
+    any-object d o (λ (x : Extent). handle x == handle o.extent) f p (eq-eqb (handle o.extent) (handle o.extent) refl)
+
+-- it has the room that its extent has
+pub object-room : (d : Directory) (o : Object) (n : ℕ) → IsIn d o → IsTrue (is_proper (live d))
+    → holds o.extent n ≡ true → has_room (live d) (handle o.extent) n ≡ true
+object-room d o n f p h = any-object d o (λ (x : Extent). (handle x == handle o.extent) && holds x n) f p
+    (and_from (handle o.extent == handle o.extent) (holds o.extent n)
+    (eq-eqb (handle o.extent) (handle o.extent) refl) h)
+
+-- the bytes say an object that is found
+pub object-at : (format : ℕ) (b : List ℕ) (d : Directory) (h : ℕ) (o : Object) → Denotes format b d
+    → IsFound h d.objects o → IsObjectAt (bytes_of b) o
+object-at format b d h o k f = all-found (IsObjectAt (bytes_of b)) (has_key (ByHandle h)) d.objects o k.objects f.is
+
+-- ---- what the bytes denote after the heap's calls
+
+-- the heap's live set is that of the directory
+pub denotes-live : (format : ℕ) (b : List ℕ) (d : Directory) → Denotes format b d → live_of b ≡ live d
+denotes-live format b d h = lay_out_one format b (live d) h.heap
+
+-- the bytes of a directory are a heap's
+pub denotes-heap : (format : ℕ) (b : List ℕ) (d : Directory) → Denotes format b d → EncodesLiveSet format b (live_of b)
+denotes-heap format b d h = subst (EncodesLiveSet format b) (sym (denotes-live format b d h)) h.heap
+
+-- without the object whose block was released, one without a key that has no other
+pub denotes-released : {format : ℕ} {old new : WindowState} {d : Directory} (o : Object)
+    → Denotes format old.bytes d → IsIn d o → o.class ≡ Anonymous → value_extents o.value ≡ []
+    → Deallocates format old new (handle o.extent) → Denotes format new.bytes (without_object d o)
+denotes-released {format} {old} {new} {d} o k f class alone r =
+    let same : released (live_of old.bytes) (handle o.extent) ≡ removing (live d) (extents_of o) =
+    ap (λ l. released l (handle o.extent)) (denotes-live format old.bytes d k)
+    ∙ ap (λ xs. removing (live d) (o.extent ∷ xs)) (sym alone) in
+    denotes-without old new o k f class (subst (EncodesLiveSet format new.bytes) same r.live)
+    (subst (λ (l : LiveSet). KeepsBlocks old new l.extents) same r.keeps)

@@ -1,0 +1,69 @@
+-- What only reads leaves the directory, and a step leads on.
+use Rattle.segment_manager.proofs.Common as common
+use common.{◌≡◌, sym, subst, Bool, false, Some, None, Ok, Err, Kind, Key, Mode, live, Plan, met, plan, step}
+use common.{SegmentState, refl, Option, Result, Extent, resized, Refusal, NoSpace, Command, Answer, Refused, perform}
+use common.{TakesStep, StepsWithoutAnswer, ap, false≢true, LiveSet, is_changing, Directory, refusal_of, step_of_kind}
+use common.{DenotesCurrent, answer_of, refusal_in}
+use Rattle.segment_manager.proofs.directory.Refusals.{Leaves, by_change, by_other, by_refusal, by_request, by_same}
+use Rattle.segment_manager.proofs.directory.Refusals.{plan-leaves}
+use Rattle.segment_manager.proofs.directory.Refusals.{plan_of_kind-leaves, step-refused}
+
+asked-reads : {d : Directory} (o : Option Extent) (after : Extent → Answer × Directory) → ((x : Extent)
+    → (after x).1 ≡ d) → (elim o as (λ _. Answer × Directory) [ None ↦ (Refused NoSpace, d) | Some x ↦ after x ]).1 ≡ d
+asked-reads None after k = refl
+asked-reads (Some x) after k = k x
+
+perform-reads : {d : Directory} {changing : Bool} (other : Bool) → changing ≡ false → (l : LiveSet) (p : Plan)
+    → Leaves d changing other p → (perform d l p).1 ≡ d
+perform-reads other e l p by_refusal = refl
+perform-reads other e l p by_same = refl
+perform-reads other e l p (by_change o a k) = absurd (false≢true (sym e))
+perform-reads other e l p (by_other k) = absurd (false≢true (sym e))
+perform-reads {d} other e l p (by_request {need = need} {next = next} k) = asked-reads (met l need)
+    (λ x. perform d (resized l x) (next x)) (λ x. perform-reads other e (resized l x) (next x) (k x))
+
+-- a command that only reads leaves the directory
+pub step-reads : (mode : Mode) (d : Directory) (c : Command) → is_changing c ≡ false → (step mode d c).1 ≡ d
+unfolding step
+step-reads mode d c e = perform-reads _ e (live d) (plan mode d c) (plan-leaves mode d c)
+
+-- the same of a call for objects of one kind
+pub step_of_kind-reads : (mode : Mode) (d : Directory) (key : Key) (kind : Kind) (c : Command) → is_changing c ≡ false
+    → (step_of_kind mode d key kind c).1 ≡ d
+unfolding step_of_kind
+step_of_kind-reads mode d key kind c e = perform-reads _ e (live d) _ (plan_of_kind-leaves mode d key kind c)
+
+-- ---- calls that answer less than the machine
+
+-- a step leads on
+pub step-leads : (old new : SegmentState) (c : Command) (answer : Answer) → TakesStep old new c answer
+    → StepsWithoutAnswer old new c (refusal_of answer)
+step-leads old new c answer m = record {
+  stays = m.stays;
+  answers = λ d h. ap refusal_of (m.answers d h);
+  denotes = m.denotes;
+}
+
+-- what a result answers is refused where the result is
+refusal_in-answer : {A : Type 0} (f : A → Answer) → ((a : A) → refusal_of (f a) ≡ None) → (result : Result A Refusal)
+    → refusal_of (answer_of f result) ≡ refusal_in result
+refusal_in-answer f none (Ok a) = none a
+refusal_in-answer f none (Err r) = refl
+
+-- so a call of which the whole answer is known leads on
+pub result-leads : {A : Type 0} (f : A → Answer)
+    → ((a : A) → refusal_of (f a) ≡ None) → {old new : SegmentState} (c : Command) (result : Result A Refusal)
+    → TakesStep old new c (answer_of f result) → StepsWithoutAnswer old new c (refusal_in result)
+result-leads f none {old} {new} c result m =
+    subst (StepsWithoutAnswer old new c) (refusal_in-answer f none result) (step-leads old new c (answer_of f result) m)
+
+-- an answer that is refused
+refused-is : {r : Refusal} (answer : Answer) → Some r ≡ refusal_of answer → answer ≡ Refused r
+refused-is (Refused q) e = cc
+refused-is answer e = cc
+
+-- what is refused stays where it is
+pub refused-stays : (old new : SegmentState) (c : Command) (r : Refusal) → StepsWithoutAnswer old new c (Some r)
+    → (d : Directory) → DenotesCurrent old.cut.bytes d → DenotesCurrent new.cut.bytes d
+refused-stays old new c r m d h = subst (DenotesCurrent new.cut.bytes)
+    (step-refused old.mode c r (refused-is (step old.mode d c).0 (m.answers d h))) (m.denotes d h)

@@ -1,0 +1,3 @@
+-- Commands on elements and texts: which call is the step of the command (`Elements`).
+pub mod Elements
+pub mod Texts

@@ -1,0 +1,49 @@
+-- New elements of vectors, put in under the handle of the vector where a spot says.
+use Rattle.std.proofs.Common.{sym, subst, List, ℕ}
+use Rattle.seg_types.specs.declared.kinds.Kind.TheVariants.{Strings, Vector}
+use Rattle.seg_types.specs.declared.refusals.Refusal.{Refusal}
+use Rattle.seg_types.specs.declared.values.ScalarValue.{ScalarValue}
+use Rattle.seg_types.specs.Commands.{Insert, Literal, Push, Quoted}
+use Rattle.seg_types.specs.Names.{Key, ByHandle}
+use Rattle.seg_types.specs.Values.{kind_of_scalar}
+use Rattle.seg_types.specs.Written.{literal_seen}
+use Rattle.segment_manager.specs.declared.objects.object_ref.Object.{Object as Located}
+use Rattle.segment_manager.specs.Answers.{Answer, Refused}
+use Rattle.segment_manager.specs.containers.Changeable.{IsElement, IsNoElement}
+use Rattle.segment_manager.specs.objects.Located.{IsLocated}
+use Rattle.segment_manager.specs.State.{TakesStep, TakesStepOfKind, SegmentState}
+use Rattle.segment_manager.proofs.CommandLaws.{insert-element, push-element}
+use Rattle.segment_manager.proofs.ElementLaws.{of_kind-steps}
+use Rattle.segment_manager.proofs.Laws.{step_of_kind-by_key}
+use Rattle.segment_values.specs.Changes.{IsTextElementFor, command_at}
+use Rattle.segment_values.specs.declared.vectors.InsertSpot.{InsertSpot}
+use Rattle.segment_values.specs.declared.vectors.InsertSpot.TheVariants.{End, Before}
+
+module _ {s : SegmentState} {key : Key} {l : Literal} where
+  -- a literal that is no element is refused
+  pub add-refused : (spot : InsertSpot) {why : Refusal} → IsNoElement s key l why
+      → TakesStep s s (command_at spot key l) (Refused why)
+  add-refused End n = n.push
+  add-refused (Before i) n = n.insert i
+
+  module _ {o : Located} (located : IsLocated s key o) {new : SegmentState} {answer : Answer} where
+    -- an added scalar is the step of the command
+    pub scalar-added : (spot : InsertSpot) {v : ScalarValue} → IsElement s key l v
+        → TakesStepOfKind s new (ByHandle o.handle) (Vector (kind_of_scalar v))
+        (command_at spot (ByHandle o.handle) (literal_seen v)) answer
+        → TakesStep s new (command_at spot key l) answer
+    scalar-added End e r = push-element located e r
+    scalar-added (Before i) e r = insert-element located e i r
+
+    -- an added string is the step of the command
+    pub text-added : (spot : InsertSpot) {bs : List ℕ} → IsTextElementFor s key l bs
+        → TakesStepOfKind s new (ByHandle o.handle) Strings (command_at spot (ByHandle o.handle) (Quoted bs)) answer
+        → TakesStep s new (command_at spot key l) answer
+    text-added End {bs} h r =
+        subst (λ m. TakesStep s new (Push key m) answer) (sym h.is)
+        (of_kind-steps s new key Strings (Push key (Quoted bs)) answer h.of_kind.is
+        (step_of_kind-by_key s key o located new Strings (Push key (Quoted bs)) answer r))
+    text-added (Before i) {bs} h r =
+        subst (λ m. TakesStep s new (Insert key i m) answer) (sym h.is)
+        (of_kind-steps s new key Strings (Insert key i (Quoted bs)) answer h.of_kind.is
+        (step_of_kind-by_key s key o located new Strings (Insert key i (Quoted bs)) answer r))

@@ -1,0 +1,3 @@
+-- Pairs of a map under its key.
+pub mod Absent
+pub mod Walk

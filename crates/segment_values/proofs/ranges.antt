@@ -1,0 +1,5 @@
+-- Ranges of elements: read one by one (`Reads`) or where they stand (`InPlace`).
+pub mod InPlace
+pub mod Reads
+pub mod Rows
+pub mod Lists

@@ -1,0 +1,276 @@
+-- Elements that are read where they stand in the image.
+use Rattle.std.proofs.Common.{◌≡◌, refl, sym, ap, subst, ◌∙◌, ℕ, zero, suc, ◌+◌, ◌*◌, ◌<◌, ◌≤◌, ◌⊎◌, inl, inr, ℤ, true}
+use Rattle.std.proofs.Common.{Bool, Some, None, Option, Result, Ok, Err, List, [], ◌∷◌, ◌++◌, length, length-append}
+use Rattle.std.proofs.Common.{map}
+use Rattle.std.proofs.Common.{set, take, IsTrue, zero-add, arith}
+use Rattle.std.specs.Prelude.{◌-◌, drop, slice_get}
+use Rattle.std.specs.List.{list_all}
+use Rattle.std.proofs.Math.Nat.{eq_of_mul-eq-mul_left, lt_of_mul-lt-mul_left, mul-le-mul_left, mul-lt-mul_of_pos_left}
+use Rattle.std.proofs.Math.Seq.{drop-append-add, drop-nil}
+use Rattle.std.proofs.lemmas.Bool.{and_from, and_parts}
+use Rattle.std.proofs.lemmas.List.{take_all}
+use Rattle.raw_region.specs.Memory.{bytes_of, part, read}
+use Rattle.raw_region.proofs.Laws.{part-part, read-part}
+use Rattle.raw_region.proofs.Facts.{first}
+use Rattle.block_tags.specs.Format.{is_legal_size}
+use Rattle.best_fit.specs.Extents.{handle, is_proper, proper_from}
+use Rattle.seg_types.specs.declared.kinds.Kind.TheVariants.{Scalar, Vector}
+use Rattle.seg_types.specs.declared.kinds.ScalarKind.{ScalarKind}
+use Rattle.seg_types.specs.declared.kinds.ScalarKind.TheVariants.{Bool as BoolKind, U8, I32, I64, U64}
+use Rattle.seg_types.specs.declared.refusals.Refusal.{Refusal}
+use Rattle.seg_types.specs.declared.refusals.Refusal.TheVariants.{NotFound}
+use Rattle.seg_types.specs.Kinds.{is_value, size_of, spelling}
+use Rattle.seg_types.specs.Names.{ByHandle}
+use Rattle.seg_types.proofs.Laws.{all_spell_one}
+use Rattle.seg_vector.specs.Vector.{spelled}
+use Rattle.seg_vector.proofs.storage.TypedVectors.{all-at, flat-element, flat-take, has-element}
+use Rattle.segment_manager.specs.declared.containers.element_runs.ElementRun.{ElementRun}
+use Rattle.segment_manager.specs.declared.objects.object_ref.Object.{Object as Located}
+use Rattle.segment_manager.specs.Directory.{Directory, Value, Numbers, Elements, Object, kind_of, live, padded}
+use Rattle.segment_manager.specs.Layout.{head_len}
+use Rattle.segment_manager.specs.containers.ElementRuns.{IsRunOf, run_at, run_in, run_of, spelled_at, spelled_in}
+use Rattle.segment_manager.specs.objects.ElementLists.{numbers_in}
+use Rattle.segment_manager.specs.objects.Located.{IsLocated}
+use Rattle.segment_manager.specs.State.{AnswersWith, IsSegment, SegmentState, DenotesCurrent}
+use Rattle.segment_manager.proofs.Laws.{IsSaidAt, said-at}
+use Rattle.segment_manager.proofs.ElementLaws.{AVector, AnArray, IsRowOfKind, row-element, run-kind}
+use Rattle.segment_values.specs.Ranges.{AreSpelled, HasRow, is_row, row_of}
+use Rattle.segment_values.proofs.ranges.Lists.{read-more}
+use Rattle.segment_values.proofs.ranges.Rows.{its-numbers, row-cases}
+
+-- ---- bytes that spell values
+
+all-from : (test : ℤ → Bool) (zs : List ℤ) → ((i : ℕ) (z : ℤ) → slice_get zs i ≡ Some z → test z ≡ true)
+    → IsTrue (list_all test zs)
+all-from test [] each = refl
+all-from test (z ∷ zs) each =
+    and_from (test z) (list_all test zs) (each 0 z refl) (all-from test zs (λ i y e. each (suc i) y e))
+
+all-behind : (test : ℤ → Bool) (n : ℕ) (zs : List ℤ) → IsTrue (list_all test zs) → IsTrue (list_all test (drop n zs))
+all-behind test zero zs v = v
+all-behind test (suc n) [] v = v
+all-behind test (suc n) (z ∷ zs) v = all-behind test n zs (and_parts (test z) (list_all test zs) v).1
+
+all-before : (test : ℤ → Bool) (n : ℕ) (zs : List ℤ) → IsTrue (list_all test zs) → IsTrue (list_all test (take n zs))
+all-before test zero zs v = refl
+all-before test (suc n) [] v = refl
+all-before test (suc n) (z ∷ zs) v =
+    let both = and_parts (test z) (list_all test zs) v in
+    and_from (test z) (list_all test (take n zs)) both.0 (all-before test n zs both.1)
+
+long : (k : ScalarKind) (z : ℤ) → is_value k z ≡ true → length (spelling k z) ≡ size_of k
+long k z e = (all_spell_one k z e).len
+
+some : (k : ScalarKind) → 0 < size_of k
+some BoolKind = omega arith
+some U8 = omega arith
+some I32 = omega arith
+some I64 = omega arith
+some U64 = omega arith
+
+spelled-length : (k : ScalarKind) (zs : List ℤ) → IsTrue (list_all (is_value k) zs)
+    → length (spelled k zs) ≡ size_of k * length zs
+spelled-length k [] v = let none : size_of k * 0 ≡ 0 = omega arith in sym none
+spelled-length k (z ∷ zs) v =
+    let both = and_parts (is_value k z) (list_all (is_value k) zs) v in
+    let own = long k z both.0 in let rest = spelled-length k zs both.1 in
+    let all = length-append (spelling k z) (spelled k zs) in
+    let step : size_of k * suc (length zs) ≡ size_of k + size_of k * length zs = omega arith in
+    omega (arith, own, rest, all, step)
+
+spelled-drop : (k : ScalarKind) (n : ℕ) (zs : List ℤ) → IsTrue (list_all (is_value k) zs)
+    → drop (size_of k * n) (spelled k zs) ≡ spelled k (drop n zs)
+spelled-drop k zero zs v = let none : size_of k * 0 ≡ 0 = omega arith in ap (λ j. drop j (spelled k zs)) none
+spelled-drop k (suc n) [] v = drop-nil (size_of k * suc n)
+spelled-drop k (suc n) (z ∷ zs) v =
+    let both = and_parts (is_value k z) (list_all (is_value k) zs) v in let own = long k z both.0 in
+    let step : size_of k * suc n ≡ length (spelling k z) + size_of k * n = omega (arith, own) in
+    ap (λ j. drop j (spelling k z ++ spelled k zs)) step
+    ∙ drop-append-add (spelling k z) (spelled k zs) (size_of k * n) ∙ spelled-drop k n zs both.1
+
+-- those of so many from a place on
+pub range-spelled : (k : ScalarKind) (zs : List ℤ) (bytes : List ℕ) (first n : ℕ) → AreSpelled k zs bytes
+    → AreSpelled k (take n (drop first zs)) (part bytes (size_of k * first) (size_of k * n))
+range-spelled k zs bytes first n a =
+    let behind = all-behind (is_value k) first zs a.values in
+    record {
+      values = all-before (is_value k) n (drop first zs) behind;
+      spelled_are = ap (λ bs. part bs (size_of k * first) (size_of k * n)) a.spelled_are
+          ∙ ap (take (size_of k * n)) (spelled-drop k first zs a.values)
+          ∙ flat-take (size_of k) (is_value k) (spelling k) (long k) n (drop first zs) behind;
+    }
+
+-- ---- parts of slices
+
+-- a slice of the image is a part of it
+pub slice-part : {b image : List ℕ} {from f len n : ℕ} → image ≡ b → from ≡ f → len ≡ n
+    → take (from + len - from) (drop from image) ≡ part b f n
+slice-part {b} {image} {from} {f} {len} {n} p q r =
+    ap (λ m. take m (drop from image)) (let e : from + len - from ≡ len = omega arith in e)
+    ∙ (λ i. part (p i) (q i) (r i))
+
+-- a slice of the elements is an element
+pub slice-element : (bytes : List ℕ) {each size : ℕ} (i : ℕ) → each ≡ size
+    → take (each * (i + 1) - each * i) (drop (each * i) bytes) ≡ part bytes (size * i) size
+slice-element bytes {each} {size} i e =
+    ap (λ m. take m (drop (each * i) bytes)) (let f : each * (i + 1) - each * i ≡ each = one-more each i in f)
+    ∙ (λ j. part bytes (e j * i) (e j))
+  where
+    one-more : (each i : ℕ) → each * (i + 1) - each * i ≡ each
+    one-more each i = let step : each * (i + 1) ≡ each * i + each = omega arith in omega (arith, step)
+
+-- ---- values that are read of them, one after another
+
+-- the first i are read
+abbrev pub AreReadOf : {A : Type 0} → (A → ℤ) → ScalarKind → List ℕ → List A → ℕ → Type 0
+AreReadOf whole k bytes row i = (zs : List ℤ) → AreSpelled k zs bytes → map whole (take i row) ≡ take i zs
+
+-- the next element is read
+pub reads-value : {A : Type 0} (whole : A → ℤ) (k : ScalarKind) (bytes : List ℕ) (row : List A) (i : ℕ) (x : A)
+    (from : List ℕ) → length bytes ≡ size_of k * length row → i < length row
+    → from ≡ part bytes (size_of k * i) (size_of k)
+    → ((z : ℤ) → is_value k z ≡ true → from ≡ spelling k z → whole x ≡ z) → AreReadOf whole k bytes row i
+    → AreReadOf whole k bytes (set row i x) (i + 1)
+reads-value whole k bytes row i x from many within e reads before = λ zs a.
+    let all : size_of k * length row ≡ size_of k * length zs =
+    sym many ∙ ap (λ bs. length bs) a.spelled_are ∙ spelled-length k zs a.values in
+    let fits : i < length zs =
+    lt_of_mul-lt-mul_left (size_of k) (subst (λ n. size_of k * i < n) all (mul-lt-mul_of_pos_left within (some k))) in
+    let one = has-element zs i fits in
+    let same : from ≡ spelling k one.0 =
+    e ∙ ap (λ bs. part bs (size_of k * i) (size_of k)) a.spelled_are
+    ∙ flat-element (size_of k) (is_value k) (spelling k) (long k) zs i a.values one.1 in
+    let is = reads one.0 (all-at (is_value k) zs i a.values one.1) same in
+    read-more whole zs 0 i row x within (ap (slice_get zs) (zero-add i) ∙ one.1 ∙ ap Some (sym is)) (before zs a)
+
+-- all are
+pub reads-all : {A : Type 0} (whole : A → ℤ) (k : ScalarKind) (bytes : List ℕ) (row : List A) (i : ℕ)
+    → length bytes ≡ size_of k * length row → length row ≤ i → AreReadOf whole k bytes row i → (zs : List ℤ)
+    → AreSpelled k zs bytes → map whole row ≡ zs
+reads-all whole k bytes row i many last before zs a =
+    let all : size_of k * length row ≡ size_of k * length zs =
+    sym many ∙ ap (λ bs. length bs) a.spelled_are ∙ spelled-length k zs a.values in
+    let same = eq_of_mul-eq-mul_left (size_of k) (some k) (length row) (length zs) all in
+    ap (map whole) (sym (take_all i row last)) ∙ before zs a ∙ take_all i zs (omega (arith, same, last))
+
+-- ---- the object
+
+-- a segment is not too long
+segment-short : (b : List ℕ) → IsSegment b → length b ≤ 1073741824
+unfolding is_proper
+segment-short b (d, st) =
+    let legal : IsTrue (is_legal_size (live d).size) =
+    first (is_legal_size (live d).size) (proper_from 128 (live d).extents ((live d).size - 16))
+    st.denotes.directory.proper in
+    let small = legal-most (live d).size legal in let size = st.denotes.heap.size in omega (arith, small, size)
+  where
+    legal-most : (n : ℕ) → IsTrue (is_legal_size n) → n ≤ 1073741824
+    legal-most n l = grind arith
+
+spelled-if : (k : ScalarKind) (v : Value) → IsRowOfKind k v → spelled_in v ≡ spelled k (numbers_in v)
+spelled-if k (Numbers j zs) (AnArray e) = let same : j ≡ k = cc in ap (λ l. spelled l zs) same
+spelled-if k (Elements j zs t) (AVector e) = let same : j ≡ k = cc in ap (λ l. spelled l zs) same
+spelled-if k v (AnArray e) = absurd (cc)
+spelled-if k v (AVector e) = absurd (cc)
+
+run-if : {k : ScalarKind} {why : Refusal} (o : Object) → IsRowOfKind k o.value → Err why ≡ run_of o → ⊥
+run-if {k} {why} o row e = of-value (handle o.extent + head_len + padded (length o.name)) o.value row e
+  where
+    of-value : (at : ℕ) (v : Value) → IsRowOfKind k v → Err why ≡ run_in at v → ⊥
+    of-value at (Numbers j zs) (AnArray e) f = cc
+    of-value at (Elements j zs t) (AVector e) f = cc
+    of-value at v (AnArray e) f = absurd (cc)
+    of-value at v (AVector e) f = absurd (cc)
+
+module _ (s : SegmentState) (o : Located) (k : ScalarKind) (located : IsLocated s (ByHandle o.handle) o)
+    (row : is_row k o.kind ≡ true) where
+  there : (d : Directory) → DenotesCurrent s.cut.bytes d → IsSaidAt d (ByHandle o.handle) o
+  there d st = said-at s (ByHandle o.handle) o located d st
+
+  of-kind : (d : Directory) (st : DenotesCurrent s.cut.bytes d) → IsRowOfKind k (there d st).object.value
+  of-kind d st = cases (row-cases k o.kind row)
+    where
+      said : o.kind ≡ kind_of (there d st).object.value
+      said = ap (λ (l : Located). l.kind) (there d st).said
+
+      cases : (o.kind ≡ Vector k) ⊎ (o.kind ≡ Scalar k) → IsRowOfKind k (there d st).object.value
+      cases (inl e) = AVector (sym said ∙ e)
+      cases (inr e) = AnArray (sym said ∙ e)
+
+  numbers-are : (d : Directory) (st : DenotesCurrent s.cut.bytes d) → row_of o d ≡ numbers_in (there d st).object.value
+  numbers-are d st = its-numbers d (ByHandle o.handle) o.kind (there d st).object (there d st).is
+      (sym (ap (λ (l : Located). l.kind) (there d st).said))
+
+  module _ (run : ElementRun) (place : AnswersWith s (λ d. run_at d (ByHandle o.handle)) (Ok run))
+      (bytes : IsRunOf s (ByHandle o.handle) run) where
+    -- of the kind, and as many
+    run-said : (d : Directory) → DenotesCurrent s.cut.bytes d → (run.kind ≡ k) × (run.count ≡ length (row_of o d))
+    run-said d st =
+        let said = run-kind s (ByHandle o.handle) run k place d st (there d st).object (there d st).is (of-kind d st) in
+        (said.0, said.1 ∙ ap (λ zs. length zs) (sym (numbers-are d st)))
+
+    values-are : (d : Directory) → DenotesCurrent s.cut.bytes d → IsTrue (list_all (is_value k) (row_of o d))
+    values-are d st = all-from (is_value k) (row_of o d) (λ i z e. (row-element s (ByHandle o.handle) run k bytes d st
+        (there d st).object (there d st).is (of-kind d st) i (ap (λ zs. slice_get zs i) (sym (numbers-are d st))
+        ∙ e)).value)
+
+    spelled-is : (d : Directory) (st : DenotesCurrent s.cut.bytes d)
+        → spelled_at d (ByHandle o.handle) ≡ spelled k (row_of o d)
+    spelled-is d st =
+        ap (λ (q : Option Object). elim q as (λ _. List ℕ) [ None ↦ [] | Some p ↦ spelled_in p.value ]) (there d st).is
+        ∙ spelled-if k (there d st).object.value (of-kind d st) ∙ ap (spelled k) (sym (numbers-are d st))
+
+    row-inside : (d : Directory) → DenotesCurrent s.cut.bytes d
+        → run.offset + size_of k * run.count ≤ length s.cut.bytes
+    row-inside d st = subst (λ j. run.offset + size_of j * run.count ≤ length s.cut.bytes) (run-said d st).0
+        bytes.inside
+
+    -- the object has a row of elements
+    pub has-row : IsSegment s.cut.bytes → HasRow s o k run
+    has-row g = record {
+      inside = row-inside g.0 g.1;
+      short = segment-short s.cut.bytes g;
+      many = record { answers = λ d st. (run-said d st).1 };
+      spells = λ d st. record {
+        values = values-are d st;
+        spelled_are =
+            let n : length (spelled_at d (ByHandle o.handle)) ≡ size_of k * run.count =
+            ap (λ bs. length bs) (spelled-is d st) ∙ spelled-length k (row_of o d) (values-are d st)
+            ∙ ap (λ m. size_of k * m) (sym (run-said d st).1) in
+            sym (read-part s.cut.bytes run.offset (size_of k * run.count) (row-inside d st))
+            ∙ ap (read (bytes_of s.cut.bytes) run.offset) (sym n) ∙ bytes.spells d st ∙ spelled-is d st;
+      };
+    }
+
+  -- it has a run
+  pub no-run : (why : Refusal) → AnswersWith s (λ d. run_at d (ByHandle o.handle)) (Err why) → IsSegment s.cut.bytes → ⊥
+  no-run why a g =
+      let said = there g.0 g.1 in
+      run-if said.object (of-kind g.0 g.1) (a.answers g.0 g.1
+      ∙ ap (λ (r : Option Object). elim r as (λ _. Result ElementRun Refusal) [
+        | None ↦ Err NotFound
+        | Some p ↦ run_of p
+      ]) said.is)
+
+-- so many of them from a place on
+pub row-bytes : (s : SegmentState) (o : Located) (k : ScalarKind) (run : ElementRun) (first n : ℕ) (from : List ℕ)
+    → HasRow s o k run → first + n ≤ run.count
+    → from ≡ part s.cut.bytes (run.offset + size_of k * first) (size_of k * n)
+    → (d : Directory) → DenotesCurrent s.cut.bytes d → AreSpelled k (take n (drop first (row_of o d))) from
+row-bytes s o k run first n from row within e d st =
+    let fits : size_of k * first + size_of k * n ≤ size_of k * run.count =
+    let all : size_of k * (first + n) ≤ size_of k * run.count = mul-le-mul_left (size_of k) within
+    in omega (arith, all) in
+    subst (λ bs. AreSpelled k (take n (drop first (row_of o d))) bs)
+    (part-part s.cut.bytes run.offset (size_of k * run.count) (size_of k * first) (size_of k * n) fits ∙ sym e)
+    (range-spelled k (row_of o d) (part s.cut.bytes run.offset (size_of k * run.count)) first n (row.spells d st))
+
+-- the bytes of a row lie in the image
+pub row-bytes-inside : (s : SegmentState) (o : Located) (k : ScalarKind) (run : ElementRun) (first n : ℕ)
+    → HasRow s o k run
+    → first + n ≤ run.count → run.offset + size_of k * first + size_of k * n ≤ length s.cut.bytes
+row-bytes-inside s o k run first n row within =
+    let fits : size_of k * first + size_of k * n ≤ size_of k * run.count =
+    let all : size_of k * (first + n) ≤ size_of k * run.count = mul-le-mul_left (size_of k) within
+    in omega (arith, all) in
+    let inside = row.inside in omega (arith, fits, inside)

@@ -1,0 +1,407 @@
+-- The pairs between two bounds of a list whose keys rise: the first of them and those behind it, the last and those
+-- before it.
+use Rattle.std.proofs.Common.{◌≡◌, refl, sym, ap, subst, ◌∙◌, ◌≤◌, ℤ, Bool, true, false, ◌&&◌, not, Option, Some, None}
+use Rattle.std.proofs.Common.{List, [], ◌∷◌, ◌++◌, filter, length, map, arith, if◌then◌else◌}
+use Rattle.std.specs.Prelude.{find, int_le, int_lt, option_map, reverse, slice_get}
+use Rattle.std.proofs.lemmas.List.{reverse-append, reverse-reverse}
+use Rattle.std.proofs.lemmas.List.Elements.{filter-append}
+use Rattle.std.proofs.lemmas.Option.{same_Some}
+use Rattle.std.specs.List.{last_or}
+use Rattle.std.specs.declared.ops.Bound.{Bound}
+use Rattle.std.specs.declared.ops.Bound.TheVariants.{Included, Excluded, Unbounded}
+use Rattle.seg_map.specs.Map.{is_rising}
+use Rattle.seg_map.specs.Numbers.{NumberPair}
+use Rattle.seg_map.specs.Places.{item_of}
+use Rattle.segment_manager.specs.containers.Maps.{pair_above, pair_at_end, pair_below, pair_from, pair_up_to}
+use Rattle.segment_manager.specs.containers.Walks.{first_of}
+use Rattle.segment_views.specs.Ranged.{is_between, is_from, is_up_to, last_between, range_of}
+
+-- ---- truths
+
+left-true : (a b : Bool) → (a && b) ≡ true → a ≡ true
+left-true true b e = refl
+left-true false b e = absurd (cc)
+
+right-true : (a b : Bool) → (a && b) ≡ true → b ≡ true
+right-true true b e = e
+right-true false b e = absurd (cc)
+
+both-true : (a b : Bool) → a ≡ true → b ≡ true → (a && b) ≡ true
+both-true a b e f = (λ i. e i && b) ∙ f
+
+right-false : (a b : Bool) → b ≡ false → (a && b) ≡ false
+right-false true b e = e
+right-false false b e = refl
+
+and-true : (a : Bool) → (a && true) ≡ a
+and-true true = refl
+and-true false = refl
+
+exchanged : (a b : Bool) → (a && b) ≡ (b && a)
+exchanged true b = sym (and-true b)
+exchanged false true = refl
+exchanged false false = refl
+
+-- ---- pairs that pass a test, as keys and values
+
+abbrev items : (NumberPair → Bool) → List NumberPair → List (ℤ × ℤ)
+items t ps = map item_of (filter t ps)
+
+abbrev one_more : Bool → NumberPair → List (ℤ × ℤ) → List (ℤ × ℤ)
+one_more b p xs = if b then item_of p ∷ xs else xs
+
+items-if : (t : NumberPair → Bool) (p : NumberPair) (qs : List NumberPair) (b : Bool) → t p ≡ b
+    → items t (p ∷ qs) ≡ one_more b p (items t qs)
+items-if t p qs true e = ap (λ (b : Bool). map item_of (if b then p ∷ filter t qs else filter t qs)) e
+items-if t p qs false e = ap (λ (b : Bool). map item_of (if b then p ∷ filter t qs else filter t qs)) e
+
+first-if : (t : NumberPair → Bool) (p : NumberPair) (qs : List NumberPair) (b : Bool) → t p ≡ b
+    → slice_get (items t (p ∷ qs)) 0 ≡ slice_get (one_more b p (items t qs)) 0
+first-if t p qs b e = ap (λ (xs : List (ℤ × ℤ)). slice_get xs 0) (items-if t p qs b e)
+
+-- a list without a first element is empty
+pub range-empty : {A : Type 0} (xs : List A) → slice_get xs 0 ≡ None → xs ≡ []
+range-empty [] e = refl
+range-empty (x ∷ xs) e = absurd (cc)
+
+-- a pair whose key passes
+abbrev pub admitted : (ℤ → Bool) → Option (ℤ × ℤ) → Option (ℤ × ℤ)
+admitted far None = None
+admitted far (Some (x, y)) = if far x then Some (x, y) else None
+
+-- ---- keys that rise, by an order
+
+module _ (less : ℤ → ℤ → Bool) (transitive : (x y z : ℤ) → less x y ≡ true → less y z ≡ true → less x z ≡ true) where
+  -- the key behind another is above it, and one may be left out
+  next-above : (p q : NumberPair) (qs : List NumberPair) → is_rising less (p ∷ q ∷ qs) ≡ true → less p.key q.key ≡ true
+  next-above p q qs r = left-true (less p.key q.key) (is_rising less (q ∷ qs)) r
+
+  rest-rises : (p : NumberPair) (qs : List NumberPair) → is_rising less (p ∷ qs) ≡ true → is_rising less qs ≡ true
+  rest-rises p [] r = refl
+  rest-rises p (q ∷ qs) r = right-true (less p.key q.key) (is_rising less (q ∷ qs)) r
+
+  skip-rises : (p q : NumberPair) (qs : List NumberPair) → is_rising less (p ∷ q ∷ qs) ≡ true
+      → is_rising less (p ∷ qs) ≡ true
+  skip-rises p q [] r = refl
+  skip-rises p q (s ∷ qs) r =
+      let rest = rest-rises p (q ∷ s ∷ qs) r in
+      both-true (less p.key s.key) (is_rising less (s ∷ qs))
+      (transitive p.key q.key s.key (next-above p q (s ∷ qs) r) (next-above q s qs rest)) (rest-rises q (s ∷ qs) rest)
+
+  -- what is found behind a pair is above it
+  found-above : (t : NumberPair → Bool) (p : NumberPair) (qs : List NumberPair) (x y : ℤ)
+      → is_rising less (p ∷ qs) ≡ true → slice_get (items t qs) 0 ≡ Some (x, y) → less p.key x ≡ true
+  found-above t p [] x y r e = absurd (cc)
+  found-above t p (q ∷ qs) x y r e = by_cases (λ h. found-above t p qs x y (skip-rises p q qs r) h) (t q) refl
+    where
+      by_cases : (slice_get (items t qs) 0 ≡ Some (x, y) → less p.key x ≡ true) → (b : Bool) → t q ≡ b
+          → less p.key x ≡ true
+      by_cases next true f =
+          let one : Some (q.key, q.value) ≡ Some (x, y) = sym (first-if t q qs true f) ∙ e in
+          let pair = same_Some (q.key, q.value) (x, y) one in
+          let same : q.key ≡ x = λ i. (pair i).0 in
+          subst (λ z. less p.key z ≡ true) same (next-above p q qs r)
+      by_cases next false f = next (sym (first-if t q qs false f) ∙ e)
+
+  -- A test, and one for each key: of the key's pair it is false, behind a pair that passes it is the test, and before
+  -- the pair it is false. So behind the first pair that passes there are those that pass the test of its key.
+  module _ (t : NumberPair → Bool) (u : ℤ → NumberPair → Bool) (itself : (p : NumberPair) → u p.key p ≡ false)
+      (behind : (p q : NumberPair) → less p.key q.key ≡ true → t p ≡ true
+      → t q ≡ u p.key q) (before : (x : ℤ) (p : NumberPair) → less p.key x ≡ true → u x p ≡ false) where
+    same-behind : (p : NumberPair) (qs : List NumberPair) → t p ≡ true → is_rising less (p ∷ qs) ≡ true
+        → items t qs ≡ items (u p.key) qs
+    same-behind p [] f r = refl
+    same-behind p (q ∷ qs) f r =
+        items-if t q qs (t q) refl ∙ ap (λ (xs : List (ℤ × ℤ)).
+        one_more (t q) q xs) (same-behind p qs f (skip-rises p q qs r))
+        ∙ ap (λ (b : Bool). one_more b q (items (u p.key) qs)) (behind p q (next-above p q qs r) f)
+        ∙ sym (items-if (u p.key) q qs (u p.key q) refl)
+
+    begins : (ps : List NumberPair) (x y : ℤ) → is_rising less ps ≡ true → slice_get (items t ps) 0 ≡ Some (x, y)
+        → items t ps ≡ (x, y) ∷ items (u x) ps
+    begins [] x y r e = absurd (cc)
+    begins (p ∷ qs) x y r e = by_cases (λ h. begins qs x y (rest-rises p qs r) h) (t p) refl
+      where
+        by_cases : (slice_get (items t qs) 0 ≡ Some (x, y) → items t qs ≡ (x, y) ∷ items (u x) qs) → (b : Bool)
+            → t p ≡ b → items t (p ∷ qs) ≡ (x, y) ∷ items (u x) (p ∷ qs)
+        by_cases next true f =
+            let one : Some (p.key, p.value) ≡ Some (x, y) = sym (first-if t p qs true f) ∙ e in
+            let pair = same_Some (p.key, p.value) (x, y) one in
+            items-if t p qs true f ∙ ap (λ (xs : List (ℤ × ℤ)). (p.key, p.value) ∷ xs) (same-behind p qs f r
+            ∙ sym (items-if (u p.key) p qs false (itself p)))
+            ∙ (λ i. pair i ∷ items (u (pair i).0) (p ∷ qs))
+        by_cases next false f =
+            let rest : slice_get (items t qs) 0 ≡ Some (x, y) = sym (first-if t p qs false f) ∙ e in
+            items-if t p qs false f ∙ next rest
+            ∙ ap (λ (xs : List (ℤ × ℤ)). (x, y) ∷ xs)
+            (sym (items-if (u x) p qs false (before x p (found-above t p qs x y r rest))))
+
+  -- A test that is two, of which the second is false behind a pair of which it is: the first pair that passes the first
+  -- passes both, or none does.
+  module _ (t a : NumberPair → Bool) (far : ℤ → Bool) (both : (p : NumberPair)
+      → t p ≡ (a p && far p.key)) (past : (p q : NumberPair) → less p.key q.key ≡ true → far p.key ≡ false
+      → far q.key ≡ false) where
+    none-behind : (p : NumberPair) (qs : List NumberPair) → far p.key ≡ false → is_rising less (p ∷ qs) ≡ true
+        → items t qs ≡ []
+    none-behind p [] f r = refl
+    none-behind p (q ∷ qs) f r =
+        items-if t q qs false (both q ∙ right-false (a q) (far q.key) (past p q (next-above p q qs r) f))
+        ∙ none-behind p qs f (skip-rises p q qs r)
+
+    admits : (ps : List NumberPair) → is_rising less ps ≡ true
+        → slice_get (items t ps) 0 ≡ admitted far (slice_get (items a ps) 0)
+    admits [] r = refl
+    admits (p ∷ qs) r = by_cases (admits qs (rest-rises p qs r)) (a p) (far p.key) refl refl
+      where
+        by_cases : slice_get (items t qs) 0 ≡ admitted far (slice_get (items a qs) 0) → (b c : Bool) → a p ≡ b
+            → far p.key ≡ c → slice_get (items t (p ∷ qs)) 0 ≡ admitted far (slice_get (items a (p ∷ qs)) 0)
+        by_cases next true true f g =
+            first-if t p qs true (both p ∙ both-true (a p) (far p.key) f g)
+            ∙ sym (ap (λ (b : Bool). let o : Option (ℤ × ℤ) = if b then Some (p.key, p.value) else None in o) g)
+            ∙ sym (ap (admitted far) (first-if a p qs true f))
+        by_cases next true false f g =
+            first-if t p qs false (both p ∙ right-false (a p) (far p.key) g)
+            ∙ ap (λ (xs : List (ℤ × ℤ)). slice_get xs 0) (none-behind p qs g r)
+            ∙ sym (ap (λ (b : Bool). let o : Option (ℤ × ℤ) = if b then Some (p.key, p.value) else None in o) g)
+            ∙ sym (ap (admitted far) (first-if a p qs true f))
+        by_cases next false c f g = first-if t p qs false (both p ∙ (λ i. f i && far p.key)) ∙ next
+            ∙ sym (ap (admitted far) (first-if a p qs false f))
+
+-- ---- whole numbers
+
+lesser : (x y z : ℤ) → int_lt x y ≡ true → int_lt y z ≡ true → int_lt x z ≡ true
+lesser x y z l m = grind arith
+
+abbrev int_gt : ℤ → ℤ → Bool
+int_gt x y = int_lt y x
+
+greater : (x y z : ℤ) → int_gt x y ≡ true → int_gt y z ≡ true → int_gt x z ≡ true
+greater x y z l m = lesser z y x m l
+
+irreflexive : (x : ℤ) → int_lt x x ≡ false
+irreflexive x = grind arith
+
+not-above : (x y : ℤ) → int_lt x y ≡ true → int_lt y x ≡ false
+not-above x y l = grind arith
+
+above-from : (b : Bound ℤ) (x y : ℤ) → is_from b x ≡ true → int_lt x y ≡ true → is_from b y ≡ true
+above-from (Included a) x y f l = let g : int_le a x ≡ true = f in grind arith
+above-from (Excluded a) x y f l = let g : int_lt a x ≡ true = f in grind arith
+above-from Unbounded x y f l = refl
+
+below-end : (b : Bound ℤ) (x y : ℤ) → is_up_to b y ≡ true → int_lt x y ≡ true → is_up_to b x ≡ true
+below-end (Included a) x y f l = let g : int_le y a ≡ true = f in grind arith
+below-end (Excluded a) x y f l = let g : int_lt y a ≡ true = f in grind arith
+below-end Unbounded x y f l = refl
+
+past-end : (b : Bound ℤ) (x y : ℤ) → int_lt x y ≡ true → is_up_to b x ≡ false → is_up_to b y ≡ false
+past-end (Included a) x y l f = let g : int_le x a ≡ false = f in grind arith
+past-end (Excluded a) x y l f = let g : int_lt x a ≡ false = f in grind arith
+past-end Unbounded x y l f = absurd (cc)
+
+before-start : (b : Bound ℤ) (x y : ℤ) → int_lt x y ≡ true → is_from b y ≡ false → is_from b x ≡ false
+before-start (Included a) x y l f = let g : int_le a y ≡ false = f in grind arith
+before-start (Excluded a) x y l f = let g : int_lt a y ≡ false = f in grind arith
+before-start Unbounded x y l f = absurd (cc)
+
+-- ---- the other way round
+
+pub reverse-more : {A : Type 0} (x : A) (xs : List A) → reverse (x ∷ xs) ≡ reverse xs ++ x ∷ []
+reverse-more x xs = reverse-append (x ∷ []) xs
+
+mapped-on : {A B : Type 0} (f : A → B) (xs ys : List A) → map f (xs ++ ys) ≡ map f xs ++ map f ys
+mapped-on f [] ys = refl
+mapped-on f (x ∷ xs) ys = ap (λ zs. f x ∷ zs) (mapped-on f xs ys)
+
+nothing-behind : {A : Type 0} (xs : List A) → xs ++ [] ≡ xs
+nothing-behind [] = refl
+nothing-behind (x ∷ xs) = ap (λ ys. x ∷ ys) (nothing-behind xs)
+
+items-on : (t : NumberPair → Bool) (ps qs : List NumberPair) → items t (ps ++ qs) ≡ items t ps ++ items t qs
+items-on t ps qs = ap (map item_of) (filter-append t ps qs) ∙ mapped-on item_of (filter t ps) (filter t qs)
+
+items-reversed : (t : NumberPair → Bool) (ps : List NumberPair) → items t (reverse ps) ≡ reverse (items t ps)
+items-reversed t [] = refl
+items-reversed t (p ∷ qs) = ap (items t) (reverse-more p qs) ∙ items-on t (reverse qs) (p ∷ [])
+    ∙ ap (λ (xs : List (ℤ × ℤ)). xs ++ items t (p ∷ [])) (items-reversed t qs) ∙ by_cases (t p) refl
+  where
+    by_cases : (b : Bool) → t p ≡ b → reverse (items t qs) ++ items t (p ∷ []) ≡ reverse (items t (p ∷ qs))
+    by_cases true f = ap (λ (xs : List (ℤ × ℤ)). reverse (items t qs) ++ xs) (items-if t p [] true f)
+        ∙ sym (ap reverse (items-if t p qs true f) ∙ reverse-more (item_of p) (items t qs))
+    by_cases false f = ap (λ (xs : List (ℤ × ℤ)). reverse (items t qs) ++ xs) (items-if t p [] false f)
+        ∙ nothing-behind (reverse (items t qs)) ∙ sym (ap reverse (items-if t p qs false f))
+
+snoc-falls : (rs : List NumberPair) (q p : NumberPair) → is_rising int_gt (rs ++ q ∷ []) ≡ true
+    → int_lt p.key q.key ≡ true → is_rising int_gt ((rs ++ q ∷ []) ++ p ∷ []) ≡ true
+snoc-falls [] q p r l = both-true (int_gt q.key p.key) true l refl
+snoc-falls (s ∷ []) q p r l = both-true (int_gt s.key q.key) (int_gt q.key p.key
+    && true) (left-true (int_gt s.key q.key) true r) (both-true (int_gt q.key p.key) true l refl)
+snoc-falls (s ∷ t ∷ rs) q p r l =
+    both-true (int_gt s.key t.key) (is_rising int_gt (((t ∷ rs) ++ q ∷ []) ++ p ∷ []))
+    (left-true (int_gt s.key t.key) (is_rising int_gt ((t ∷ rs) ++ q ∷ [])) r)
+    (snoc-falls (t ∷ rs) q p (right-true (int_gt s.key t.key) (is_rising int_gt ((t ∷ rs) ++ q ∷ [])) r) l)
+
+falls : (ps : List NumberPair) → is_rising int_lt ps ≡ true → is_rising int_gt (reverse ps) ≡ true
+falls [] r = refl
+falls (p ∷ []) r = refl
+falls (p ∷ q ∷ qs) r =
+    let rest = subst (λ (rs : List NumberPair).
+    is_rising int_gt rs ≡ true) (reverse-more q qs)
+    (falls (q ∷ qs) (right-true (int_lt p.key q.key) (is_rising int_lt (q ∷ qs)) r)) in
+    ap (is_rising int_gt) (reverse-more p (q ∷ qs) ∙ ap (λ (rs : List NumberPair). rs ++ p ∷ []) (reverse-more q qs))
+    ∙ snoc-falls (reverse qs) q p rest (left-true (int_lt p.key q.key) (is_rising int_lt (q ∷ qs)) r)
+
+-- ---- the first pair between bounds, and the others
+
+-- the first pair of a range begins it
+pub range-begins : (start end : Bound ℤ) (ps : List NumberPair) (x y : ℤ) → is_rising int_lt ps ≡ true
+    → slice_get (range_of start end ps) 0 ≡ Some (x, y)
+    → range_of start end ps ≡ (x, y) ∷ range_of (Excluded x) end ps
+range-begins start end ps x y r e =
+    begins int_lt lesser (is_between start end) (λ z. is_between (Excluded z) end) (λ p.
+    (λ i. irreflexive p.key i && is_up_to end p.key))
+    (λ p q l f. (λ i. above-from start p.key q.key (left-true (is_from start p.key) (is_up_to end p.key) f) l i
+    && is_up_to end q.key) ∙ sym (λ i. l i && is_up_to end q.key))
+    (λ z p l. (λ i. not-above p.key z l i && is_up_to end p.key)) ps x y r e
+
+upper-only : (start end : Bound ℤ) (p : NumberPair)
+    → is_between start end p ≡ (is_between start Unbounded p && is_up_to end p.key)
+upper-only start end p = ap (λ b. b && is_up_to end p.key) (sym (and-true (is_from start p.key)))
+
+-- it is the first that the lower bound admits, if the upper one does
+pub range-within : (start end : Bound ℤ) (ps : List NumberPair) → is_rising int_lt ps ≡ true
+    → slice_get (range_of start end ps) 0 ≡ admitted (is_up_to end) (slice_get (range_of start Unbounded ps) 0)
+range-within start end ps r = admits int_lt lesser (is_between start end) (is_between start Unbounded)
+    (is_up_to end) (upper-only start end) (λ p q l f. past-end end p.key q.key l f) ps r
+
+-- ---- the last pair between bounds, and the others
+
+ends-reversed : (start end : Bound ℤ) (ps : List NumberPair) (x y : ℤ) → is_rising int_gt ps ≡ true
+    → slice_get (range_of start end ps) 0 ≡ Some (x, y)
+    → range_of start end ps ≡ (x, y) ∷ range_of start (Excluded x) ps
+ends-reversed start end ps x y r e =
+    begins int_gt greater (is_between start end) (λ z. is_between start (Excluded z)) (λ p.
+    right-false (is_from start p.key) (int_lt p.key p.key) (irreflexive p.key))
+    (λ p q l f. ap (λ b. is_from start q.key
+    && b) (below-end end q.key p.key (right-true (is_from start p.key) (is_up_to end p.key) f) l ∙ sym l))
+    (λ z p l. right-false (is_from start p.key) (int_lt p.key z) (not-above z p.key l)) ps x y r e
+
+-- the last pair of a range ends it
+pub range-ends : (start end : Bound ℤ) (ps : List NumberPair) (x y : ℤ) → is_rising int_lt ps ≡ true
+    → last_between start end ps ≡ Some (x, y)
+    → range_of start end ps ≡ range_of start (Excluded x) ps ++ (x, y) ∷ []
+range-ends start end ps x y r e =
+    sym (reverse-reverse (range_of start end ps))
+    ∙ ap reverse (sym (items-reversed (is_between start end) ps)
+    ∙ ends-reversed start end (reverse ps) x y (falls ps r) e)
+    ∙ reverse-more (x, y) (range_of start (Excluded x) (reverse ps))
+    ∙ ap (λ (xs : List (ℤ × ℤ)). xs ++ (x, y) ∷ []) (ap reverse (items-reversed (is_between start (Excluded x)) ps)
+    ∙ reverse-reverse (range_of start (Excluded x) ps))
+
+-- a range without a last pair is empty
+pub range-none : (start end : Bound ℤ) (ps : List NumberPair) → last_between start end ps ≡ None
+    → range_of start end ps ≡ []
+range-none start end ps e =
+    sym (reverse-reverse (range_of start end ps))
+    ∙ ap reverse (sym (items-reversed (is_between start end) ps) ∙ range-empty (range_of start end (reverse ps)) e)
+
+lower-only : (start end : Bound ℤ) (p : NumberPair)
+    → is_between start end p ≡ (is_between Unbounded end p && is_from start p.key)
+lower-only start end p = exchanged (is_from start p.key) (is_up_to end p.key)
+
+-- it is the last that the upper bound admits, if the lower one does
+pub last-within : (start end : Bound ℤ) (ps : List NumberPair) → is_rising int_lt ps ≡ true
+    → last_between start end ps ≡ admitted (is_from start) (last_between Unbounded end ps)
+last-within start end ps r =
+    admits int_gt greater (is_between start end) (is_between Unbounded end) (is_from start) (lower-only start end)
+    (λ p q l f. before-start start q.key p.key l f) (reverse ps) (falls ps r)
+
+-- ---- what the searches find
+
+abbrev one_or : Bool → NumberPair → Option (ℤ × ℤ) → Option (ℤ × ℤ)
+one_or b p o = if b then Some (item_of p) else o
+
+first-one : (t : NumberPair → Bool) (p : NumberPair) (qs : List NumberPair) (b : Bool) → t p ≡ b
+    → slice_get (items t (p ∷ qs)) 0 ≡ one_or b p (slice_get (items t qs) 0)
+first-one t p qs true e = first-if t p qs true e
+first-one t p qs false e = first-if t p qs false e
+
+found-one : (t : NumberPair → Bool) (p : NumberPair) (qs : List NumberPair) (b : Bool) → t p ≡ b
+    → option_map item_of (find t (p ∷ qs)) ≡ one_or b p (option_map item_of (find t qs))
+found-one t p qs true e = ap (λ (b : Bool). option_map item_of (if b then Some p else find t qs)) e
+found-one t p qs false e = ap (λ (b : Bool). option_map item_of (if b then Some p else find t qs)) e
+
+-- the first that passes a test is the first of those that pass it
+pub found-first : (s t : NumberPair → Bool) → ((p : NumberPair) → s p ≡ t p) → (ps : List NumberPair)
+    → option_map item_of (find s ps) ≡ slice_get (items t ps) 0
+found-first s t same [] = refl
+found-first s t same (p ∷ qs) = found-one s p qs (t p) (same p) ∙ ap (one_or (t p) p) (found-first s t same qs)
+    ∙ sym (first-one t p qs (t p) refl)
+
+not-below : (a z : ℤ) → not (int_lt z a) ≡ int_le a z
+not-below a z = grind arith
+
+not-not : (b : Bool) → not (not b) ≡ b
+not-not true = refl
+not-not false = refl
+
+-- the pair from a key on is the first of its range
+pub from-ranged : (a : ℤ) (ps : List NumberPair) → pair_from a ps ≡ slice_get (range_of (Included a) Unbounded ps) 0
+from-ranged a ps = found-first (λ p. not (int_lt p.key a)) (is_between (Included a) Unbounded) (λ p.
+    not-below a p.key ∙ sym (and-true (int_le a p.key))) ps
+
+-- the pair above a key is the first of its range
+pub above-ranged : (a : ℤ) (ps : List NumberPair) → pair_above a ps ≡ slice_get (range_of (Excluded a) Unbounded ps) 0
+above-ranged a ps = found-first (λ p. not (not (int_lt a p.key))) (is_between (Excluded a) Unbounded) (λ p.
+    not-not (int_lt a p.key) ∙ sym (and-true (int_lt a p.key))) ps
+
+-- the first pair of all is the first of the whole range
+pub all-ranged : (ps : List NumberPair)
+    → option_map item_of (first_of ps) ≡ slice_get (range_of Unbounded Unbounded ps) 0
+all-ranged [] = refl
+all-ranged (p ∷ ps) = refl
+
+-- the pair up to a key is the last of its range
+pub up_to-ranged : (a : ℤ) (ps : List NumberPair) → pair_up_to a ps ≡ last_between Unbounded (Included a) ps
+up_to-ranged a ps = found-first (λ p. not (int_lt a p.key)) (is_between Unbounded (Included a)) (λ p.
+    not-below p.key a) (reverse ps)
+
+-- the pair below a key is the last of its range
+pub below-ranged : (a : ℤ) (ps : List NumberPair) → pair_below a ps ≡ last_between Unbounded (Excluded a) ps
+below-ranged a ps = found-first (λ p. int_lt p.key a) (is_between Unbounded (Excluded a)) (λ p. refl) (reverse ps)
+
+-- the last of all is the first from the other end
+abbrev first_or : Option NumberPair → List NumberPair → Option NumberPair
+first_or o [] = o
+first_or o (p ∷ ps) = Some p
+
+first_or-on : (o : Option NumberPair) (ps : List NumberPair) (p : NumberPair)
+    → first_or o (ps ++ p ∷ []) ≡ first_or (Some p) ps
+first_or-on o [] p = refl
+first_or-on o (q ∷ qs) p = refl
+
+first_or-none : (ps : List NumberPair) → first_or None ps ≡ first_of ps
+first_or-none [] = refl
+first_or-none (p ∷ ps) = refl
+
+last_or-reversed : (o : Option NumberPair) (ps : List NumberPair) → last_or o ps ≡ first_or o (reverse ps)
+last_or-reversed o [] = refl
+last_or-reversed o (p ∷ qs) = last_or-reversed (Some p) qs ∙ sym (first_or-on o (reverse qs) p)
+    ∙ sym (ap (first_or o) (reverse-more p qs))
+
+-- the last pair of all is the last of the whole range
+pub end-ranged : (ps : List NumberPair) → pair_at_end ps ≡ last_between Unbounded Unbounded ps
+end-ranged ps = ap (option_map item_of) (last_or-reversed None ps ∙ first_or-none (reverse ps))
+    ∙ all-ranged (reverse ps)
+
+-- ---- how many
+
+-- a range has at most as many pairs as the list
+pub range-few : (start end : Bound ℤ) (ps : List NumberPair) → length (range_of start end ps) ≤ length ps
+range-few start end [] = omega arith
+range-few start end (p ∷ qs) = by_cases (range-few start end qs) (is_between start end p) refl
+  where
+    by_cases : length (range_of start end qs) ≤ length qs → (b : Bool) → is_between start end p ≡ b
+        → length (range_of start end (p ∷ qs)) ≤ length (p ∷ qs)
+    by_cases few true f = let e = ap length (items-if (is_between start end) p qs true f) in omega (arith, e, few)
+    by_cases few false f = let e = ap length (items-if (is_between start end) p qs false f) in omega (arith, e, few)

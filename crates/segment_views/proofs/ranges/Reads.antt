@@ -1,0 +1,216 @@
+-- What is read of a map says of the pairs between two bounds.
+use Rattle.std.proofs.Common.{◌≡◌, refl, sym, ap, ◌∙◌, ℕ, ◌-◌, ◌≤◌, ℤ, Bool, true, false, Option, Some, None, Result}
+use Rattle.std.proofs.Common.{Ok, Err, List, [], ◌∷◌, ◌++◌, length, arith, subst, if◌then◌else◌}
+use Rattle.std.specs.Bool.{then_some}
+use Rattle.std.specs.Prelude.{MatchResult, option_map, slice_get}
+use Rattle.std.proofs.lemmas.List.{length-append}
+use Rattle.std.specs.declared.ops.Bound.{Bound}
+use Rattle.std.specs.declared.ops.Bound.TheVariants.{Excluded, Unbounded}
+use Rattle.seg_types.specs.declared.kinds.Kind.TheVariants.{Map as MapOf}
+use Rattle.seg_types.specs.declared.kinds.ScalarKind.{ScalarKind}
+use Rattle.seg_types.specs.declared.refusals.Refusal.{Refusal}
+use Rattle.seg_types.specs.Kinds.{lowest}
+use Rattle.seg_types.specs.Names.{Key}
+use Rattle.seg_map.specs.Numbers.{NumberPair}
+use Rattle.seg_map.specs.Places.{item_of}
+use Rattle.segment_manager.specs.declared.objects.object_ref.Object.{Object as Located}
+use Rattle.segment_manager.specs.Directory.{Directory}
+use Rattle.segment_manager.specs.objects.ElementLists.{length_at_kind, number_or_none}
+use Rattle.segment_manager.specs.containers.Maps.{numbers_in, pair_from, pair_result, answer_of_map}
+use Rattle.segment_manager.specs.State.{AnswersWith, SegmentState, DenotesCurrent}
+use Rattle.segment_manager.specs.containers.Walks.{first_of, pairs_at_kinds}
+use Rattle.segment_manager.proofs.Laws.{map-least, map-length, map-rises, map-told}
+use Rattle.segment_views.specs.Ranged.{GoesBackPairs, GoesOnPairs, IsPairWalk, PairWalk, is_from, is_up_to}
+use Rattle.segment_views.specs.Ranged.{last_between, pair_or_none, pairs_left, range_of}
+use Rattle.segment_views.proofs.ranges.Bounds.{admitted, last-within, range-begins, range-empty, range-ends, range-few}
+use Rattle.segment_views.proofs.ranges.Bounds.{range-none, range-within}
+
+-- a pair is admitted where its key is
+pub admitted-then : {K V : Type 0} (kw : K → ℤ) (vw : V → ℤ) (far : ℤ → Bool) (b : Bool) (p : K × V)
+    → b ≡ far (kw p.0) → admitted far (Some (kw p.0, vw p.1)) ≡ numbers_in kw vw (then_some b p)
+admitted-then kw vw far true p e =
+    ap (λ (b : Bool). let o : Option (ℤ × ℤ) = if b then Some (kw p.0, vw p.1) else None in o) (sym e)
+admitted-then kw vw far false p e =
+    ap (λ (b : Bool). let o : Option (ℤ × ℤ) = if b then Some (kw p.0, vw p.1) else None in o) (sym e)
+
+module _ (s : SegmentState) (key : Key) (k v : ScalarKind) where
+  -- what is told of a map is told of the pairs that it has, and none are there where the reading is refused
+  told-if : {K V : Type 0} (kw : K → ℤ) (vw : V → ℤ) (say see : List NumberPair → Option (ℤ × ℤ))
+      → ((ps : List NumberPair) → say ps ≡ see ps) → see [] ≡ None
+      → (ps : List NumberPair) (r : Result (Option (K × V)) Refusal)
+      → MatchResult (pair_result kw vw r) (λ o. o ≡ say ps) (λ why. ps ≡ [])
+      → numbers_in kw vw (pair_or_none r) ≡ see ps
+  told-if kw vw say see same empty ps (Ok o) h = h ∙ same ps
+  told-if kw vw say see same empty ps (Err why) h = sym (ap see h ∙ empty)
+
+  -- what is read of a map is told of its pairs
+  pub reads-told : {K V : Type 0} (kw : K → ℤ) (vw : V → ℤ) (say see : List NumberPair → Option (ℤ × ℤ))
+      → ((ps : List NumberPair) → say ps ≡ see ps) → see [] ≡ None
+      → (r : Result (Option (K × V)) Refusal) → AnswersWith s (λ d. answer_of_map d key k v say) (pair_result kw vw r)
+      → AnswersWith s (λ d. see (pairs_at_kinds d key k v)) (numbers_in kw vw (pair_or_none r))
+  reads-told kw vw say see same empty r a = record {
+    answers = λ d h. told-if kw vw say see same empty (pairs_at_kinds d key k v) r
+        (map-told d key k v say (pair_result kw vw r) (a.answers d h));
+  }
+
+  -- from the least key on the first pair comes
+  pub reads-least : (r : Result (Option (ℤ × ℤ)) Refusal)
+      → AnswersWith s (λ d. answer_of_map d key k v (pair_from (lowest k))) r
+      → AnswersWith s (λ d. answer_of_map d key k v (λ ps. option_map item_of (first_of ps))) r
+  reads-least r a = record { answers = λ d h. a.answers d h ∙ map-least d key k v s.cut.bytes h.denotes }
+
+  -- the first that the lower bound admits is the first between the bounds, if the upper one admits it
+  pub reads-within : (start end : Bound ℤ) (o : Option (ℤ × ℤ))
+      → AnswersWith s (λ d. slice_get (range_of start Unbounded (pairs_at_kinds d key k v)) 0) o
+      → AnswersWith s (λ d. slice_get (range_of start end (pairs_at_kinds d key k v)) 0) (admitted (is_up_to end) o)
+  reads-within start end o a = record {
+    answers = λ d h. ap (admitted (is_up_to end)) (a.answers d h)
+        ∙ sym (range-within start end (pairs_at_kinds d key k v) (map-rises d key k v s.cut.bytes h.denotes));
+  }
+
+  -- the last that the upper bound admits is the last between the bounds, if the lower one admits it
+  pub reads-within-back : (start end : Bound ℤ) (o : Option (ℤ × ℤ))
+      → AnswersWith s (λ d. last_between Unbounded end (pairs_at_kinds d key k v)) o
+      → AnswersWith s (λ d. last_between start end (pairs_at_kinds d key k v)) (admitted (is_from start) o)
+  reads-within-back start end o a = record {
+    answers = λ d h. ap (admitted (is_from start)) (a.answers d h)
+        ∙ sym (last-within start end (pairs_at_kinds d key k v) (map-rises d key k v s.cut.bytes h.denotes));
+  }
+
+  -- the first pair is taken, and the others are left
+  module _ (start end : Bound ℤ) where
+    pub none-left : AnswersWith s (λ d. slice_get (range_of start end (pairs_at_kinds d key k v)) 0) None
+        → (d : Directory) → DenotesCurrent s.cut.bytes d → range_of start end (pairs_at_kinds d key k v) ≡ []
+    none-left a d h = range-empty (range_of start end (pairs_at_kinds d key k v)) (sym (a.answers d h))
+
+    pub others-left : (x y : ℤ) → AnswersWith s (λ d. slice_get (range_of start end (pairs_at_kinds d key k v)) 0)
+        (Some (x, y))
+        → (d : Directory) → DenotesCurrent s.cut.bytes d
+        → range_of start end (pairs_at_kinds d key k v) ≡ (x, y) ∷ range_of (Excluded x) end (pairs_at_kinds d key k v)
+    others-left x y a d h = range-begins start end (pairs_at_kinds d key k v) x y
+        (map-rises d key k v s.cut.bytes h.denotes) (sym (a.answers d h))
+
+    -- one fewer
+    pub fewer-left : (x y : ℤ) (left : ℕ)
+        → AnswersWith s (λ d. slice_get (range_of start end (pairs_at_kinds d key k v)) 0) (Some (x, y))
+        → ((d : Directory) → DenotesCurrent s.cut.bytes d
+        → length (range_of start end (pairs_at_kinds d key k v)) ≤ left)
+        → (d : Directory) → DenotesCurrent s.cut.bytes d
+        → length (range_of (Excluded x) end (pairs_at_kinds d key k v)) ≤ left - 1
+    fewer-left x y left a few d h = let e = ap length (others-left x y a d h) in let f = few d h in omega (arith, e, f)
+
+  -- the same of the last pair
+  module _ (start end : Bound ℤ) where
+    pub none-before : AnswersWith s (λ d. last_between start end (pairs_at_kinds d key k v)) None → (d : Directory)
+        → DenotesCurrent s.cut.bytes d → range_of start end (pairs_at_kinds d key k v) ≡ []
+    none-before a d h = range-none start end (pairs_at_kinds d key k v) (sym (a.answers d h))
+
+    pub others-before : (x y : ℤ) → AnswersWith s (λ d. last_between start end (pairs_at_kinds d key k v)) (Some (x, y))
+        → (d : Directory) → DenotesCurrent s.cut.bytes d
+        → range_of start end (pairs_at_kinds d key k v) ≡ range_of start (Excluded x) (pairs_at_kinds d key k v)
+        ++ (x, y) ∷ []
+    others-before x y a d h = range-ends start end (pairs_at_kinds d key k v) x y
+        (map-rises d key k v s.cut.bytes h.denotes) (sym (a.answers d h))
+
+    pub fewer-before : (x y : ℤ) (left : ℕ)
+        → AnswersWith s (λ d. last_between start end (pairs_at_kinds d key k v)) (Some (x, y))
+        → ((d : Directory) → DenotesCurrent s.cut.bytes d
+        → length (range_of start end (pairs_at_kinds d key k v)) ≤ left)
+        → (d : Directory) → DenotesCurrent s.cut.bytes d
+        → length (range_of start (Excluded x) (pairs_at_kinds d key k v)) ≤ left - 1
+    fewer-before x y left a few d h =
+        let e = ap length (others-before x y a d h)
+        ∙ length-append (range_of start (Excluded x) (pairs_at_kinds d key k v)) ((x, y) ∷ []) in let f = few d h
+        in omega (arith, e, f)
+
+  -- there are no more than all
+  pub all-few : (start end : Bound ℤ) (left : ℕ) (r : Result ℕ Refusal) → left ≡ number_or_none r
+      → AnswersWith s (λ d. length_at_kind d key (MapOf k v)) r
+      → (d : Directory) → DenotesCurrent s.cut.bytes d → length (range_of start end (pairs_at_kinds d key k v)) ≤ left
+  all-few start end left r e a d h =
+      let m = map-length d key k v r (a.answers d h) in let f = range-few start end (pairs_at_kinds d key k v)
+      in omega (arith, e, m, f)
+
+-- ---- an iterator over the pairs between two bounds
+
+module _ {k v : ScalarKind} {o : Located} {w : PairWalk} (is : IsPairWalk k v o w) {A B : Type 0} (kw : A → ℤ)
+    (vw : B → ℤ) where
+  abbrev seen : A × B → ℤ × ℤ
+  seen pair = (kw pair.0, vw pair.1)
+
+  -- the first of the pairs that are left is this one
+  abbrev HasFirst : Option (A × B) → Type 0
+  HasFirst r = AnswersWith w.segment (λ d. slice_get (range_of w.start w.end (pairs_at_kinds d w.key k v)) 0)
+      (numbers_in kw vw r)
+
+  -- no first pair: the range is empty
+  pub finds-none : {t : PairWalk} → w ≡ t → {r : Option (A × B)} → r ≡ None → HasFirst r
+      → GoesOnPairs k v seen t None t
+  finds-none e was a = subst (λ t. GoesOnPairs k v seen t None t) e (record {
+    segment = refl;
+    key = refl;
+    pairs = λ d h. let n = none-left w.segment w.key k v w.start w.end (subst HasFirst was a) d h in (n, n);
+  })
+
+  abbrev pub behind : A × B → PairWalk
+  behind pair = record {
+    segment = w.segment;
+    key = w.key;
+    start = Excluded (kw pair.0);
+    end = w.end;
+    left = w.left - 1;
+  }
+
+  -- a first pair: the range goes on behind it
+  pub finds-one : {t : PairWalk} → w ≡ t → {r : Option (A × B)} {pair : A × B} → r ≡ Some pair → HasFirst r
+      → GoesOnPairs k v seen t (Some pair) (behind pair)
+  finds-one e {pair = pair} was a = subst (λ t. GoesOnPairs k v seen t (Some pair) (behind pair)) e (record {
+    segment = refl;
+    key = refl;
+    pairs = λ d h. others-left w.segment w.key k v w.start w.end (kw pair.0) (vw pair.1) (subst HasFirst was a) d h;
+  })
+
+  -- one pair less is left
+  pub fewer : {r : Option (A × B)} {pair : A × B} → r ≡ Some pair → HasFirst r
+      → (d : Directory) → DenotesCurrent w.segment.cut.bytes d → length (pairs_left k v d (behind pair)) ≤ w.left - 1
+  fewer {pair = pair} was a d h =
+      fewer-left w.segment w.key k v w.start w.end (kw pair.0) (vw pair.1) w.left (subst HasFirst was a) is.few d h
+
+  -- ---- the same from the other end
+
+  abbrev HasLast : Option (A × B) → Type 0
+  HasLast r = AnswersWith w.segment (λ d. last_between w.start w.end (pairs_at_kinds d w.key k v))
+      (numbers_in kw vw r)
+
+  -- no last pair: the range is empty
+  pub finds-none-back : {t : PairWalk} → w ≡ t → {r : Option (A × B)} → r ≡ None → HasLast r
+      → GoesBackPairs k v seen t None t
+  finds-none-back e was a = subst (λ t. GoesBackPairs k v seen t None t) e (record {
+    segment = refl;
+    key = refl;
+    pairs = λ d h. let n = none-before w.segment w.key k v w.start w.end (subst HasLast was a) d h in (n, n);
+  })
+
+  abbrev pub before : A × B → PairWalk
+  before pair = record {
+    segment = w.segment;
+    key = w.key;
+    start = w.start;
+    end = Excluded (kw pair.0);
+    left = w.left - 1;
+  }
+
+  -- a last pair: the range goes on before it
+  pub finds-one-back : {t : PairWalk} → w ≡ t → {r : Option (A × B)} {pair : A × B} → r ≡ Some pair → HasLast r
+      → GoesBackPairs k v seen t (Some pair) (before pair)
+  finds-one-back e {pair = pair} was a = subst (λ t. GoesBackPairs k v seen t (Some pair) (before pair)) e (record {
+    segment = refl;
+    key = refl;
+    pairs = λ d h. others-before w.segment w.key k v w.start w.end (kw pair.0) (vw pair.1) (subst HasLast was a) d h;
+  })
+
+  -- one pair less is left
+  pub fewer-back : {r : Option (A × B)} {pair : A × B} → r ≡ Some pair → HasLast r
+      → (d : Directory) → DenotesCurrent w.segment.cut.bytes d → length (pairs_left k v d (before pair)) ≤ w.left - 1
+  fewer-back {pair = pair} was a d h =
+      fewer-before w.segment w.key k v w.start w.end (kw pair.0) (vw pair.1) w.left (subst HasLast was a) is.few d h

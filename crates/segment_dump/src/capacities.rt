@@ -92,14 +92,14 @@ fn put_indexes<W: Sink>(segment: &Segment, out: &mut W) -> Result<(), DeviceFaul
     )
 }
 
-/// Returns for how many entries the index of names has places.
+/// Returns the number of entries that the index of names has places for.
 fn named_capacity(segment: &Segment) -> u64
     ensures { AnswersWith segment.now (λ d. d.named.capacity) result }
 {
     word_in(segment.as_bytes(), NAMED_AT as usize + CAPACITY)
 }
 
-/// Returns for how many entries the index of kinds has places.
+/// Returns the number of entries that the index of kinds has places for.
 fn unique_capacity(segment: &Segment) -> u64
     ensures { AnswersWith segment.now (λ d. d.unique.capacity) result }
 {

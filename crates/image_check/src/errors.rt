@@ -36,8 +36,8 @@ pub enum MemoryFault {
     BlockMap(NoBlockMemory),
 }
 
-/// No segment is opened. The region comes back. Its bytes are as they were but for those of the window from the base on
-/// that the first words of the image say, where they say one for which there is room. As text it is its cause.
+/// No segment is opened. The region comes back. Its bytes are as they were but for the window from the base on that the
+/// image's front says, if there is room for that. As text it is its cause.
 #[derive(Drop, Error)]
 #[error("{cause}")]
 pub struct OpenRefused {

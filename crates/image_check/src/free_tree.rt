@@ -63,8 +63,8 @@ fn count_tiles(window: &ImageWindow, visits: &mut VisitCounter) -> Counts
     counts
 }
 
-/// Returns the count of the tiles, if the tree at word 24 has the free ones as its nodes, each once, ordered by length
-/// and then by offset, and is red-black. The links may be any words.
+/// Returns the count of the tiles, if the tree at word 24 is red-black, with each free tile as a node once, ordered by
+/// length and then by offset. The links may be any words.
 ///
 /// A tree of as many nodes as there are free tiles, in which each of them is found, has no other node. Each is searched
 /// for to the depth of a red-black tree of that size.

@@ -23,9 +23,8 @@ pub const FRONT: usize = SIZE_AT as usize + 8;
 /// The fewest bytes that an image has.
 pub const LEAST: usize = (HEADER_LEN + TAG_LEN) as usize;
 
-/// Returns the size in bytes of an image that begins with these bytes, of which there are at least [`FRONT`] and the
-/// first `FRONT` are looked at: 144, or a multiple of 16 from 176 to 2^30. It is what the front says, and no promise
-/// that the rest is an image.
+/// Returns the size in bytes of an image that begins with these bytes, of which it reads the first [`FRONT`]. The size
+/// is 144, or a multiple of 16 from 176 to 2^30. It is what the front says, and no promise that the rest is an image.
 ///
 /// # Errors
 ///

@@ -24,8 +24,8 @@ use std::alloc::Global;
 /// error, nor after its end. `OutOfMemory` if memory for the check of the blocks was refused: only if no class before
 /// `BadIndex` holds and a tile is in use. The region comes back.
 ///
-/// `steps` is raised by each visit of the check: by no more than 64 for each 16 bytes of the size, and 64, and where a
-/// segment is answered, or a class from `BadIndex` on, by at least one for each tile. No tile is read uncounted.
+/// Each visit of the check raises `steps`: by no more than 64 for each 16 bytes of the size, and 64. If a segment is
+/// answered, or a class from `BadIndex` on, it rises by at least one for each tile. No tile is read uncounted.
 pub fn open<S: Source>(
     alloc: Global,
     reader: &mut S,

@@ -26,9 +26,9 @@ use segment_manager::layout::{NAMED_AT, UNIQUE_AT};
 ///
 /// # Errors
 ///
-/// The place of the payload of the first object that has a kind, class, count, name, padding or value that is wrong, or
-/// no entry in the index of its class; or else the place of the first entry of an index that leads to an object of
-/// another class or to one whose key does not rise.
+/// The place of the payload of the first object whose kind, class, count, name, padding or value is wrong, or that has
+/// no entry in the index of its class. If there is none, the place of the first entry of an index that leads to an
+/// object of another class or to one whose key does not rise.
 pub(crate) fn check_objects(
     format: u64,
     window: &ImageWindow,

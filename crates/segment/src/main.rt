@@ -62,8 +62,8 @@ fn obey(rt: &HostRuntime) -> Result<u8, NoAnswerMemory> {
 }
 
 /// Does what the command line asks for, with the files of the system, standard input and standard output, and returns
-/// the status. If a person reads standard error, or more is asked for, the line of a fault is followed by why the
-/// system did not open or make the file, as far as it said so.
+/// the status. If a person reads standard error or `--verbose` is given, a second line says why the system did not open
+/// or make the file.
 fn perform(
     rt: &HostRuntime,
     asked: &Invocation<'_>,

@@ -31,20 +31,28 @@ use std::alloc::Global;
 #[repr(C)]
 #[derive(Clone, Copy)]
 pub struct Info {
+    /// How the object is found again.
     pub found_by: u32,
+    /// The code of its kind.
     pub kind: u32,
+    /// The number of its elements, 1 for a container.
     pub count: u32,
+    /// The length of its name.
     pub name_len: u64,
+    /// Its handle.
     pub handle: u64,
 }
 
-/// A block in use or a gap: where it begins, how long it is, and what it is for (0 a gap, 1 an object, 2 an index, 3
-/// elements, 4 a pair).
+/// A block in use or a gap: where it begins, its length, and its use (0 a gap, 1 an object, 2 an index, 3 elements, 4 a
+/// pair).
 #[repr(C)]
 #[derive(Clone, Copy)]
 pub struct CBlock {
+    /// Where the block or gap begins.
     pub offset: u64,
+    /// Its length in bytes.
     pub len: u64,
+    /// What it is for.
     pub use_of: u32,
 }
 

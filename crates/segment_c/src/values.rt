@@ -11,8 +11,11 @@ use seg_types::{ScalarKind, ScalarValue};
 #[repr(C)]
 #[derive(Clone, Copy)]
 pub struct CScalar {
+    /// The code of the kind.
     pub kind: u32,
+    /// The value of a signed kind.
     pub number: i64,
+    /// The value of an unsigned kind or of a truth.
     pub natural: u64,
 }
 

@@ -24,10 +24,15 @@ use std::alloc::Global;
 #[repr(C)]
 #[derive(Clone, Copy)]
 pub struct CView {
+    /// Where the first element stands.
     pub at: *const u8,
+    /// Its offset from the front of the segment.
     pub offset: u64,
+    /// The number of elements.
     pub count: u64,
+    /// The handle's counter of changes.
     pub changes: u64,
+    /// The code of the elements' kind.
     pub kind: u32,
 }
 

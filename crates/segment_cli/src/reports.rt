@@ -77,8 +77,8 @@ pub fn session_status(fault: SessionFault) -> u8
     }
 }
 
-/// Returns the status that the program ends with. It is 1 if an image, a size or a growth is refused, 2 for a wrong
-/// command line, 3 for a file that exists and for faults, and 4 for want of memory.
+/// Returns the status that the program ends with. It is 1 if an image, a size or a growth is refused, and 2 for a wrong
+/// command line. It is 3 for a file that exists and for faults, and 4 for want of memory.
 fn status_of(fault: ProgramFault) -> u8
     ensures { result ≡ status_of fault }
 {

@@ -105,9 +105,9 @@ fn status_in(found: Result<(), SessionFault>) -> u8
     }
 }
 
-/// Checks files one after another, and returns the worst status. Each line that is said of one begins with its path, as
-/// a text of the language: of one that holds a segment on standard output, unless the check is quiet, and of one that
-/// holds none on standard error; after that line stands what `problem_of` tells of the disk, if anything.
+/// Checks files one after another, and returns the worst status. Each line begins with the file's path, as a text of
+/// the language. Files that hold a segment get a line on standard output, unless the check is quiet, and others one on
+/// standard error, followed by what `problem_of` tells of the disk.
 ///
 /// # Errors
 ///

@@ -73,9 +73,9 @@ fn put_line<S: Sink>(line: &[u8], status: u8, err: &mut S) -> u8
     status
 }
 
-/// Writes the line of a fault, none for a wrong command line, and returns the status that the program ends with, which
-/// is the same if the writer fails: 1 where an image, a size, a growth, a script or a dump is refused, 2 for a wrong
-/// command line, 3 for a file that exists or is in use and for faults, 4 for want of memory.
+/// Writes the line of a fault, none for a wrong command line, and returns the status that the program ends with, even
+/// if the writer fails. It is 1 if an image, a size, a growth, a script or a dump is refused, and 2 for a wrong command
+/// line. It is 3 for a file that exists or is in use and for faults, and 4 for want of memory.
 pub fn report<S: Sink>(fault: CommandFault, err: &mut S) -> u8
     requires { (S.history err.old).failures < 2 ^ 64 - 1 }
     ensures status { result ≡ command_status fault }

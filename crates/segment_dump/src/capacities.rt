@@ -24,9 +24,9 @@ use segment_manager::{Instance, Object, Segment};
 /// Where an index has its capacity, after its first word.
 const CAPACITY: usize = 16;
 
-/// Writes the [`dump`] of a segment, and after its end a note for each capacity: those of the two indexes, and those of
-/// vectors, strings and vectors of strings, in the order of the dump. It needs no memory. [`load`](crate::load) takes
-/// it as it takes the dump alone.
+/// Writes the [`dump`] of a segment, and after its end a note for each capacity: first of the two indexes, and then of
+/// the containers in the order of the dump. It needs no memory. [`load`](crate::load) takes it as it takes the dump
+/// alone.
 ///
 /// # Errors
 ///

@@ -23,8 +23,8 @@ use segment_values::{Layout, count_of, put_content};
 /// Writes all objects of a segment as lines of JSON, in the order of a [`dump`](crate::dump), an object a line:
 /// `{"class":"named","name":"a","kind":"i64","value":[1,2]}`. The name of an object that has none is `null`. Scalars
 /// are numbers, `true` or `false`; a text is a string if it is UTF-8, and otherwise an object `{"base64":".."}` with
-/// its bytes. The value of a `string` is its text, and that of each other object a list: of scalars, of texts, or, of a
-/// map, of lists of a key and its value. It needs no memory, and a line is as long as its object.
+/// its bytes. The value of a `string` is its text. The value of each other object is a list: of scalars, of texts, or,
+/// for a map, of lists of a key and its value. It needs no memory, and a line is as long as its object.
 ///
 /// # Errors
 ///

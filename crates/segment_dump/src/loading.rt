@@ -190,8 +190,8 @@ fn asked_size(size: Option<u64>, said: u64) -> u64
     size.unwrap_or(said)
 }
 
-/// Returns why no segment is begun for the objects of a dump, if anything is lacking: a size that segments have, a
-/// region that is long enough, a size that is, or the room for a text.
+/// Returns why no segment is begun for the objects of a dump, if anything is lacking: a legal size, a long enough
+/// region, a large enough size, or the room for a text.
 fn refusal_for(
     count: Count,
     region: &RawRegion,

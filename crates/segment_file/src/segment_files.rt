@@ -235,8 +235,8 @@ impl<H: Drop> SegmentFile<H> {
     /// # Errors
     ///
     /// `Growth` with `ReadOnly` if the segment is open for reading, with `BadGrow` if `extra` is below 32 or no
-    /// multiple of 16, and with `TooLarge` if the size would be above 1073741824;. Otherwise `OutOfMemory` if its
-    /// region has no room, and there is none for a larger one. The segment is as it was.
+    /// multiple of 16, and with `TooLarge` if the size would be above 1073741824. Otherwise `OutOfMemory` if its region
+    /// has no room, and there is none for a larger one. The segment is as it was.
     pub fn grow(&mut self, alloc: Global, extra: u64) -> Result<(), FileError>
         ensures history { GrowsFile self.old.segment self.new.segment extra result }
         ensures path { self.new.path ≡ self.old.path }

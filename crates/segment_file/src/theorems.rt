@@ -7,8 +7,8 @@ pub fn replacing_keeps_one_whole()
     ensures { ReplacingKeepsOneWhole }
 {}
 
-/// States that a save that replaces, and fails before its file is to take the place of the old one, leaves the old
-/// image, also where its file can't be made.
+/// States that a save that replaces leaves the old image if it fails before its file is to take the place of the old
+/// one.
 pub fn unplaced_leaves_the_old()
     ensures { UnplacedLeavesTheOld }
 {}

@@ -57,8 +57,8 @@ pub fn indexes_follow_objects()
     ensures { IndexesFollowObjects }
 {}
 
-/// States that several texts that ask for blocks get them placed one after another, each text that is not empty one; if
-/// one has no fit, there is no space for all.
+/// States that several texts that ask for blocks get them one after another, each text that is not empty one. If one
+/// has no fit, there is no space for all.
 pub fn texts_are_placed()
     ensures { TextsArePlaced }
 {}

@@ -139,7 +139,7 @@ fn put_entry<W: Sink>(out: &mut W, key: &[u8], number: u64) -> Result<(), Device
     )
 }
 
-/// Returns for how many entries the index of names has places.
+/// Returns the number of entries that the index of names has places for.
 fn named_capacity(segment: &Segment) -> u64
     ensures { AnswersWith segment.now (λ d. d.named.capacity) result }
 {

@@ -4,9 +4,9 @@ ghost use Rattle.std.specs.Prelude.{◌≡◌, ◌+◌};
 use raw_region::Steps;
 use std::marker::Model;
 
-/// How often an image was looked at. A visit reads the tags of a tile, a free node, an entry of an index, an object
-/// with its name and padding, an element, the link of an element or a node of a map. A visit is also each look-up, read
-/// or insertion of a block in the map of owners.
+/// How often an image was looked at. A visit reads one of these: the tags of a tile, a free node, an entry of an index,
+/// an object with its name and padding, an element, its link, or a node of a map. A visit is also each look-up, read or
+/// insertion of a block in the map of owners.
 #[derive(Drop)]
 pub struct VisitCounter {
     steps: Steps,
@@ -43,7 +43,7 @@ impl VisitCounter {
         self.steps.add(1);
     }
 
-    /// Counts Counts `n` visits more.
+    /// Counts Counts Counts `n` visits more.
     pub fn add(&mut self, n: u64)
         ensures { self.new ≡ self.old + n }
     {

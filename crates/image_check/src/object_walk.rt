@@ -86,8 +86,7 @@ fn are_right(
     Ok(())
 }
 
-/// Whether the tile is no object's or one of an object that is right. Its block may be that of number
-/// `guess`.
+/// Tells whether the tile is no object's or one of an object that is right. Its block may be that of number `guess`.
 fn is_right(
     format: u64,
     window: &ImageWindow,
@@ -114,8 +113,8 @@ fn is_right(
     }
 }
 
-/// Whether the object, whose payload ends at `end` and whose block may be that of number `guess`, is right. One visit,
-/// and one for each scalar of its value.
+/// Tells whether the object, whose payload ends at `end` and whose block may be that of number `guess`, is right. One
+/// visit, and one for each scalar of its value.
 fn is_object(
     format: u64,
     window: &ImageWindow,

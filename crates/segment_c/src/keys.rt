@@ -8,7 +8,7 @@ ghost use Rattle.segment_manager.specs.objects.NewObjects.{IsOfKind};
 use crate::codes::{BAD_KEY, BAD_KIND, BAD_NAME, NULL_SLICE};
 use seg_types::{IndexKey, Key, Kind, Name};
 
-/// Which object: by `how`, the one of the name (0), the unique one of the kind (1), the one of the handle (2); or a new
+/// Which object, by `how`: the one of the name (0), the unique one of the kind (1), the one of the handle (2), or a new
 /// one with no key (3). 4 stands for a null name.
 #[repr(C)]
 pub struct ObjectKey<'a> {
@@ -19,7 +19,7 @@ pub struct ObjectKey<'a> {
 }
 
 impl<'a> ObjectKey<'a> {
-    /// The key of an object that is there.
+    /// Returns the key of an object that is there.
     ///
     /// # Errors
     ///
@@ -38,7 +38,7 @@ impl<'a> ObjectKey<'a> {
         }
     }
 
-    /// The entry under which an object of a kind is found or made.
+    /// Returns the entry under which an object of a kind is found or made.
     ///
     /// # Errors
     ///

@@ -75,7 +75,7 @@ fn resize_segment(segment: &mut Segment, how: Resize) -> Result<(), GrowError>
     }
 }
 
-/// For how many bytes more the region of a segment is made that becomes larger.
+/// Returns for how many bytes more the region of a segment is made that becomes larger.
 fn more_for(how: Resize) -> u64
     ensures { result ≡ more_by how }
 {
@@ -145,7 +145,7 @@ fn change_held<D: Disk, O: Output>(
 
 /// Makes the segment in a file larger by some bytes, or as small as its last block lets it be, and says its size; or
 /// writes it by the current format, whichever of the three it has, and says `ok`. The file is emptied or replaced for
-/// its image, as `saving` says: behind the size when that went out, and before the `ok`.
+/// its image, as `saving` says: after the size when that went out, and before the `ok`.
 ///
 /// # Errors
 ///

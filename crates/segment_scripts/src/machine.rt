@@ -26,7 +26,7 @@ pub struct ParseBuffers {
 }
 
 impl ParseBuffers {
-    /// Room that holds nothing.
+    /// Makes room that holds nothing.
     pub fn new() -> ParseBuffers {
         ParseBuffers {
             text: LineBuffer::new(),

@@ -1,4 +1,4 @@
--- The fields that name the blocks of a directory: they are those that count in the image (`CountedClaims.claimed-counted`),
+-- The fields that name the blocks of a directory are those that count in the image (`CountedClaims.claimed-counted`),
 -- and no two of them lead to one block (`DisjointBlocks`).
 pub mod Fields
 pub mod CountedClaims

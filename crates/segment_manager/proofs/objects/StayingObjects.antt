@@ -5,6 +5,8 @@ use common.{◌==◌, Bool, true, false, Option, Some, Extent, handle, Object, A
 use common.{SegmentState, ap, is_some, LiveSet, resized, Refusal, NoSpace, ByHandle, Command, Directory, has_key}
 use common.{IsSegment, current, if◌then◌else◌, false≢true, replace_object, is_elementwise, step_of_kind, LeadsOnOfKind}
 use common.{option_map, IsDirectory, Denotes, Located, object_at, is_object_at, handle_at, same_Some}
+use common.{Err, Numbers, Ok, OutOfRange, ReadOnly, ScalarKind, Value, WrongKind, changed, count_of, drop, is_read_only}
+use common.{kind_of, length, nat_le, take, with_items, ℤ, leb-true}
 use Rattle.segment_manager.proofs.directory.Refusals.{IsAnother, Leaves, by_change, by_other, by_refusal, by_request}
 use Rattle.segment_manager.proofs.directory.Refusals.{by_same}
 use Rattle.segment_manager.proofs.directory.Refusals.{extended-leaves, plan-leaves, plan_of_kind-leaves}

@@ -56,6 +56,7 @@ module _ {E : Type 0} {text left : List ℕ} where
       → Takes version_said Any text left result
   version-none h = record { takes = λ u a g t. absurd (no-ok (version-lead h a t).0) }
 
+  -- no word `dump`: no version is read
   pub version-no_dump : {words last : List ℕ} {e : E} {result : Result (Unit {0}) E}
       → ReadsLead {E = E} (codes "segment") text left (Ok words) → ReadsThis (codes "dump") words last (Err e)
       → Takes version_said Any text left result
@@ -113,6 +114,7 @@ module _ {E : Type 0} (law : NumbersAreDecimals) {text left : List ℕ} where
       → text ≡ size_said n ++ a → (r ≡ Ok (0x20 ∷ decimal n)) × (left ≡ a)
   size-lead h n a t = h.reads (size_line n) (0x20 ∷ decimal n) a (size-no_end n) (size-short n) (size-next n) t
 
+  -- no lead: no size is read
   pub size-none : {e : E} {result : Result ℕ E} → ReadsLead (codes "size") text left (Err e)
       → Takes size_said IsNumber text left result
   size-none h = record { takes = λ n a g t. absurd (no-ok (size-lead h n a t).0) }
@@ -254,6 +256,7 @@ module _ {E : Type 0} {text left : List ℕ} where
       → text ≡ fronted f ++ a → (n ≡ f.size) × (mid ≡ entries_said (f.named, f.unique) ++ a)
   front-mid h k f a g t = let q = k.takes f.size _ g.size (front-left h f a t) in (ok-is {E = E} q.0, q.1)
 
+  -- no numbers of entries: no front is read
   pub front-entries : {mid last : List ℕ} {n : ℕ} {e : E} {result : Result Front E}
       → Takes {E = E} version_said Any text left (Ok tt) → Takes {E = E} size_said IsNumber left mid (Ok n)
       → Takes entries_said AreNumbers mid last (Err e) → Takes fronted IsFront text last result

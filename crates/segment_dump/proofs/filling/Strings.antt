@@ -188,7 +188,8 @@ pub string-no_first : {E F : Type 0} {old new : SegmentState} {h room : ℕ} {te
     {result : Result (Unit {0}) F} → ReadsLength text rest (Err e)
     → FillsNew old new h kinds.String 1 text rest' room result
 string-no_first {old = old} {h = h} {room} {text} r = record {
-  fills = λ p f c b. let g = begun old text p h room f b in absurd (no-ok (r.reads g.bytes p.after g.counted g.lines).0);
+  fills = λ p f c b. let g = begun old text p h room f b in
+      absurd (no-ok (r.reads g.bytes p.after g.counted g.lines).0);
 }
 
 -- one piece more

@@ -17,4 +17,5 @@ returns-in_err-finish c = entries-more c.numbers_are_decimals.ensures c.in_ok-wo
     c.in_ok-unique.ensures c.in_err-finish.ensures
 
 pub returns : goal.returns
-returns c = entries-some c.numbers_are_decimals.ensures c.in_ok-words.ensures c.in_ok-named.ensures c.in_ok-unique.ensures
+returns c = entries-some c.numbers_are_decimals.ensures c.in_ok-words.ensures c.in_ok-named.ensures
+    c.in_ok-unique.ensures

@@ -8,7 +8,8 @@ pub returns-in_err-size : goal.returns-in_err-size
 returns-in_err-size c = size-no_number c.numbers_are_decimals.ensures c.in_ok-words.ensures c.in_err-size.ensures
 
 pub returns-in_err-finish : goal.returns-in_err-finish
-returns-in_err-finish c = size-more c.numbers_are_decimals.ensures c.in_ok-words.ensures c.in_ok-size.ensures c.in_err-finish.ensures
+returns-in_err-finish c = size-more c.numbers_are_decimals.ensures c.in_ok-words.ensures c.in_ok-size.ensures
+    c.in_err-finish.ensures
 
 pub returns : goal.returns
 returns c = size-some c.numbers_are_decimals.ensures c.in_ok-words.ensures c.in_ok-size.ensures

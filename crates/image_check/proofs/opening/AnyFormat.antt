@@ -53,6 +53,7 @@ unplaced-any b region base mode refused n = record {
 
 module _ (image : ReadDelta) (region : List ℕ) (base : ℕ) (w : WindowState)
     (h : IsImageRead (format_of image.bytes) image region base w) where
+  -- an image of any format is opened as its window is
   pub opens-any : (mode : Mode) (r : Result SegmentState OpenRefused) → OpensWindow (format_of image.bytes) w mode r
       → OpensAny image region base mode r
   opens-any mode (Ok s) o = record {

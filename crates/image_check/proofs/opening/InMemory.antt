@@ -140,6 +140,7 @@ not-placed format b region base mode refused n = record {
 
 -- ---- the format that it says
 
+-- a format that is accepted is at most 2
 pub format_in-few : (versions : AcceptedVersions) (b : List ℕ) → format_in versions b ≤ 2
 unfolding current
 format_in-few Current b = omega arith
@@ -179,6 +180,7 @@ module _ (format : ℕ) (b region : List ℕ) (base : ℕ) (w : WindowState)
     too_small = λ t. absurd (no-room format (as_given b) region base w h t);
   }
 
+  -- an image in memory is opened as its window is
   pub opens-bytes : (mode : Mode) (r : Result SegmentState OpenRefused) → format ≡ current
       → OpensWindow format w mode r → OpensBytes format b region base mode r
   opens-bytes mode (Ok s) now o =

@@ -79,6 +79,7 @@ module _ (format : ℕ) (image : ReadDelta) (region : List ℕ) (base : ℕ) (w 
     too_small = λ t. absurd (no-room t);
   }
 
+  -- an image is opened as its window is
   pub opens : (mode : Mode) (r : Result SegmentState OpenRefused) → format ≡ current → OpensWindow format w mode r
       → Opens format image region base mode r
   opens mode (Ok s) now o = record {
@@ -127,6 +128,7 @@ module _ (format : ℕ) (image : ReadDelta) (region : List ℕ) (base : ℕ) (w 
     too_small = no-room;
   }
 
+  -- an image is examined as its window is
   pub examines : (r : Result (List ℕ) ExamineRefused) → ExaminesWindow format w r
       → Examines format image region base r
   examines (Ok back) o = record { verifies = verified back o.0 o.1; shown = tt }

@@ -16,7 +16,6 @@ use common.{count_of}
 use Rattle.seg_types.specs.declared.kinds.Class.TheVariants.{Named, Unique}
 use Rattle.segment_manager.specs.{Answers.Absent, Answers.Found, objects.Located.located, containers.Ranges.extend}
 use Rattle.segment_manager.specs.Step.{assign, push, pop, insert_at, erase, put, text_of}
-use Rattle.segment_manager.specs.containers.Ranges.{extend}
 use Rattle.std.proofs.lemmas.List.{length-set}
 
 -- the object of a key with another value, of which the same is said

@@ -25,8 +25,8 @@ use Rattle.raw_region.proofs.block.null_bytes.Code as code
 abbrev stayed : Stays f.ended.signature.params f.ended.kept
 stayed = tt
 
-pub nowhere_spec : {M : Type 1} → statement M
-nowhere_spec 𝓤 𝓛 𝓜 𝓡 wired =
+pub null_bytes_spec : {M : Type 1} → statement M
+null_bytes_spec 𝓤 𝓛 𝓜 𝓡 wired =
     let H = 𝓛.H in let 𝓣 = tables 𝓤 H 𝓜 𝓡 𝓡.env in let En = f.ended in let c = f.clauses 𝓛 𝓜.mem 𝓡.returns
     in let fn = code.function in
     proved_at 𝓛 En stayed c 𝓜 𝓡 tt f.Key.name fn (code.unfolded 𝓤 H 𝓜 𝓡 wired) (λ z are.

@@ -1,20 +1,14 @@
 -- A call that finds no room has read the first 24 bytes, and no more: nothing else that stops it is want of room.
-use Rattle.std.proofs.Common.{◌≡◌, refl, sym, ap, ◌∙◌, ℕ, Bool, inl, inr, List, Result, Ok, Err}
-use Rattle.std.specs.Prelude.{IfErr}
-use Rattle.image_check.specs.declared.errors.ExamineError.{ExamineError}
-use Rattle.image_check.specs.declared.errors.ExamineError.TheVariants.{Image, RegionTooSmall, OutOfMemory, ReadFault}
-use Rattle.image_check.specs.declared.errors.OpenError.{OpenError}
+use Rattle.image_check.proofs.Common.{Err, ExamineError, ExamineRefused, ExaminesWindow, IfErr, IsShort, IsWhyRefused}
+use Rattle.image_check.proofs.Common.{List, Mode, Ok, OpenError, OpenRefused, OpensWindow, ReadsPastEnd, Result}
+use Rattle.image_check.proofs.Common.{SegmentState, WindowState, ap, error_for, failed_reads, inl, inr, refl, sym, ℕ}
+use Rattle.image_check.proofs.Common.{◌∙◌, ◌≡◌}
+use Rattle.std.proofs.Common.{Bool}
+use Rattle.image_check.specs.declared.errors.ExamineError.TheVariants.{Image, OutOfMemory, ReadFault, RegionTooSmall}
 use Rattle.image_check.specs.declared.errors.OpenError.TheVariants.{RegionTooSmall as TooSmall}
 use Rattle.raw_region.specs.Device.{ReaderHistory}
-use Rattle.raw_region.specs.Memory.{WindowState}
-use Rattle.segment_manager.specs.declared.modes.Mode.{Mode}
-use Rattle.segment_manager.specs.State.{SegmentState}
-use Rattle.image_check.specs.declared.errors.ExamineRefused.{ExamineRefused}
-use Rattle.image_check.specs.declared.errors.OpenRefused.{OpenRefused}
-use Rattle.image_check.specs.Causes.{error_for, opened_in}
-use Rattle.image_check.specs.Checking.{ExaminesWindow, IsWhyRefused, OpensWindow}
-use Rattle.image_check.specs.Opening.{ReadsFrontAlone, cause_of, failed_reads}
-use Rattle.image_check.specs.Reading.{ReadsPastEnd, IsShort}
+use Rattle.image_check.specs.Causes.{opened_in}
+use Rattle.image_check.specs.Opening.{ReadsFrontAlone, cause_of}
 use Rattle.image_check.proofs.reading.Stops.{rise}
 
 -- a reader that gives too few bytes

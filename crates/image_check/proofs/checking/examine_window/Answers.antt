@@ -1,8 +1,5 @@
 -- The visits are the steps.
-use Rattle.std.proofs.Common.{◌≡◌, sym, subst, ◌∙◌, arith}
-use Rattle.image_check.specs.Checking.{IsWhyRefused}
-use Rattle.image_check.specs.Opening.{IsImage}
-use Rattle.image_check.specs.Reading.{HasFront}
+use Rattle.image_check.proofs.Common.{HasFront, IsImage, IsWhyRefused, arith, subst, sym, ◌∙◌, ◌≡◌}
 use Rattle.image_check.proofs.reading.Buffer.{HasFront-least, HasFront-version}
 use Rattle.image_check.proofs.checking.examine_window.Goals as goal
 

@@ -1,13 +1,8 @@
 -- Each row is a tile in use, and one visit more. The visits are the steps.
-use Rattle.std.proofs.Common.{◌≡◌, sym, subst, ◌∙◌, ℕ, true, arith}
-use Rattle.image_check.specs.declared.errors.ExamineError.{ExamineError}
-use Rattle.image_check.specs.declared.errors.OpenError.{OpenError}
-use Rattle.image_check.specs.Checking.{IsWhyRefused}
-use Rattle.image_check.specs.Opening.{IsImage, is_late}
-use Rattle.image_check.specs.OpeningAny.{UpgradesFormat}
-use Rattle.image_check.specs.Owners.{entries_of}
-use Rattle.image_check.specs.Passes.{Spends, tiles_in}
-use Rattle.image_check.specs.Reading.{HasFront}
+use Rattle.image_check.proofs.Common.{ExamineError, HasFront, IsImage, IsWhyRefused, OpenError, Spends, UpgradesFormat}
+use Rattle.image_check.proofs.Common.{arith, entries_of, subst, sym, true, ℕ, ◌∙◌, ◌≡◌}
+use Rattle.image_check.specs.Opening.{is_late}
+use Rattle.image_check.specs.Passes.{tiles_in}
 use Rattle.image_check.specs.Visits.{all_rates}
 use Rattle.image_check.proofs.budget.Visits.{noted-raised}
 use Rattle.image_check.proofs.reading.Buffer.{HasFront-least, HasFront-version}

@@ -1,18 +1,13 @@
-use Rattle.std.proofs.Common.{◌≡◌, sym, ap, subst, ◌∙◌, ℕ, ◌+◌, ◌-◌, ◌≤◌, List, length, Some, None, arith}
-use Rattle.std.specs.Prelude.{Option}
-use Rattle.raw_region.specs.Memory.{bytes_of}
-use Rattle.block_tags.specs.declared.tile.Role.TheVariants.{Node}
+use Rattle.image_check.proofs.Common.{Block, Blocks, HasTiles, IsMarkingOf, IsSharedIn, List, MarksLink, Node, None}
+use Rattle.image_check.proofs.Common.{Option, Some, ap, arith, block_at, bytes_of, length, owner, subst, sym, ℕ, ◌+◌}
+use Rattle.image_check.proofs.Common.{◌-◌, ◌∙◌, ◌≡◌, ◌≤◌}
 use Rattle.raw_region.specs.Format.{current}
-use Rattle.image_check.specs.declared.owners.Block.{Block}
-use Rattle.image_check.specs.Passes.{HasTiles, tiles_in}
-use Rattle.image_check.specs.Owners.{IsMarkingOf, MarksLink, IsSharedIn, IsTurn, Blocks, block_at, next_in, root_in}
-use Rattle.image_check.specs.Owners.{owner}
+use Rattle.image_check.specs.Passes.{tiles_in}
+use Rattle.image_check.specs.Owners.{IsTurn, next_in, root_in}
 use Rattle.image_check.proofs.block_collection.Places.{IsInside, legal-small, payload-inside}
-use Rattle.image_check.proofs.shared_blocks.Worklist.{leader, left-counts, left-rooted, map-ok, node-there, node-tile}
-use Rattle.image_check.proofs.shared_blocks.Worklist.{of-err, of-ok}
-use Rattle.image_check.proofs.shared_blocks.Worklist.{right-counts, right-rooted, root-is, taken, turn-keeps, turn-less}
-use Rattle.image_check.proofs.shared_blocks.Worklist.{turned}
-use Rattle.image_check.proofs.shared_blocks.Worklist.{debts-small}
+use Rattle.image_check.proofs.shared_blocks.Worklist.{debts-small, leader, left-counts, left-rooted, map-ok, node-there}
+use Rattle.image_check.proofs.shared_blocks.Worklist.{node-tile, of-err, of-ok, right-counts, right-rooted, root-is}
+use Rattle.image_check.proofs.shared_blocks.Worklist.{taken, turn-keeps, turn-less, turned}
 use Rattle.image_check.proofs.marks.follow_next.Goals as goal
 
 -- the node lies in the window

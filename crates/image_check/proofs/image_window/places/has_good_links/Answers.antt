@@ -1,5 +1,4 @@
-use Rattle.std.proofs.Common.{arith, length}
-use Rattle.image_check.specs.FreeLaws.{is_place-PayloadBounds, small_size}
+use Rattle.image_check.proofs.Common.{arith, is_place-PayloadBounds, length, small_size}
 use Rattle.image_check.proofs.image_window.places.has_good_links.Goals as goal
 
 pub load_checked-requires-clause-aligned : goal.load_checked-requires-clause-aligned

@@ -45,6 +45,7 @@ unplaced-any b region base mode refused n = record {
 
 module _ (image : ReadDelta) (region : List ℕ) (base : ℕ) (w : WindowState)
     (h : IsImageRead (format_of image.bytes) image region base w) where
+  -- What an opening of any format answers, from what that of its window does.
   pub opens-any : (mode : Mode) (r : Result SegmentState OpenRefused) → OpensWindow (format_of image.bytes) w mode r
       → OpensAny image region base mode r
   opens-any mode (Ok s) o = record {

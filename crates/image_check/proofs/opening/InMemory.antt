@@ -130,6 +130,7 @@ not-placed format b region base mode refused n = record {
 
 -- ---- the format that it says
 
+-- The format by which bytes are read is at most 2.
 pub format_in-few : (versions : AcceptedVersions) (b : List ℕ) → format_in versions b ≤ 2
 unfolding current
 format_in-few Current b = omega arith
@@ -169,6 +170,7 @@ module _ (format : ℕ) (b region : List ℕ) (base : ℕ) (w : WindowState)
     too_small = λ t. absurd (no-room format (as_given b) region base w h t);
   }
 
+  -- What an opening of bytes answers, from what that of their window does.
   pub opens-bytes : (mode : Mode) (r : Result SegmentState OpenRefused) → format ≡ current
       → OpensWindow format w mode r → OpensBytes format b region base mode r
   opens-bytes mode (Ok s) now o =

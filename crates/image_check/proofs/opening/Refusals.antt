@@ -71,6 +71,7 @@ module _ (format : ℕ) (image : ReadDelta) (region : List ℕ) (base : ℕ) (w 
     too_small = λ t. absurd (no-room t);
   }
 
+  -- What an opening answers, from what that of its window does.
   pub opens : (mode : Mode) (r : Result SegmentState OpenRefused) → format ≡ current → OpensWindow format w mode r
       → Opens format image region base mode r
   opens mode (Ok s) now o = record {
@@ -119,6 +120,7 @@ module _ (format : ℕ) (image : ReadDelta) (region : List ℕ) (base : ℕ) (w 
     too_small = no-room;
   }
 
+  -- What an examination answers, from what that of its window does.
   pub examines : (r : Result (List ℕ) ExamineRefused) → ExaminesWindow format w r
       → Examines format image region base r
   examines (Ok back) o = record { verifies = verified back o.0 o.1; shown = tt }

@@ -43,21 +43,25 @@ check-reads format b (OutOfMemory refusal) x = refl
 check-reads format b ReadFault x = absurd x
 
 module _ (format : ℕ) (w : WindowState) (mode : Mode) where
+  -- The opening of a window counts no failed read.
   pub opened-reads : (r : Result SegmentState OpenRefused) → OpensWindow format w mode r → failed_reads (cause_of r) ≡ 0
   opened-reads (Ok s) o = refl
   opened-reads (Err e) o = ap rise o.cause ∙ check-reads format w.bytes o.why o.holds
 
+  -- The opening of a window never wants room.
   pub opened-roomy : (r : Result SegmentState OpenRefused) (old new : ReaderHistory) → OpensWindow format w mode r
       → ReadsFrontAlone old new (cause_of r)
   opened-roomy (Ok s) old new o = tt
   opened-roomy (Err e) old new o = λ t. absurd (check-roomy format w.bytes o.why o.holds (sym o.cause ∙ t))
 
 module _ (format : ℕ) (w : WindowState) where
+  -- The examination of a window counts no failed read.
   pub examined-reads : (r : Result (List ℕ) ExamineRefused) → ExaminesWindow format w r
       → failed_reads (cause_of (opened_in r)) ≡ 0
   examined-reads (Ok back) o = refl
   examined-reads (Err e) o = check-reads format w.bytes e.cause o.0
 
+  -- The examination of a window never wants room.
   pub examined-roomy : (r : Result (List ℕ) ExamineRefused) (old new : ReaderHistory) → ExaminesWindow format w r
       → ReadsFrontAlone old new (cause_of (opened_in r))
   examined-roomy (Ok back) old new o = tt

@@ -1,4 +1,4 @@
--- `taken` makes the one struct of the other, which owns the same. Assumes `Logic`.
+-- `into_block` makes the one struct of the other, which owns the same. Assumes `Logic`.
 use Rattle.std.proofs.Common.{◌≡◌, List, [], ◌∷◌, ◌++◌, refl}
 use mir.Val.{Val}
 use base.Logic.{SProp, emp}

@@ -1,4 +1,4 @@
--- `handed` makes the one struct of the other, which owns the same. Assumes `Logic`.
+-- `into_lent_bytes` makes the one struct of the other, which owns the same. Assumes `Logic`.
 use Rattle.std.proofs.Common.{◌≡◌, List, [], ◌∷◌, ◌++◌, refl}
 use mir.Val.{Val}
 use base.Logic.{SProp, emp}

@@ -1,4 +1,4 @@
--- `nowhere` makes a null pointer, and a struct that owns no byte. Assumes `Logic`.
+-- `null_bytes` makes a null pointer, and a struct that owns no byte. Assumes `Logic`.
 use Rattle.std.proofs.Common.{◌≡◌, ℕ, List, [], ◌∷◌, refl, lit<}
 use mir.Val.{Val}
 use base.Logic.{SProp, emp}

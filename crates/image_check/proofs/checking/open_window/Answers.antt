@@ -27,15 +27,15 @@ pass_all-requires-clause-front c =
     (sym (HasFront-version c.requires.0 c.args.window c.version-format.result c.requires.1.0 c.version-format.ensures))
     c.requires.1.0
 
-pub into_segment-requires-clause-format : goal.into_segment-requires-clause-format
-into_segment-requires-clause-format c =
+pub into_segment-segment-requires-clause-format : goal.into_segment-segment-requires-clause-format
+into_segment-segment-requires-clause-format c =
     let same = HasFront-version c.requires.0 c.args.window c.version-format.result c.requires.1.0
     c.version-format.ensures in
     let few = c.requires.1.1 in
     omega arith
 
-pub into_segment-requires-clause-blocks : goal.into_segment-requires-clause-blocks
-into_segment-requires-clause-blocks c =
+pub into_segment-segment-requires-clause-blocks : goal.into_segment-segment-requires-clause-blocks
+into_segment-segment-requires-clause-blocks c =
     let b = c.args.window.bytes in
     let p = c.in-Ok.ensures.pass in
     frame-AreBlocks (tiles_in b) c.in-Ok.owners.blocks.entries (entries_of (tiles_in b)) p.frame

@@ -15,7 +15,7 @@ last_end from (x ∷ xs) = last_end (end_of x) xs
 abbrev pub least_size : LiveSet → ℕ
 least_size live = last_end 128 live.extents + 16
 
--- the same extents in a segment of another size
+-- a live set with its extents in a segment of another size
 abbrev pub of_size : LiveSet → ℕ → LiveSet
 of_size live size = record live { size = size }
 

@@ -17,8 +17,8 @@ pub record IsNextGap (c : WindowState) (xs : List Gap) (g : Gap) : Type 0 where
 abbrev pub IsBesideGap : ℕ → Gap → Type 0
 IsBesideGap k g = (k < g.offset) ⊎ (g.offset + g.len ≤ k)
 
--- The same blocks are in use, with the same bytes and colours, and there is a tree of the gaps. Nothing changes but
--- word 24, and of gaps but their tags and links.
+-- the blocks in use keep their bytes and colours, and there is a tree of the gaps; nothing changes but word 24, and the
+-- tags and links of gaps
 pub record RebuildsFreeTree (format : ℕ) (old new : WindowState) : Type 0 where
   pub live : EncodesLiveSet format new.bytes (live_of old.bytes)
   pub keeps : KeepsBlocks old new (live_of old.bytes).extents

@@ -90,7 +90,7 @@ impl Heap {
         }
     }
 
-    /// Notes the handle of a block in use, from which blocks behind it are looked for. No byte changes, and no tile is
+    /// Notes the handle of a block in use, from which blocks after it are looked for. No byte changes, and no tile is
     /// read.
     pub fn insert_hint(&mut self, handle: u64)
         requires { IsTrue (is_live_in (live_of self.old.bytes) handle) }

@@ -72,7 +72,7 @@ abbrev pub TagsThatStaySayTheSame : Type 0
 TagsThatStaySayTheSame = (c d : WindowState) (ts : List Tile) → EncodesTiles c ts → length d.bytes ≡ length c.bytes
     → SameTags (bytes_of c.bytes) (bytes_of d.bytes) ts (length c.bytes - 16) → EncodesTiles d ts
 
--- so bytes of a payload may change, and bytes of the header
+-- the law: bytes of a payload may change, and the tags say the same tiles
 abbrev pub PayloadMayChange : Type 0
 PayloadMayChange = (c d : WindowState) (ts : List Tile) (at : ℕ) (t : Tile) → EncodesTiles c ts
     → tile_in ts at ≡ Some t → length d.bytes ≡ length c.bytes

@@ -28,7 +28,7 @@ pub record MayGrow (s : SegmentState) (extra : ℕ) : Type 0 where
 abbrev pub IsTooLongFor : SegmentState → ℕ → Type 0
 IsTooLongFor s extra = room_of s.cut < length s.cut.bytes + extra
 
--- it may grow, and its region is too short for that
+-- the segment may grow, and its region is too short for that
 pub record IsShortOfRoom (s : SegmentState) (extra : ℕ) : Type 0 where
   pub writing : is_read_only s.mode ≡ false
   pub long : 32 ≤ extra
@@ -37,7 +37,7 @@ pub record IsShortOfRoom (s : SegmentState) (extra : ℕ) : Type 0 where
   pub may : MayGrow s extra
   pub short : IsTooLongFor s extra
 
--- it is open as it was, and each directory has so many bytes more; it leaves its place only where that is too short
+-- the segment is open as before, and each directory has so many bytes more; it moves only if its region is too short
 pub record GrowsOrMovesOk (old new : SegmentState) (extra : ℕ) : Type 0 where
   pub may : MayGrow old extra
   pub mode : new.mode ≡ old.mode

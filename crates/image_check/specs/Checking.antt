@@ -51,14 +51,14 @@ pub record PassesImage (b : List ℕ) (es : Blocks) (old new : ℕ) : Type 0 whe
 
 -- ---- an image in its window
 
--- it denotes a directory, and the segment that stands in the window's place has it by the current format
+-- the image denotes a directory, which the segment in the window's place has by the current format
 pub record OpensWindowOk (format : ℕ) (w : WindowState) (how : Mode) (s : SegmentState) : Type 0 where
   pub image : IsImage format w.bytes
   pub place : SameSurroundings w s.cut
   pub upgrade : UpgradesFormat format w.bytes s.cut.bytes
   pub mode : s.mode ≡ how
 
--- it is refused, and its region comes back as it was
+-- the image is refused, and its region comes back as it was
 pub record OpensWindowErr (format : ℕ) (w : WindowState) (refused : OpenRefused) : Type 0 where
   pub why : ExamineError
   pub holds : IsWhyRefused format w.bytes why

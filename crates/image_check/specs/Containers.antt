@@ -19,7 +19,7 @@ use Rattle.image_check.specs.Visits.{Rates, rate_of}
 abbrev pub container_block_rates : Rates
 container_block_rates = record { free = 0; object = 0; index = 0; storage = 16; node = 13 }
 
--- and for the walk over the tiles and objects
+-- the rates of the walk over the tiles and objects for their containers
 abbrev pub container_walk_rates : Rates
 container_walk_rates = record { free = 1; object = 12; index = 1; storage = 1; node = 1 }
 

@@ -27,7 +27,7 @@ pub record IsDecided (format : ℕ) (front : List ℕ) : Type 0 where
 abbrev pub AllDecided : Type 0
 AllDecided = (format : ℕ) (front : List ℕ) → IsDecided format front
 
--- the same of images of any of the three formats
+-- what `decided` says of these first bytes holds for images of any of the three formats
 pub record IsDecidedAny (front : List ℕ) : Type 0 where
   pub some : (c : ImageClass) → decided (format_of front) front ≡ Some c → DecidesAny front c
   pub none : decided (format_of front) front ≡ None → (c : ImageClass) → DecidesAny front c → ⊥

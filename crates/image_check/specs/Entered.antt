@@ -67,7 +67,7 @@ pub record EntersLink (old new : Blocks) (link : Option ℕ) (place root : ℕ) 
 
 -- ---- all entries of an index
 
--- these objects have no entry, and none stands twice
+-- whether these objects have no entry yet, and none stands twice
 abbrev pub are_new : Blocks → List ℕ → Bool
 are_new es xs = are_distinct xs && list_all (λ n. is_none (index_of es n)) xs
 
@@ -84,7 +84,7 @@ links_in m block n = map (λ i. link_at m (block + 8 * i)) (range_with_len 0 n)
 abbrev pub is_enterable : Memory → List Tile → Blocks → ℕ → Bool
 is_enterable m ts es at = has_index m ts at && are_new es (targets m at)
 
--- these objects have their entry noted in the index at a root, and nothing else changed
+-- a pass notes the entries of these objects in the index at a root, and changes nothing else
 pub record NotesEntries (ts : List Tile) (old es : Blocks) (root : ℕ) (xs : List ℕ) : Type 0 where
   pub blocks : AreBlocks ts es
   pub frame : frames es ≡ frames old

@@ -12,7 +12,7 @@ pub record Examines (format : ℕ) (image : ReadDelta) (region : List ℕ) (base
   pub verifies : Verifies format image region base (opened_in result)
   pub shown : IfErr result (λ refused. IsShown format image.bytes refused.cause)
 
--- the same of bytes that lie in memory
+-- an examination answers of bytes that lie in memory
 pub record ExaminesBytes (format : ℕ) (b region : List ℕ) (base : ℕ) (result : Result (List ℕ) ExamineRefused) :
     Type 0 where
   pub answers : MatchResult result (IsVerified format (as_given b) region base) (λ refused.

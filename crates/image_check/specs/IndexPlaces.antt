@@ -14,7 +14,7 @@ abbrev pub is_head : Memory → List Tile → ℕ → Bool
 is_head m ts at = nat_le (word_at m (at + 8)) (index_capacity m at)
     && is_table_link ts Index (link_at m at) 8 (index_capacity m at)
 
--- it has more entries than places, which its second word shows, or else its link leads to no block with room for these
+-- the head of an index is wrong: it has more entries than places, or its link leads to no block with room for these
 abbrev pub IsWrongHead : Memory → List Tile → ℕ → ℕ → Type 0
 IsWrongHead m ts at place =
     ((place ≡ at + 8) × (index_capacity m at < word_at m (at + 8)))
@@ -43,7 +43,7 @@ pub record IsFirstWrong (m : Memory) (ts : List Tile) (earlier : List ℕ) (bloc
   pub wrong : is_new ts (earlier ++ first_targets m block number) (link_at m place) ≡ false
   pub first : (i : ℕ) → i < number → is_new ts (earlier ++ first_targets m block i) (link_at m (block + 8 * i)) ≡ true
 
--- so it is of the entries of the index at an offset
+-- an entry of the index at an offset is wrong
 pub record IsWrongEntry (m : Memory) (ts : List Tile) (at place : ℕ) : Type 0 where
   pub block : ℕ
   pub link : link_at m at ≡ Some block

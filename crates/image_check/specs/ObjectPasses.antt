@@ -34,7 +34,7 @@ abbrev pub is_value_room : Kind → ℕ → ℕ → ℕ → Bool
 is_value_room (Scalar k) count at end = nat_le 1 count && nat_le count 1048576 && nat_le (at + size_of k * count) end
 is_value_room k count at end = (count == 1) && nat_le (at + 24) end
 
--- where it is scalars they are spellings
+-- whether the elements of a container are spellings, if they are scalars
 abbrev pub is_spelled : Memory → Kind → ℕ → ℕ → Bool
 is_spelled m (Scalar k) count at = are_spellings m k at count
 is_spelled m k count at = true
@@ -61,7 +61,7 @@ follows class m last here = (class_at m here == class) && elim last [ None ↦ t
 abbrev pub HaveHeads : Memory → ℕ → ℕ → Type 0
 HaveHeads m at size = (n : ℕ) → is_among (targets m at) n ≡ true → n + 16 + name_len_at m n ≤ size
 
--- the same, of the links in the first places of a block
+-- the links in the first places of a block lead to heads of objects
 abbrev pub LeadToHeads : Memory → ℕ → ℕ → ℕ → Type 0
 LeadToHeads m block count size = (i n : ℕ) → i < count → link_at m (block + 8 * i) ≡ Some n
     → n + 16 + name_len_at m n ≤ size

@@ -15,7 +15,7 @@ pub record IsFirstTile (test : Tile → Bool) (ts : List Tile) (place : ℕ) : T
   pub is : find test ts ≡ Some tile
   pub at : place ≡ payload tile
 
--- of the first tile that fails it
+-- the payload of the first tile that fails a test begins at a place
 abbrev pub IsFirstWrongTile : (Tile → Bool) → List Tile → ℕ → Type 0
 IsFirstWrongTile test ts place = IsFirstTile (λ t. not (test t)) ts place
 
@@ -35,7 +35,7 @@ pub record IsOutOfOrder (class : ℕ) (m : Memory) (block count place : ℕ) : T
   pub wrong : follows class m (link_before m block number) here ≡ false
   pub first : are_ranked class m (first_targets m block number) ≡ true
 
--- so it is of the entries of the index at an offset
+-- an entry of the index at an offset is the first out of order
 pub record IsMisplaced (class : ℕ) (m : Memory) (at place : ℕ) : Type 0 where
   pub block : ℕ
   pub link : link_at m at ≡ Some block

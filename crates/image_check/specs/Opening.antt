@@ -20,7 +20,7 @@ use Rattle.image_check.specs.Passes.{IsRefusalFor, has_block}
 
 -- ---- of the bytes
 
--- they denote a directory by the format
+-- the bytes denote a directory by the format
 abbrev pub IsImage : ℕ → List ℕ → Type 0
 IsImage format b = (d : Directory) × Denotes format b d
 
@@ -30,7 +30,7 @@ has_early_class format b = list_any (λ c. nat_lt (number_of c) 8 && holds forma
 
 -- ---- of what the reader gave
 
--- it was not asked
+-- the reader was not asked
 pub record IsUntouched (image : ReadDelta) : Type 0 where
   pub bytes : image.bytes ≡ []
   pub failed : image.failed ≡ false
@@ -52,7 +52,7 @@ pub record IsTooSmallFor (format : ℕ) (image : ReadDelta) (base capacity : ℕ
   pub front : IsTrue (has_front format image.bytes)
   pub small : capacity < base + size_word image.bytes
 
--- the same, and there is room for that size
+-- the image says its size, and there is room for that size
 pub record HasRoomForImage (format : ℕ) (image : ReadDelta) (base capacity : ℕ) : Type 0 where
   pub read : 24 ≤ length image.bytes
   pub front : IsTrue (has_front format image.bytes)
@@ -129,7 +129,7 @@ pub record IsVerified (format : ℕ) (image : ReadDelta) (region : List ℕ) (ba
   pub opened : OpensOk format image region base ReadOnly segment
   pub handed_back : back ≡ whole segment.cut
 
--- the same answers where no segment is made
+-- `verify` answers as `open` does, and makes no segment
 pub record Verifies (format : ℕ) (image : ReadDelta) (region : List ℕ) (base : ℕ)
     (result : Result (List ℕ) OpenRefused) : Type 0 where
   pub answers : MatchResult result (IsVerified format image region base) (IsNotOpened format image region base)

@@ -64,7 +64,7 @@ abbrev pub NewVersionsStand : Type 0
 NewVersionsStand = (b b' : List ℕ) (d : Directory) → Denotes 1 b d → length b' ≡ length b → UpgradesVersion b b'
     → DenotesCurrent b' d
 
--- and by format 0 with a tree of the gaps as well
+-- the law: bytes of format 0 with a tree of the gaps denote their directory in the current format
 abbrev pub ReplantedStand : Type 0
 ReplantedStand = (b b' : List ℕ) (d : Directory) → Denotes 0 b d → RebuildsTree b b' → DenotesCurrent b' d
 

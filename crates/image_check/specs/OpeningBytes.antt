@@ -50,7 +50,7 @@ pub record IsMisfit (format : ℕ) (b : List ℕ) (base capacity : ℕ) (cause :
   pub too_small : IsTooSmallFor format (as_given b) base capacity → cause ≡ RegionTooSmall
   pub early : is_late cause ≡ false
 
--- they are not put there, and the region comes back as it was
+-- the bytes are not put into the region, which comes back as it was
 pub record IsNotPlaced (format : ℕ) (b region : List ℕ) (base : ℕ) (refused : OpenRefused) : Type 0 where
   pub misfit : IsMisfit format b base (length region) refused.cause
   pub back : refused.region ≡ region

@@ -40,7 +40,7 @@ Spends rates more b old new = (old ≤ new) × (new ≤ old + (more + weigh rate
 abbrev pub CountsTiles : List ℕ → ℕ → ℕ → Type 0
 CountsTiles b old new = old + length (tiles_in b) ≤ new
 
--- and one more for each that is in use
+-- a pass counts one more for each block that is in use
 abbrev pub CountsBlocks : List ℕ → ℕ → ℕ → Type 0
 CountsBlocks b old new = old + length (tiles_in b) + blocks_in b ≤ new
 
@@ -48,7 +48,7 @@ CountsBlocks b old new = old + length (tiles_in b) + blocks_in b ≤ new
 abbrev pub IsRefusalFor : List ℕ → NoBlockMemory → Type 0
 IsRefusalFor b refusal = refusal.blocks ≡ blocks_in b
 
--- the same of one of several requests
+-- the fault is a refused request for the block map
 abbrev pub IsMapRefused : List ℕ → MemoryFault → Type 0
 IsMapRefused b (Bytes refusal) = ⊥
 IsMapRefused b (BlockMap refusal) = IsRefusalFor b refusal

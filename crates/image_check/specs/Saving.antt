@@ -5,7 +5,7 @@ use Rattle.segment_manager.specs.Directory.{Directory}
 use Rattle.segment_manager.specs.State.{DenotesCurrent}
 use Rattle.image_check.specs.Classes.{class_of}
 
--- it denotes the directory, and no class holds of it
+-- the image denotes the directory, and no class holds of it
 pub record IsSaved (saved : List ℕ) (d : Directory) : Type 0 where
   pub denotes : DenotesCurrent saved d
   pub accepted : class_of current saved ≡ None

@@ -24,7 +24,7 @@ pub record MarksLinks (format : ℕ) (b : List ℕ) (At : ℕ
   pub only : (n : ℕ) (o : Owner) → owner_at es n ≡ Some o → (owner_at old n ≡ Some o) ⊎ At o.at
   pub less : 6 * waiting + unspent_budget es ≤ 6 * waited + unspent_budget old
 
--- so many visits at most besides those that were due for the blocks that were met
+-- a pass makes at most so many visits besides those that were due for the blocks that it met
 abbrev pub Pays : {A E : Type 0} → ℕ → Result A E → ℕ → ℕ → ℕ → ℕ → Type 0
 Pays n result old owed new owes =
     (old ≤ new) × MatchResult result (λ done. new + owes ≤ old + (owed + n)) (λ class. new ≤ old + (owed + n))

@@ -4,11 +4,11 @@ use Rattle.block_tags.specs.declared.tile.Role.{Role}
 use Rattle.block_tags.specs.declared.tile.Role.TheVariants.{Object, Index, Storage, Node}
 use Rattle.block_tags.specs.declared.tile.Tile.{Tile}
 
--- so many visits more at most
+-- a pass makes at most so many visits more
 abbrev pub AddsVisits : ℕ → ℕ → ℕ → Type 0
 AddsVisits n old new = (old ≤ new) × (new ≤ old + n)
 
--- so often for each 16 bytes of a gap, and of a block in use by its role
+-- how often a pass visits for each 16 bytes of a gap, and of a block in use by its role
 pub record Rates : Type 0 where
   pub free : ℕ
   pub object : ℕ
@@ -85,6 +85,6 @@ block_rates = both index_rates (both object_rates (both sharing_rates (both cont
 abbrev pub all_rates : Rates
 all_rates = both frame_rates (both gathering_rates block_rates)
 
--- and the noting of the blocks of which a segment is made
+-- the rates of noting the blocks of which a segment is made
 abbrev pub note_rates : Rates
 note_rates = record { free = 0; object = 1; index = 1; storage = 1; node = 1 }

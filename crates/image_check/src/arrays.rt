@@ -22,7 +22,8 @@ use seg_types::ScalarKind;
 /// The bytes of an element of an array of texts: a link and a length.
 const ELEMENT: u64 = 16;
 
-/// Whether the link is that of a block for this role with `capacity` places of `each` bytes: null where there are none.
+/// Tells whether the link is that of a block for this role with `capacity` places of `each` bytes: null if there are
+/// none.
 pub(crate) fn is_table(
     blocks: &BlockTable,
     visits: &mut VisitCounter,
@@ -44,7 +45,7 @@ pub(crate) fn is_table(
     }
 }
 
-/// Whether a tile of `len` bytes has room for `capacity` places of `each` bytes.
+/// Tells whether a tile of `len` bytes has room for `capacity` places of `each` bytes.
 fn has_room(len: u64, each: u64, capacity: u64) -> bool
     ensures { IsTrue result ↔ (each * capacity + 16 ≤ len) }
 {
@@ -54,7 +55,7 @@ fn has_room(len: u64, each: u64, capacity: u64) -> bool
     }
 }
 
-/// Whether the three words of the value are those of a string or a vector of this kind.
+/// Tells whether the three words of the value are those of a string or a vector of this kind.
 pub(crate) fn is_storage(
     window: &ImageWindow,
     blocks: &BlockTable,
@@ -87,7 +88,7 @@ pub(crate) fn is_storage(
     }
 }
 
-/// Whether the element at `at` leads to a storage block with room for its text.
+/// Tells whether the element at `at` leads to a storage block with room for its text.
 fn is_element(window: &ImageWindow, blocks: &BlockTable, visits: &mut VisitCounter, at: u64) -> bool
     requires size { IsTrue (is_legal_size (length window.now.bytes)) }
     requires aligned { at % 8 ≡ 0 }
@@ -100,7 +101,7 @@ fn is_element(window: &ImageWindow, blocks: &BlockTable, visits: &mut VisitCount
     is_table(blocks, visits, Role::Storage, link, 1, len)
 }
 
-/// Whether the first `n` elements of the array at `at` lead to their texts.
+/// Tells whether the first `n` elements of the array at `at` lead to their texts.
 fn are_elements(
     window: &ImageWindow,
     blocks: &BlockTable,
@@ -124,7 +125,7 @@ fn are_elements(
     true
 }
 
-/// Whether the three words of the value are those of an array of texts.
+/// Tells whether the three words of the value are those of an array of texts.
 pub(crate) fn is_array(
     window: &ImageWindow,
     blocks: &BlockTable,

@@ -15,8 +15,8 @@ use crate::room::{NoBlockMemory, room_for};
 use block_tags::Tile;
 use std::alloc::Global;
 
-/// The blocks in use by payload, to none of which a link was met, where the tiles were counted. Memory is asked for
-/// once, and not where no block is in use.
+/// Returns the blocks in use by payload, to none of which a link was met, where the tiles were counted. Memory is asked
+/// for once, and not where no block is in use.
 ///
 /// # Errors
 ///
@@ -68,7 +68,7 @@ fn add_all(window: &ImageWindow, blocks: &mut BlockTable, visits: &mut VisitCoun
     }
 }
 
-/// Adds the block of a tile, where it is in use, behind all others to a map with room for it. At most one visit.
+/// Adds the block of a tile, if it is in use, after all others to a map with room for it. At most one visit.
 fn add(blocks: &mut BlockTable, tile: Tile, visits: &mut VisitCounter)
     requires max_size { tile.offset + 16 < 2 ^ 32 }
     requires max_len { tile.len < 2 ^ 32 }

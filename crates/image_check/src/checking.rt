@@ -107,7 +107,8 @@ pub fn examine_window(
     }
 }
 
-/// The owners of the blocks of a window whose first words are right by a format, if it is the image of a directory.
+/// Returns the owners of the blocks of a window whose first words are right by a format, if it is the image of a
+/// directory.
 ///
 /// # Errors
 ///
@@ -141,8 +142,8 @@ fn pass_all(
     Ok(owners)
 }
 
-/// The count of the tiles of a window whose first words are right, where its reserved bytes, tags and free tree are
-/// right too.
+/// Returns the count of the tiles of a window whose first words are right, where its reserved bytes, tags and free tree
+/// are right too.
 ///
 /// # Errors
 ///
@@ -226,7 +227,7 @@ fn check_blocks(
 }
 
 /// Checks that all bytes of the header that are kept for later are zero: the upper half of the word of the format, and
-/// those behind the indexes.
+/// those after the indexes.
 ///
 /// # Errors
 ///

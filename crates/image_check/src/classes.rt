@@ -46,7 +46,7 @@ pub enum ImageClass {
 }
 
 impl ImageClass {
-    /// The place of the class in the order in which the classes are looked at, from 1 to 12.
+    /// Returns the place of the class in the order in which the classes are looked at, from 1 to 12.
     pub fn number(self) -> u8
         ensures { result ≡ number_of self }
     {

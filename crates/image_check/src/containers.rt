@@ -23,7 +23,7 @@ use crate::verdict::Offset;
 use block_tags::{TAG_LEN, Tile};
 use seg_types::{Kind, ScalarKind};
 
-/// Whether the value of this kind is no container, or one whose words, link and elements are right.
+/// Tells whether the value of this kind is no container, or one whose words, link and elements are right.
 fn is_right(
     window: &ImageWindow,
     blocks: &BlockTable,
@@ -51,7 +51,7 @@ fn is_right(
     }
 }
 
-/// Whether the tile is no object's, or its value is no container, or one that is right.
+/// Tells whether the tile is no object's, or its value is no container, or one that is right.
 fn is_right_tile(
     format: u64,
     window: &ImageWindow,
@@ -115,8 +115,8 @@ fn are_right(
     Ok(())
 }
 
-/// Checks that each container of the image is what its words say: its storage has room for its capacity, its used
-/// elements are spelled, its map is an ordered red-black tree of as many pairs as it counts.
+/// Checks that each container of the image is what its words say. Its storage has room for its capacity, its used
+/// elements are spelled, and its map is an ordered red-black tree of as many pairs as it counts.
 ///
 /// # Errors
 ///

@@ -17,7 +17,7 @@ pub(crate) struct Counts {
 }
 
 impl Counts {
-    /// Of no tiles.
+    /// Makes of no tiles.
     pub(crate) fn new() -> Counts
         ensures { AreCounted [] result }
     {
@@ -28,7 +28,7 @@ impl Counts {
         }
     }
 
-    /// One tile more, behind those that were counted.
+    /// Counts one tile more, after those that were counted.
     pub(crate) fn add(&mut self, tile: Tile)
         requires free { self.old.free < 2 ^ 63 }
         requires usage { self.old.used < 2 ^ 63 }

@@ -40,7 +40,7 @@ pub(crate) fn enter(
     true
 }
 
-/// Whether the block is an object that has no entry yet.
+/// Tells whether the block is an object that has no entry yet.
 fn is_new(block: Block) -> bool
     ensures { result ≡ is_new_block block }
 {

@@ -26,8 +26,7 @@ pub enum OpenError {
     ReadFault,
 }
 
-/// Which request for memory was refused, where more than one thing asks: each variant holds what only that request
-/// makes.
+/// Which request for memory was refused, if more than one thing asks: each variant holds what only that request makes.
 #[derive(Clone, Copy, Debug, PartialEq, Eq, Error)]
 #[error("out of memory")]
 pub enum MemoryFault {
@@ -37,8 +36,8 @@ pub enum MemoryFault {
     BlockMap(NoBlockMemory),
 }
 
-/// No segment is opened. The region comes back. Its bytes are as they were but for those of the window from the base on
-/// that the first words of the image say, where they say one for which there is room. As text it is its cause.
+/// No segment is opened. The region comes back. Its bytes are as they were but for the window from the base on that the
+/// image's front says, if there is room for that. As text it is its cause.
 #[derive(Drop, Error)]
 #[error("{cause}")]
 pub struct OpenRefused {
@@ -49,7 +48,7 @@ pub struct OpenRefused {
 }
 
 impl OpenRefused {
-    /// The region that was handed in, and why.
+    /// Returns the region that was handed in, and why.
     pub fn into_parts(self) -> (RawRegion, OpenError)
         ensures region { result.0 ≡ self.region }
         ensures cause { result.1 ≡ self.cause }
@@ -57,7 +56,7 @@ impl OpenRefused {
         (self.region, self.cause)
     }
 
-    /// The region that was handed in.
+    /// Returns the region that was handed in.
     pub fn into_region(self) -> RawRegion
         ensures { result ≡ self.region }
     {
@@ -94,7 +93,7 @@ pub enum ExamineError {
 }
 
 impl ExamineError {
-    /// The same without the place.
+    /// Returns the error without the place.
     pub fn into_error(self) -> OpenError
         ensures { result ≡ error_for self }
     {
@@ -117,7 +116,7 @@ pub struct ExamineRefused {
 }
 
 impl ExamineRefused {
-    /// The same without the place.
+    /// Returns the error of `open` without the place.
     pub fn into_opened(self) -> OpenRefused
         ensures { result ≡ opened_as self }
     {

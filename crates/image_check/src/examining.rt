@@ -1,4 +1,4 @@
-//! The check of an image that tells, where it is refused, also the byte that shows why.
+//! The check of an image that tells, if it is refused, also the byte that shows why.
 ghost use Rattle.std.specs.Prelude.{◌≡◌, ◌+◌, ◌-◌, ◌%◌, ◌^◌, ◌<◌, IfErr, OnOk, length, true};
 ghost use Rattle.raw_region.specs.Device.{ReadsSource, read_delta};
 ghost use Rattle.raw_region.specs.Format.{current};
@@ -16,8 +16,8 @@ use raw_region::{RawRegion, Source, Steps};
 use std::alloc::Global;
 
 /// Reads an image into the region, from `base` on, which is a multiple of 16, and tells whether it denotes a directory.
-/// This is what [`verify`](crate::verify) does, but that a class comes with the place of the byte that shows it: for an
-/// image that ends too early its end, and else the first byte, or the first link, that is wrong by the rules of the
+/// It does what [`verify`](crate::verify) does, but a class comes with the place of the byte that shows it. For an
+/// image that ends too early this is its end, and otherwise the first byte or link that is wrong by the rules of the
 /// class.
 ///
 /// # Errors

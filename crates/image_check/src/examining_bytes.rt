@@ -1,4 +1,4 @@
-//! The check of an image that lies in memory, which tells, where it is refused, also the byte that shows why.
+//! The check of an image that lies in memory, which tells, if it is refused, also the byte that shows why.
 ghost use Rattle.std.specs.Prelude.{◌≡◌, ◌%◌, IfErr, OnOk, length, true};
 ghost use Rattle.image_check.specs.Causes.{error_for};
 ghost use Rattle.image_check.specs.Examining.{ExaminesBytes};
@@ -13,9 +13,9 @@ use crate::versions::AcceptedVersions;
 use raw_region::{RawRegion, Steps};
 use std::alloc::Global;
 
-/// Copies an image of one of these versions into the region, from `base` on, which is a multiple of 16, and tells
-/// whether it denotes a directory, by the rules of the format that it says, as [`examine`](crate::examine) does. The
-/// bytes are all of the image.
+/// Copies an image of one of these versions into the region, from `base` on, which is a multiple of 16. It tells
+/// whether the image denotes a directory, by the rules of its format, as [`examine`](crate::examine) does. The bytes
+/// are all of the image.
 ///
 /// # Errors
 ///

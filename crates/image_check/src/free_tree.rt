@@ -26,8 +26,8 @@ use best_fit::FREE_TREE_ROOT;
 use block_tags::{TAG_LEN, Tile};
 use offset_link::NULL;
 
-/// The count of the tiles, where the free ones make up the tree that they do in the format, or the link is null in
-/// format 0.
+/// Returns the count of the tiles, where the free ones make up the tree that they do in the format, or the link is null
+/// in format 0.
 pub(crate) fn check_gaps(
     format: u64,
     window: &ImageWindow,
@@ -47,7 +47,7 @@ pub(crate) fn check_gaps(
     Some(count_tiles(window, visits))
 }
 
-/// The count of the tiles. One visit for each.
+/// Returns the count of the tiles. One visit for each.
 fn count_tiles(window: &ImageWindow, visits: &mut VisitCounter) -> Counts
     requires tiles { HasTiles window.now.bytes }
     ensures steps_lower { AreCounted (tiles_in window.now) result }
@@ -63,8 +63,8 @@ fn count_tiles(window: &ImageWindow, visits: &mut VisitCounter) -> Counts
     counts
 }
 
-/// The count of the tiles, where the tree at word 24 has the free ones as its nodes, each once, ordered by length and
-/// then by offset, and is red-black. The links may be any words.
+/// Returns the count of the tiles, if the tree at word 24 is red-black, with each free tile as a node once, ordered by
+/// length and then by offset. The links may be any words.
 ///
 /// A tree of as many nodes as there are free tiles, in which each of them is found, has no other node. Each is searched
 /// for to the depth of a red-black tree of that size.
@@ -93,7 +93,7 @@ fn check_free_tree(window: &ImageWindow, visits: &mut VisitCounter) -> Option<Co
     Some(counts)
 }
 
-/// The count of the tiles, where each free one is a node of the tree, and its links are good.
+/// Returns the count of the tiles, where each free one is a node of the tree, and its links are good.
 fn count_planted(
     window: &ImageWindow,
     root: Option<u64>,
@@ -123,7 +123,7 @@ fn count_planted(
     Some(counts)
 }
 
-/// Whether the tile is in use, or a node of the tree with good links.
+/// Tells whether the tile is in use, or a node of the tree with good links.
 fn is_planted(
     window: &ImageWindow,
     root: Option<u64>,
@@ -152,7 +152,7 @@ fn is_planted(
     is_reached(window, root, sought, visits) && has_good_links(window, node, visits)
 }
 
-/// Whether the node is one of the tree.
+/// Tells whether the node is one of the tree.
 fn is_reached(
     window: &ImageWindow,
     root: Option<u64>,

@@ -23,13 +23,12 @@ pub const FRONT: usize = SIZE_AT as usize + 8;
 /// The fewest bytes that an image has.
 pub const LEAST: usize = (HEADER_LEN + TAG_LEN) as usize;
 
-/// The size in bytes of an image that begins with these bytes, of which there are at least [`FRONT`] and the first
-/// `FRONT` are looked at: 144, or a multiple of 16 from 176 to 2^30. It is what the front says, and no promise that the
-/// rest is an image.
+/// Returns the size in bytes of an image that begins with these bytes, of which it reads the first [`FRONT`]. The size
+/// is 144, or a multiple of 16 from 176 to 2^30. It is what the front says, and no promise that the rest is an image.
 ///
 /// # Errors
 ///
-/// `BadMagic` where the bytes do not begin with the magic, then `UnsupportedVersion` for any other version than the one
+/// `BadMagic` if the bytes do not begin with the magic, then `UnsupportedVersion` for any other version than the one
 /// that is read, then `BadSize` for a size that no segment has.
 pub fn size_in(front: &[u8]) -> Result<u64, ImageClass>
     requires { 24 ≤ length front.now }
@@ -41,7 +40,7 @@ pub fn size_in(front: &[u8]) -> Result<u64, ImageClass>
     }
 }
 
-/// The same of an image of any of the three formats.
+/// Returns the size in bytes of an image of any of the three formats that begins with these bytes.
 ///
 /// # Errors
 ///
@@ -56,7 +55,8 @@ pub fn size_in_any(front: &[u8]) -> Result<u64, ImageClass>
     }
 }
 
-/// The same of an image of one of these versions, with the place that shows what is wrong.
+/// Returns the size that the front of an image of one of these versions says, or the verdict with the place that is
+/// wrong.
 ///
 /// # Errors
 ///
@@ -85,7 +85,7 @@ pub(crate) fn judge_front(versions: AcceptedVersions, front: &[u8]) -> Result<u6
     Ok(size)
 }
 
-/// The place of the first byte that is not the magic's, of bytes that do not begin with it.
+/// Returns the place of the first byte that is not the magic's, of bytes that do not begin with it.
 fn other_place(front: &[u8]) -> Offset
     requires min_len { 24 ≤ length front.now }
     requires peer { has_magic front.now ≡ false }

@@ -1,4 +1,4 @@
-//! What the head of an object says, and whether it and the value behind it are right, part by part.
+//! What the head of an object says, and whether it and the value after it are right, part by part.
 ghost use Rattle.std.specs.Prelude.{◌≡◌, ◌+◌, ◌^◌, ◌<◌, ◌≤◌, IfSome, true, length};
 ghost use Rattle.raw_region.specs.Memory.{bytes_of};
 ghost use Rattle.seg_index.specs.Keys.{name_len_at};
@@ -24,7 +24,7 @@ pub(crate) const NAMED: u64 = 1;
 /// The class of the objects that are the only ones of their kind in the unique index.
 pub(crate) const UNIQUE: u64 = 2;
 
-/// The kind of the object, if it has one of the format.
+/// Returns the kind of the object, if it has one of the format.
 pub(crate) fn kind_of(format: u64, window: &ImageWindow, object: Object) -> Option<Kind>
     requires { object.at + 8 ≤ length window.now.bytes }
     ensures { result ≡ kind_at format (bytes_of window.now.bytes) object.at }
@@ -35,8 +35,8 @@ pub(crate) fn kind_of(format: u64, window: &ImageWindow, object: Object) -> Opti
     }
 }
 
-/// The kind of this code, or `None` where no kind has it. The code of an object is looked for among all only where the
-/// kind that its parts name has another.
+/// Returns the kind of this code, or `None` if no kind has it. The code of an object is looked for among all only where
+/// the kind that its parts name has another.
 fn kind_of_code(code: u32) -> Option<Kind>
     ensures { result ≡ code_kind code }
 {
@@ -46,7 +46,7 @@ fn kind_of_code(code: u32) -> Option<Kind>
     }
 }
 
-/// The kind that the parts of a code name. Its own code may be another one.
+/// Returns the kind that the parts of a code name. Its own code may be another one.
 fn named_kind(code: u32) -> Option<Kind> {
     match code / 65536 {
         0 => Some(Kind::Scalar(named_scalar(code)?)),
@@ -58,7 +58,7 @@ fn named_kind(code: u32) -> Option<Kind> {
     }
 }
 
-/// The scalar of a code.
+/// Returns the scalar of a code.
 fn named_scalar(code: u32) -> Option<ScalarKind>
     ensures { IfSome result (λ scalar. scalar_code scalar ≡ code) }
 {
@@ -72,7 +72,7 @@ fn named_scalar(code: u32) -> Option<ScalarKind>
     }
 }
 
-/// Whether the count of a value is right for its kind, and the value lies before `end`.
+/// Tells whether the count of a value is right for its kind, and the value lies before `end`.
 pub(crate) fn has_room(kind: Kind, count: u64, start: u64, end: u64) -> bool
     requires { start < 2 ^ 63 + 2 ^ 33 }
     ensures { result ≡ is_value_room kind count start end }
@@ -85,7 +85,7 @@ pub(crate) fn has_room(kind: Kind, count: u64, start: u64, end: u64) -> bool
     }
 }
 
-/// Whether the name and the class of the object are right.
+/// Tells whether the name and the class of the object are right.
 pub(crate) fn has_name(format: u64, window: &ImageWindow, object: Object) -> bool
     requires max_size { length window.now.bytes < 2 ^ 63 }
     requires in_bounds { object.at + 16 + name_len_at (bytes_of window.now.bytes) object.at ≤ length window.now.bytes }
@@ -99,7 +99,7 @@ pub(crate) fn has_name(format: u64, window: &ImageWindow, object: Object) -> boo
     class <= UNIQUE && object.name_len(window) == 0
 }
 
-/// Whether the bytes between the name and the value of the object are zero.
+/// Tells whether the bytes between the name and the value of the object are zero.
 pub(crate) fn has_padding(window: &ImageWindow, object: Object) -> bool
     requires max_size { length window.now.bytes < 2 ^ 63 }
     requires in_bounds { value_offset (bytes_of window.now.bytes) object.at ≤ length window.now.bytes }
@@ -108,14 +108,14 @@ pub(crate) fn has_padding(window: &ImageWindow, object: Object) -> bool
     is_zero(object.padding(window))
 }
 
-/// Whether all bytes are 0.
+/// Tells whether all bytes are 0.
 fn is_zero(bytes: &[u8]) -> bool
     ensures { result ≡ are_zeros bytes.now }
 {
     bytes.iter().all(|byte| *byte == 0)
 }
 
-/// Whether the value is no scalars, or each of them is spelled. One visit for each.
+/// Tells whether the value is no scalars, or each of them is spelled. One visit for each.
 pub(crate) fn has_spellings(
     window: &ImageWindow,
     visits: &mut VisitCounter,
@@ -134,7 +134,8 @@ pub(crate) fn has_spellings(
     }
 }
 
-/// Where the index has its link that has an entry of the object at `at`, whose block may be that of number `guess`.
+/// Returns where the index has its link that has an entry of the object at `at`, whose block may be that of number
+/// `guess`.
 fn index_of(blocks: &BlockTable, guess: usize, at: u64, visits: &mut VisitCounter) -> Option<u64>
     ensures test { result ≡ listing_index blocks.now.entries at }
     ensures visits { AddsVisits 1 visits.old visits.new }
@@ -149,8 +150,8 @@ fn index_of(blocks: &BlockTable, guess: usize, at: u64, visits: &mut VisitCounte
     }
 }
 
-/// Whether the object, whose block may be that of number `guess`, has an entry in the index of its class, if there is
-/// one.
+/// Tells whether the object, whose block may be that of number `guess`, has an entry in the index of its class, if
+/// there is one.
 pub(crate) fn is_indexed(
     window: &ImageWindow,
     blocks: &BlockTable,

@@ -42,8 +42,8 @@ pub fn copy_image(
     }
 }
 
-/// The window of the region from `base` on that the first words of an image there say, which has `len` bytes. Nothing
-/// is written.
+/// Returns the window of the region from `base` on that the first words of an image there say, which has `len` bytes.
+/// Nothing is written.
 ///
 /// # Errors
 ///
@@ -66,13 +66,13 @@ pub fn find_image(region: RawRegion, base: u64, len: u64) -> Result<ImageWindow,
     }
 }
 
-/// The size of an image, which its first words say and its bytes have, and for which there is room in the region from
-/// `base` on.
+/// Returns the size of an image, which its first words say and its bytes have, and for which there is room in the
+/// region from `base` on.
 ///
 /// # Errors
 ///
-/// `RegionTooSmall` where the first words say a size for which there is no room. `Truncated`, or what is wrong with the
-/// first words, or `BadSize` where there are more bytes than they say.
+/// `RegionTooSmall` if the first words say a size for which there is no room. `Truncated`, or what is wrong with the
+/// first words, or `BadSize` if there are more bytes than they say.
 fn size_for(
     versions: AcceptedVersions,
     image: &[u8],

@@ -19,14 +19,13 @@ use std::alloc::Global;
 /// # Errors
 ///
 /// `RegionTooSmall` as soon as the magic, the version and a legal size are read and the region ends before base plus
-/// size; no more is read then. A class of the image where it denotes no directory, the first that holds, where it was
-/// read to its end or what
-/// was read decides it. `ReadFault` where the reader failed before that; it is not asked again after an error, nor
-/// behind its end. `OutOfMemory` where memory for the check of the blocks was refused: only where no class before
+/// size; no more is read then. A class of the image where it denotes no directory, the first that holds, if it was read
+/// to its end or what was read decides it. `ReadFault` if the reader failed before that; it is not asked again after an
+/// error, nor after its end. `OutOfMemory` if memory for the check of the blocks was refused: only if no class before
 /// `BadIndex` holds and a tile is in use. The region comes back.
 ///
-/// `steps` is raised by each visit of the check: by no more than 64 for each 16 bytes of the size, and 64, and where a
-/// segment is answered, or a class from `BadIndex` on, by at least one for each tile. No tile is read uncounted.
+/// Each visit of the check raises `steps`: by no more than 64 for each 16 bytes of the size, and 64. If a segment is
+/// answered, or a class from `BadIndex` on, it rises by at least one for each tile. No tile is read uncounted.
 pub fn open<S: Source>(
     alloc: Global,
     reader: &mut S,

@@ -25,7 +25,7 @@ use raw_region::{RawRegion, Source, Window, read_full};
 /// # Errors
 ///
 /// `RegionTooSmall` as soon as the first words say a size for which there is no room. `Truncated`, or what is wrong
-/// with the first words, or `BadSize` where more bytes follow. `ReadFault` where the reader failed before that.
+/// with the first words, or `BadSize` if more bytes follow. `ReadFault` if the reader failed before that.
 pub(crate) fn read_image<S: Source>(
     versions: AcceptedVersions,
     reader: &mut S,
@@ -61,7 +61,7 @@ pub(crate) fn read_image<S: Source>(
     }
 }
 
-/// Reads the first 24 bytes of an image, and answers the size that they say.
+/// Reads the first 24 bytes of an image, and returns the size that they say.
 ///
 /// # Errors
 ///
@@ -97,8 +97,7 @@ fn read_front<S: Source>(
     }
 }
 
-/// Reads the bytes behind the first 24, which stand in the window and say its size, and finds that the image ends
-/// there.
+/// Reads the bytes after the first 24, which stand in the window and say its size, and finds that the image ends there.
 ///
 /// # Errors
 ///
@@ -129,11 +128,11 @@ fn read_rest<S: Source>(reader: &mut S, window: &mut Window) -> Result<(), Exami
     find_end(reader, size)
 }
 
-/// Fills the slice with the bytes of an image behind `before` others.
+/// Fills the slice with the bytes of an image after `before` others.
 ///
 /// # Errors
 ///
-/// `ReadFault` where the reader failed, and `Truncated` where it ended, before the slice was full.
+/// `ReadFault` if the reader failed, and `Truncated` if it ended, before the slice was full.
 fn read_all<S: Source>(reader: &mut S, into: &mut [u8], before: u64) -> Result<(), ExamineError>
     requires reader { (S.history reader.old).failures < 2 ^ 64 - 1 }
     requires max_count { before ≤ 24 }
@@ -159,11 +158,11 @@ fn read_all<S: Source>(reader: &mut S, into: &mut [u8], before: u64) -> Result<(
     Ok(())
 }
 
-/// Asks for one byte more, of which there is none behind a whole image of `size` bytes.
+/// Asks for one byte more, of which there is none after a whole image of `size` bytes.
 ///
 /// # Errors
 ///
-/// `ReadFault` where the reader failed, and `BadSize` where it gave one.
+/// `ReadFault` if the reader failed, and `BadSize` if it gave one.
 fn find_end<S: Source>(reader: &mut S, size: u64) -> Result<(), ExamineError>
     requires { (S.history reader.old).failures < 2 ^ 64 - 1 }
     ensures unchanged { OnOk result ((S.history reader.new).bytes ≡ (S.history reader.old).bytes) }

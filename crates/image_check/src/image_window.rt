@@ -47,35 +47,35 @@ impl Model for ImageWindow {
 }
 
 impl ImageWindow {
-    /// The image in a window.
+    /// Makes the image in a window.
     pub fn new(window: Window) -> ImageWindow
         ensures { result ≡ window }
     {
         ImageWindow { window }
     }
 
-    /// The whole region, with the bytes that it has now.
+    /// Returns the whole region, with the bytes that it has now.
     pub fn into_region(self) -> RawRegion
         ensures { result ≡ whole self }
     {
         self.window.into_region()
     }
 
-    /// The number of bytes.
+    /// Returns the number of bytes.
     pub fn size(&self) -> u64
         ensures { result ≡ length self.now.bytes }
     {
         self.window.size()
     }
 
-    /// Whether `len` bytes from `from` on lie inside.
+    /// Tells whether `len` bytes from `from` on lie inside.
     pub fn in_range(&self, from: u64, len: u64) -> bool
         ensures { IsTrue result ↔ (from + len ≤ length self.now.bytes) }
     {
         self.window.in_range(from, len)
     }
 
-    /// The `len` bytes from `from` on.
+    /// Returns the `len` bytes from `from` on.
     fn bytes(&self, from: u64, len: u64) -> &[u8]
         requires { from + len ≤ length self.now.bytes }
         ensures bytes { result.now ≡ part self.now.bytes from len }
@@ -84,7 +84,7 @@ impl ImageWindow {
         self.window.bytes(from, len)
     }
 
-    /// The number in the 8 bytes at `at`.
+    /// Returns the number in the 8 bytes at `at`.
     fn read_u64(&self, at: u64) -> u64
         requires { at + 8 ≤ length self.now.bytes }
         ensures { result ≡ word_at (bytes_of self.now.bytes) at }
@@ -92,7 +92,7 @@ impl ImageWindow {
         self.window.read_u64(at)
     }
 
-    /// Where the link at `at` leads.
+    /// Returns where the link at `at` leads.
     fn load(&self, at: u64) -> Option<u64>
         requires aligned { at % 8 ≡ 0 }
         requires in_bounds { at + 8 ≤ length self.now.bytes }
@@ -101,11 +101,11 @@ impl ImageWindow {
         load(&self.window, at)
     }
 
-    /// The same, where that is nowhere or a place of a payload.
+    /// Returns where the link at `at` leads, if that is nowhere or a place of a payload.
     ///
     /// # Errors
     ///
-    /// `BadLink` where it is no place of a payload.
+    /// `BadLink` if it is no place of a payload.
     fn load_checked(&self, at: u64) -> Result<Option<u64>, BadLink>
         requires aligned { at % 8 ≡ 0 }
         requires in_bounds { at + 8 ≤ length self.now.bytes }
@@ -115,7 +115,7 @@ impl ImageWindow {
         load_checked(&self.window, at)
     }
 
-    /// The version that the first bytes say.
+    /// Returns the version that the first bytes say.
     pub fn version(&self) -> u64
         requires { 24 ≤ length self.now.bytes }
         ensures { result ≡ version_word self.now.bytes }
@@ -123,7 +123,7 @@ impl ImageWindow {
         version_in(self.bytes(0, FRONT as u64))
     }
 
-    /// The number in the 8 bytes of the header at `at`.
+    /// Returns the number in the 8 bytes of the header at `at`.
     pub fn header_word(&self, at: u64) -> u64
         requires header { at + 8 ≤ 128 }
         requires in_bounds { at + 8 ≤ length self.now.bytes }
@@ -132,7 +132,7 @@ impl ImageWindow {
         self.window.read_u64(at)
     }
 
-    /// Where the link of the header at `at` leads.
+    /// Returns where the link of the header at `at` leads.
     pub fn header_link(&self, at: u64) -> Option<u64>
         requires header { at + 8 ≤ 128 }
         requires aligned { at % 8 ≡ 0 }
@@ -142,11 +142,11 @@ impl ImageWindow {
         load(&self.window, at)
     }
 
-    /// The same, where that is nowhere or a place of a payload.
+    /// Returns where the link of the header at `at` leads, if that is nowhere or a place of a payload.
     ///
     /// # Errors
     ///
-    /// `BadLink` where it is no place of a payload.
+    /// `BadLink` if it is no place of a payload.
     pub fn checked_header_link(&self, at: u64) -> Result<Option<u64>, BadLink>
         requires header { at + 8 ≤ 128 }
         requires aligned { at % 8 ≡ 0 }
@@ -157,7 +157,7 @@ impl ImageWindow {
         load_checked(&self.window, at)
     }
 
-    /// The first byte of the header from `from` on, below `to`, that is not 0.
+    /// Returns the first byte of the header from `from` on, below `to`, that is not 0.
     pub fn first_nonzero(&self, from: u64, to: u64) -> Option<u64>
         requires header { to ≤ 128 }
         requires in_bounds { to ≤ length self.now.bytes }
@@ -167,14 +167,14 @@ impl ImageWindow {
         first_nonzero(self.bytes(0, self.size()), from, to)
     }
 
-    /// Bytes are below 256. None is read.
+    /// States that bytes are below 256. It reads none.
     pub fn bytes_are_octets(&self)
         ensures { IsTrue (are_bytes self.now.bytes) }
     {
         bytes_are_octets(self.window.bytes(0, self.window.size()));
     }
 
-    /// The `len` bytes of an element at `from`, at most 8. One visit.
+    /// Returns the `len` bytes of an element at `from`, at most 8. One visit.
     pub fn element(&self, from: u64, len: u64, visits: &mut VisitCounter) -> &[u8]
         requires max_len { len ≤ 8 }
         requires in_bounds { from + len ≤ length self.now.bytes }
@@ -186,7 +186,7 @@ impl ImageWindow {
         self.window.bytes(from, len)
     }
 
-    /// Where the entry of an index or the element at `at` leads, which is a link or begins with one. One visit.
+    /// Returns where the entry of an index or the element at `at` leads, which is a link or begins with one. One visit.
     pub fn link(&self, at: u64, visits: &mut VisitCounter) -> Option<u64>
         requires aligned { at % 8 ≡ 0 }
         requires in_bounds { at + 8 ≤ length self.now.bytes }
@@ -197,7 +197,7 @@ impl ImageWindow {
         load(&self.window, at)
     }
 
-    /// Where the element at `at` of an array of texts leads, and the length of its text. One visit.
+    /// Returns where the element at `at` of an array of texts leads, and the length of its text. One visit.
     pub fn text(&self, at: u64, visits: &mut VisitCounter) -> (Option<u64>, u64)
         requires size { IsTrue (is_legal_size (length self.now.bytes)) }
         requires aligned { at % 8 ≡ 0 }
@@ -209,7 +209,7 @@ impl ImageWindow {
         (self.link(at, visits), self.window.read_u64(at + 8))
     }
 
-    /// Where the two links of the node at `at` lead. One visit.
+    /// Returns where the two links of the node at `at` lead. One visit.
     pub fn links(&self, at: u64, visits: &mut VisitCounter) -> (Option<u64>, Option<u64>)
         requires size { IsTrue (is_legal_size (length self.now.bytes)) }
         requires aligned { at % 8 ≡ 0 }
@@ -235,7 +235,7 @@ impl ImageWindow {
         tags
     }
 
-    /// The tile behind the header, or nothing where there is none.
+    /// Returns the tile after the header, or nothing if there is none.
     pub fn first(&self) -> Option<UnreadTile>
         requires { IsTiledWindow self.now }
         ensures { (ts : List ATile) → EncodesTiles self.now ts → result ≡ first_in ts }
@@ -246,7 +246,7 @@ impl ImageWindow {
         }
     }
 
-    /// The tile behind the one at `at`, or nothing where that is the last.
+    /// Returns the tile after the one at `at`, or nothing if that is the last.
     pub fn next(&self, at: u64) -> Option<UnreadTile>
         requires { HasTileAt self.now at }
         ensures { (ts : List ATile) → EncodesTiles self.now ts → result ≡ next_in ts at }
@@ -258,7 +258,7 @@ impl ImageWindow {
     }
 }
 
-/// The first byte from `from` on, below `to`, that is not 0.
+/// Returns the first byte from `from` on, below `to`, that is not 0.
 fn first_nonzero(bytes: &[u8], from: u64, to: u64) -> Option<u64>
     requires { to ≤ length bytes.now }
     ensures { MatchOption result (AreZero (bytes_of bytes.now) from to) (IsFirstNonzero (bytes_of bytes.now) from to) }
@@ -286,7 +286,7 @@ impl Model for UnreadTile {
 }
 
 impl UnreadTile {
-    /// What the tags say. One visit.
+    /// Returns what the tags say. One visit.
     pub fn read(self, visits: &mut VisitCounter) -> Tile
         ensures tile { result ≡ self }
         ensures visits { visits.new ≡ visits.old + 1 }

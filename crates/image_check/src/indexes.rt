@@ -25,9 +25,9 @@ use segment_manager::layout::{NAMED_AT, UNIQUE_AT};
 ///
 /// # Errors
 ///
-/// The place of the first word or entry that is wrong, of the named index before the unique one: a count above the
-/// capacity; a link to no block, to one that is too short, or to one where there is no place; or an entry that leads to
-/// no object or to one that has an entry already.
+/// The place of the first word or entry that is wrong, of the named index before the unique one. A count above the
+/// capacity is wrong, and a link to no block, to a short one, or of an index without places. An entry is wrong if it
+/// leads to no object, or to one that has an entry already.
 pub(crate) fn check_indexes(
     window: &ImageWindow,
     owners: &mut Owners,
@@ -101,11 +101,11 @@ fn enter_index(
     }
 }
 
-/// Checks that the index has no more entries than places, and a block with room for its places where it has any.
+/// Checks that the index has no more entries than places, and a block with room for its places if it has any.
 ///
 /// # Errors
 ///
-/// The place of its count, or else of its link, where that is not so.
+/// The place of its count, or else of its link, if that is not so.
 fn check_head(
     window: &ImageWindow,
     blocks: &BlockTable,

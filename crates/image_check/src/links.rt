@@ -13,7 +13,7 @@ use crate::owners::{Owner, Owners};
 use crate::verdict::Offset;
 use block_tags::Role;
 
-/// Notes the link of the index whose words stand at `at`, where it has places. At most two visits.
+/// Notes the link of the index whose words stand at `at`, if it has places. At most two visits.
 ///
 /// # Errors
 ///
@@ -46,7 +46,7 @@ pub(crate) fn mark_index(
     mark(owners, Role::Index, link, window.header_link(at), visits)
 }
 
-/// Notes the storage link of the value, where it has places. At most two visits.
+/// Notes the storage link of the value, if it has places. At most two visits.
 ///
 /// # Errors
 ///

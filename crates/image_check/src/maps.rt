@@ -12,7 +12,7 @@ use crate::checking::VisitCounter;
 use crate::image_window::{BlockTable, ImageWindow, Value, check_pairs};
 use seg_types::ScalarKind;
 
-/// Whether the three words of the value are those of a map: a tree of pairs, as many as are counted, and a zero.
+/// Tells whether the three words of the value are those of a map: a tree of pairs, as many as are counted, and a zero.
 pub(crate) fn is_map(
     window: &ImageWindow,
     blocks: &BlockTable,

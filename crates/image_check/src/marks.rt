@@ -19,7 +19,7 @@ use crate::owners::{Block, Owner, Owners, is_same};
 use crate::verdict::Offset;
 use block_tags::Role;
 
-/// Notes that a link with this target leads to a block of the role, where it does. At most two visits.
+/// Notes that a link with this target leads to a block of the role, if it does. At most two visits.
 ///
 /// # Errors
 ///
@@ -70,7 +70,7 @@ pub(crate) fn mark(
     Ok(())
 }
 
-/// The node that waits behind a block.
+/// Returns the node that waits after a block.
 fn next_in(block: Option<Block>) -> Option<u32>
     ensures { result ≡ next_there block }
 {
@@ -80,7 +80,7 @@ fn next_in(block: Option<Block>) -> Option<u32>
     }
 }
 
-/// Where the first link stands of those that lead to a block at `target`.
+/// Returns where the first link stands of those that lead to a block at `target`.
 fn root_in(block: Option<Block>, target: u32) -> u32
     ensures { result ≡ root_there block target }
 {

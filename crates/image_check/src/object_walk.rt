@@ -26,9 +26,9 @@ use segment_manager::layout::{NAMED_AT, UNIQUE_AT};
 ///
 /// # Errors
 ///
-/// The place of the payload of the first object that has a kind, class, count, name, padding or value that is wrong, or
-/// no entry in the index of its class; or else the place of the first entry of an index that leads to an object of
-/// another class or to one whose key does not rise.
+/// The place of the payload of the first object whose kind, class, count, name, padding or value is wrong, or that has
+/// no entry in the index of its class. If there is none, the place of the first entry of an index that leads to an
+/// object of another class or to one whose key does not rise.
 pub(crate) fn check_objects(
     format: u64,
     window: &ImageWindow,
@@ -86,8 +86,7 @@ fn are_right(
     Ok(())
 }
 
-/// Whether the tile is no object's or one of an object that is right. Its block may be that of number
-/// `guess`.
+/// Tells whether the tile is no object's or one of an object that is right. Its block may be that of number `guess`.
 fn is_right(
     format: u64,
     window: &ImageWindow,
@@ -114,8 +113,8 @@ fn is_right(
     }
 }
 
-/// Whether the object, whose payload ends at `end` and whose block may be that of number `guess`, is right. One visit,
-/// and one for each scalar of its value.
+/// Tells whether the object, whose payload ends at `end` and whose block may be that of number `guess`, is right. One
+/// visit, and one for each scalar of its value.
 fn is_object(
     format: u64,
     window: &ImageWindow,

@@ -14,10 +14,10 @@ use raw_region::{RawRegion, Source, Steps};
 use segment_manager::{Mode, Segment};
 use std::alloc::Global;
 
-/// Reads an image of any of the three formats into the region, from `base` on, which is a multiple of 16, and opens it
-/// as a segment of the current format with the same directory. The image is checked by the rules of the format that it
-/// says. One of the current format stays byte for byte. In one of format 1 the version alone changes, and from format 0
-/// the gaps get a free tree as well.
+/// Reads an image of any of the three formats into the region, from `base` on, which is a multiple of 16. It opens the
+/// image as a segment of the current format with the same directory. The image is checked by the rules of the format
+/// that it says. One of the current format stays byte for byte. In one of format 1 the version alone changes, and from
+/// format 0 the gaps get a free tree as well.
 ///
 /// # Errors
 ///

@@ -18,13 +18,13 @@ use std::alloc::Global;
 ///
 /// # Errors
 ///
-/// `RegionTooSmall` where the first 24 bytes are the magic, the version and a legal size, and the region ends before
-/// base plus size. Else a class of the image where it denotes no directory, the first that holds. `OutOfMemory` where
-/// memory for the check of the blocks was refused: only where no class before `BadIndex` holds and a tile is in use.
-/// `ReadFault` never. The region comes back, as it was where the bytes are not as many as they say.
+/// `RegionTooSmall` if the first 24 bytes are the magic, the version and a legal size, and the region ends before base
+/// plus size. Otherwise a class of the image where it denotes no directory, the first that holds. `OutOfMemory` if
+/// memory for the check of the blocks was refused: only if no class before `BadIndex` holds and a tile is in use.
+/// `ReadFault` never. The region comes back, as it was if the bytes are not as many as they say.
 ///
-/// `steps` is raised by each visit of the check: by no more than 64 for each 16 bytes of the size, and 64, and where a
-/// segment is answered, or a class from `BadIndex` on, by at least one for each tile. No tile is read uncounted.
+/// Each visit of the check raises `steps`: by no more than 64 for each 16 bytes of the size, and 64. If a segment is
+/// answered, or a class from `BadIndex` on, it rises by at least one for each tile. No tile is read uncounted.
 pub fn open_bytes(
     alloc: Global,
     image: &[u8],

@@ -56,7 +56,7 @@ fn are_owned(blocks: &BlockTable, visits: &mut VisitCounter) -> Result<(), Offse
     Ok(())
 }
 
-/// Whether the block needs no owner or has one.
+/// Tells whether the block needs no owner or has one.
 fn is_owned(block: Block) -> bool
     ensures { result ≡ is_owned_block block }
 {

@@ -32,7 +32,7 @@ pub(crate) struct Block {
     pub(crate) len: u32,
     /// The link that leads to it, if one was met; to an object that is an entry of an index.
     pub(crate) owner: Option<Owner>,
-    /// The node that waits behind this one to have its links followed.
+    /// The node that waits after this one to have its links followed.
     pub(crate) next: Option<u32>,
 }
 
@@ -47,14 +47,14 @@ pub(crate) struct Owners {
     pub(crate) waiting: u64,
 }
 
-/// Whether two roles are one.
+/// Tells whether two roles are one.
 pub(crate) fn is_same(a: Role, b: Role) -> bool
     ensures { result ≡ same_role a b }
 {
     a == b
 }
 
-/// Whether the tile is that of an object.
+/// Tells whether the tile is that of an object.
 pub(crate) fn is_object(tile: Tile) -> bool
     ensures { result ≡ is_use Object tile }
 {
@@ -64,7 +64,7 @@ pub(crate) fn is_object(tile: Tile) -> bool
     }
 }
 
-/// The tile of the block whose payload begins at `payload`, as the map says it: black, whatever its tags say.
+/// Returns the tile of the block whose payload begins at `payload`, as the map says it: black, whatever its tags say.
 pub(crate) fn tile_of(payload: u32, block: Block) -> Tile
     requires { 16 ≤ payload }
     ensures place { result.offset + 16 ≡ payload }
@@ -79,7 +79,7 @@ pub(crate) fn tile_of(payload: u32, block: Block) -> Tile
     }
 }
 
-/// How long the tile is that the link is good for, with its tag. At most one visit.
+/// Returns how long the tile is that the link is good for, with its tag. At most one visit.
 pub(crate) fn good_len(
     blocks: &BlockTable,
     role: Role,

@@ -81,8 +81,8 @@ fn rise(
     Ok(())
 }
 
-/// Whether an object is of the class, and its key stands behind that of the last one, if there was one. At most two
-/// visits.
+/// Tells whether an object is of the class, and its key stands after that of the last one, if there was one. At most
+/// two visits.
 fn follows(
     window: &ImageWindow,
     visits: &mut VisitCounter,
@@ -107,7 +107,7 @@ fn follows(
     }
 }
 
-/// Whether the key of an object stands before that of another, both of the class.
+/// Tells whether the key of an object stands before that of another, both of the class.
 fn precedes(window: &ImageWindow, class: u64, one: Object, other: Object) -> bool
     requires max_size { length window.now.bytes < 2 ^ 63 }
     requires single { one.at + 16 + name_len_at (bytes_of window.now.bytes) one.at ≤ length window.now.bytes }

@@ -14,8 +14,8 @@ pub struct NoBlockMemory {
     _made: (),
 }
 
-/// No blocks, with room for so many, the last of which has its tile at `end`. Memory is asked for here alone, for each
-/// block a row and a number of four bytes, and not where they are none.
+/// Makes a table of no blocks, with room for `count`, the last of which has its tile at `end`. Memory is asked for here
+/// alone: a row and four bytes for each block.
 ///
 /// # Errors
 ///
@@ -42,7 +42,7 @@ pub(crate) fn room_for(alloc: Global, count: usize, end: u64) -> Result<BlockTab
     }
 }
 
-/// The least power of 2 of which `count` together reach beyond `end`, by its exponent.
+/// Returns the least power of 2 of which `count` together reach beyond `end`, by its exponent.
 fn shift_for(count: usize, end: u64) -> u32 {
     if count == 0 {
         return 0;

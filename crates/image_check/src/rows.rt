@@ -14,7 +14,7 @@ pub(crate) struct Row {
     /// Where the link stands that leads to the block, if one does, and where its root link stands.
     at: u32,
     root: u32,
-    /// The node that waits behind the block, if one does.
+    /// The node that waits after the block, if one does.
     next: u32,
     role: Role,
     is_owned: bool,
@@ -36,7 +36,7 @@ impl Model for Row {
 }
 
 impl Row {
-    /// The row of a block.
+    /// Makes the row of a block.
     pub(crate) fn new(block: Block) -> Row
         ensures { result ≡ block }
     {
@@ -59,7 +59,7 @@ impl Row {
         }
     }
 
-    /// The block.
+    /// Returns the block.
     pub(crate) fn block(&self) -> Block
         ensures { result ≡ self.now }
     {
@@ -82,7 +82,7 @@ impl Row {
 /// How many payloads are looked at one by one.
 const NEAR: usize = 8;
 
-/// The number of `target` among payloads in order, if it is `last` or one of a few before it.
+/// Returns the number of `target` among payloads in order, if it is `last` or one of a few before it.
 pub(crate) fn near(payloads: &[u32], last: usize, target: u64) -> Option<usize>
     ensures { IfSome result (λ number. slice_get payloads.now number ≡ Some target) }
 {

@@ -27,7 +27,7 @@ use block_tags::{Role, TAG_LEN, Tile};
 use seg_types::Kind;
 use segment_manager::layout::{NAMED_AT, UNIQUE_AT};
 
-/// How many of the first `length` elements of 16 bytes lie in a tile of `len` bytes.
+/// Returns how many of the first `length` elements of 16 bytes lie in a tile of `len` bytes.
 fn elements_in(length: u64, len: u64) -> u64
     requires { 16 ≤ len }
     ensures in_bounds { result ≤ length }
@@ -38,7 +38,7 @@ fn elements_in(length: u64, len: u64) -> u64
     if length < room { length } else { room }
 }
 
-/// Notes the links of the elements of a vector of texts, where it has places.
+/// Notes the links of the elements of a vector of texts, if it has places.
 ///
 /// # Errors
 ///
@@ -143,7 +143,7 @@ fn mark_value(
     }
 }
 
-/// Notes the links of the value of the object in a tile, where it is one.
+/// Notes the links of the value of the object in a tile, if it is one.
 ///
 /// # Errors
 ///

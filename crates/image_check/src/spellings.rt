@@ -9,7 +9,7 @@ use crate::checking::VisitCounter;
 use crate::image_window::ImageWindow;
 use seg_types::ScalarKind;
 
-/// Whether the `count` elements of a kind from `start` on spell values of it. One visit for each.
+/// Tells whether the `count` elements of a kind from `start` on spell values of it. One visit for each.
 pub(crate) fn are_spellings(
     window: &ImageWindow,
     visits: &mut VisitCounter,

@@ -10,12 +10,12 @@ use segment_manager::layout::{FORMAT, FORMAT_AT};
 pub enum AcceptedVersions {
     /// The one that is written.
     Current,
-    /// It and the two before it.
+    /// The current format and the two before it.
     All,
 }
 
 impl AcceptedVersions {
-    /// Whether a version is one of them.
+    /// Tells whether a version is one of them.
     pub fn has(self, version: u64) -> bool
         ensures { result ≡ is_taken self version }
     {
@@ -26,7 +26,7 @@ impl AcceptedVersions {
     }
 }
 
-/// The version that the front of an image says.
+/// Returns the version that the front of an image says.
 pub fn version_in(front: &[u8]) -> u64
     requires { 12 ≤ length front.now }
     ensures { result ≡ version_word front.now }

@@ -20,7 +20,7 @@ abbrev pub root_of : Tree → Option ℕ
 root_of leaf = None
 root_of (fork red left n right) = Some n
 
--- its nodes in order
+-- the nodes of a tree in order
 abbrev pub nodes_of : Tree → List ℕ
 nodes_of leaf = []
 nodes_of (fork red left n right) = nodes_of left ++ n ∷ nodes_of right

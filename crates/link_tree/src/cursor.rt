@@ -40,7 +40,9 @@ impl Side {
 /// One side of a node, and its link there.
 #[derive(Clone, Copy)]
 pub struct DescentStep {
+    /// The side on which the search goes on.
     pub side: Side,
+    /// The link on that side.
     pub link: Option<u64>,
 }
 

@@ -28,7 +28,9 @@ pub trait PathFold: Copy {
 /// What was kept of the way, and the steps that it took.
 #[derive(Clone, Copy)]
 pub struct Descent<K> {
+    /// What the search noted on its path.
     pub notes: K,
+    /// The steps that the search took.
     pub steps: u64,
 }
 

@@ -8,7 +8,7 @@ abbrev pub moved_to : ℕ → Places → ℕ
 moved_to at (Up places) = at + 8 * places
 moved_to at (Down places) = at - 8 * places
 
--- they do not pass the start of the window
+-- the links that move do not pass the start of the window
 abbrev pub StaysInside : ℕ → Places → Type 0
 StaysInside at (Up places) = Unit {0}
 StaysInside at (Down places) = 8 * places ≤ at

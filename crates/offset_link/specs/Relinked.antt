@@ -8,15 +8,15 @@ use Rattle.offset_link.specs.Link.{is_handle_place, link_at, link_word, target_o
 abbrev pub IsLink : Memory → ℕ → Type 0
 IsLink m at = IfSome (link_at m at) (λ target. target % 16 ≡ 0)
 
--- so do the n links from an offset on
+-- each of the n links from an offset on leads to a multiple of 16, or nowhere
 pub record AreValidLinks (m : Memory) (at n : ℕ) : Type 0 where
   pub each : (k : ℕ) → k < n → IsLink m (at + 8 * k)
 
--- so do they, and none of them leads nowhere
+-- each of the n links from an offset on leads to a multiple of 16
 pub record AllLinksLead (m : Memory) (at n : ℕ) : Type 0 where
   pub each : (k : ℕ) → k < n → (target : ℕ) × (link_at m (at + 8 * k) ≡ Some target) × (target % 16 ≡ 0)
 
--- none of them leads nowhere, whatever the others lead to
+-- none of the n links from an offset on is null
 pub record HasNoNullLink (m : Memory) (at n : ℕ) : Type 0 where
   pub each : (k : ℕ) → k < n → link_at m (at + 8 * k) ≢ None
 
@@ -34,7 +34,7 @@ reworded f m at to (suc n) = word_bytes (f at to (word_at m at)) ++ reworded f m
 abbrev pub word_by_target : ℕ → ℕ → ℕ → ℕ
 word_by_target at to w = link_word to (target_of at w)
 
--- the same of a link that is not null, whose word changes by the distance
+-- the word of a link that is not null, once it stands at another offset: it changes by the distance
 abbrev pub word_by_distance : ℕ → ℕ → ℕ → ℕ
 word_by_distance at to w = link_word to (Some ((at + w) % 2 ^ 64))
 

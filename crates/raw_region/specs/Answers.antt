@@ -17,7 +17,7 @@ abbrev pub ends_in : {E : Type 0} → Result ℕ E → ℕ → ℕ
 ends_in (Ok n) len = if (n == 0) && nat_lt 0 len then 1 else 0
 ends_in (Err e) len = 0
 
--- the same for all the reads that were to give len bytes: one where they gave fewer, and no error
+-- how often reads that were to give len bytes gave fewer, without an error: once or never
 abbrev pub ends_short : {E : Type 0} → Result ℕ E → ℕ → ℕ
 ends_short (Ok n) len = if nat_lt n len then 1 else 0
 ends_short (Err e) len = 0
@@ -27,7 +27,7 @@ abbrev pub failures_in : {T E : Type 0} → Result T E → ℕ
 failures_in (Ok x) = 0
 failures_in (Err e) = 1
 
--- the same for a write of len bytes: to take none of some is a failure too
+-- how many failures a write of len bytes counts: taking none of some is one too
 abbrev pub write_failures_in : {E : Type 0} → Result ℕ E → ℕ → ℕ
 write_failures_in (Ok n) len = if (n == 0) && nat_lt 0 len then 1 else 0
 write_failures_in (Err e) len = 1

@@ -17,7 +17,7 @@ bytes_of b = slice_index b
 abbrev pub are_bytes : List ℕ → Bool
 are_bytes = list_all (λ b. nat_lt b 256)
 
--- the same, of each place
+-- each place of a memory has a byte
 abbrev pub AreBytes : List ℕ → Type 0
 AreBytes b = (k : ℕ) → bytes_of b k < 256
 

@@ -24,6 +24,6 @@ space_owns p n = room_for (bytes_type n) p
 abbrev pub block_owns : Ptr → List ℕ → Fml
 block_owns p xs = bytes full_share xs (block_of p) (count_of p)
 
--- the same, to be read
+-- the bytes with these values, shared for reading
 abbrev pub block_shares : Ptr → List ℕ → Lft → Fml
 block_shares p xs κ = elements_shared u8 xs (block_of p) (count_of p) κ

@@ -34,7 +34,7 @@ FreesGrowth old new (Some h) = Deallocates current old new h
 abbrev pub IsLiveGrowth : WindowState → Growth → Type 0
 IsLiveGrowth c g = IfSome g.block (λ h. IsTrue (is_live_in (live_of c.bytes) h))
 
--- and with it the live set from which it was taken
+-- the live set and its blocks are those from before the block of the growth was allocated
 abbrev pub Restores : WindowState → WindowState → Growth → Type 0
 Restores old new g = IfSome g.block (λ h. (before : WindowState) (n : ℕ) → AllocatesOk current before old n IndexRole h
     → EncodesLiveSet current new.bytes (live_of before.bytes) × KeepsBlocks before new (live_of before.bytes).extents)

@@ -33,7 +33,7 @@ pub record HasSortKey (c : WindowState) (i : Index) (h : ℕ) : Type 0 where
   pub found : extent_at (live_of c.bytes) h ≡ Some extent
   pub fits : IsTrue (serves extent ObjectRole (sort_key_end i (bytes_of c.bytes) h))
 
--- this is the sort key of the object of a handle
+-- a sort key is that of the object of a handle
 abbrev pub IsKeyOf : Entry → Memory → ℕ → Type 0
 IsKeyOf (Name s) m h = name_at m h ≡ s.now
 IsKeyOf (Code n) m h = code_at m h ≡ n

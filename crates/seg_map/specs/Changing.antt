@@ -135,7 +135,7 @@ pub record HasUnlinkedNode {K V : Type 0} (k : Plain K) (v : Plain V) (b : List 
   pub loose : IsUnlinkedPair k v b h pairs pair
   pub is : pair_node pair ≡ node
 
--- the same, with the root of the tree, and where the insertion of the node begins: none where that is at the root
+-- a pair can enter the tree with this root, from where the insertion of its node begins: none means at the root
 pub record CanLinkPair {K V : Type 0} (k : Plain K) (v : Plain V) (c : WindowState) (h at : ℕ) (root start : Option ℕ)
     (node : ℕ) : Type 0 where
   pub there : HasUnlinkedNode k v c.bytes h at node
@@ -162,7 +162,7 @@ pub record PutsNewPair {K V : Type 0} (k : Plain K) (v : Plain V) (old new : Win
   pub beside : KeepsOutsideMap old new (h + at) (nodes_of_pairs ps)
   pub map : HoldsMap k v new.bytes h at (put_pair k.order (record { key = key; value = value; node = extent }) ps)
 
--- another value of a key, in the block that it had: no byte changes but those of the value
+-- a key gets another value, in the block that it had: no byte changes but those of the value
 pub record OverwritesPair {K V : Type 0} (k : Plain K) (v : Plain V) (old new : WindowState) (h at : ℕ)
     (ps : List (Pair K V)) (p : Pair K V) (key : K) (value : V) : Type 0 where
   pub change : ChangesBytes current old new (handle p.node + 16 + k.SIZE) v.SIZE

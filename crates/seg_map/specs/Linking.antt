@@ -15,7 +15,7 @@ pub record IsKeyTree {K : Type 0} (k : Plain K) (ns : List ℕ) (c : WindowState
   pub tree : IsSearchTree (comes_before k.order (keys_in k ns c)) (pair_cells (16 + k.SIZE) ns c) root t
   pub leads : leads (is_pair_node (16 + k.SIZE) ns c) root ≡ true
 
--- the same of some tree, as a search asks for it
+-- some tree of keys is there, as a search asks for it
 abbrev pub HasKeyTree : {K : Type 0} → Plain K → List ℕ → WindowState → Option ℕ → Type 0
 HasKeyTree k ns c root =
     (t : Tree) × IsSearchTree (comes_before k.order (keys_in k ns c)) (pair_cells (16 + k.SIZE) ns c) root t

@@ -37,7 +37,7 @@ pair_cells len ns c n = if is_pair_node len ns c n then cells_of (bytes_of c.byt
 unfoldable pub key_at : {K : Type 0} → (List ℕ → Option K) → ℕ → Memory → ℕ → Option K
 key_at value size m n = value (read m (n + 16) size)
 
--- other numbers have none
+-- the key of a node; numbers that are no nodes have none
 unfoldable pub key_of : {K : Type 0} → (List ℕ → Option K) → ℕ → List ℕ → WindowState → ℕ → Option K
 key_of value size ns c n = if is_pair_node (16 + size) ns c n then key_at value size (bytes_of c.bytes) n else None
 

@@ -63,7 +63,7 @@ abbrev pub FindsItem : {K V : Type 0} → Plain K → Plain V → List ℕ → �
 FindsItem {K} {V} k v b h at past key r = (ps : List (Pair K V)) → HoldsMap k v b h at ps
     → r ≡ option_map item_of (first_pair k.order past key ps)
 
--- the same of the other way: from the last pair back
+-- the search answers the last pair before the probe
 abbrev pub FindsItemBefore : {K V : Type 0} → Plain K → Plain V → List ℕ → ℕ → ℕ → Bool → K → Option (K × V) → Type 0
 FindsItemBefore {K} {V} k v b h at past key r = (ps : List (Pair K V)) → HoldsMap k v b h at ps
     → r ≡ option_map item_of (last_pair k.order past key ps)

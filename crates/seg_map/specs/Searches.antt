@@ -30,7 +30,7 @@ LooksUpFirst {K} {V} k v c at key more before after =
     (ps : List (Pair K V)) (s : HoldsMap k v c.bytes at.handle at.at ps)
     → before + path_in k c false key s.map.tree.tree + reading_steps (first_pair k.order false key ps) + more ≤ after
 
--- So does one that looks back: it goes down the same path as the look-up of that key.
+-- the law: a search that looks back goes down the path of the look-up of that key
 abbrev pub LookBackTakes : {K V : Type 0} → Plain K → Plain V → WindowState → Place → Bool → K → ℕ → ℕ → Type 0
 LookBackTakes {K} {V} k v c at past key before after =
     (ps : List (Pair K V)) (s : HoldsMap k v c.bytes at.handle at.at ps)
@@ -97,11 +97,11 @@ pub record LooksFor {K V : Type 0} (k : Plain K) (v : Plain V) (c : WindowState)
 
 -- ---- where a change of the tree begins
 
--- that of a node which enters at the end of the search for a key
+-- where the insertion of a node at the end of the search for a key begins
 abbrev pub entry_in : {K : Type 0} → Plain K → WindowState → K → Tree → Option ℕ
 entry_in k c key t = insert_point_of (stands_before k.order (keys_in k (nodes_of t) c) false key) t
 
--- that of a node which leaves
+-- where the removal of the node of a key begins
 abbrev pub exit_in : {K : Type 0} → Plain K → WindowState → ℕ → Tree → Option ℕ
 exit_in k c node t = remove_point_of (comes_before k.order (keys_in k (nodes_of t) c)) node t
 

@@ -84,9 +84,13 @@ impl NodeSet {
 /// A heap with the pairs of one map in it, and the link to the root of their tree.
 #[derive(Drop)]
 pub struct PairTree<H, K> {
+    /// The heap with the nodes.
     pub heap: H,
+    /// Which blocks are nodes.
     pub own: NodeSet,
+    /// The root of the tree.
     pub root: Option<u64>,
+    /// The type of the keys.
     pub keys: PhantomData<K>,
 }
 

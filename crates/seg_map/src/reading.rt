@@ -13,7 +13,9 @@ pub const KEY_OFFSET: u64 = 16;
 /// A key that is looked for: pairs below it stand before it, and where it is past, those that have it too.
 #[derive(Drop)]
 pub struct KeyProbe<K> {
+    /// The key.
     pub key: K,
+    /// Whether pairs with the key stand before the probe.
     pub past: bool,
 }
 

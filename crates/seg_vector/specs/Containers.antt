@@ -39,8 +39,8 @@ pub record IsContainer (b : List ℕ) (p : Place) (each len : ℕ) (t : BackingA
 abbrev pub IsStanding : List ℕ → Place → ℕ → Type 0
 IsStanding b p each = (len : ℕ) × ((t : BackingArray) × ((bytes : List ℕ) × IsContainer b p each len t bytes))
 
--- the same container with n places, or more; of all blocks that stay no byte changes but its own 24, of gaps none where
--- its storage is the block that it was, and nothing does where it had them
+-- the container has n places or more; of all blocks that stay no byte changes but its own 24; no gap changes if its
+-- storage is the block that it was, and nothing changes if it had the places
 pub record ReservesStorageOk (old new : WindowState) (p : Place) (each n len : ℕ) (t : BackingArray)
     (bytes : List ℕ) : Type 0 where
   pub table : BackingArray

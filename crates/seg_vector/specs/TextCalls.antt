@@ -23,7 +23,7 @@ pub record ReplacesText (old new : WindowState) (p : Place) (t : BackingArray) (
   pub gaps : t.extent ≡ u.extent → KeepsGaps old new
   pub text : IsText new.bytes p bytes u
 
--- it has n places, or more
+-- the text has n places or more after the call
 pub record GrowsTextOk (old new : WindowState) (p : Place) (t : BackingArray) (n : ℕ) (bytes : List ℕ) : Type 0 where
   pub table : BackingArray
   pub grown : grown_backing (live_of old.bytes) 1 n t ≡ Some table

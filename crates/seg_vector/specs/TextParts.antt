@@ -19,12 +19,12 @@ use Rattle.seg_vector.specs.TextsCalls.{AreDistinct, RefusesFirstBlock, LacksFit
 abbrev pub SwapsBlocks : WindowState → WindowState → List Extent → List Extent → Type 0
 SwapsBlocks old new gone come = ExchangesBlocks current old new 0 0 gone come
 
--- these blocks are gone, and nothing in those that stay changes; where there are none, nothing does
+-- these blocks are freed, and nothing in those that stay changes; if there are none, nothing changes
 pub record FreesBlocks (old new : WindowState) (xs : List Extent) : Type 0 where
   pub change : SwapsBlocks old new xs []
   pub same : xs ≡ [] → new ≡ old
 
--- each of these is in use
+-- each of these extents is in use
 abbrev pub AreLive : List ℕ → List Extent → Type 0
 AreLive b xs = AllByRecursion (λ (x : Extent). extent_at (live_of b) (handle x) ≡ Some x) xs
 
@@ -55,7 +55,7 @@ pub record HasElement (b : List ℕ) (array at : ℕ) : Type 0 where
   pub whole : at % 8 ≡ 0
   pub room : IsTrue (has_room (live_of b) array (at + 16))
 
--- the same, for an element with this link
+-- the element at an offset of an array has room there, and its link can be written
 pub record HasElementRoom (b : List ℕ) (array at : ℕ) (text : Option ℕ) : Type 0 where
   pub heap : IsHeap current b
   pub whole : at % 8 ≡ 0
@@ -73,7 +73,7 @@ pub record SameElement (m m' : Memory) (a b : ℕ) : Type 0 where
   pub link : link_at m' b ≡ link_at m a
   pub len_word : word_at m' (b + 8) ≡ word_at m (a + 8)
 
--- and so do n of them
+-- n elements of an array are the same in another
 abbrev pub SameElements : Memory → Memory → ℕ → ℕ → ℕ → Type 0
 SameElements m m' a b n = (j : ℕ) → j < n → SameElement m m' (a + 16 * j) (b + 16 * j)
 
@@ -106,7 +106,7 @@ TakesStorage old new n result = MatchResult result (AllocatesOk current old new 
 
 -- ---- the block of a text
 
--- it serves the text, and an empty one has none
+-- a text has a block that serves it, or is empty and has none
 abbrev pub IsServed : OwnedText → Type 0
 IsServed q = elim q.extent [
   | None ↦ q.bytes ≡ []
@@ -268,7 +268,7 @@ abbrev pub InsertsWithin : WindowState → WindowState → Place → ℕ → Lis
 InsertsWithin old new p i bytes result = (ps : List OwnedText) (t : BackingArray)
     → IsTexts old.bytes p ps t → i ≤ length ps → length ps < t.capacity → PutsInto old new p ps t i bytes result
 
--- there is none, and n places are asked for
+-- a vector of texts has no place left, and n places are asked for
 pub record IsFullVector (b : List ℕ) (p : Place) (i n : ℕ) : Type 0 where
   pub ps : List OwnedText
   pub t : BackingArray

@@ -130,7 +130,7 @@ pub record UndoesRequests {A : Type 0} (old new : WindowState) (met : Option A) 
   pub none : met ≡ None
   pub restored : KeepsLiveSet current old new
 
--- one more with i others before it: the array's growth is asked for first, and then the text's block
+-- a text enters with i others before it: the array's growth is asked for first, and then the text's block
 pub record InsertsTextOk (old new : WindowState) (p : Place) (ps : List OwnedText) (t : BackingArray) (i : ℕ)
     (bytes : List ℕ) : Type 0 where
   pub table : BackingArray
@@ -170,7 +170,7 @@ InsertsText old new p i bytes result =
     (λ e. RefusesIndex old new (length ps + 1) i e ⊎
     ((i ≤ length ps) × UndoesRequests old new (requested_text (live_of old.bytes) ps t bytes) e))
 
--- another in the place of one, whose block is released once there is the new one
+-- a text takes the place of another, whose block is freed once there is the new one
 pub record SetsTextOk (old new : WindowState) (p : Place) (ps : List OwnedText) (t : BackingArray) (i : ℕ)
     (bytes : List ℕ) : Type 0 where
   pub before : OwnedText
@@ -186,7 +186,7 @@ SetsText old new p i bytes result =
     → MatchResult result (λ u. SetsTextOk old new p ps t i bytes) (λ e. RefusesIndex old new (length ps) i e ⊎
     ((i < length ps) × LacksFit old new (placed_text (live_of old.bytes) bytes) e))
 
--- one less, and its block is released; the array stays
+-- a text goes, and its block is freed; the array stays
 pub record ErasesTextOk (old new : WindowState) (p : Place) (ps : List OwnedText) (t : BackingArray) (i : ℕ) : Type
     0 where
   pub before : OwnedText

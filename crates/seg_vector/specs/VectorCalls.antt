@@ -28,7 +28,7 @@ pub record ReplacesVector {T : Type 0} (size : ℕ) (is_value : T → Bool) (spe
   pub gaps : t.extent ≡ u.extent → KeepsGaps old new
   pub vector : IsVector size is_value spelling new.bytes p ys u
 
--- it has n places, or more
+-- the vector has n places or more after the call
 pub record GrowsVectorOk {T : Type 0} (size : ℕ) (is_value : T → Bool) (spelling : T → List ℕ) (old new : WindowState)
     (p : Place) (t : BackingArray) (n : ℕ) (ys : List T) : Type 0 where
   pub table : BackingArray

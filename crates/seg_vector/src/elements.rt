@@ -188,7 +188,7 @@ pub fn put_over<T: Plain>(heap: &mut Heap, place: Place, first: u64, values: &[T
     }
 }
 
-/// Spells values behind the last element, one after another, where the capacity allows.
+/// Spells values after the last element, one after another, where the capacity allows.
 pub fn put_behind<T: Plain>(heap: &mut Heap, place: Place, values: &[T])
     requires container { IsStanding heap.old.bytes place T.SIZE }
     requires space { len_at heap.old.bytes place + length values.now ≤ capacity_at heap.old.bytes place }

@@ -10,6 +10,7 @@ use best_fit::{Heap, Place};
 /// Where the length and the capacity of a container stand after its link.
 pub const LEN_OFFSET: u64 = 8;
 
+/// Where the capacity of a container stands after its link.
 pub const CAPACITY: u64 = 16;
 
 /// The bytes of an element of a vector of texts: the link to the block of its text, and the text's length.

@@ -44,7 +44,7 @@ fn tell(rt: &HostRuntime, fault: CommandFault) -> u8 {
     report(fault, &mut StdSink::new(rt.stderr()))
 }
 
-/// Does what the program's own command line asks for, and answers the status. Words that are no text are a wrong
+/// Does what the program's own command line asks for, and returns the status. Words that are no text are a wrong
 /// command line.
 fn obey(rt: &HostRuntime) -> Result<u8, NoAnswerMemory> {
     let Some(owned) = command_words(rt)? else {
@@ -61,9 +61,9 @@ fn obey(rt: &HostRuntime) -> Result<u8, NoAnswerMemory> {
     }
 }
 
-/// Does what the command line asks for, with the files of the system, standard input and standard output, and answers
-/// the status. If a person reads standard error, or more is asked for, the line of a fault is followed by why the
-/// system did not open or make the file, as far as it said so.
+/// Does what the command line asks for, with the files of the system, standard input and standard output, and returns
+/// the status. If a person reads standard error or `--verbose` is given, a second line says why the system did not open
+/// or make the file.
 fn perform(
     rt: &HostRuntime,
     asked: &Invocation<'_>,
@@ -98,14 +98,14 @@ struct Host<'a> {
     rt: &'a HostRuntime,
     /// The files of segments.
     disk: HostDisk<'a, HostRuntime>,
-    /// Those of scripts.
+    /// The files of scripts.
     scripts: HostDisk<'a, HostRuntime>,
     /// Whether a fault of a file is followed by why it came.
     is_verbose: bool,
 }
 
 impl<'a> Host<'a> {
-    /// What the system said of the script that was to be opened, or else of the file, and its path.
+    /// Returns what the system said of the script that was to be opened, or else of the file, and its path.
     fn trouble_of<'b>(&self, asked: &Invocation<'b>) -> Option<(&'b str, FileProblem)> {
         match (script_of(asked), self.scripts.trouble()) {
             (Some(path), Some(trouble)) => Some((path, trouble)),
@@ -113,7 +113,7 @@ impl<'a> Host<'a> {
         }
     }
 
-    /// Does what the command line asks for, and answers the status.
+    /// Does what the command line asks for, and returns the status.
     fn command<W: Write + Drop>(
         &mut self,
         asked: &Invocation<'_>,
@@ -186,7 +186,7 @@ impl<'a> Host<'a> {
         }
     }
 
-    /// Runs the script that the command line asks for, and answers the status. Its answers go out as they are, or
+    /// Runs the script that the command line asks for, and returns the status. Its answers go out as they are, or
     /// numbered.
     fn answer<O: LineOutput + Drop>(
         &mut self,
@@ -203,7 +203,7 @@ impl<'a> Host<'a> {
         self.answer_to(run, how, &mut plain)
     }
 
-    /// Runs the script that the command line asks for, which it reads from where that says, and answers the status.
+    /// Runs the script that the command line asks for, which it reads from where that says, and returns the status.
     fn answer_to<O: LineOutput>(
         &mut self,
         run: Run<'_>,
@@ -233,7 +233,7 @@ impl<'a> Host<'a> {
         }
     }
 
-    /// Runs a script, to its end or to the first line that is refused, and answers the status.
+    /// Runs a script, to its end or to the first line that is refused, and returns the status.
     fn run<S: Source, O: LineOutput>(
         &mut self,
         run: Run<'_>,
@@ -266,7 +266,7 @@ fn keeping_of(asked: &Invocation<'_>) -> FileOptions {
     }
 }
 
-/// Whether a command says nothing where the reader of standard output ended first, as other tools have it.
+/// Tells whether a command says nothing where the reader of standard output ended first, as other tools have it.
 fn ends_quietly(asked: &Invocation<'_>) -> bool {
     matches!(
         asked,

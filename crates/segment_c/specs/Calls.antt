@@ -12,11 +12,11 @@ HoldsSegment (Some s) P = P s
 abbrev pub RefusesArgument : ℕ → ℕ → Option SegmentState → Option SegmentState → Type 0
 RefusesArgument wrong code old new = 1 ≤ wrong → (code ≡ wrong) × (new ≡ old)
 
--- and else that the handle is closed, where it is
+-- the call answers that the handle is closed, if it is
 abbrev pub RefusesClosed : ℕ → ℕ → Option SegmentState → Option SegmentState → Type 0
 RefusesClosed wrong code old new = wrong ≡ 0 → old ≡ None → (code ≡ 16) × (new ≡ None)
 
--- and else this holds of the segment before and the one after, and the code is one that a segment gives
+-- the call reaches the segment: this holds of it before and after, and the code is one that a segment gives
 abbrev pub ReachesSegment : ℕ → ℕ → Option SegmentState → Option SegmentState
     → (SegmentState → SegmentState → Type 0) → Type 0
 ReachesSegment wrong code old new P = (s : SegmentState) → wrong ≡ 0 → old ≡ Some s
@@ -29,7 +29,7 @@ pub record PerformsCall (wrong code : ℕ) (old new : Option SegmentState) (P : 
   pub closed : RefusesClosed wrong code old new
   pub asked : ReachesSegment wrong code old new P
 
--- the same of a call that changes nothing
+-- a call that changes nothing performs its read
 pub record PerformsRead (wrong code : ℕ) (old new : Option SegmentState) (P : SegmentState → Type 0) : Type 0 where
   pub stopped : RefusesArgument wrong code old new
   pub closed : RefusesClosed wrong code old new

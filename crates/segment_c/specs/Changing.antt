@@ -10,7 +10,7 @@ use Rattle.segment_c.specs.declared.changes.ObjectChange.TheVariants.{InsertText
 use Rattle.segment_manager.specs.{Answers.Answer, Answers.refusal_of, containers.TextLists.LeadsOnOfKind}
 use Rattle.segment_manager.specs.State.{TakesStep, TakesStepOfKind, UnchangedIfRefused, SegmentState}
 
--- which step of the machine it is
+-- a change is this step of the machine
 abbrev pub ChangesObject : ObjectChange → Key → SegmentState → SegmentState → Answer → Type 0
 ChangesObject (Erase index) key s t answer = TakesStep s t (EraseAt key index) answer
 ChangesObject PopText key s t answer = LeadsOnOfKind s t key StringsKind (Pop key) (refusal_of answer)
@@ -34,7 +34,7 @@ LeavesOld (InsertText index text) old new r = UnchangedIfRefused old new r
 LeavesOld (AssignTexts texts) old new r = UnchangedIfRefused old new r
 LeavesOld what old new r = OnErr r (new ≡ old)
 
--- and of the handle
+-- the call leaves the handle as it was
 abbrev pub LeavesHandle : ObjectChange → ℕ → Option SegmentState → Option SegmentState → Type 0
 LeavesHandle (PushText text) code old new = KeepsHandle code old new
 LeavesHandle (InsertText index text) code old new = KeepsHandle code old new

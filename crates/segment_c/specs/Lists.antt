@@ -23,17 +23,17 @@ pub record WritesInfo (o : Object) (i : Info) (old new : List ℕ) (code : ℕ) 
   pub told : length o.name ≤ length old → (code ≡ 0) × IsInfo o i × (new ≡ o.name ++ drop (length o.name) old)
   pub short : length old < length o.name → code ≡ 24
 
--- the same of an object that may not be there
+-- what an object says of itself goes out, if it is there
 abbrev pub WritesInfoIfFound : ℕ → Info → List ℕ → List ℕ → ℕ → Option Object → Type 0
 WritesInfoIfFound missing i old new code None = code ≡ missing
 WritesInfoIfFound missing i old new code (Some o) = WritesInfo o i old new code
 
--- the same of an object that the directory says
+-- what an object of the directory says of itself goes out
 abbrev pub WritesInfoOf : SegmentState → (Directory → Option Object) → ℕ → Info → List ℕ → List ℕ → ℕ → Type 0
 WritesInfoOf s which missing i old new code = (d : Directory) → DenotesCurrent s.cut.bytes d
     → WritesInfoIfFound missing i old new code (which d)
 
--- the same without its name
+-- what an object says of itself goes out, without its name
 abbrev pub TellsAlone : Info → ℕ → Option Object → Type 0
 TellsAlone i code None = code ≡ 8
 TellsAlone i code (Some o) = (code ≡ 0) × IsInfo o i

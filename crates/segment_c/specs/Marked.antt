@@ -8,7 +8,7 @@ use Rattle.segment_c.specs.declared.segment_slot.Marks.{Marks}
 abbrev pub raised : Marks → Marks
 raised m = record { changes = (m.changes + 1) % 18446744073709551616; is_lent = m.is_lent; is_shared = false }
 
--- the same, of a segment that was made or opened, in memory that C lent or not
+-- the marks of a handle after a segment was made or opened, in memory that C lent or not
 abbrev pub placed : Marks → Bool → Marks
 placed m is_lent = record { changes = (m.changes + 1) % 18446744073709551616; is_lent = is_lent; is_shared = false }
 
@@ -21,12 +21,12 @@ pub record RaisesMoves (code : ℕ) (old new : Marks) : Type 0 where
   pub counted : code ≡ 0 → new ≡ raised old
   pub lent : new.is_lent ≡ old.is_lent
 
--- the same of one that puts another segment into the handle, or none: the memory is C's or not then
+-- a call puts another segment into the handle, or none: the memory is C's or not then
 pub record PlacesSegment (code : ℕ) (old new : Marks) (is_lent : Bool) : Type 0 where
   pub put : code ≡ 0 → new ≡ placed old is_lent
   pub kept : 1 ≤ code → new ≡ old
 
--- and of one that tells C where it may write
+-- a call that tells C where it may write notes that in the marks
 pub record LendsRange (code : ℕ) (old new : Marks) : Type 0 where
   pub told : code ≡ 0 → new ≡ shared old
   pub kept : 1 ≤ code → new ≡ old

@@ -37,7 +37,7 @@ pub record IsWhyNotOpened (image : List ℕ) (capacity code : ℕ) : Type 0 wher
 abbrev pub IsNoImage : List ℕ → ℕ → Type 0
 IsNoImage image code = (code ≡ 26) ⊎ IsClassCode image code
 
--- The same with a place: where a class says why, it is a byte that shows that the class holds, and else it stays.
+-- the code and the place of a verdict: if a class says why, the place is a byte that shows it, and otherwise it stays
 abbrev pub IsExplained : List ℕ → ℕ → ℕ → ℕ → Type 0
 IsExplained image code old new =
     ((code ≡ 26) × (new ≡ old))

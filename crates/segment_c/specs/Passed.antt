@@ -104,7 +104,7 @@ element_in v = elim (scalar_in v) as (λ _. Answer) [ None ↦ Done | Some s ↦
 abbrev pub kind_in : CScalar → ScalarKind
 kind_in v = elim (scalar_in v) as (λ _. ScalarKind) [ None ↦ BoolKind | Some s ↦ s.0 ]
 
--- and its number
+-- the whole number that a value passes
 abbrev pub whole_in : CScalar → ℤ
 whole_in v = elim (scalar_in v) as (λ _. ℤ) [ None ↦ pos 0 | Some s ↦ s.1 ]
 

@@ -28,12 +28,12 @@ pub record CopiesBytes (bytes old new : List ℕ) (len code : ℕ) : Type 0 wher
   pub len_is : len ≡ length bytes
   pub saves : CopiesOut bytes old new code
 
--- the same of bytes that may not be there
+-- bytes that may not be there are copied out
 abbrev pub Copies : List ℕ → List ℕ → ℕ → ℕ → Result (List ℕ) Refusal → Type 0
 Copies old new len code (Ok bytes) = CopiesBytes bytes old new len code
 Copies old new len code (Err why) = code ≡ refusal_number why
 
--- the same of an answer, which is a text or a refusal
+-- an answer, a text or a refusal, is copied out
 abbrev pub CopiesAnswer : List ℕ → List ℕ → ℕ → ℕ → Answer → Type 0
 CopiesAnswer old new len code (TextElement bytes) = CopiesBytes bytes old new len code
 CopiesAnswer old new len code (Refused why) = code ≡ refusal_number why
@@ -109,6 +109,6 @@ TellsPair at value code (Ok None) = code ≡ 10
 TellsPair at value code (Ok (Some (x, y))) = (code ≡ 0) × (scalar_in at ≡ Some x) × (scalar_in value ≡ Some y)
 TellsPair at value code (Err why) = code ≡ refusal_number why
 
--- the same of a pair as the code has it
+-- a pair goes out, as the code has it
 abbrev pub TellsPairOf : CScalar → CScalar → ℕ → Option (ScalarValue × ScalarValue) → Type 0
 TellsPairOf at value code pair = TellsPair at value code (Ok (option_map item_seen pair))

@@ -7,7 +7,7 @@ use Rattle.seg_types.specs.declared.refusals.Refusal.TheVariants.{ReadOnly, Exis
 abbrev pub version : ℕ
 version = 900
 
--- those of a segment, of what is passed, and of images that are none
+-- the words of the codes of a segment, of what is passed, and of images that are none
 abbrev pub code_words : ℕ → List ℕ
 code_words code =
     if code == 0 then codes "done"

@@ -17,7 +17,7 @@ use seg_types::{IndexKey, Key, Kind, NewKey, ScalarKind, ScalarValue};
 use segment_manager::Segment;
 use std::alloc::Global;
 
-/// What is passed, read; where it is refused, its code is the call's.
+/// What is passed, read; if it is refused, its code is the call's.
 macro_rules! passed {
     ($read:expr) => {
         match $read {
@@ -29,7 +29,7 @@ macro_rules! passed {
 
 pub(crate) use passed;
 
-/// The key of an object that is there, and the segment.
+/// Returns the key of an object that is there, and the segment.
 #[inline(always)]
 pub fn enter<'a>(
     alloc: Global,
@@ -45,7 +45,7 @@ pub fn enter<'a>(
     Ok((which, take(alloc, h)?))
 }
 
-/// The same, and a value that is passed.
+/// Returns the key of an object that is there, the segment, and a value that is passed.
 #[inline(always)]
 pub fn enter_with<'a>(
     alloc: Global,
@@ -65,7 +65,7 @@ pub fn enter_with<'a>(
     Ok((which, scalar, take(alloc, h)?))
 }
 
-/// The same, and two values.
+/// Returns the key of an object that is there, the segment, and two values.
 pub fn enter_pair<'a>(
     alloc: Global,
     h: &mut SegmentSlot,
@@ -87,7 +87,7 @@ pub fn enter_pair<'a>(
     Ok((which, scalars.0, scalars.1, take(alloc, h)?))
 }
 
-/// The key, the kind of a row of values, and the segment.
+/// Returns the key, the kind of a row of values, and the segment.
 pub fn enter_row<'a>(
     alloc: Global,
     h: &mut SegmentSlot,
@@ -106,7 +106,7 @@ pub fn enter_row<'a>(
     Ok((which, kind, take(alloc, h)?))
 }
 
-/// The key under which a new object of a kind is made, and the segment.
+/// Returns the key under which a new object of a kind is made, and the segment.
 pub fn enter_new<'a>(
     alloc: Global,
     h: &mut SegmentSlot,
@@ -127,7 +127,7 @@ pub fn enter_new<'a>(
     Ok((which, take(alloc, h)?))
 }
 
-/// The entry under which an object of a kind is found or made, and the segment.
+/// Returns the entry under which an object of a kind is found or made, and the segment.
 pub fn enter_entry<'a>(
     alloc: Global,
     h: &mut SegmentSlot,

@@ -47,7 +47,7 @@ pub fn make_change(
     done(apply(&mut segment, &which, what), h, segment)
 }
 
-/// The same of a segment.
+/// Changes the object of a key in a segment.
 fn apply(segment: &mut Segment, key: &Key, what: ObjectChange<'_>) -> Result<(), Refusal>
     ensures step { ChangesObject what.entry (key_seen key.now) segment.old segment.new (done_answer result) }
     ensures refused { LeavesOld what.entry segment.old segment.new result }

@@ -62,14 +62,14 @@ pub const TOO_LARGE: u32 = 29;
 /// The bytes are no image: to this the number of its class is added.
 pub const BAD_IMAGE: u32 = 100;
 
-/// The code of a request for memory that was refused.
+/// Returns the code of a request for memory that was refused.
 pub fn no_memory(_refused: MemoryFault) -> u32
     ensures { result ≡ 26 }
 {
     NO_MEMORY
 }
 
-/// A segment in a box, or the code of no memory for one, and its region.
+/// Returns a segment in a box, or the code of no memory for one, and its region.
 pub fn boxed_or_region(alloc: Global, segment: Segment) -> Result<Box<Segment>, (u32, RawRegion)>
     ensures { MatchResult result (λ s. s.value ≡ segment) (λ refused. (refused.0 ≡ 26)
         × (refused.1 ≡ whole segment.cut)) }
@@ -80,7 +80,7 @@ pub fn boxed_or_region(alloc: Global, segment: Segment) -> Result<Box<Segment>, 
     }
 }
 
-/// A segment in a box, or the code of no memory for one.
+/// Returns a segment in a box, or the code of no memory for one.
 pub fn boxed_or_not(alloc: Global, segment: Segment) -> Result<Box<Segment>, u32>
     ensures { MatchResult result (λ s. s.value ≡ segment) (λ code. code ≡ 26) }
 {
@@ -113,7 +113,7 @@ macro_rules! code_for {
     };
 }
 
-/// The code of a refusal, which is its number.
+/// Returns the code of a refusal, which is its number.
 pub fn code_of(why: Refusal) -> u32
     ensures outcome { (a : Answer) → answer_for result a ≡ Refused why }
     ensures answer { IsTrue (is_answer result) }
@@ -130,8 +130,8 @@ pub fn code_of(why: Refusal) -> u32
     }
 }
 
-/// The code where a command is done, or not. This and those below put the segment back into the handle, and those whose
-/// command may change it count that.
+/// Returns the code of a command that is done, or refused. This and those below put the segment back into the handle,
+/// and those whose command may change it count that.
 pub fn done(done: Result<(), Refusal>, h: &mut SegmentSlot, segment: Box<Segment>) -> u32
     ensures outcome { answer_for result Done ≡ done_answer done }
     ensures answer { IsTrue (is_answer result) }
@@ -142,7 +142,7 @@ pub fn done(done: Result<(), Refusal>, h: &mut SegmentSlot, segment: Box<Segment
     code_for!(done, () => {})
 }
 
-/// The code where an object was made, or not. Its handle goes out.
+/// Returns the code where an object was made, or not. Its handle goes out.
 pub fn made(
     made: Result<u64, Refusal>,
     handle: &mut u64,
@@ -159,7 +159,7 @@ pub fn made(
     code_for!(made, at => *handle = at)
 }
 
-/// The code where something holds, or not. Whether it does goes out.
+/// Returns the code where something holds, or not. Whether it does goes out.
 pub fn truth(
     truth: Result<bool, Refusal>,
     holds: &mut bool,
@@ -176,7 +176,7 @@ pub fn truth(
     code_for!(truth, it => *holds = it)
 }
 
-/// The code where an element was asked for, or not. It goes out.
+/// Returns the code where an element was asked for, or not. It goes out.
 pub fn element(
     element: Result<ScalarValue, Refusal>,
     value: &mut CScalar,
@@ -193,7 +193,7 @@ pub fn element(
     code_for!(element, it => *value = CScalar::of(it))
 }
 
-/// The code where an object was found or made, or not. Its handle and how many elements it has go out.
+/// Returns the code where an object was found or made, or not. Its handle and how many elements it has go out.
 pub fn found(
     found: Result<(u64, u32), Refusal>,
     handle: &mut u64,
@@ -211,7 +211,8 @@ pub fn found(
     code_for!(found, (at, many) => { *handle = at; *count = many; })
 }
 
-/// The same where none may be there.
+/// Returns the code of a search that may find nothing. If an object was found, its handle and its number of elements go
+/// out.
 pub fn found_or_absent(
     found: Result<Option<(u64, u32)>, Refusal>,
     handle: &mut u64,
@@ -229,7 +230,7 @@ pub fn found_or_absent(
     code_for!(found, Some((at, many)) => { *handle = at; *count = many; })
 }
 
-/// The code where a value was looked for: it goes out where it is there.
+/// Returns the code where a value was looked for: it goes out if it is there.
 pub fn value_found(
     found: Result<Option<ScalarValue>, Refusal>,
     value: &mut CScalar,

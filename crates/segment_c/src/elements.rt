@@ -27,7 +27,8 @@ use segment_manager::{Segment, locate};
 use segment_values::InsertSpot;
 use std::alloc::Global;
 
-/// The element at `index` in the object of a key: of scalars, of a vector of scalars, or of a string, which has bytes.
+/// Returns the element at `index` in the object of a key: of scalars, of a vector of scalars, or of a string, which has
+/// bytes.
 #[unsafe(no_mangle)]
 pub extern "C" fn zx_get(
     alloc: Global,
@@ -67,7 +68,7 @@ pub extern "C" fn zx_set(
     done(answer, h, segment)
 }
 
-/// Puts a value behind the last element of the vector of a key.
+/// Puts a value after the last element of the vector of a key.
 #[unsafe(no_mangle)]
 pub extern "C" fn zx_push(
     alloc: Global,
@@ -85,7 +86,8 @@ pub extern "C" fn zx_push(
     done(push(&mut segment, &which, new), h, segment)
 }
 
-/// The same of a segment. Where the vector is of the value's own kind, it is looked up once.
+/// Puts a value after the last element of the vector of a key in a segment. It looks the vector up once if that is of
+/// the value's own kind.
 fn push(segment: &mut Segment, key: &Key, value: ScalarValue) -> Result<(), Refusal>
     ensures step { TakesStep segment.old segment.new (Push (key_seen key.now) (literal_seen value))
         (done_answer result) }
@@ -173,7 +175,7 @@ pub extern "C" fn zx_pop(
     element(pop(&mut segment, &which), value, h, segment)
 }
 
-/// The same of a segment.
+/// Takes the last element out of the vector of a key in a segment.
 fn pop(segment: &mut Segment, key: &Key) -> Result<ScalarValue, Refusal>
     ensures step { Transitions segment.old segment.new (scalar_answer result) (λ d.
         step_of_kind segment.old.mode d (key_seen key.now) (VectorOf (vector_kind_at d (key_seen key.now)))
@@ -184,7 +186,7 @@ fn pop(segment: &mut Segment, key: &Key) -> Result<ScalarValue, Refusal>
     pop_of_kind(segment, key, kind)
 }
 
-/// The same of a vector of scalars of a kind.
+/// Takes the last element out of a vector of scalars of a kind.
 fn pop_of_kind(segment: &mut Segment, key: &Key, kind: ScalarKind) -> Result<ScalarValue, Refusal>
     ensures step { TakesStepOfKind segment.old segment.new (key_seen key.now) (VectorOf kind)
         (Pop (key_seen key.now)) (scalar_answer result) }
@@ -198,8 +200,8 @@ fn pop_of_kind(segment: &mut Segment, key: &Key, kind: ScalarKind) -> Result<Sca
     by_kind!(kind, pop)
 }
 
-/// The kind of the elements of the vector of a key; where it has no vector of scalars, one kind or another, by which
-/// the call is refused.
+/// Returns the kind of the elements of the vector of a key; if it has no vector of scalars, one kind or another, by
+/// which the call is refused.
 fn kind_of_vector(segment: &Segment, key: &Key) -> ScalarKind
     ensures { AnswersWith segment.now (λ d. vector_kind_at d (key_seen key.now)) result }
 {
@@ -209,7 +211,7 @@ fn kind_of_vector(segment: &Segment, key: &Key) -> ScalarKind
     }
 }
 
-/// The kind of the elements of a vector of a kind.
+/// Returns the kind of the elements of a vector of a kind.
 fn element_kind(kind: Kind) -> ScalarKind
     ensures { result ≡ vector_kind kind }
 {

@@ -36,8 +36,8 @@ use raw_region::{RawRegion, Steps};
 use segment_manager::{Mode, Segment};
 use std::alloc::Global;
 
-/// An empty segment of `size` bytes, open for writing. What the handle had is freed. The handle is as it was unless the
-/// code is 0.
+/// Returns an empty segment of `size` bytes, open for writing. What the handle had is freed. The handle is as it was
+/// unless the code is 0.
 #[unsafe(no_mangle)]
 pub extern "C" fn zx_create(alloc: Global, h: &mut SegmentSlot, size: u64) -> u32
     ensures size { (result ≡ 22) ↔ (is_legal_size size ≡ false) }
@@ -60,7 +60,7 @@ pub extern "C" fn zx_close(alloc: Global, h: &mut SegmentSlot)
     h.marks.place(false);
 }
 
-/// The number of bytes in the segment.
+/// Returns the number of bytes in the segment.
 #[unsafe(no_mangle)]
 pub extern "C" fn zx_size(alloc: Global, h: &mut SegmentSlot, size: &mut u64) -> u32
     ensures call { PerformsCall 0 result h.old.segment.value h.new.segment.value (λ s t.
@@ -74,7 +74,7 @@ pub extern "C" fn zx_size(alloc: Global, h: &mut SegmentSlot, size: &mut u64) ->
     put(DONE, h, segment)
 }
 
-/// The bytes of all gaps, their tags included.
+/// Returns the bytes of all gaps, their tags included.
 #[unsafe(no_mangle)]
 pub extern "C" fn zx_free_bytes(alloc: Global, h: &mut SegmentSlot, free_bytes: &mut u64) -> u32
     ensures call { PerformsCall 0 result h.old.segment.value h.new.segment.value (λ s t.
@@ -88,7 +88,7 @@ pub extern "C" fn zx_free_bytes(alloc: Global, h: &mut SegmentSlot, free_bytes: 
     put(DONE, h, segment)
 }
 
-/// How the segment is open.
+/// Returns how the segment is open.
 #[unsafe(no_mangle)]
 pub extern "C" fn zx_mode(alloc: Global, h: &mut SegmentSlot, mode: &mut u32) -> u32
     ensures call { PerformsCall 0 result h.old.segment.value h.new.segment.value (λ s t. (result ≡ 0)
@@ -102,7 +102,7 @@ pub extern "C" fn zx_mode(alloc: Global, h: &mut SegmentSlot, mode: &mut u32) ->
     put(DONE, h, segment)
 }
 
-/// The number of bytes of the region behind the segment.
+/// Returns the number of bytes of the region after the segment.
 #[unsafe(no_mangle)]
 pub extern "C" fn zx_region_left(alloc: Global, h: &mut SegmentSlot, left: &mut u64) -> u32
     ensures call { PerformsCall 0 result h.old.segment.value h.new.segment.value (λ s t. (result ≡ 0)
@@ -130,7 +130,7 @@ pub extern "C" fn zx_save(alloc: Global, h: &mut SegmentSlot, image: &mut [u8]) 
     put(copy_out(segment.as_bytes(), image), h, segment)
 }
 
-/// Copies bytes to the front of a buffer, where it has room for them.
+/// Copies bytes to the front of a buffer, if it has room for them.
 pub fn copy_out(bytes: &[u8], buffer: &mut [u8]) -> u32
     ensures saved { CopiesOut bytes.now buffer.old buffer.new result }
     ensures unchanged_on_error { 1 ≤ result → buffer.new ≡ buffer.old }
@@ -143,7 +143,7 @@ pub fn copy_out(bytes: &[u8], buffer: &mut [u8]) -> u32
     DONE
 }
 
-/// The code of a mode.
+/// Returns the code of a mode.
 fn code_of_mode(mode: Mode) -> u32
     ensures { result ≡ mode_code mode }
 {
@@ -154,7 +154,7 @@ fn code_of_mode(mode: Mode) -> u32
     }
 }
 
-/// An empty segment of `size` bytes in a box.
+/// Returns an empty segment of `size` bytes in a box.
 fn new_segment(alloc: Global, size: u64) -> Result<Box<Segment>, u32>
     ensures creation { IfOk result (λ s. IsTrue (is_legal_size size) × CreatesOk (zeros size) 0 size Write s.value) }
     ensures refused { IfErr result (λ code. ((code ≡ 22) × (is_legal_size size ≡ false))
@@ -173,8 +173,8 @@ fn new_segment(alloc: Global, size: u64) -> Result<Box<Segment>, u32>
     }
 }
 
-/// The segment whose image the bytes are, in a region of `capacity` bytes. What the handle had is freed. The handle is
-/// as it was unless the code is 0.
+/// Returns the segment whose image the bytes are, in a region of `capacity` bytes. What the handle had is freed. The
+/// handle is as it was unless the code is 0.
 #[unsafe(no_mangle)]
 pub extern "C" fn zx_open(
     alloc: Global,
@@ -202,7 +202,7 @@ pub extern "C" fn zx_open(
     put_new(h, segment, false)
 }
 
-/// Whether the bytes are the image of a segment.
+/// Tells whether the bytes are the image of a segment.
 #[unsafe(no_mangle)]
 pub extern "C" fn zx_check(alloc: Global, image: &[u8]) -> u32
     ensures owner { result ≡ 0 → IsSegment image.now }
@@ -211,7 +211,8 @@ pub extern "C" fn zx_check(alloc: Global, image: &[u8]) -> u32
     examine(alloc, image, &mut 0)
 }
 
-/// The same; where a class says why they are none, `place` is the byte that shows it.
+/// Tells whether the bytes are the image of a segment; if a class says why they are none, `place` is the byte that
+/// shows it.
 #[unsafe(no_mangle)]
 pub extern "C" fn zx_explain(alloc: Global, image: &[u8], place: &mut u64) -> u32
     ensures owner { result ≡ 0 → IsSegment image.now }
@@ -221,7 +222,7 @@ pub extern "C" fn zx_explain(alloc: Global, image: &[u8], place: &mut u64) -> u3
     examine(alloc, image, place)
 }
 
-/// The same, in a region for as many bytes as the first of them say. None is made where there are fewer.
+/// Examines an image in a region for as many bytes as its front says. It makes none if there are fewer.
 fn examine(alloc: Global, image: &[u8], place: &mut u64) -> u32
     ensures owner { result ≡ 0 → IsSegment image.now }
     ensures cause { 1 ≤ result → IsExplained image.now result place.old place.new }
@@ -239,7 +240,7 @@ fn examine(alloc: Global, image: &[u8], place: &mut u64) -> u32
     }
 }
 
-/// The same in a region that has room for the size that the bytes say.
+/// Examines an image in a region that has room for the size that the bytes say.
 fn examine_in(alloc: Global, image: &[u8], region: RawRegion, place: &mut u64) -> u32
     requires { min (size_said image.now) 1073741824 ≤ length region }
     ensures owner { result ≡ 0 → IsSegment image.now }
@@ -267,7 +268,7 @@ fn examine_in(alloc: Global, image: &[u8], region: RawRegion, place: &mut u64) -
     }
 }
 
-/// The size that the first bytes say, or 0 where they say none.
+/// Returns the size that the first bytes say, or 0 where they say none.
 fn size_said(image: &[u8]) -> u64
     ensures { result ≡ size_said image.now }
 {
@@ -277,7 +278,7 @@ fn size_said(image: &[u8]) -> u64
     size_in(image).unwrap_or(0)
 }
 
-/// The mode of a code.
+/// Returns the mode of a code.
 pub fn mode_for(code: u32) -> Option<Mode>
     ensures { MatchOption result (mode_wrong code ≡ 23) (λ mode. (mode_wrong code ≡ 0) × (mode ≡ mode_of code)) }
 {
@@ -289,7 +290,7 @@ pub fn mode_for(code: u32) -> Option<Mode>
     }
 }
 
-/// The segment whose image the bytes are, in a box.
+/// Returns the segment whose image the bytes are, in a box.
 fn open_boxed(alloc: Global, image: &[u8], capacity: u64, mode: Mode) -> Result<Box<Segment>, u32>
     requires { IsCapacity capacity }
     ensures { MatchResult result (λ s. IsImageOpened image.now capacity mode s.value) (λ code. (1 ≤ code)
@@ -302,7 +303,7 @@ fn open_boxed(alloc: Global, image: &[u8], capacity: u64, mode: Mode) -> Result<
     boxed_or_not(alloc, open_in(alloc, image, region, mode)?)
 }
 
-/// The segment whose image the bytes are, at the front of the region.
+/// Returns the segment whose image the bytes are, at the front of the region.
 ///
 /// # Errors
 ///
@@ -323,7 +324,7 @@ fn open_in(alloc: Global, image: &[u8], region: RawRegion, mode: Mode) -> Result
     }
 }
 
-/// The code of a class of images.
+/// Returns the code of a class of images.
 pub fn class_code(class: ImageClass) -> u32
     ensures { result ≡ 100 + number_of class }
 {

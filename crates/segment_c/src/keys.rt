@@ -8,18 +8,22 @@ ghost use Rattle.segment_manager.specs.objects.NewObjects.{IsOfKind};
 use crate::codes::{BAD_KEY, BAD_KIND, BAD_NAME, NULL_SLICE};
 use seg_types::{IndexKey, Key, Kind, Name};
 
-/// Which object: by `how`, the one of the name (0), the unique one of the kind (1), the one of the handle (2); or a new
-/// one with no key (3). 4 stands for a null name.
+/// Which object, by `how`. It is the one of the name (0), the unique one of the kind (1), the one of the handle (2), or
+/// a new one with no key (3). 4 stands for a null name.
 #[repr(C)]
 pub struct ObjectKey<'a> {
+    /// Which of the fields says the object.
     pub how: u32,
+    /// The code of a kind.
     pub kind: u32,
+    /// A handle.
     pub handle: u64,
+    /// The bytes of a name.
     pub name: &'a [u8],
 }
 
 impl<'a> ObjectKey<'a> {
-    /// The key of an object that is there.
+    /// Returns the key of an object that is there.
     ///
     /// # Errors
     ///
@@ -38,7 +42,7 @@ impl<'a> ObjectKey<'a> {
         }
     }
 
-    /// The entry under which an object of a kind is found or made.
+    /// Returns the entry under which an object of a kind is found or made.
     ///
     /// # Errors
     ///

@@ -21,9 +21,9 @@ use raw_region::{LentMemory, RawRegion, Steps};
 use segment_manager::{Mode, Segment};
 use std::alloc::Global;
 
-/// Opens the image that stands at the front of the memory and has `len` bytes, where it stands: no byte is copied, and
-/// none is written before the first call that changes. The memory belongs to the handle until `zx_detach`. What the
-/// handle had is freed. The handle and the memory are as they were unless the code is 0.
+/// Opens the image of `len` bytes at the front of the memory in place. It copies no byte, and writes none before the
+/// first call that changes the segment. The memory belongs to the handle until `zx_detach`. What the handle had is
+/// freed. The handle and the memory are as they were unless the code is 0.
 #[unsafe(no_mangle)]
 pub extern "C" fn zx_attach(
     alloc: Global,
@@ -58,7 +58,7 @@ pub extern "C" fn zx_attach(
     }
 }
 
-/// Whether memory may be a region, and holds an image of so many bytes.
+/// Tells whether memory may be a region, and holds an image of so many bytes.
 fn holds(memory: &LentMemory, len: u64) -> bool
     ensures error { memory_wrong (length memory.now.bytes.items) len ≡ (if result then 0 else 22) }
     ensures capacity { result ≡ true → IsCapacity (length memory.now.bytes.items) }
@@ -67,7 +67,7 @@ fn holds(memory: &LentMemory, len: u64) -> bool
     is_capacity(memory.len) && len <= memory.len
 }
 
-/// The region that memory is, of which nothing is left.
+/// Returns the region that memory is, of which nothing is left.
 fn region_over(memory: &mut LentMemory) -> RawRegion
     requires { IsCapacity (length memory.old.bytes.items) }
     ensures region { result ≡ memory.old.bytes.items }
@@ -76,7 +76,7 @@ fn region_over(memory: &mut LentMemory) -> RawRegion
     RawRegion::over(std::mem::replace(memory, LentMemory::none()))
 }
 
-/// The segment whose image stands at the front of the region, in a box.
+/// Returns the segment whose image stands at the front of the region, in a box.
 ///
 /// # Errors
 ///
@@ -106,8 +106,8 @@ fn open_over(
     }
 }
 
-/// Closes the segment, and gives the memory of its region back, with the bytes that it has now: what C lent, or what
-/// the library took, which C is to free then.
+/// Closes the segment, and gives the memory of its region back with its present bytes. C lent that memory, or is to
+/// free it if the library took it.
 #[unsafe(no_mangle)]
 pub extern "C" fn zx_detach(alloc: Global, h: &mut SegmentSlot, memory: &mut LentMemory) -> u32
     ensures closed { RefusesClosed 0 result h.old.segment.value h.new.segment.value }

@@ -25,30 +25,38 @@ use segment_manager::unchecked::{named_instance, unique_instance};
 use segment_manager::{Instance, Segment};
 use std::alloc::Global;
 
-/// What an object says of itself: how it is found again (0 by its handle alone, 1 by its name, 2 as the one of its
-/// kind), the code of its kind, how many elements it has (1 where it is no object of scalars), how many bytes its name
-/// has, and its handle.
+/// What an object says of itself. Its class is 0 if it is found by its handle alone, 1 by its name, 2 as the one of its
+/// kind. The code of its kind, the number of its elements (1 for a container), the length of its name and its handle
+/// follow.
 #[repr(C)]
 #[derive(Clone, Copy)]
 pub struct Info {
+    /// How the object is found again.
     pub found_by: u32,
+    /// The code of its kind.
     pub kind: u32,
+    /// The number of its elements, 1 for a container.
     pub count: u32,
+    /// The length of its name.
     pub name_len: u64,
+    /// Its handle.
     pub handle: u64,
 }
 
-/// A block in use or a gap: where it begins, how long it is, and what it is for (0 a gap, 1 an object, 2 an index, 3
-/// elements, 4 a pair).
+/// A block in use or a gap: where it begins, its length, and its use (0 a gap, 1 an object, 2 an index, 3 elements, 4 a
+/// pair).
 #[repr(C)]
 #[derive(Clone, Copy)]
 pub struct CBlock {
+    /// Where the block or gap begins.
     pub offset: u64,
+    /// Its length in bytes.
     pub len: u64,
+    /// What it is for.
     pub use_of: u32,
 }
 
-/// What an object says of itself goes out, and its name to the front of the buffer, where that has room for it.
+/// Returns what an object says of itself goes out, and its name to the front of the buffer, if that has room for it.
 fn tell(said: &Instance<'_>, info: &mut Info, name: &mut [u8]) -> u32
     ensures read { (o : Object) → IsInstance o said.now → WritesInfo o info.new name.old name.new result }
     ensures unchanged_on_error { 1 ≤ result → (info.new ≡ info.old) × (name.new ≡ name.old) }
@@ -62,7 +70,7 @@ fn tell(said: &Instance<'_>, info: &mut Info, name: &mut [u8]) -> u32
 }
 
 impl Info {
-    /// What an object says of itself, but for its name.
+    /// Returns what an object says of itself, but for its name.
     fn of(said: &Instance<'_>) -> Info
         ensures { (o : Object) → IsInstance o said.now → IsInfo o result }
     {
@@ -76,7 +84,7 @@ impl Info {
     }
 }
 
-/// The same of the object of a key.
+/// Writes what the object of a key says of itself.
 fn tell_key(segment: &Segment, key: &Key, info: &mut Info, name: &mut [u8]) -> u32
     ensures read { WritesInfoOf segment.now (λ d. object_at d (key_seen key.now)) 6 info.new name.old name.new result }
     ensures unchanged_on_error { 1 ≤ result → (info.new ≡ info.old) × (name.new ≡ name.old) }
@@ -87,7 +95,7 @@ fn tell_key(segment: &Segment, key: &Key, info: &mut Info, name: &mut [u8]) -> u
     }
 }
 
-/// The same of the object with a name that has `index` others before it.
+/// Writes what the object with a name that has `index` others before it says of itself.
 fn tell_named(segment: &Segment, index: u64, info: &mut Info, name: &mut [u8]) -> u32
     ensures read { WritesInfoOf segment.now (λ d. slice_get (named_objects d) index) 8 info.new name.old name.new
         result }
@@ -99,7 +107,7 @@ fn tell_named(segment: &Segment, index: u64, info: &mut Info, name: &mut [u8]) -
     tell(&named_instance(segment, index), info, name)
 }
 
-/// The same of the unique object that has `index` others before it, which has no name.
+/// Writes what the unique object that has `index` others before it says of itself; it has no name.
 fn tell_unique(segment: &Segment, index: u64, info: &mut Info) -> u32
     ensures read { (d : Directory) → DenotesCurrent segment.now.cut.bytes d
         → TellsAlone info.new result (slice_get (unique_objects d) index) }
@@ -112,7 +120,7 @@ fn tell_unique(segment: &Segment, index: u64, info: &mut Info) -> u32
     DONE
 }
 
-/// The block or gap with `index` others before it.
+/// Returns the block or gap with `index` others before it.
 fn tell_tile(segment: &Segment, index: u64, block: &mut CBlock) -> u32
     ensures read { (d : Directory) → DenotesCurrent segment.now.cut.bytes d
         → TellsBlock block.new result (slice_get (spans (live d)) index) }
@@ -129,7 +137,7 @@ fn tell_tile(segment: &Segment, index: u64, block: &mut CBlock) -> u32
     DONE
 }
 
-/// The code of how an object is found again.
+/// Returns the code of how an object is found again.
 fn class_code(class: Class) -> u32
     ensures { result ≡ class_code class }
 {
@@ -140,7 +148,7 @@ fn class_code(class: Class) -> u32
     }
 }
 
-/// The code of what a block is for.
+/// Returns the code of what a block is for.
 fn use_code(use_of: Option<Role>) -> u32
     ensures { result ≡ use_code use_of }
 {
@@ -153,7 +161,7 @@ fn use_code(use_of: Option<Role>) -> u32
     }
 }
 
-/// What the object of a key says of itself.
+/// Returns what the object of a key says of itself.
 #[unsafe(no_mangle)]
 pub extern "C" fn zx_tell(
     alloc: Global,
@@ -171,7 +179,7 @@ pub extern "C" fn zx_tell(
     put(tell_key(&segment, &which, info, name), h, segment)
 }
 
-/// What the object says of itself whose name has `index` others before it, in the order of their bytes.
+/// Returns what the object says of itself whose name has `index` others before it, in the order of their bytes.
 #[unsafe(no_mangle)]
 pub extern "C" fn zx_named_at(
     alloc: Global,
@@ -189,7 +197,8 @@ pub extern "C" fn zx_named_at(
     put(tell_named(&segment, index, info, name), h, segment)
 }
 
-/// How many names stand before a text: the place, for `zx_named_at`, of the first name that does not, if there is one.
+/// Returns how many names stand before a text: the place, for `zx_named_at`, of the first name that does not, if there
+/// is one.
 #[unsafe(no_mangle)]
 pub extern "C" fn zx_named_from(
     alloc: Global,
@@ -207,7 +216,7 @@ pub extern "C" fn zx_named_from(
     put(DONE, h, segment)
 }
 
-/// What the unique object says of itself whose kind has `index` others before it, in the order of their codes.
+/// Returns what the unique object says of itself whose kind has `index` others before it, in the order of their codes.
 #[unsafe(no_mangle)]
 pub extern "C" fn zx_unique_at(
     alloc: Global,
@@ -225,7 +234,7 @@ pub extern "C" fn zx_unique_at(
     put(tell_unique(&segment, index, info), h, segment)
 }
 
-/// The block or gap with `index` others before it.
+/// Returns the block or gap with `index` others before it.
 #[unsafe(no_mangle)]
 pub extern "C" fn zx_tile_at(
     alloc: Global,
@@ -243,7 +252,7 @@ pub extern "C" fn zx_tile_at(
     put(tell_tile(&segment, index, block), h, segment)
 }
 
-/// The number of objects with names.
+/// Returns the number of objects with names.
 #[unsafe(no_mangle)]
 pub extern "C" fn zx_num_named(alloc: Global, h: &mut SegmentSlot, count: &mut u64) -> u32
     ensures call { PerformsCall 0 result h.old.segment.value h.new.segment.value (λ s t.
@@ -257,7 +266,7 @@ pub extern "C" fn zx_num_named(alloc: Global, h: &mut SegmentSlot, count: &mut u
     put(DONE, h, segment)
 }
 
-/// The number of kinds with a unique object.
+/// Returns the number of kinds with a unique object.
 #[unsafe(no_mangle)]
 pub extern "C" fn zx_num_unique(alloc: Global, h: &mut SegmentSlot, count: &mut u64) -> u32
     ensures call { PerformsCall 0 result h.old.segment.value h.new.segment.value (λ s t.

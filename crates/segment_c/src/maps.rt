@@ -23,7 +23,7 @@ use segment_manager::unchecked::{first_pair, next_pair};
 use segment_manager::{Segment, locate};
 use std::alloc::Global;
 
-/// The value at a key of the map of a key.
+/// Returns the value at a key of the map of a key.
 #[unsafe(no_mangle)]
 pub extern "C" fn zx_map_get(
     alloc: Global,
@@ -92,7 +92,7 @@ pub extern "C" fn zx_map_erase(
     truth(answer, was_there, h, segment)
 }
 
-/// The pair with the least key of the map of a key.
+/// Returns the pair with the least key of the map of a key.
 #[unsafe(no_mangle)]
 pub extern "C" fn zx_map_first(
     alloc: Global,
@@ -111,7 +111,7 @@ pub extern "C" fn zx_map_first(
     put(first(&segment, &which, at, value), h, segment)
 }
 
-/// The same of a segment.
+/// Returns the pair with the least key of the map of a key in a segment.
 fn first(segment: &Segment, key: &Key, at: &mut CScalar, value: &mut CScalar) -> u32
     ensures read { (d : Directory) → DenotesCurrent segment.now.cut.bytes d
         → TellsPair at.new value.new result (first_at d (key_seen key.now)) }
@@ -126,7 +126,7 @@ fn first(segment: &Segment, key: &Key, at: &mut CScalar, value: &mut CScalar) ->
     }
 }
 
-/// The pair with the least key above `after` of the map of a key.
+/// Returns the pair with the least key above `after` of the map of a key.
 #[unsafe(no_mangle)]
 pub extern "C" fn zx_map_next(
     alloc: Global,
@@ -147,7 +147,7 @@ pub extern "C" fn zx_map_next(
     put(next(&segment, &which, below, at, value), h, segment)
 }
 
-/// The same of a segment.
+/// Returns the pair with the least key above `after` of the map of a key in a segment.
 fn next(
     segment: &Segment,
     key: &Key,
@@ -171,7 +171,7 @@ fn next(
     }
 }
 
-/// A pair goes out, where there is one.
+/// Returns a pair goes out, if there is one.
 fn pair_out(pair: Option<(ScalarValue, ScalarValue)>, at: &mut CScalar, value: &mut CScalar) -> u32
     ensures read { TellsPairOf at.new value.new result pair }
     ensures unchanged_on_error { 1 ≤ result → (at.new ≡ at.old) × (value.new ≡ value.old) }

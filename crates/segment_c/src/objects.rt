@@ -32,7 +32,7 @@ use std::alloc::Global;
 /// The most scalars of an object.
 pub(crate) const MOST: u32 = MAX_ARRAY_LEN as u32;
 
-/// The value of so many scalars.
+/// Returns the value of so many scalars.
 fn scalars(value: &CScalar, count: u32) -> Result<ScalarValue, u32>
     ensures { MatchResult result (λ new. (scalar_in value.now ≡ Some (kind_of_scalar new, value_of_scalar new))
         × (1 ≤ count) × (count ≤ 1048576))
@@ -46,7 +46,7 @@ fn scalars(value: &CScalar, count: u32) -> Result<ScalarValue, u32>
     Ok(new)
 }
 
-/// The kinds of a map's keys and values.
+/// Returns the kinds of a map's keys and values.
 fn map_kinds(keys: u32, values: u32) -> Result<(ScalarKind, ScalarKind), u32>
     ensures { MatchResult result (λ kinds. (scalar_kind_of keys ≡ Some kinds.0)
         × (scalar_kind_of values ≡ Some kinds.1))
@@ -59,7 +59,7 @@ fn map_kinds(keys: u32, values: u32) -> Result<(ScalarKind, ScalarKind), u32>
     }
 }
 
-/// The kind of objects that a code says.
+/// Returns the kind of objects that a code says.
 #[tactic(auto, unfolding(crate::specs::Passed::kind_wrong, crate::specs::Passed::object_kind_in))]
 fn object_kind(code: u32) -> Result<Kind, u32>
     ensures { MatchResult result (λ kind. (kind_wrong code ≡ 0) × (kind ≡ object_kind_in code)) (λ wrong.
@@ -93,7 +93,7 @@ pub extern "C" fn zx_construct(
     made(answer, handle, h, segment)
 }
 
-/// The scalars of a key, or `count` times a value where no object has it.
+/// Returns the scalars of a key, or `count` times a value if no object has it.
 #[unsafe(no_mangle)]
 pub extern "C" fn zx_find_or_construct(
     alloc: Global,
@@ -145,7 +145,7 @@ pub extern "C" fn zx_construct_string(
     made(segment.construct_string(&which, text), handle, h, segment)
 }
 
-/// The string of a key, or a new one of these bytes where no object has it.
+/// Returns the string of a key, or a new one of these bytes if no object has it.
 #[unsafe(no_mangle)]
 pub extern "C" fn zx_find_or_construct_string(
     alloc: Global,
@@ -189,7 +189,7 @@ pub extern "C" fn zx_construct_strings(
     made(segment.construct_texts(&which, texts), handle, h, segment)
 }
 
-/// The vector of strings of a key, or a new one of these where no object has it.
+/// Returns the vector of strings of a key, or a new one of these if no object has it.
 #[unsafe(no_mangle)]
 pub extern "C" fn zx_find_or_construct_strings(
     alloc: Global,
@@ -239,7 +239,7 @@ pub extern "C" fn zx_construct_map(
     made(answer, handle, h, segment)
 }
 
-/// The map of a key, or a new one where no object has it.
+/// Returns the map of a key, or a new one if no object has it.
 #[unsafe(no_mangle)]
 pub extern "C" fn zx_find_or_construct_map(
     alloc: Global,
@@ -275,7 +275,7 @@ pub extern "C" fn zx_find_or_construct_map(
     found(answer, handle, count_found, h, segment)
 }
 
-/// The object of a kind under a key.
+/// Returns the object of a kind under a key.
 #[unsafe(no_mangle)]
 pub extern "C" fn zx_find(
     alloc: Global,
@@ -304,8 +304,8 @@ pub extern "C" fn zx_find(
     found_or_absent(answer, handle, count, h, segment)
 }
 
-/// Destroys the object of a name or a kind, and says whether there was one; or that of a handle, where there is one.
-/// Where there is none, nothing changes.
+/// Destroys the object of a name or a kind, and says whether there was one; or that of a handle, if there is one. If
+/// there is none, nothing changes.
 #[unsafe(no_mangle)]
 pub extern "C" fn zx_destroy(
     alloc: Global,
@@ -325,7 +325,7 @@ pub extern "C" fn zx_destroy(
     truth(destroy(&mut segment, &which), was_there, h, segment)
 }
 
-/// The same of a segment.
+/// Destroys the object of a key in a segment, and says whether there was one.
 fn destroy(segment: &mut Segment, which: &Key) -> Result<bool, Refusal>
     requires { key_seen which.now ≢ NoKey }
     ensures step { TakesStep segment.old segment.new (destroy_command (key_seen which.now)) (truth_answer result) }

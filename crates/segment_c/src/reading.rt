@@ -20,7 +20,8 @@ use seg_types::Key;
 use segment_manager::Segment;
 use std::alloc::Global;
 
-/// How many elements the vector or string of a key has, and how many places; or how many pairs its map has, and 0.
+/// Returns how many elements the vector or string of a key has, and how many places; or how many pairs its map has, and
+/// 0.
 #[unsafe(no_mangle)]
 pub extern "C" fn zx_measure(
     alloc: Global,
@@ -39,7 +40,7 @@ pub extern "C" fn zx_measure(
     put(measure(&segment, &which, len, places), h, segment)
 }
 
-/// The same of a segment.
+/// Counts the elements and the places of the vector or string of a key in a segment, or the pairs of its map.
 fn measure(segment: &Segment, key: &Key, len: &mut u64, places: &mut u64) -> u32
     ensures read { (d : Directory) → DenotesCurrent segment.now.cut.bytes d
         → IsCoded (AreSizes len.new places.new) result (sizes_at d (key_seen key.now)) }
@@ -55,7 +56,7 @@ fn measure(segment: &Segment, key: &Key, len: &mut u64, places: &mut u64) -> u32
     }
 }
 
-/// Copies the bytes of the string of a key to the front of a buffer, where it has room for them. How many they are goes
+/// Copies the bytes of the string of a key to the front of a buffer, if it has room for them. How many they are goes
 /// out in any case.
 #[unsafe(no_mangle)]
 pub extern "C" fn zx_read_string(
@@ -76,7 +77,7 @@ pub extern "C" fn zx_read_string(
     put(read_string(&segment, &which, text, len), h, segment)
 }
 
-/// The same of a segment.
+/// Copies the bytes of the string of a key in a segment to the front of a buffer.
 fn read_string(segment: &Segment, key: &Key, text: &mut [u8], len: &mut u64) -> u32
     ensures read { (d : Directory) → DenotesCurrent segment.now.cut.bytes d
         → Copies text.old text.new len.new result (bytes_at d (key_seen key.now)) }
@@ -89,7 +90,7 @@ fn read_string(segment: &Segment, key: &Key, text: &mut [u8], len: &mut u64) -> 
     }
 }
 
-/// Copies the text at `index` in the vector of strings of a key to the front of a buffer, where it has room for it. How
+/// Copies the text at `index` in the vector of strings of a key to the front of a buffer, if it has room for it. How
 /// many bytes it has goes out in any case.
 #[unsafe(no_mangle)]
 pub extern "C" fn zx_read_text(
@@ -112,7 +113,7 @@ pub extern "C" fn zx_read_text(
     put(read_text(&segment, &which, index, text, len), h, segment)
 }
 
-/// The same of a segment.
+/// Copies the text at `index` in the vector of strings of a key in a segment to the front of a buffer.
 fn read_text(segment: &Segment, key: &Key, index: u64, text: &mut [u8], len: &mut u64) -> u32
     ensures read { (d : Directory) → DenotesCurrent segment.now.cut.bytes d
         → CopiesAnswer text.old text.new len.new result
@@ -126,7 +127,7 @@ fn read_text(segment: &Segment, key: &Key, index: u64, text: &mut [u8], len: &mu
     }
 }
 
-/// Copies bytes to the front of a buffer, where it has room for them. How many they are goes out.
+/// Copies bytes to the front of a buffer, if it has room for them. How many they are goes out.
 fn copy_text(bytes: &[u8], text: &mut [u8], len: &mut u64) -> u32
     ensures copy { CopiesBytes bytes.now text.old text.new len.new result }
     ensures unchanged_on_error { 1 ≤ result → text.new ≡ text.old }

@@ -24,7 +24,7 @@ use std::alloc::Global;
 /// The most bytes of a region.
 const LARGEST_REGION: u64 = 1 << 40;
 
-/// Whether a region may have so many bytes: a multiple of 16, from 16 to 1099511627776.
+/// Tells whether a region may have so many bytes: a multiple of 16, from 16 to 1099511627776.
 pub fn is_capacity(bytes: u64) -> bool
     ensures error { capacity_wrong bytes ≡ (if result then 0 else 22) }
     ensures capacity { result ≡ true → IsCapacity bytes }
@@ -47,7 +47,7 @@ pub extern "C" fn zx_shrink(alloc: Global, h: &mut SegmentSlot) -> u32
     put_changed(shrink(&mut segment), h, segment)
 }
 
-/// The same of a segment.
+/// Makes a segment as short as its last block lets it be.
 fn shrink(segment: &mut Segment) -> u32
     ensures code { (d : Directory) → DenotesCurrent segment.old.cut.bytes d
         → result ≡ size_code (shrink_refusal segment.old.mode) }
@@ -60,7 +60,7 @@ fn shrink(segment: &mut Segment) -> u32
     }
 }
 
-/// The code by which a segment does not become longer or shorter.
+/// Returns the code by which a segment does not become longer or shorter.
 fn code_of_growth(why: GrowError) -> u32
     ensures code { result ≡ size_code (Held why) }
     ensures refused { 1 ≤ result }
@@ -102,7 +102,7 @@ pub extern "C" fn zx_relocate(alloc: Global, h: &mut SegmentSlot, capacity: u64)
     put_changed(code, h, segment)
 }
 
-/// The same of a segment.
+/// Moves a segment to the front of a region of `capacity` bytes.
 fn relocate(alloc: Global, segment: &mut Segment, capacity: u64) -> u32
     requires { IsCapacity capacity }
     ensures changes { result ≡ 0 → MovesSegment segment.old segment.new capacity }
@@ -123,8 +123,7 @@ fn relocate(alloc: Global, segment: &mut Segment, capacity: u64) -> u32
 }
 
 /// Makes the segment longer by `extra` bytes, which are free, in a larger region where its own has no room. One in
-/// memory
-/// that C lent stays there, with the code 27 where that has no room.
+/// memory that C lent stays there, with the code 27 if that has no room.
 #[unsafe(no_mangle)]
 pub extern "C" fn zx_grow(alloc: Global, h: &mut SegmentSlot, extra: u64) -> u32
     ensures closed { RefusesClosed 0 result h.old.segment.value h.new.segment.value }
@@ -149,7 +148,7 @@ pub extern "C" fn zx_grow(alloc: Global, h: &mut SegmentSlot, extra: u64) -> u32
     put_changed(code, h, segment)
 }
 
-/// The same of a segment.
+/// Makes a segment longer by `extra` bytes, in a larger region if its own has no room.
 fn grow(alloc: Global, segment: &mut Segment, extra: u64) -> u32
     ensures code { (d : Directory) → DenotesCurrent segment.old.cut.bytes d
         → IsGrowthCode segment.old.mode extra result d }
@@ -162,7 +161,7 @@ fn grow(alloc: Global, segment: &mut Segment, extra: u64) -> u32
     }
 }
 
-/// The code by which a segment does not become longer, though it may move.
+/// Returns the code by which a segment does not become longer, though it may move.
 fn code_of_growing(why: GrowOrMoveError) -> u32
     ensures code { result ≡ growing_code why }
 {
@@ -172,7 +171,7 @@ fn code_of_growing(why: GrowOrMoveError) -> u32
     }
 }
 
-/// The same of a segment whose region C lent: it stays there.
+/// Makes a segment longer whose region C lent: it stays there.
 fn grow_here(segment: &mut Segment, extra: u64) -> u32
     ensures code { (d : Directory) → DenotesCurrent segment.old.cut.bytes d
         → result ≡ size_code (growth_refusal segment.old.mode d.size extra (room_of segment.old.cut)) }

@@ -49,7 +49,7 @@ macro_rules! on_slice {
 pub(crate) use on_slice;
 
 impl CScalars<'_> {
-    /// Which slice is meant.
+    /// Returns which slice is meant.
     ///
     /// # Errors
     ///
@@ -64,7 +64,7 @@ impl CScalars<'_> {
         scalar_kind(self.kind).ok_or(BAD_KIND)
     }
 
-    /// How many values the slice of a kind has.
+    /// Returns how many values the slice of a kind has.
     pub fn count(&self, kind: ScalarKind) -> usize
         ensures { result ≡ many_of self.now kind }
     {

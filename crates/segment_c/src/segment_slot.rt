@@ -26,14 +26,14 @@ pub struct Marks {
     pub is_shared: bool,
 }
 
-/// A segment of which C holds the pointer, or nothing where that is null, and its marks.
+/// A segment of which C holds the pointer, or nothing if that is null, and its marks.
 #[repr(C)]
 pub struct SegmentSlot {
     pub segment: HeldSegment,
     pub marks: Marks,
 }
 
-/// A segment of which C holds the pointer, or nothing where that is null. Contracts see which segment.
+/// A segment of which C holds the pointer, or nothing if that is null. Contracts see which segment.
 #[repr(C)]
 pub struct HeldSegment {
     at: *mut u8,
@@ -46,7 +46,7 @@ impl Model for HeldSegment {
 }
 
 impl HeldSegment {
-    /// One without a segment.
+    /// Returns one without a segment.
     pub fn closed(alloc: Global) -> HeldSegment
         ensures { result.value ≡ None }
     {
@@ -56,7 +56,7 @@ impl HeldSegment {
         }
     }
 
-    /// The one of a segment.
+    /// Returns the one of a segment.
     fn of(segment: RawBox<Segment, Global>) -> HeldSegment
         ensures { result.value ≡ Some segment.value }
     {
@@ -67,7 +67,7 @@ impl HeldSegment {
         }
     }
 
-    /// Its segment, if it has one.
+    /// Returns its segment, if it has one.
     fn into_loose(self) -> Option<RawBox<Segment, Global>>
         ensures { MatchOption result (self.value ≡ None) (λ l. self.value ≡ Some l.value) }
     {
@@ -122,7 +122,7 @@ pub fn take(alloc: Global, handle: &mut SegmentSlot) -> Result<Box<Segment>, u32
     }
 }
 
-/// Puts a segment into a handle at the end of a call, and answers the call's code. What the handle had is freed.
+/// Puts a segment into a handle at the end of a call, and returns the call's code. What the handle had is freed.
 pub fn put(code: u32, handle: &mut SegmentSlot, segment: Box<Segment>) -> u32
     ensures effect { handle.new.segment.value ≡ Some segment.value }
     ensures code { result ≡ code }
@@ -132,7 +132,7 @@ pub fn put(code: u32, handle: &mut SegmentSlot, segment: Box<Segment>) -> u32
     code
 }
 
-/// The same at the end of a call that may have changed it.
+/// Puts a segment into a handle at the end of a call that may have changed it, and returns the call's code.
 pub fn put_changed(code: u32, handle: &mut SegmentSlot, segment: Box<Segment>) -> u32
     ensures effect { handle.new.segment.value ≡ Some segment.value }
     ensures code { result ≡ code }

@@ -18,7 +18,7 @@ use crate::keys::ObjectKey;
 use crate::segment_slot::{SegmentSlot, put, take};
 use std::alloc::Global;
 
-/// Gives the vector or string of a key so many places, where it has fewer.
+/// Gives the vector or string of a key so many places, if it has fewer.
 #[unsafe(no_mangle)]
 pub extern "C" fn zx_reserve(
     alloc: Global,
@@ -113,7 +113,7 @@ pub extern "C" fn zx_zero_free(alloc: Global, h: &mut SegmentSlot) -> u32
     done(segment.zero_free(), h, segment)
 }
 
-/// Whether the segment is whole, as each segment is.
+/// Tells whether the segment is whole, as each segment is.
 #[unsafe(no_mangle)]
 pub extern "C" fn zx_sanity(alloc: Global, h: &mut SegmentSlot, is_whole: &mut bool) -> u32
     ensures call { PerformsCall 0 result h.old.segment.value h.new.segment.value
@@ -127,7 +127,7 @@ pub extern "C" fn zx_sanity(alloc: Global, h: &mut SegmentSlot, is_whole: &mut b
     put(DONE, h, segment)
 }
 
-/// Whether no block is in use, index blocks included.
+/// Tells whether no block is in use, index blocks included.
 #[unsafe(no_mangle)]
 pub extern "C" fn zx_all_deallocated(alloc: Global, h: &mut SegmentSlot, is_empty: &mut bool) -> u32
     ensures call { PerformsCall 0 result h.old.segment.value h.new.segment.value

@@ -31,7 +31,7 @@ pub extern "C" fn zx_assign_string(
     make_change(alloc, h, key, ObjectChange::AssignText(text))
 }
 
-/// Puts bytes behind those of the string of a key.
+/// Puts bytes after those of the string of a key.
 #[unsafe(no_mangle)]
 pub extern "C" fn zx_append(
     alloc: Global,
@@ -66,7 +66,7 @@ pub extern "C" fn zx_set_text(
     make_change(alloc, h, key, ObjectChange::SetText(index, text))
 }
 
-/// Puts a text behind the last one of the vector of strings of a key.
+/// Puts a text after the last one of the vector of strings of a key.
 #[unsafe(no_mangle)]
 pub extern "C" fn zx_push_text(
     alloc: Global,

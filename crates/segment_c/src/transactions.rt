@@ -40,7 +40,7 @@ pub extern "C" fn zx_begin(alloc: Global, h: &mut SegmentSlot, before: &mut Segm
     put(code, h, segment)
 }
 
-/// The same segment in a region of its own, in a box.
+/// Copies a segment to a region of its own, in a box.
 ///
 /// # Errors
 ///
@@ -91,7 +91,7 @@ pub extern "C" fn zx_rollback(alloc: Global, h: &mut SegmentSlot, before: &mut S
     put_changed(DONE, h, copy)
 }
 
-/// The code by which a copy is not put in the place of a segment.
+/// Returns the code by which a copy is not put in the place of a segment.
 fn code_to_put_back(segment: &Segment, copy: &Segment) -> u32
     ensures code { result ≡ rollback_code segment.now copy.now }
     ensures room { result ≡ 0 → length copy.now.cut.bytes ≤ room_of segment.now.cut }
@@ -105,14 +105,14 @@ fn code_to_put_back(segment: &Segment, copy: &Segment) -> u32
     SHORT_REGION
 }
 
-/// Whether a segment is open for reading.
+/// Tells whether a segment is open for reading.
 fn is_read_only(segment: &Segment) -> bool
     ensures { result ≡ is_read_only segment.now.mode }
 {
     segment.mode() == Mode::ReadOnly
 }
 
-/// Whether a segment's region has room for so many bytes.
+/// Tells whether a segment's region has room for so many bytes.
 fn has_room(segment: &Segment, len: u64) -> bool
     ensures { result ≡ nat_le len (room_of segment.now.cut) }
 {
@@ -120,7 +120,7 @@ fn has_room(segment: &Segment, len: u64) -> bool
     len <= size || len - size <= segment.region_left()
 }
 
-/// The segment whose image the bytes are, at the front of the region of another, and open as that is.
+/// Returns the segment whose image the bytes are, at the front of the region of another, and open as that is.
 fn put_back(segment: Segment, image: &[u8]) -> Segment
     requires denotation { IsSegment image.now }
     requires room { length image.now ≤ room_of segment.cut }

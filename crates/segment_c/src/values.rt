@@ -11,12 +11,15 @@ use seg_types::{ScalarKind, ScalarValue};
 #[repr(C)]
 #[derive(Clone, Copy)]
 pub struct CScalar {
+    /// The code of the kind.
     pub kind: u32,
+    /// The value of a signed kind.
     pub number: i64,
+    /// The value of an unsigned kind or of a truth.
     pub natural: u64,
 }
 
-/// The kind of scalars that a code says.
+/// Returns the kind of scalars that a code says.
 #[tactic(auto, unfolding(crate::specs::Passed::scalar_kind_of))]
 pub fn scalar_kind(code: u32) -> Option<ScalarKind>
     ensures { result ≡ scalar_kind_of code }
@@ -32,7 +35,7 @@ pub fn scalar_kind(code: u32) -> Option<ScalarKind>
 }
 
 impl CScalar {
-    /// The scalar that is passed.
+    /// Returns the scalar that is passed.
     ///
     /// # Errors
     ///
@@ -45,7 +48,7 @@ impl CScalar {
         self.read().ok_or(BAD_VALUE)
     }
 
-    /// The same, if there is one.
+    /// Returns the scalar that is passed, if there is one.
     #[tactic(auto, unfolding(crate::specs::Passed::scalar_in, crate::specs::Passed::scalar_kind_of))]
     fn read(&self) -> Option<ScalarValue>
         ensures { option_map (λ value. (kind_of_scalar value, value_of_scalar value)) result ≡ scalar_in self.now }
@@ -69,7 +72,7 @@ impl CScalar {
         }
     }
 
-    /// The scalar as it is given.
+    /// Returns the scalar as it is given.
     #[tactic(auto, unfolding(crate::specs::Passed::scalar_in, crate::specs::Passed::scalar_kind_of))]
     pub fn of(value: ScalarValue) -> CScalar
         ensures { scalar_in result ≡ Some (kind_of_scalar value, value_of_scalar value) }
@@ -83,7 +86,7 @@ impl CScalar {
         }
     }
 
-    /// One of a kind without a sign.
+    /// Returns one of a kind without a sign.
     fn natural(kind: u32, natural: u64) -> CScalar
         ensures kind { result.kind ≡ kind }
         ensures natural { result.natural ≡ natural }
@@ -95,7 +98,7 @@ impl CScalar {
         }
     }
 
-    /// One of a signed kind.
+    /// Returns one of a signed kind.
     fn number(kind: u32, number: i64) -> CScalar
         ensures kind { result.kind ≡ kind }
         ensures number { result.number ≡ number }

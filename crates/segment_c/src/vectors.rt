@@ -41,7 +41,7 @@ fn construct_row(
     on_slice!(row, kind, slice => segment.construct_vec(key, slice))
 }
 
-/// The vector of a key, or a new one of the values of a row, of which the slice of a kind is meant.
+/// Returns the vector of a key, or a new one of the values of a row, of which the slice of a kind is meant.
 fn find_or_construct_row(
     segment: &mut Segment,
     key: &IndexKey,
@@ -72,7 +72,7 @@ fn assign_row(
     on_slice!(row, kind, slice => segment.vec_assign(key, slice))
 }
 
-/// Puts the values of a row, of which the slice of a kind is meant, behind the last element of a vector.
+/// Puts the values of a row, of which the slice of a kind is meant, after the last element of a vector.
 fn extend_row(
     segment: &mut Segment,
     key: &Key,
@@ -109,7 +109,7 @@ pub extern "C" fn zx_construct_vector(
     made(answer, handle, h, segment)
 }
 
-/// The vector of a key, which stays as it is, or a new one of the values where no object has it.
+/// Returns the vector of a key, which stays as it is, or a new one of the values if no object has it.
 #[unsafe(no_mangle)]
 pub extern "C" fn zx_find_or_construct_vector(
     alloc: Global,
@@ -159,7 +159,7 @@ pub extern "C" fn zx_assign(
     done(assign_row(&mut segment, &which, kind, values), h, segment)
 }
 
-/// Puts the values behind the last element of the vector of a key, a vector of their kind: all of them or none.
+/// Puts the values after the last element of the vector of a key, a vector of their kind: all of them or none.
 #[unsafe(no_mangle)]
 pub extern "C" fn zx_extend(
     alloc: Global,
@@ -196,7 +196,7 @@ fn construct_array_row(
     on_slice!(row, kind, slice => segment_values::construct_array(segment, key, slice))
 }
 
-/// The kind of a row of which an array is made.
+/// Returns the kind of a row of which an array is made.
 fn array_kind(values: &CScalars<'_>) -> Result<ScalarKind, u32>
     ensures { MatchResult result (λ kind. (row_wrong values.now ≡ 0) × (kind ≡ scalar_kind_in values.now.kind)
         × (count_wrong (row_count values.now) ≡ 0) × (1 ≤ many_of values.now kind)

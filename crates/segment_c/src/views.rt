@@ -19,15 +19,20 @@ use seg_types::Key;
 use segment_manager::{Mode, Segment};
 use std::alloc::Global;
 
-/// Elements that stand one after another: where the first of them stands, and where it begins from the front of the
-/// segment on, how many they are, the handle's counter of changes, and the code of their kind.
+/// Elements that stand one after another. The fields say where the first stands, its offset in the segment, how many
+/// there are, the handle's counter of changes, and the code of their kind.
 #[repr(C)]
 #[derive(Clone, Copy)]
 pub struct CView {
+    /// Where the first element stands.
     pub at: *const u8,
+    /// Its offset from the front of the segment.
     pub offset: u64,
+    /// The number of elements.
     pub count: u64,
+    /// The handle's counter of changes.
     pub changes: u64,
+    /// The code of the elements' kind.
     pub kind: u32,
 }
 
@@ -56,7 +61,7 @@ pub extern "C" fn zx_view(
     )
 }
 
-/// The same of elements that C is to write there, which the handle notes.
+/// Says where the elements of the object of a key stand, for C to write there; the handle notes it.
 #[unsafe(no_mangle)]
 pub extern "C" fn zx_view_mut(
     alloc: Global,
@@ -80,7 +85,7 @@ pub extern "C" fn zx_view_mut(
     put(code, h, segment)
 }
 
-/// The same of a segment.
+/// Fills a view of elements of a segment that C is to write.
 fn fill_view_mut(segment: &Segment, key: &Key, changes: u64, view: &mut CView) -> u32
     ensures read { (d : Directory) → DenotesCurrent segment.now.cut.bytes d
         → IsCoded (IsView view.new) result (writable segment.now.mode (run_at d (key_seen key.now))) }
@@ -94,7 +99,7 @@ fn fill_view_mut(segment: &Segment, key: &Key, changes: u64, view: &mut CView) -
     fill_view(segment, key, changes, view)
 }
 
-/// Where the elements of an object of a segment stand.
+/// Returns where the elements of an object of a segment stand.
 fn fill_view(segment: &Segment, key: &Key, changes: u64, view: &mut CView) -> u32
     ensures read { (d : Directory) → DenotesCurrent segment.now.cut.bytes d
         → IsCoded (IsView view.new) result (run_at d (key_seen key.now)) }
@@ -117,7 +122,7 @@ fn fill_view(segment: &Segment, key: &Key, changes: u64, view: &mut CView) -> u3
     }
 }
 
-/// Where the first of the bytes stands.
+/// Returns where the first of the bytes stands.
 fn start_of(bytes: &[u8]) -> *const u8
     ensures { result ≡ block_ptr bytes.entry.ref_ptr.0 bytes.entry.ref_ptr.1 }
 {

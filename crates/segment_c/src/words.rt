@@ -7,7 +7,7 @@ use seg_types::Refusal;
 /// The version of the library: 10000 for each major one, 100 for each minor one, and 1 for each patch.
 const VERSION: u32 = 900;
 
-/// The version of the library, as a number.
+/// Returns the version of the library, as a number.
 #[unsafe(no_mangle)]
 pub extern "C" fn zx_version() -> u32
     ensures { result ≡ version }
@@ -15,7 +15,7 @@ pub extern "C" fn zx_version() -> u32
     VERSION
 }
 
-/// The words for a code, which stay as long as the program runs; none where it is no code.
+/// Returns the words for a code, which stay as long as the program runs; none if it is no code.
 #[unsafe(no_mangle)]
 pub extern "C" fn zx_words(code: u32, words: &mut &'static [u8])
     ensures { words.new.now ≡ code_words code }
@@ -23,7 +23,7 @@ pub extern "C" fn zx_words(code: u32, words: &mut &'static [u8])
     *words = code_words(code);
 }
 
-/// The words for a code.
+/// Returns the words for a code.
 fn code_words(code: u32) -> &'static [u8]
     ensures { result.now ≡ code_words code }
 {

@@ -69,8 +69,7 @@ SavesImage Write saved d = IsSaved saved d
 SavesImage ReadOnlyMode saved d = saved ≡ []
 SavesImage CopyOnWrite saved d = saved ≡ []
 
--- Behind a script that began at the directory the gaps of an image are zero, if the script leaves them so: where it
--- made them zero, or they were zero before it, and nothing may have undone it since.
+-- after a script from this directory the gaps of an image are zero, if the script leaves them so
 abbrev pub KeepsZeros : Start → Mode → ReadDelta → Directory → List ℕ → List ℕ → Type 0
 KeepsZeros start mode began from script image =
     (known : Bool) → (known ≡ true → BeginsWithZeros start began)

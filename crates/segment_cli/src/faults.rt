@@ -21,7 +21,7 @@ pub enum Start {
     Image,
 }
 
-/// Why a session fails. Nothing is saved then, but for a front of the image where writing it failed.
+/// Why a session fails. Nothing is saved then, but for a front of the image if writing it failed.
 #[derive(Clone, Copy, Debug, PartialEq, Eq, Error)]
 pub enum SessionFault {
     /// The image denotes no directory.

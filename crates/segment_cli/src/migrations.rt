@@ -9,16 +9,16 @@ use raw_region::{RawRegion, Sink, Source, Steps};
 use segment_manager::Mode;
 use std::alloc::Global;
 
-/// Reads an image of any of the three formats into the region, from `base` on, which is a multiple of 16 bytes, and
-/// writes the image of the same directory by the current format to `image_out`. It has as many bytes; an image of the
-/// current format is given back byte for byte. The check of the image alone takes memory.
+/// Reads an image of any of the three formats into the region, from `base` on, which is a multiple of 16. It writes the
+/// image of the same directory by the current format to `image_out`. It has as many bytes; an image of the current
+/// format is given back byte for byte. The check of the image alone takes memory.
 ///
 /// # Errors
 ///
 /// A class of the image where it denotes no directory by the format that it says. `RegionTooSmall` wherever the region
-/// ends before base plus the size that is said. `ReadFault` and `WriteFault` where the reader or the writer failed.
-/// `OutOfMemory` where memory for the check was refused. Nothing is written then, but for a proper prefix of the new
-/// image where writing it failed.
+/// ends before base plus the size that is said. `ReadFault` and `WriteFault` if the reader or the writer failed.
+/// `OutOfMemory` if memory for the check was refused. Nothing is written then, but for a proper prefix of the new image
+/// if writing it failed.
 pub fn migrate<I: Source, W: Sink>(
     alloc: Global,
     image: &mut I,

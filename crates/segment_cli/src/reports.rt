@@ -8,7 +8,7 @@ use grow_shrink::GrowError;
 use image_check::ImageClass;
 use raw_region::{Sink, write_all};
 
-/// The line of an image that is refused.
+/// Returns the line of an image that is refused.
 fn class_line(class: ImageClass) -> &'static [u8]
     ensures { result.now ≡ line (session_words (Image class)) }
 {
@@ -28,7 +28,7 @@ fn class_line(class: ImageClass) -> &'static [u8]
     }
 }
 
-/// The line of a segment that does not grow.
+/// Returns the line of a segment that does not grow.
 fn growth_line(error: GrowError) -> &'static [u8]
     ensures { result.now ≡ line (codes "growth refused: " ++ growth_name error) }
 {
@@ -40,7 +40,7 @@ fn growth_line(error: GrowError) -> &'static [u8]
     }
 }
 
-/// The line of a session that fails.
+/// Returns the line of a session that fails.
 pub fn session_line(fault: SessionFault) -> &'static [u8]
     ensures { result.now ≡ line (session_words fault) }
 {
@@ -54,7 +54,7 @@ pub fn session_line(fault: SessionFault) -> &'static [u8]
     }
 }
 
-/// The line of a fault; a wrong command line has none.
+/// Returns the line of a fault; a wrong command line has none.
 fn fault_line(fault: ProgramFault) -> &'static [u8]
     ensures { result.now ≡ fault_text fault }
 {
@@ -66,7 +66,7 @@ fn fault_line(fault: ProgramFault) -> &'static [u8]
     }
 }
 
-/// The status of a session that fails.
+/// Returns the status of a session that fails.
 pub fn session_status(fault: SessionFault) -> u8
     ensures { result ≡ session_status fault }
 {
@@ -77,8 +77,8 @@ pub fn session_status(fault: SessionFault) -> u8
     }
 }
 
-/// The status that the program ends with: 1 where an image, a size or a growth is refused, 2 for a wrong command line,
-/// 3 for a file that exists and for faults, 4 for want of memory.
+/// Returns the status that the program ends with. It is 1 if an image, a size or a growth is refused, and 2 for a wrong
+/// command line. It is 3 for a file that exists and for faults, and 4 for want of memory.
 fn status_of(fault: ProgramFault) -> u8
     ensures { result ≡ status_of fault }
 {
@@ -90,8 +90,8 @@ fn status_of(fault: ProgramFault) -> u8
     }
 }
 
-/// Writes the line of a fault, none for a wrong command line, and answers the status that the program ends with, which
-/// is the same where the writer fails.
+/// Writes the line of a fault, none for a wrong command line, and returns the status that the program ends with, which
+/// is the same if the writer fails.
 pub fn report<S: Sink>(fault: ProgramFault, err: &mut S) -> u8
     requires { (S.history err.old).failures < 2 ^ 64 - 1 }
     ensures status { result ≡ status_of fault }

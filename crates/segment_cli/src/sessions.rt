@@ -14,8 +14,8 @@ use segment_manager::{Mode, Segment};
 use segment_scripts::{End, NoObserver, RunObserver, Until, run_until};
 use std::alloc::Global;
 
-/// The segment that a session runs its script on: an empty one of the fresh size, or the one of the image, whose reader
-/// is asked only then. It lies in the region from `base` on, which is a multiple of 16.
+/// Returns the segment that a session runs its script on: an empty one of the fresh size, or the one of the image,
+/// whose reader is asked only then. It lies in the region from `base` on, which is a multiple of 16.
 ///
 /// # Errors
 ///
@@ -47,8 +47,8 @@ pub fn begin<I: Source>(
 ///
 /// # Errors
 ///
-/// `ReadFault` where the script's reader failed, `WriteFault` where the writer failed in an answer, `ScriptTooLong`
-/// where the script has more than 16777216 bytes. The segment is left as the lines that were executed leave it.
+/// `ReadFault` if the script's reader failed, `WriteFault` if the writer failed in an answer, `ScriptTooLong` if the
+/// script has more than 16777216 bytes. The segment is left as the lines that were executed leave it.
 pub fn serve<S: Source, O: Sink, F: RunObserver<O>>(
     segment: &mut Segment,
     script: &mut S,
@@ -75,8 +75,8 @@ pub fn serve<S: Source, O: Sink, F: RunObserver<O>>(
     }
 }
 
-/// Writes the image of a segment that is open in mode `Write`, and else nothing. The image is one
-/// that a check accepts. A fault leaves a proper prefix of it written.
+/// Writes the image of a segment that is open in mode `Write`, and otherwise nothing. The image is one that a check
+/// accepts. A fault leaves a proper prefix of it written.
 fn save_segment<W: Sink>(segment: &Segment, image_out: &mut W) -> Result<(), DeviceFault>
     requires { (W.history image_out.old).failures < 2 ^ 64 - 1 }
     ensures on_ok { OnOk result ((d : Directory) → DenotesCurrent segment.now.cut.bytes d
@@ -97,16 +97,16 @@ fn save_segment<W: Sink>(segment: &Segment, image_out: &mut W) -> Result<(), Dev
     Ok(())
 }
 
-/// Makes an empty segment in the region, from `base` on, which is a multiple of 16 bytes, or opens the one of the image
-/// there; executes the script, and writes the answers to `out`; and then, if the mode is `Write`, writes the segment's
-/// image to `image_out`. The check of an image alone takes memory.
+/// Makes an empty segment in the region, from `base` on, which is a multiple of 16, or opens the one of the image
+/// there. It executes the script, and writes the answers to `out`. Then it writes the segment's image to `image_out` if
+/// the mode is `Write`. The check of an image alone takes memory.
 ///
 /// # Errors
 ///
 /// `BadSize` and `RegionTooSmall` wherever they apply. A class of the image where it denotes no directory. `ReadFault`
-/// and `WriteFault` where a reader or a writer failed, and `ScriptTooLong` where the script has more than 16777216
-/// bytes. `OutOfMemory` where memory for the check of the image was refused, which has a tile in use; never for a fresh
-/// segment. Nothing is saved after a fault, but for a proper prefix of the image where writing it failed.
+/// and `WriteFault` if a reader or a writer failed, and `ScriptTooLong` if the script has more than 16777216 bytes.
+/// `OutOfMemory` if memory for the check of the image was refused, which has a tile in use; never for a fresh segment.
+/// Nothing is saved after a fault, but for a proper prefix of the image if writing it failed.
 pub fn session<I: Source, S: Source, O: Sink, W: Sink>(
     alloc: Global,
     start: Start,

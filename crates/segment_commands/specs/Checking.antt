@@ -23,13 +23,13 @@ pub record Checked : Type 0 where
   pub found : Result (Unit {0}) SessionFault
   pub trouble : Option FileProblem
 
--- its line on standard output, unless the check is quiet
+-- the line of a good file on standard output, unless the check is quiet
 abbrev pub fit_line : Bool → List ℕ → Result (Unit {0}) SessionFault → List ℕ
 fit_line true path found = []
 fit_line false path (Ok u) = quoted_text path ++ (codes ": ok\n" ++ [])
 fit_line false path (Err fault) = []
 
--- its lines on standard error
+-- the lines of a refused file on standard error
 abbrev pub reason_lines : List ℕ → SessionFault → Option FileProblem → List ℕ
 reason_lines path fault trouble =
     (quoted_text path ++ (codes ": " ++ (line (session_words fault) ++ []))) ++ trouble_line path trouble
@@ -38,7 +38,7 @@ abbrev pub unfit_lines : List ℕ → Result (Unit {0}) SessionFault → Option 
 unfit_lines path (Ok u) trouble = []
 unfit_lines path (Err fault) trouble = reason_lines path fault trouble
 
--- its status
+-- the status of a file
 abbrev pub status_in : Result (Unit {0}) SessionFault → ℕ
 status_in (Ok u) = 0
 status_in (Err fault) = session_status fault

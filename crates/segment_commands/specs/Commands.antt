@@ -84,7 +84,7 @@ module _ {D : Type 0} (step : D → Event → D → Type 0) (old new : D) (path 
     pub silent : out' ≡ out
     pub refused : result ≡ Err (Session fault)
 
-  -- the same where its image alone was checked
+  -- the image of the file is refused by a check, and nothing is said
   pub record RefusesUnverified {O : Type 0} (out out' : O) (result : Result (Unit {0}) CommandFault) : Type 0 where
     pub fault : SessionFault
     pub verifies : VerifiesFile step old new path (Err fault)

@@ -6,7 +6,7 @@ use Rattle.segment_disk.specs.Events.{Event, Held, After}
 use Rattle.segment_file.specs.Holding.{RunsLocked}
 
 module _ {D : Type 0} (step : D → Event → D → Type 0) (old new : D) (path : List ℕ) where
-  -- another has it: nothing else was asked of the disk, and nothing else was done
+  -- another has the lock: nothing else was asked of the disk, and nothing else was done
   pub record RefusesInUse (is_idle : Type 0) (result : Result (Unit {0}) CommandFault) : Type 0 where
     pub asked : After step old (Held path false ∷ []) new
     pub idle : is_idle

@@ -95,7 +95,7 @@ abbrev pub LoadsSegment : List ℕ → Option ℕ → Result SegmentState Comman
 LoadsSegment text size result =
     MatchResult result (IsLoaded (without_notes text) size) (λ fault. IsLoadRefused text size fault ⊎ IsNoMemory fault)
 
--- as many bytes as are asked for, or else as the text says
+-- the size is the one that is asked for, or otherwise the one that the text says
 abbrev pub IsWantedSize : List ℕ → Option ℕ → ℕ → Type 0
 IsWantedSize text size wanted = (n : ℕ) (items : Items) → n < 2 ^ 64 → without_notes text ≡ dump_text n items
     → wanted ≡ asked_of size n
@@ -136,7 +136,7 @@ module _ (size : Option ℕ) (script script' : ReaderHistory) (result : Result S
     pub why : IsWhyUnread (read_delta script script') fault
     pub refused : result ≡ Err (Session fault)
 
-  -- it was read whole, and a segment was made of it or not
+  -- the dump was read whole, and a segment was made of it or not
   pub record LoadsDumpRead : Type 0 where
     pub fit : IsSizeFit size
     pub text : List ℕ

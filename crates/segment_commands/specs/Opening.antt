@@ -39,7 +39,7 @@ module _ {D : Type 0} (step : D → Event → D → Type 0) (old new : D) (path 
   abbrev pub OpensFile : Mode → Result SegmentState SessionFault → Type 0
   OpensFile mode result = OpensWith Current mode 0 result
 
-  -- its image was checked: it has a segment, or this is why it has none
+  -- the file's image was checked: it has a segment, or this is why it has none
   pub record VerifiesFile (result : Result (Unit {0}) SessionFault) : Type 0 where
     pub examined : Result (Unit {0}) OpenFault
     pub examines : ExaminesFile step old new path examined

@@ -56,7 +56,7 @@ trouble_words Exists = codes ": another file is there\n"
 abbrev pub trouble_text : List ℕ → FileProblem → List ℕ
 trouble_text path trouble = codes "segment: " ++ (quoted_text path ++ (trouble_words trouble ++ []))
 
--- the same of a trouble that may be none
+-- the line of a trouble that may be none
 abbrev pub trouble_line : List ℕ → Option FileProblem → List ℕ
 trouble_line path None = []
 trouble_line path (Some trouble) = trouble_text path trouble

@@ -41,18 +41,18 @@ use Rattle.segment_commands.specs.Commands.{MakesSegment}
 -- what it was given and gave out, where Flushed says what the last flush answered
 module _ (until : Until) (old new : SegmentState) (script : ReadDelta) (out : WriteDelta) (Flushed : Bool
     → Type 0) where
-  -- it was answered up to this end, and ok says whether all answers went out
+  -- the script was answered up to this end, and ok says whether all answers went out
   pub record AnswersScript (end : End) (ok : Bool) : Type 0 where
     pub served : ServesOk until old new script out end
     pub flushed : Flushed ok
 
-  -- it failed; what was answered was given out, if the output let it
+  -- the run failed; what was answered was given out, if the output let it
   pub record StopsWithFault (fault : SessionFault) : Type 0 where
     pub unserved : ServesErr until old new script out fault
     pub ok : Bool
     pub flushed : Flushed ok
 
-  -- it was answered, and answers did not go out
+  -- the script was answered, and answers did not go out
   pub record LosesAnswers (fault : SessionFault) : Type 0 where
     pub why : fault ≡ WriteFault
     pub end : End
@@ -320,7 +320,7 @@ RunsNewFile step old new path size until script script' history flushes out out'
     ⊎ IsRunBehind step old path (λ found. found ≢ There) (λ looked.
     IsAnswerOf (MakesRun step looked new path size until script script' history flushes out out') result)
 
--- the same, or on the segment in the file where something is there
+-- a run on the segment in the file, or on a new one if nothing is there
 abbrev pub RunsAnyFile : {D O : Type 0} → (D → Event → D → Type 0) → D → D → List ℕ → ℕ → CreateMode → Until
     → ReaderHistory → ReaderHistory → (O → WriterHistory) → (Bool → Type 0) → O → O → Result (Unit {0}) CommandFault
     → Type 0

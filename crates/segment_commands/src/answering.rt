@@ -1,4 +1,4 @@
-//! The running of a script on a segment, whose image is saved behind it.
+//! The running of a script on a segment, whose image is saved after it.
 ghost use Rattle.std.specs.Prelude.{◌^◌, ◌-◌, ◌<◌, ℕ, Ok};
 ghost use Rattle.raw_region.specs.Device.{ReadDelta, read_delta, write_delta};
 ghost use Rattle.segment_manager.specs.declared.modes.Mode.{Mode as OpenMode};
@@ -53,8 +53,8 @@ pub(crate) fn run_script<S: Source, O: LineOutput>(
     }
 }
 
-/// Runs a script on a segment that is open, gives out all answers, and then, in mode `Write` and where the run did not
-/// end at a refusal, writes the image to a file.
+/// Runs a script on a segment that is open, and gives out all answers. Then it writes the image to a file, in mode
+/// `Write`, unless the run ended at a refusal.
 pub(crate) fn answer_and_save<D: Disk, S: Source, O: LineOutput>(
     disk: &mut D,
     path: &str,

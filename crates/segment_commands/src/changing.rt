@@ -75,7 +75,7 @@ fn resize_segment(segment: &mut Segment, how: Resize) -> Result<(), GrowError>
     }
 }
 
-/// For how many bytes more the region of a segment is made that becomes larger.
+/// Returns for how many bytes more the region of a segment is made that becomes larger.
 fn more_for(how: Resize) -> u64
     ensures { result ≡ more_by how }
 {
@@ -143,15 +143,15 @@ fn change_held<D: Disk, O: Output>(
     }
 }
 
-/// Makes the segment in a file larger by some bytes, or as small as its last block lets it be, and says its size; or
-/// writes it by the current format, whichever of the three it has, and says `ok`. The file is emptied or replaced for
-/// its image, as `saving` says: behind the size when that went out, and before the `ok`.
+/// Makes the segment in a file larger by some bytes, or as small as its last block lets it be, and says its size. Or it
+/// writes the segment, of any of the three formats, by the current one, and says `ok`. The file is emptied or replaced
+/// for its image, as `saving` says: after the size when that went out, and before the `ok`.
 ///
 /// # Errors
 ///
-/// `InUse` if another has the right to write the file. Those of opening it, `GrowthFault` if the segment does not
-/// grow: the file is as it was. `WriteFault` if the size does not go out, if the file can't be emptied or replaced,
-/// takes not the whole image or need not last, and if the `ok` does not go out.
+/// `InUse` if another has the right to write the file. Those of opening it, `GrowthFault` if the segment does not grow:
+/// the file is as it was. `WriteFault` if the size or the `ok` does not go out, and if the file can't be emptied or
+/// replaced, takes not the whole image, or need not last.
 pub fn change<D: Disk, O: Output>(
     alloc: Global,
     disk: &mut D,

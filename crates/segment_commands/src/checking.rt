@@ -18,7 +18,7 @@ use std::alloc::Global;
 ///
 /// # Errors
 ///
-/// Why the image is refused, `ReadFault` where the file can't be read, `OutOfMemory`, and `WriteFault` where the output
+/// Why the image is refused, `ReadFault` if the file can't be read, `OutOfMemory`, and `WriteFault` if the output
 /// fails.
 pub fn check<D: Disk, O: Output>(
     alloc: Global,
@@ -33,8 +33,7 @@ pub fn check<D: Disk, O: Output>(
     Ok(write_and_flush(out, b"ok\n")?)
 }
 
-/// Says on standard output, behind its path, that a file holds a segment, unless it holds none or nothing is to be
-/// said.
+/// Says on standard output, after its path, that a file holds a segment, unless it holds none or nothing is to be said.
 fn tell_fit<O: Output>(
     path: &str,
     found: Result<(), SessionFault>,
@@ -54,7 +53,7 @@ fn tell_fit<O: Output>(
     Output::flush(out)
 }
 
-/// Says on standard error, behind its path, why a file holds no segment, and in a line of its own what the disk said of
+/// Says on standard error, after its path, why a file holds no segment, and in a line of its own what the disk said of
 /// it, if that is told.
 fn put_reason<S: Sink>(
     path: &str,
@@ -76,7 +75,7 @@ fn put_reason<S: Sink>(
     put_trouble(path, trouble, err)
 }
 
-/// The same of a file that may hold one: then, and behind a write that failed, nothing is said.
+/// Says why a file that was read holds no segment, unless a write failed before.
 fn put_unfit<S: Sink>(
     path: &str,
     found: Result<(), SessionFault>,
@@ -96,7 +95,7 @@ fn put_unfit<S: Sink>(
     put_reason(path, fault, trouble, err)
 }
 
-/// The status of a file that is checked.
+/// Returns the status of a file that is checked.
 fn status_in(found: Result<(), SessionFault>) -> u8
     ensures { result ≡ status_in found }
 {
@@ -106,14 +105,14 @@ fn status_in(found: Result<(), SessionFault>) -> u8
     }
 }
 
-/// Checks files one after another, and answers the worst status. Each line that is said of one begins with its path, as
-/// a text of the language: of one that holds a segment on standard output, unless the check is quiet, and of one that
-/// holds none on standard error; behind that line stands what `problem_of` tells of the disk, if anything.
+/// Checks files one after another, and returns the worst status. Each line begins with the file's path, as a text of
+/// the language. Files that hold a segment get a line on standard output, unless the check is quiet, and others one on
+/// standard error, followed by what `problem_of` tells of the disk.
 ///
 /// # Errors
 ///
-/// `WriteFault` where the output fails: the files behind are not checked then. Where standard error fails, nothing more
-/// is said there, and the status is the same.
+/// `WriteFault` if the output fails: the files after are not checked then. Where standard error fails, nothing more is
+/// said there, and the status is the same.
 pub fn check_all<D: Disk, O: Output, E: Sink, F: Fn(&D) -> Option<FileProblem>>(
     alloc: Global,
     disk: &mut D,

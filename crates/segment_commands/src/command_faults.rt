@@ -16,7 +16,7 @@ use thiserror::Error;
 /// Why a command fails.
 #[derive(Clone, Copy, Debug, PartialEq, Eq, Error)]
 pub enum CommandFault {
-    /// It fails as a program over sessions does.
+    /// The command fails as a program over sessions does.
     #[error("{0}")]
     Program(ProgramFault),
     /// Another has the right to write the file.

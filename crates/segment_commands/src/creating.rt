@@ -12,7 +12,7 @@ use segment_manager::{Mode, Segment};
 use std::alloc::Global;
 use std::io;
 
-/// An empty segment of this size. One that no segment has is refused before memory is asked for.
+/// Returns an empty segment of this size. One that no segment has is refused before memory is asked for.
 pub(crate) fn new_segment(alloc: Global, size: u64) -> Result<Segment, SessionFault>
     ensures { MakesSegment size result }
 {
@@ -29,9 +29,8 @@ pub(crate) fn new_segment(alloc: Global, size: u64) -> Result<Segment, SessionFa
 ///
 /// # Errors
 ///
-/// `Exists` where something is there under the path, whatever the size. `BadSize` where no segment has it, and
-/// `OutOfMemory`; no file is made then. `WriteFault` where the file can't be made, takes not the whole image, or need
-/// not last.
+/// `Exists` if something is there under the path, whatever the size. `BadSize` if no segment has it, and `OutOfMemory`;
+/// no file is made then. `WriteFault` if the file can't be made, takes not the whole image, or need not last.
 pub fn create<D: Disk>(
     alloc: Global,
     disk: &mut D,

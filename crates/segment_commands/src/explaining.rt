@@ -14,7 +14,7 @@ use segment_file::{OpenFault, examine_file};
 use segment_lang::{Piece, put_pieces};
 use std::alloc::Global;
 
-/// Why an image of a class is refused.
+/// Returns why an image of a class is refused.
 fn words_of(class: ImageClass) -> &'static str
     ensures { result.now ≡ words_for class }
 {
@@ -63,12 +63,12 @@ fn tell_verdict<O: Output>(out: &mut O, verdict: Verdict) -> Result<(), DeviceFa
     Output::flush(out)
 }
 
-/// Tells whether a file holds a segment, by its image alone, and says `ok`, or, where the image is refused, why, and
-/// the place that shows it.
+/// Tells whether a file holds a segment, by its image alone, and says `ok`, or, if the image is refused, why, and the
+/// place that shows it.
 ///
 /// # Errors
 ///
-/// Those of [`check`](crate::check); `WriteFault` also where the line of the place does not go out.
+/// Those of [`check`](crate::check); `WriteFault` also if the line of the place does not go out.
 pub fn explain<D: Disk, O: Output>(
     alloc: Global,
     disk: &mut D,

@@ -10,12 +10,12 @@ use segment_cli::{ProgramFault, SessionFault};
 use segment_scripts::{CommandRow, Lint, RunFault, run_followed};
 
 /// Tells which lines of a script are no commands, where, and what is expected there; the rows say what is expected
-/// behind each command word. Nothing is executed.
+/// after each command word. Nothing is executed.
 ///
 /// # Errors
 ///
-/// `Misspelled` where a line is no command, `ReadFault` and `ScriptTooLong` of the script, and `WriteFault` where the
-/// output fails.
+/// `Misspelled` if a line is no command, `ReadFault` and `ScriptTooLong` of the script, and `WriteFault` if the output
+/// fails.
 pub fn lint<S: Source, O: LineOutput>(
     rows: &[CommandRow],
     script: &mut S,
@@ -32,7 +32,7 @@ pub fn lint<S: Source, O: LineOutput>(
     lint_answer(answered, went_out, machine.has_found())
 }
 
-/// The answer of a lint: a fault of its run, or that not all went out, or whether a line is no command.
+/// Returns what a lint answers: a fault of its run, a failed output, or whether a line is no command.
 fn lint_answer(
     answered: Result<(), RunFault>,
     went_out: bool,

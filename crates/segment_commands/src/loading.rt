@@ -19,7 +19,7 @@ use segment_file::write_image;
 use segment_manager::Segment;
 use std::alloc::Global;
 
-/// How many bytes the segment of a dump is to have: as many as are asked for, or else as the dump says.
+/// Returns how many bytes the segment of a dump is to have: as many as are asked for, or else as the dump says.
 fn wanted_size(text: &[u8], size: Option<u64>) -> u64
     ensures request { IsRequestedSize size result }
     ensures size_request { IsWantedSize text.now size result }
@@ -30,7 +30,7 @@ fn wanted_size(text: &[u8], size: Option<u64>) -> u64
     }
 }
 
-/// Why a load is refused, as the program answers it, of a dump whose objects need so many bytes.
+/// Returns why a load is refused, as the program answers it, of a dump whose objects need so many bytes.
 fn fault_of(error: LoadError, needed: u64) -> CommandFault
     ensures { result ≡ load_fault needed error }
 {
@@ -42,7 +42,7 @@ fn fault_of(error: LoadError, needed: u64) -> CommandFault
     }
 }
 
-/// How many bytes a segment has at the least that has the objects of a dump.
+/// Returns how many bytes a segment has at the least that has the objects of a dump.
 #[tactic(auto, using(crate::proofs::loading::Loads::needs_counted, crate::proofs::loading::Loads::needs_uncounted))]
 fn needed_by(text: &[u8]) -> u64
     ensures { NeedsRoom text.now result }
@@ -53,7 +53,7 @@ fn needed_by(text: &[u8]) -> u64
     }
 }
 
-/// A segment of a dump, of the size that is asked for, or else with nothing free.
+/// Returns a segment of a dump, of the size that is asked for, or else with nothing free.
 fn segment_of(alloc: Global, text: &[u8], size: Option<u64>) -> Result<Segment, CommandFault>
     ensures load { LoadsSegment text.now size result }
     ensures creation { IsFitting text.now size → IsMadeIfGiven result }
@@ -67,7 +67,7 @@ fn segment_of(alloc: Global, text: &[u8], size: Option<u64>) -> Result<Segment, 
     }
 }
 
-/// Whether a size is asked for that no segment has.
+/// Tells whether a size is asked for that no segment has.
 fn is_unfit(size: Option<u64>) -> bool
     ensures no_fit { result ≡ true → (asked : ℕ) × (size ≡ Some asked) × (is_legal_size asked ≡ false) }
     ensures fit { result ≡ false → IsSizeFit size }
@@ -78,7 +78,7 @@ fn is_unfit(size: Option<u64>) -> bool
     }
 }
 
-/// A segment of the dump that a reader gives. A size that no segment has is refused before the dump is read.
+/// Returns a segment of the dump that a reader gives. A size that no segment has is refused before the dump is read.
 fn load_dump<S: Source>(
     alloc: Global,
     size: Option<u64>,
@@ -95,15 +95,15 @@ fn load_dump<S: Source>(
 }
 
 /// Makes a segment of the dump that a reader gives, in a file that is not there: of `size` bytes, or without a size
-/// with nothing free. Notes behind the dump are left out, as those of its capacities. Whatever segment the dump is of,
+/// with nothing free. Notes after the dump are left out, as those of its capacities. Whatever segment the dump is of,
 /// it is loaded where a segment of the size can have its objects and memory is given.
 ///
 /// # Errors
 ///
-/// `Exists` where something is there under the path. `BadSize` where no segment has the size. `ReadFault` where the
-/// dump can't be read, and `ScriptTooLong` where it has more than 17179869184 bytes. `BadDump` where it is no dump,
-/// with the place, and `NoSpace` where its objects do not fit the size, with what they need. `OutOfMemory`. No file is
-/// made then. `WriteFault` where the file can't be made, takes not the whole image, or need not last.
+/// `Exists` if something is there under the path. `BadSize` if no segment has the size. `ReadFault` if the dump can't
+/// be read, and `ScriptTooLong` if it has more than 17179869184 bytes. `BadDump` if it is no dump, with the place, and
+/// `NoSpace` if its objects do not fit the size, with what they need. `OutOfMemory`. No file is made then. `WriteFault`
+/// if the file can't be made, takes not the whole image, or need not last.
 pub fn load<D: Disk, S: Source>(
     alloc: Global,
     disk: &mut D,
@@ -125,7 +125,7 @@ pub fn load<D: Disk, S: Source>(
     Ok(write_image(disk, path, CreateMode::New, &mut hold, &segment)?)
 }
 
-/// What [`load_over`] does with the right to write the file.
+/// Returns what [`load_over`] does with the right to write the file.
 fn load_held<D: Disk, S: Source>(
     alloc: Global,
     disk: &mut D,
@@ -141,12 +141,12 @@ fn load_held<D: Disk, S: Source>(
     Ok(write_image(disk, path, CreateMode::Replacement, hold, &segment)?)
 }
 
-/// Makes a segment of the dump that a reader gives, as [`load`] does, in a file that is not there, or in the place of
-/// one that is: the old file is whole until the new one is, and takes its place.
+/// Makes a segment of the dump that a reader gives, as [`load`] does, in a new file or in place of an old one. The old
+/// file is whole until the new one is, and takes its place.
 ///
 /// # Errors
 ///
-/// Those of [`load`], but for `Exists`, and `InUse` where another has the right to write the file; the dump is not read
+/// Those of [`load`], but for `Exists`, and `InUse` if another has the right to write the file; the dump is not read
 /// then.
 pub fn load_over<D: Disk, S: Source>(
     alloc: Global,

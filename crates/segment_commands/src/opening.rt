@@ -10,7 +10,7 @@ use segment_file::{FileError, examine_file, open_file};
 use segment_manager::{Mode, Segment};
 use std::alloc::Global;
 
-/// Why a file has no segment. What stops a reading is one of three things.
+/// Returns why a file has no segment. What stops a reading is one of three things.
 pub(crate) fn session_fault(error: FileError) -> SessionFault
     ensures { result ≡ session_fault error }
 {
@@ -21,7 +21,7 @@ pub(crate) fn session_fault(error: FileError) -> SessionFault
     }
 }
 
-/// The segment in a file, of any of these versions, with room for so many bytes more. The file is closed.
+/// Returns the segment in a file, of any of these versions, with room for so many bytes more. The file is closed.
 pub(crate) fn open_any_segment<D: Disk>(
     alloc: Global,
     disk: &mut D,
@@ -38,7 +38,7 @@ pub(crate) fn open_any_segment<D: Disk>(
     }
 }
 
-/// The same of the current format alone.
+/// Opens the segment in a file of the current format, and closes the file.
 pub(crate) fn open_segment<D: Disk>(
     alloc: Global,
     disk: &mut D,
@@ -51,7 +51,7 @@ pub(crate) fn open_segment<D: Disk>(
     open_any_segment(alloc, disk, path, AcceptedVersions::Current, mode, more)
 }
 
-/// Whether the image in a file has a segment, as a session answers it. None is made, and the file is closed.
+/// Tells whether the image in a file has a segment, as a session answers it. None is made, and the file is closed.
 pub(crate) fn verify_segment<D: Disk>(
     alloc: Global,
     disk: &mut D,

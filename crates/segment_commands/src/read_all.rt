@@ -13,11 +13,11 @@ const PIECE: usize = 4096;
 /// The most bytes of a dump. That of the largest segment has fewer.
 const LONGEST: u64 = 17179869184;
 
-/// All that a reader gives.
+/// Returns all that a reader gives.
 ///
 /// # Errors
 ///
-/// `ReadFault` where it failed, `ScriptTooLong` where it gives more than a dump may have, and `OutOfMemory`.
+/// `ReadFault` if it failed, `ScriptTooLong` if it gives more than a dump may have, and `OutOfMemory`.
 pub(crate) fn read_text<S: Source>(alloc: Global, reader: &mut S) -> Result<Vec<u8>, SessionFault>
     requires { (S.history reader.old).failures < 2 ^ 64 - 1 }
     ensures { MatchResult result

@@ -11,7 +11,7 @@ use segment_disk::FileProblem;
 use segment_dump::{BadDump, DumpFault};
 use segment_lang::{Piece, put_pieces};
 
-/// What is wrong with a dump.
+/// Returns what is wrong with a dump.
 fn dump_words(cause: DumpFault) -> &'static [u8]
     ensures { result.now ≡ dump_words cause }
 {
@@ -63,7 +63,7 @@ fn put_no_space<S: Sink>(needed: u64, err: &mut S) -> Result<(), DeviceFault>
     )
 }
 
-/// Writes a line, and answers the status that the program ends with.
+/// Writes a line, and returns the status that the program ends with.
 fn put_line<S: Sink>(line: &[u8], status: u8, err: &mut S) -> u8
     requires { (S.history err.old).failures < 2 ^ 64 - 1 }
     ensures status { result ≡ status }
@@ -73,9 +73,9 @@ fn put_line<S: Sink>(line: &[u8], status: u8, err: &mut S) -> u8
     status
 }
 
-/// Writes the line of a fault, none for a wrong command line, and answers the status that the program ends with, which
-/// is the same where the writer fails: 1 where an image, a size, a growth, a script or a dump is refused, 2 for a wrong
-/// command line, 3 for a file that exists or is in use and for faults, 4 for want of memory.
+/// Writes the line of a fault, none for a wrong command line, and returns the status that the program ends with, even
+/// if the writer fails. It is 1 if an image, a size, a growth, a script or a dump is refused, and 2 for a wrong command
+/// line. It is 3 for a file that exists or is in use and for faults, and 4 for want of memory.
 pub fn report<S: Sink>(fault: CommandFault, err: &mut S) -> u8
     requires { (S.history err.old).failures < 2 ^ 64 - 1 }
     ensures status { result ≡ command_status fault }
@@ -103,7 +103,7 @@ pub fn report<S: Sink>(fault: CommandFault, err: &mut S) -> u8
     }
 }
 
-/// Writes the line of memory that was refused to the program itself, and answers the status: that of a session without
+/// Writes the line of memory that was refused to the program itself, and returns the status: that of a session without
 /// memory.
 pub fn report_no_memory<S: Sink>(err: &mut S) -> u8
     requires { (S.history err.old).failures < 2 ^ 64 - 1 }
@@ -113,7 +113,7 @@ pub fn report_no_memory<S: Sink>(err: &mut S) -> u8
     put_line(b"segment: out of memory\n", 4, err)
 }
 
-/// What is said of a file.
+/// Returns what is said of a file.
 fn trouble_words(trouble: FileProblem) -> &'static [u8]
     ensures { result.now ≡ trouble_words trouble }
 {
@@ -127,7 +127,7 @@ fn trouble_words(trouble: FileProblem) -> &'static [u8]
     }
 }
 
-/// Writes a line that says why the file of a path can't be read or written, behind the line of the fault, where that is
+/// Writes a line that says why the file of a path can't be read or written, after the line of the fault, if that is
 /// known. The path stands there as a text of the language, so that none of its bytes ends the line or means something
 /// to a terminal.
 ///

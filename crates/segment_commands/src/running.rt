@@ -17,7 +17,7 @@ use segment_manager::Mode;
 use segment_scripts::{End, Until};
 use std::alloc::Global;
 
-/// How a file that is there comes to take the image that is saved.
+/// Returns how a file that is there comes to take the image that is saved.
 pub(crate) fn making_for(saving: SaveMode) -> CreateMode
     ensures { result ≡ create_mode_of saving }
 {
@@ -73,8 +73,8 @@ pub fn run<D: Disk, S: Source, O: LineOutput>(
     run_on_file(alloc, disk, path, mode, how, until, script, out)
 }
 
-/// Whether a script can be read at all. A closed standard input can't, and a file that is opened then would take its
-/// place.
+/// Tells whether a script can be read at all. A closed standard input can't, and a file that is opened then would take
+/// its place.
 fn can_be_read<S: Source>(script: &mut S) -> bool
     requires { (S.history script.old).failures < 2 ^ 64 - 1 }
     ensures possible { result ≡ true → S.history script.new ≡ S.history script.old }
@@ -105,7 +105,7 @@ fn run_opened<D: Disk, S: Source, O: LineOutput>(
     answer_and_save(disk, path, how, hold, &mut segment, until, script, out)
 }
 
-/// The same in mode `Write`, with the right to write the file.
+/// Runs a script on the segment in a file in mode `Write`, under the lock of the file.
 fn run_held<D: Disk, S: Source, O: LineOutput>(
     alloc: Global,
     disk: &mut D,
@@ -219,7 +219,7 @@ fn run_on_file_or_new<D: Disk, S: Source, O: LineOutput>(
     run_on_file(alloc, disk, path, Mode::Write, how, until, script, out)
 }
 
-/// What a run answered, as the program answers it.
+/// Returns what a run answered, as the program answers it.
 fn answered(answer: Result<End, SessionFault>) -> Result<(), CommandFault>
     ensures { result ≡ as_program answer }
 {

@@ -21,7 +21,7 @@ pub(crate) fn write_and_flush<O: Output>(out: &mut O, text: &[u8]) -> Result<(),
 ///
 /// # Errors
 ///
-/// `WriteFault` where the output fails.
+/// `WriteFault` if the output fails.
 pub fn print<O: Output>(out: &mut O, text: &str) -> Result<(), CommandFault>
     requires { (O.history out.old).failures < 2 ^ 64 - 1 }
     ensures { Prints O.history O.flushes out.old out.new text.now result }
@@ -42,7 +42,7 @@ fn tell_language<O: Output>(out: &mut O, rows: &[CommandRow]) -> Result<(), Devi
 ///
 /// # Errors
 ///
-/// `WriteFault` where the output fails.
+/// `WriteFault` if the output fails.
 pub fn print_language<O: Output>(out: &mut O, rows: &[CommandRow]) -> Result<(), CommandFault>
     requires { (O.history out.old).failures < 2 ^ 64 - 1 }
     ensures { Prints O.history O.flushes out.old out.new (flat_map row_text rows.now) result }

@@ -12,7 +12,7 @@ use raw_region::{DeviceFault, Sink, Source};
 pub struct OpenedFile<R> {
     /// Gives its bytes, from the first on.
     pub reader: R,
-    /// How many bytes it has, as far as that is known; 0 also where it is not.
+    /// How many bytes it has, as far as that is known; 0 also if it is not.
     pub len: u64,
 }
 
@@ -25,7 +25,7 @@ pub trait Disk {
 
     type Writer: Sink;
 
-    /// The right to write a file. What was not given back is given back where it is dropped, if the disk can do so.
+    /// The right to write a file. What was not given back is given back if it is dropped, if the disk can do so.
     type Hold: Drop;
 
     /// Tells what is there under a path.
@@ -42,8 +42,8 @@ pub trait Disk {
     fn unlock(&mut self, hold: Self::Hold)
         ensures { step self.old Released self.new };
 
-    /// What is passed in place of the right to write a file that is not there yet. The file that is made with it is
-    /// held by it.
+    /// Returns what is passed in place of the right to write a file that is not there yet. The file that is made with
+    /// it is held by it.
     fn hold_none() -> Self::Hold;
 
     /// Opens a file for reading.

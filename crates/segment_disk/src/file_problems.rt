@@ -5,7 +5,7 @@ ghost use Rattle.segment_disk.specs.FileProblems.{creation_problem, names_none, 
 use crate::presence::{CreateMode, FileProblem};
 use std::io::ErrorKind;
 
-/// What an error says of a file that was to be opened.
+/// Returns what an error says of a file that was to be opened.
 pub(crate) fn problem_of(kind: ErrorKind) -> Option<FileProblem>
     ensures { result ≡ problem_of kind }
 {
@@ -18,7 +18,7 @@ pub(crate) fn problem_of(kind: ErrorKind) -> Option<FileProblem>
     }
 }
 
-/// Whether no file can be made by a path, whatever there is: it is empty, or ends as that of a folder does.
+/// Tells whether no file can be made by a path, whatever there is: it is empty, or ends as that of a folder does.
 fn names_none(path: &str) -> bool
     ensures { result ≡ names_none path.now }
 {
@@ -28,7 +28,7 @@ fn names_none(path: &str) -> bool
     }
 }
 
-/// What an error says of a file that was to be made.
+/// Returns what an error says of a file that was to be made.
 pub(crate) fn creation_problem(kind: ErrorKind, path: &str, how: CreateMode) -> Option<FileProblem>
     ensures { result ≡ creation_problem kind path.now how }
 {

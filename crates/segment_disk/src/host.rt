@@ -19,7 +19,7 @@ use std::time::{Clock, Duration};
 /// How often a disk asks in a second for the right to write a file.
 const TRIES: u64 = 1000 / PAUSE;
 
-/// The files of the system. A file is written through before it is closed, where it is one that can be.
+/// The files of the system. A file is written through before it is closed, if it is one that can be.
 #[derive(Drop)]
 pub struct HostDisk<'a, R: Files> {
     files: &'a R,
@@ -29,7 +29,7 @@ pub struct HostDisk<'a, R: Files> {
     trouble: Option<FileProblem>,
 }
 
-/// The right to write a file, which the system takes back where this is dropped.
+/// The right to write a file, which the system takes back if this is dropped.
 #[derive(Drop)]
 pub struct HostLock {
     /// The lock of the file, if it has one.
@@ -39,19 +39,19 @@ pub struct HostLock {
 }
 
 impl HostLock {
-    /// The file that is locked, if one is.
+    /// Returns the file that is locked, if one is.
     fn identity(&self) -> Option<Identity> {
         self.lock.as_ref().and_then(Identity::of)
     }
 }
 
 impl<'a, R: Files> HostDisk<'a, R> {
-    /// The files, none of which was asked for yet.
+    /// Makes the files, none of which was asked for yet.
     pub fn new(files: &'a R) -> HostDisk<'a, R> {
         HostDisk::with_wait(files, 0)
     }
 
-    /// The same, which wait up to so many seconds for the right to write a file that another has.
+    /// Makes files that wait up to `wait` seconds for the right to write a file that another has.
     pub fn with_wait(files: &'a R, wait: u64) -> HostDisk<'a, R> {
         HostDisk {
             files,
@@ -60,8 +60,8 @@ impl<'a, R: Files> HostDisk<'a, R> {
         }
     }
 
-    /// What the system said last of a file that was to be opened or made, where that says why it can't be read or
-    /// written.
+    /// Returns what the system said last of a file that was to be opened or made, where that says why it can't be read
+    /// or written.
     pub fn trouble(&self) -> Option<FileProblem> {
         self.trouble
     }
@@ -106,7 +106,7 @@ impl<'a, R: Files<File = File> + AllocGlobal + Clock> HostDisk<'a, R> {
         }
     }
 
-    /// Whether another file has taken the name of the one that is locked.
+    /// Tells whether another file has taken the name of the one that is locked.
     fn is_taken(&self, path: &str, hold: &HostLock) -> bool {
         match (hold.identity(), Identity::at(self.files, path)) {
             (Some(held), Ok(named)) => held != named,

@@ -44,7 +44,7 @@ impl Identity {
     }
 }
 
-/// Whether a path still leads to a file that was opened by it.
+/// Tells whether a path still leads to a file that was opened by it.
 fn leads_to<R: Files<File = File>>(files: &R, path: &str, file: &File) -> bool {
     Identity::at(files, path).is_ok_and(|named| Identity::of(file) == Some(named))
 }

@@ -16,11 +16,11 @@ pub enum Presence {
 /// How a file comes to be open for writing with no byte in it.
 #[derive(Clone, Copy, Debug, PartialEq, Eq)]
 pub enum CreateMode {
-    /// It is made, and must not be there.
+    /// The file is made, and must not be there.
     New,
-    /// It is emptied, or made where nothing is there.
+    /// The file is emptied, or made if nothing is there.
     Truncate,
-    /// It is made beside the file of this path, which stays as it is until the new one is put in its place.
+    /// The file is made beside the file of this path, which stays as it is until the new one is put in its place.
     Replacement,
 }
 
@@ -38,7 +38,7 @@ pub enum FileProblem {
     NoParentFolder,
     /// The path is none that a file can be made by: it is empty, or ends as that of a folder does.
     Unnamed,
-    /// It is a folder.
+    /// A folder has the path.
     Folder,
     /// Its rights do not let it be.
     Denied,

@@ -13,7 +13,7 @@ use std::time::Clock;
 pub(crate) struct ReplacementFile {
     /// The path of the other, which leads through no link.
     old: PathBuf,
-    /// Its own path: the other's, and `.new` behind it.
+    /// Its own path: the other's, and `.new` after it.
     new: String,
     /// Its lock, if it has one: it is held before it has the other's name.
     lock: Option<File>,
@@ -21,7 +21,7 @@ pub(crate) struct ReplacementFile {
 
 impl ReplacementFile {
     /// Makes an empty file beside the one of a path, with its rights. Where a file is locked, the path leads to it, and
-    /// what an earlier run left there is removed before; else nothing may be there.
+    /// what an earlier run left there is removed before; otherwise nothing may be there.
     pub(crate) fn make<R: Files<File = File> + AllocGlobal + Clock>(
         rt: &R,
         path: &str,
@@ -68,7 +68,7 @@ impl ReplacementFile {
         file.set_permissions(rights)
     }
 
-    /// The lock of the file.
+    /// Returns the lock of the file.
     pub(crate) fn into_lock(self) -> Option<File> {
         self.lock
     }
@@ -78,7 +78,7 @@ impl ReplacementFile {
         fs::rename(files, self.new.as_str(), self.old.as_path())
     }
 
-    /// Writes the folder through, which has the name, where it can be opened.
+    /// Writes the folder through, which has the name, if it can be opened.
     pub(crate) fn sync_folder<R: Files<File = File>>(&self, files: &R) -> bool {
         match self.old.parent() {
             Some(folder) => match fs::open(files, folder) {

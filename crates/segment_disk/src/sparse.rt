@@ -12,8 +12,8 @@ const PIECE: usize = 65_536;
 /// Where the system tells what this program may take.
 const LIMITS: &str = "/proc/self/limits";
 
-/// A file that is written from its first byte on. Where it is a file of a disk that was empty, pieces of zeros are
-/// passed over: what was never written reads as zeros, and takes no place.
+/// A file that is written from its first byte on. If it is a file of a disk that was empty, pieces of zeros are passed
+/// over: what was never written reads as zeros, and takes no place.
 #[derive(Drop)]
 pub struct SparseFile {
     file: File,
@@ -24,7 +24,7 @@ pub struct SparseFile {
 }
 
 impl SparseFile {
-    /// A file that was just made or emptied. A file of a disk may have so many bytes at most.
+    /// Makes a file that was just made or emptied. A file of a disk may have so many bytes at most.
     pub(crate) fn new(file: File, longest: u64) -> SparseFile {
         let has_holes = match file.metadata() {
             Ok(found) => found.is_file() && found.len() == 0,
@@ -38,7 +38,7 @@ impl SparseFile {
         }
     }
 
-    /// Ends the file behind all that it took: what was passed over last is a part of it.
+    /// Ends the file after all that it took: what was passed over last is a part of it.
     pub(crate) fn end(&self) -> io::Result<()> {
         if !self.has_holes {
             return Ok(());
@@ -48,13 +48,13 @@ impl SparseFile {
         self.file.set_len(len)
     }
 
-    /// The file itself.
+    /// Returns the file itself.
     pub(crate) fn file(&self) -> &File {
         &self.file
     }
 }
 
-/// The first piece of some bytes, or all of them.
+/// Returns the first piece of some bytes, or all of them.
 fn front_piece(bytes: &[u8]) -> &[u8]
     ensures in_bounds { length result.now ≤ length bytes.now }
     ensures front { result.now ≡ take (length result.now) bytes.now }
@@ -63,7 +63,7 @@ fn front_piece(bytes: &[u8]) -> &[u8]
     &bytes[..bytes.len().min(PIECE)]
 }
 
-/// Whether all bytes are 0.
+/// Tells whether all bytes are 0.
 fn are_zeros(bytes: &[u8]) -> bool
     ensures zeros { result ≡ true → AreZero (bytes_of bytes.now) 0 (length bytes.now) }
     ensures peer { result ≡ false → AreZero (bytes_of bytes.now) 0 (length bytes.now) → ⊥ }
@@ -96,8 +96,8 @@ impl Write for SparseFile {
     }
 }
 
-/// How many bytes a file may have that this program writes, as far as the system tells. One that writes behind them is
-/// ended by a signal.
+/// Returns how many bytes a file may have that this program writes, as far as the system tells. One that writes after
+/// them is ended by a signal.
 pub(crate) fn longest_file<R: Files + AllocGlobal>(rt: &R) -> u64 {
     match fs::read_to_string(rt, LIMITS) {
         Ok(text) => soft_limit(text.as_str()).unwrap_or(u64::MAX),
@@ -105,7 +105,7 @@ pub(crate) fn longest_file<R: Files + AllocGlobal>(rt: &R) -> u64 {
     }
 }
 
-/// The limit that stands in a text of limits, if it is a number.
+/// Returns the limit that stands in a text of limits, if it is a number.
 fn soft_limit(text: &str) -> Option<u64> {
     let (_, behind) = text.split_once("Max file size")?;
     let word = behind.split_whitespace().next()?;

@@ -44,7 +44,7 @@ impl<W> Model for StdOutput<W> {
 }
 
 impl<W> StdOutput<W> {
-    /// A writer that took nothing yet.
+    /// Makes a writer that took nothing yet.
     pub fn new(inner: W) -> StdOutput<W>
         ensures { result.history ≡ nothing_taken }
     {
@@ -56,12 +56,12 @@ impl<W> StdOutput<W> {
         }
     }
 
-    /// Whether it failed last since it is a pipe whose reader had ended.
+    /// Tells whether it failed last since it is a pipe whose reader had ended.
     pub fn is_closed_pipe(&self) -> bool {
         self.is_closed_pipe
     }
 
-    /// The writer of std.
+    /// Returns the writer of std.
     pub(crate) fn inner(&self) -> &W {
         &self.inner
     }

@@ -36,7 +36,7 @@ pub record IsMeasured (bytes : List ℕ) (measure : Kind × ℕ) : Type 0 where
   pub kind_is : NamesKind word measure.0
   pub is : bytes ≡ word ++ (0x20 ∷ (number_text measure.1 ++ 0x0A ∷ []))
 
--- so many lines
+-- a text has so many lines
 pub record IsLined (bytes : List ℕ) (count : ℕ) : Type 0 where
   pub lines : List (List ℕ)
   pub are : AreLines count lines
@@ -55,7 +55,7 @@ pub record Asking : Type 0 where
   pub bytes : List ℕ
   pub needs : Needs
 
--- so many of them, one behind another, which ask for this at least
+-- so many texts, one after another, ask for at least this
 pub record AskTogether (Asks : List ℕ → Needs → Type 0) (count : ℕ) (bytes : List ℕ) (needs : Needs) : Type 0 where
   pub parts : List Asking
   pub many : length parts ≡ count
@@ -70,7 +70,7 @@ AsksText bytes needs = (len : ℕ) × IsDumpText bytes len × (needs ≡ record 
 abbrev pub AsksString : List ℕ → Needs → Type 0
 AsksString bytes needs = (len : ℕ) × IsDumpText bytes len × (needs ≡ only_room (block_room len))
 
--- so many lines, which ask for nothing
+-- so many lines ask for nothing
 abbrev pub AsksNothing : ℕ → List ℕ → Needs → Type 0
 AsksNothing count bytes needs = IsLined bytes count × (needs ≡ nothing)
 

@@ -111,7 +111,7 @@ pub record CanBuildItem (s : SegmentState) (site : Site) (done : List DumpItem) 
   pub place : HasIndexSlot site done i.class
   pub longest : (texts_needs i.content).longest ≤ room
 
--- it is made, with nothing in it
+-- an object is made, with nothing in it
 pub record IsStarted {E : Type 0} (s : SegmentState) (site : Site) (done : List DumpItem) (i : DumpItem) (more : ℕ)
     (result : Result (ℕ × ObjectLine) E) : Type 0 where
   pub handle : ℕ
@@ -127,7 +127,7 @@ pub record IsStarted {E : Type 0} (s : SegmentState) (site : Site) (done : List 
   pub stands : StandsFilling s site done (record { class = i.class; name = i.name; handle = handle })
       (bare (first_content (kind_of_content i.content) (count_of_content i.content))) (content_need i.content + more)
 
--- so many elements an object can have
+-- an object of a kind can have so many elements
 abbrev pub IsCountOf : Kind → ℕ → Type 0
 IsCountOf (kinds.Scalar k) n = (1 ≤ n) × (n ≤ 1048576)
 IsCountOf kinds.String n = Unit {0}
@@ -186,7 +186,7 @@ pub record BuildsObject {E : Type 0} (old new : SegmentState) (words text rest :
 
 -- ---- all objects
 
--- these are still to be made
+-- these objects are still to be made
 pub record AreLeft (site : Site) (room : ℕ) (done items : List DumpItem) : Type 0 where
   pub good : AllByRecursion IsBuildable items
   pub new : AreNew done items

@@ -94,7 +94,7 @@ has_item_key (ByKind k) i = (class_code Unique == class_code i.class) && same_ki
 has_item_key (ByHandle h) i = false
 has_item_key NoKey i = false
 
--- none of those that are done has the key of one that is to come
+-- no object that is done has the key of one that is to come
 abbrev pub AreNew : List DumpItem → List DumpItem → Type 0
 AreNew done [] = ⊤
 AreNew done (i ∷ is) = AllByRecursion (λ j. has_item_key (item_key i) j ≡ false) done × AreNew (done ++ i ∷ []) is
@@ -122,7 +122,7 @@ AreSortedItems lt (i ∷ is) = AllByRecursion (λ j. lt i j ≡ true) is × AreS
 abbrev pub measure_words : Kind → ℕ → List ℕ
 measure_words kind n = kind_text kind ++ 0x20 ∷ number_text n
 
--- its class, and its name where it has one
+-- the class of an object, and its name if it has one
 abbrev pub class_words : Class → List ℕ → List ℕ
 class_words Named name = codes "named " ++ name_text name ++ 0x20 ∷ []
 class_words Unique name = codes "unique "

@@ -36,7 +36,7 @@ holder_of o = Holds o.class o.name (kind_of o.value)
 abbrev pub object_capacities : Object → List Capacity
 object_capacities o = map (λ n. record { holder = holder_of o; places = n }) (option_to_list (places_of o.value))
 
--- those of the indexes, and then those of the objects in the order of the dump
+-- the capacities of the indexes, and then those of the objects in the order of the dump
 abbrev pub capacities : Directory → List Capacity
 capacities d =
     record { holder = Names; places = d.named.capacity } ∷ record { holder = Kinds; places = d.unique.capacity }
@@ -89,7 +89,7 @@ notes_of = flat_map object_notes
 abbrev pub all_notes : Directory → List ℕ
 all_notes d = notes_of (named_objects d) ++ (notes_of (unique_objects d) ++ notes_of (anonymous_objects d))
 
--- those of the indexes
+-- the notes of the capacities of the indexes
 abbrev pub index_notes : ℕ → ℕ → List ℕ
 index_notes named unique = capacity_note (record { holder = Names; places = named })
     ++ capacity_note (record { holder = Kinds; places = unique })

@@ -10,12 +10,12 @@ use Rattle.segment_dump.specs.Texts.{dump_text, end_text, front_text, items_text
 
 -- ---- what it has
 
--- so many texts, which fit a segment
+-- so many texts fit a segment
 pub record AreTexts (count : ℕ) (ts : List (List ℕ)) : Type 0 where
   pub many : length ts ≡ count
   pub small : IsSmall (all_needs text_needs ts).room
 
--- so many elements of a kind, whose texts fit
+-- a content has so many elements of a kind, whose texts fit
 pub record HasContentShape (kind : Kind) (count : ℕ) (c : ValueContent) : Type 0 where
   pub kind_is : kind_of_content c ≡ kind
   pub many : count_of_content c ≡ count

@@ -54,14 +54,14 @@ pub record IsBuildable (i : DumpItem) : Type 0 where
 
 -- ---- the segment
 
--- it is open for writing, and its bytes denote a directory with these objects so far
+-- the segment is open for writing, and its bytes denote a directory with these objects so far
 pub record StandsBuilt (s : SegmentState) (site : Site) (done : List DumpItem) (rest : ℕ) : Type 0 where
   pub directory : Directory
   pub stands : DenotesCurrent s.cut.bytes directory
   pub mode : s.mode ≡ Write
   pub built : HasBuiltItems directory site done rest
 
--- the same, and one that is being filled
+-- the segment has these objects so far, and one that is being filled
 pub record StandsFilling (s : SegmentState) (site : Site) (done : List DumpItem) (head : Head) (v : Value)
     (rest : ℕ) : Type 0 where
   pub directory : Directory
@@ -124,7 +124,7 @@ strings_course t = record {
   need = λ back. (all_needs text_needs back).room;
 }
 
--- the same of a value that has places for all of them
+-- a value has places for all elements that are to come
 pub record HasReservedPlaces {X Y : Type 0} (way : BackingArray → FillCourse X Y) (all : List Y) (n : ℕ) (v : Value)
     (text : List ℕ) (need : ℕ) : Type 0 where
   pub table : BackingArray
@@ -154,7 +154,7 @@ head_of p h = record { class = p.class; name = p.name; handle = h }
 abbrev pub filled_item : FillState → DumpItem
 filled_item p = record { class = p.class; name = p.name; content = p.content }
 
--- so many elements are there
+-- the object has so many elements so far
 pub record FillsAt (s : SegmentState) (text : List ℕ) (p : FillState) (h n : ℕ) : Type 0 where
   pub value : Value
   pub left : List ℕ

@@ -34,7 +34,7 @@ abbrev pub NotesAreLeftOut : Type 0
 NotesAreLeftOut = (n : ℕ) (items : Items) (notes : List (List ℕ)) → AllByRecursion IsNote notes
     → without_notes (dump_text n items ++ lines_text notes) ≡ dump_text n items
 
--- and so it is of the capacities of a segment
+-- the law: a dump does not tell the capacities of a segment
 abbrev pub CapacitiesAreLeftOut : Type 0
 CapacitiesAreLeftOut = (n : ℕ) (d : Directory)
     → without_notes (dump_text n (portable d) ++ capacities_text (capacities d)) ≡ dump_text n (portable d)

@@ -14,7 +14,7 @@ IsSmall n = n ≤ 1073741824
 abbrev pub closed_text : List ℕ → List ℕ
 closed_text bs = flat_map byte_text bs ++ 0x22 ∷ []
 
--- its class, and its name where it has one
+-- the class of an object, and its name if it has one
 abbrev pub lead_text : Class × List ℕ → List ℕ
 lead_text (Named, name) = codes "named " ++ name_text name ++ 0x20 ∷ []
 lead_text (Unique, name) = codes "unique "

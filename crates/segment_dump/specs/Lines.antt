@@ -47,7 +47,7 @@ abbrev pub seen_bytes : {E : Type 0} → Result (Bor (List ℕ)) E → Result (L
 seen_bytes (Ok bytes) = Ok bytes.now
 seen_bytes (Err e) = Err e
 
--- this word comes next
+-- the reader finds this word next
 pub record ReadsThis {E : Type 0} (word text rest : List ℕ) (result : Result (Unit {0}) E) : Type 0 where
   pub reads : (a : List ℕ) → next_word text ≡ Some (Bare word, a) → (result ≡ Ok tt) × (rest ≡ a)
 

@@ -91,7 +91,7 @@ refusal_for capacity base size room count =
     else if nat_lt room count.needs.longest then Some LongText
     else None
 
--- the same where they were counted
+-- why no segment is begun for objects that were counted
 abbrev pub IsRefusalOf : ℕ → ℕ → Option ℕ → ℕ → Result Count ℕ → Option LoadError → Type 0
 IsRefusalOf capacity base size room (Ok count) cause = cause ≡ refusal_for capacity base size room count
 IsRefusalOf capacity base size room (Err left) cause = cause ≡ None

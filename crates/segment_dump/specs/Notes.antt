@@ -2,7 +2,7 @@
 use Rattle.std.specs.Prelude.{◌≡◌, ◌<◌, ◌≤◌, ℕ, Bool, true, false, ◌&&◌, not, List, [], ◌∷◌, ◌==◌, length, take, drop}
 use Rattle.std.specs.Prelude.{if◌then◌else◌}
 
--- these bytes are notes and nothing else: from the start of a line on, or else from the midst of a note on
+-- whether these bytes are notes and nothing else, from the start of a line or from the midst of a note on
 abbrev pub are_notes : Bool → List ℕ → Bool
 are_notes start [] = start
 are_notes true (c ∷ cs) = (c == 0x23) && are_notes false cs
@@ -31,7 +31,7 @@ is_line [] = true
 is_line (c ∷ []) = true
 is_line (c ∷ d ∷ ds) = not (c == 0x0A) && is_line (d ∷ ds)
 
--- it starts there
+-- the last line starts at an offset
 pub record IsLastLine (text : List ℕ) (at : ℕ) : Type 0 where
   pub inside : at ≤ length text
   pub starts : ends_line true (take at text) ≡ true

@@ -20,7 +20,7 @@ ended line = line ++ 0x0A ∷ []
 abbrev pub lines_text : List (List ℕ) → List ℕ
 lines_text = flat_map ended
 
--- so many
+-- a text has so many lines
 abbrev pub AreLines : ℕ → List (List ℕ) → Type 0
 AreLines n lines = AllByRecursion HasNoEnd lines × (length lines ≡ n)
 
@@ -29,7 +29,7 @@ pub record ParsesPrefix {X Y : Type 0} (say : X → List ℕ) (IsSaid : X → Ty
     → Type 0) (value : X → Y) (text : List ℕ) (result : Option (Y × List ℕ)) : Type 0 where
   pub reads : (x : X) (rest : List ℕ) → IsSaid x → Follows rest → text ≡ say x ++ rest → result ≡ Some (value x, rest)
 
--- the same where no value is asked for
+-- the reader goes past a line, if no value is asked for
 pub record Skips {X : Type 0} (say : X → List ℕ) (IsSaid : X
     → Type 0) (text : List ℕ) (result : Option (List ℕ)) : Type 0 where
   pub skips : (x : X) (rest : List ℕ) → IsSaid x → text ≡ say x ++ rest → result ≡ Some rest
@@ -38,7 +38,7 @@ pub record Skips {X : Type 0} (say : X → List ℕ) (IsSaid : X
 abbrev pub Any : {X : Type 0} → X → Type 0
 Any x = ⊤
 
--- as it is
+-- bytes as they are
 abbrev pub itself : {X : Type 0} → X → X
 itself x = x
 

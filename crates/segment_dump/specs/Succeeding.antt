@@ -108,7 +108,7 @@ pub record Succeeds (text : List ℕ) (capacity base : ℕ) (size : Option ℕ) 
       → text ≡ dump_text n (portable d)
       → refusal_for capacity base size room (record { size = n; needs = items_needs (portable d) }) ≡ None → IsOk result
 
--- the same where they were counted
+-- a load of counted objects succeeds
 pub record SucceedsOf (text : List ℕ) (capacity base : ℕ) (size : Option ℕ) (room : ℕ) (counted : Result Count ℕ)
     (result : Result SegmentState LoadRefused) : Type 0 where
   pub succeeds : (b : List ℕ) (d : Directory) (n : ℕ) → DenotesCurrent b d → n < 2 ^ 64

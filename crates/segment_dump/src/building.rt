@@ -41,7 +41,7 @@ impl From<SyntaxError> for BuildError {
     }
 }
 
-/// What stands in the line of an object behind its key.
+/// What stands in the line of an object after its key.
 #[derive(Clone, Copy)]
 pub struct ObjectLine {
     /// The kind.
@@ -72,7 +72,7 @@ pub fn build(
     Err(syntax_error(lines.at(), DumpFault::Cut))
 }
 
-/// Nothing stands behind the last line.
+/// Checks that nothing stands after the last line.
 fn finish(lines: &Lines<'_>) -> Result<(), BuildError>
     ensures { AcceptsEnd lines.now result }
 {
@@ -113,7 +113,7 @@ fn start_next(
     }
 }
 
-/// The class that comes next.
+/// Returns the class that comes next.
 fn next_class(words: &mut Words<'_>) -> Result<Class, SyntaxError>
     ensures { ReadsClass words.old words.new result }
 {
@@ -133,14 +133,14 @@ fn next_class(words: &mut Words<'_>) -> Result<Class, SyntaxError>
     }
 }
 
-/// Whether a word is this one.
+/// Tells whether a word is this one.
 fn is_word(word: &[u8], other: &[u8]) -> bool
     ensures { IsTrue result ↔ (word.now ≡ other.now) }
 {
     word == other
 }
 
-/// Something is wrong at a place.
+/// Returns the error that something is wrong at a place.
 pub fn syntax_error(at: usize, cause: DumpFault) -> BuildError {
     BuildError::Syntax(SyntaxError { at, cause })
 }
@@ -163,7 +163,7 @@ fn start_named(
     }
 }
 
-/// The name that a word stands for, or `None` where it stands for none.
+/// Returns the name that a word stands for, or `None` if it stands for none.
 fn name_of<'a>(word: Word<'a>, scratch: &'a mut LineBuffer) -> Option<Name<'a>>
     ensures { option_map name_seen result
         ≡ (if is_name current (bytes_said word.entry) then Some (bytes_said word.entry) else None) }
@@ -193,7 +193,7 @@ fn start_under<D: ConstructKey>(
     }
 }
 
-/// The kind and the count that come next, and no more.
+/// Returns the kind and the count that come next, and no more.
 fn next_shape(words: &mut Words<'_>) -> Result<ObjectLine, SyntaxError>
     ensures { ReadsKindAndCount words.old result }
 {
@@ -205,7 +205,7 @@ fn next_shape(words: &mut Words<'_>) -> Result<ObjectLine, SyntaxError>
     Ok(ObjectLine { kind, count, at })
 }
 
-/// Why an object is not made, or not filled.
+/// Returns why an object is not made, or not filled.
 pub fn build_error_of(why: Refusal, at: usize) -> BuildError {
     match why {
         Refusal::NoSpace => BuildError::NoSpace(at),

@@ -1,4 +1,4 @@
-//! A dump with the capacities of what has one. They stand behind its end, each in a note, which a load leaves out.
+//! A dump with the capacities of what has one. They stand after its end, each in a note, which a load leaves out.
 ghost use Rattle.std.specs.Prelude.{◌≡◌, ◌-◌, ◌^◌, ◌<◌, ◌++◌};
 ghost use Rattle.raw_region.specs.Device.{Writes};
 ghost use Rattle.seg_types.specs.Names.{ByHandle};
@@ -21,12 +21,12 @@ use segment_manager::layout::{NAMED_AT, UNIQUE_AT};
 use segment_manager::unchecked::object_here;
 use segment_manager::{Instance, Object, Segment};
 
-/// Where an index has its capacity, behind its first word.
+/// Where an index has its capacity, after its first word.
 const CAPACITY: usize = 16;
 
-/// Writes the [`dump`] of a segment, and behind its end a note for each capacity: those of the two indexes, and those
-/// of vectors, strings and vectors of strings, in the order of the dump. It needs no memory. [`load`](crate::load)
-/// takes it as it takes the dump alone.
+/// Writes the [`dump`] of a segment, and after its end a note for each capacity: first of the two indexes, and then of
+/// the containers in the order of the dump. It needs no memory. [`load`](crate::load) takes it as it takes the dump
+/// alone.
 ///
 /// # Errors
 ///
@@ -92,21 +92,21 @@ fn put_indexes<W: Sink>(segment: &Segment, out: &mut W) -> Result<(), DeviceFaul
     )
 }
 
-/// For how many entries the index of names has places.
+/// Returns the number of entries that the index of names has places for.
 fn named_capacity(segment: &Segment) -> u64
     ensures { AnswersWith segment.now (λ d. d.named.capacity) result }
 {
     word_in(segment.as_bytes(), NAMED_AT as usize + CAPACITY)
 }
 
-/// For how many entries the index of kinds has places.
+/// Returns the number of entries that the index of kinds has places for.
 fn unique_capacity(segment: &Segment) -> u64
     ensures { AnswersWith segment.now (λ d. d.unique.capacity) result }
 {
     word_in(segment.as_bytes(), UNIQUE_AT as usize + CAPACITY)
 }
 
-/// How many places an object has, if it has a capacity.
+/// Returns how many places an object has, if it has a capacity.
 fn places_of(segment: &Segment, object: Object) -> Option<u64>
     requires { IsLocated segment.now (ByHandle object.handle) object }
     ensures { AnswersWith segment.now (λ d. places_at d (ByHandle object.handle)) result }
@@ -118,7 +118,7 @@ fn places_of(segment: &Segment, object: Object) -> Option<u64>
     }
 }
 
-/// How many places a vector, a string or a vector of strings has.
+/// Returns how many places a vector, a string or a vector of strings has.
 fn count_places(segment: &Segment, object: Object) -> Option<u64>
     requires { IsObject object segment.now }
     ensures { AnswersWith segment.now (λ d. measured_places (sizes_at d (ByHandle object.handle))) result }

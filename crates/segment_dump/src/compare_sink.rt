@@ -33,7 +33,7 @@ impl<'a> Model for CompareSink<'a> {
 }
 
 impl<'a> CompareSink<'a> {
-    /// It has taken nothing of the text.
+    /// Makes a sink that has taken nothing of the text.
     pub fn new(text: &'a [u8]) -> CompareSink<'a>
         ensures { result ≡ record { text = text.now; at = 0; other = None; failures = 0 } }
     {
@@ -45,14 +45,14 @@ impl<'a> CompareSink<'a> {
         }
     }
 
-    /// How many bytes of the text, from the first on, are those that were to be written.
+    /// Returns how many bytes of the text, from the first on, are those that were to be written.
     pub fn alike(&self) -> usize
         ensures { IsComparing self.now }
     {
         self.at
     }
 
-    /// Whether it has taken all of its text, and nothing else.
+    /// Tells whether it has taken all of its text, and nothing else.
     pub fn has_all(&self) -> bool
         ensures every { OnTrue result (taken self.now ≡ self.now.text) }
         ensures known_size { IsComparing self.now }
@@ -100,7 +100,7 @@ impl<'a> Sink for CompareSink<'a> {
     }
 }
 
-/// Whether a text goes on with these bytes behind its first `at`.
+/// Tells whether a text goes on with these bytes after its first `at`.
 fn goes_on(text: &[u8], at: usize, bytes: &[u8]) -> bool
     requires { at ≤ length text.now }
     ensures unchanged { OnTrue result (take (at + length bytes.now) text.now ≡ take at text.now ++ bytes.now) }
@@ -114,14 +114,14 @@ fn goes_on(text: &[u8], at: usize, bytes: &[u8]) -> bool
     are_same(front, bytes)
 }
 
-/// Whether two slices have the same bytes.
+/// Tells whether two slices have the same bytes.
 fn are_same(some: &[u8], other: &[u8]) -> bool
     ensures { OnTrue result (some.now ≡ other.now) }
 {
     some == other
 }
 
-/// How many bytes two slices have in common, from the first on.
+/// Returns how many bytes two slices have in common, from the first on.
 fn common(some: &[u8], other: &[u8]) -> usize
     ensures non_empty { result ≤ length some.now }
     ensures peer { result ≤ length other.now }

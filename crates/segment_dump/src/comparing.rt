@@ -10,7 +10,7 @@ use segment_manager::Segment;
 ///
 /// # Errors
 ///
-/// Where it is not: how many of its bytes, from the first on, are those of the segment. No clause says that number.
+/// If it is not: how many of its bytes, from the first on, are those of the segment. No clause says that number.
 pub fn compare(segment: &Segment, size: u64, text: &[u8]) -> Result<(), usize>
     ensures unchanged { OnOk result (IsDumpOf segment.now size text.now) }
     ensures peer { OnErr result (IsNoDumpOf segment.now size text.now) }

@@ -39,7 +39,7 @@ pub struct Front {
     pub unique: u64,
 }
 
-/// How many bytes a text has, and what is behind its lines.
+/// Returns how many bytes a text has, and what is after its lines.
 fn text_len(text: &[u8]) -> Option<(u64, &[u8])>
     ensures value { ParsesPrefix text_lines (λ bytes. IsSmall (length bytes)) Any length text.now (seen result) }
     ensures text { IfSome result (λ r. Begins IsDumpText text.now r.0 r.1.now) }
@@ -49,7 +49,7 @@ fn text_len(text: &[u8]) -> Option<(u64, &[u8])>
     Some((len, behind_lines(rest, pieces_in(len as usize) as u64)?))
 }
 
-/// What so many texts need, and what is behind their lines.
+/// Returns what so many texts need, and what is after their lines.
 fn count_texts(text: &[u8], count: u64) -> Option<(Needs, &[u8])>
     ensures value { ParsesPrefix (flat_map text_lines) (AreTexts count) Any (all_needs text_needs) text.now
         (seen result) }
@@ -65,7 +65,7 @@ fn count_texts(text: &[u8], count: u64) -> Option<(Needs, &[u8])>
     Some((needs, rest))
 }
 
-/// What a text of so many bytes in a vector of strings needs.
+/// Returns what a text of so many bytes in a vector of strings needs.
 fn text_needs(len: u64) -> Needs
     requires { IsSmall len }
     ensures { result ≡ record { room = block_room len; longest = len } }
@@ -76,7 +76,7 @@ fn text_needs(len: u64) -> Needs
     }
 }
 
-/// What the texts among the elements of an object need, and what is behind its lines.
+/// Returns what the texts among the elements of an object need, and what is after its lines.
 fn count_content(text: &[u8], kind: Kind, count: u64) -> Option<(Needs, &[u8])>
     ensures value { ParsesPrefix content_text (HasContentShape kind count) Any texts_needs text.now (seen result) }
     ensures questions { IfSome result (λ r. Begins (AsksContent kind count) text.now r.0 r.1.now) }
@@ -90,7 +90,7 @@ fn count_content(text: &[u8], kind: Kind, count: u64) -> Option<(Needs, &[u8])>
     }
 }
 
-/// What is behind so many lines, which need nothing.
+/// Returns what is after so many lines, which need nothing.
 fn skip(text: &[u8], count: u64) -> Option<(Needs, &[u8])>
     ensures value { ParsesPrefix lines_text (AreLines count) Any (λ lines. nothing) text.now (seen result) }
     ensures questions { IfSome result (λ r. Begins (AsksNothing count) text.now r.0 r.1.now) }
@@ -98,7 +98,7 @@ fn skip(text: &[u8], count: u64) -> Option<(Needs, &[u8])>
     Some((only_room(0), behind_lines(text, count)?))
 }
 
-/// What a string needs, and what is behind its lines.
+/// Returns what a string needs, and what is after its lines.
 fn count_string(text: &[u8]) -> Option<(Needs, &[u8])>
     ensures value { ParsesPrefix text_lines (λ bytes. IsSmall (length bytes)) Any (λ bytes.
         only_room (block_room (length bytes))) text.now (seen result) }
@@ -108,7 +108,7 @@ fn count_string(text: &[u8]) -> Option<(Needs, &[u8])>
     Some((only_room(block_room(len)), rest))
 }
 
-/// What an object needs, and what is behind its lines.
+/// Returns what an object needs, and what is after its lines.
 fn count_object(text: &[u8]) -> Option<(Needs, &[u8])>
     ensures value { ParsesPrefix item_text IsCountable Any item_needs text.now (seen result) }
     ensures questions { IfSome result (λ r. Begins AsksObject text.now r.0 r.1.now) }
@@ -120,7 +120,7 @@ fn count_object(text: &[u8]) -> Option<(Needs, &[u8])>
     Some((own.and(texts), rest))
 }
 
-/// Whether the last line stands in front.
+/// Tells whether the last line stands in front.
 fn is_end(text: &[u8]) -> bool
     ensures on_true { OnTrue result ((rest : List ℕ) × (text.now ≡ end_text ++ rest)) }
     ensures totality { (rest : List ℕ) → text.now ≡ end_text ++ rest → result ≡ true }
@@ -128,7 +128,8 @@ fn is_end(text: &[u8]) -> bool
     behind(text, b"end\n").is_some()
 }
 
-/// What all objects need, up to the line `end`; or how many bytes are left from the first line on that cannot be read.
+/// Returns what all objects need, up to the line `end`; or how many bytes are left from the first line on that cannot
+/// be read.
 fn count_objects(text: &[u8]) -> Result<Needs, usize>
     ensures count { CountsObjects text.now result }
     ensures questions { IfOk result (HasObjects text.now) }
@@ -148,7 +149,7 @@ fn count_objects(text: &[u8]) -> Result<Needs, usize>
     Err(rest.len())
 }
 
-/// What the first lines say, and what is behind them.
+/// Returns what the first lines say, and what is after them.
 fn read_front(text: &[u8]) -> Option<(Front, &[u8])>
     ensures value { ParsesPrefix fronted IsFront Any itself text.now (seen result) }
     ensures spelled { IfSome result (λ r. text.now ≡ fronted r.0 ++ r.1.now) }
@@ -167,7 +168,7 @@ fn read_front(text: &[u8]) -> Option<(Front, &[u8])>
     ))
 }
 
-/// How many bytes are left from the first of the three lines on that cannot be read.
+/// Returns how many bytes are left from the first of the three lines on that cannot be read.
 fn front_left(text: &[u8]) -> usize
     ensures { LeavesThird text.now result }
 {
@@ -180,7 +181,7 @@ fn front_left(text: &[u8]) -> usize
     }
 }
 
-/// What is behind the line of the size.
+/// Returns what is after the line of the size.
 fn behind_size(text: &[u8]) -> Option<&[u8]>
     ensures { Skips size_said IsNumber text.now (seen_rest result) }
 {
@@ -188,8 +189,8 @@ fn behind_size(text: &[u8]) -> Option<&[u8]>
     behind(rest, b"\n")
 }
 
-/// What the objects of a dump need, and the size that it says: in a segment of fewer bytes than `needs.room`, or with
-/// less room than `needs.longest`, [`load`](crate::load) makes none of it.
+/// Returns what the objects of a dump need, and the size that it says: in a segment of fewer bytes than `needs.room`,
+/// or with less room than `needs.longest`, [`load`](crate::load) makes none of it.
 ///
 /// # Errors
 ///

@@ -13,8 +13,8 @@ use segment_lang::{Piece, put_pieces};
 use segment_manager::Segment;
 
 /// Writes all that a segment holds as text: its size in bytes, and class, name, kind and value of each object. It needs
-/// no memory, and no line has more than 4096 bytes. Two segments with the same names, classes, kinds and values, and
-/// with their anonymous objects in the same order, have the same lines but for the size, wherever their blocks lie.
+/// no memory, and no line has more than 4096 bytes. Two segments with equal names, classes, kinds and values, and with
+/// their anonymous objects in one order, have equal lines but for the size.
 ///
 /// # Errors
 ///
@@ -26,7 +26,7 @@ pub fn dump<W: Sink>(segment: &Segment, out: &mut W) -> Result<(), DeviceFault>
     dump_as(segment, segment.size(), out)
 }
 
-/// The same with another size in it.
+/// Writes all that a segment holds as text, as `dump` does, with another size in it.
 pub fn dump_as<W: Sink>(segment: &Segment, size: u64, out: &mut W) -> Result<(), DeviceFault>
     requires { (W.history out.old).failures < 2 ^ 64 - 1 }
     ensures { WritesOf segment.now (W.history out.old) (W.history out.new) result (λ d. dump_text size (portable d)) }
@@ -44,7 +44,7 @@ fn put_front<W: Sink>(segment: &Segment, size: u64, out: &mut W) -> Result<(), D
     put_numbers(size, segment.num_named(), segment.num_unique(), out)
 }
 
-/// The same of these numbers.
+/// Writes the version, and these numbers for the size and the entries of the indexes.
 fn put_numbers<W: Sink>(size: u64, named: u64, unique: u64, out: &mut W) -> Result<(), DeviceFault>
     requires { (W.history out.old).failures < 2 ^ 64 - 1 }
     ensures { Writes (W.history out.old) (W.history out.new) result (front_text size named unique) }

@@ -33,7 +33,7 @@ impl ObjectWriter for Entries {
     }
 }
 
-/// Writes the line of an object: its class, its name where it has one, its kind, and how many elements there are.
+/// Writes the line of an object: its class, its name if it has one, its kind, and how many elements there are.
 fn put_head<W: Sink>(said: Instance<'_>, count: u64, out: &mut W) -> Result<(), DeviceFault>
     requires { (W.history out.old).failures < 2 ^ 64 - 1 }
     ensures { Writes (W.history out.old) (W.history out.new) result
@@ -46,7 +46,7 @@ fn put_head<W: Sink>(said: Instance<'_>, count: u64, out: &mut W) -> Result<(), 
     }
 }
 
-/// Writes a line that tells an object: some bytes, its name where it has one, its kind, more bytes, and a number.
+/// Writes a line that tells an object: some bytes, its name if it has one, its kind, more bytes, and a number.
 pub(crate) fn put_line<'a, W: Sink>(
     lead: &'a [u8],
     said: Instance<'a>,

@@ -10,7 +10,7 @@ pub enum DumpFault {
     /// The text ends, and not with the line `end`.
     #[error("the dump ends too early")]
     Cut,
-    /// Something stands behind the line `end`.
+    /// Something stands after the line `end`.
     #[error("more behind the end")]
     More,
     /// Here stands what stands there in no dump.

@@ -72,7 +72,7 @@ fn fill_elements(
     Ok(())
 }
 
-/// Adds the element of the next lines behind those before it.
+/// Adds the element of the next lines after those before it.
 fn add_element(
     segment: &mut Segment,
     object: Object,
@@ -114,7 +114,7 @@ fn set_next(
     ended(segment.set_value(&object, index, value), at)
 }
 
-/// Puts the value of the next line behind the elements of a vector.
+/// Puts the value of the next line after the elements of a vector.
 fn push_next(
     segment: &mut Segment,
     object: Object,
@@ -152,7 +152,7 @@ fn put_next(
     }
 }
 
-/// A call ended, or why it stopped.
+/// Returns that a call ended, or why it stopped.
 pub fn ended(called: Result<(), Refusal>, at: usize) -> Result<(), BuildError>
     ensures { called ≡ Ok tt → result ≡ Ok tt }
 {

@@ -35,14 +35,14 @@ pub fn fill_string(
     Ok(())
 }
 
-/// How many pieces of a text stand in lines of their own.
+/// Returns how many pieces of a text stand in lines of their own.
 fn pieces_behind(len: u64) -> u64
     ensures { result ≡ (len - 1) / 1000 }
 {
     len.saturating_sub(1) / PIECE as u64
 }
 
-/// The line that a text begins with, from its first piece on, and the length of the text.
+/// Returns the line that a text begins with, from its first piece on, and the length of the text.
 fn first_line<'a>(lines: &mut Lines<'a>) -> Result<(Words<'a>, u64), SyntaxError>
     ensures { ReadsLength lines.old lines.new result }
 {
@@ -52,7 +52,7 @@ fn first_line<'a>(lines: &mut Lines<'a>) -> Result<(Words<'a>, u64), SyntaxError
     Ok((words, len))
 }
 
-/// The piece of a text that is alone in a line.
+/// Returns the piece of a text that is alone in a line.
 fn last_text<'a>(words: &mut Words<'a>) -> Result<Quoted<'a>, SyntaxError>
     ensures max_len { IfOk result (λ text. length text ≤ 4096) }
     ensures piece { ReadsPiece words.old result }
@@ -79,7 +79,7 @@ fn append_piece(
     ended(segment.string_append(&object, piece.bytes(scratch)), at)
 }
 
-/// Puts the text of the next lines behind those of a vector of strings.
+/// Puts the text of the next lines after those of a vector of strings.
 pub fn push_text(
     segment: &mut Segment,
     object: Object,
@@ -97,7 +97,7 @@ pub fn push_text(
     ended(segment.texts_push(&object, &room[..len]), at)
 }
 
-/// Collects the text of the next lines in the front of the room, and answers how many bytes it has.
+/// Collects the text of the next lines in the front of the room, and returns how many bytes it has.
 fn collect(
     lines: &mut Lines<'_>,
     room: &mut [u8],
@@ -115,7 +115,7 @@ fn collect(
     Ok(filled)
 }
 
-/// Copies the piece of a text that is alone in a line into the room, and answers where it ends there.
+/// Copies the piece of a text that is alone in a line into the room, and returns if it ends there.
 fn copy_piece(
     words: &mut Words<'_>,
     room: &mut [u8],
@@ -136,7 +136,7 @@ fn copy_piece(
     Ok(from + bytes.len())
 }
 
-/// Puts bytes into the room, behind so many.
+/// Puts bytes into the room, after so many.
 fn put_at(room: &mut [u8], from: usize, bytes: &[u8])
     requires { from + length bytes.now ≤ length room.old }
     ensures { take (from + length bytes.now) room.new ≡ take from room.old ++ bytes.now }

@@ -22,10 +22,9 @@ use segment_values::{Layout, count_of, put_content};
 
 /// Writes all objects of a segment as lines of JSON, in the order of a [`dump`](crate::dump), an object a line:
 /// `{"class":"named","name":"a","kind":"i64","value":[1,2]}`. The name of an object that has none is `null`. Scalars
-/// are numbers, `true` or `false`; a text is a string where it is UTF-8, and else an object `{"base64":".."}` with its
-/// bytes. The value of a `string` is its text, and that of each other object a list: of scalars, of texts, or, of a
-/// map,
-/// of lists of a key and its value. It needs no memory, and a line is as long as its object.
+/// are numbers, `true` or `false`; a text is a string if it is UTF-8, and otherwise an object `{"base64":".."}` with
+/// its bytes. The value of a `string` is its text. The value of each other object is a list: of scalars, of texts, or,
+/// for a map, of lists of a key and its value. It needs no memory, and a line is as long as its object.
 ///
 /// # Errors
 ///
@@ -104,7 +103,7 @@ impl Layout for InJson {
     }
 }
 
-/// What stands in front of an element at a place.
+/// Returns what stands in front of an element at a place.
 fn comma_before(index: u64) -> &'static [u8]
     ensures { result.now ≡ comma_before index }
 {
@@ -168,7 +167,7 @@ fn put_value<W: Sink>(
     write_all(out, closing(object.kind))
 }
 
-/// What stands in front of the elements of a kind.
+/// Returns what stands in front of the elements of a kind.
 fn opening(kind: Kind) -> &'static [u8]
     ensures { result.now ≡ opening kind }
 {
@@ -181,7 +180,7 @@ fn opening(kind: Kind) -> &'static [u8]
     }
 }
 
-/// What stands behind the elements of a kind, up to the end of the line.
+/// Returns what stands after the elements of a kind, up to the end of the line.
 fn closing(kind: Kind) -> &'static [u8]
     ensures { result.now ≡ closing kind }
 {

@@ -7,7 +7,7 @@ use raw_region::{DeviceFault, Sink, write_all};
 use segment_lang::digit_text;
 use std::str;
 
-/// Writes a text: a string where it is UTF-8, and else an object with its base64.
+/// Writes a text: a string if it is UTF-8, and otherwise an object with its base64.
 pub fn put_bytes<W: Sink>(text: &[u8], out: &mut W) -> Result<(), DeviceFault>
     requires { (W.history out.old).failures < 2 ^ 64 - 1 }
     ensures { Writes (W.history out.old) (W.history out.new) result (json_bytes text.now) }
@@ -124,7 +124,7 @@ fn put_last<W: Sink>(bytes: &[u8], out: &mut W) -> Result<(), DeviceFault>
     }
 }
 
-/// The letter of six bits in base64.
+/// Returns the letter of six bits in base64.
 fn base64_letter(bits: u8) -> u8
     requires { bits < 64 }
     ensures { result ≡ base64_letter bits }

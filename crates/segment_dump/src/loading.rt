@@ -26,19 +26,19 @@ use segment_lang::numbers_are_decimals;
 use segment_manager::unchecked::cut_end;
 use segment_manager::{CreateRefused, Mode, Segment};
 
-/// Makes a segment of a dump, in the `size` bytes of the region from `base` on, which is a multiple of 16; without a
-/// size in as many as the dump says, of which it keeps those up to its last block: nothing in it is free then. Whatever
-/// segment the dump is of, this one has the same objects: the same names, classes, kinds and values, and anonymous
-/// objects in the same order. The room is for the longest text of a vector of strings: as many bytes as the dump has
-/// are enough. Notes behind the dump are left out ([`without_notes`]), so that capacities are not kept.
+/// Makes a segment of a dump, in the `size` bytes of the region from `base` on, which is a multiple of 16. Without a
+/// size it takes as many bytes as the dump says, and keeps those up to its last block: nothing in it is free then.
+/// Whatever segment the dump is of, this one has the same objects: the same names, classes, kinds and values, and
+/// anonymous objects in the same order. The room is for the longest text of a vector of strings: as many bytes as the
+/// dump has are enough. Notes after the dump are left out ([`without_notes`]), so that capacities are not kept.
 ///
 /// # Errors
 ///
 /// `BadDump` says where the text is no dump, and why; where its lines cannot be counted, it is the only cause.
 /// `BadSize` and `RegionTooSmall` are as they are called. `NoSpace`: whatever segment the text is the dump of, its
 /// objects need more bytes than the size, and so it was longer itself. `LongText`: it has a vector of strings with a
-/// text that is longer than the room. The region comes back as it was where no segment was begun, as for these four,
-/// and else is let go.
+/// text that is longer than the room. The region comes back as it was if no segment was begun, as for these four, and
+/// otherwise is let go.
 pub fn load(
     text: &[u8],
     room: &mut [u8],
@@ -57,7 +57,7 @@ pub fn load(
     load_lines(without_notes(text), room, region, base, size)
 }
 
-/// The same of a text without notes.
+/// Makes a segment of a dump without notes.
 fn load_lines(
     text: &[u8],
     room: &mut [u8],
@@ -80,7 +80,7 @@ fn load_lines(
     make(text, counted, room, region, base, size)
 }
 
-/// Makes the segment of a dump of which this was counted, where nothing is lacking for it.
+/// Makes the segment of a dump of which this was counted, if nothing is lacking for it.
 fn make(
     text: &[u8],
     counted: Result<Count, usize>,
@@ -116,7 +116,7 @@ fn make(
     judge(segment, text, front.size, size)
 }
 
-/// The size that was counted with a dump, or else this.
+/// Returns the size that was counted with a dump, or else this.
 fn declared_size(counted: Result<Count, usize>, said: u64) -> u64
     ensures { IfOk counted (λ count. result ≡ count.size) }
 {
@@ -126,7 +126,7 @@ fn declared_size(counted: Result<Count, usize>, said: u64) -> u64
     }
 }
 
-/// What the first three lines say.
+/// Returns what the first three lines say.
 fn read_front(lines: &mut Lines<'_>) -> Result<Front, SyntaxError>
     ensures { Takes fronted IsFront lines.old lines.new result }
 {
@@ -140,7 +140,7 @@ fn read_front(lines: &mut Lines<'_>) -> Result<Front, SyntaxError>
     })
 }
 
-/// The next line, behind its first word, which is this one.
+/// Returns the next line, after its first word, which is this one.
 fn read_lead<'a>(lines: &mut Lines<'a>, word: &[u8]) -> Result<Words<'a>, SyntaxError>
     ensures { ReadsLead word.now lines.old lines.new result }
 {
@@ -149,7 +149,7 @@ fn read_lead<'a>(lines: &mut Lines<'a>, word: &[u8]) -> Result<Words<'a>, Syntax
     Ok(words)
 }
 
-/// The first line.
+/// Reads the first line.
 fn read_version(lines: &mut Lines<'_>) -> Result<(), SyntaxError>
     ensures { Takes version_said Any lines.old lines.new result }
 {
@@ -159,7 +159,7 @@ fn read_version(lines: &mut Lines<'_>) -> Result<(), SyntaxError>
     words.finish()
 }
 
-/// The size.
+/// Returns the size.
 fn read_size(lines: &mut Lines<'_>) -> Result<u64, SyntaxError>
     ensures { Takes size_said IsNumber lines.old lines.new result }
 {
@@ -170,7 +170,7 @@ fn read_size(lines: &mut Lines<'_>) -> Result<u64, SyntaxError>
     Ok(size)
 }
 
-/// How many entries the indexes have.
+/// Returns how many entries the indexes have.
 fn read_entries(lines: &mut Lines<'_>) -> Result<(u64, u64), SyntaxError>
     ensures { Takes entries_said AreNumbers lines.old lines.new result }
 {
@@ -182,7 +182,7 @@ fn read_entries(lines: &mut Lines<'_>) -> Result<(u64, u64), SyntaxError>
     Ok((named, unique))
 }
 
-/// The size that is asked for, or else that of the text.
+/// Returns the size that is asked for, or else that of the text.
 fn asked_size(size: Option<u64>, said: u64) -> u64
     ensures request { IsRequestedSize size result }
     ensures value { result ≡ asked_of size said }
@@ -190,8 +190,8 @@ fn asked_size(size: Option<u64>, said: u64) -> u64
     size.unwrap_or(said)
 }
 
-/// Why no segment is begun for the objects of a dump, if anything is lacking: a size that segments have, a region that
-/// is long enough, a size that is, or the room for a text.
+/// Returns why no segment is begun for the objects of a dump, if anything is lacking: a legal size, a long enough
+/// region, a large enough size, or the room for a text.
 fn refusal_for(
     count: Count,
     region: &RawRegion,
@@ -217,7 +217,7 @@ fn refusal_for(
     None
 }
 
-/// The same where the objects were counted.
+/// Returns why no segment is begun for objects that were counted, if anything is lacking.
 fn refusal_of(
     counted: Result<Count, usize>,
     region: &RawRegion,
@@ -233,7 +233,8 @@ fn refusal_of(
     }
 }
 
-/// No segment is created, and nothing was lacking for what was counted: so some lines could not be counted.
+/// Returns why no segment is created although nothing was lacking for what was counted: some lines could not be
+/// counted.
 fn not_created(text: &[u8], refused: CreateRefused, counted: Result<Count, usize>) -> LoadRefused
     ensures return_path { result.region ≡ Some refused.region }
     ensures cause { IsWrong text.now result.cause }
@@ -245,7 +246,7 @@ fn not_created(text: &[u8], refused: CreateRefused, counted: Result<Count, usize
     }
 }
 
-/// The region is let go.
+/// Returns the region is let go.
 fn let_go(cause: LoadError) -> LoadRefused
     ensures absent { result.region ≡ None }
     ensures cause { result.cause ≡ cause }
@@ -256,7 +257,7 @@ fn let_go(cause: LoadError) -> LoadRefused
     }
 }
 
-/// What is wrong at a place of a text.
+/// Returns what is wrong at a place of a text.
 fn bad_dump(text: &[u8], misfit: SyntaxError) -> LoadError
     ensures { IsWrong text.now result }
 {
@@ -269,8 +270,8 @@ fn bad_dump(text: &[u8], misfit: SyntaxError) -> LoadError
     })
 }
 
-/// Why building stopped. Where objects or a text ask for more than was counted, lines are wrong: those that could not
-/// be counted, or else those that were built.
+/// Returns why building stopped. Where objects or a text ask for more than was counted, lines are wrong: those that
+/// could not be counted, or else those that were built.
 fn cause_of(text: &[u8], stop: BuildError, counted: Result<Count, usize>) -> LoadError
     ensures { IsWrong text.now result }
 {
@@ -281,7 +282,7 @@ fn cause_of(text: &[u8], stop: BuildError, counted: Result<Count, usize>) -> Loa
     }
 }
 
-/// The first line that could not be counted, or another place where all could.
+/// Returns the first line that could not be counted, or another place where all could.
 fn uncounted(text: &[u8], at: usize, counted: Result<Count, usize>) -> SyntaxError {
     let at = match counted {
         Ok(_) => at,
@@ -339,7 +340,7 @@ fn judge(
     }
 }
 
-/// Without a size, cuts off what is free at the end.
+/// Cuts off what is free at the end, if no size is given.
 fn trim(segment: &mut Segment, size: Option<u64>)
     requires writing { segment.old.mode ≡ Write }
     ensures { Trims segment.old segment.new size }
@@ -350,7 +351,7 @@ fn trim(segment: &mut Segment, size: Option<u64>)
     }
 }
 
-/// The text is not the dump of the segment that was made of it, from its byte `at` on.
+/// Returns the text is not the dump of the segment that was made of it, from its byte `at` on.
 fn unlike(text: &[u8], at: usize) -> LoadRefused
     ensures { IsLetGo text.now result }
 {
@@ -358,14 +359,14 @@ fn unlike(text: &[u8], at: usize) -> LoadRefused
     let_go(bad_dump(text, SyntaxError { at, cause }))
 }
 
-/// Whether a segment is open for writing.
+/// Tells whether a segment is open for writing.
 fn is_open(segment: &Segment) -> bool
     ensures { IsTrue result ↔ (segment.now.mode ≡ Write) }
 {
     segment.mode() == Mode::Write
 }
 
-/// Whether a segment has the size that was asked for, or nothing free where none was.
+/// Tells whether a segment has the size that was asked for, or nothing free if none was.
 fn has_size(segment: &Segment, size: Option<u64>) -> bool
     ensures content { OnTrue result (HasSize segment.now size) }
     ensures every { Sizes segment.now size result }

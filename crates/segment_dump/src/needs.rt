@@ -22,7 +22,7 @@ pub struct Needs {
 }
 
 impl Needs {
-    /// What these and those need together.
+    /// Returns what these and those need together.
     pub fn and(self, other: Needs) -> Needs
         ensures sum { self.room + other.room < 2 ^ 64 → result ≡ both self other }
         ensures most { AreAtMost result (both self other) }
@@ -34,14 +34,14 @@ impl Needs {
     }
 }
 
-/// Bytes of blocks, and no text.
+/// Returns bytes of blocks, and no text.
 pub fn only_room(room: u64) -> Needs
     ensures { result ≡ only_room room }
 {
     Needs { room, longest: 0 }
 }
 
-/// The bytes of a block for so many, and none where there are none.
+/// Returns the bytes of a block for so many, and none if there are none.
 #[tactic(auto, unfolding(crate::specs::Need::block_room))]
 pub fn block_room(bytes: u64) -> u64
     requires { bytes < 2 ^ 40 }
@@ -54,7 +54,7 @@ pub fn block_room(bytes: u64) -> u64
     ((bytes + 31) / 16 * 16).max(32)
 }
 
-/// The bytes of the value of an object of a kind with so many elements.
+/// Returns the bytes of the value of an object of a kind with so many elements.
 fn body_len(kind: Kind, count: u64) -> u64
     requires { count ≤ 1073741824 }
     ensures value { result ≡ body_len kind count }
@@ -69,7 +69,7 @@ fn body_len(kind: Kind, count: u64) -> u64
     }
 }
 
-/// The bytes of a node of a map.
+/// Returns the bytes of a node of a map.
 fn node_room(keys: ScalarKind, values: ScalarKind) -> u64
     ensures value { result ≡ block_room (node_len (size_of keys) (size_of values)) }
     ensures max_size { result ≤ 64 }
@@ -77,7 +77,7 @@ fn node_room(keys: ScalarKind, values: ScalarKind) -> u64
     block_room(16 + keys.size() + values.size())
 }
 
-/// The bytes of the storage or of the nodes of an object of a kind with so many elements.
+/// Returns the bytes of the storage or of the nodes of an object of a kind with so many elements.
 fn elements_room(kind: Kind, count: u64) -> u64
     requires { count ≤ 1073741824 }
     ensures value { result ≡ elements_room kind count }
@@ -92,7 +92,7 @@ fn elements_room(kind: Kind, count: u64) -> u64
     }
 }
 
-/// The bytes of the block of an object, and of the storage or the nodes of its elements.
+/// Returns the bytes of the block of an object, and of the storage or the nodes of its elements.
 #[tactic(auto, unfolding(crate::specs::Need::object_room))]
 pub fn object_room(name_len: u64, kind: Kind, count: u64) -> u64
     requires name { name_len ≤ 1073741824 }
@@ -103,7 +103,7 @@ pub fn object_room(name_len: u64, kind: Kind, count: u64) -> u64
     block_room(16 + name + body_len(kind, count)) + elements_room(kind, count)
 }
 
-/// The bytes of the ends of a segment and of the blocks of its indexes, of so many entries.
+/// Returns the bytes of the ends of a segment and of the blocks of its indexes, of so many entries.
 #[tactic(auto, unfolding(crate::specs::Need::front_room))]
 pub fn front_room(named: u64, unique: u64) -> u64
     requires named { named ≤ 1073741824 }

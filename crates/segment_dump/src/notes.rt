@@ -1,9 +1,9 @@
-//! What a load leaves out: notes behind a dump, lines that begin with `#`.
+//! What a load leaves out: notes after a dump, lines that begin with `#`.
 ghost use Rattle.std.specs.Prelude.{◌≡◌, ◌<◌, true, false, length};
 ghost use Rattle.segment_dump.specs.Notes.{IsLastLine, are_notes, is_line, without_notes};
 
-/// What is left of a text when the lines at its end are gone that begin with `#`. A line that has no end is none of
-/// these.
+/// Returns what is left of a text when the lines at its end are gone that begin with `#`. A line that has no end is
+/// none of these.
 pub fn without_notes(text: &[u8]) -> &[u8]
     ensures { result.now ≡ without_notes text.now }
 {
@@ -17,7 +17,7 @@ pub fn without_notes(text: &[u8]) -> &[u8]
     }
 }
 
-/// Where the last line of a text starts.
+/// Returns where the last line of a text starts.
 fn last_line_at(text: &[u8]) -> usize
     ensures { IsLastLine text.now result }
 {
@@ -28,7 +28,7 @@ fn last_line_at(text: &[u8]) -> usize
     at
 }
 
-/// Whether a line begins with `#`, and has an end.
+/// Tells whether a line begins with `#`, and has an end.
 fn is_note(line: &[u8]) -> bool
     requires { is_line line.now ≡ true }
     ensures note { result ≡ true → are_notes true line.now ≡ true }

@@ -2,7 +2,8 @@
 ghost use Rattle.std.specs.Prelude.{◌≡◌, ◌≤◌, ◌<◌, ◌^◌, length, take};
 ghost use Rattle.segment_dump.specs.Places.{place_behind};
 
-/// The line and the column behind the first `at` bytes of a text, each from 1 on. Every byte of a line is a column.
+/// Returns the line and the column after the first `at` bytes of a text, each from 1 on. Every byte of a line is a
+/// column.
 pub fn place_at(text: &[u8], at: usize) -> (u64, u64)
     requires { at ≤ length text.now }
     ensures { result ≡ place_behind (take at text.now) }

@@ -19,7 +19,7 @@ pub fn put_text<W: Sink>(text: &[u8], out: &mut W) -> Result<(), DeviceFault>
     put_all_pieces(text, out)
 }
 
-/// Writes a length behind two blanks.
+/// Writes a length after two blanks.
 fn put_length<W: Sink>(len: usize, out: &mut W) -> Result<(), DeviceFault>
     requires { (W.history out.old).failures < 2 ^ 64 - 1 }
     ensures { Writes (W.history out.old) (W.history out.new) result (length_text len) }
@@ -38,7 +38,7 @@ fn put_all_pieces<W: Sink>(text: &[u8], out: &mut W) -> Result<(), DeviceFault>
     Ok(())
 }
 
-/// How many pieces so many bytes are. An empty text is one.
+/// Returns how many pieces so many bytes are. An empty text is one.
 pub fn pieces_in(len: usize) -> usize
     requires { len < 2 ^ 63 }
     ensures { result ≡ pieces_in len }
@@ -62,14 +62,14 @@ fn put_piece<W: Sink>(text: &[u8], index: usize, out: &mut W) -> Result<(), Devi
     )
 }
 
-/// What stands in front of a piece: the first one is behind the length, and each other in a line of its own.
+/// Returns what stands in front of a piece: the first one is after the length, and each other in a line of its own.
 fn lead(index: usize) -> &'static [u8]
     ensures { result.now ≡ piece_lead index }
 {
     if index == 0 { b" " } else { b"    " }
 }
 
-/// A piece of a text.
+/// Returns a piece of a text.
 fn piece_of(text: &[u8], index: usize) -> &[u8]
     requires { index < pieces_in (length text.now) }
     ensures { result.now ≡ piece_of text.now index }

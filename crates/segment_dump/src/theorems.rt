@@ -2,22 +2,22 @@
 ghost use Rattle.segment_dump.specs.Laws.{CapacitiesAreLeftOut, DumpsHaveNoNotes, DumpsTellObjects, DumpsTellSizes};
 ghost use Rattle.segment_dump.specs.Laws.{NotesAreCut, NotesAreLeftOut, SegmentsHaveRoom};
 
-/// Two segments that have one dump have the same objects: the same names, classes, kinds and values, and the anonymous
-/// objects in the same order; and they have one size.
+/// States that two segments with one dump have equal objects: equal names, classes, kinds and values, and the anonymous
+/// objects in one order. They have one size.
 pub fn dumps_tell_objects()
     ensures objects { DumpsTellObjects }
     ensures sizes { DumpsTellSizes }
 {}
 
-/// A segment has at least as many bytes as its objects need: the header and the end tag, the blocks of the two indexes
-/// with just as many entries, and for each object its own block, and blocks of just as many elements, pairs and bytes
-/// of texts.
+/// States that a segment has at least as many bytes as its objects need. They need the header and the end tag, the
+/// blocks of the two indexes with just as many entries, and for each object its own block, its elements or pairs, and
+/// its texts.
 pub fn segments_have_room()
     ensures { SegmentsHaveRoom }
 {}
 
-/// Where notes stand behind a dump, what is left without them is the dump, and so it is of a dump with capacities, and
-/// of a dump alone. Of any text only notes are left out, at its end.
+/// States that where notes stand after a dump, what is left without them is the dump, and so it is of a dump with
+/// capacities, and of a dump alone. Of any text only notes are left out, at its end.
 pub fn notes_are_left_out()
     ensures after { NotesAreLeftOut }
     ensures capacities { CapacitiesAreLeftOut }

@@ -51,7 +51,7 @@ impl<'a> Model for Words<'a> {
 }
 
 impl<'a> Lines<'a> {
-    /// All lines of a text.
+    /// Makes all lines of a text.
     pub fn new(text: &'a [u8]) -> Lines<'a>
         ensures { result ≡ text.now }
     {
@@ -61,19 +61,19 @@ impl<'a> Lines<'a> {
         }
     }
 
-    /// How many bytes of the text came before what is left.
+    /// Returns how many bytes of the text came before what is left.
     pub fn at(&self) -> usize {
         self.len.saturating_sub(self.rest.len())
     }
 
-    /// Whether nothing is left.
+    /// Tells whether nothing is left.
     pub fn is_empty(&self) -> bool
         ensures { self.now ≡ [] → result ≡ true }
     {
         self.rest.is_empty()
     }
 
-    /// The next line, without the byte that ends it.
+    /// Returns the next line, without the byte that ends it.
     pub fn next_line(&mut self) -> Result<Words<'a>, SyntaxError>
         ensures { ReadsLine self.old self.new result }
     {
@@ -102,7 +102,7 @@ impl<'a> Lines<'a> {
 }
 
 impl<'a> Words<'a> {
-    /// Where the next word stands in the text, or the end of the line.
+    /// Returns where the next word stands in the text, or the end of the line.
     pub fn at(&self) -> usize {
         let rest = self.rest;
         let from = self.end.saturating_sub(rest.len());
@@ -112,7 +112,7 @@ impl<'a> Words<'a> {
         }
     }
 
-    /// What is wrong where the words stand.
+    /// Returns what is wrong where the words stand.
     fn misfit(&self, cause: DumpFault) -> SyntaxError {
         SyntaxError {
             at: self.at(),
@@ -120,14 +120,14 @@ impl<'a> Words<'a> {
         }
     }
 
-    /// Whether these bytes are all that is left.
+    /// Tells whether these bytes are all that is left.
     pub fn are(&self, bytes: &[u8]) -> bool
         ensures { IsTrue result ↔ (self.now ≡ bytes.now) }
     {
         is_same(self.rest, bytes)
     }
 
-    /// There are no more words.
+    /// Checks that there are no more words.
     pub fn finish(&self) -> Result<(), SyntaxError>
         ensures { ReadsEnd self.now result }
     {
@@ -138,7 +138,7 @@ impl<'a> Words<'a> {
         }
     }
 
-    /// The next word.
+    /// Returns the next word.
     pub fn next_word(&mut self) -> Result<Word<'a>, SyntaxError>
         ensures max_len { IfOk result (λ word. length (bytes_said word) ≤ 4096) }
         ensures word { ReadsWord any_word self.old self.new (seen_word result) }
@@ -152,7 +152,7 @@ impl<'a> Words<'a> {
         }
     }
 
-    /// The next word, a bare one.
+    /// Returns the next word, a bare one.
     pub fn next_bare(&mut self) -> Result<&'a [u8], SyntaxError>
         ensures { ReadsWord bare_word self.old self.new (seen_bytes result) }
     {
@@ -163,7 +163,7 @@ impl<'a> Words<'a> {
         }
     }
 
-    /// The next word, a text in quotes.
+    /// Returns the next word, a text in quotes.
     pub fn next_text(&mut self) -> Result<Quoted<'a>, SyntaxError>
         ensures max_len { IfOk result (λ text. length text ≤ 4096) }
         ensures word { ReadsWord quoted_word self.old self.new result }
@@ -175,7 +175,7 @@ impl<'a> Words<'a> {
         }
     }
 
-    /// The next word is this one.
+    /// Checks that the next word is this one.
     pub fn expect(&mut self, word: &[u8]) -> Result<(), SyntaxError>
         ensures { ReadsThis word.now self.old self.new result }
     {
@@ -188,7 +188,7 @@ impl<'a> Words<'a> {
         }
     }
 
-    /// The next word, a number.
+    /// Returns the next word, a number.
     pub fn next_number(&mut self) -> Result<u64, SyntaxError>
         ensures { ReadsWord number self.old self.new result }
     {
@@ -199,7 +199,7 @@ impl<'a> Words<'a> {
         }
     }
 
-    /// The next word, a kind.
+    /// Returns the next word, a kind.
     pub fn next_kind(&mut self) -> Result<Kind, SyntaxError>
         ensures { ReadsWord (kind_of_word (whole_language current)) self.old self.new result }
     {
@@ -210,7 +210,7 @@ impl<'a> Words<'a> {
         }
     }
 
-    /// The next word, a value of a kind.
+    /// Returns the next word, a value of a kind.
     pub fn next_value(&mut self, kind: ScalarKind) -> Result<ScalarValue, SyntaxError>
         ensures { ReadsWord (value_word kind) self.old self.new result }
     {
@@ -222,7 +222,7 @@ impl<'a> Words<'a> {
     }
 }
 
-/// The value that the next line is, alone.
+/// Returns the value that the next line is, alone.
 pub fn next_value(lines: &mut Lines<'_>, kind: ScalarKind) -> Result<ScalarValue, SyntaxError>
     ensures { ReadsElement kind lines.old lines.new result }
 {
@@ -233,7 +233,7 @@ pub fn next_value(lines: &mut Lines<'_>, kind: ScalarKind) -> Result<ScalarValue
     Ok(value)
 }
 
-/// The two values that the next line is.
+/// Returns the two values that the next line is.
 pub fn next_pair(
     lines: &mut Lines<'_>,
     keys: ScalarKind,
@@ -249,14 +249,14 @@ pub fn next_pair(
     Ok((key, value))
 }
 
-/// How many bytes the line in front has, where it has an end.
+/// Returns how many bytes the line in front has, if it has an end.
 fn line_len(text: &[u8]) -> Option<usize>
     ensures { result ≡ position (λ b. b == 0x0A) text.now }
 {
     text.iter().position(|byte| *byte == b'\n')
 }
 
-/// Whether two slices have the same bytes.
+/// Tells whether two slices have the same bytes.
 fn is_same(some: &[u8], other: &[u8]) -> bool
     ensures { IsTrue result ↔ (some.now ≡ other.now) }
 {

@@ -10,11 +10,11 @@ use Rattle.segment_disk.specs.Events.{Event, Opened, Read, Compared, Made, Wrote
 
 -- ---- a file that is read
 
--- it was opened, and had so many bytes by what the disk told, gave this and was closed
+-- the events of a file that was opened, had so many bytes by what the disk told, gave this and was closed
 abbrev pub open_events : List ℕ → ℕ → ReadDelta → List Event
 open_events path len image = Opened path (Some len) ∷ Read image ∷ []
 
--- it could not be opened
+-- the events of a file that could not be opened
 abbrev pub failed_open_events : List ℕ → List Event
 failed_open_events path = Opened path None ∷ []
 
@@ -118,7 +118,7 @@ pub record FillsFile {D E : Type 0} (step : D → Event → D
       ⊎ ((taken ≡ all_of image) × (lasts ≡ false)))
   pub accepted : (d : Directory) → DenotesCurrent image d → IsSaved image d
 
--- the same where no comparison was asked for, or the file is the same
+-- a file is made with an image, if no comparison was asked for or the file is the same
 pub record MakesImage {D E : Type 0} (step : D → Event → D
     → Type 0) (old new : D) (how : CreateMode) (path image : List ℕ) (result : Result (Unit {0}) E) : Type 0 where
   pub written : WriteOutcome

@@ -2,7 +2,7 @@
 use Rattle.std.specs.Prelude.{ℕ, true, List}
 use Rattle.segment_disk.specs.Events.{Event, Held, Released}
 
--- it was taken, this was done, and it was given back
+-- the lock of a file was taken, this was done, and the lock was given back
 pub record RunsLocked {D : Type 0} (step : D → Event → D → Type 0) (old new : D) (path : List ℕ) (does : D → D
     → Type 0) : Type 0 where
   pub held : D

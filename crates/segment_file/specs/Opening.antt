@@ -50,7 +50,7 @@ pub record IsOpenYet (format : ℕ) (image : ReadDelta) : Type 0 where
   pub sound : image.failed ≡ false
   pub undecided : decided format image.bytes ≡ None
 
--- it is all of an image
+-- the bytes of a file are all of an image
 pub record IsWholeImage (format : ℕ) (image : ReadDelta) : Type 0 where
   pub read : IsReadToEnd image
   pub denotes : IsImage format image.bytes
@@ -78,7 +78,7 @@ abbrev pub IsOpenedBy : AcceptedVersions → ReadDelta → List ℕ → Mode →
 IsOpenedBy Current image region mode s = OpensOk current image region 0 mode s
 IsOpenedBy All image region mode s = IsOpenedAny image region 0 mode s
 
--- its segment stands at the front of a region with room for it, and for so many bytes more
+-- the segment of the image stands at the front of a region with room for it, and for so many bytes more
 pub record OpensImageOk (versions : AcceptedVersions) (len more : ℕ) (mode : Mode) (image : ReadDelta)
     (s : SegmentState) : Type 0 where
   pub region : List ℕ
@@ -92,7 +92,7 @@ OpensImage versions more mode len image result =
 
 -- ---- one that is checked
 
--- the same without the place
+-- the error of an open fault, without the place
 abbrev pub open_fault_error : OpenFault → FileError
 open_fault_error (Unfitting v) = Image v.class
 open_fault_error (Unremembered refusal) = OutOfMemory refusal
@@ -130,7 +130,7 @@ module _ {D A E : Type 0} (step : D → Event → D → Type 0) (old new : D) (p
   abbrev pub ReadsFile : E → (ℕ → ReadDelta → Result A E → Type 0) → Result A E → Type 0
   ReadsFile fault answers result = ReadsFileErr fault result ⊎ ReadsFileAs answers result
 
--- its segment
+-- the call opens the segment of a file, or says why there is none
 abbrev pub OpensFile : {D : Type 0} → (D → Event → D → Type 0) → D → D → List ℕ → AcceptedVersions → Mode → ℕ
     → Result SegmentState FileError → Type 0
 OpensFile step old new path versions mode more result =
@@ -153,7 +153,7 @@ pub record KeepsRegion (len : ℕ) (old new : SegmentState) : Type 0 where
   pub few : length old.cut.bytes ≤ len
   pub same : new ≡ old
 
--- it has more, and stands in a region of its own, with room for so many bytes more
+-- the file has more bytes, and the segment stands in a region of its own, with room for so many bytes more
 pub record WidensRegion (len more : ℕ) (old new : SegmentState) : Type 0 where
   pub many : len < length old.cut.bytes
   pub region : List ℕ

@@ -10,14 +10,14 @@ use Rattle.segment_disk.specs.Events.{Discarded}
 use Rattle.segment_file.specs.Files.{WriteOutcome, Overtaken, NotMade, Closed, Offered, IsUnwritten, whole_outcome}
 use Rattle.segment_file.specs.Files.{write_events}
 
--- these bytes, whole; or one of two, each whole, whichever it is; or a file that was made or emptied and need not be
+-- what a path holds: these bytes, whole; one of two, each whole; or a file that was made or emptied and need not be
 -- whole
 pub data PathContents : Type 0 where
   Whole : List ℕ → PathContents
   EitherOf : List ℕ → List ℕ → PathContents
   Torn : PathContents
 
--- which file is open for writing: none of these, the one under the path, or the one that was made beside it
+-- which file is open for writing: none, the one under the path, or the one that was made beside it
 pub data WriteTarget : Type 0 where
   Neither : WriteTarget
   Named : WriteTarget
@@ -102,7 +102,7 @@ ReplacingKeepsOneWhole = (path old image : List ℕ) (written : WriteOutcome)
     ⊎ IsUnwritten Replacement image written
     → (k : ℕ) → IsOneOf old image (standing path old (take k (write_events Replacement path written)))
 
--- Where it failed before the new file was to take its place, the old image does.
+-- the law: if writing failed before the new file was to take its place, the path holds the old image
 abbrev pub UnplacedLeavesTheOld : Type 0
 UnplacedLeavesTheOld = (path old : List ℕ) (written : WriteOutcome) → IsNotOffered written
     → standing path old (write_events Replacement path written) ≡ Whole old

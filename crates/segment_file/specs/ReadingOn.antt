@@ -28,12 +28,12 @@ pub record IsCutShort (said : ℕ) (gave : ReaderHistory) : Type 0 where
   pub sound : gave.failures ≡ 0
   pub short : length gave.bytes < said
 
--- it gave no more than these, and failed
+-- the reader gave no more than these bytes, and failed
 pub record IsBroken (said : ℕ) (gave : ReaderHistory) : Type 0 where
   pub few : length gave.bytes ≤ said
   pub failed : 0 < gave.failures
 
--- it gave no more than these, and there was no memory to keep them
+-- the reader gave no more than these bytes, and there was no memory to keep them
 pub record IsUnkept (said : ℕ) (gave : ReaderHistory) (refusal : MemoryFault) : Type 0 where
   pub few : length gave.bytes ≤ said
   pub sound : gave.failures ≡ 0

@@ -89,7 +89,7 @@ pub record IsBehindLook {D : Type 0} (step : D → Event → D → Type 0) (old 
 -- ---- a file that is held
 
 module _ {D : Type 0} (step : D → Event → D → Type 0) (old new : D) (path : List ℕ) where
-  -- another has the right to write the file, and nothing else was asked
+  -- another has the lock of the file, and nothing else was asked
   pub record RefusesFileInUse {A : Type 0} (result : Result A FileError) : Type 0 where
     pub asked : After step old (Held path false ∷ []) new
     pub refused : result ≡ Err InUse
@@ -121,7 +121,7 @@ module _ {D : Type 0} (step : D → Event → D → Type 0) (old new : D) (path 
       RefusesExistingPath result ⊎ IsBehindLook step old path (λ found. found ≢ There) (λ looked.
       MakesSegmentFile step looked new path size result)
 
-  -- the same where nothing is there, and else the segment of the file
+  -- the call opens the segment of the file, or makes one if nothing is there
   abbrev pub OpensOrCreates : ℕ → Result SegmentState FileError → Type 0
   OpensOrCreates size result =
       IsBehindLook step old path (λ found. found ≡ Absent) (λ looked. MakesSegmentFile step looked new path size result)
@@ -206,7 +206,7 @@ abbrev pub growth_file_error : GrowOrMoveError → FileError
 growth_file_error (NoGrowth reason) = Growth reason
 growth_file_error (NoLargerRegion refusal) = OutOfMemory (Bytes refusal)
 
--- it does not grow, and may not move, for this reason
+-- the segment does not grow, and may not move, for this reason
 pub record GrowsFileErr (old new : SegmentState) (extra : ℕ) (why : FileError) : Type 0 where
   pub cause : GrowOrMoveError
   pub refused : GrowsOrMovesErr old new extra cause
@@ -216,12 +216,12 @@ pub record GrowsFileErr (old new : SegmentState) (extra : ℕ) (why : FileError)
 abbrev pub GrowsFile : SegmentState → SegmentState → ℕ → Result (Unit {0}) FileError → Type 0
 GrowsFile old new extra result = MatchResult result (λ u. GrowsOrMovesOk old new extra) (GrowsFileErr old new extra)
 
--- it ends behind its last block
+-- the segment ends after its last block
 pub record ShrinksFileOk (old new : SegmentState) : Type 0 where
   pub may : (d : Directory) → DenotesCurrent old.cut.bytes d → shrink_refusal old.mode ≡ None
   pub shrinks : Resizes old new (λ d. shrunk d)
 
--- it does not shrink, for this reason
+-- the segment does not shrink, for this reason
 pub record ShrinksFileErr (old new : SegmentState) (why : FileError) : Type 0 where
   pub same : new ≡ old
   pub reason : GrowError

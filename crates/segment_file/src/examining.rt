@@ -16,7 +16,7 @@ use raw_region::{Source, Steps};
 use segment_disk::{Disk, OpenedFile};
 use std::alloc::Global;
 
-/// Why there is no segment of an image. `None` is want of room.
+/// Returns why there is no segment of an image. `None` is want of room.
 fn unexamined(error: ExamineError) -> Option<OpenFault>
     ensures { result ≡ unfit_for error }
 {
@@ -30,7 +30,7 @@ fn unexamined(error: ExamineError) -> Option<OpenFault>
     }
 }
 
-/// Whether an image that says more bytes than there was room for has a segment. It is read first.
+/// Tells whether an image that says more bytes than there was room for has a segment. It is read first.
 fn examine_behind<S: Source>(
     alloc: Global,
     reader: &mut Headed<S>,
@@ -60,7 +60,7 @@ fn examine_behind<S: Source>(
     }
 }
 
-/// Whether the image of a reader that was told to give `len` bytes has a segment.
+/// Tells whether the image of a reader that was told to give `len` bytes has a segment.
 fn examine_image<S: Source>(
     alloc: Global,
     reader: &mut Headed<S>,
@@ -79,7 +79,7 @@ fn examine_image<S: Source>(
     }
 }
 
-/// Whether the image in a file has a segment. None is made, and the file is closed.
+/// Tells whether the image in a file has a segment. None is made, and the file is closed.
 ///
 /// # Errors
 ///

@@ -6,7 +6,7 @@ ghost use Rattle.segment_file.specs.ReadingOn.{IsFrontGiven};
 use image_check::FRONT;
 use raw_region::{DeviceFault, Source};
 
-/// Puts bytes behind those that are kept, where there is room for all of them, and answers how many are kept then.
+/// Puts bytes after those that are kept, if there is room for all of them, and returns how many are kept then.
 fn keep(front: &mut [u8; FRONT], kept: usize, bytes: &[u8]) -> Option<usize>
     requires { kept ≤ 24 }
     ensures in_bounds { IfSome result (λ n. n ≤ 24) }
@@ -50,7 +50,7 @@ impl<S: Source> Headed<S> {
         }
     }
 
-    /// All that it gave, where that is the front of an image and no more, and no read failed.
+    /// Returns all that it gave, if that is the front of an image and no more, and no read failed.
     pub(crate) fn front(&self) -> [u8; FRONT]
         requires { IsFrontGiven (S.history self.now.inner) }
         ensures { (S.history self.now.inner).bytes ≡ result }
@@ -58,7 +58,7 @@ impl<S: Source> Headed<S> {
         self.front
     }
 
-    /// The reader.
+    /// Returns the reader.
     pub(crate) fn into_inner(self) -> S
         ensures { result ≡ self.inner }
     {

@@ -21,7 +21,7 @@ use segment_disk::{Disk, OpenedFile};
 use segment_manager::{Mode, Segment};
 use std::alloc::Global;
 
-/// A region with room for a segment of so many bytes, and for more.
+/// Returns a region with room for a segment of so many bytes, and for more.
 #[tactic(auto, using(crate::proofs::opening::Rooms::region_capped))]
 pub(crate) fn file_region(alloc: Global, bytes: u64, more: u64) -> Result<RawRegion, OutOfMemory>
     ensures len { IfOk result (λ region. length region ≡ region_len (bytes + more)) }
@@ -48,7 +48,7 @@ fn open_at<S: Source>(
     }
 }
 
-/// The same of an image that lies in memory.
+/// Opens an image that lies in memory, at the front of a region.
 fn open_text(
     alloc: Global,
     versions: AcceptedVersions,
@@ -64,7 +64,7 @@ fn open_text(
     }
 }
 
-/// Why an image is not opened. `None` is want of room.
+/// Returns why an image is not opened. `None` is want of room.
 fn unopened(cause: OpenError) -> Option<FileError>
     ensures { result ≡ file_error cause }
 {
@@ -78,8 +78,8 @@ fn unopened(cause: OpenError) -> Option<FileError>
     }
 }
 
-/// A segment with room for so many bytes more than it has, where it has more than `len`: its file grew while it was
-/// read, and its region was made for `len` bytes.
+/// Returns a segment with room for `extra` bytes more than it has, if it has more than `len`. Then its file grew while
+/// it was read, and its region was made for `len` bytes.
 fn with_room(alloc: Global, segment: Segment, len: u64, more: u64) -> Result<Segment, FileError>
     ensures { WidensIfNeeded len more segment result }
 {
@@ -91,8 +91,8 @@ fn with_room(alloc: Global, segment: Segment, len: u64, more: u64) -> Result<Seg
     Ok(copy_into(&segment, region))
 }
 
-/// The segment of an image that says more bytes than there was room for, with room for so many bytes more. The image is
-/// read first, so that it takes no more memory than it has bytes.
+/// Returns the segment of an image that says more bytes than there was room for, with room for so many bytes more. The
+/// image is read first, so that it takes no more memory than it has bytes.
 fn open_behind<S: Source>(
     alloc: Global,
     versions: AcceptedVersions,
@@ -117,7 +117,7 @@ fn open_behind<S: Source>(
     }
 }
 
-/// The segment of the image of a reader that was told to give `len` bytes, with room for so many bytes more.
+/// Returns the segment of the image of a reader that was told to give `len` bytes, with room for so many bytes more.
 fn open_image<S: Source>(
     alloc: Global,
     versions: AcceptedVersions,
@@ -139,12 +139,13 @@ fn open_image<S: Source>(
     }
 }
 
-/// The segment in a file, of any of these versions, in a region with room for so many bytes more. The file is closed.
+/// Returns the segment in a file, of any of these versions, in a region with room for so many bytes more. The file is
+/// closed.
 ///
 /// # Errors
 ///
-/// `Image` with the class where the bytes of the file denote no directory. `ReadFault` where the file can't be opened
-/// or read, and `OutOfMemory`.
+/// `Image` with the class where the bytes of the file denote no directory. `ReadFault` if the file can't be opened or
+/// read, and `OutOfMemory`.
 pub fn open_file<D: Disk>(
     alloc: Global,
     disk: &mut D,

@@ -13,15 +13,15 @@ use segment_disk::{CreateMode, Disk};
 use segment_manager::{Mode, Segment};
 use std::alloc::Global;
 
-/// The segment in a file, open in a mode. What changes it changes no file: a [`SegmentFile`](crate::SegmentFile) is
-/// saved.
+/// Returns the segment in a file, open in a mode. What changes it changes no file: a
+/// [`SegmentFile`](crate::SegmentFile) is saved.
 ///
 /// `crates/examples/src/prices.rt` has an example.
 ///
 /// # Errors
 ///
-/// `Image` with the class where the bytes of the file denote no directory. `ReadFault` where the file can't be opened
-/// or read, and `OutOfMemory`.
+/// `Image` with the class where the bytes of the file denote no directory. `ReadFault` if the file can't be opened or
+/// read, and `OutOfMemory`.
 pub fn read<D: Disk>(
     alloc: Global,
     disk: &mut D,
@@ -65,8 +65,8 @@ fn migrate_held<D: Disk>(
 ///
 /// # Errors
 ///
-/// Those of [`read`], and `InUse` where another has the right to write the file: it is as it was. `WriteFault` where it
-/// can't be emptied, takes not the whole image, or need not last.
+/// Those of [`read`], and `InUse` if another has the right to write the file: it is as it was. `WriteFault` if it can't
+/// be emptied, takes not the whole image, or need not last.
 pub fn migrate<D: Disk>(alloc: Global, disk: &mut D, path: &str) -> Result<(), FileError>
     ensures { HoldsFile D.step disk.old disk.new path.now (λ held done.
         Migrates D.step held done path.now result) result }

@@ -41,12 +41,12 @@ fn read_up_to<S: Source>(reader: &mut S, text: &mut Vec<u8>, said: u64) -> Resul
     Ok(())
 }
 
-/// All of an image whose first bytes were read, where it has as many bytes as they say.
+/// Returns all of an image whose first bytes were read, if it has as many bytes as they say.
 ///
 /// # Errors
 ///
-/// `Truncated` where it has fewer, and `BadSize` where it has more, with the place. `ReadFault` where the reader
-/// failed, and `OutOfMemory`.
+/// `Truncated` if it has fewer, and `BadSize` if it has more, with the place. `ReadFault` if the reader failed, and
+/// `OutOfMemory`.
 fn read_whole<S: Source>(
     alloc: Global,
     front: &[u8; FRONT],
@@ -72,7 +72,7 @@ fn read_whole<S: Source>(
     }
 }
 
-/// All of an image of which the first bytes were read, where it has as many bytes as they say.
+/// Returns all of an image of which the first bytes were read, if it has as many bytes as they say.
 ///
 /// # Errors
 ///

@@ -17,7 +17,7 @@ use segment_disk::{CreateMode, Disk, Presence};
 use segment_manager::{Mode, Segment};
 use std::alloc::Global;
 
-/// An empty segment of a size. One that no segment has is refused before memory is asked for.
+/// Returns an empty segment of a size. One that no segment has is refused before memory is asked for.
 fn empty_segment(alloc: Global, size: u64) -> Result<Segment, FileError>
     ensures { MatchResult result (IsEmptySegment size) (IsWhyNoSegment size) }
 {
@@ -31,7 +31,7 @@ fn empty_segment(alloc: Global, size: u64) -> Result<Segment, FileError>
     }
 }
 
-/// An empty segment of a size, whose image is written to a new file, and the right to write it.
+/// Returns an empty segment of a size, whose image is written to a new file, and the right to write it.
 fn make_segment_file<D: Disk>(
     alloc: Global,
     disk: &mut D,
@@ -46,7 +46,8 @@ fn make_segment_file<D: Disk>(
     Ok((segment, hold))
 }
 
-/// The segment in a file, open for writing, and the right to write it, which was taken before the file was read.
+/// Returns the segment in a file, open for writing, and the right to write it, which was taken before the file was
+/// read.
 fn open_held<D: Disk>(
     alloc: Global,
     disk: &mut D,
@@ -66,8 +67,8 @@ fn open_held<D: Disk>(
     }
 }
 
-/// A segment in memory, the path of the file that it was read from or made in, and the right to write that file, which
-/// no other has until this one is closed or dropped. The file changes by `save` and `replace` alone.
+/// A segment in memory, the path of the file that it was read from or made in, and the right to write that file. No
+/// other has that right until this one is closed or dropped. The file changes by `save` and `replace` alone.
 #[derive(Drop)]
 pub struct SegmentFile<H> {
     /// The segment.
@@ -78,15 +79,14 @@ pub struct SegmentFile<H> {
 }
 
 impl<H: Drop> SegmentFile<H> {
-    /// An empty segment of `size` bytes, open for writing, in a file that is made for it and takes its image.
+    /// Returns an empty segment of `size` bytes, open for writing, in a file that is made for it and takes its image.
     ///
     /// `crates/examples/src/texts.rt` has an example.
     ///
     /// # Errors
     ///
-    /// `Exists` where something is there under the path, whatever the size. `BadSize` where no segment has it;
-    /// `OutOfMemory`; no file is made then. `WriteFault` where the file can't be made, takes not the whole image, or
-    /// need not last.
+    /// `Exists` if something is there under the path, whatever the size. `BadSize` if no segment has it; `OutOfMemory`;
+    /// no file is made then. `WriteFault` if the file can't be made, takes not the whole image, or need not last.
     pub fn create<D: Disk<Hold = H>>(
         alloc: Global,
         disk: &mut D,
@@ -107,13 +107,14 @@ impl<H: Drop> SegmentFile<H> {
         })
     }
 
-    /// The segment in a file, open for writing. The right to write the file is taken before it is read, and kept.
+    /// Returns the segment in a file, open for writing. The right to write the file is taken before it is read, and
+    /// kept.
     ///
     /// `crates/examples/src/handles.rt` has an example.
     ///
     /// # Errors
     ///
-    /// `InUse` where another has the right to write the file. Those of [`read`](crate::read); the right is given back.
+    /// `InUse` if another has the right to write the file. Those of [`read`](crate::read); the right is given back.
     pub fn open<D: Disk<Hold = H>>(
         alloc: Global,
         disk: &mut D,
@@ -130,14 +131,14 @@ impl<H: Drop> SegmentFile<H> {
         })
     }
 
-    /// The segment in a file, open for writing; where nothing is there, an empty one of `size` bytes in a file that is
-    /// made for it. The size is not looked at where something is there.
+    /// Returns the segment in a file, open for writing; if nothing is there, an empty one of `size` bytes in a file
+    /// that is made for it. The size is not looked at if something is there.
     ///
     /// `crates/examples/src/shop.rt` has an example.
     ///
     /// # Errors
     ///
-    /// Those of [`open`](SegmentFile::open) where something is there, and else those of
+    /// Those of [`open`](SegmentFile::open) if something is there, and otherwise those of
     /// [`create`](SegmentFile::create).
     pub fn open_or_create<D: Disk<Hold = H>>(
         alloc: Global,
@@ -160,15 +161,15 @@ impl<H: Drop> SegmentFile<H> {
         })
     }
 
-    /// Writes the image of the segment to its file, which is emptied for it, or made where it is gone. Where that
-    /// fails, the old image is lost; see [`replace`](SegmentFile::replace).
+    /// Writes the image of the segment to its file, which is emptied for it, or made if it is gone. Where that fails,
+    /// the old image is lost; see [`replace`](SegmentFile::replace).
     ///
     /// `crates/examples/src/shop.rt` has an example.
     ///
     /// # Errors
     ///
-    /// `WriteFault` where the file can't be emptied, takes not the whole image, or need not last, and where another
-    /// file has taken its name, which is left alone.
+    /// `WriteFault` if the file can't be emptied, takes not the whole image, or need not last, and where another file
+    /// has taken its name, which is left alone.
     pub fn save<D: Disk<Hold = H>>(&mut self, disk: &mut D) -> Result<(), FileError>
         ensures save { SavesFile D.step disk.old disk.new (string_bytes self.old.path) self.old.segment result
             Truncate }
@@ -180,14 +181,14 @@ impl<H: Drop> SegmentFile<H> {
         Ok(write_image(disk, path, how, &mut self.hold, &self.segment)?)
     }
 
-    /// The same to a new file beside its file, which takes the place of the old one when it has the whole image: at
-    /// each moment one of the two is there whole.
+    /// Writes the image of the segment to a new file beside its file, which takes the place of the old one once it has
+    /// the whole image. One of the two files is whole at each moment.
     ///
     /// `crates/examples/src/handles.rt` has an example.
     ///
     /// # Errors
     ///
-    /// As of [`save`](SegmentFile::save). The old file is as it was then, but where it is not known whether the new one
+    /// As of [`save`](SegmentFile::save). The old file is as it was then, but if it is not known whether the new one
     /// has its place for good.
     pub fn replace<D: Disk<Hold = H>>(&mut self, disk: &mut D) -> Result<(), FileError>
         ensures save { SavesFile D.step disk.old disk.new (string_bytes self.old.path) self.old.segment result
@@ -206,7 +207,7 @@ impl<H: Drop> SegmentFile<H> {
     ///
     /// # Errors
     ///
-    /// `Exists` where something is there under the path. `WriteFault` where the file can't be made, takes not the whole
+    /// `Exists` if something is there under the path. `WriteFault` if the file can't be made, takes not the whole
     /// image, or need not last.
     pub fn save_as<D: Disk<Hold = H>>(&self, disk: &mut D, path: &str) -> Result<(), FileError>
         ensures { SavesAs D.step disk.old disk.new path.now self.now.segment result }
@@ -233,9 +234,9 @@ impl<H: Drop> SegmentFile<H> {
     ///
     /// # Errors
     ///
-    /// `Growth` with `ReadOnly` where the segment is open for reading, with `BadGrow` where `extra` is below 32 or no
-    /// multiple of 16, and with `TooLarge` where the size would be above 1073741824; else `OutOfMemory` where its
-    /// region has no room, and there is none for a larger one. The segment is as it was.
+    /// `Growth` with `ReadOnly` if the segment is open for reading, with `BadGrow` if `extra` is below 32 or no
+    /// multiple of 16, and with `TooLarge` if the size would be above 1073741824. Otherwise `OutOfMemory` if its region
+    /// has no room, and there is none for a larger one. The segment is as it was.
     pub fn grow(&mut self, alloc: Global, extra: u64) -> Result<(), FileError>
         ensures history { GrowsFile self.old.segment self.new.segment extra result }
         ensures path { self.new.path ≡ self.old.path }
@@ -250,7 +251,7 @@ impl<H: Drop> SegmentFile<H> {
     ///
     /// # Errors
     ///
-    /// `Growth` with `ReadOnly` where the segment is open for reading. It is as it was.
+    /// `Growth` with `ReadOnly` if the segment is open for reading. It is as it was.
     pub fn shrink(&mut self) -> Result<(), FileError>
         ensures shrinking { ShrinksFile self.old.segment self.new.segment result }
         ensures path { self.new.path ≡ self.old.path }

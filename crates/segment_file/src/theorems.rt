@@ -2,23 +2,23 @@
 ghost use Rattle.segment_file.specs.PathContents.{EmptyingTears, ReplacingKeepsOneWhole, SavingEndsWhole};
 ghost use Rattle.segment_file.specs.PathContents.{UnplacedLeavesTheOld};
 
-/// At each point of a save that replaces, the old image or the new one stands whole under the path.
+/// States that at each point of a save that replaces, the old image or the new one stands whole under the path.
 pub fn replacing_keeps_one_whole()
     ensures { ReplacingKeepsOneWhole }
 {}
 
-/// A save that replaces, and fails before its file is to take the place of the old one, leaves the old image, also
-/// where its file can't be made.
+/// States that a save that replaces leaves the old image if it fails before its file is to take the place of the old
+/// one.
 pub fn unplaced_leaves_the_old()
     ensures { UnplacedLeavesTheOld }
 {}
 
-/// A save that is done ends with the new image, whichever way it goes.
+/// States that a save that is done ends with the new image, whichever way it goes.
 pub fn saving_ends_whole()
     ensures { SavingEndsWhole }
 {}
 
-/// A save that empties the file leaves neither image whole in between.
+/// States that a save that empties the file leaves neither image whole in between.
 pub fn emptying_tears()
     ensures { EmptyingTears }
 {}

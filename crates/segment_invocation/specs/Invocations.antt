@@ -58,7 +58,7 @@ maybe name = record (new_rule name) { value_names = 1 }
 abbrev pub operand : Text → Rule
 operand name = record (new_rule name) { required = true; value_names = 1 }
 
--- the same, and there may be more of them
+-- a value in its place, of which there may be more
 abbrev pub operands : Text → Rule
 operands name = record (operand name) { action = Some Append }
 
@@ -202,7 +202,7 @@ mode_called word =
     else if bytes_eq word (mode_word OpenCopyOnWrite) then Some OpenCopyOnWrite
     else None
 
--- these two make a segment where the file is not there, and so want its size
+-- whether a mode may make a segment, and so needs its size
 abbrev pub wants_size : ModeName → Bool
 wants_size CreateOnly = true
 wants_size OpenOrCreate = true

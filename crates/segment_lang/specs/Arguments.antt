@@ -61,7 +61,7 @@ pub record TypedNumbers : Type 0 where
 abbrev pub values_in : ScalarKind → List ℕ → TypedNumbers
 values_in k bytes = record { kind = k; numbers = unwrap_or (numbers_at k bytes) [] }
 
--- these values of a kind
+-- numbers of a kind
 abbrev pub typed_numbers : ScalarKind → List ℤ → TypedNumbers
 typed_numbers k zs = record { kind = k; numbers = zs }
 

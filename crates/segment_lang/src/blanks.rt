@@ -5,14 +5,14 @@ ghost use Rattle.segment_lang.specs.Words.{is_blank};
 ghost use Rattle.segment_lang.specs.Reading.{skip_blanks};
 ghost use Rattle.segment_lang.specs.Tokens.{at_end};
 
-/// Whether a byte parts words: a space or a tab.
+/// Tells whether a byte parts words: a space or a tab.
 pub fn is_blank(byte: u8) -> bool
     ensures { result ≡ is_blank byte }
 {
     byte == b' ' || byte == b'\t'
 }
 
-/// What is left behind the blanks in front.
+/// Returns what is left after the blanks in front.
 pub fn skip_blanks(bytes: &[u8]) -> &[u8]
     ensures value { result.now ≡ skip_blanks bytes.now }
     ensures shrinking { length result.now ≤ length bytes.now }
@@ -27,7 +27,7 @@ pub fn skip_blanks(bytes: &[u8]) -> &[u8]
     rest
 }
 
-/// Whether there are no more words: blanks only, or nothing.
+/// Tells whether there are no more words: blanks only, or nothing.
 pub fn at_end(bytes: &[u8]) -> bool
     ensures { result ≡ at_end bytes.now }
 {

@@ -4,7 +4,7 @@ ghost use Rattle.std.specs.Prelude.{◌≡◌, ◌≤◌, ◌<◌, ◌++◌, ◌
 
 use std::marker::Model;
 
-/// Up to `N` values. What stands behind them means nothing.
+/// Up to `N` values. What stands after them means nothing.
 #[derive(Drop)]
 pub struct Buffer<T, const N: usize> {
     values: [T; N],
@@ -23,7 +23,7 @@ impl<T, const N: usize> Model for Buffer<T, N> {
 }
 
 impl<T: Copy + Default, const N: usize> Buffer<T, N> {
-    /// No values.
+    /// Makes a buffer without values.
     pub fn new() -> Self
         ensures { result ≡ [] }
     {
@@ -42,21 +42,21 @@ impl<T: Copy, const N: usize> Buffer<T, N> {
         self.len = 0;
     }
 
-    /// How many values it has.
+    /// Returns how many values it has.
     pub fn len(&self) -> usize
         ensures { result ≡ length self.now }
     {
         self.len
     }
 
-    /// Whether it has no values.
+    /// Tells whether it has no values.
     pub fn is_empty(&self) -> bool
         ensures { result ≡ (length self.now == 0) }
     {
         self.len == 0
     }
 
-    /// The values.
+    /// Returns the values.
     pub fn as_slice(&self) -> &[T]
         ensures { result.now ≡ self.now }
     {

@@ -32,8 +32,7 @@ pub enum Content<'a> {
     },
 }
 
-/// What a line asks for, where it is done once all of the line is read. The other commands are those of
-/// [`CommandForm`].
+/// What a line asks for, if it is done once all of the line is read. The other commands are those of [`CommandForm`].
 #[derive(Drop)]
 pub enum Deed<'a> {
     /// Make an object.
@@ -49,7 +48,7 @@ pub enum Deed<'a> {
         key: NewKey<'a>,
         /// How many values it has, from 1 to 1048576.
         count: u32,
-        /// As many values.
+        /// A kind, a count, a key and as many values.
         values: LiteralValues<'a>,
     },
     /// Print the handle and the count of an object of a kind.
@@ -59,7 +58,7 @@ pub enum Deed<'a> {
         /// The object's entry.
         key: IndexKey<'a>,
     },
-    /// Print the handle and the count of an object, which is made where there is none.
+    /// Print the handle and the count of an object, which is made if there is none.
     FindOrConstruct {
         /// The object's entry.
         key: IndexKey<'a>,
@@ -169,7 +168,7 @@ pub enum Deed<'a> {
 pub enum LineStart<'a> {
     /// With nothing: it is a comment or has blanks only, and has no answer.
     Nothing,
-    /// With a command word of a form. What stands behind the word is to be read.
+    /// With a command word of a form. What stands after the word is to be read.
     Form(CommandForm, &'a [u8]),
     /// With no command word, or it is too long.
     Wrong(LineError),

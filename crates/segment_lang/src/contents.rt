@@ -16,7 +16,7 @@ use crate::values::read_elements;
 use crate::words::only_word;
 use seg_types::{Kind, ScalarKind};
 
-/// One value of the kind, which all elements get.
+/// Returns one value of the kind, which all elements get.
 #[tactic(auto, unfolding(crate::specs::Arguments::scalar_at))]
 fn read_scalar(kind: ScalarKind, count: u32, bytes: &[u8]) -> Option<Content<'_>>
     ensures { option_map content_of result ≡ scalar_at kind count bytes.now }
@@ -26,7 +26,7 @@ fn read_scalar(kind: ScalarKind, count: u32, bytes: &[u8]) -> Option<Content<'_>
     Some(Content::Scalars { value, count })
 }
 
-/// Any number of values of the kind.
+/// Reads any number of values of the kind.
 fn read_vector(kind: ScalarKind, bytes: &[u8]) -> Option<Content<'_>>
     ensures { option_map content_of result ≡ option_map (Elements kind) (numbers_at kind bytes.now) }
 {
@@ -34,7 +34,7 @@ fn read_vector(kind: ScalarKind, bytes: &[u8]) -> Option<Content<'_>>
     Some(Content::Elements(values))
 }
 
-/// One text.
+/// Returns one text.
 fn read_string(bytes: &[u8]) -> Option<Content<'_>>
     ensures { option_map content_of result ≡ option_map Bytes (option_and_then quoted_of (only_word bytes.now)) }
 {
@@ -43,7 +43,7 @@ fn read_string(bytes: &[u8]) -> Option<Content<'_>>
     Some(Content::String(text))
 }
 
-/// Any number of texts.
+/// Reads any number of texts.
 fn read_strings(bytes: &[u8]) -> Option<Content<'_>>
     ensures { option_map content_of result ≡ option_map Strings (texts_at bytes.now) }
 {
@@ -51,7 +51,7 @@ fn read_strings(bytes: &[u8]) -> Option<Content<'_>>
     Some(Content::Strings(texts))
 }
 
-/// Nothing: a map begins without pairs.
+/// Reads nothing: a map begins without pairs.
 fn read_no_pairs(key: ScalarKind, value: ScalarKind, bytes: &[u8]) -> Option<Content<'_>>
     ensures { option_map content_of result ≡ (if at_end bytes.now then Some (NoPairs key value) else None) }
 {
@@ -61,7 +61,7 @@ fn read_no_pairs(key: ScalarKind, value: ScalarKind, bytes: &[u8]) -> Option<Con
     Some(Content::NoPairs { key, value })
 }
 
-/// What an object of the kind is made with.
+/// Returns what an object of the kind is made with.
 pub fn read_content(kind: Kind, count: u32, bytes: &[u8]) -> Option<Content<'_>>
     ensures { option_map content_of result ≡ option_and_then (content kind count) (words bytes.now) }
 {

@@ -1,4 +1,4 @@
-//! Commands that change the elements of a vector or a string, by the form of what stands behind their word.
+//! Commands that change the elements of a vector or a string, by the form of what stands after their word.
 
 ghost use Rattle.std.specs.Prelude.{◌≡◌, option_map};
 ghost use Rattle.seg_types.specs.Commands as asked;
@@ -14,7 +14,7 @@ use crate::literals::quoted_of;
 use crate::readers::{key_and_number, key_number_literal};
 use crate::words::{next_word, two_words};
 
-/// A key, a number and a value, of an element that is written.
+/// Returns a key, a number and a value, of an element that is written.
 #[inline(never)]
 pub fn read_set<'a>(bytes: &'a [u8], scratch: &'a mut LineBuffer) -> Option<Deed<'a>>
     ensures { option_map deed_of result ≡ command_of_three (with_key_number_literal asked.Set) bytes.now }
@@ -23,7 +23,7 @@ pub fn read_set<'a>(bytes: &'a [u8], scratch: &'a mut LineBuffer) -> Option<Deed
     Some(Deed::Set { key, index, value })
 }
 
-/// A key, a number and a value, of a new element.
+/// Returns a key, a number and a value, of a new element.
 #[inline(never)]
 pub fn read_insert<'a>(bytes: &'a [u8], scratch: &'a mut LineBuffer) -> Option<Deed<'a>>
     ensures { option_map deed_of result ≡ command_of_three (with_key_number_literal asked.Insert) bytes.now }
@@ -32,7 +32,7 @@ pub fn read_insert<'a>(bytes: &'a [u8], scratch: &'a mut LineBuffer) -> Option<D
     Some(Deed::Insert { key, index, value })
 }
 
-/// A key and a number, of an element that goes.
+/// Returns a key and a number, of an element that goes.
 #[inline(never)]
 pub fn read_erase<'a>(bytes: &'a [u8], scratch: &'a mut LineBuffer) -> Option<Deed<'a>>
     ensures { option_map deed_of result ≡ command_of_two (with_key_number asked.Erase) bytes.now }
@@ -41,7 +41,7 @@ pub fn read_erase<'a>(bytes: &'a [u8], scratch: &'a mut LineBuffer) -> Option<De
     Some(Deed::Erase { key, index })
 }
 
-/// A key and a number, of elements that there is to be room for.
+/// Returns a key and a number, of elements that there is to be room for.
 #[inline(never)]
 pub fn read_reserve<'a>(bytes: &'a [u8], scratch: &'a mut LineBuffer) -> Option<Deed<'a>>
     ensures { option_map deed_of result ≡ command_of_two (with_key_number asked.Reserve) bytes.now }
@@ -50,7 +50,7 @@ pub fn read_reserve<'a>(bytes: &'a [u8], scratch: &'a mut LineBuffer) -> Option<
     Some(Deed::Reserve { key, count })
 }
 
-/// A key and any number of values, of all new elements.
+/// Returns a key and any number of values, of all new elements.
 #[tactic(auto, unfolding(crate::specs::Arguments::assigning_at))]
 #[inline(never)]
 pub fn read_assign<'a>(bytes: &'a [u8], scratch: &'a mut LineBuffer) -> Option<Deed<'a>>
@@ -62,7 +62,7 @@ pub fn read_assign<'a>(bytes: &'a [u8], scratch: &'a mut LineBuffer) -> Option<D
     Some(Deed::Assign { key, values })
 }
 
-/// A key and a text, of new last bytes.
+/// Returns a key and a text, of new last bytes.
 #[inline(never)]
 pub fn read_append<'a>(bytes: &'a [u8], scratch: &'a mut LineBuffer) -> Option<Deed<'a>>
     ensures { option_map deed_of result ≡ command_of_two appending bytes.now }

@@ -19,7 +19,7 @@ fn put_error<S: Sink>(out: &mut S, number: u64, words: &str) -> Result<(), Devic
     put_parts(out, &[b"error ", number, b" ", words.as_bytes()])
 }
 
-/// Writes why a line is no command. It writes all, or answers `DeviceFault` behind a part of it.
+/// Writes why a line is no command. It writes all, or answers `DeviceFault` after a part of it.
 pub fn put_line_error<S: Sink>(out: &mut S, error: LineError) -> Result<(), DeviceFault>
     requires { (S.history out.old).failures < 2 ^ 64 - 1 }
     ensures { Writes (S.history out.old) (S.history out.new) result (line_error_text error) }
@@ -27,7 +27,7 @@ pub fn put_line_error<S: Sink>(out: &mut S, error: LineError) -> Result<(), Devi
     put_error(out, error.number(), error.words())
 }
 
-/// Writes why a command is refused. It writes all, or answers `DeviceFault` behind a part of it.
+/// Writes why a command is refused. It writes all, or answers `DeviceFault` after a part of it.
 pub fn put_refusal<S: Sink>(out: &mut S, refusal: Refusal) -> Result<(), DeviceFault>
     requires { (S.history out.old).failures < 2 ^ 64 - 1 }
     ensures { Writes (S.history out.old) (S.history out.new) result (refusal_text refusal) }

@@ -1,4 +1,4 @@
-//! Command words, and the form of what stands behind each.
+//! Command words, and the form of what stands after each.
 
 ghost use Rattle.std.specs.Prelude.{◌≡◌, ◌<◌, [], IsTrue, Some, None, if◌then◌else◌, length, option_and_then};
 ghost use Rattle.std.specs.Prelude.{is_some, option_map, map, slice_index_or};
@@ -20,7 +20,7 @@ use crate::readers::{
 };
 use crate::words::ends_word;
 
-/// How what stands behind a command word is written.
+/// How what stands after a command word is written.
 #[derive(Clone, Copy, Debug, PartialEq, Eq)]
 pub enum CommandForm {
     /// Nothing: the word alone is the command.
@@ -33,11 +33,11 @@ pub enum CommandForm {
     Put,
     /// A key.
     Pop,
-    /// As a deed has it.
+    /// The form of a deed.
     Deed(DeedForm),
 }
 
-/// How what stands behind the command word of a deed is written.
+/// How what stands after the command word of a deed is written.
 #[derive(Clone, Copy, Debug, PartialEq, Eq)]
 pub enum DeedForm {
     /// A kind with a count, a key and what an object of the kind is made with: one value, any number of them or none.
@@ -171,7 +171,7 @@ static FORMS: [&[(&[u8], CommandForm)]; 32] = [
     ],
 ];
 
-/// What is behind a word that stands in front of a line and ends there.
+/// Returns what is after a word that stands in front of a line and ends there.
 fn behind<'a>(line: &'a [u8], word: &[u8]) -> Option<&'a [u8]>
     requires { IsTrue (is_unbroken word.now) }
     ensures { option_map (λ rest. rest.now) result
@@ -184,7 +184,7 @@ fn behind<'a>(line: &'a [u8], word: &[u8]) -> Option<&'a [u8]>
     Some(rest)
 }
 
-/// The form of the first row whose word is the first of a line, and what is behind it.
+/// Returns the form of the first row whose word is the first of a line, and what is after it.
 fn find_row<'a>(rows: &[(&[u8], CommandForm)], line: &'a [u8]) -> Option<(CommandForm, &'a [u8])>
     requires { IsTrue (list_all (λ row. is_unbroken row.0.now) rows.now) }
     ensures { option_map (λ x. (x.0, x.1.now)) result
@@ -200,7 +200,7 @@ fn find_row<'a>(rows: &[(&[u8], CommandForm)], line: &'a [u8]) -> Option<(Comman
     None
 }
 
-/// The place in the table of the word that a line begins with: few command words share one.
+/// Returns the place in the table of the word that a line begins with: few command words share one.
 fn place_of(line: &[u8]) -> usize
     ensures value { result ≡ place_of line.now }
     ensures max_size { result < 32 }
@@ -211,7 +211,7 @@ fn place_of(line: &[u8]) -> usize
     }
 }
 
-/// The form of the first row of a line's first word at its place in the table, and what is behind the word.
+/// Returns the form of the first row of a line's first word at its place in the table, and what is after the word.
 fn find_form<'a>(
     table: &[&[(&[u8], CommandForm)]],
     line: &'a [u8],
@@ -226,8 +226,8 @@ fn find_form<'a>(
     find_row(table[place_of(line)], line)
 }
 
-/// The form of the command word that a line begins with, and what is behind the word. `None` is a line whose first word
-/// is none. The word is compared where the table has its place, and its end is not looked for before.
+/// Returns the form of the command word that a line begins with, and what is after the word. `None` is a line whose
+/// first word is none. The word is compared if the table has its place, and its end is not looked for before.
 pub fn split_form(line: &[u8]) -> Option<(CommandForm, &[u8])>
     ensures { option_map (λ x. (reader_of x.0, x.1.now)) result
         ≡ with_rest line.now (option_map (λ form. form.1) (form_of (up_to_blank line.now))) }
@@ -235,7 +235,7 @@ pub fn split_form(line: &[u8]) -> Option<(CommandForm, &[u8])>
     find_form(&FORMS, line)
 }
 
-/// The deed that what stands behind a command word of this form asks for.
+/// Returns the deed that what stands after a command word of this form asks for.
 pub fn read_deed<'a>(
     form: DeedForm,
     bytes: &'a [u8],
@@ -278,7 +278,7 @@ pub fn read_deed<'a>(
     }
 }
 
-/// Whether what stands behind a command word has the word's form.
+/// Tells whether what stands after a command word has the word's form.
 pub fn is_command(form: CommandForm, bytes: &[u8], scratch: &mut LineBuffer) -> bool
     ensures { result ≡ is_some (option_and_then (reader_of form (whole_language current)) (words bytes.now)) }
 {

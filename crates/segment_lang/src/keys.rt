@@ -17,7 +17,7 @@ use crate::numbers::number_of;
 use crate::words::Word;
 use seg_types::{Handle, IndexKey, Key, Kind, Name, NewKey, is_bare_name};
 
-/// The name that a bare word is.
+/// Returns the name that a bare word is.
 fn bare_name(word: &[u8]) -> Option<Name<'_>>
     ensures { option_map name_seen result
         ≡ (if is_bare_name word.now && is_name current word.now then Some word.now else None) }
@@ -28,7 +28,7 @@ fn bare_name(word: &[u8]) -> Option<Name<'_>>
     Name::new(word)
 }
 
-/// The entry of an index: a name, or `@` and a kind.
+/// Returns the entry of an index: a name, or `@` and a kind.
 #[inline(always)]
 pub fn index_key<'a>(word: Word<'a>, scratch: &'a mut LineBuffer) -> Option<IndexKey<'a>>
     ensures { option_map index_key_seen result ≡ name_key (whole_language current) (word_of word.entry) }
@@ -40,7 +40,7 @@ pub fn index_key<'a>(word: Word<'a>, scratch: &'a mut LineBuffer) -> Option<Inde
     }
 }
 
-/// Whether an entry may hold an object of the kind: one of a unique kind holds that kind alone.
+/// Tells whether an entry may hold an object of the kind: one of a unique kind holds that kind alone.
 fn agrees(kind: Kind, key: &IndexKey<'_>) -> bool
     ensures { result ≡ agrees kind (index_key_seen key.now) }
 {
@@ -50,7 +50,7 @@ fn agrees(kind: Kind, key: &IndexKey<'_>) -> bool
     }
 }
 
-/// The entry that a word is, where it may hold an object of the kind.
+/// Returns the entry that a word is, where it may hold an object of the kind.
 pub fn index_key_for<'a>(
     kind: Kind,
     word: Word<'a>,
@@ -66,7 +66,7 @@ pub fn index_key_for<'a>(
     Some(key)
 }
 
-/// The key that a new object of the kind gets: an entry, or `-`.
+/// Returns the key that a new object of the kind gets: an entry, or `-`.
 pub fn new_key_for<'a>(
     kind: Kind,
     word: Word<'a>,
@@ -80,7 +80,7 @@ pub fn new_key_for<'a>(
     }
 }
 
-/// The handle behind `#`.
+/// Returns the handle after `#`.
 pub fn handle_of(word: Word<'_>) -> Option<Handle>
     ensures { result ≡ handle_of (word_of word.entry) }
 {
@@ -90,7 +90,7 @@ pub fn handle_of(word: Word<'_>) -> Option<Handle>
     }
 }
 
-/// The key of an object: its entry, or `#` and its handle.
+/// Returns the key of an object: its entry, or `#` and its handle.
 pub fn key_of<'a>(word: Word<'a>, scratch: &'a mut LineBuffer) -> Option<Key<'a>>
     ensures { option_map key_seen result ≡ key_of (whole_language current) (word_of word.entry) }
 {

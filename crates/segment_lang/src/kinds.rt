@@ -20,7 +20,7 @@ macro_rules! map {
     };
 }
 
-/// The kinds, each behind how it is printed.
+/// The kinds, each after how it is printed.
 static KINDS: [(&[u8], Kind); 37] = [
     (b"bool", Kind::Scalar(ScalarKind::Bool)),
     (b"u8", Kind::Scalar(ScalarKind::U8)),
@@ -61,7 +61,7 @@ static KINDS: [(&[u8], Kind); 37] = [
     (b"map<u64,u64>", map!(U64, U64)),
 ];
 
-/// The kind of the first row of a word.
+/// Returns the kind of the first row of a word.
 fn find_kind(rows: &[(&[u8], Kind)], word: &[u8]) -> Option<Kind>
     ensures { result ≡ found_in (map (λ row. (row.0.now, row.1)) rows.now) word.now }
 {
@@ -70,14 +70,14 @@ fn find_kind(rows: &[(&[u8], Kind)], word: &[u8]) -> Option<Kind>
         .map(|row| row.1)
 }
 
-/// The kind that is printed so.
+/// Returns the kind that is printed so.
 pub fn kind_named(word: &[u8]) -> Option<Kind>
     ensures { result ≡ kind_named (whole_language current) word.now }
 {
     find_kind(&KINDS, word)
 }
 
-/// The kind that a word is.
+/// Returns the kind that a word is.
 pub fn kind_of_word(word: Word<'_>) -> Option<Kind>
     ensures { result ≡ kind_of_word (whole_language current) (word_of word.entry) }
 {
@@ -87,7 +87,7 @@ pub fn kind_of_word(word: Word<'_>) -> Option<Kind>
     }
 }
 
-/// What stands in front of the first `[`, and what is from there on.
+/// Returns what stands in front of the first `[`, and what is from there on.
 fn split_front(word: &[u8]) -> (&[u8], &[u8])
     ensures front { result.0.now ≡ take_while (λ c. not (c == 0x5B)) word.now }
     ensures rest { result.1.now ≡ drop (length result.0.now) word.now }
@@ -102,7 +102,7 @@ fn split_front(word: &[u8]) -> (&[u8], &[u8])
     word.split_at(word.len() - rest.len())
 }
 
-/// What stands in front of the first `[`, and what behind it.
+/// Returns what stands in front of the first `[`, and what after it.
 fn split_bracket(word: &[u8]) -> (&[u8], &[u8])
     ensures front { result.0.now ≡ take_while (λ c. not (c == 0x5B)) word.now }
     ensures after { result.1.now ≡ drop (length result.0.now + 1) word.now }
@@ -114,7 +114,7 @@ fn split_bracket(word: &[u8]) -> (&[u8], &[u8])
     }
 }
 
-/// The number in front of `]`.
+/// Returns the number in front of `]`.
 fn bracketed(word: &[u8]) -> Option<u64>
     ensures { result ≡ bracketed word.now }
 {
@@ -124,7 +124,7 @@ fn bracketed(word: &[u8]) -> Option<u64>
     }
 }
 
-/// A scalar kind and a number of elements from 1 to 1048576.
+/// Returns a scalar kind and a number of elements from 1 to 1048576.
 fn counted(kind: Kind, count: Option<u64>) -> Option<(Kind, u32)>
     ensures { result ≡ counted kind count }
 {
@@ -138,7 +138,7 @@ fn counted(kind: Kind, count: Option<u64>) -> Option<(Kind, u32)>
     Some((kind, count as u32))
 }
 
-/// The kind that a bare word is, and how many elements stand in brackets behind it: without them 1.
+/// Returns the kind that a bare word is, and how many elements stand in brackets after it: without them 1.
 fn counted_name(word: &[u8]) -> Option<(Kind, u32)>
     ensures { result ≡ counted_kind (whole_language current) (Bare word.now) }
 {
@@ -150,7 +150,7 @@ fn counted_name(word: &[u8]) -> Option<(Kind, u32)>
     counted(kind, bracketed(behind))
 }
 
-/// The kind of the objects that are to be made, and how many elements each has.
+/// Returns the kind of the objects that are to be made, and how many elements each has.
 pub fn counted_kind(word: Word<'_>) -> Option<(Kind, u32)>
     ensures { result ≡ counted_kind (whole_language current) (word_of word.entry) }
 {

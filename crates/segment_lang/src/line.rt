@@ -16,7 +16,7 @@ use seg_types::LineError;
 /// The longest line without its end, in bytes.
 pub const MAX_LINE_LEN: usize = 4096;
 
-/// The line without the carriage return at its end, if there is one.
+/// Returns the line without the carriage return at its end, if there is one.
 pub fn without_return(line: &[u8]) -> &[u8]
     ensures { result.now ≡ without_return line.now }
 {
@@ -26,7 +26,7 @@ pub fn without_return(line: &[u8]) -> &[u8]
     }
 }
 
-/// Whether a line is a comment: its first byte is `#`.
+/// Tells whether a line is a comment: its first byte is `#`.
 fn is_comment(line: &[u8]) -> bool
     ensures { result ≡ (slice_index line.now 0 == 0x23) }
 {
@@ -36,7 +36,7 @@ fn is_comment(line: &[u8]) -> bool
     }
 }
 
-/// How a line begins that no command word begins: with blanks, or with a word that is none.
+/// Returns how a line begins that no command word begins: with blanks, or with a word that is none.
 #[inline(never)]
 fn lead_behind_blanks(line: &[u8]) -> LineStart<'_>
     ensures { reading_led result
@@ -56,8 +56,7 @@ fn lead_behind_blanks(line: &[u8]) -> LineStart<'_>
     }
 }
 
-/// How a line begins. It comes without its end, a line feed; one carriage return at its end is
-/// dropped.
+/// Returns how a line begins. It comes without its end, a line feed; one carriage return at its end is dropped.
 #[tactic(auto, unfolding(crate::specs::Reading::reading))]
 #[inline(always)]
 pub fn line_start(line: &[u8]) -> LineStart<'_>
@@ -73,9 +72,8 @@ pub fn line_start(line: &[u8]) -> LineStart<'_>
     }
 }
 
-/// Why a line is no command, if it has one and it is none. A name that is spelled with escapes is decoded into
-/// `scratch`,
-/// whatever it held.
+/// Returns why a line is no command, if it has one and it is none. A name that is spelled with escapes is decoded into
+/// `scratch`, whatever it held.
 pub fn line_error(line: &[u8], scratch: &mut LineBuffer) -> Option<LineError>
     ensures { MatchOption result (is_wrong (reading (whole_language current) line.now) ≡ false)
         (λ error. wrong_reading error ≡ reading (whole_language current) line.now) }

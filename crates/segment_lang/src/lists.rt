@@ -75,7 +75,7 @@ impl<'a> Iterator for TextLiterals<'a> {
     }
 }
 
-/// Whether each word is a value.
+/// Tells whether each word is a value.
 fn are_literals(bytes: &[u8]) -> bool
     ensures { result ≡ is_some (literals_at bytes.now) }
 {
@@ -89,7 +89,7 @@ fn are_literals(bytes: &[u8]) -> bool
     at_end(rest)
 }
 
-/// The values that all words are.
+/// Returns the values that all words are.
 pub fn read_literals(bytes: &[u8]) -> Option<Literals<'_>>
     ensures { result ≡ literals_at bytes.now }
 {
@@ -99,7 +99,7 @@ pub fn read_literals(bytes: &[u8]) -> Option<Literals<'_>>
     Some(Literals { behind: bytes })
 }
 
-/// Whether each word is a text.
+/// Tells whether each word is a text.
 fn are_texts(bytes: &[u8]) -> bool
     ensures { result ≡ is_some (texts_at bytes.now) }
 {
@@ -113,7 +113,7 @@ fn are_texts(bytes: &[u8]) -> bool
     at_end(rest)
 }
 
-/// The texts that all words are.
+/// Returns the texts that all words are.
 pub fn read_texts(bytes: &[u8]) -> Option<TextLiterals<'_>>
     ensures { result ≡ texts_at bytes.now }
 {

@@ -22,14 +22,14 @@ pub enum Literal<'a> {
     Quoted(Quoted<'a>),
 }
 
-/// Whether a word is this text, byte for byte.
+/// Tells whether a word is this text, byte for byte.
 pub fn is_word(word: &[u8], text: &[u8]) -> bool
     ensures { result ≡ is_word word.now text.now }
 {
     word == text
 }
 
-/// The value that a bare word spells: `true`, `false` or a whole number.
+/// Returns the value that a bare word spells: `true`, `false` or a whole number.
 fn bare_literal(word: &[u8]) -> Option<Literal<'_>>
     ensures { option_map literal_of result ≡ literal_of_word (Bare word.now) }
 {
@@ -42,7 +42,7 @@ fn bare_literal(word: &[u8]) -> Option<Literal<'_>>
     Some(Literal::Whole(whole_of(word)?))
 }
 
-/// The value that a word spells.
+/// Returns the value that a word spells.
 pub fn literal_of(word: Word<'_>) -> Option<Literal<'_>>
     ensures { option_map literal_of result ≡ literal_of_word (word_of word.entry) }
 {
@@ -52,7 +52,7 @@ pub fn literal_of(word: Word<'_>) -> Option<Literal<'_>>
     }
 }
 
-/// The bytes that a word stands for that is a text.
+/// Returns the bytes that a word stands for that is a text.
 pub fn quoted_of(word: Word<'_>) -> Option<Quoted<'_>>
     ensures { result ≡ quoted_of (word_of word.entry) }
 {
@@ -85,7 +85,7 @@ impl WrittenValue for Literal<'_> {
     }
 }
 
-/// The value of the kind that a word spells.
+/// Returns the value of the kind that a word spells.
 #[tactic(auto, using(crate::proofs::values::Literals::ok_value))]
 pub fn scalar_of(kind: ScalarKind, word: Word<'_>) -> Option<ScalarValue>
     ensures { result ≡ option_map (scalar_in kind) (value_for kind (word_of word.entry)) }

@@ -9,21 +9,21 @@ ghost use Rattle.segment_lang.specs.Seen.{word_of};
 use crate::words::Word;
 use std::marker::Model;
 
-/// Whether a byte is one of `0` to `9`.
+/// Tells whether a byte is one of `0` to `9`.
 pub fn is_digit(byte: u8) -> bool
     ensures { result ≡ is_digit byte }
 {
     byte.is_ascii_digit()
 }
 
-/// Whether each byte is a digit.
+/// Tells whether each byte is a digit.
 fn are_digits(bytes: &[u8]) -> bool
     ensures { result ≡ list_all is_digit bytes.now }
 {
     bytes.iter().all(|byte| is_digit(*byte))
 }
 
-/// Whether a word is `0`, or digits without a leading zero.
+/// Tells whether a word is `0`, or digits without a leading zero.
 #[tactic(auto, using(crate::proofs::values::Decimals::long_numeral))]
 fn is_numeral(word: &[u8]) -> bool
     ensures { result ≡ is_numeral word.now }
@@ -35,7 +35,7 @@ fn is_numeral(word: &[u8]) -> bool
     }
 }
 
-/// The number that digits spell, from 0 to 18446744073709551615, or `None` where it is greater.
+/// Returns the number that digits spell, from 0 to 18446744073709551615, or `None` if it is greater.
 #[tactic(auto, using(crate::proofs::values::Decimals::digits))]
 fn value_of_digits(digits: &[u8]) -> Option<u64>
     requires { IsTrue (list_all is_digit digits.now) }
@@ -55,8 +55,8 @@ fn value_of_digits(digits: &[u8]) -> Option<u64>
     Some(number)
 }
 
-/// The number that a word spells: `0`, or digits without a leading zero, at most
-/// 18446744073709551615. `None` is any other word.
+/// Returns the number that a word spells: `0`, or digits without a leading zero, at most 18446744073709551615. `None`
+/// is any other word.
 pub fn number_of(word: &[u8]) -> Option<u64>
     ensures { result ≡ number_of word.now }
 {
@@ -84,7 +84,7 @@ impl Model for WholeNumber {
 }
 
 impl WholeNumber {
-    /// The number, as the widest type of whole numbers has it.
+    /// Returns the number, as the widest type of whole numbers has it.
     pub fn get(&self) -> i128
         ensures { result ≡ self.now }
     {
@@ -95,7 +95,7 @@ impl WholeNumber {
     }
 }
 
-/// The whole number that digits behind a minus sign spell, from -9223372036854775808 to -1.
+/// Returns the whole number that digits after a minus sign spell, from -9223372036854775808 to -1.
 fn negative_of(digits: &[u8]) -> Option<WholeNumber>
     ensures { result ≡ negative_of digits.now }
 {
@@ -109,8 +109,8 @@ fn negative_of(digits: &[u8]) -> Option<WholeNumber>
     })
 }
 
-/// The whole number that a word spells, from -9223372036854775808 to 18446744073709551615: a number,
-/// or `-` and a number that is not 0.
+/// Returns the whole number that a word spells, from -9223372036854775808 to 18446744073709551615: a number, or `-` and
+/// a number that is not 0.
 pub fn whole_of(word: &[u8]) -> Option<WholeNumber>
     ensures { result ≡ whole_of word.now }
 {
@@ -126,7 +126,7 @@ pub fn whole_of(word: &[u8]) -> Option<WholeNumber>
     }
 }
 
-/// The number that a word is.
+/// Returns the number that a word is.
 pub fn number(word: Word<'_>) -> Option<u64>
     ensures { result ≡ number (word_of word.entry) }
 {

@@ -1,4 +1,4 @@
-//! Commands on the pairs of a map, by the form of what stands behind their word.
+//! Commands on the pairs of a map, by the form of what stands after their word.
 
 ghost use Rattle.std.specs.Prelude.{◌≡◌, option_map};
 ghost use Rattle.seg_types.specs.Commands as asked;
@@ -15,7 +15,7 @@ use crate::readers::key_and_literal;
 use crate::words::three_words;
 use seg_types::Key;
 
-/// A key and two values, of a pair that is put in.
+/// Returns a key and two values, of a pair that is put in.
 #[inline(never)]
 pub fn key_and_pair<'a>(
     bytes: &'a [u8],
@@ -31,7 +31,7 @@ pub fn key_and_pair<'a>(
     Some((key, at, value))
 }
 
-/// A key and a value, of a pair that is looked up.
+/// Returns a key and a value, of a pair that is looked up.
 #[inline(never)]
 pub fn read_lookup<'a>(bytes: &'a [u8], scratch: &'a mut LineBuffer) -> Option<Deed<'a>>
     ensures { option_map deed_of result ≡ command_of_two (with_key_literal asked.Lookup) bytes.now }
@@ -40,7 +40,7 @@ pub fn read_lookup<'a>(bytes: &'a [u8], scratch: &'a mut LineBuffer) -> Option<D
     Some(Deed::Lookup { key, at })
 }
 
-/// A key and a value, of a pair that goes.
+/// Returns a key and a value, of a pair that goes.
 #[inline(never)]
 pub fn read_remove<'a>(bytes: &'a [u8], scratch: &'a mut LineBuffer) -> Option<Deed<'a>>
     ensures { option_map deed_of result ≡ command_of_two (with_key_literal asked.Remove) bytes.now }

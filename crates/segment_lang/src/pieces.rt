@@ -47,7 +47,7 @@ fn put_piece<S: Sink>(out: &mut S, piece: &Piece<'_>) -> Result<(), DeviceFault>
     }
 }
 
-/// Writes pieces, one behind another.
+/// Writes pieces, one after another.
 pub fn put_pieces<S: Sink>(out: &mut S, pieces: &[Piece<'_>]) -> Result<(), DeviceFault>
     requires { (S.history out.old).failures < 2 ^ 64 - 1 }
     ensures { Writes (S.history out.old) (S.history out.new) result (flat_map piece_text pieces.now) }

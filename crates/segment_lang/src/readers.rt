@@ -1,4 +1,4 @@
-//! Commands by the form of what stands behind their word.
+//! Commands by the form of what stands after their word.
 
 ghost use Rattle.std.specs.Prelude.{◌≡◌, ℕ, Some, None, option_and_then, option_map, if◌then◌else◌};
 ghost use Rattle.seg_types.specs.Commands as asked;
@@ -23,7 +23,8 @@ use crate::values::read_values;
 use crate::words::{next_two, only_word, three_words, two_words};
 use seg_types::{Key, Kind};
 
-/// A kind with a count, a key and what an object of the kind is made with: one value, any number of them or none.
+/// Returns a kind with a count, a key and what an object of the kind is made with: one value, any number of them or
+/// none.
 #[tactic(auto, unfolding(crate::specs::Arguments::making_at))]
 #[inline(never)]
 pub fn read_construct<'a>(bytes: &'a [u8], scratch: &'a mut LineBuffer) -> Option<Deed<'a>>
@@ -36,7 +37,7 @@ pub fn read_construct<'a>(bytes: &'a [u8], scratch: &'a mut LineBuffer) -> Optio
     Some(Deed::Construct { key, content })
 }
 
-/// A kind with a count, an entry of an index and what an object of the kind is made with.
+/// Returns a kind with a count, an entry of an index and what an object of the kind is made with.
 #[tactic(auto, unfolding(crate::specs::Arguments::making_at))]
 #[inline(never)]
 pub fn read_find_or_construct<'a>(bytes: &'a [u8], scratch: &'a mut LineBuffer) -> Option<Deed<'a>>
@@ -49,7 +50,7 @@ pub fn read_find_or_construct<'a>(bytes: &'a [u8], scratch: &'a mut LineBuffer) 
     Some(Deed::FindOrConstruct { key, content })
 }
 
-/// A kind with a count, a key and as many values.
+/// Returns a kind with a count, a key and as many values.
 #[tactic(auto, unfolding(crate::specs::Arguments::making_each_at))]
 #[inline(never)]
 pub fn read_construct_it<'a>(bytes: &'a [u8], scratch: &'a mut LineBuffer) -> Option<Deed<'a>>
@@ -65,7 +66,7 @@ pub fn read_construct_it<'a>(bytes: &'a [u8], scratch: &'a mut LineBuffer) -> Op
     Some(Deed::ConstructIt { key, count, values })
 }
 
-/// A kind and an entry of an index.
+/// Returns a kind and an entry of an index.
 #[inline(never)]
 pub fn read_find<'a>(bytes: &'a [u8], scratch: &'a mut LineBuffer) -> Option<Deed<'a>>
     ensures { option_map deed_of result ≡ command_of_two finding bytes.now }
@@ -76,7 +77,7 @@ pub fn read_find<'a>(bytes: &'a [u8], scratch: &'a mut LineBuffer) -> Option<Dee
     Some(Deed::Find { kind, key })
 }
 
-/// An entry of an index.
+/// Returns an entry of an index.
 #[inline(never)]
 pub fn read_destroy<'a>(bytes: &'a [u8], scratch: &'a mut LineBuffer) -> Option<Deed<'a>>
     ensures { option_map deed_of result ≡ command_of_one (with_key asked.Destroy name_key) bytes.now }
@@ -85,7 +86,7 @@ pub fn read_destroy<'a>(bytes: &'a [u8], scratch: &'a mut LineBuffer) -> Option<
     index_key(word, scratch).map(Deed::Destroy)
 }
 
-/// A handle.
+/// Returns a handle.
 #[inline(never)]
 pub fn read_destroy_ptr(bytes: &[u8]) -> Option<Deed<'_>>
     ensures { option_map deed_of result
@@ -96,7 +97,7 @@ pub fn read_destroy_ptr(bytes: &[u8]) -> Option<Deed<'_>>
     Some(Deed::DestroyPtr(handle))
 }
 
-/// A key, whatever it is read for.
+/// Returns a key, whatever it is read for.
 #[inline(never)]
 pub fn only_key<'a>(bytes: &'a [u8], scratch: &'a mut LineBuffer) -> Option<Key<'a>>
     ensures { (f : AskedKey → asked.Command) → option_map (λ key. f (key_seen key)) result
@@ -106,7 +107,7 @@ pub fn only_key<'a>(bytes: &'a [u8], scratch: &'a mut LineBuffer) -> Option<Key<
     key_of(word, scratch)
 }
 
-/// A key and a number, whatever they are read for.
+/// Returns a key and a number, whatever they are read for.
 #[inline(never)]
 pub fn key_and_number<'a>(bytes: &'a [u8], scratch: &'a mut LineBuffer) -> Option<(Key<'a>, u64)>
     ensures { (f : AskedKey → ℕ → asked.Command) → option_map (λ x. f (key_seen x.0) x.1) result
@@ -118,7 +119,7 @@ pub fn key_and_number<'a>(bytes: &'a [u8], scratch: &'a mut LineBuffer) -> Optio
     Some((key, index))
 }
 
-/// A key and a value, whatever they are read for.
+/// Returns a key and a value, whatever they are read for.
 #[inline(never)]
 pub fn key_and_literal<'a>(
     bytes: &'a [u8],
@@ -133,7 +134,7 @@ pub fn key_and_literal<'a>(
     Some((key, value))
 }
 
-/// A key, a number and a value, whatever they are read for.
+/// Returns a key, a number and a value, whatever they are read for.
 #[inline(always)]
 pub fn key_number_literal<'a>(
     bytes: &'a [u8],
@@ -150,7 +151,7 @@ pub fn key_number_literal<'a>(
     Some((key, index, value))
 }
 
-/// A number, whatever it is read for.
+/// Returns a number, whatever it is read for.
 pub fn only_number(bytes: &[u8]) -> Option<u64>
     ensures { (f : ℕ → asked.Command) → option_map f result ≡ command_of_one (with_number f) bytes.now }
 {
@@ -158,14 +159,14 @@ pub fn only_number(bytes: &[u8]) -> Option<u64>
     number(word)
 }
 
-/// Whether nothing stands behind a command word.
+/// Tells whether nothing stands after a command word.
 pub fn is_alone(bytes: &[u8]) -> bool
     ensures { result ≡ at_end bytes.now }
 {
     at_end(bytes)
 }
 
-/// The deed, where nothing stands behind its word.
+/// Returns the deed, where nothing stands after its word.
 pub fn read_alone<'a>(deed: Deed<'a>, bytes: &[u8]) -> Option<Deed<'a>>
     ensures { option_map deed_of result ≡ (if at_end bytes.now then Some (deed_of deed.entry) else None) }
 {

@@ -1,6 +1,5 @@
-//! How numbers, values, texts, names and kinds are printed. Each call writes all of its text, or answers
-//! `DeviceFault` where the writer failed: what went out is then shorter than the text, and the text
-//! begins with it.
+//! How numbers, values, texts, names and kinds are printed. Each call writes all of its text, or answers `DeviceFault`
+//! if the writer failed: what went out is then shorter than the text, and the text begins with it.
 
 ghost use Rattle.std.specs.Prelude.{◌≡◌, ◌==◌, ◌||◌, ◌-◌, ◌^◌, ◌<◌, ◌++◌, ◌∷◌, [], decimal, flat_map};
 ghost use Rattle.std.specs.Fmt.{signed_decimal};
@@ -59,7 +58,7 @@ const LONGEST_FRONT: usize = 3;
 /// Where the digits of a number end in a line that is written at once: they are 20 at most.
 const DIGITS_END: usize = LONGEST_FRONT + 20;
 
-/// Writes a number behind a text, and the end of the line: at once where the text is short.
+/// Writes a number after a text, and the end of the line: at once if the text is short.
 #[inline(always)]
 pub fn put_number_line<S: Sink>(out: &mut S, front: &[u8], number: u64) -> Result<(), DeviceFault>
     requires { (S.history out.old).failures < 2 ^ 64 - 1 }
@@ -103,7 +102,7 @@ pub fn put_value_line<S: Sink>(out: &mut S, value: ScalarValue) -> Result<(), De
     }
 }
 
-/// The hexadecimal digit of a number below 16, in lower case.
+/// Returns the hexadecimal digit of a number below 16, in lower case.
 pub fn digit_text(digit: u8) -> u8
     requires { digit < 16 }
     ensures { result ≡ digit_text digit }
@@ -153,7 +152,7 @@ pub fn put_text<S: Sink>(out: &mut S, text: &[u8]) -> Result<(), DeviceFault>
     write_all(out, b"\"")
 }
 
-/// Writes a name: bare where it can be spelled bare, else as a text in quotes.
+/// Writes a name: bare where it can be spelled bare, otherwise as a text in quotes.
 pub fn put_name<S: Sink>(out: &mut S, name: &[u8]) -> Result<(), DeviceFault>
     requires { (S.history out.old).failures < 2 ^ 64 - 1 }
     ensures { Writes (S.history out.old) (S.history out.new) result (name_text name.now) }
@@ -164,7 +163,7 @@ pub fn put_name<S: Sink>(out: &mut S, name: &[u8]) -> Result<(), DeviceFault>
     put_text(out, name)
 }
 
-/// Writes slices, one behind another.
+/// Writes slices, one after another.
 pub fn put_parts<S: Sink>(out: &mut S, parts: &[&[u8]]) -> Result<(), DeviceFault>
     requires { (S.history out.old).failures < 2 ^ 64 - 1 }
     ensures { Writes (S.history out.old) (S.history out.new) result (flat_map part_text parts.now) }

@@ -5,48 +5,48 @@ ghost use Rattle.segment_lang.specs.Laws.{LongLinesAreCut, NumbersAreDecimals, P
 ghost use Rattle.segment_lang.specs.Laws.{PrintedNamesAreRead, PrintedTextsAreRead, TextsAreSpelled, WholesAreDecimals};
 ghost use Rattle.segment_lang.specs.Laws.{WordsFollow, WordsHaveRoom};
 
-/// A word has a number exactly where it is the number's decimal text, and the number is below 2 ^ 64.
+/// States that a word has a number exactly if it is the number's decimal text, and the number is below 2 ^ 64.
 pub fn numbers_are_decimals()
     ensures { NumbersAreDecimals }
 {}
 
-/// A word has a whole number exactly where it is the number's decimal text, from -9223372036854775808 to
+/// States that a word has a whole number exactly if it is the number's decimal text, from -9223372036854775808 to
 /// 18446744073709551615.
 pub fn wholes_are_decimals()
     ensures { WholesAreDecimals }
 {}
 
-/// A text is read exactly where items spell it, a quote closes it, and the word ends behind the quote.
+/// States that a text is read exactly where items spell it, a quote closes it, and the word ends after the quote.
 pub fn texts_are_spelled()
     ensures { TextsAreSpelled }
 {}
 
-/// A text that is printed is read as the bytes that it was printed for.
+/// States that a text that is printed is read as the bytes that it was printed for.
 pub fn printed_texts_are_read()
     ensures { PrintedTextsAreRead }
 {}
 
-/// A kind of the language that is printed is read as the kind.
+/// States that a kind of the language that is printed is read as the kind.
 pub fn printed_kinds_are_read()
     ensures { PrintedKindsAreRead }
 {}
 
-/// A name that is printed is read as the key of the name.
+/// States that a name that is printed is read as the key of the name.
 pub fn printed_names_are_read()
     ensures { PrintedNamesAreRead }
 {}
 
-/// All words of a line are those that are read one after another.
+/// States that all words of a line are those that are read one after another.
 pub fn words_follow()
     ensures { WordsFollow }
 {}
 
-/// Words stand for no more bytes than they are spelled by, one byte behind each counted.
+/// States that words stand for no more bytes than they are spelled by, one byte after each counted.
 pub fn words_have_room()
     ensures { WordsHaveRoom }
 {}
 
-/// Of a line that is too long, the first 4098 bytes say so: the others can be dropped.
+/// States that of a line that is too long, the first 4098 bytes say so: the others can be dropped.
 pub fn long_lines_are_cut()
     ensures { LongLinesAreCut }
 {}

@@ -32,7 +32,7 @@ impl<'a> Model for LiteralValues<'a> {
 }
 
 impl LiteralValues<'_> {
-    /// The kind of the values.
+    /// Returns the kind of the values.
     pub fn kind(&self) -> ScalarKind
         ensures kind { result ≡ self.now.kind }
         ensures values { AllByRecursion (λ z. IsTrue (is_value result z)) self.now.numbers }
@@ -55,7 +55,7 @@ impl Iterator for LiteralValues<'_> {
     }
 }
 
-/// How many values of the kind the words are, or `None` where one is no such value.
+/// Returns how many values of the kind the words are, or `None` if one is no such value.
 fn count_values(kind: ScalarKind, bytes: &[u8]) -> Option<usize>
     ensures { result ≡ option_map length (numbers_at kind bytes.now) }
 {
@@ -72,7 +72,7 @@ fn count_values(kind: ScalarKind, bytes: &[u8]) -> Option<usize>
     Some(count)
 }
 
-/// The values of the kind that all words are.
+/// Returns the values of the kind that all words are.
 pub fn read_elements(kind: ScalarKind, bytes: &[u8]) -> Option<LiteralValues<'_>>
     ensures { result ≡ option_map (typed_numbers kind) (numbers_at kind bytes.now) }
 {
@@ -83,7 +83,7 @@ pub fn read_elements(kind: ScalarKind, bytes: &[u8]) -> Option<LiteralValues<'_>
     })
 }
 
-/// The values of the kind that the words are, where they are as many.
+/// Returns the values of the kind that the words are, if they are as many.
 pub fn read_values(kind: ScalarKind, count: u32, bytes: &[u8]) -> Option<LiteralValues<'_>>
     ensures { result ≡ counted_values kind count bytes.now }
 {

@@ -38,7 +38,8 @@ impl<'a> Model for Quoted<'a> {
 impl<'a> Quoted<'a> {
     ghost use Rattle.seg_types.specs.Keys.{name_seen};
 
-    /// The bytes. They are lent from the line, or decoded into `scratch` where the line escapes one, whatever it held.
+    /// Returns the bytes. They are lent from the line, or decoded into `scratch` where the line escapes one, whatever
+    /// it held.
     pub fn bytes(&self, scratch: &'a mut LineBuffer) -> &'a [u8]
         requires { length self.now ≤ 4096 }
         ensures { result.now ≡ self.now }
@@ -53,7 +54,7 @@ impl<'a> Quoted<'a> {
         }
     }
 
-    /// The bytes as the line spells them, or `None` where one is escaped.
+    /// Returns the bytes as the line spells them, or `None` if one is escaped.
     fn lent(&self) -> Option<&'a [u8]>
         ensures { IfSome result (λ bytes. bytes.now ≡ self.now) }
     {
@@ -67,8 +68,8 @@ impl<'a> Quoted<'a> {
         Some(bytes)
     }
 
-    /// The name that the bytes are, or `None` where they are none. It is lent from the line, or decoded into `scratch`
-    /// where the line escapes a byte of it.
+    /// Returns the name that the bytes are, or `None` if they are none. It is lent from the line, or decoded into
+    /// `scratch` where the line escapes a byte of it.
     pub fn to_name(&self, scratch: &'a mut LineBuffer) -> Option<Name<'a>>
         ensures { option_map name_seen result ≡ (if is_name current self.now then Some self.now else None) }
     {
@@ -78,7 +79,7 @@ impl<'a> Quoted<'a> {
         }
     }
 
-    /// The name that the bytes are, decoded into `scratch`.
+    /// Returns the name that the bytes are, decoded into `scratch`.
     fn decode_name(&self, scratch: &'a mut LineBuffer) -> Option<Name<'a>>
         ensures { option_map name_seen result ≡ (if is_name current self.now then Some self.now else None) }
     {
@@ -116,14 +117,14 @@ pub enum Word<'a> {
     Text(Quoted<'a>),
 }
 
-/// Whether a byte may stand in a bare word: 0x21 to 0x7E but a quote.
+/// Tells whether a byte may stand in a bare word: 0x21 to 0x7E but a quote.
 fn is_bare(byte: u8) -> bool
     ensures { result ≡ is_bare byte }
 {
     byte.is_ascii_graphic() && byte != b'"'
 }
 
-/// The bytes in front that may stand in a bare word, and what is from the first other one on.
+/// Returns the bytes in front that may stand in a bare word, and what is from the first other one on.
 fn split_bare(bytes: &[u8]) -> (&[u8], &[u8])
     ensures front { result.0.now ≡ take (prefix_len is_bare bytes.now) bytes.now }
     ensures rest { result.1.now ≡ drop (prefix_len is_bare bytes.now) bytes.now }
@@ -139,7 +140,7 @@ fn split_bare(bytes: &[u8]) -> (&[u8], &[u8])
     bytes.split_at(bytes.len() - rest.len())
 }
 
-/// The bare word in front, up to a blank, and what is behind it.
+/// Returns the bare word in front, up to a blank, and what is after it.
 fn read_bare(bytes: &[u8]) -> Option<(&[u8], &[u8])>
     ensures value { option_map (λ x. (x.0.now, x.1.now)) result ≡ bare_at bytes.now }
     ensures shrinking { IfSome result (λ x. length (up_to_blank bytes.now) + length x.1.now ≡ length bytes.now) }
@@ -152,14 +153,14 @@ fn read_bare(bytes: &[u8]) -> Option<(&[u8], &[u8])>
     Some((word, rest))
 }
 
-/// Whether a byte stands for itself in a text.
+/// Tells whether a byte stands for itself in a text.
 fn is_plain(byte: u8) -> bool
     ensures { result ≡ is_plain byte }
 {
     byte >= b' ' && byte != 0x7F && byte != b'"' && byte != b'\\'
 }
 
-/// The value of a digit of `0` to `9`, `a` to `f`, from 0 to 15.
+/// Returns the value of a digit of `0` to `9`, `a` to `f`, from 0 to 15.
 fn digit_of(byte: u8) -> Option<u8>
     ensures value { result ≡ digit_of byte }
     ensures max_size { IfSome result (λ digit. digit < 16) }
@@ -173,7 +174,7 @@ fn digit_of(byte: u8) -> Option<u8>
     }
 }
 
-/// The byte that two digits in front spell, and what is behind them.
+/// Returns the byte that two digits in front spell, and what is after them.
 #[tactic(auto, unfolding(crate::specs::Tokens::digits_at))]
 fn read_digits(bytes: &[u8]) -> Option<(u8, &[u8])>
     ensures value { option_map (λ x. (x.0, x.1.now)) result ≡ digits_at bytes.now }
@@ -187,7 +188,7 @@ fn read_digits(bytes: &[u8]) -> Option<(u8, &[u8])>
     Some((16 * high + low, rest))
 }
 
-/// The byte that stands behind a backslash, and what is behind it.
+/// Returns the byte that stands after a backslash, and what is after it.
 #[tactic(auto, unfolding(crate::specs::Tokens::escape_at))]
 fn read_escape(bytes: &[u8]) -> Option<(u8, &[u8])>
     ensures value { option_map (λ x. (x.0, x.1.now)) result ≡ escape_at bytes.now }
@@ -203,7 +204,7 @@ fn read_escape(bytes: &[u8]) -> Option<(u8, &[u8])>
     }
 }
 
-/// The next byte that a text stands for, and what is behind its spelling. A quote is none.
+/// Returns the next byte that a text stands for, and what is after its spelling. A quote is none.
 #[tactic(auto, unfolding(crate::specs::Tokens::item_at))]
 fn read_item(bytes: &[u8]) -> Option<(u8, &[u8])>
     ensures value { option_map (λ x. (x.0, x.1.now)) result ≡ item_at bytes.now }
@@ -221,7 +222,7 @@ fn read_item(bytes: &[u8]) -> Option<(u8, &[u8])>
     Some((*byte, rest))
 }
 
-/// The bytes in front of the first quote or backslash, and what is from there on.
+/// Returns the bytes in front of the first quote or backslash, and what is from there on.
 fn split_unescaped(bytes: &[u8]) -> (&[u8], &[u8])
     ensures front { result.0.now ≡ take_while is_unescaped bytes.now }
     ensures rest { result.1.now ≡ drop (length (take_while is_unescaped bytes.now)) bytes.now }
@@ -236,7 +237,7 @@ fn split_unescaped(bytes: &[u8]) -> (&[u8], &[u8])
     bytes.split_at(bytes.len() - rest.len())
 }
 
-/// Whether a word may end here: a blank or the end of the line follows.
+/// Tells whether a word may end here: a blank or the end of the line follows.
 pub fn ends_word(bytes: &[u8]) -> bool
     ensures { result ≡ ends_word bytes.now }
 {
@@ -246,7 +247,7 @@ pub fn ends_word(bytes: &[u8]) -> bool
     }
 }
 
-/// What stands behind the items of a text.
+/// Returns what stands after the items of a text.
 fn skip_items(bytes: &[u8]) -> &[u8]
     ensures end { item_at result.now ≡ None }
     ensures unchanged { behind_text result.now ≡ behind_text bytes.now }
@@ -259,7 +260,7 @@ fn skip_items(bytes: &[u8]) -> &[u8]
     rest
 }
 
-/// What is behind the quote that closes a text, where it stands in front and the word ends there.
+/// Returns what is after the quote that closes a text, where it stands in front and the word ends there.
 fn close_text(bytes: &[u8]) -> Option<&[u8]>
     ensures value { option_map (λ x. x.now) result ≡ behind_quote bytes.now }
     ensures shrinking { IfSome result (λ x. length x.now < length bytes.now) }
@@ -273,7 +274,7 @@ fn close_text(bytes: &[u8]) -> Option<&[u8]>
     Some(rest)
 }
 
-/// The text behind the quote that opens it, and what is behind the quote that closes it.
+/// Returns the text after the quote that opens it, and what is after the quote that closes it.
 fn read_text(bytes: &[u8]) -> Option<(Quoted<'_>, &[u8])>
     ensures value { option_map (λ x. (x.0, x.1.now)) result ≡ text_at bytes.now }
     ensures shrinking { IfSome result (λ x. length x.1.now < length bytes.now) }
@@ -283,8 +284,8 @@ fn read_text(bytes: &[u8]) -> Option<(Quoted<'_>, &[u8])>
     Some((Quoted { behind: bytes }, rest))
 }
 
-/// The next word, behind the blanks in front of it, and what is behind it. There is none at the end,
-/// and where a byte does not fit.
+/// Returns the next word, after the blanks in front of it, and what is after it. There is none at the end, and where a
+/// byte does not fit.
 #[tactic(auto, unfolding(crate::specs::Tokens::next_word, crate::specs::Tokens::word_at))]
 pub fn next_word(bytes: &[u8]) -> Option<(Word<'_>, &[u8])>
     ensures value { option_map (λ x. (word_of x.0, x.1.now)) result ≡ next_word bytes.now }
@@ -305,7 +306,7 @@ pub fn next_word(bytes: &[u8]) -> Option<(Word<'_>, &[u8])>
     Some((Word::Bare(word), rest))
 }
 
-/// The only word of the bytes: one that is followed by blanks alone.
+/// Returns the only word of the bytes: one that is followed by blanks alone.
 #[tactic(auto, unfolding(crate::specs::Tokens::only_word))]
 pub fn only_word(bytes: &[u8]) -> Option<Word<'_>>
     ensures value { option_map word_of result ≡ only_word bytes.now }
@@ -318,7 +319,7 @@ pub fn only_word(bytes: &[u8]) -> Option<Word<'_>>
     Some(word)
 }
 
-/// The only two words of the bytes.
+/// Returns the only two words of the bytes.
 pub fn two_words(bytes: &[u8]) -> Option<(Word<'_>, Word<'_>)>
     ensures { option_map (λ x. (word_of x.0, word_of x.1)) result ≡ two_words bytes.now }
 {
@@ -327,7 +328,7 @@ pub fn two_words(bytes: &[u8]) -> Option<(Word<'_>, Word<'_>)>
     Some((first, second))
 }
 
-/// The only three words of the bytes.
+/// Returns the only three words of the bytes.
 pub fn three_words(bytes: &[u8]) -> Option<(Word<'_>, Word<'_>, Word<'_>)>
     ensures { option_map (λ x. (word_of x.0, word_of x.1, word_of x.2)) result ≡ three_words bytes.now }
 {
@@ -336,7 +337,7 @@ pub fn three_words(bytes: &[u8]) -> Option<(Word<'_>, Word<'_>, Word<'_>)>
     Some((first, second, third))
 }
 
-/// The next two words, and what is behind them.
+/// Returns the next two words, and what is after them.
 pub fn next_two(bytes: &[u8]) -> Option<(Word<'_>, Word<'_>, &[u8])>
     ensures { option_map (λ x. (word_of x.0, word_of x.1, x.2.now)) result ≡ next_two bytes.now }
 {

@@ -23,7 +23,7 @@ pub data Value : Type 0 where
   Pairs : ScalarKind → ScalarKind → List NumberPair → Value
   Texts : List OwnedText → BackingArray → Value
 
--- its class, its name, which others than named objects have not, its value, and the block of its own
+-- an object: its class, its name (empty if it is not named), its value, and its own block
 pub record Object : Type 0 where
   pub class : Class
   pub name : List ℕ

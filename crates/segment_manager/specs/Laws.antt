@@ -16,7 +16,7 @@ pub record IsSafe (mode : Mode) (d : Directory) (c : Command) : Type 0 where
   pub refused : (r : Refusal) → (step mode d c).0 ≡ Refused r → (step mode d c).1 ≡ d
   pub read_only : is_read_only mode ≡ true → is_changing c ≡ true → step mode d c ≡ (Refused ReadOnly, d)
 
--- the same of the step of a call that is for objects of one kind
+-- a step of a call for objects of one kind is safe
 pub record IsSafeOfKind (mode : Mode) (d : Directory) (key : Key) (kind : Kind) (c : Command) : Type 0 where
   pub refused : (r : Refusal) → (step_of_kind mode d key kind c).0 ≡ Refused r → (step_of_kind mode d key kind c).1 ≡ d
   pub read_only : is_read_only mode ≡ true → is_changing c ≡ true
@@ -49,7 +49,7 @@ PoppedTextsLeadOn = (old new : SegmentState) (key : Key) (result : Result (List 
     → TakesStep old new (Pop key) (answer_of TextElement result)
     → StepsWithoutAnswer old new (Pop key) (refusal_in result)
 
--- and what leads on and is refused leaves the directory
+-- the law: a call that answers less than its command prints, and is refused, leaves the directory
 abbrev pub RefusedCallsStay : Type 0
 RefusedCallsStay = (old new : SegmentState) (c : Command) (r : Refusal) → StepsWithoutAnswer old new c (Some r)
     → (d : Directory) → DenotesCurrent old.cut.bytes d → DenotesCurrent new.cut.bytes d
@@ -90,7 +90,7 @@ abbrev pub KeysOfKindMeanObjects : Type 0
 KeysOfKindMeanObjects = (mode : Mode) (d : Directory) (key other : Key) (kind : Kind) (c : Command) → object_at d key
     ≡ object_at d other → step_of_kind mode d key kind (at_key key c) ≡ step_of_kind mode d other kind (at_key other c)
 
--- and an object that was located has its handle for a key
+-- the law: an object that was located is the one of its handle
 abbrev pub HandlesMeanObjects : Type 0
 HandlesMeanObjects = (s : SegmentState) (key : Key) (o : Located) → IsLocated s key o → (d : Directory)
     → DenotesCurrent s.cut.bytes d → object_at d key ≡ object_at d (ByHandle o.handle)

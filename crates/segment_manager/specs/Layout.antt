@@ -34,6 +34,6 @@ header_len = 128
 abbrev pub name_class_at : ℕ
 name_class_at = 8
 
--- then the name with its zeros, and then the value
+-- the bytes of an object's head, after which its name, zeros and its value follow
 abbrev pub head_len : ℕ
 head_len = 16

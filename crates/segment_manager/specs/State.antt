@@ -18,7 +18,7 @@ pub record DenotesCurrent (b : List ℕ) (d : Directory) : Type 0 where
 abbrev pub IsSegment : List ℕ → Type 0
 IsSegment b = (d : Directory) × DenotesCurrent b d
 
--- the same segment, but for its bytes
+-- the segment keeps its mode and its place; its bytes may change
 pub record KeepsModeAndPlace (old new : SegmentState) : Type 0 where
   pub mode : new.mode ≡ old.mode
   pub place : SameSurroundings old.cut new.cut
@@ -38,7 +38,7 @@ pub record Transitions {A : Type 0} (old new : SegmentState) (answer : A) (next 
 abbrev pub TakesStep : SegmentState → SegmentState → Command → Answer → Type 0
 TakesStep old new c answer = Transitions old new answer (λ d. step old.mode d c)
 
--- the same of a call that is for objects of one kind
+-- a call for objects of one kind is one step of the directory machine
 abbrev pub TakesStepOfKind : SegmentState → SegmentState → Key → Kind → Command → Answer → Type 0
 TakesStepOfKind old new key kind c answer = Transitions old new answer (λ d. step_of_kind old.mode d key kind c)
 
@@ -52,7 +52,7 @@ StepsWithoutAnswer old new c refusal =
 abbrev pub AnswersQuery : SegmentState → Command → Answer → Type 0
 AnswersQuery s c answer = AnswersWith s (λ d. (step s.mode d c).0) answer
 
--- the same of a call that is for objects of one kind
+-- a call for objects of one kind changes nothing, and answers as the machine does
 abbrev pub AnswersQueryOfKind : SegmentState → Key → Kind → Command → Answer → Type 0
 AnswersQueryOfKind s key kind c answer = AnswersWith s (λ d. (step_of_kind s.mode d key kind c).0) answer
 
@@ -66,7 +66,7 @@ abbrev pub answer_of : {A : Type 0} → (A → Answer) → Result A Refusal → 
 answer_of f (Ok a) = f a
 answer_of f (Err r) = Refused r
 
--- and why it is refused, if it is
+-- why a call is refused, if it is
 abbrev pub refusal_in : {A : Type 0} → Result A Refusal → Option Refusal
 refusal_in (Ok a) = None
 refusal_in (Err r) = Some r

@@ -17,9 +17,9 @@ use offset_link::NULL;
 use raw_region::{RawRegion, Window};
 
 impl Segment {
-    /// A segment with nothing in it: the `size` bytes of the region from `base` on, which is a multiple of 16. All of
-    /// these bytes become 0 but for the header, the tags and the two null links of its gap; no other byte of the region
-    /// changes.
+    /// Returns a segment with nothing in it: the `size` bytes of the region from `base` on, which is a multiple of 16.
+    /// All of these bytes become 0 but for the header, the tags and the two null links of its gap; no other byte of the
+    /// region changes.
     ///
     /// Example: `let segment = Segment::create(RawRegion::new(alloc, 1024)?, 0, 1024, Mode::Write)?`.
     ///
@@ -29,8 +29,8 @@ impl Segment {
     ///
     /// # Errors
     ///
-    /// `BadSize` where the size is neither 144 nor a multiple of 16 from 176 to 1073741824, and else `RegionTooSmall`
-    /// where the region ends before base plus size. The region comes back as it was.
+    /// `BadSize` if the size is neither 144 nor a multiple of 16 from 176 to 1073741824. Otherwise `RegionTooSmall` if
+    /// the region ends before base plus size. The region comes back as it was.
     pub fn create(
         region: RawRegion,
         base: u64,
@@ -53,9 +53,9 @@ impl Segment {
         Ok(Segment { heap, mode })
     }
 
-    /// The same segment in another region, from `base` on, which is a multiple of 16: its bytes, its directory and its
-    /// mode are those from before, and handles are too. The region that it leaves comes with it, as it was. No byte of
-    /// the new region outside the segment changes.
+    /// Moves the segment to another region, from `base` on, which is a multiple of 16. Its bytes, its directory, its
+    /// mode and all handles stay. The region that it leaves comes with it, as it was. No byte of the new region outside
+    /// the segment changes.
     ///
     /// Example: `let (moved, left) = segment.relocate(RawRegion::new(alloc, 4096)?, 512)?`.
     ///
@@ -65,8 +65,8 @@ impl Segment {
     ///
     /// # Errors
     ///
-    /// `RelocateRefused` where the region ends before base plus the segment's size. The segment and the region come
-    /// back as they were.
+    /// `RelocateRefused` if the region ends before base plus the segment's size. The segment and the region come back
+    /// as they were.
     pub fn relocate(
         self,
         region: RawRegion,

@@ -1,5 +1,5 @@
-//! Why no segment is made or moved. What was handed in comes back with a refusal, and is let go where a refusal is
-//! passed on by `?` as an error of another type.
+//! Why no segment is made or moved. What was handed in comes back with a refusal, and is let go if a refusal is passed
+//! on by `?` as an error of another type.
 ghost use Rattle.std.specs.Prelude.{◌≡◌};
 
 use crate::segment::Segment;
@@ -29,7 +29,7 @@ pub struct CreateRefused {
 }
 
 impl CreateRefused {
-    /// The region as it was, and why.
+    /// Returns the region as it was, and why.
     pub fn into_parts(self) -> (RawRegion, CreateError)
         ensures region { result.0 ≡ self.region }
         ensures cause { result.1 ≡ self.cause }
@@ -37,7 +37,7 @@ impl CreateRefused {
         (self.region, self.cause)
     }
 
-    /// The region as it was.
+    /// Returns the region as it was.
     pub fn into_region(self) -> RawRegion
         ensures { result ≡ self.region }
     {
@@ -72,7 +72,7 @@ pub struct RelocateRefused {
 }
 
 impl RelocateRefused {
-    /// The segment and the region as they were.
+    /// Returns the segment and the region as they were.
     pub fn into_parts(self) -> (Segment, RawRegion)
         ensures segment { result.0 ≡ self.segment }
         ensures region { result.1 ≡ self.region }

@@ -32,7 +32,7 @@ pub const RESERVED_AT: u64 = 80;
 /// word has the code of the kind, and the count of the values in the upper half.
 pub const NAME_CLASS_AT: u64 = 8;
 
-/// The length of a head. Behind it stands the name with zeros up to a multiple of 8, and behind that the value.
+/// The length of a head. After it stands the name with zeros up to a multiple of 8, and after that the value.
 pub const HEAD_LEN: u64 = 16;
 
 /// The bytes of a container in its object: a link to its storage or its root, and two words more.
@@ -41,7 +41,7 @@ pub const CONTAINER_LEN: u64 = 24;
 /// What a word is in parts of: the upper half of a word counts so many.
 pub const HALF: u64 = 0x1_0000_0000;
 
-/// A number of bytes, up to the next multiple of 8.
+/// Returns a number of bytes, up to the next multiple of 8.
 pub fn padded(len: u64) -> u64
     requires { len < 2 ^ 32 }
     ensures { result ≡ padded_of len }
@@ -49,7 +49,7 @@ pub fn padded(len: u64) -> u64
     (len + 7) / 8 * 8
 }
 
-/// Where the value of an object stands, behind a name of so many bytes.
+/// Returns where the value of an object stands, after a name of so many bytes.
 pub fn value_at(name_len: u64) -> u64
     requires { name_len < 2 ^ 32 }
     ensures { result ≡ head_len + padded_of name_len }

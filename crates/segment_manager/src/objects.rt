@@ -1,4 +1,4 @@
-//! Objects, whatever they hold: found by their keys, made, told of, read and written where they are scalars, and
+//! Objects, whatever they hold: found by their keys, made, told of, read and written if they are scalars, and
 //! destroyed.
 pub(crate) mod accessing;
 pub(crate) mod construct_keys;

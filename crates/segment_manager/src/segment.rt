@@ -31,7 +31,7 @@ impl Model for Segment {
 }
 
 impl Segment {
-    /// How the segment is open.
+    /// Returns how the segment is open.
     ///
     /// Example: `if segment.mode() == Mode::Write`.
     pub fn mode(&self) -> Mode
@@ -40,7 +40,7 @@ impl Segment {
         self.mode
     }
 
-    /// All bytes of the segment, which are its image.
+    /// Returns all bytes of the segment, which are its image.
     ///
     /// Example: `let image = segment.as_bytes()`.
     pub fn as_bytes(&self) -> &[u8]
@@ -50,7 +50,7 @@ impl Segment {
         self.heap.as_bytes()
     }
 
-    /// The number of bytes in the segment.
+    /// Returns the number of bytes in the segment.
     ///
     /// Example: `let bytes = segment.size()`.
     pub fn size(&self) -> u64
@@ -59,7 +59,7 @@ impl Segment {
         self.heap.header_word(SIZE_AT)
     }
 
-    /// The bytes of all gaps, their tags included.
+    /// Returns the bytes of all gaps, their tags included.
     ///
     /// Example: `let bytes = segment.free()`.
     pub fn free(&self) -> u64
@@ -68,7 +68,7 @@ impl Segment {
         self.heap.free_bytes()
     }
 
-    /// The number of bytes of the region behind the segment.
+    /// Returns the number of bytes of the region after the segment.
     ///
     /// Example: `let bytes = segment.region_left()`.
     pub fn region_left(&self) -> u64
@@ -77,7 +77,7 @@ impl Segment {
         self.heap.region_left()
     }
 
-    /// The region that the segment lies in, with the bytes that it has now.
+    /// Returns the region that the segment lies in, with the bytes that it has now.
     ///
     /// Example: `let region = segment.into_region()`.
     pub fn into_region(self) -> RawRegion
@@ -87,7 +87,7 @@ impl Segment {
         heap.into_window().into_region()
     }
 
-    /// Whether the segment is open for reading.
+    /// Tells whether the segment is open for reading.
     pub(crate) fn is_read_only(&self) -> bool
         ensures { result ≡ is_read_only self.now.mode }
     {
@@ -95,7 +95,7 @@ impl Segment {
     }
 }
 
-/// The segment that the bytes of a window already are. No byte changes.
+/// Returns the segment that the bytes of a window already are. No byte changes.
 ///
 /// Example: `let segment = adopt(window, Mode::Write)`.
 ///
@@ -111,7 +111,7 @@ pub fn adopt(window: Window, mode: Mode) -> Segment
     segment_of(Heap::adopt(window), mode)
 }
 
-/// The segment that the bytes of a heap already are. No byte changes, and no tile is read.
+/// Returns the segment that the bytes of a heap already are. No byte changes, and no tile is read.
 ///
 /// Example: `let segment = segment_of(heap, Mode::Write)`.
 ///

@@ -16,66 +16,67 @@ use crate::layout::{
     SIZE_AT, UNIQUE_AT,
 };
 
-/// A command that is refused changes nothing, and a segment that is open for reading refuses each command that may
-/// change it.
+/// States that a command that is refused changes nothing, and a segment that is open for reading refuses each command
+/// that may change it.
 pub fn refusals_change_nothing()
     ensures any_kind { RefusalsChangeNothing }
     ensures kind_fit { RefusalsOfKindChangeNothing }
 {}
 
-/// A command that only reads changes nothing.
+/// States that a command that only reads changes nothing.
 pub fn reads_change_nothing()
     ensures any_kind { ReadsChangeNothing }
     ensures kind_fit { ReadsOfKindChangeNothing }
 {}
 
-/// A step leads on, refused for the reason that it answers, and what is refused leaves the directory: so it is with a
-/// call that answers less than its command prints.
+/// States how a step goes for a call that answers less than its command prints. It is refused for the reason that it
+/// answers, and a refused step leaves the directory.
 pub fn steps_lead_on()
     ensures link_target { StepsLeadOn }
     ensures changes { PoppedTextsLeadOn }
     ensures refused { RefusedCallsStay }
 {}
 
-/// A command on an object is the same under each key that means it, and the handle of an object that was located is
-/// such a key.
+/// States that a command on an object is the same under each key that means it, and the handle of an object that was
+/// located is such a key.
 pub fn keys_mean_objects()
     ensures any_kind { KeysMeanObjects }
     ensures kind_fit { KeysOfKindMeanObjects }
     ensures handle { HandlesMeanObjects }
 {}
 
-/// A command on the elements of an object keeps each object, as one does that only reads: so an object that was located
-/// goes on standing for the object of its handle.
+/// States that a command on elements, or one that only reads, keeps each object. So an object that was located stays
+/// the object of its handle.
 pub fn objects_stay()
     ensures { ObjectsStay }
 {}
 
-/// Each index follows its objects: one that is put in or taken out is one entry more or less, and another value changes
-/// no entry.
+/// States that each index follows its objects: one that is put in or taken out is one entry more or less, and another
+/// value changes no entry.
 pub fn indexes_follow_objects()
     ensures { IndexesFollowObjects }
 {}
 
-/// Several texts that ask for blocks get them placed one after another, each text that is not empty one; where one has
-/// no fit, there is no space for all.
+/// States that several texts that ask for blocks get them one after another, each text that is not empty one. If one
+/// has no fit, there is no space for all.
 pub fn texts_are_placed()
     ensures { TextsArePlaced }
 {}
 
-/// Of each object that the bytes of a segment denote, the words of its index entry are its kind's code, its count, its
-/// class and its name.
+/// States that of each object that the bytes of a segment denote, the words of its index entry are its kind's code, its
+/// count, its class and its name.
 pub fn entries_say_objects()
     ensures { EntriesSayObjects }
 {}
 
-/// An index that is less than the number of objects that was answered has an object: so the calls by place may be made.
+/// States that an index that is less than the number of objects that was answered has an object: so the calls by place
+/// may be made.
 pub fn counted_are_below()
     ensures { CountedAreBelow }
 {}
 
-/// Each constant of `layout` is what the definition of the bytes of a segment names: what stands in its header and
-/// where, where the words of an object's head stand, and what the upper half of a word counts.
+/// States that each constant of `layout` is what the definition of a segment's bytes names. These are the header's
+/// words, the words of an object's head, and what the upper half of a word counts.
 pub fn layout_is_denoted()
     ensures magic { MAGIC ≡ magic_number }
     ensures format { FORMAT ≡ current }

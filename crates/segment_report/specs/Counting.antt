@@ -42,7 +42,7 @@ tally_in ss = record {
   end_gap = end_gap_in ss;
 }
 
--- one more
+-- a count and one more
 abbrev pub more : Usage → ℕ → Usage
 more u len = record { count = u.count + 1; bytes = u.bytes + len }
 

@@ -12,7 +12,7 @@ use Rattle.segment_report.specs.Stat.{stat_text}
 
 -- ---- what each page has
 
--- how it begins: its encoding and its style
+-- how the page begins: its encoding and its style
 abbrev pub page_head : List ℕ
 page_head =
     codes "<!DOCTYPE html>\n<html lang='en'><head><meta charset='utf-8'><title>Segment</title>\n"
@@ -31,7 +31,7 @@ table_head =
     codes "</script>\n<h2>Objects</h2><input id='search' placeholder='search'>\n<table id='objects'><thead>"
     ++ codes "<tr><th>class</th><th>name</th><th>kind</th><th>count</th><th>handle</th></tr></thead><tbody>\n"
 
--- how it ends: the script that lays out the figures, and sorts and searches the table
+-- how the page ends: the script that lays out the figures, and sorts and searches the table
 abbrev pub page_end : List ℕ
 page_end =
     codes "</tbody></table>\n<script>\n"

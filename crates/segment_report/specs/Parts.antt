@@ -13,7 +13,7 @@ plain_byte before last b =
     else if (before == 0xEF) && (last == 0xBF) && nat_le 0xBE b then 0xBD ∷ []
     else b ∷ []
 
--- the same, and what means something in XML by its name
+-- a byte after two others in a text of XML: what means something in XML is written by its name
 abbrev pub xml_byte : ℕ → ℕ → ℕ → List ℕ
 xml_byte before last b =
     if b == 0x26 then codes "&amp;"

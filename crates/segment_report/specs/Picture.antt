@@ -43,7 +43,7 @@ box_text left right top from len sort =
     ++ (codes "H" ++ (decimal left ++ (codes "Z'><title>" ++ (decimal from ++ (codes " " ++ (decimal len ++ (
     codes " " ++ (sort ++ codes "</title></path>\n")))))))))))))))))
 
--- the same of bytes that lie in several rows, the first at one height and the last at another
+-- the shape of bytes that lie in several rows, the first at one height and the last at another
 abbrev pub rows_text : ℕ → ℕ → ℕ → ℕ → ℕ → ℕ → List ℕ → List ℕ
 rows_text left right top last from len sort =
     codes "<path class='" ++ (sort
@@ -57,7 +57,7 @@ abbrev pub outline_text : ℕ → ℕ → ℕ → ℕ → ℕ → ℕ → List �
 outline_text left right top last from len sort =
     if top == last then box_text left right top from len sort else rows_text left right top last from len sort
 
--- so many bytes from an offset on, of a sort that has a style
+-- the shape of so many bytes from an offset on, of a sort that has a style
 abbrev pub shape_text : ℕ → ℕ → ℕ → List ℕ → List ℕ
 shape_text per from len sort =
     outline_text (left_of per from) (right_of per (from + len - 1)) (top_of per from) (top_of per (from + len - 1))
@@ -115,7 +115,7 @@ span_text d s =
     shape_text (bytes_in_row d.size) s.offset s.len (sort_of s.use_of)
     ++ object_label (bytes_in_row d.size) s.offset s.len (object_in d s.use_of s.offset)
 
--- how it begins, with the colour of each sort
+-- how the picture begins, with the colour of each sort
 abbrev pub begin_text : List ℕ
 begin_text =
     codes "<svg xmlns='http://www.w3.org/2000/svg' viewBox='0 0 1080 600' font-family='sans-serif' font-size='13'>\n"

@@ -31,7 +31,7 @@ figures_text size t o named unique =
 abbrev pub kind_line : Kind → ℕ → List ℕ
 kind_line k n = if n == 0 then [] else entry_line (kind_text k) n
 
--- the same of a kind whose number stands at its place among these
+-- the line of a kind whose number stands at its place among these
 abbrev pub counted_line : List ℕ → Kind → List ℕ
 counted_line counts k = kind_line k (slice_index counts (kind_place k))
 

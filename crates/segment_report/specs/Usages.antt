@@ -23,7 +23,7 @@ usage_of role xs = record {
   bytes = sum_by (λ (x : Extent). x.len) (blocks_of role xs);
 }
 
--- the same of gaps
+-- the number and the bytes of the gaps
 abbrev pub gap_usage : List Gap → Usage
 gap_usage gs = record { count = length gs; bytes = sum_by (λ (g : Gap). g.len) gs }
 

@@ -112,7 +112,7 @@ fn put_figures<W: Sink>(
     )
 }
 
-/// Writes a line for each of these words and numbers, one behind another.
+/// Writes a line for each of these words and numbers, one after another.
 fn put_entries<W: Sink>(out: &mut W, entries: &[(&[u8], u64)]) -> Result<(), DeviceFault>
     requires { (W.history out.old).failures < 2 ^ 64 - 1 }
     ensures { Writes (W.history out.old) (W.history out.new) result (flat_map entry_text entries.now) }
@@ -123,7 +123,7 @@ fn put_entries<W: Sink>(out: &mut W, entries: &[(&[u8], u64)]) -> Result<(), Dev
     Ok(())
 }
 
-/// Writes a word, a number behind it, and the end of the line.
+/// Writes a word, a number after it, and the end of the line.
 fn put_entry<W: Sink>(out: &mut W, key: &[u8], number: u64) -> Result<(), DeviceFault>
     requires { (W.history out.old).failures < 2 ^ 64 - 1 }
     ensures { Writes (W.history out.old) (W.history out.new) result (entry_line key.now number) }
@@ -139,7 +139,7 @@ fn put_entry<W: Sink>(out: &mut W, key: &[u8], number: u64) -> Result<(), Device
     )
 }
 
-/// For how many entries the index of names has places.
+/// Returns the number of entries that the index of names has places for.
 fn named_capacity(segment: &Segment) -> u64
     ensures { AnswersWith segment.now (λ d. d.named.capacity) result }
 {

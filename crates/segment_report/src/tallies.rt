@@ -106,7 +106,7 @@ pub fn tally_blocks(segment: &Segment) -> Tally
     tally
 }
 
-/// The number of bytes of a segment, which are those of a directory.
+/// Returns the number of bytes of a segment, which are those of a directory.
 pub fn size_of(segment: &Segment) -> u64
     ensures size { AnswersQuery segment.now Size (Number result) }
     ensures denotation { IsSegment segment.now.cut.bytes }

@@ -12,7 +12,7 @@ abbrev pub usage_of : List CommandRow → List ℕ → List ℕ
 usage_of [] word = []
 usage_of (row ∷ rows) word = if bytes_eq row.word.now word then row.usage.now else usage_of rows word
 
--- its words are its first word, and others behind a blank, if any
+-- whether a usage line is a first word, with others after a blank if there are any
 abbrev pub is_usage : List ℕ → List ℕ → Bool
 is_usage [] [] = true
 is_usage [] (b ∷ bs) = b == 0x20

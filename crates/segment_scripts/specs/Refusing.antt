@@ -19,7 +19,7 @@ was_refused Refused = true
 abbrev pub Tells : {E : Type 0} → Result Answered E → Bool → Type 0
 Tells result refused = IfOk result (λ answered. was_refused answered ≡ refused)
 
--- the same of a line, once its answer went out
+-- a line was answered so once its answer went out; otherwise the writer's error
 abbrev pub once : {E : Type 0} → Answered → Result (Unit {0}) E → Result Answered E
 once answered (Ok u) = Ok answered
 once answered (Err e) = Err e

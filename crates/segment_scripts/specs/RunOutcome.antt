@@ -16,13 +16,13 @@ answer_all respond place (l ∷ ls) =
     let rest = answer_all respond first.1 ls in
     (first.0 ++ rest.0, rest.1)
 
--- these lines were answered, nothing else was printed, and the machine stands where they lead
+-- a run answered these lines and printed nothing else, and the machine stands where they lead
 pub record AnswersLines {P : Type 0} (respond : P → List ℕ
     → List ℕ × P) (start : P) (answered : List (List ℕ)) (printed : List ℕ) (Stands : P → Type 0) : Type 0 where
   pub prints : printed ≡ (answer_all respond start answered).0
   pub stands : Stands (answer_all respond start answered).1
 
--- of these lines some were answered, the next one was executed, and a proper prefix of its answer went out
+-- a run answered some of these lines and executed the next one, and a proper prefix of its answer went out
 pub record AnswersPart {P : Type 0} (respond : P → List ℕ
     → List ℕ × P) (start : P) (all : List (List ℕ)) (printed : List ℕ) (Stands : P → Type 0) : Type 0 where
   pub answered : List (List ℕ)

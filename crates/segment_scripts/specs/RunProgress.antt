@@ -13,14 +13,14 @@ use Rattle.segment_scripts.specs.Stopping.{IsStoppedAt, goes_on}
 abbrev pub kept : ℕ
 kept = 4098
 
--- these lines were answered behind what had been taken before
+-- a run has answered these lines after what went out before
 pub record HasAnswered {P : Type 0} (respond : P → List ℕ
     → List ℕ × P) (start : P) (before : List ℕ) (answered : List (List ℕ)) (Stands : P
     → Type 0) (taken : List ℕ) : Type 0 where
   pub prints : taken ≡ before ++ (answer_all respond start answered).0
   pub stands : Stands (answer_all respond start answered).1
 
--- the same, and the next line was executed, and its answer cut
+-- a run has answered these lines and executed the next one, whose answer was cut
 pub record HasStopped {P : Type 0} (respond : P → List ℕ
     → List ℕ × P) (start : P) (before : List ℕ) (answered : List (List ℕ)) (next : List ℕ) (Stands : P
     → Type 0) (taken : List ℕ) : Type 0 where
@@ -57,7 +57,7 @@ module _ {P : Type 0} (respond : P → List ℕ → List ℕ × P) (stops : P �
     pub behind : HasRunTo respond start before read Stands line taken
     pub on : goes_on respond stops start (ended_lines read) ≡ true
 
-  -- these lines were answered, and the next one, behind which the run was to end
+  -- a run has answered these lines and the next one, after which it was to end
   pub record EndsBehind (ended : List (List ℕ)) (next : List ℕ) (Stands : P → Type 0) (taken : List ℕ) : Type 0 where
     pub on : goes_on respond stops start ended ≡ true
     pub stop : stops (answer_all respond start ended).1 next ≡ true

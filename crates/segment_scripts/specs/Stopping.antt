@@ -26,7 +26,7 @@ is_stop until answered = may_stop until && was_refused answered
 abbrev pub stops_at : {P : Type 0} → Until → (P → List ℕ → Bool) → P → List ℕ → Bool
 stops_at until refuses place line = may_stop until && refuses place line
 
--- it ends behind none of these lines
+-- whether a run ends after none of these lines
 abbrev pub goes_on : {P : Type 0} → (P → List ℕ → List ℕ × P) → (P → List ℕ → Bool) → P → List (List ℕ) → Bool
 goes_on respond stops place [] = true
 goes_on respond stops place (l ∷ ls) = not (stops place l) && goes_on respond stops (respond place l).1 ls

@@ -18,7 +18,7 @@ abbrev pub is_zero_free : Command → Bool
 is_zero_free ZeroFree = true
 is_zero_free c = false
 
--- so many places are among those of a container
+-- whether a container has so many places
 abbrev pub has_places : Result (ℕ × ℕ) Refusal → ℕ → Bool
 has_places (Ok (len, capacity)) n = nat_le n capacity
 has_places (Err why) n = false
@@ -51,7 +51,7 @@ zeros_after_lines language mode d (l ∷ ls) known =
     let asked = reading language l in
     zeros_after_lines language mode (respond mode d asked).1 ls (zeros_after mode d asked known)
 
--- behind a script, from whether they were known to be zero before it
+-- whether gaps are known to be zero after a script, from whether they were known to be before
 unfoldable pub zeros_after_run : Language → Mode → Directory → List ℕ → Bool → Bool
 unfolding step reading
 zeros_after_run language mode d script known = zeros_after_lines language mode d (lines script) known

@@ -7,14 +7,14 @@ use raw_region::DeviceFault;
 /// What became of a line that was answered.
 #[derive(Clone, Copy, Debug, PartialEq, Eq)]
 pub enum Answered {
-    /// It was executed, or there was nothing to do.
+    /// The line was executed, or there was nothing to do.
     Done,
-    /// It was refused: it is no command, or what it asks for was not done.
+    /// The line was refused: it is no command, or what it asks for was not done.
     Refused,
 }
 
 impl Answered {
-    /// This, once the answer was written.
+    /// Returns this, once the answer was written.
     pub(crate) fn once(self, written: Result<(), DeviceFault>) -> Result<Answered, DeviceFault>
         ensures { result ≡ once self written }
     {

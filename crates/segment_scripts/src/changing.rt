@@ -22,9 +22,9 @@ use segment_values::object_to_change;
 ///
 /// # Errors
 ///
-/// `ReadOnly` where the segment is open for reading, and else `NotFound` where no object has the key, `WrongKind` where
-/// it is neither or a value has not the form of its elements, `OutOfRange` where a value is not in their range, and
-/// nothing changes; `NoSpace` where its storage cannot be regrown or a text has no fit: the objects are as before.
+/// `ReadOnly` if the segment is open for reading. Otherwise `NotFound` if no object has the key, `WrongKind` if it is
+/// neither or a value has not the form of its elements, `OutOfRange` if a value is not in their range, and nothing
+/// changes; `NoSpace` if its storage cannot be regrown or a text has no fit: the objects are as before.
 #[inline(never)]
 pub fn assign(
     segment: &mut Segment,
@@ -131,7 +131,7 @@ fn assign_read(segment: &mut Segment, object: Object, row: &TextRow) -> Result<(
     segment.texts_assign(&object, row.few().as_slice())
 }
 
-/// The same, however many they are.
+/// Makes these texts those of the vector of strings, however many they are.
 #[inline(never)]
 fn assign_many(segment: &mut Segment, object: Object, row: &TextRow) -> Result<(), Refusal>
     requires { IsObject object segment.old }
@@ -142,7 +142,7 @@ fn assign_many(segment: &mut Segment, object: Object, row: &TextRow) -> Result<(
     segment.texts_assign(&object, row.all().as_slice())
 }
 
-/// Puts the bytes of a text behind those of the string of a key.
+/// Puts the bytes of a text after those of the string of a key.
 ///
 /// # Errors
 ///

@@ -18,7 +18,7 @@ use seg_types::{Handle, IndexKey, NewKey, Refusal, Scalar, ScalarKind};
 use segment_lang::{Content, LiteralValues, TextLiterals};
 use segment_manager::Segment;
 
-/// Makes an object, and answers its handle.
+/// Makes an object, and returns its handle.
 ///
 /// # Errors
 ///
@@ -48,7 +48,7 @@ pub fn construct(
     }
 }
 
-/// Makes a vector of the values, and answers its handle.
+/// Makes a vector of the values, and returns its handle.
 fn construct_vector(
     segment: &mut Segment,
     key: &NewKey,
@@ -63,7 +63,7 @@ fn construct_vector(
     on_row!(values.kind(), rows, construct_row(segment, key, values))
 }
 
-/// Makes a vector of the values, which are of the type's kind, and answers its handle.
+/// Makes a vector of the values, which are of the type's kind, and returns its handle.
 fn construct_row<T: Scalar>(
     segment: &mut Segment,
     key: &NewKey,
@@ -82,7 +82,7 @@ fn construct_row<T: Scalar>(
     segment.construct_vec(key, row.as_slice())
 }
 
-/// Makes a vector of strings of the texts, and answers its handle.
+/// Makes a vector of strings of the texts, and returns its handle.
 #[inline(never)]
 fn construct_texts(
     segment: &mut Segment,
@@ -102,7 +102,7 @@ fn construct_texts(
     segment.construct_texts(key, row.few().as_slice())
 }
 
-/// Makes a vector of strings of the texts of a row, however many, and answers its handle.
+/// Makes a vector of strings of the texts of a row, however many, and returns its handle.
 #[inline(never)]
 fn construct_many(segment: &mut Segment, key: &NewKey, row: &TextRow) -> Result<Handle, Refusal>
     requires { IsLineContent (new_key_seen key.now) (Strings row.now) }
@@ -113,7 +113,7 @@ fn construct_many(segment: &mut Segment, key: &NewKey, row: &TextRow) -> Result<
     segment.construct_texts(key, row.all().as_slice())
 }
 
-/// Makes an array of the values, and answers its handle.
+/// Makes an array of the values, and returns its handle.
 ///
 /// # Errors
 ///
@@ -134,7 +134,7 @@ pub fn construct_it(
     segment.construct_values(key, kind, count, &mut values)
 }
 
-/// Finds an object, or makes it where there is none, and answers its handle and how many elements it has.
+/// Finds an object, or makes it where there is none, and returns its handle and how many elements it has.
 ///
 /// # Errors
 ///
@@ -169,7 +169,7 @@ pub fn find_or_construct(
     }
 }
 
-/// Finds a vector, or makes it of the values where there is none.
+/// Finds a vector, or makes it of the values if there is none.
 fn find_or_construct_vector(
     segment: &mut Segment,
     key: &IndexKey,
@@ -190,7 +190,7 @@ fn find_or_construct_vector(
     )
 }
 
-/// Finds a vector, or makes it of the values, which are of the type's kind, where there is none.
+/// Finds a vector, or makes it of the values, which are of the type's kind, if there is none.
 fn find_or_construct_row<T: Scalar>(
     segment: &mut Segment,
     key: &IndexKey,
@@ -211,7 +211,7 @@ fn find_or_construct_row<T: Scalar>(
     segment.find_or_construct_vec(key, row.as_slice())
 }
 
-/// Finds a vector of strings, or makes it of the texts where there is none.
+/// Finds a vector of strings, or makes it of the texts if there is none.
 #[inline(never)]
 fn find_or_construct_texts(
     segment: &mut Segment,
@@ -232,7 +232,7 @@ fn find_or_construct_texts(
     segment.find_or_construct_texts(key, row.few().as_slice())
 }
 
-/// Finds a vector of strings, or makes it of the texts of a row, however many, where there is none.
+/// Finds a vector of strings, or makes it of the texts of a row, however many, if there is none.
 #[inline(never)]
 fn find_or_construct_many(
     segment: &mut Segment,

@@ -14,7 +14,7 @@ pub enum Until {
 }
 
 impl Until {
-    /// Whether a run ends behind a line of which this became.
+    /// Tells whether a run ends after a line of which this became.
     pub(crate) fn is_stop(self, answered: Answered) -> bool
         ensures { result ≡ is_stop self answered }
     {
@@ -30,6 +30,6 @@ impl Until {
 pub enum End {
     /// All lines were executed.
     Whole,
-    /// A line was refused. It was answered, and no line behind it was executed.
+    /// A line was refused. It was answered, and no line after it was executed.
     Refused,
 }

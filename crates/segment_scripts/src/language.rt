@@ -50,9 +50,8 @@ fn put_row<W: Sink>(out: &mut W, row: &CommandRow) -> Result<(), DeviceFault>
     )
 }
 
-/// The commands of the language, in the order of that table: each word that a line may begin with, and behind it what
-/// is
-/// read there.
+/// Returns the commands of the language, in the order of that table: each word that a line may begin with, and after it
+/// what is read there.
 pub fn command_rows() -> &'static [CommandRow]
     ensures words { map (λ row. row.word.now) result.now ≡ map (λ form. form.0) forms }
     ensures usages { AllByRecursion IsUsage result.now }

@@ -22,7 +22,7 @@ pub struct Lint<'a> {
 }
 
 impl<'a> Lint<'a> {
-    /// One that read no line yet. The rows say what is expected behind each command word.
+    /// Makes one that read no line yet. The rows say what is expected after each command word.
     pub fn new(rows: &'a [CommandRow]) -> Lint<'a>
         ensures { is_at result.line result.has_found result.rows.now (start rows.now) }
     {
@@ -33,7 +33,7 @@ impl<'a> Lint<'a> {
         }
     }
 
-    /// Whether a line was no command.
+    /// Tells whether a line was no command.
     pub fn has_found(&self) -> bool
         ensures { result ≡ self.now.has_found }
     {
@@ -98,7 +98,7 @@ fn put_finding<W: Sink>(
     )
 }
 
-/// The column where a line goes wrong.
+/// Returns the column where a line goes wrong.
 fn column_of(error: LineError, line: &[u8]) -> u64
     ensures { result ≡ column_of error line.now }
 {
@@ -110,7 +110,7 @@ fn column_of(error: LineError, line: &[u8]) -> u64
     (line.len() - rest.len()) as u64 + 1
 }
 
-/// What should stand there.
+/// Returns what should stand there.
 fn expected<'a>(rows: &'a [CommandRow], error: LineError, line: &[u8]) -> &'a [u8]
     ensures { result.now ≡ expected rows.now error line.now }
 {
@@ -121,7 +121,7 @@ fn expected<'a>(rows: &'a [CommandRow], error: LineError, line: &[u8]) -> &'a [u
     }
 }
 
-/// The first word of a line.
+/// Returns the first word of a line.
 fn first_word(line: &[u8]) -> &[u8]
     ensures { result.now ≡ first_word line.now }
 {
@@ -129,7 +129,7 @@ fn first_word(line: &[u8]) -> &[u8]
     &rest[..rest.len() - behind(false, rest).len()]
 }
 
-/// What is left behind the blanks in front, or behind the word in front.
+/// Returns what is left after the blanks in front, or after the word in front.
 fn behind(blanks: bool, bytes: &[u8]) -> &[u8]
     ensures value { result.now ≡ behind blanks bytes.now }
     ensures shrinking { length result.now ≤ length bytes.now }
@@ -144,7 +144,7 @@ fn behind(blanks: bool, bytes: &[u8]) -> &[u8]
     rest
 }
 
-/// The words of the command that begins with this word, where there is one.
+/// Returns the words of the command that begins with this word, if there is one.
 fn usage_of<'a>(rows: &'a [CommandRow], word: &[u8]) -> &'a [u8]
     ensures { result.now ≡ usage_of rows.now word.now }
 {

@@ -52,7 +52,7 @@ fn put_tile<W: Sink>(out: &mut W, tile: Tile) -> Result<(), DeviceFault>
     )
 }
 
-/// The word for what a block is used for, or for a gap.
+/// Returns the word for what a block is used for, or for a gap.
 fn role_word(use_of: Option<Role>) -> &'static [u8]
     ensures { result.now ≡ role_word use_of }
 {

@@ -20,13 +20,16 @@ pub struct Scratch {
 /// Room for a text that a line escapes, for the values of a vector, and for the texts of a vector of strings.
 #[derive(Drop)]
 pub struct ParseBuffers {
+    /// Room for a text of a line.
     pub text: LineBuffer,
+    /// Room for the values of a line.
     pub rows: Rows,
+    /// Room for the texts of a line.
     pub texts: TextRow,
 }
 
 impl ParseBuffers {
-    /// Room that holds nothing.
+    /// Makes room that holds nothing.
     pub fn new() -> ParseBuffers {
         ParseBuffers {
             text: LineBuffer::new(),

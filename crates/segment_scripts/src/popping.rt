@@ -19,9 +19,9 @@ use seg_types::{Key, Kind, Refusal, ScalarKind, ScalarValue, by_kind};
 use segment_manager::{Object, Segment};
 use segment_values::{length_of, object_to_change};
 
-/// Takes the last element out of the vector of a key, and writes it, or why there is none: `ReadOnly` where the segment
-/// is open for reading, and else `NotFound` where no object has the key, `WrongKind` where it is no vector,
-/// `OutOfRange` where it is empty. A fault leaves the element taken out, and a proper prefix of it written.
+/// Takes the last element out of the vector of a key, and writes it, or why there is none: `ReadOnly` if the segment is
+/// open for reading. Otherwise `NotFound` if no object has the key, `WrongKind` if it is no vector, `OutOfRange` if it
+/// is empty. A fault leaves the element taken out, and a proper prefix of it written.
 #[inline(never)]
 pub fn pop<W: Sink>(segment: &mut Segment, key: &Key, out: &mut W) -> Result<Answered, DeviceFault>
     requires { (W.history out.old).failures < 2 ^ 64 - 1 }
@@ -42,7 +42,7 @@ pub fn pop<W: Sink>(segment: &mut Segment, key: &Key, out: &mut W) -> Result<Ans
     }
 }
 
-/// Writes the last text of the vector of strings of a key, which the segment lends, and takes it out then, also where
+/// Writes the last text of the vector of strings of a key, which the segment lends, and takes it out then, also if
 /// writing it failed.
 fn pop_text<W: Sink>(
     segment: &mut Segment,

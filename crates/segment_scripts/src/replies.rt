@@ -46,7 +46,7 @@ pub enum CommandAnswer<'a> {
     Refused(Refusal),
 }
 
-/// Does a deed, and answers it. What the line escapes or lists is put into `room`.
+/// Does a deed, and returns it. What the line escapes or lists is put into `room`.
 #[inline(never)]
 pub fn reply<'a>(
     segment: &mut Segment,
@@ -104,7 +104,7 @@ pub fn reply<'a>(
     }
 }
 
-/// The answer where an object was made, or not.
+/// Returns the answer where an object was made, or not.
 fn made<'a>(made: Result<Handle, Refusal>) -> CommandAnswer<'a>
     ensures { (d : Directory) → answer_seen d result ≡ handle_answer made }
 {
@@ -114,7 +114,7 @@ fn made<'a>(made: Result<Handle, Refusal>) -> CommandAnswer<'a>
     }
 }
 
-/// The answer where an object was found or made, or not.
+/// Returns the answer where an object was found or made, or not.
 fn found<'a>(found: Result<(Handle, u32), Refusal>) -> CommandAnswer<'a>
     ensures { (d : Directory) → answer_seen d result ≡ found_object_answer found }
 {
@@ -124,7 +124,7 @@ fn found<'a>(found: Result<(Handle, u32), Refusal>) -> CommandAnswer<'a>
     }
 }
 
-/// The answer where an object was looked for.
+/// Returns the answer where an object was looked for.
 fn looked_up<'a>(found: Result<Option<(Handle, u32)>, Refusal>) -> CommandAnswer<'a>
     ensures { (d : Directory) → answer_seen d result ≡ found_answer found }
 {
@@ -135,7 +135,7 @@ fn looked_up<'a>(found: Result<Option<(Handle, u32)>, Refusal>) -> CommandAnswer
     }
 }
 
-/// The answer where an element was asked for.
+/// Returns the answer where an element was asked for.
 pub fn element<'a>(element: Result<ScalarValue, Refusal>) -> CommandAnswer<'a>
     ensures { (d : Directory) → answer_seen d result ≡ scalar_answer element }
 {
@@ -145,7 +145,7 @@ pub fn element<'a>(element: Result<ScalarValue, Refusal>) -> CommandAnswer<'a>
     }
 }
 
-/// The answer where a value was looked for.
+/// Returns the answer where a value was looked for.
 fn value_found<'a>(found: Result<Option<ScalarValue>, Refusal>) -> CommandAnswer<'a>
     ensures { (d : Directory) → answer_seen d result ≡ any_value_answer found }
 {
@@ -158,7 +158,7 @@ fn value_found<'a>(found: Result<Option<ScalarValue>, Refusal>) -> CommandAnswer
     }
 }
 
-/// The answer where something holds, or not.
+/// Returns the answer where something holds, or not.
 pub fn truth<'a>(truth: Result<bool, Refusal>) -> CommandAnswer<'a>
     ensures { (d : Directory) → answer_seen d result ≡ truth_answer truth }
 {
@@ -168,7 +168,7 @@ pub fn truth<'a>(truth: Result<bool, Refusal>) -> CommandAnswer<'a>
     }
 }
 
-/// The answer where an object is gone, or not.
+/// Returns the answer of a command that destroyed an object, or did not.
 fn gone<'a>(gone: Result<(), Refusal>) -> CommandAnswer<'a>
     ensures { (d : Directory) → answer_seen d result ≡ gone_answer gone }
 {
@@ -178,7 +178,7 @@ fn gone<'a>(gone: Result<(), Refusal>) -> CommandAnswer<'a>
     }
 }
 
-/// The answer where a command is done, or not.
+/// Returns the answer of a command that is done, or refused.
 pub fn done<'a>(done: Result<(), Refusal>) -> CommandAnswer<'a>
     ensures { (d : Directory) → answer_seen d result ≡ done_answer done }
 {

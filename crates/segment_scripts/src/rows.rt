@@ -43,7 +43,7 @@ macro_rules! on_row {
 pub(crate) use on_row;
 
 impl Rows {
-    /// Rows without values.
+    /// Makes rows without values.
     pub fn new() -> Rows {
         Rows {
             truths: ValueBuffer::new(),
@@ -55,7 +55,7 @@ impl Rows {
     }
 }
 
-/// A value as its type has it.
+/// Returns a value as its type has it.
 fn as_type<T: Scalar>(value: ScalarValue) -> T
     requires kind { kind_of_scalar value ≡ T.kind }
     requires range { is_value T.kind (value_of_scalar value) ≡ true }
@@ -87,8 +87,8 @@ pub fn value_row<T: Scalar>(values: LiteralValues<'_>, row: &mut ValueBuffer<T>)
 ///
 /// # Errors
 ///
-/// `WrongKind` where one has not the form of the kind, and else `OutOfRange` where one is not in its range. The row
-/// means nothing then.
+/// `WrongKind` if one has not the form of the kind. Otherwise `OutOfRange` if one is not in its range. The row means
+/// nothing then.
 pub fn literal_row<T: Scalar>(
     literals: Literals<'_>,
     row: &mut ValueBuffer<T>,
@@ -118,11 +118,11 @@ pub fn literal_row<T: Scalar>(
     }
 }
 
-/// The one text that a string is assigned.
+/// Returns the one text that a string is assigned.
 ///
 /// # Errors
 ///
-/// `WrongKind` where there is none, or more than one, or a value of another form.
+/// `WrongKind` if there is none, or more than one, or a value of another form.
 pub fn only_text<'a>(
     mut literals: Literals<'a>,
     scratch: &'a mut LineBuffer,

@@ -25,12 +25,11 @@ const PIECE: usize = 65536;
 /// The most bytes that a script may have.
 const SCRIPT_LIMIT: usize = 16777216;
 
-/// The first 4098 bytes of a line that has not ended yet, or all of them where it has fewer: a longer line is answered
-/// by
+/// The first 4098 bytes of a line that has not ended yet, or all of them if it has fewer: a longer line is answered by
 /// these alone.
 type PartialLine = Buffer<u8, 4098>;
 
-/// Where the first line end is. It looks at 32 bytes first, since most lines are short.
+/// Returns where the first line end is. It looks at 32 bytes first, since most lines are short.
 fn line_end(bytes: &[u8]) -> Option<usize>
     ensures { IsFirstByte (is_byte 0x0A) bytes.now result }
 {
@@ -83,8 +82,8 @@ fn answer_ended<M: Machine, W: Sink, F: RunObserver<W>>(
     answered
 }
 
-/// Executes the lines that end in the piece, the first of which may have begun before it, and keeps
-/// the line that is still open behind it. It goes no further than the line that ends the run.
+/// Executes the lines that end in the piece, the first of which may have begun before it, and keeps the line that is
+/// still open after it. It goes no further than the line that ends the run.
 fn feed<M: Machine, W: Sink, F: RunObserver<W>>(
     machine: &mut M,
     scratch: &mut Scratch,
@@ -181,7 +180,7 @@ fn read_lines<M: Machine, S: Source, W: Sink, F: RunObserver<W>>(
     }
 }
 
-/// Answers the line that is open where the script ends, if it has a byte.
+/// Answers the line that is open if the script ends, if it has a byte.
 fn answer_last<M: Machine, W: Sink, F: RunObserver<W>>(
     machine: &mut M,
     scratch: &mut Scratch,
@@ -212,10 +211,10 @@ fn answer_last<M: Machine, W: Sink, F: RunObserver<W>>(
     Ok(End::Whole)
 }
 
-/// Executes the script line by line from where the machine stands, and writes the answers. A line
-/// ends at a byte 10; the last one needs no end. It takes no memory. The follower is asked before
-/// each read of the script, and before each line. Until a refusal, the first line that the machine
-/// refuses is the last: it is answered, and no line behind it is executed, nor more of the script read.
+/// Executes the script line by line from where the machine stands, and writes the answers. A line ends at a byte 10;
+/// the last one needs no end. It takes no memory. The follower is asked before each read of the script, and before each
+/// line. Until a refusal, the first line that the machine refuses is the last: it is answered, and no line after it is
+/// executed, nor more of the script read.
 ///
 /// A fault leaves the machine where the lines that were executed lead.
 pub fn run_until<M: Machine, S: Source, W: Sink, F: RunObserver<W>>(

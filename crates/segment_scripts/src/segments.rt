@@ -68,7 +68,7 @@ fn put_wrong<W: Sink>(error: LineError, out: &mut W) -> Result<Answered, DeviceF
     Answered::Refused.once(put_pieces(out, &[Piece::LineError(error), Piece::Bytes(b"\n")]))
 }
 
-/// Answers `size`, with what stands behind it.
+/// Answers `size`, with what stands after it.
 #[inline(always)]
 fn answer_size<W: Sink>(
     segment: &Segment,
@@ -85,7 +85,7 @@ fn answer_size<W: Sink>(
     Answered::Done.once(put_number_line(out, b"", segment.size()))
 }
 
-/// Answers `get`, with what stands behind it.
+/// Answers `get`, with what stands after it.
 #[inline(never)]
 fn answer_get<W: Sink>(
     segment: &Segment,
@@ -103,7 +103,7 @@ fn answer_get<W: Sink>(
     }
 }
 
-/// Answers `push`, with what stands behind it.
+/// Answers `push`, with what stands after it.
 #[inline(never)]
 fn answer_push<W: Sink>(
     segment: &mut Segment,
@@ -126,7 +126,7 @@ fn answer_push<W: Sink>(
     }
 }
 
-/// Answers `insert_in_order`, with what stands behind it.
+/// Answers `insert_in_order`, with what stands after it.
 #[inline(never)]
 fn answer_put<W: Sink>(
     segment: &mut Segment,
@@ -147,7 +147,7 @@ fn answer_put<W: Sink>(
     }
 }
 
-/// Answers `pop`, with what stands behind it.
+/// Answers `pop`, with what stands after it.
 #[inline(never)]
 fn answer_pop<W: Sink>(
     segment: &mut Segment,
@@ -165,7 +165,7 @@ fn answer_pop<W: Sink>(
     }
 }
 
-/// Answers the command word of a deed, with what stands behind it.
+/// Answers the command word of a deed, with what stands after it.
 #[inline(never)]
 fn answer_deed<W: Sink>(
     segment: &mut Segment,

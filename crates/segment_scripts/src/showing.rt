@@ -52,7 +52,7 @@ fn put_value<W: Sink>(segment: &Segment, object: Object, out: &mut W) -> Result<
     put_pieces(out, &[Piece::Bytes(b"\n")])
 }
 
-/// Elements as an answer has them, each behind a blank.
+/// Elements as an answer has them, each after a blank.
 struct InLine;
 
 impl Layout for InLine {

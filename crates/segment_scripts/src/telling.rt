@@ -99,7 +99,7 @@ fn put_instance<W: Sink>(
     )
 }
 
-/// The pieces of a class, and of a name or `-`.
+/// Returns the pieces of a class, and of a name or `-`.
 fn class_pieces<'a>(class: Class, name: &'a [u8]) -> (Piece<'a>, Piece<'a>)
     ensures { piece_text result.0 ++ piece_text result.1 ≡ class_text class name.now }
 {
@@ -110,7 +110,7 @@ fn class_pieces<'a>(class: Class, name: &'a [u8]) -> (Piece<'a>, Piece<'a>)
     }
 }
 
-/// The pieces of a number behind a blank, and empty ones where there is no number.
+/// Returns the pieces of a number after a blank, and empty ones if there is no number.
 fn pieces_behind<'a>(number: Option<u64>) -> (Piece<'a>, Piece<'a>)
     ensures { piece_text result.0 ++ piece_text result.1 ≡ behind_text number }
 {

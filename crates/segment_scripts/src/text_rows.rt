@@ -1,4 +1,4 @@
-//! The texts of a line in place: their bytes one behind another, and how many each has.
+//! The texts of a line in place: their bytes one after another, and how many each has.
 ghost use Rattle.std.specs.Prelude.{◌≡◌, ◌≤◌, ◌<◌, ◌+◌, ◌++◌, ◌∷◌, [], List, ℕ, MatchResult, Ok, Err, length, map};
 ghost use Rattle.std.specs.Prelude.{take};
 ghost use Rattle.segment_manager.specs.Step.{texts_of};
@@ -13,7 +13,7 @@ use std::marker::Model;
 /// The most texts that a line can be taken for: each takes a byte and those that it stands for.
 const MOST: usize = 4097;
 
-/// For so many texts short room does: room is cleared where it is made.
+/// For so many texts short room does: room is cleared if it is made.
 pub const FEW: usize = 32;
 
 /// Texts, as many and as long as a line may have.
@@ -36,7 +36,7 @@ impl Model for TextRow {
 }
 
 impl TextRow {
-    /// No texts.
+    /// Makes rows without texts.
     pub fn new() -> Self
         ensures { result ≡ [] }
     {
@@ -66,7 +66,7 @@ impl TextRow {
         self.len += 1;
     }
 
-    /// How many texts it has.
+    /// Returns how many texts it has.
     pub fn len(&self) -> usize
         ensures { result ≡ length self.now }
     {
@@ -74,7 +74,7 @@ impl TextRow {
         lengths.len()
     }
 
-    /// The texts, lent. There are few.
+    /// Returns the texts, lent. There are few.
     pub fn few(&self) -> ArrayVec<&[u8], 32>
         requires { length self.now ≤ 32 }
         ensures { map (λ t. t.now) result.items ≡ self.now }
@@ -82,7 +82,7 @@ impl TextRow {
         cut(self.bytes.as_slice(), &self.lengths[..self.len])
     }
 
-    /// The texts, lent.
+    /// Returns the texts, lent.
     pub fn all(&self) -> ArrayVec<&[u8], 4097>
         ensures { map (λ t. t.now) result.items ≡ self.now }
     {
@@ -90,7 +90,7 @@ impl TextRow {
     }
 }
 
-/// Parts of bytes, one behind another, by how many bytes each has.
+/// Parts of bytes, one after another, by how many bytes each has.
 fn cut<'a, const N: usize>(bytes: &'a [u8], lengths: &[usize]) -> ArrayVec<&'a [u8], N>
     requires max_count { length lengths.now ≤ N }
     requires aligned { total lengths.now ≡ length bytes.now }
@@ -121,7 +121,7 @@ pub fn text_row(texts: TextLiterals<'_>, row: &mut TextRow)
 ///
 /// # Errors
 ///
-/// `WrongKind` where one is none. The row means nothing then.
+/// `WrongKind` if one is none. The row means nothing then.
 pub fn literal_texts(literals: Literals<'_>, row: &mut TextRow) -> Result<(), Refusal>
     requires { bytes_taken literals ≤ 4097 }
     ensures { MatchResult result (λ u. texts_of literals.entry ≡ Ok row.new) (λ why.

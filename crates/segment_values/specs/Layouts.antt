@@ -49,7 +49,7 @@ content_part s (String bs) i = s.text i bs
 content_part s (Map k v ps) i = part_of (s.pair i k v) (slice_get ps i)
 content_part s (Strings ts) i = part_of (s.text i) (slice_get ts i)
 
--- that of an object
+-- the text of an object
 abbrev pub object_part : Spelling → ℕ → Object → List ℕ
 object_part s i o = content_part s (content_of o.value) i
 

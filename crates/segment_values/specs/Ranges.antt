@@ -24,7 +24,7 @@ pub record AreSpelled (k : ScalarKind) (zs : List ℤ) (bytes : List ℕ) : Type
   pub values : IsTrue (list_all (is_value k) zs)
   pub spelled_are : bytes ≡ spelled k zs
 
--- such an object, of a kind, has as many elements as a run says, and they are spelled from its offset on
+-- an object of a kind has as many elements as a run says, and its bytes spell them from the run's offset on
 pub record HasRow (s : SegmentState) (o : Located) (k : ScalarKind) (run : ElementRun) : Type 0 where
   pub inside : run.offset + size_of k * run.count ≤ length s.cut.bytes
   pub short : length s.cut.bytes ≤ 1073741824

@@ -30,7 +30,7 @@ impl<'a, T: Scalar> Iterator for RowItems<'a, T> {
     }
 }
 
-/// Makes an array of the values of a row, and answers its handle.
+/// Makes an array of the values of a row, and returns its handle.
 ///
 /// # Conditions
 ///
@@ -38,8 +38,8 @@ impl<'a, T: Scalar> Iterator for RowItems<'a, T> {
 ///
 /// # Errors
 ///
-/// `ReadOnly` where the segment is open for reading, else `Exists` where an object has the key: nothing changes. Else
-/// `NoSpace` where no gap is long enough: what the segment holds does not change, and the bytes of gaps may.
+/// `ReadOnly` if the segment is open for reading. Otherwise `Exists` if an object has the key: nothing changes.
+/// Otherwise `NoSpace` if no gap is long enough: what the segment holds does not change, and the bytes of gaps may.
 pub fn construct_array<T: Scalar>(
     segment: &mut Segment,
     key: &NewKey,

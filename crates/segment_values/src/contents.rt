@@ -20,7 +20,7 @@ use seg_types::{Kind, ScalarKind, ScalarValue};
 use segment_manager::unchecked::{first_pair, next_pair};
 use segment_manager::{Object, Segment};
 
-/// How many scalars, texts or pairs an object has. A string is one text.
+/// Returns how many scalars, texts or pairs an object has. A string is one text.
 pub fn count_of(segment: &Segment, object: Object) -> u64
     requires { IsLocated segment.now (ByHandle object.handle) object }
     ensures { AnswersWith segment.now (λ d. count_at d (ByHandle object.handle)) result }
@@ -32,7 +32,7 @@ pub fn count_of(segment: &Segment, object: Object) -> u64
     }
 }
 
-/// How many elements a vector, string or map has, and 0 where the object is none of these.
+/// Returns how many elements a vector, string or map has, and 0 if the object is none of these.
 pub fn length_of(segment: &Segment, object: Object) -> u64
     requires { IsObject object segment.now }
     ensures { AnswersWith segment.now (λ d. length_in (sizes_at d (ByHandle object.handle))) result }
@@ -83,7 +83,7 @@ fn put_elements<L: Layout, W: Sink>(
     Ok(())
 }
 
-/// Writes the scalar or the text at an index, and nothing where there is none. A string is one text.
+/// Writes the scalar or the text at an index, and nothing if there is none. A string is one text.
 fn put_element<L: Layout, W: Sink>(
     layout: &L,
     segment: &Segment,
@@ -139,7 +139,7 @@ fn put_pairs<L: Layout, W: Sink>(
     Ok(())
 }
 
-/// The pair above a key of a map, where there is one more to write.
+/// Returns the pair above a key of a map, if there is one more to write.
 fn pair_behind(
     segment: &Segment,
     object: Object,

@@ -16,14 +16,14 @@ use seg_types::{Key, Kind, Refusal, ScalarKind, WrittenValue};
 use segment_manager::unchecked::set_any;
 use segment_manager::{Object, Segment};
 
-/// Makes what is written the element at `index` in the object of a key: of scalars, of a vector of scalars or of
-/// strings, or of a string, which has bytes. Of an object of scalars no other byte changes.
+/// Makes what is written the element at `index` in the object of a key. The object has scalars, or is a vector of
+/// scalars or of strings, or a string, which has bytes. Of an object of scalars no other byte changes.
 ///
 /// # Errors
 ///
-/// `ReadOnly` where the segment is open for reading, and else `NotFound` where no object has the key, `WrongKind` where
-/// it has no elements or the value has not their form, `OutOfRange` where the value is not in their range or there is
-/// no such element, `NoSpace` where a text has no fit. Nothing changes.
+/// `ReadOnly` if the segment is open for reading. Otherwise `NotFound` if no object has the key, `WrongKind` if it has
+/// no elements or the value has not their form, `OutOfRange` if the value is not in their range or there is no such
+/// element, `NoSpace` if a text has no fit. Nothing changes.
 #[inline(never)]
 pub fn set<L: WrittenValue>(
     segment: &mut Segment,
@@ -50,7 +50,7 @@ pub fn set<L: WrittenValue>(
     }
 }
 
-/// The same of an object whose elements are scalars of a kind.
+/// Sets an element of an object whose elements are scalars of a kind.
 fn set_scalar<L: WrittenValue>(
     segment: &mut Segment,
     object: Object,
@@ -70,7 +70,7 @@ fn set_scalar<L: WrittenValue>(
     set_any(segment, &object, index, element)
 }
 
-/// The same of a vector of strings.
+/// Sets an element of a vector of strings.
 fn set_text<L: WrittenValue>(
     segment: &mut Segment,
     object: Object,

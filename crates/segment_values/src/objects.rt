@@ -6,11 +6,11 @@ ghost use Rattle.segment_values.specs.Changes.{IsChangeableObject, IsUnchangeabl
 use seg_types::{Key, Refusal};
 use segment_manager::{Mode, Object, Segment, locate};
 
-/// The object of a key, which is to be changed.
+/// Returns the object of a key, which is to be changed.
 ///
 /// # Errors
 ///
-/// `ReadOnly` where the segment is open for reading, and else `NotFound` where no object has the key.
+/// `ReadOnly` if the segment is open for reading. Otherwise `NotFound` if no object has the key.
 pub fn object_to_change(segment: &Segment, key: &Key) -> Result<Object, Refusal>
     ensures { MatchResult result (IsChangeableObject segment.now (key_seen key.now))
         (IsUnchangeable segment.now (key_seen key.now)) }

@@ -11,13 +11,13 @@ use crate::objects::object_to_change;
 use seg_types::{Key, Kind, Refusal, ScalarValue, WrittenValue, pair_of};
 use segment_manager::{Segment, locate};
 
-/// Puts the pair that two written values are into the map of a key, and answers whether its key is new.
+/// Puts the pair that two written values are into the map of a key, and returns whether its key is new.
 ///
 /// # Errors
 ///
-/// `ReadOnly` where the segment is open for reading, and else `NotFound` where no object has the key, `WrongKind` where
-/// it is no map or a value has not the form of its kind, `OutOfRange` where a value is not in the range of its kind,
-/// `NoSpace` where the key is new and no gap is long enough for its block. Nothing changes.
+/// `ReadOnly` if the segment is open for reading. Otherwise `NotFound` if no object has the key, `WrongKind` if it is
+/// no map or a value has not the form of its kind, `OutOfRange` if a value is not in the range of its kind, `NoSpace`
+/// if the key is new and no gap is long enough for its block. Nothing changes.
 #[inline(never)]
 pub fn put_pair<A: WrittenValue, B: WrittenValue>(
     segment: &mut Segment,
@@ -39,12 +39,12 @@ pub fn put_pair<A: WrittenValue, B: WrittenValue>(
     }
 }
 
-/// The value at the key that is written, in the map of a key.
+/// Returns the value at the key that is written, in the map of a key.
 ///
 /// # Errors
 ///
-/// `NotFound` where no object has the key, `WrongKind` where it is no map or what is written has not the form of its
-/// keys, `OutOfRange` where that is not in their range.
+/// `NotFound` if no object has the key, `WrongKind` if it is no map or what is written has not the form of its keys,
+/// `OutOfRange` if that is not in their range.
 #[inline(never)]
 pub fn look_up<L: WrittenValue>(
     segment: &Segment,
@@ -63,14 +63,13 @@ pub fn look_up<L: WrittenValue>(
     }
 }
 
-/// Takes the pair with the key that is written out of the map of a key, and answers whether there was one. Where there
-/// was none, nothing changes.
+/// Takes the pair with the key that is written out of the map of a key, and returns whether there was one. If there was
+/// none, nothing changes.
 ///
 /// # Errors
 ///
-/// `ReadOnly` where the segment is open for reading, and else `NotFound` where no object has the key, `WrongKind` where
-/// it is no map or what is written has not the form of its keys, `OutOfRange` where that is not in their range. Nothing
-/// changes.
+/// `ReadOnly` if the segment is open for reading. Otherwise `NotFound` if no object has the key, `WrongKind` if it is
+/// no map or what is written has not the form of its keys, `OutOfRange` if that is not in their range. Nothing changes.
 #[inline(never)]
 pub fn erase_pair<L: WrittenValue>(
     segment: &mut Segment,

@@ -16,8 +16,8 @@ use segment_manager::{ElementRun, Object, ObjectRef, Segment, locate};
 ///
 /// # Errors
 ///
-/// `NotFound` where no object has the key, `WrongKind` where it is of another kind, `OutOfRange` where it has not so
-/// many elements there. The row is as it was.
+/// `NotFound` if no object has the key, `WrongKind` if it is of another kind, `OutOfRange` if it has not so many
+/// elements there. The row is as it was.
 pub fn read_elements<T: Scalar, O: ObjectRef>(
     segment: &Segment,
     key: &O,
@@ -33,7 +33,7 @@ pub fn read_elements<T: Scalar, O: ObjectRef>(
     read_object(segment, &object, first, row)
 }
 
-/// The same of an object that was located.
+/// Copies elements of an object that was located into a row.
 fn read_object<T: Scalar>(
     segment: &Segment,
     object: &Object,
@@ -56,7 +56,7 @@ fn read_object<T: Scalar>(
     Ok(())
 }
 
-/// Where the elements of such an object stand in the image.
+/// Returns where the elements of such an object stand in the image.
 fn row_run<T: Scalar>(segment: &Segment, object: &Object) -> ElementRun
     requires object { IsLocated segment.now (ByHandle object.now.handle) object.now }
     requires kind { is_row T.kind object.now.kind ≡ true }
@@ -69,7 +69,7 @@ fn row_run<T: Scalar>(segment: &Segment, object: &Object) -> ElementRun
     }
 }
 
-/// Whether objects of a kind are arrays of scalars of the type, or vectors of them.
+/// Tells whether objects of a kind are arrays of scalars of the type, or vectors of them.
 fn is_row<T: Scalar>(kind: Kind) -> bool
     ensures { result ≡ is_row T.kind kind }
 {
@@ -105,7 +105,7 @@ fn read_values<T: Scalar>(bytes: &[u8], row: &mut [T])
     }
 }
 
-/// The value that bytes spell; or another one, where they spell none.
+/// Returns the value that bytes spell; or another one, where they spell none.
 fn value_or<T: Scalar>(bytes: &[u8], other: T) -> T
     requires { length bytes.now ≡ T.SIZE }
     ensures { (z : ℤ) → is_value T.kind z ≡ true → bytes.now ≡ spelling T.kind z → T.whole result ≡ z }
@@ -116,7 +116,7 @@ fn value_or<T: Scalar>(bytes: &[u8], other: T) -> T
     }
 }
 
-/// Whether so many elements have `count` from `first` on.
+/// Tells whether so many elements have `count` from `first` on.
 fn has_range(len: u64, first: u64, count: u64) -> bool
     ensures { result ≡ nat_le (first + count) len }
 {

@@ -17,7 +17,7 @@ use segment_manager::{Object, Segment};
 /// Where a new element of a vector goes.
 #[derive(Clone, Copy)]
 pub enum InsertSpot {
-    /// Behind the last element.
+    /// After the last element.
     End,
     /// Where so many others stand before it.
     Before(u64),
@@ -36,10 +36,10 @@ pub enum NewElement<'a> {
 ///
 /// # Errors
 ///
-/// `ReadOnly` where the segment is open for reading, and else `NotFound` where no object has the key, `WrongKind` where
-/// it is no vector or the value has not the form of its elements, `OutOfRange` where the value is not in their range or
-/// there are not so many others, and nothing changes; `NoSpace` where the vector is full and its storage cannot be
-/// regrown, or a text has no fit: the objects are as before, and nothing changes where the value is no text.
+/// `ReadOnly` if the segment is open for reading. Otherwise `NotFound` if no object has the key, `WrongKind` if it is
+/// no vector or the value has not the form of its elements, `OutOfRange` if the value is not in their range or there
+/// are not so many others, and nothing changes; `NoSpace` if the vector is full and its storage cannot be regrown, or a
+/// text has no fit: the objects are as before, and nothing changes if the value is no text.
 #[inline(never)]
 pub fn add<L: WrittenValue>(
     segment: &mut Segment,
@@ -61,12 +61,12 @@ pub fn add<L: WrittenValue>(
     }
 }
 
-/// The vector of a key, and what is written as an element of it.
+/// Returns the vector of a key, and what is written as an element of it.
 ///
 /// # Errors
 ///
-/// `ReadOnly` where the segment is open for reading, and else `NotFound` where no object has the key, `WrongKind` where
-/// it is no vector or the value has not the form of its elements, `OutOfRange` where the value is not in their range.
+/// `ReadOnly` if the segment is open for reading. Otherwise `NotFound` if no object has the key, `WrongKind` if it is
+/// no vector or the value has not the form of its elements, `OutOfRange` if the value is not in their range.
 fn new_element<'a, L: WrittenValue>(
     segment: &Segment,
     key: &Key,
@@ -131,8 +131,8 @@ fn add_text(
 ///
 /// # Errors
 ///
-/// `ReadOnly` where the segment is open for reading, and else `NotFound` where no object has the key, `WrongKind` where
-/// it is no vector, `OutOfRange` where it has no element there. Nothing changes.
+/// `ReadOnly` if the segment is open for reading. Otherwise `NotFound` if no object has the key, `WrongKind` if it is
+/// no vector, `OutOfRange` if it has no element there. Nothing changes.
 #[inline(never)]
 pub fn erase(segment: &mut Segment, key: &Key, index: u64) -> Result<(), Refusal>
     ensures step { TakesStep segment.old segment.new (Erase (key_seen key.now) index) (done_answer result) }

@@ -58,12 +58,12 @@ abbrev pub TakesFirst : {A B : Type 0} → (A → B) → Option A → List B →
 TakesFirst seen None before after = (before ≡ []) × (after ≡ [])
 TakesFirst seen (Some x) before after = before ≡ seen x ∷ after
 
--- the same of the last of it
+-- an iterator gives its last element
 abbrev pub TakesLast : {A B : Type 0} → (A → B) → Option A → List B → List B → Type 0
 TakesLast seen None before after = (before ≡ []) × (after ≡ [])
 TakesLast seen (Some x) before after = before ≡ after ++ seen x ∷ []
 
--- it gives the first pair that is left
+-- an iterator gives the first pair that is left
 pub record GoesOnPairs {A : Type 0} (k v : ScalarKind) (seen : A
     → ℤ × ℤ) (old : PairWalk) (item : Option A) (new : PairWalk) : Type 0 where
   pub segment : new.segment ≡ old.segment
@@ -71,7 +71,7 @@ pub record GoesOnPairs {A : Type 0} (k v : ScalarKind) (seen : A
   pub pairs : (d : Directory) → DenotesCurrent old.segment.cut.bytes d
       → TakesFirst seen item (pairs_left k v d old) (pairs_left k v d new)
 
--- it gives the last pair that is left
+-- an iterator gives the last pair that is left
 pub record GoesBackPairs {A : Type 0} (k v : ScalarKind) (seen : A
     → ℤ × ℤ) (old : PairWalk) (item : Option A) (new : PairWalk) : Type 0 where
   pub segment : new.segment ≡ old.segment

@@ -14,8 +14,7 @@ pub record ElementWalk : Type 0 where
   pub key : Key
   pub at : ℕ
 
--- it gives the element that stands where it stood, as it is seen, and stands behind it then; nothing where none stands
--- there
+-- an iterator gives the element at its position and goes on to the next; nothing if none is there
 pub record GoesOnElements {A B : Type 0} (elements : Directory → Key → List B) (seen : A
     → B) (old : ElementWalk) (item : Option A) (new : ElementWalk) : Type 0 where
   pub segment : new.segment ≡ old.segment

@@ -61,8 +61,8 @@ impl<'a, T: Scalar> View<'a, Row<T, Array>> {
     ///
     /// # Errors
     ///
-    /// `ReadOnly` where the segment is open for reading, else `WrongKind` where the object is of another kind,
-    /// `OutOfRange` where there are more values than elements. Nothing changes.
+    /// `ReadOnly` if the segment is open for reading. Otherwise `WrongKind` if the object is of another kind,
+    /// `OutOfRange` if there are more values than elements. Nothing changes.
     pub fn copy_from(&mut self, values: &[T]) -> Result<(), Refusal>
         ensures unchanged { SameView self.old self.new }
         ensures step { WritesRange (segment_of self.old) (segment_of self.new) (key_of self.old) T.kind 0

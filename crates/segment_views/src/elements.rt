@@ -11,7 +11,7 @@ use seg_types::{Refusal, Scalar};
 use segment_manager::{Object, Segment};
 use std::marker::{Model, PhantomData};
 
-/// The scalars of an array or a vector, one after another. There are none where the object is of another kind.
+/// The scalars of an array or a vector, one after another. There are none if the object is of another kind.
 ///
 /// Contracts see the segment, the object's key, and how many elements came.
 #[derive(Drop)]
@@ -36,7 +36,7 @@ impl<'a, T: Scalar, S: Storage> Model for RowItems<'a, T, S> {
 }
 
 impl<'a, T: Scalar, S: Storage> RowItems<'a, T, S> {
-    /// The elements of an object that was located.
+    /// Makes the elements of an object that was located.
     pub(crate) fn new(segment: &'a Segment, object: Object) -> RowItems<'a, T, S>
         requires { IsObject object segment.now }
         ensures { result ≡ record { segment = segment.now; key = ByHandle object.handle; at = 0 } }
@@ -73,7 +73,7 @@ impl<'a, T: Scalar, S: Storage> Iterator for RowItems<'a, T, S> {
     }
 }
 
-/// The texts of a vector of strings, one after another, lent. There are none where the object is no vector of strings.
+/// The texts of a vector of strings, one after another, lent. There are none if the object is no vector of strings.
 ///
 /// Contracts see the segment, the vector's key, and how many texts came.
 #[derive(Drop)]
@@ -97,7 +97,7 @@ impl<'a> Model for TextItems<'a> {
 }
 
 impl<'a> TextItems<'a> {
-    /// The texts of an object that was located.
+    /// Makes the texts of an object that was located.
     pub(crate) fn new(segment: &'a Segment, object: Object) -> TextItems<'a>
         requires { IsObject object segment.now }
         ensures { result ≡ record { segment = segment.now; key = ByHandle object.handle; at = 0 } }
@@ -134,7 +134,7 @@ impl<'a> Iterator for TextItems<'a> {
     }
 }
 
-/// A number, or 0 where it is refused.
+/// Returns a number, or 0 if it is refused.
 pub(crate) fn number_or_none(number: Result<u64, Refusal>) -> u64
     ensures { result ≡ number_of number }
 {

@@ -39,11 +39,11 @@ impl<K: Scalar, V: Scalar> ViewContent for Pairs<K, V> {
 impl<'a, K: Scalar, V: Scalar> View<'a, Pairs<K, V>> {
     ghost use Rattle.segment_views.specs.OfView.{SameView, key_of, segment_of};
 
-    /// The value of a key.
+    /// Returns the value of a key.
     ///
     /// # Errors
     ///
-    /// `WrongKind` where the object is no such map.
+    /// `WrongKind` if the object is no such map.
     pub fn get(&self, key: K) -> Result<Option<V>, Refusal>
         ensures { AnswersQueryOfKind (segment_of self.now) (key_of self.now) (MapOf K.kind V.kind)
             (Lookup (key_of self.now) (literal_of K.kind (K.whole key))) (value_answer V.kind V.whole result) }
@@ -51,13 +51,13 @@ impl<'a, K: Scalar, V: Scalar> View<'a, Pairs<K, V>> {
         self.segment.map_get::<K, V, Object>(&self.object, key)
     }
 
-    /// How many pairs it has.
+    /// Returns how many pairs it has.
     ///
     /// Example: `let count = years.len()?`.
     ///
     /// # Errors
     ///
-    /// `WrongKind` where the object is no such map.
+    /// `WrongKind` if the object is no such map.
     pub fn len(&self) -> Result<u64, Refusal>
         ensures { AnswersWith (segment_of self.now) (λ d.
             length_at_kind d (key_of self.now) (MapOf K.kind V.kind)) result }
@@ -65,13 +65,13 @@ impl<'a, K: Scalar, V: Scalar> View<'a, Pairs<K, V>> {
         self.segment.map_len::<K, V, Object>(&self.object)
     }
 
-    /// The pair with the least key, or nothing where the map is empty.
+    /// Returns the pair with the least key, or nothing if the map is empty.
     ///
     /// Example: `let earliest = years.first()?`.
     ///
     /// # Errors
     ///
-    /// `WrongKind` where the object is no such map.
+    /// `WrongKind` if the object is no such map.
     pub fn first(&self) -> Result<Option<(K, V)>, Refusal>
         ensures { AnswersWith (segment_of self.now) (λ d.
             answer_of_map d (key_of self.now) K.kind V.kind (λ ps. option_map item_of (first_of ps)))
@@ -80,13 +80,13 @@ impl<'a, K: Scalar, V: Scalar> View<'a, Pairs<K, V>> {
         first_of_all(self.segment, &self.object)
     }
 
-    /// The pair with the greatest key, or nothing where the map is empty.
+    /// Returns the pair with the greatest key, or nothing if the map is empty.
     ///
     /// Example: `let latest = years.last()?`.
     ///
     /// # Errors
     ///
-    /// `WrongKind` where the object is no such map.
+    /// `WrongKind` if the object is no such map.
     pub fn last(&self) -> Result<Option<(K, V)>, Refusal>
         ensures { AnswersWith (segment_of self.now) (λ d.
             answer_of_map d (key_of self.now) K.kind V.kind pair_at_end) (pair_result K.whole V.whole result) }
@@ -94,8 +94,8 @@ impl<'a, K: Scalar, V: Scalar> View<'a, Pairs<K, V>> {
         self.segment.map_last::<K, V, Object>(&self.object)
     }
 
-    /// Its pairs with keys in a range, one after another by rising keys, or by falling ones from the other end. There
-    /// are none where the range runs backwards, and where the object is no such map.
+    /// Returns its pairs with keys in a range, one after another by rising keys, or by falling ones from the other end.
+    /// There are none where the range runs backwards, and where the object is no such map.
     ///
     /// Examples: `for (number, year) in years.range(2..=5)`, `for (number, year) in years.range(2..=5).rev()`.
     pub fn range<R: RangeBounds<K>>(&self, range: R) -> MapItems<'_, K, V>
@@ -109,8 +109,8 @@ impl<'a, K: Scalar, V: Scalar> View<'a, Pairs<K, V>> {
         MapItems::new(self.segment, self.object, start, end)
     }
 
-    /// All its pairs, one after another by rising keys, or by falling ones from the other end. There are none where the
-    /// object is no such map.
+    /// Returns all its pairs, one after another by rising keys, or by falling ones from the other end. There are none
+    /// if the object is no such map.
     ///
     /// Examples: `for (number, year) in years.iter()`, `let latest = years.iter().next_back()`.
     pub fn iter(&self) -> MapItems<'_, K, V>
@@ -127,11 +127,11 @@ impl<'a, K: Scalar, V: Scalar> View<'a, Pairs<K, V>> {
         )
     }
 
-    /// The pair with the least key that is not below `from`.
+    /// Returns the pair with the least key that is not below `from`.
     ///
     /// # Errors
     ///
-    /// `WrongKind` where the object is no such map.
+    /// `WrongKind` if the object is no such map.
     pub fn first_from(&self, from: K) -> Result<Option<(K, V)>, Refusal>
         ensures { AnswersWith (segment_of self.now) (λ d.
             answer_of_map d (key_of self.now) K.kind V.kind (pair_from (K.whole from)))
@@ -141,11 +141,11 @@ impl<'a, K: Scalar, V: Scalar> View<'a, Pairs<K, V>> {
             .map_first_from::<K, V, Object>(&self.object, from)
     }
 
-    /// The pair with the least key above `after`.
+    /// Returns the pair with the least key above `after`.
     ///
     /// # Errors
     ///
-    /// `WrongKind` where the object is no such map.
+    /// `WrongKind` if the object is no such map.
     pub fn next_after(&self, after: K) -> Result<Option<(K, V)>, Refusal>
         ensures { AnswersWith (segment_of self.now) (λ d.
             answer_of_map d (key_of self.now) K.kind V.kind (pair_above (K.whole after)))
@@ -155,12 +155,12 @@ impl<'a, K: Scalar, V: Scalar> View<'a, Pairs<K, V>> {
             .map_next_after::<K, V, Object>(&self.object, after)
     }
 
-    /// Puts the value of a key, and answers whether the key is new.
+    /// Puts the value of a key, and returns whether the key is new.
     ///
     /// # Errors
     ///
-    /// `ReadOnly` where the segment is open for reading, else `WrongKind` where the object is no such map, `NoSpace`
-    /// where the key is new and no gap is long enough for its block. Nothing changes.
+    /// `ReadOnly` if the segment is open for reading. Otherwise `WrongKind` if the object is no such map, `NoSpace` if
+    /// the key is new and no gap is long enough for its block. Nothing changes.
     pub fn insert(&mut self, key: K, value: V) -> Result<bool, Refusal>
         ensures unchanged { SameView self.old self.new }
         ensures step { TakesStepOfKind (segment_of self.old) (segment_of self.new) (key_of self.old)
@@ -171,11 +171,11 @@ impl<'a, K: Scalar, V: Scalar> View<'a, Pairs<K, V>> {
         self.segment.map_put(&self.object, key, value)
     }
 
-    /// Erases a key, and answers whether it was there. Nothing changes where it was not.
+    /// Erases a key, and returns whether it was there. Nothing changes if it was not.
     ///
     /// # Errors
     ///
-    /// `ReadOnly` where the segment is open for reading, else `WrongKind` where the object is no such map. Nothing
+    /// `ReadOnly` if the segment is open for reading. Otherwise `WrongKind` if the object is no such map. Nothing
     /// changes.
     pub fn erase(&mut self, key: K) -> Result<bool, Refusal>
         ensures unchanged { SameView self.old self.new }
@@ -189,7 +189,7 @@ impl<'a, K: Scalar, V: Scalar> View<'a, Pairs<K, V>> {
     }
 }
 
-/// A bound of a value that is lent, as one that has it.
+/// Returns a bound of a value that is lent, as one that has it.
 fn bound_by_value<K: Scalar>(bound: Bound<&K>) -> Bound<K>
     ensures { result ≡ bound_map (λ key. key.now) bound.entry }
 {

@@ -26,7 +26,7 @@ use std::ops::Bound;
 const LONGEST: usize = 8;
 
 /// The pairs of a map with keys in a range, one after another by rising keys, and by falling keys from the other end.
-/// What one end gave, the other does not give again. There are none where the object is no such map. Each is looked for
+/// What one end gave, the other does not give again. There are none if the object is no such map. Each is looked for
 /// from the root of the tree.
 ///
 /// Contracts see the segment, the map's key, the bounds of the pairs that are left, and how many these are at most.
@@ -65,7 +65,7 @@ impl<'a, K: Scalar, V: Scalar> Model for MapItems<'a, K, V> {
 }
 
 impl<'a, K: Scalar, V: Scalar> MapItems<'a, K, V> {
-    /// The pairs of an object that was located, those with keys between two bounds.
+    /// Makes the pairs of an object that was located, those with keys between two bounds.
     pub(crate) fn new(
         segment: &'a Segment,
         object: Object,
@@ -122,7 +122,7 @@ impl<'a, K: Scalar, V: Scalar> DoubleEndedIterator for MapItems<'a, K, V> {
     }
 }
 
-/// The first pair of a map with a key between two bounds.
+/// Returns the first pair of a map with a key between two bounds.
 fn first_between<K: Scalar, V: Scalar>(
     segment: &Segment,
     object: &Object,
@@ -138,7 +138,7 @@ fn first_between<K: Scalar, V: Scalar>(
     is_up_to(end, pair.0).then_some(pair)
 }
 
-/// The first pair of a map with a key that is not below a bound, or why it has no pairs.
+/// Returns the first pair of a map with a key that is not below a bound, or why it has no pairs.
 fn first_from<K: Scalar, V: Scalar>(
     segment: &Segment,
     object: &Object,
@@ -157,11 +157,11 @@ fn first_from<K: Scalar, V: Scalar>(
     }
 }
 
-/// The first pair of a map.
+/// Returns the first pair of a map.
 ///
 /// # Errors
 ///
-/// `NotFound` where the object is not there, `WrongKind` where it is no such map.
+/// `NotFound` if the object is not there, `WrongKind` if it is no such map.
 pub(crate) fn first_of_all<K: Scalar, V: Scalar>(
     segment: &Segment,
     object: &Object,
@@ -174,7 +174,7 @@ pub(crate) fn first_of_all<K: Scalar, V: Scalar>(
     segment.map_first_from::<K, V, Object>(object, lowest())
 }
 
-/// The last pair of a map with a key between two bounds.
+/// Returns the last pair of a map with a key between two bounds.
 fn last_between<K: Scalar, V: Scalar>(
     segment: &Segment,
     object: &Object,
@@ -190,7 +190,7 @@ fn last_between<K: Scalar, V: Scalar>(
     is_from(start, pair.0).then_some(pair)
 }
 
-/// The last pair of a map with a key that is not above a bound, or why it has no pairs.
+/// Returns the last pair of a map with a key that is not above a bound, or why it has no pairs.
 fn last_up_to<K: Scalar, V: Scalar>(
     segment: &Segment,
     object: &Object,
@@ -208,7 +208,7 @@ fn last_up_to<K: Scalar, V: Scalar>(
     }
 }
 
-/// The least value of a scalar type.
+/// Returns the least value of a scalar type.
 fn lowest<T: Scalar>() -> T
     ensures { T.whole result ≡ lowest_of T.kind }
 {
@@ -221,7 +221,7 @@ fn lowest<T: Scalar>() -> T
     }
 }
 
-/// The least value of a kind.
+/// Returns the least value of a kind.
 fn least_value(kind: ScalarKind) -> ScalarValue
     ensures kind { kind_of_scalar result ≡ kind }
     ensures value { value_of_scalar result ≡ lowest_of kind }
@@ -235,7 +235,7 @@ fn least_value(kind: ScalarKind) -> ScalarValue
     }
 }
 
-/// Whether a key is not below a bound.
+/// Tells whether a key is not below a bound.
 fn is_from<K: Scalar>(start: Bound<K>, key: K) -> bool
     ensures { result ≡ is_from_start (bound_map K.whole start) (K.whole key) }
 {
@@ -246,7 +246,7 @@ fn is_from<K: Scalar>(start: Bound<K>, key: K) -> bool
     }
 }
 
-/// Whether a key is not above a bound.
+/// Tells whether a key is not above a bound.
 fn is_up_to<K: Scalar>(end: Bound<K>, key: K) -> bool
     ensures { result ≡ is_up_to_end (bound_map K.whole end) (K.whole key) }
 {
@@ -257,7 +257,7 @@ fn is_up_to<K: Scalar>(end: Bound<K>, key: K) -> bool
     }
 }
 
-/// A pair, or none where the reading is refused.
+/// Returns a pair, or none if the reading is refused.
 fn pair_or_none<K: Scalar, V: Scalar>(pair: Result<Option<(K, V)>, Refusal>) -> Option<(K, V)>
     ensures { result ≡ pair_of pair }
 {

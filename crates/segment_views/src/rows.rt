@@ -35,15 +35,15 @@ pub trait Storage {
     // What a change of the element at an index leaves, of the segment before and after.
     ghost keeps: { SegmentState → SegmentState → Key → AnyScalarKind → ℕ → Type 0 };
 
-    /// The kind of the object, by that of its scalars.
+    /// Returns the kind of the object, by that of its scalars.
     fn kind(of: ScalarKind) -> Kind
         ensures { result ≡ kind of };
 
-    /// The element at `index` of an object that was located.
+    /// Returns the element at `index` of an object that was located.
     ///
     /// # Errors
     ///
-    /// `OutOfRange` where there is none, `WrongKind` where the object is of another kind.
+    /// `OutOfRange` if there is none, `WrongKind` if the object is of another kind.
     fn get<T: Scalar>(segment: &Segment, object: &Object, index: u64) -> Result<T, Refusal>
         requires { IsObject object.now segment.now }
         ensures reply { AnswersQueryOfKind segment.now (ByHandle object.now.handle) (kind T.kind)
@@ -51,11 +51,11 @@ pub trait Storage {
         ensures object { AnswersWith segment.now (λ d.
             slice_get (elements d (ByHandle object.now.handle) T.kind) index) (element_of T.whole result) };
 
-    /// How many elements an object has that was located.
+    /// Returns how many elements an object has that was located.
     ///
     /// # Errors
     ///
-    /// `WrongKind` where it is of another kind.
+    /// `WrongKind` if it is of another kind.
     fn len<T: Scalar>(segment: &Segment, object: &Object) -> Result<u64, Refusal>
         requires { IsObject object.now segment.now }
         ensures result { AnswersWith segment.now (λ d. count d (ByHandle object.now.handle) T.kind) result }
@@ -97,11 +97,11 @@ impl<T: Scalar, S: Storage> ViewContent for Row<T, S> {
 impl<'a, T: Scalar, S: Storage> View<'a, Row<T, S>> {
     ghost use Rattle.segment_views.specs.OfView.{SameView, key_of, segment_of};
 
-    /// The element at `index`.
+    /// Returns the element at `index`.
     ///
     /// # Errors
     ///
-    /// `OutOfRange` where there is none, `WrongKind` where the object is of another kind.
+    /// `OutOfRange` if there is none, `WrongKind` if the object is of another kind.
     pub fn get(&self, index: u64) -> Result<T, Refusal>
         ensures { AnswersQueryOfKind (segment_of self.now) (key_of self.now) (S.kind T.kind)
             (Get (key_of self.now) index) (answer_of (λ x. Element T.kind (T.whole x)) result) }
@@ -109,20 +109,20 @@ impl<'a, T: Scalar, S: Storage> View<'a, Row<T, S>> {
         S::get::<T>(self.segment, &self.object, index)
     }
 
-    /// How many elements it has.
+    /// Returns how many elements it has.
     ///
     /// Example: `let count = queue.len()?`.
     ///
     /// # Errors
     ///
-    /// `WrongKind` where the object is of another kind.
+    /// `WrongKind` if the object is of another kind.
     pub fn len(&self) -> Result<u64, Refusal>
         ensures { AnswersWith (segment_of self.now) (λ d. S.count d (key_of self.now) T.kind) result }
     {
         S::len::<T>(self.segment, &self.object)
     }
 
-    /// Its elements, one after another. There are none where the object is of another kind.
+    /// Returns its elements, one after another. There are none if the object is of another kind.
     ///
     /// Example: `for number in queue.iter()`.
     pub fn iter(&self) -> RowItems<'_, T, S>
@@ -137,8 +137,8 @@ impl<'a, T: Scalar, S: Storage> View<'a, Row<T, S>> {
     ///
     /// # Errors
     ///
-    /// `WrongKind` where the object is of another kind, `OutOfRange` where the slice has more places than there are
-    /// elements. The slice does not change.
+    /// `WrongKind` if the object is of another kind, `OutOfRange` if the slice has more places than there are elements.
+    /// The slice does not change.
     pub fn copy_to(&self, values: &mut [T]) -> Result<(), Refusal>
         ensures read { AnswersWith (segment_of self.now) (λ d.
             range_at d (key_of self.now) T.kind 0 (length values.old)) (read_into T.whole values.new result) }
@@ -151,8 +151,8 @@ impl<'a, T: Scalar, S: Storage> View<'a, Row<T, S>> {
     ///
     /// # Errors
     ///
-    /// `ReadOnly` where the segment is open for reading, else `WrongKind` where the object is of another kind,
-    /// `OutOfRange` where it has no element there. Nothing changes.
+    /// `ReadOnly` if the segment is open for reading. Otherwise `WrongKind` if the object is of another kind,
+    /// `OutOfRange` if it has no element there. Nothing changes.
     pub fn set(&mut self, index: u64, value: T) -> Result<(), Refusal>
         ensures unchanged { SameView self.old self.new }
         ensures step { TakesStepOfKind (segment_of self.old) (segment_of self.new) (key_of self.old) (S.kind T.kind)

@@ -31,11 +31,11 @@ impl ViewContent for Texts {
 impl<'a> View<'a, Texts> {
     ghost use Rattle.segment_views.specs.OfView.{SameView, key_of, segment_of};
 
-    /// The bytes of the string at `index`.
+    /// Returns the bytes of the string at `index`.
     ///
     /// # Errors
     ///
-    /// `OutOfRange` where there is none, `WrongKind` where the object is no vector of strings.
+    /// `OutOfRange` if there is none, `WrongKind` if the object is no vector of strings.
     pub fn get(&self, index: u64) -> Result<&[u8], Refusal>
         ensures { AnswersQueryOfKind (segment_of self.now) (key_of self.now) StringsKind
             (Get (key_of self.now) index) (answer_of (λ text. TextElement text.now) result) }
@@ -43,20 +43,20 @@ impl<'a> View<'a, Texts> {
         self.segment.texts_get(&self.object, index)
     }
 
-    /// How many strings it has.
+    /// Returns how many strings it has.
     ///
     /// Example: `let count = lines.len()?`.
     ///
     /// # Errors
     ///
-    /// `WrongKind` where the object is no vector of strings.
+    /// `WrongKind` if the object is no vector of strings.
     pub fn len(&self) -> Result<u64, Refusal>
         ensures { AnswersWith (segment_of self.now) (λ d. length_at_kind d (key_of self.now) StringsKind) result }
     {
         self.segment.texts_len(&self.object)
     }
 
-    /// The bytes of its strings, one after another, lent. There are none where the object is no vector of strings.
+    /// Returns the bytes of its strings, one after another, lent. There are none if the object is no vector of strings.
     ///
     /// Example: `for line in lines.iter()`.
     pub fn iter(&self) -> TextItems<'_>
@@ -69,8 +69,8 @@ impl<'a> View<'a, Texts> {
     ///
     /// # Errors
     ///
-    /// `ReadOnly` where the segment is open for reading, else `WrongKind` where the object is no vector of strings,
-    /// `OutOfRange` where it has no string there, `NoSpace` where the bytes have no fit. Nothing changes.
+    /// `ReadOnly` if the segment is open for reading. Otherwise `WrongKind` if the object is no vector of strings,
+    /// `OutOfRange` if it has no string there, `NoSpace` if the bytes have no fit. Nothing changes.
     pub fn set(&mut self, index: u64, text: &[u8]) -> Result<(), Refusal>
         ensures unchanged { SameView self.old self.new }
         ensures step { TakesStepOfKind (segment_of self.old) (segment_of self.new) (key_of self.old) StringsKind
@@ -80,13 +80,13 @@ impl<'a> View<'a, Texts> {
         self.segment.texts_set(&self.object, index, text)
     }
 
-    /// Puts bytes behind the last string. A full vector gets twice its places first, and at least 4.
+    /// Puts bytes after the last string. A full vector gets twice its places first, and at least 4.
     ///
     /// # Errors
     ///
-    /// `ReadOnly` where the segment is open for reading, else `WrongKind` where the object is no vector of strings, and
-    /// nothing changes; `NoSpace` where its array cannot be regrown or the bytes have no fit: what the segment holds
-    /// does not change.
+    /// `ReadOnly` if the segment is open for reading. Otherwise `WrongKind` if the object is no vector of strings, and
+    /// nothing changes; `NoSpace` if its array cannot be regrown or the bytes have no fit: what the segment holds does
+    /// not change.
     pub fn push(&mut self, text: &[u8]) -> Result<(), Refusal>
         ensures unchanged { SameView self.old self.new }
         ensures step { TakesStepOfKind (segment_of self.old) (segment_of self.new) (key_of self.old) StringsKind
@@ -100,9 +100,9 @@ impl<'a> View<'a, Texts> {
     ///
     /// # Errors
     ///
-    /// `ReadOnly` where the segment is open for reading, else `WrongKind` where the object is no vector of strings,
-    /// `OutOfRange` where there are not so many others, and nothing changes; `NoSpace` where its array cannot be
-    /// regrown or the bytes have no fit: what the segment holds does not change.
+    /// `ReadOnly` if the segment is open for reading. Otherwise `WrongKind` if the object is no vector of strings,
+    /// `OutOfRange` if there are not so many others, and nothing changes; `NoSpace` if its array cannot be regrown or
+    /// the bytes have no fit: what the segment holds does not change.
     pub fn insert(&mut self, index: u64, text: &[u8]) -> Result<(), Refusal>
         ensures unchanged { SameView self.old self.new }
         ensures step { TakesStepOfKind (segment_of self.old) (segment_of self.new) (key_of self.old) StringsKind
@@ -112,12 +112,12 @@ impl<'a> View<'a, Texts> {
         self.segment.texts_insert(&self.object, index, text)
     }
 
-    /// Leaves out the string at `index`, and gives back its block. Those behind it move down, and the places stay.
+    /// Leaves out the string at `index`, and gives back its block. Those after it move down, and the places stay.
     ///
     /// # Errors
     ///
-    /// `ReadOnly` where the segment is open for reading, else `WrongKind` where the object is no vector of strings,
-    /// `OutOfRange` where it has no string there. Nothing changes.
+    /// `ReadOnly` if the segment is open for reading. Otherwise `WrongKind` if the object is no vector of strings,
+    /// `OutOfRange` if it has no string there. Nothing changes.
     pub fn erase(&mut self, index: u64) -> Result<(), Refusal>
         ensures unchanged { SameView self.old self.new }
         ensures step { TakesStepOfKind (segment_of self.old) (segment_of self.new) (key_of self.old) StringsKind
@@ -133,8 +133,8 @@ impl<'a> View<'a, Texts> {
     ///
     /// # Errors
     ///
-    /// `ReadOnly` where the segment is open for reading, else `WrongKind` where the object is no vector of strings,
-    /// `OutOfRange` where it is empty. Nothing changes.
+    /// `ReadOnly` if the segment is open for reading. Otherwise `WrongKind` if the object is no vector of strings,
+    /// `OutOfRange` if it is empty. Nothing changes.
     pub fn pop(&mut self) -> Result<(), Refusal>
         ensures unchanged { SameView self.old self.new }
         ensures step { LeadsOnOfKind (segment_of self.old) (segment_of self.new) (key_of self.old) StringsKind

@@ -27,11 +27,11 @@ impl ViewContent for StringBytes {
 impl<'a> View<'a, StringBytes> {
     ghost use Rattle.segment_views.specs.OfView.{SameView, key_of, segment_of};
 
-    /// Its bytes.
+    /// Returns its bytes.
     ///
     /// # Errors
     ///
-    /// `WrongKind` where the object is no string.
+    /// `WrongKind` if the object is no string.
     pub fn as_bytes(&self) -> Result<&[u8], Refusal>
         ensures { MatchResult result (λ bytes.
             AnswersWith (segment_of self.now) (λ d. bytes_at d (key_of self.now)) (Ok bytes.now)) (λ why.
@@ -44,8 +44,8 @@ impl<'a> View<'a, StringBytes> {
     ///
     /// # Errors
     ///
-    /// `ReadOnly` where the segment is open for reading, else `WrongKind` where the object is no string, `OutOfRange`
-    /// where it has no byte there. Nothing changes.
+    /// `ReadOnly` if the segment is open for reading. Otherwise `WrongKind` if the object is no string, `OutOfRange` if
+    /// it has no byte there. Nothing changes.
     pub fn set(&mut self, index: u64, byte: u8) -> Result<(), Refusal>
         ensures unchanged { SameView self.old self.new }
         ensures step { TakesStepOfKind (segment_of self.old) (segment_of self.new) (key_of self.old) StringKind
@@ -55,12 +55,12 @@ impl<'a> View<'a, StringBytes> {
         self.segment.string_set(&self.object, index, byte)
     }
 
-    /// Puts bytes behind its own.
+    /// Puts bytes after its own.
     ///
     /// # Errors
     ///
-    /// `ReadOnly` where the segment is open for reading, else `WrongKind` where the object is no string, `NoSpace`
-    /// where its storage cannot be regrown. Nothing changes.
+    /// `ReadOnly` if the segment is open for reading. Otherwise `WrongKind` if the object is no string, `NoSpace` if
+    /// its storage cannot be regrown. Nothing changes.
     pub fn append(&mut self, bytes: &[u8]) -> Result<(), Refusal>
         ensures unchanged { SameView self.old self.new }
         ensures step { TakesStepOfKind (segment_of self.old) (segment_of self.new) (key_of self.old) StringKind
@@ -74,8 +74,8 @@ impl<'a> View<'a, StringBytes> {
     ///
     /// # Errors
     ///
-    /// `ReadOnly` where the segment is open for reading, else `WrongKind` where the object is no string, `NoSpace`
-    /// where its storage cannot be regrown. Nothing changes.
+    /// `ReadOnly` if the segment is open for reading. Otherwise `WrongKind` if the object is no string, `NoSpace` if
+    /// its storage cannot be regrown. Nothing changes.
     pub fn assign(&mut self, bytes: &[u8]) -> Result<(), Refusal>
         ensures unchanged { SameView self.old self.new }
         ensures step { TakesStepOfKind (segment_of self.old) (segment_of self.new) (key_of self.old) StringKind

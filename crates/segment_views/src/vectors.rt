@@ -57,23 +57,23 @@ impl Storage for Vector {
 impl<'a, T: Scalar> View<'a, Row<T, Vector>> {
     ghost use Rattle.segment_views.specs.OfView.{SameView, key_of, segment_of};
 
-    /// How many elements it has, and how many places.
+    /// Returns how many elements it has, and how many places.
     ///
     /// # Errors
     ///
-    /// `WrongKind` where the object is no container.
+    /// `WrongKind` if the object is no container.
     pub fn measure(&self) -> Result<(u64, u64), Refusal>
         ensures { AnswersWith (segment_of self.now) (λ d. sizes_at d (key_of self.now)) result }
     {
         self.segment.measure(&self.object)
     }
 
-    /// Puts a value behind the last element. A full vector gets twice its places first, and at least 4.
+    /// Puts a value after the last element. A full vector gets twice its places first, and at least 4.
     ///
     /// # Errors
     ///
-    /// `ReadOnly` where the segment is open for reading, else `WrongKind` where the object is no vector of the type,
-    /// `NoSpace` where it is full and its storage cannot be regrown. Nothing changes.
+    /// `ReadOnly` if the segment is open for reading. Otherwise `WrongKind` if the object is no vector of the type,
+    /// `NoSpace` if it is full and its storage cannot be regrown. Nothing changes.
     pub fn push(&mut self, value: T) -> Result<(), Refusal>
         ensures unchanged { SameView self.old self.new }
         ensures step { TakesStepOfKind (segment_of self.old) (segment_of self.new) (key_of self.old)
@@ -87,8 +87,8 @@ impl<'a, T: Scalar> View<'a, Row<T, Vector>> {
     ///
     /// # Errors
     ///
-    /// `ReadOnly` where the segment is open for reading, else `WrongKind` where the object is no vector of the type,
-    /// `OutOfRange` where it is empty. Nothing changes.
+    /// `ReadOnly` if the segment is open for reading. Otherwise `WrongKind` if the object is no vector of the type,
+    /// `OutOfRange` if it is empty. Nothing changes.
     pub fn pop(&mut self) -> Result<T, Refusal>
         ensures unchanged { SameView self.old self.new }
         ensures step { TakesStepOfKind (segment_of self.old) (segment_of self.new) (key_of self.old)
@@ -102,9 +102,9 @@ impl<'a, T: Scalar> View<'a, Row<T, Vector>> {
     ///
     /// # Errors
     ///
-    /// `ReadOnly` where the segment is open for reading, else `WrongKind` where the object is no vector of the type,
-    /// `OutOfRange` where there are not so many others, `NoSpace` where it is full and its storage cannot be regrown.
-    /// Nothing changes.
+    /// `ReadOnly` if the segment is open for reading. Otherwise `WrongKind` if the object is no vector of the type,
+    /// `OutOfRange` if there are not so many others, `NoSpace` if it is full and its storage cannot be regrown. Nothing
+    /// changes.
     pub fn insert(&mut self, index: u64, value: T) -> Result<(), Refusal>
         ensures unchanged { SameView self.old self.new }
         ensures step { TakesStepOfKind (segment_of self.old) (segment_of self.new) (key_of self.old)
@@ -115,12 +115,12 @@ impl<'a, T: Scalar> View<'a, Row<T, Vector>> {
         self.segment.vec_insert(&self.object, index, value)
     }
 
-    /// Leaves out the element at `index`. Those behind it move down, and the places stay.
+    /// Leaves out the element at `index`. Those after it move down, and the places stay.
     ///
     /// # Errors
     ///
-    /// `ReadOnly` where the segment is open for reading, else `WrongKind` where the object is no vector of the type,
-    /// `OutOfRange` where it has no element there. Nothing changes.
+    /// `ReadOnly` if the segment is open for reading. Otherwise `WrongKind` if the object is no vector of the type,
+    /// `OutOfRange` if it has no element there. Nothing changes.
     pub fn erase(&mut self, index: u64) -> Result<(), Refusal>
         ensures unchanged { SameView self.old self.new }
         ensures step { TakesStepOfKind (segment_of self.old) (segment_of self.new) (key_of self.old)
@@ -134,8 +134,8 @@ impl<'a, T: Scalar> View<'a, Row<T, Vector>> {
     ///
     /// # Errors
     ///
-    /// `ReadOnly` where the segment is open for reading, else `WrongKind` where the object is no vector of the type,
-    /// `NoSpace` where its storage cannot be regrown. Nothing changes.
+    /// `ReadOnly` if the segment is open for reading. Otherwise `WrongKind` if the object is no vector of the type,
+    /// `NoSpace` if its storage cannot be regrown. Nothing changes.
     pub fn assign(&mut self, values: &[T]) -> Result<(), Refusal>
         ensures unchanged { SameView self.old self.new }
         ensures step { TakesStepOfKind (segment_of self.old) (segment_of self.new) (key_of self.old)
@@ -146,15 +146,15 @@ impl<'a, T: Scalar> View<'a, Row<T, Vector>> {
         self.segment.vec_assign(&self.object, values)
     }
 
-    /// Puts values behind the last element, one after another. Where there are not places for all of them, the vector
-    /// gets twice as many as before, and at least 4, and as many as are needed.
+    /// Puts values after the last element, one after another. If there are not places for all of them, the vector gets
+    /// twice as many as before, and at least 4, and as many as are needed.
     ///
     /// Example: `queue.extend(&[8, 9])?`.
     ///
     /// # Errors
     ///
-    /// `ReadOnly` where the segment is open for reading, else `WrongKind` where the object is no vector of the type,
-    /// `NoSpace` where its storage cannot be regrown. Nothing changes.
+    /// `ReadOnly` if the segment is open for reading. Otherwise `WrongKind` if the object is no vector of the type,
+    /// `NoSpace` if its storage cannot be regrown. Nothing changes.
     pub fn extend(&mut self, values: &[T]) -> Result<(), Refusal>
         ensures unchanged { SameView self.old self.new }
         ensures step { ExtendsVector (segment_of self.old) (segment_of self.new) (key_of self.old) T.kind

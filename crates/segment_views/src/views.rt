@@ -15,7 +15,7 @@ use std::marker::PhantomData;
 pub trait ViewContent {
     ghost kind: { AnyKind };
 
-    /// The kind of the object.
+    /// Returns the kind of the object.
     fn kind() -> Kind
         ensures { result ≡ kind };
 }
@@ -33,7 +33,7 @@ pub struct View<'a, C> {
 impl<'a, C: ViewContent> View<'a, C> {
     ghost use Rattle.segment_views.specs.OfView.{Borrows, loan_of, object_of, segment_of};
 
-    /// The view of the object of a key, which is looked up once.
+    /// Returns the view of the object of a key, which is looked up once.
     ///
     /// Examples: `let mut queue = VectorView::<i64>::of(&mut segment, &name)?`,
     /// `let mut flags = ArrayView::<u8>::of(&mut segment, &name)?`,
@@ -43,7 +43,7 @@ impl<'a, C: ViewContent> View<'a, C> {
     ///
     /// # Errors
     ///
-    /// `NotFound` where no object has the key, `WrongKind` where it is of another kind than the view. Nothing changes.
+    /// `NotFound` if no object has the key, `WrongKind` if it is of another kind than the view. Nothing changes.
     pub fn of<O: ObjectRef>(segment: &'a mut Segment, key: &O) -> Result<View<'a, C>, Refusal>
         requires { O.stands key.now segment.old }
         ensures* frame { sem 𝓛 (RestsIfErr the_row segment.entry loan_of result (λ last. last ≡ segment.old)) }
@@ -62,11 +62,11 @@ impl<'a, C: ViewContent> View<'a, C> {
     }
 }
 
-/// The object of a key as it stands in a segment, an object of a kind, with its handle, kind and count.
+/// Returns the object of a key as it stands in a segment, an object of a kind, with its handle, kind and count.
 ///
 /// # Errors
 ///
-/// `NotFound` where no object has the key, `WrongKind` where it is of another kind.
+/// `NotFound` if no object has the key, `WrongKind` if it is of another kind.
 fn locate_of_kind<O: ObjectRef>(segment: &Segment, key: &O, kind: Kind) -> Result<Object, Refusal>
     requires { O.stands key.now segment.now }
     ensures opening { AnswersWith segment.now (λ d. opened_at d (O.key key.now) kind) (handle_of (λ o. o) result) }

@@ -31,7 +31,9 @@ const FIRST_GAP: u64 = HEADER_LEN + TAG_LEN;
 /// `from` or after it.
 #[derive(Clone, Copy, Debug)]
 pub struct GapProbe {
+    /// The length in bytes.
     pub len: u64,
+    /// The payload from which gaps of this length count.
     pub from: u64,
 }
 

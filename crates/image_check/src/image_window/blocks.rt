@@ -36,7 +36,8 @@ impl Model for BlockTable {
 }
 
 impl BlockTable {
-    /// No blocks, in a map with its room, and with `lasts` for stretches of 2 to the power of `shift` bytes.
+    /// Makes a table of no blocks over a map with its room, and `lasts` for stretches of 2 to the power of `shift`
+    /// bytes.
     pub(crate) fn new(map: IndexMap<u32, Row>, lasts: Vec<u32>, shift: u32) -> BlockTable
         requires { IsEmpty map }
         ensures entries { result.entries ≡ [] }
@@ -45,19 +46,19 @@ impl BlockTable {
         BlockTable { map, lasts, shift }
     }
 
-    /// The place among `lasts` of the stretch in which `target` lies.
+    /// Returns the place among `lasts` of the stretch in which `target` lies.
     fn stretch(&self, target: u64) -> usize {
         (target >> (self.shift % 64)) as usize
     }
 
-    /// The payloads, in order.
+    /// Returns the payloads, in order.
     fn payloads(&self) -> &[u32]
         ensures { result.now ≡ keys_of self.now.entries }
     {
         self.map.keys().as_slice()
     }
 
-    /// The number of the block whose payload begins at `target`.
+    /// Returns the number of the block whose payload begins at `target`.
     fn number_of(&self, target: u64) -> Option<usize>
         ensures search { IfSome result (IsRow self.now.entries target) }
         ensures absent { IfNone result (block_at self.now.entries target ≡ None) }
@@ -75,14 +76,14 @@ impl BlockTable {
         }
     }
 
-    /// How many they are.
+    /// Returns how many they are.
     pub(crate) fn len(&self) -> usize
         ensures { result ≡ length self.now.entries }
     {
         self.map.len()
     }
 
-    /// The block of number `nth`, behind its payload. The caller counts it.
+    /// Returns the block of number `nth`, after its payload. The caller counts it.
     fn entry(&self, nth: usize) -> (u32, Block)
         requires { nth < length self.now.entries }
         ensures row { slice_get self.now.entries nth ≡ Some result }
@@ -92,7 +93,7 @@ impl BlockTable {
         (*payload, row.block())
     }
 
-    /// The block of number `nth`, in the order of the places, behind its payload. One visit.
+    /// Returns the block of number `nth`, in the order of the places, after its payload. One visit.
     pub(crate) fn row(&self, nth: usize, visits: &mut VisitCounter) -> (u32, Block)
         requires { nth < length self.now.entries }
         ensures row { slice_get self.now.entries nth ≡ Some result }
@@ -103,7 +104,7 @@ impl BlockTable {
         self.entry(nth)
     }
 
-    /// The block whose payload begins at `target`. The caller counts it.
+    /// Returns the block whose payload begins at `target`. The caller counts it.
     pub(super) fn get(&self, target: u64) -> Option<Block>
         ensures { result ≡ block_at self.now.entries target }
     {
@@ -113,7 +114,7 @@ impl BlockTable {
         }
     }
 
-    /// The block whose payload begins at `target`, behind its number and `target` in four bytes. One visit.
+    /// Returns the block whose payload begins at `target`, after its number and `target` in four bytes. One visit.
     pub(crate) fn find(&self, target: u64, visits: &mut VisitCounter) -> Option<(usize, u32, Block)>
         ensures number { IfSome result (λ found. IsRow self.now.entries target found.0) }
         ensures payload { IfSome result (λ found. found.1 ≡ target) }
@@ -131,7 +132,7 @@ impl BlockTable {
         }
     }
 
-    /// The block whose payload begins at `target`. One visit.
+    /// Returns the block whose payload begins at `target`. One visit.
     pub(crate) fn block_of(&self, target: u64, visits: &mut VisitCounter) -> Option<Block>
         ensures value { result ≡ block_at self.now.entries target }
         ensures visits { visits.new ≡ visits.old + 1 }
@@ -140,8 +141,8 @@ impl BlockTable {
         self.get(target)
     }
 
-    /// The same. It is quick where the block is that of number `guess`, in the order of the blocks, and right whatever
-    /// the guess is. One visit.
+    /// Returns the block whose payload begins at `target`. It is quick if the block has the number `guess` in the order
+    /// of the blocks, and right whatever the guess is. One visit.
     pub(crate) fn block_near(
         &self,
         guess: usize,
@@ -177,7 +178,7 @@ impl BlockTable {
         self.map[number] = Row::new(block);
     }
 
-    /// Adds a block at `target`, behind all others, to those of which there is room for one more. One visit.
+    /// Adds a block at `target`, after all others, to those of which there is room for one more. One visit.
     pub(crate) fn add(&mut self, target: u64, block: Block, visits: &mut VisitCounter)
         requires max_size { target < 2 ^ 32 }
         requires subtree { AreBelow self.old.entries target }

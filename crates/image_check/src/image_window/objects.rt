@@ -1,4 +1,4 @@
-//! Objects that were visited, each with its head, its name, the padding behind it and the three words of its value.
+//! Objects that were visited, each with its head, its name, the padding after it and the three words of its value.
 ghost use Rattle.std.specs.Prelude.{◌≡◌, ◌+◌, ◌%◌, ◌^◌, ◌<◌, ◌≤◌, length};
 ghost use Rattle.raw_region.specs.Memory.{bytes_of, word_at};
 ghost use Rattle.offset_link.specs.Link.{link_at};
@@ -22,7 +22,7 @@ pub(crate) struct Value {
 }
 
 impl Object {
-    /// The object at `at`. One visit.
+    /// Returns the object at `at`. One visit.
     pub(crate) fn visit(at: u64, visits: &mut VisitCounter) -> Object
         ensures position { result.at ≡ at }
         ensures visits { visits.new ≡ visits.old + 1 }
@@ -31,14 +31,14 @@ impl Object {
         Object { at }
     }
 
-    /// Where it stands.
+    /// Returns where it stands.
     pub(crate) fn at(self) -> u64
         ensures { result ≡ self.at }
     {
         self.at
     }
 
-    /// The code of its kind.
+    /// Returns the code of its kind.
     pub(crate) fn code(self, window: &ImageWindow) -> u64
         requires { self.at + 8 ≤ length window.now.bytes }
         ensures code { result ≡ code_at (bytes_of window.now.bytes) self.at }
@@ -47,7 +47,7 @@ impl Object {
         window.read_u64(self.at) % HALF
     }
 
-    /// How many values it has.
+    /// Returns how many values it has.
     pub(crate) fn count(self, window: &ImageWindow) -> u64
         requires { self.at + 8 ≤ length window.now.bytes }
         ensures count { result ≡ count_at (bytes_of window.now.bytes) self.at }
@@ -56,7 +56,7 @@ impl Object {
         window.read_u64(self.at) / HALF
     }
 
-    /// Its class.
+    /// Returns its class.
     pub(crate) fn class(self, window: &ImageWindow) -> u64
         requires max_size { self.at < 2 ^ 63 }
         requires in_bounds { self.at + 16 ≤ length window.now.bytes }
@@ -65,7 +65,7 @@ impl Object {
         window.read_u64(self.at + NAME_CLASS_AT) / HALF
     }
 
-    /// How many bytes its name has.
+    /// Returns how many bytes its name has.
     pub(crate) fn name_len(self, window: &ImageWindow) -> u64
         requires max_size { self.at < 2 ^ 63 }
         requires in_bounds { self.at + 16 ≤ length window.now.bytes }
@@ -75,7 +75,7 @@ impl Object {
         window.read_u64(self.at + NAME_CLASS_AT) % HALF
     }
 
-    /// Its name.
+    /// Returns its name.
     pub(crate) fn name(self, window: &ImageWindow) -> &[u8]
         requires max_size { length window.now.bytes < 2 ^ 63 }
         requires in_bounds { self.at + 16 + name_len_at (bytes_of window.now.bytes) self.at ≤ length window.now.bytes }
@@ -85,7 +85,7 @@ impl Object {
         window.bytes(self.at + HEAD_LEN, self.name_len(window))
     }
 
-    /// The bytes between its name and its value.
+    /// Returns the bytes between its name and its value.
     pub(crate) fn padding(self, window: &ImageWindow) -> &[u8]
         requires max_size { length window.now.bytes < 2 ^ 63 }
         requires in_bounds { value_offset (bytes_of window.now.bytes) self.at ≤ length window.now.bytes }
@@ -95,7 +95,7 @@ impl Object {
         window.bytes(self.at + HEAD_LEN + len, (len + 7) / 8 * 8 - len)
     }
 
-    /// Its value.
+    /// Returns its value.
     pub(crate) fn value(self, window: &ImageWindow) -> Value
         requires max_size { self.at < 2 ^ 63 }
         requires in_bounds { self.at + 16 ≤ length window.now.bytes }
@@ -107,14 +107,14 @@ impl Object {
 }
 
 impl Value {
-    /// Where it stands.
+    /// Returns where it stands.
     pub(crate) fn at(self) -> u64
         ensures { result ≡ self.at }
     {
         self.at
     }
 
-    /// Where its link leads.
+    /// Returns where its link leads.
     pub(crate) fn link(self, window: &ImageWindow) -> Option<u64>
         requires aligned { self.at % 8 ≡ 0 }
         requires in_bounds { self.at + 8 ≤ length window.now.bytes }
@@ -123,7 +123,7 @@ impl Value {
         window.load(self.at)
     }
 
-    /// The second word: how many elements or pairs it has.
+    /// Returns the second word: how many elements or pairs it has.
     pub(crate) fn len(self, window: &ImageWindow) -> u64
         requires max_size { self.at < 2 ^ 63 }
         requires in_bounds { self.at + 16 ≤ length window.now.bytes }
@@ -132,7 +132,7 @@ impl Value {
         window.read_u64(self.at + 8)
     }
 
-    /// The third word: how many places it has.
+    /// Returns the third word: how many places it has.
     pub(crate) fn capacity(self, window: &ImageWindow) -> u64
         requires max_size { self.at < 2 ^ 63 }
         requires in_bounds { self.at + 24 ≤ length window.now.bytes }

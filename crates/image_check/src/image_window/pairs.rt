@@ -37,7 +37,7 @@ struct CheckedPairTree<'a> {
     value: ScalarKind,
 }
 
-/// Whether the bytes at `at` spell a value of the kind.
+/// Tells whether the bytes at `at` spell a value of the kind.
 fn is_spelled(window: &ImageWindow, kind: ScalarKind, at: u64) -> bool
     requires { at + size_of kind ≤ length window.now.bytes }
     ensures { result ≡ is_spelling_of kind (read (bytes_of window.now.bytes) at (size_of kind)) }
@@ -45,7 +45,7 @@ fn is_spelled(window: &ImageWindow, kind: ScalarKind, at: u64) -> bool
     kind.is_spelling(window.bytes(at, kind.size()))
 }
 
-/// Whether a payload may begin there.
+/// Tells whether a payload may begin there.
 #[tactic(auto, unfolding(crate::specs::FreeNodes::is_place))]
 fn is_place_in(window: &ImageWindow, node: u64) -> bool
     requires { IsTrue (is_legal_size (length window.now.bytes)) }
@@ -58,7 +58,7 @@ fn is_place_in(window: &ImageWindow, node: u64) -> bool
 }
 
 impl CheckedPairTree<'_> {
-    /// Whether the payload is that of a node of this map, with room for a key and a value.
+    /// Tells whether the payload is that of a node of this map, with room for a key and a value.
     fn has_node(&self, node: u64) -> bool
         ensures { result ≡ is_node_block self.now.root (pair_len self.now.key self.now.value)
             (block_at self.now.blocks.now.entries node) }
@@ -78,7 +78,7 @@ impl CheckedPairTree<'_> {
         }
     }
 
-    /// Whether the number is a pair.
+    /// Tells whether the number is a pair.
     #[tactic(auto, unfolding(crate::specs::MapNodes::is_pair))]
     fn is_pair(&self, node: u64) -> bool
         requires { IsTrue (is_legal_size (length self.now.window.now.bytes)) }
@@ -92,7 +92,7 @@ impl CheckedPairTree<'_> {
             && is_spelled(self.window, self.value, node + LINKS + self.key.size())
     }
 
-    /// Where the link of a node at `at` leads.
+    /// Returns where the link of a node at `at` leads.
     fn child(&self, node: u64, at: u64) -> Option<u64>
         requires size { IsTrue (is_legal_size (length self.now.window.now.bytes)) }
         requires aligned { at % 8 ≡ 0 }
@@ -107,7 +107,7 @@ impl CheckedPairTree<'_> {
         }
     }
 
-    /// Whether the link leads to a pair or nowhere.
+    /// Tells whether the link leads to a pair or nowhere.
     fn has_at(&self, link: Option<u64>) -> bool
         requires { IsTrue (is_legal_size (length self.now.window.now.bytes)) }
         ensures { result ≡ leads (is_pair self.now.window.now self.now.blocks.now.entries self.now.root self.now.key
@@ -170,9 +170,9 @@ impl Nodes for CheckedPairTree<'_> {
     ghost agrees = { λ s sought a b x y. y };
 }
 
-/// The check of the links of the map at `map`, as those of an ordered tree of its pairs. Two visits for the root, a
-/// look-up and reading it, and five for each step, which reads a node, and looks up and reads the nodes of its two
-/// links.
+/// Returns the check of the links of the map at `map`, as those of an ordered tree of its pairs. Two visits for the
+/// root, a look-up and reading it, and five for each step, which reads a node, and looks up and reads the nodes of its
+/// two links.
 pub(crate) fn check_pairs(
     window: &ImageWindow,
     blocks: &BlockTable,

@@ -17,7 +17,7 @@ use best_fit::RIGHT_LINK;
 use link_tree::{CheckedTree, Nodes, SearchResult, check, find_first_not_before};
 
 /// The places of a window where a payload may begin, as the nodes of a tree. A link that leads to no such place is read
-/// as null. A node precedes longer ones, and those as long that stand behind it, by the lengths in front of them.
+/// as null. A node precedes longer ones, and those as long that stand after it, by the lengths in front of them.
 #[derive(Clone, Copy)]
 struct PayloadTree<'a> {
     window: &'a ImageWindow,
@@ -31,7 +31,7 @@ pub(crate) struct TileProbe {
 }
 
 impl PayloadTree<'_> {
-    /// The length that the tag of a node says.
+    /// Returns the length that the tag of a node says.
     fn len_at(&self, node: u64) -> u64
         requires { is_place self.now.window.now node ≡ true }
         ensures { result ≡ len_there (bytes_of self.now.window.now.bytes) node }
@@ -40,7 +40,7 @@ impl PayloadTree<'_> {
     }
 }
 
-/// Where the link at `at` leads, or nowhere where that is no place of a payload.
+/// Returns where the link at `at` leads, or nowhere if that is no place of a payload.
 fn placed_link(window: &ImageWindow, at: u64) -> Option<u64>
     requires aligned { at % 8 ≡ 0 }
     requires in_bounds { at + 8 ≤ length window.now.bytes }
@@ -101,7 +101,7 @@ impl Nodes for PayloadTree<'_> {
     ghost agrees = { λ s sought. before_agrees (bytes_of s.window.now.bytes) sought.len sought.node };
 }
 
-/// The check of the links below `root`, as those of a tree. One visit for each step.
+/// Returns the check of the links below `root`, as those of a tree. One visit for each step.
 pub(crate) fn check_places(
     window: &ImageWindow,
     root: Option<u64>,
@@ -120,7 +120,7 @@ pub(crate) fn check_places(
     checked
 }
 
-/// The first node of the tree that does not stand before the one that is sought. One visit for each step.
+/// Returns the first node of the tree that does not stand before the one that is sought. One visit for each step.
 pub(crate) fn find_tile(
     window: &ImageWindow,
     root: Option<u64>,
@@ -143,7 +143,7 @@ pub(crate) fn find_tile(
     found
 }
 
-/// Whether both links of a node are null or lead to places of payloads. One visit.
+/// Tells whether both links of a node are null or lead to places of payloads. One visit.
 pub(crate) fn has_good_links(window: &ImageWindow, node: u64, visits: &mut VisitCounter) -> bool
     requires { is_place window.now node ≡ true }
     ensures value { result ≡ has_good_links window.now node }

@@ -19,9 +19,10 @@ use segment_manager::unchecked::segment_of;
 use segment_manager::{Mode, Segment};
 
 impl ImageWindow {
-    /// The segment of the image of a directory by a format from 0 to 2, whose blocks these are. The bytes are those of
-    /// the same directory by the current format: with the current version and, from format 0, with a free tree. Those
-    /// of an image of the current format stay. One visit for each block; no tile is read, but from format 0.
+    /// Returns the segment of the image of a directory by a format from 0 to 2, whose blocks these are. The bytes are
+    /// those of the same directory by the current format: with the current version and, from format 0, with a free
+    /// tree. Those of an image of the current format stay. One visit for each block; no tile is read, but from format
+    /// 0.
     pub fn into_segment(
         self,
         format: u64,
@@ -55,8 +56,8 @@ fn set_version(format: u64, heap: &mut Heap)
     }
 }
 
-/// The heap of a window that is one by a format, with no way-points but from format 0. From format 0 the gaps get a
-/// tree; else no byte changes.
+/// Returns the heap of a window that is one by a format, with no way-points but from format 0. From format 0 the gaps
+/// get a tree; otherwise no byte changes.
 fn as_heap(format: u64, window: Window) -> Heap
     requires { IsHeap format window.bytes }
     ensures changes { RebuildsFreeTree current window result }

@@ -380,6 +380,7 @@ module _ {T : Type 0} {size : ℕ} {test : T → Bool} {sp : T
       (ap (λ bs. flat_map sp xs ++ bs) (sym (append-nil (sp y))) ∙ sym (flat_map-append sp xs (y ∷ [])))
       (all-both test xs (y ∷ []) v.values (all-one test y good))
 
+  -- a vector with elements appended at once
   pub extended-now : (ys : List T) → IsTrue (list_all test ys) → Extends old mid p k (length ys) (flat_map sp ys)
       → ReplacesVector size test sp old mid p t (xs ++ ys) t
   extended-now ys good h =

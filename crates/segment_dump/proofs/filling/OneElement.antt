@@ -188,6 +188,7 @@ module _ (s : SegmentState) (text : List ℕ) (p : FillState) (h n : ℕ) (f : F
         filling = subst (λ ys. IsFilling e p.site p.done (head_of p h) (Numbers k ys) (0 + p.more)) set t;
       })) f (its-part e) _ refl
 
+  -- the next element of a vector is pushed
   pub next-pushed : (k : ScalarKind) (zs : List ℤ) → p.content ≡ Vector k zs → n < length zs → AreValues k zs
       → NextElement s text p h n (element_line k) (λ z. is_value k z ≡ true) (kinds.Vector k)
       (λ z. asked.Push (ByHandle h) (literal_of k z)) Done
@@ -266,6 +267,7 @@ all-short : (longest : ℕ) (ts : List (List ℕ)) → AllByRecursion (λ (bs : 
 all-short longest [] g h = tt
 all-short longest (t ∷ ts) g h = ((omega (arith, h), g.0), all-short longest ts g.1 (omega (arith, h)))
 
+-- the next string of a vector is pushed
 pub next-text_of : (s : SegmentState) (text : List ℕ) (p : FillState) (h n longest : ℕ) (ts : List (List ℕ))
     → p.content ≡ Strings ts → n < length ts → AllByRecursion (λ (bs : List ℕ). (length bs < 2 ^ 64) × IsByteList bs) ts
     → (all_needs text_needs ts).longest ≤ longest

@@ -35,6 +35,7 @@ use Rattle.segment_manager.proofs.directory.CommandSteps.{IsMove, by_moves, by_s
 
 -- ---- a list with others in the places from one on
 
+-- overwriting elements keeps the length
 pub replaced-length : {T : Type 0} (xs : List T) (i : ℕ) (ys : List T) → i + length ys ≤ length xs
     → length (replaced xs i ys) ≡ length xs
 replaced-length xs i ys h = omega (
@@ -68,10 +69,12 @@ whole-replaced w xs i ys =
 
 -- ---- what is answered
 
+-- the numbers of an object that has a row of the kind, or why it has none
 abbrev pub row_in : ScalarKind → Option Object → Result (List ℤ) Refusal
 row_in k r =
     elim r as (λ _. Result (List ℤ) Refusal) [ None ↦ Err NotFound | Some o ↦ numbers_if k o.value ]
 
+-- the directory with a range of an object written
 abbrev pub range_with : Directory → ℕ → List ℤ → Option Object → Directory
 range_with d first zs r = elim r as (λ _. Directory) [
   | None ↦ d

@@ -55,6 +55,7 @@ pub record Performed (s t : SegmentState) (new : WindowState) (next : Mode → D
 
 module _ (s t : SegmentState) (view : s ≡ t) (b : IsSegment s.cut.bytes) (new : WindowState)
     (next : Mode → Directory → Answer × Directory) where
+  -- a call that was done makes the directory's move
   pub performed : {u : Unit {0}} → SameSurroundings s.cut new → ((d : Directory) → DenotesCurrent s.cut.bytes d
       → IsMove (record s { cut = new }) Done (next s.mode d)) → Performed s t new next (Ok u)
   performed place each = record {
@@ -64,6 +65,7 @@ module _ (s t : SegmentState) (view : s ≡ t) (b : IsSegment s.cut.bytes) (new 
     segment = let m = each b.0 b.1 in (m.after, m.stands);
   }
 
+  -- a call that was refused has the directory's refusal
   pub refuses-so : (why e : Refusal) → e ≡ why → new ≡ s.cut → ((d : Directory) → DenotesCurrent s.cut.bytes d
       → next s.mode d ≡ (Refused why, d)) → Performed s t new next (Err e)
   refuses-so why e is same each = record {

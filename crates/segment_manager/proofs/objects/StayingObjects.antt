@@ -191,6 +191,7 @@ pub extends-stay : (old new : SegmentState) (key : Key) (k : ScalarKind) (more :
 extends-stay old new key k more answer g m =
     moved-keeps g m (λ d is h q here. extended-keeps d is h q here old.mode key k more)
 
+-- writing a range keeps the objects
 pub writes-stay : (old new : SegmentState) (key : Key) (k : ScalarKind) (first : ℕ) (zs : List ℤ) (answer : Answer)
     → IsSegment old.cut.bytes → WritesRange old new key k first zs answer → KeepsObjects old new
 writes-stay old new key k first zs answer g m =

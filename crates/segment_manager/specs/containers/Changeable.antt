@@ -17,7 +17,7 @@ pub record IsChangeable (s : SegmentState) (key : Key) (kind : Kind) : Type 0 wh
   pub writing : is_read_only s.mode ≡ false
   pub is : AnswersWith s (λ d. kind_at d key) (Ok kind)
 
--- the same of an object of the key, which was located
+-- an object of the key was located, and the segment is open for writing
 pub record IsChangeableObject (s : SegmentState) (key : Key) (o : Object) : Type 0 where
   pub writing : is_read_only s.mode ≡ false
   pub located : IsLocated s key o
@@ -35,7 +35,7 @@ pub record IsElement (s : SegmentState) (key : Key) (l : Literal) (v : ScalarVal
   pub value : value_of_literal (kind_of_scalar v) l ≡ Ok (value_of_scalar v)
   pub range : is_value (kind_of_scalar v) (value_of_scalar v) ≡ true
 
--- or for this reason it can be no new element
+-- for this reason a value can be no new element: push and insert are refused
 pub record IsNoElement (s : SegmentState) (key : Key) (l : Literal) (why : Refusal) : Type 0 where
   pub push : TakesStep s s (Push key l) (Refused why)
   pub insert : (i : ℕ) → TakesStep s s (Insert key i l) (Refused why)

@@ -18,7 +18,7 @@ pub record Contents : Type 0 where
   pub table : BackingArray
   pub bytes : List ℕ
 
--- those of a value that is a vector of numbers or a text
+-- the contents of a value that is a vector of numbers or a text
 abbrev pub contents_of : Value → Option Contents
 contents_of (Numbers k zs) = None
 contents_of (Elements k zs t) = Some (record { each = size_of k; len = length zs; table = t; bytes = spelled k zs })
@@ -38,11 +38,11 @@ has_values (Texts ps t) = true
 abbrev pub container_place : Object → Place
 container_place o = record { handle = handle o.extent; at = head_len + padded (length o.name) }
 
--- the same, if the object is of the kind
+-- where the container of an object stands, if the object is of the kind
 abbrev pub place_of_kind : Object → Kind → Result Place Refusal
 place_of_kind o kind = if same_kind kind (kind_of o.value) then Ok (container_place o) else Err WrongKind
 
--- the same for the object of a key
+-- where the container of the object of a key stands
 abbrev pub container_at : Directory → Key → Kind → Result Place Refusal
 container_at d key kind = elim (object_at d key) [
   | None ↦ Err NotFound
@@ -57,7 +57,7 @@ text_bytes (Bytes bs t) = Ok bs
 text_bytes (Pairs k v ps) = Err WrongKind
 text_bytes (Texts ps t) = Err WrongKind
 
--- the same for the object of a key
+-- the bytes of the text of the object of a key
 abbrev pub bytes_at : Directory → Key → Result (List ℕ) Refusal
 bytes_at d key = elim (object_at d key) [ None ↦ Err NotFound | Some o ↦ text_bytes o.value ]
 
@@ -69,7 +69,7 @@ sizes_of (Bytes bs t) = Ok (length bs, t.capacity)
 sizes_of (Pairs k v ps) = Ok (length ps, 0)
 sizes_of (Texts ps t) = Ok (length ps, t.capacity)
 
--- the same for the object of a key, of whatever kind, and if it is of a kind
+-- the length and the capacity of the container of a key
 abbrev pub sizes_at : Directory → Key → Result (ℕ × ℕ) Refusal
 sizes_at d key = elim (object_at d key) [ None ↦ Err NotFound | Some o ↦ sizes_of o.value ]
 

@@ -22,11 +22,11 @@ run_in at (Bytes bs t) = Ok (record { offset = storage_offset t; count = length 
 run_in at (Pairs k v ps) = Err WrongKind
 run_in at (Texts ps t) = Err WrongKind
 
--- that of an object
+-- the run of the elements of an object
 abbrev pub run_of : Object → Result ElementRun Refusal
 run_of o = run_in (handle o.extent + head_len + padded (length o.name)) o.value
 
--- that of the object of a key
+-- the run of the elements of the object of a key
 abbrev pub run_at : Directory → Key → Result ElementRun Refusal
 run_at d key = elim (object_at d key) as (λ _. Result ElementRun Refusal) [ None ↦ Err NotFound | Some o ↦ run_of o ]
 

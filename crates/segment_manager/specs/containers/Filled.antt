@@ -31,7 +31,7 @@ pub record IsShapeOf (content : Content) (s : ObjectShape) : Type 0 where
   pub len : s.len ≡ value_len (bare content)
   pub small : s.len < 2 ^ 40
 
--- so many numbers of a kind, and a container
+-- the shape of an object of so many numbers of a kind
 abbrev pub numbers_shape : ScalarKind → ℕ → ObjectShape
 numbers_shape k count = record { kind = Scalar k; count = count; len = size_of k * count }
 
@@ -60,7 +60,7 @@ pub record MakesValueOk (content : Content) (old new : WindowState) (p : Place) 
   pub storage : ExchangesBlocks current empty new (place_at p) (value_len (bare content)) [] (value_extents value)
   pub said : IsValueAt (bytes_of new.bytes) (place_at p) value
 
--- or it was not, and what was taken for it was given back
+-- the value was not made, and what was taken for it was given back
 pub record MakesValueErr (content : Content) (old new : WindowState) (p : Place) (why : Refusal) : Type 0 where
   pub empty : WindowState
   pub change : ChangesBytes current old empty (place_at p) (value_len (bare content))
@@ -83,7 +83,7 @@ abbrev pub HasBegun : WindowState → Content → ℕ → ℕ → Option Pending
 HasBegun now content h at entry =
     (old : WindowState) × (IsSegment old.bytes × ((key : names.Key) × BeginsObjectFor old now key content h at entry))
 
--- its value is made, and an entry leads to it, if it is to have one
+-- the object's value is made, and an entry leads to it if the object is to have one
 pub record FillsObjectOk (now new : WindowState) (h at : ℕ) (entry : Option PendingEntry) (content : Content)
     (handle : ℕ) : Type 0 where
   pub made : WindowState
@@ -91,7 +91,7 @@ pub record FillsObjectOk (now new : WindowState) (h at : ℕ) (entry : Option Pe
   pub is : handle ≡ h
   pub entered : LeadsThere made new h entry
 
--- or all is given back
+-- the object's value is not made, and all that was taken is given back
 pub record FillsObjectErr (now new : WindowState) (h at : ℕ) (entry : Option PendingEntry) (content : Content)
     (why : Refusal) : Type 0 where
   pub left : WindowState
@@ -112,7 +112,7 @@ pub record Constructs {A : Type 0} (old new : WindowState) (command : Command) (
       → TakesStep (record { cut = old; mode = mode }) (record { cut = new; mode = mode }) command (answer result)
   pub refused : IfErr result (λ why. is_untouched (Refused why) ≡ true → new ≡ old)
 
--- and nothing changes where an object has the key
+-- an object of the key is found, and then nothing changes, or one is constructed
 pub record FindsOrConstructs (old new : WindowState) (key : names.Key) (content : Content)
     (result : Result (ℕ × ℕ) Refusal) : Type 0 where
   pub constructs : Constructs old new (FindOrConstruct key content) found_object_answer result
@@ -129,10 +129,10 @@ with_count n (Err why) = Err why
 abbrev pub ConstructsObject : SegmentState → SegmentState → names.Key → Content → Result ℕ Refusal → Type 0
 ConstructsObject old new key content result = TakesStep old new (Construct key content) (handle_answer result)
 
--- or one is found there
+-- an object of the key is found, or one is made
 abbrev pub FindsOrMakes : SegmentState → SegmentState → names.Key → Content → Result (ℕ × ℕ) Refusal → Type 0
 FindsOrMakes old new key content result = TakesStep old new (FindOrConstruct key content) (found_object_answer result)
 
--- so many times the same number
+-- a content of so many equal numbers
 abbrev pub equal_numbers : ScalarKind → ℕ → ℤ → Content
 equal_numbers k count z = Numbers k (replicate count z)

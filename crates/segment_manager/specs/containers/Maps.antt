@@ -36,7 +36,7 @@ IsPairs k v b p ps = HoldsMap (numbers_of k) (numbers_of v) b p.handle p.at ps
 abbrev pub HasPairs : ScalarKind → ScalarKind → List ℕ → Place → Type 0
 HasPairs k v b p = (ps : List NumberPair) × IsPairs k v b p ps
 
--- it has no pair now, and their blocks are given back
+-- the map has no pair, and the blocks of its pairs are given back
 pub record ReleasesPairs (k v : ScalarKind) (old new : WindowState) (p : Place) : Type 0 where
   pub each : maps.ReleasesMap (numbers_of k) (numbers_of v) old new p.handle p.at
 
@@ -50,7 +50,7 @@ told_of say (Bytes bs t) = Err WrongKind
 told_of say (Pairs k v ps) = Ok (say ps)
 told_of say (Texts ps t) = Err WrongKind
 
--- the same of the object of a key, a map of the kinds
+-- what a query answers of the object of a key, a map of the kinds
 abbrev pub answer_of_map : {A : Type 0} → Directory → Key → ScalarKind → ScalarKind → (List NumberPair → A)
     → Result A Refusal
 answer_of_map d key k v say = elim (object_at d key) [
@@ -66,7 +66,7 @@ pair_from from ps = option_map item_of (first_pair int_lt false from ps)
 abbrev pub pair_above : ℤ → List NumberPair → Option (ℤ × ℤ)
 pair_above key ps = option_map item_of (first_pair int_lt true key ps)
 
--- So the last key that is not above a number is the greatest of those, as is the last below it, and the last of all.
+-- the last pair whose key is not above a number
 abbrev pub pair_up_to : ℤ → List NumberPair → Option (ℤ × ℤ)
 pair_up_to to ps = option_map item_of (last_pair int_lt true to ps)
 
@@ -93,7 +93,7 @@ value_or_absent k (Some z) = Element k z
 abbrev pub value_answer : {T : Type 0} → ScalarKind → (T → ℤ) → Result (Option T) Refusal → Answer
 value_answer k w = answer_of (λ r. value_or_absent k (option_map w r))
 
--- the same of a value with its kind
+-- the answer of a value with its kind, or of none
 abbrev pub any_or_absent : Option ScalarValue → Answer
 any_or_absent None = Absent
 any_or_absent (Some v) = Element (kind_of_scalar v) (value_of_scalar v)

@@ -26,7 +26,7 @@ is_row k kind = same_kind (Vector k) kind || same_kind (Scalar k) kind
 abbrev pub numbers_if : ScalarKind → Value → Result (List ℤ) Refusal
 numbers_if k v = if is_row k (kind_of v) then Ok (numbers_in v) else Err WrongKind
 
--- so many of a list, from a place on, where it has so many there
+-- so many elements of a list, from a place on, if it has so many there
 abbrev pub range_of : List ℤ → ℕ → ℕ → Result (List ℤ) Refusal
 range_of zs first n = if nat_le (first + n) (length zs) then Ok (take n (drop first zs)) else Err OutOfRange
 
@@ -34,7 +34,7 @@ abbrev pub range_in : Result (List ℤ) Refusal → ℕ → ℕ → Result (List
 range_in (Ok zs) first n = range_of zs first n
 range_in (Err why) first n = Err why
 
--- so many of those of the object of a key
+-- so many elements of the object of a key, from a place on
 abbrev pub range_at : Directory → Key → ScalarKind → ℕ → ℕ → Result (List ℤ) Refusal
 range_at d key k first n = range_in (elim (object_at d key) as (λ _. Result (List ℤ) Refusal) [
   | None ↦ Err NotFound

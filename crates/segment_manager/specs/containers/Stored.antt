@@ -40,7 +40,7 @@ HasEnough Clear key d = ⊥
 
 -- ---- elements of so many bytes each in storage
 
--- those of a vector of numbers and of a text
+-- how many bytes an element has: of a vector of numbers, or of a text
 abbrev pub each_of : Kind → ℕ
 each_of (Vector k) = size_of k
 each_of kind = 1
@@ -57,7 +57,7 @@ ChangesElements (Reserve n) old new p each result = ReservesStorage old new p ea
 ChangesElements Shrink old new p each result = (result ≡ Ok tt) × ShrinksStorage old new p each
 ChangesElements Clear old new p each result = (result ≡ Ok tt) × Truncates old new p each 0
 
--- and with that of a vector of texts
+-- the storage of a vector of texts changes
 abbrev pub ChangesTexts : Change → WindowState → WindowState → Place → Result (Unit {0}) Refusal → Type 0
 ChangesTexts (Reserve n) old new p result = ReservesTexts old new p n result × ReservesNoTexts old new p n result
 ChangesTexts Shrink old new p result = (result ≡ Ok tt) × ShrinksTexts old new p

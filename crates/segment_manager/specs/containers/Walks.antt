@@ -21,11 +21,11 @@ pairs_of (Bytes bs t) = []
 pairs_of (Pairs k v ps) = ps
 pairs_of (Texts ps t) = []
 
--- the same of the object of a key
+-- the pairs of the map of a key
 abbrev pub pairs_at : Directory → Key → List NumberPair
 pairs_at d key = elim (object_at d key) [ None ↦ [] | Some o ↦ pairs_of o.value ]
 
--- the same of the object of a key that is a map of the kinds; there are none where it is another
+-- the pairs of the object of a key that is a map of the kinds; none if it is another
 abbrev pub pairs_at_kinds : Directory → Key → ScalarKind → ScalarKind → List NumberPair
 pairs_at_kinds d key k v = list_at pairs_of d key (Map k v)
 
@@ -47,7 +47,7 @@ KindedPair = (ScalarKind × ℤ) × (ScalarKind × ℤ)
 abbrev pub item_of_kinds : ScalarKind → ScalarKind → ℤ × ℤ → KindedPair
 item_of_kinds k v (x, y) = ((k, x), (v, y))
 
--- the same as values of the code
+-- key and value of a pair, each with its kind
 abbrev pub item_seen : ScalarValue × ScalarValue → KindedPair
 item_seen (x, y) = ((kind_of_scalar x, value_of_scalar x), (kind_of_scalar y, value_of_scalar y))
 
@@ -66,7 +66,7 @@ HasValueOf v (Ok None) = ⊤
 HasValueOf v (Ok (Some (x, y))) = kind_of_scalar y ≡ v
 HasValueOf v (Err why) = ⊤
 
--- and so is the key
+-- key and value have the kinds
 abbrev pub AreOfKinds : ScalarKind → ScalarKind → Result (Option (ScalarValue × ScalarValue)) Refusal → Type 0
 AreOfKinds k v (Ok None) = ⊤
 AreOfKinds k v (Ok (Some (x, y))) = (kind_of_scalar x ≡ k) × (kind_of_scalar y ≡ v)

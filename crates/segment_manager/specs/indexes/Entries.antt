@@ -36,7 +36,7 @@ pub record DiffersInValue (o p : Object) : Type 0 where
   pub kind : kind_of p.value ≡ kind_of o.value
   pub extent : p.extent ≡ o.extent
 
--- Another value of the same kind leaves the entries.
+-- another value of one kind leaves the entries of an object
 pub record KeepsEntries (d : Directory) (o : Object) : Type 0 where
   pub named : handles (named_objects (with_changed d o)) ≡ handles (named_objects d)
   pub unique : handles (unique_objects (with_changed d o)) ≡ handles (unique_objects d)

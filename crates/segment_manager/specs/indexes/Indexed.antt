@@ -15,7 +15,7 @@ abbrev pub class_of_index : Index → Class
 class_of_index index.Named = Named
 class_of_index index.Unique = Unique
 
--- its capacity and its block
+-- the capacity and the block of an index
 abbrev pub table_of : Index → Directory → BackingArray
 table_of index.Named d = d.named
 table_of index.Unique d = d.unique
@@ -30,7 +30,7 @@ abbrev pub order_of : Index → Object → Object → Bool
 order_of index.Named = by_name
 order_of index.Unique = by_kind
 
--- its objects in this order, which are `named_objects` or `unique_objects`
+-- the objects of an index in its order: `named_objects` or `unique_objects`
 abbrev pub objects_of : Index → Directory → List Object
 objects_of i d = fold (λ os o. insert_by (order_of i) o os) [] (filter (is_class (class_of_index i)) d.objects)
 

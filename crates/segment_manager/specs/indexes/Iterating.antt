@@ -41,7 +41,7 @@ pub record NameWalk : Type 0 where
   pub segment : SegmentState
   pub at : ℕ
 
--- it gives the name that stands where it stood, as it is seen, and stands behind it then
+-- an iterator gives the name at its position, and goes on to the next
 pub record GoesOnNames {A : Type 0} (seen : A → List ℕ) (old : NameWalk) (item : Option A)
     (new : NameWalk) : Type 0 where
   pub segment : new.segment ≡ old.segment
@@ -53,7 +53,7 @@ pub record TileWalk : Type 0 where
   pub segment : SegmentState
   pub at : ℕ
 
--- the same of these
+-- an iterator gives the block or gap at its position, and goes on to the next
 pub record GoesOnTiles (old : TileWalk) (item : Option TileInfo) (new : TileWalk) : Type 0 where
   pub segment : new.segment ≡ old.segment
   pub place : new.at ≡ place_behind old.at item
@@ -66,7 +66,7 @@ pub record ObjectWalk : Type 0 where
   pub segment : SegmentState
   pub at : ℕ
 
--- the same of these
+-- an iterator gives the object at its position, and goes on to the next
 pub record GoesOnObjects (old : ObjectWalk) (item : Option Instance) (new : ObjectWalk) : Type 0 where
   pub segment : new.segment ≡ old.segment
   pub place : new.at ≡ place_behind old.at item
@@ -76,7 +76,7 @@ pub record GoesOnObjects (old : ObjectWalk) (item : Option Instance) (new : Obje
 abbrev pub is_own : Extent → Bool
 is_own x = same_role x.role ObjectRole
 
--- the same among the blocks and gaps
+-- whether a span is the block of an object, among the blocks and gaps
 abbrev pub is_own_span : LiveSpan → Bool
 is_own_span s = elim s.use_of [ None ↦ false | Some role ↦ same_role role ObjectRole ]
 

@@ -17,18 +17,18 @@ pub record HasIndexEntry (i : Index) (e : Entry) (d : Directory) (h : ℕ) : Typ
   pub seeks : Seeks i e key
   pub found : object_at d key ≡ Some object
 
--- it has one in each directory that the bytes stand for
+-- an index has an entry in each directory that the bytes denote
 abbrev pub HasEntries : SegmentState → Index → Entry → ℕ → Type 0
 HasEntries s i e h = (d : Directory) → DenotesCurrent s.cut.bytes d → HasIndexEntry i e d h
 
--- it stands at this place of the index
+-- an entry stands at this place of the index
 pub record IsEntryAt (s : SegmentState) (h : ℕ) (i : Index) (at : ℕ) : Type 0 where
   pub entry : Entry
   pub leads : HasEntries s i entry h
   pub found : (t : BackingArray) (handles : List ℕ) → IsIndexOf s.cut (place_of i) t handles
       → FindsPosition (bytes_of s.cut.bytes) entry handles (Found at)
 
--- or it has none, since it has no key
+-- an object has no entry, since it has no key
 abbrev pub IsAnonymousAt : SegmentState → ℕ → Type 0
 IsAnonymousAt s h =
     (d : Directory) → DenotesCurrent s.cut.bytes d → (o : Object) × (object_at d (names.ByHandle h) ≡ Some o)

@@ -31,7 +31,7 @@ pub record HoldsObject (b : List ℕ) (h : ℕ) : Type 0 where
   pub object : Object
   pub is : object_at directory (ByHandle h) ≡ Some object
 
--- it has an emptied value
+-- the object of a handle gets an emptied value
 abbrev pub Empties : WindowState → WindowState → ℕ → Type 0
 Empties old new h =
     (d : Directory) (o : Object) → DenotesCurrent old.bytes d → object_at d (ByHandle h) ≡ Some o
@@ -46,7 +46,7 @@ pub record HoldsEntry (b : List ℕ) (i : Index) (at : ℕ) : Type 0 where
   pub object : Object
   pub is : slice_get (objects_of i directory) at ≡ Some object
 
--- it is gone with its entry
+-- the object is gone with its entry
 abbrev pub RemovesEntry : WindowState → WindowState → Index → ℕ → Type 0
 RemovesEntry old new i at =
     (d : Directory) (o : Object) → DenotesCurrent old.bytes d → slice_get (objects_of i d) at ≡ Some o

@@ -7,7 +7,7 @@ use Rattle.seg_index.specs.Keys.{code_at, count_at, class_at, name_at}
 use Rattle.segment_manager.specs.Directory.{Object, Directory, kind_of, count_of}
 use Rattle.segment_manager.specs.Denotes.{Denotes}
 
--- its kind, count, class and name
+-- the head in an object's block says its kind, count, class and name
 pub record IsEntry (m : Memory) (o : Object) : Type 0 where
   pub code : code_at m (handle o.extent) ≡ code_of (kind_of o.value)
   pub count : count_at m (handle o.extent) ≡ count_of o.value

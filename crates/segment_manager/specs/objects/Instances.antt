@@ -26,12 +26,12 @@ pub record IsInstance (o : Object) (said : Instance) : Type 0 where
   pub count : said.count ≡ count_of o.value
   pub at : said.handle ≡ handle o.extent
 
--- it is said of the object of a key
+-- an instance says what the object of a key is
 pub record SaysOf (s : SegmentState) (key : Key) (said : Instance) : Type 0 where
   pub says : (d : Directory) → DenotesCurrent s.cut.bytes d → (o : Object) × (object_at d key ≡ Some o)
       × IsInstance o said
 
--- it is said of the object at a place in a list
+-- an instance says what the object at a place in a list is
 pub record SaysAt (s : SegmentState) (objects : Directory → List Object) (i : ℕ) (said : Instance) : Type 0 where
   pub says : (d : Directory) → DenotesCurrent s.cut.bytes d → (o : Object) × (slice_get (objects d) i ≡ Some o)
       × IsInstance o said

@@ -32,7 +32,7 @@ pub record ConstructsFromItems {S A : Type 0} (gives : S → Option A → S → 
       (TakesUntil gives count before items after)
   pub unchanged : IfErr result (KeepsUnasked old new)
 
--- the same on the heap of a segment that may be changed
+-- items are taken, on the heap of a segment that may be changed
 abbrev pub TakesItemsIn : {S A : Type 0} → (S → Option A → S → Type 0)
     → (A → ℤ) → WindowState → WindowState → Key → ScalarKind → ℕ → S → S → Result ℕ Refusal → Type 0
 TakesItemsIn gives whole old new key k count before after result = (mode : Mode) → is_read_only mode ≡ false
@@ -68,7 +68,7 @@ pub record FindsExisting {S : Type 0} (old new : SegmentState) (key : Key) (k : 
   pub is : AnswersWith old (found_at k key) (Some result)
   pub stays : StaysUntaken old new before after
 
--- none has, and one is made of items
+-- no object has the key, and one is made of items
 pub record ConstructsFromItemsOk {S A : Type 0} (gives : S → Option A → S → Type 0) (whole : A
     → ℤ) (old new : SegmentState) (key : Key)
     (k : ScalarKind) (count : ℕ) (before after : S) (result : Result (ℕ × ℕ) Refusal) : Type 0 where
@@ -83,7 +83,7 @@ FindsOrTakes gives whole old new key k count before after result =
     RefusesReadOnly old new before after result ⊎ (FindsExisting old new key k before after result
     ⊎ ConstructsFromItemsOk gives whole old new key k count before after result)
 
--- the same on the heap of a segment that may be changed
+-- an object is found or made of items, on the heap of a segment that may be changed
 abbrev pub FindsOrTakesIn : {S A : Type 0} → (S → Option A → S → Type 0)
     → (A → ℤ) → WindowState → WindowState → Key → ScalarKind → ℕ → S → S → Result (ℕ × ℕ) Refusal → Type 0
 FindsOrTakesIn gives whole old new key k count before after result = (mode : Mode) → is_read_only mode ≡ false

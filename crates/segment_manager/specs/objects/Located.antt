@@ -25,21 +25,21 @@ located_at d key = option_map located (object_at d key)
 abbrev pub IsObject : Located → SegmentState → Type 0
 IsObject o s = AnswersWith s (λ d. located_at d (ByHandle o.handle)) (Some o)
 
--- it is the object of the key, and nothing else is said of it than what is so
+-- the object is the one of the key, and nothing is said of it but what holds
 pub record IsLocated (s : SegmentState) (key : Key) (o : Located) : Type 0 where
   pub at : AnswersWith s (λ d. located_at d key) (Some o)
   pub here : IsObject o s
 
--- where its value begins
+-- where the value of a located object begins
 abbrev pub value_offset : Located → ℕ
 value_offset o = head_len + padded o.name_len
 
--- where its container stands, if it is of the kind
+-- where the container of a located object stands, if it is of the kind
 abbrev pub container_in : Located → Kind → Result Place Refusal
 container_in o kind =
     if same_kind kind o.kind then Ok (record { handle = o.handle; at = value_offset o }) else Err WrongKind
 
--- where its element of an index stands, if it has scalars of the kind
+-- where an element of a located object stands, if it has scalars of the kind
 abbrev pub element_in : Located → ScalarKind → ℕ → Result Place Refusal
 element_in o k i =
     if same_kind (Scalar k) o.kind then

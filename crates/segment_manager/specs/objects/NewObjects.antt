@@ -28,7 +28,7 @@ FindsNone old at n =
     ⊎ ((growth : Option ℕ) × (between : WindowState) × PreparesOk old between at growth
     × (place (live_of between.bytes) n ObjectRole ≡ None))
 
--- the same blocks are in use as before, and nothing in them changed
+-- the blocks in use are those of before, and nothing in them changed
 pub record RestoresBlocks (old new : WindowState) : Type 0 where
   pub laid : EncodesLiveSet current new.bytes (live_of old.bytes)
   pub keeps : KeepsBlocks old new (live_of old.bytes).extents
@@ -57,6 +57,6 @@ IsOfKind (names.ByKind u) kind = u ≡ kind
 IsOfKind (names.ByHandle h) kind = ⊥
 IsOfKind names.NoKey kind = ⊤
 
--- the same of numbers
+-- a key fits an object of numbers of the kind
 abbrev pub IsOfItsKind : names.Key → ScalarKind → Type 0
 IsOfItsKind key k = IsOfKind key (Scalar k)

@@ -95,7 +95,7 @@ BeginsObject old new key kind count body result =
     MatchResult result (λ b. BeginsObjectOk old new key kind count body b.handle b.at b.entry)
     (BeginsObjectErr old new key kind body)
 
--- the same where no object has the key, which would get its entry here
+-- an object is begun under a key that no object has, whose entry would stand here
 abbrev pub BeginsEntry : WindowState → WindowState → Index → ℕ → Entry → names.Key → List ℕ → Kind → ℕ → ℕ
     → Result PendingObject Refusal → Type 0
 BeginsEntry old new i place e key name kind count body result =
@@ -179,8 +179,8 @@ GivesAllBack now new h entry = (old : WindowState) → WritesUnindexedObject old
 
 -- ---- filled or not, with whatever it takes
 
--- where it was filled, an entry may lead to it; and where not, all that was taken is its own block and what its index
--- took
+-- a pending object ends: if it was filled, an entry may lead to it, and otherwise only its own block and what its index
+-- took were taken
 abbrev pub IsEnding : WindowState → ℕ → Option PendingEntry → Result (Unit {0}) Refusal → Type 0
 IsEnding now h entry filled =
     MatchResult filled (λ u. IsReadyFor now h entry) (λ why. (old : WindowState)

@@ -37,7 +37,7 @@ pub record IsHeadAt (m : Memory) (h : ℕ) (kind : Kind) (count : ℕ) (class : 
   pub name_class : word_at m (h + name_class_at) ≡ two_halves (length bytes) (class_code class)
   pub name : HasBytesAt m (h + head_len) (padded_name bytes)
 
--- the same bytes, n times
+-- n times the same bytes, one after another
 abbrev pub repeated : ℕ → List ℕ → List ℕ
 repeated n bytes = flat_map (λ each. each) (replicate n bytes)
 
@@ -49,7 +49,7 @@ room_for name body = head_len + padded (length name) + body
 abbrev pub element_at : ScalarKind → List ℕ → ℕ → ℕ
 element_at k name i = head_len + padded (length name) + size_of k * i
 
--- the same for an object, if it has such an element
+-- where an element of an object stands, if it has such an element
 abbrev pub place_in : Object → ScalarKind → ℕ → Result ℕ Refusal
 place_in o k i =
     if same_kind (Scalar k) (kind_of o.value) then

@@ -15,8 +15,8 @@ pub(crate) struct Requested {
     pub(crate) growth: Growth,
 }
 
-/// Takes the blocks of an object with an entry in an index into use: a larger one for the index, where it is full, and
-/// then one of `len` bytes for the object. Where one of them has no gap, what was taken before is given back.
+/// Takes the blocks of an object with an entry in an index into use. A full index gets a larger block first, and then
+/// the object one of `len` bytes. Where one of them has no gap, what was taken before is given back.
 pub(crate) fn request(heap: &mut Heap, index: Index, len: u64) -> Result<Requested, NoSpace>
     requires { HasIndex heap.old (place_of index) }
     ensures { Requests heap.old heap.new (place_of index) len result }

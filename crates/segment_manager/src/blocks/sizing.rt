@@ -29,7 +29,7 @@ pub fn extend_end(segment: &mut Segment, extra: u64)
     segment.heap.set_header_word(SIZE_AT, size);
 }
 
-/// Shortens the segment by the gap at its end, where there is one, so that it ends behind the last block. One without
+/// Shortens the segment by the gap at its end, if there is one, so that it ends after the last block. One without
 /// blocks has 144 bytes then. Every object keeps its handle and its value.
 ///
 /// Example: `cut_end(&mut segment)`.

@@ -19,12 +19,12 @@ pub struct TileInfo {
     pub offset: u64,
     /// The number of bytes with the tag: a multiple of 16, at least 32.
     pub len: u64,
-    /// What the block is for, or nothing where it is a gap.
+    /// What the block is for, or nothing if it is a gap.
     pub use_of: Option<Role>,
 }
 
 impl TileInfo {
-    /// The block or gap of a tile.
+    /// Returns the block or gap of a tile.
     pub fn of(tile: Tile) -> TileInfo
         ensures { as_span result ≡ span tile }
     {
@@ -35,7 +35,7 @@ impl TileInfo {
         }
     }
 
-    /// Whether it is the block of an object.
+    /// Tells whether it is the block of an object.
     pub fn is_object(&self) -> bool
         ensures { result ≡ is_own_span (as_span self.now) }
     {
@@ -47,7 +47,7 @@ impl TileInfo {
 }
 
 impl Segment {
-    /// The first block or gap, or nothing where there is none, as in a segment of 144 bytes.
+    /// Returns the first block or gap, or nothing if there is none, as in a segment of 144 bytes.
     ///
     /// Example: `let first = segment.first_tile()`.
     pub fn first_tile(&self) -> Option<Tile>
@@ -56,8 +56,8 @@ impl Segment {
         self.heap.first_tile()
     }
 
-    /// The block or gap with `index` others before it, or nothing where there are no more. It is looked for from the
-    /// first one on.
+    /// Returns the block or gap with `index` others before it, or nothing if there are no more. It is looked for from
+    /// the first one on.
     ///
     /// Example: `let span = segment.tile(0)`.
     pub fn tile(&self, index: u64) -> Option<TileInfo>
@@ -67,7 +67,7 @@ impl Segment {
         Some(TileInfo::of(tile))
     }
 
-    /// Whether the segment is whole, as each segment is.
+    /// Tells whether the segment is whole, as each segment is.
     ///
     /// Example: `if segment.sanity()`.
     pub fn sanity(&self) -> bool
@@ -76,7 +76,7 @@ impl Segment {
         self.heap.sanity()
     }
 
-    /// Whether no block is in use, index blocks included.
+    /// Tells whether no block is in use, index blocks included.
     ///
     /// Example: `if segment.all_deallocated()`.
     pub fn all_deallocated(&self) -> bool
@@ -91,7 +91,7 @@ impl Segment {
     ///
     /// # Errors
     ///
-    /// `ReadOnly` where the segment is open for reading. Nothing changes.
+    /// `ReadOnly` if the segment is open for reading. Nothing changes.
     pub fn zero_free(&mut self) -> Result<(), Refusal>
         ensures step { TakesStep self.old self.new ZeroFree (done_answer result) }
         ensures zeros { OnOk result (HasZeroGaps self.new) }
@@ -106,8 +106,8 @@ impl Segment {
     }
 }
 
-/// The block or gap behind one of the segment's, or nothing where that is the last. A walk over all of them takes one
-/// step for each.
+/// Returns the block or gap after one of the segment's, or nothing if that is the last. A walk over all of them takes
+/// one step for each.
 ///
 /// Example: `let next = next_tile(&segment, tile)`.
 ///

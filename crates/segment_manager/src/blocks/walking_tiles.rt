@@ -50,7 +50,7 @@ impl<'a> Iterator for Tiles<'a> {
 }
 
 impl Segment {
-    /// The blocks and gaps, one after another.
+    /// Returns the blocks and gaps, one after another.
     ///
     /// Example: `for span in segment.tiles()`.
     pub fn tiles(&self) -> Tiles<'_>

@@ -14,15 +14,15 @@ use seg_types::{Kind, Refusal, ScalarKind, ScalarValue, by_kind, by_value};
 use seg_vector::SegString;
 
 impl Segment {
-    /// The element at `index` in the object of a key: of scalars, of a vector of scalars, or of a string, which has
-    /// bytes.
+    /// Returns the element at `index` in the object of a key: of scalars, of a vector of scalars, or of a string, which
+    /// has bytes.
     ///
     /// Example: `let value: ScalarValue = segment.get_any(&key, 0)?`.
     ///
     /// # Errors
     ///
-    /// `NotFound` where no object has the key, `WrongKind` where its elements are no scalars, `OutOfRange` where it has
-    /// none there.
+    /// `NotFound` if no object has the key, `WrongKind` if its elements are no scalars, `OutOfRange` if it has none
+    /// there.
     pub fn get_any<O: ObjectRef>(&self, key: &O, index: u64) -> Result<ScalarValue, Refusal>
         requires { O.stands key.now self.now }
         ensures { AnswersWith self.now (λ d. scalar_reply self.now.mode d (O.key key.now) (Get (O.key key.now) index))
@@ -41,7 +41,7 @@ impl Segment {
         }
     }
 
-    /// The same of a vector of scalars of a kind.
+    /// Returns an element of a vector of scalars of a kind.
     fn get_in_vector<O: ObjectRef>(
         &self,
         key: &O,
@@ -60,7 +60,7 @@ impl Segment {
         Ok(by_kind!(kind, got))
     }
 
-    /// `vec_set` of a value's kind.
+    /// Sets an element of a vector of a value's kind.
     fn set_in_vector<O: ObjectRef>(
         &mut self,
         key: &O,
@@ -76,7 +76,7 @@ impl Segment {
         by_value!(value, number => self.vec_set(key, index, number))
     }
 
-    /// Puts a value of a kind behind the last element of the vector of a key, a vector of that kind. Errors: as of
+    /// Puts a value of a kind after the last element of the vector of a key, a vector of that kind. Errors: as of
     /// `vec_push`.
     ///
     /// Example: `segment.vec_push_value(&name, ScalarValue::I64(4))?`.
@@ -95,8 +95,8 @@ impl Segment {
     }
 }
 
-/// Makes a value the element at `index` in the object of a key, whose elements are of the value's kind: of scalars, of
-/// a vector of scalars, or of a string. Of an object of scalars no other byte changes.
+/// Makes a value the element at `index` in the object of a key, whose elements are of the value's kind. The object has
+/// scalars, or is a vector of scalars or a string. Of an object of scalars no other byte changes.
 ///
 /// Example: `set_any(&mut segment, &key, 0, ScalarValue::I64(640))?`.
 ///
@@ -107,8 +107,7 @@ impl Segment {
 ///
 /// # Errors
 ///
-/// `ReadOnly` where the segment is open for reading, and else `OutOfRange` where it has no element there. Nothing
-/// changes.
+/// `ReadOnly` if the segment is open for reading. Otherwise `OutOfRange` if it has no element there. Nothing changes.
 pub fn set_any<O: ObjectRef>(
     segment: &mut Segment,
     key: &O,

@@ -10,13 +10,13 @@ use crate::segment::Segment;
 use seg_types::{Refusal, ScalarKind, ScalarValue, by_kind, by_value};
 
 impl Segment {
-    /// The value of a key of the map of a key, a map with keys of the kind of `at` and values of a kind.
+    /// Returns the value of a key of the map of a key, a map with keys of the kind of `at` and values of a kind.
     ///
     /// Example: `segment.map_get_any(&key, ScalarValue::I32(2), ScalarKind::I64)?`.
     ///
     /// # Errors
     ///
-    /// `NotFound` where no object has the key, `WrongKind` where it is of another kind.
+    /// `NotFound` if no object has the key, `WrongKind` if it is of another kind.
     pub fn map_get_any<O: ObjectRef>(
         &self,
         key: &O,
@@ -35,16 +35,15 @@ impl Segment {
         Ok(by_kind!(values, got))
     }
 
-    /// Puts the value of a key into the map of a key, a map of the two values' kinds, and answers whether the key is
+    /// Puts the value of a key into the map of a key, a map of the two values' kinds, and returns whether the key is
     /// new.
     ///
     /// Example: `segment.map_put_any(&key, ScalarValue::I32(2), ScalarValue::I64(1999))?`.
     ///
     /// # Errors
     ///
-    /// `ReadOnly` where the segment is open for reading, and else `NotFound` where no object has the key, `WrongKind`
-    /// where it is of another kind, `NoSpace` where the key is new and no gap is long enough for its block. Nothing
-    /// changes.
+    /// `ReadOnly` if the segment is open for reading. Otherwise `NotFound` if no object has the key, `WrongKind` if it
+    /// is of another kind, `NoSpace` if the key is new and no gap is long enough for its block. Nothing changes.
     pub fn map_put_any<O: ObjectRef>(
         &mut self,
         key: &O,
@@ -61,15 +60,15 @@ impl Segment {
         by_value!(at, at => by_value!(value, value => self.map_put(key, at, value)))
     }
 
-    /// Erases a key from the map of a key, a map with keys of its kind and values of a kind, and answers whether it was
+    /// Erases a key from the map of a key, a map with keys of its kind and values of a kind, and returns whether it was
     /// there.
     ///
     /// Example: `segment.map_erase_any(&key, ScalarValue::I32(2), ScalarKind::I64)?`.
     ///
     /// # Errors
     ///
-    /// `ReadOnly` where the segment is open for reading, and else `NotFound` where no object has the key, `WrongKind`
-    /// where it is of another kind. Nothing changes.
+    /// `ReadOnly` if the segment is open for reading. Otherwise `NotFound` if no object has the key, `WrongKind` if it
+    /// is of another kind. Nothing changes.
     pub fn map_erase_any<O: ObjectRef>(
         &mut self,
         key: &O,

@@ -14,7 +14,7 @@ use crate::segment::Segment;
 use seg_types::{Handle, Refusal, Scalar, ScalarKind};
 
 impl Segment {
-    /// Makes a vector of values with just so many places, and answers its handle. A key that is a kind is that of such
+    /// Makes a vector of values with just so many places, and returns its handle. A key that is a kind is that of such
     /// vectors. Conditions and errors: as of `construct`, but for the count.
     ///
     /// Example: `segment.construct_vec::<i64, _>(&name, &[])?`.
@@ -31,7 +31,7 @@ impl Segment {
         self.construct_under(key, &NewVector { values })
     }
 
-    /// Makes a string of bytes with just so many places, and answers its handle. A key that is a kind is that of
+    /// Makes a string of bytes with just so many places, and returns its handle. A key that is a kind is that of
     /// strings. Conditions and errors: as of `construct`, but for the count.
     ///
     /// Example: `segment.construct_string(&name, b"red")?`.
@@ -47,9 +47,9 @@ impl Segment {
         self.construct_under(key, &NewString { bytes })
     }
 
-    /// The handle of the vector of a key, with 1 for its count. Where no object has the key a vector of the values is
-    /// made. One that is found stays as it is. A key that is a kind is that of such vectors. Conditions and errors: as
-    /// of `find_or_construct`, but for the count.
+    /// Returns the handle of the vector of a key, with 1 for its count. If no object has the key a vector of the values
+    /// is made. One that is found stays as it is. A key that is a kind is that of such vectors. Conditions and errors:
+    /// as of `find_or_construct`, but for the count.
     ///
     /// Example: `segment.find_or_construct_vec(&name, &[1i64, 2])?`.
     pub fn find_or_construct_vec<T: Scalar, D: FindOrConstructKey>(
@@ -66,8 +66,8 @@ impl Segment {
         self.find_or_construct_under(key, &NewVector { values })
     }
 
-    /// The handle of the string of a key, with 1 for its count. Where no object has the key a string of the bytes is
-    /// made. One that is found stays as it is. A key that is a kind is that of strings. Conditions and errors: as of
+    /// Returns the handle of the string of a key, with 1 for its count. If no object has the key a string of the bytes
+    /// is made. One that is found stays as it is. A key that is a kind is that of strings. Conditions and errors: as of
     /// `find_or_construct`, but for the count.
     ///
     /// Example: `segment.find_or_construct_string(&name, b"red")?`.
@@ -84,7 +84,7 @@ impl Segment {
         self.find_or_construct_under(key, &NewString { bytes })
     }
 
-    /// Makes a vector of texts with just so many places, each text in a block of its own, and answers its handle. A key
+    /// Makes a vector of texts with just so many places, each text in a block of its own, and returns its handle. A key
     /// that is a kind is that of such vectors. Conditions and errors: as of `construct`, but for the count.
     ///
     /// Example: `segment.construct_texts(&name, &[b"apples", b"pears"])?`.
@@ -101,9 +101,9 @@ impl Segment {
         self.construct_under(key, &NewTexts { texts })
     }
 
-    /// The handle of the vector of strings of a key, with 1 for its count. Where no object has the key a vector of the
-    /// texts is made. One that is found stays as it is. A key that is a kind is that of such vectors. Conditions and
-    /// errors: as of `find_or_construct`, but for the count.
+    /// Returns the handle of the vector of strings of a key, with 1 for its count. If no object has the key a vector of
+    /// the texts is made. One that is found stays as it is. A key that is a kind is that of such vectors. Conditions
+    /// and errors: as of `find_or_construct`, but for the count.
     ///
     /// Example: `segment.find_or_construct_texts(&name, &[])?`.
     pub fn find_or_construct_texts<D: FindOrConstructKey>(
@@ -120,7 +120,7 @@ impl Segment {
         self.find_or_construct_under(key, &NewTexts { texts })
     }
 
-    /// Makes a map without pairs, and answers its handle. A key that is a kind is that of such maps. Conditions and
+    /// Makes a map without pairs, and returns its handle. A key that is a kind is that of such maps. Conditions and
     /// errors: as of `construct`, but for the count.
     ///
     /// Example: `segment.construct_map::<i32, i64, _>(&name)?`.
@@ -136,7 +136,8 @@ impl Segment {
         self.construct_map_of(key, K::kind(), V::kind())
     }
 
-    /// The same of two kinds. Conditions and errors: as of `construct`, but for the count.
+    /// Makes a map of two kinds without pairs, and returns its handle. Conditions and errors: as of `construct`, but
+    /// for the count.
     ///
     /// Example: `segment.construct_map_of(&name, ScalarKind::I32, ScalarKind::I64)?`.
     pub fn construct_map_of<D: ConstructKey>(
@@ -153,8 +154,8 @@ impl Segment {
         self.construct_under(key, &NewMap { keys, values })
     }
 
-    /// The handle of the map of a key, with 1 for its count. Where no object has the key a map without pairs is made.
-    /// One that is found stays as it is. A key that is a kind is that of such maps. Conditions and errors: as of
+    /// Returns the handle of the map of a key, with 1 for its count. If no object has the key a map without pairs is
+    /// made. One that is found stays as it is. A key that is a kind is that of such maps. Conditions and errors: as of
     /// `find_or_construct`, but for the count.
     ///
     /// Example: `segment.find_or_construct_map::<i32, i64, _>(&name)?`.
@@ -171,7 +172,8 @@ impl Segment {
         self.find_or_construct_map_of(key, K::kind(), V::kind())
     }
 
-    /// The same of two kinds. Conditions and errors: as of `find_or_construct`, but for the count.
+    /// Returns the handle of the map of a key, or makes one of two kinds without pairs. Conditions and errors: as of
+    /// `find_or_construct`, but for the count.
     ///
     /// Example: `segment.find_or_construct_map_of(&name, ScalarKind::I32, ScalarKind::I64)?`.
     pub fn find_or_construct_map_of<D: FindOrConstructKey>(

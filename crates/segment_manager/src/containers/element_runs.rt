@@ -17,7 +17,7 @@ use seg_types::{Kind, Refusal, ScalarKind};
 /// Elements that stand in the image one after another, each the bytes that spell it.
 #[derive(Clone, Copy, Debug, PartialEq, Eq)]
 pub struct ElementRun {
-    /// Where the first one begins, from the front of the segment on; 0 where a container has no storage.
+    /// Where the first one begins, from the front of the segment on; 0 if a container has no storage.
     pub offset: u64,
     /// How many they are.
     pub count: u64,
@@ -26,14 +26,14 @@ pub struct ElementRun {
 }
 
 impl Segment {
-    /// Where the elements of the object of a key stand in the image: of scalars, of a vector of scalars, or of a
-    /// string. They stand there until a call moves them.
+    /// Returns where the elements of the object of a key stand in the image: of scalars, of a vector of scalars, or of
+    /// a string. They stand there until a call moves them.
     ///
     /// Example: `let run = segment.element_run(&name)?`.
     ///
     /// # Errors
     ///
-    /// `NotFound` where no object has the key, `WrongKind` where its elements are no scalars.
+    /// `NotFound` if no object has the key, `WrongKind` if its elements are no scalars.
     pub fn element_run<O: ObjectRef>(&self, key: &O) -> Result<ElementRun, Refusal>
         requires { O.stands key.now self.now }
         ensures run { AnswersWith self.now (λ d. run_at d (O.key key.now)) result }
@@ -46,7 +46,7 @@ impl Segment {
     }
 }
 
-/// Where the elements of an object stand.
+/// Returns where the elements of an object stand.
 fn read_run(heap: &Heap, object: Object) -> Result<ElementRun, Refusal>
     requires heap { IsHeap current heap.now.bytes }
     requires object { HasObject heap.now.bytes object.handle }
@@ -67,7 +67,7 @@ fn read_run(heap: &Heap, object: Object) -> Result<ElementRun, Refusal>
     }
 }
 
-/// The elements in the storage of the container whose three words stand at `at` in the block of a handle.
+/// Returns the elements in the storage of the container whose three words stand at `at` in the block of a handle.
 fn storage_run(heap: &Heap, handle: u64, at: u64, kind: ScalarKind) -> ElementRun
     requires aligned { at % 8 ≡ 0 }
     requires near_end { at ≤ 4096 }

@@ -38,7 +38,7 @@ pub(crate) trait ObjectInit {
     // Whether an object can hold it.
     ghost stands: { Self → Type 0 };
 
-    /// The object that it fills.
+    /// Returns the object that it fills.
     fn shape(&self) -> ObjectShape
         requires { stands self.now }
         ensures { IsShapeOf (content self.now) result };
@@ -47,7 +47,7 @@ pub(crate) trait ObjectInit {
     ///
     /// # Errors
     ///
-    /// `NoSpace` where no gap is long enough for its elements. What was taken for them is given back.
+    /// `NoSpace` if no gap is long enough for its elements. What was taken for them is given back.
     fn fill(&self, heap: &mut Heap, place: Place) -> Result<(), Refusal>
         requires object { stands self.now }
         requires heap { IsHeap current heap.old.bytes }
@@ -177,7 +177,7 @@ impl ObjectInit for NewMap {
     }
 }
 
-/// An object of `count` numbers of a kind.
+/// Returns an object of `count` numbers of a kind.
 #[inline(always)]
 pub(crate) fn numbers(kind: ScalarKind, count: u32) -> ObjectShape
     requires { count ≤ 1048576 }
@@ -190,7 +190,7 @@ pub(crate) fn numbers(kind: ScalarKind, count: u32) -> ObjectShape
     }
 }
 
-/// An object that is a container of a kind.
+/// Returns an object that is a container of a kind.
 #[inline(always)]
 fn container(kind: Kind) -> ObjectShape
     ensures { result ≡ container_shape kind }

@@ -9,7 +9,7 @@ use seg_types::{Kind, Refusal};
 use seg_vector::Place;
 
 impl Segment {
-    /// Where the container stands of the object of a key: `NotFound` where there is none, `WrongKind` where it is of
+    /// Returns where the container stands of the object of a key: `NotFound` if there is none, `WrongKind` if it is of
     /// another kind.
     #[inline(always)]
     pub(crate) fn find_container<O: ObjectRef>(&self, key: &O, kind: Kind) -> Result<Place, Refusal>
@@ -22,7 +22,8 @@ impl Segment {
         }
     }
 
-    /// The same, where the container is to be changed: `ReadOnly` where the segment is open for reading.
+    /// Returns where the container of a key stands that is to be changed: `ReadOnly` if the segment is open for
+    /// reading.
     #[inline(always)]
     pub(crate) fn find_to_change<O: ObjectRef>(&self, key: &O, kind: Kind) -> Result<Place, Refusal>
         requires { O.stands key.now self.now }

@@ -18,13 +18,13 @@ use seg_types::theorems::holds_value;
 use seg_types::{Kind, Refusal, Scalar};
 
 impl Segment {
-    /// The value of a key of the map of a key, a map of the types.
+    /// Returns the value of a key of the map of a key, a map of the types.
     ///
     /// Example: `let price: Option<i64> = segment.map_get(&name, 2i32)?`.
     ///
     /// # Errors
     ///
-    /// `NotFound` where no object has the key, `WrongKind` where it is of another kind.
+    /// `NotFound` if no object has the key, `WrongKind` if it is of another kind.
     pub fn map_get<K: Scalar, V: Scalar, O: ObjectRef>(
         &self,
         key: &O,
@@ -39,13 +39,13 @@ impl Segment {
         Ok(SegMap::<K, V>::at(place).get(&self.heap, at, &mut Steps::new()))
     }
 
-    /// The pair with the least key that is not below `from`, of the map of a key, a map of the types.
+    /// Returns the pair with the least key that is not below `from`, of the map of a key, a map of the types.
     ///
     /// Example: `let first: Option<(i32, i64)> = segment.map_first_from(&name, 2)?`.
     ///
     /// # Errors
     ///
-    /// `NotFound` where no object has the key, `WrongKind` where it is of another kind.
+    /// `NotFound` if no object has the key, `WrongKind` if it is of another kind.
     pub fn map_first_from<K: Scalar, V: Scalar, O: ObjectRef>(
         &self,
         key: &O,
@@ -58,13 +58,13 @@ impl Segment {
         self.pair_past(key, from, false)
     }
 
-    /// The pair with the least key above `after`, of the map of a key, a map of the types.
+    /// Returns the pair with the least key above `after`, of the map of a key, a map of the types.
     ///
     /// Example: `let next: Option<(i32, i64)> = segment.map_next_after(&name, 2)?`.
     ///
     /// # Errors
     ///
-    /// `NotFound` where no object has the key, `WrongKind` where it is of another kind.
+    /// `NotFound` if no object has the key, `WrongKind` if it is of another kind.
     pub fn map_next_after<K: Scalar, V: Scalar, O: ObjectRef>(
         &self,
         key: &O,
@@ -77,8 +77,8 @@ impl Segment {
         self.pair_past(key, after, true)
     }
 
-    /// The pair with the least key that is above a bound, or not below it. It is inlined, so which of the two costs no
-    /// test.
+    /// Returns the pair with the least key that is above a bound, or not below it. It is inlined, so which of the two
+    /// costs no test.
     #[inline(always)]
     pub(crate) fn pair_past<K: Scalar, V: Scalar, O: ObjectRef>(
         &self,
@@ -100,13 +100,13 @@ impl Segment {
         }
     }
 
-    /// The pair with the greatest key, of the map of a key, a map of the types; `None` where it has no pair.
+    /// Returns the pair with the greatest key, of the map of a key, a map of the types; `None` if it has no pair.
     ///
     /// Example: `let last: Option<(i32, i64)> = segment.map_last(&name)?`.
     ///
     /// # Errors
     ///
-    /// `NotFound` where no object has the key, `WrongKind` where it is of another kind.
+    /// `NotFound` if no object has the key, `WrongKind` if it is of another kind.
     pub fn map_last<K: Scalar, V: Scalar, O: ObjectRef>(
         &self,
         key: &O,
@@ -119,13 +119,13 @@ impl Segment {
         Ok(SegMap::<K, V>::at(place).last(&self.heap, &mut Steps::new()))
     }
 
-    /// The pair with the greatest key that is not above `to`, of the map of a key, a map of the types.
+    /// Returns the pair with the greatest key that is not above `to`, of the map of a key, a map of the types.
     ///
     /// Example: `let last: Option<(i32, i64)> = segment.map_last_up_to(&name, 2)?`.
     ///
     /// # Errors
     ///
-    /// `NotFound` where no object has the key, `WrongKind` where it is of another kind.
+    /// `NotFound` if no object has the key, `WrongKind` if it is of another kind.
     pub fn map_last_up_to<K: Scalar, V: Scalar, O: ObjectRef>(
         &self,
         key: &O,
@@ -139,14 +139,14 @@ impl Segment {
         Ok(SegMap::<K, V>::at(place).last_up_to(&self.heap, to, &mut Steps::new()))
     }
 
-    /// The pair with the greatest key below `before`, of the map of a key, a map of the types. So all pairs are read by
-    /// falling keys from `map_last` on, each in a walk from the root of the tree.
+    /// Returns the pair with the greatest key below `before`, of the map of a key, a map of the types. So all pairs are
+    /// read by falling keys from `map_last` on, each in a walk from the root of the tree.
     ///
     /// Example: `let previous: Option<(i32, i64)> = segment.map_previous_before(&name, 2)?`.
     ///
     /// # Errors
     ///
-    /// `NotFound` where no object has the key, `WrongKind` where it is of another kind.
+    /// `NotFound` if no object has the key, `WrongKind` if it is of another kind.
     pub fn map_previous_before<K: Scalar, V: Scalar, O: ObjectRef>(
         &self,
         key: &O,
@@ -161,16 +161,15 @@ impl Segment {
         Ok(SegMap::<K, V>::at(place).previous_before(&self.heap, before, &mut Steps::new()))
     }
 
-    /// Puts the value of a key into the map of a key, a map of the types, and answers whether the key is new. All other
-    /// pairs keep their blocks, and so does this one where the key is not new.
+    /// Puts the value of a key into the map of a key, a map of the types, and returns whether the key is new. All other
+    /// pairs keep their blocks, and so does this one if the key is not new.
     ///
     /// Example: `let is_new = segment.map_put(&name, 2i32, 1999i64)?`.
     ///
     /// # Errors
     ///
-    /// `ReadOnly` where the segment is open for reading, and else `NotFound` where no object has the key, `WrongKind`
-    /// where it is of another kind, `NoSpace` where the key is new and no gap is long enough for its block. Nothing
-    /// changes.
+    /// `ReadOnly` if the segment is open for reading. Otherwise `NotFound` if no object has the key, `WrongKind` if it
+    /// is of another kind, `NoSpace` if the key is new and no gap is long enough for its block. Nothing changes.
     pub fn map_put<K: Scalar, V: Scalar, O: ObjectRef>(
         &mut self,
         key: &O,
@@ -196,15 +195,15 @@ impl Segment {
         }
     }
 
-    /// Erases a key from the map of a key, a map of the types, and answers whether it was there. Its block is given
+    /// Erases a key from the map of a key, a map of the types, and returns whether it was there. Its block is given
     /// back; all other pairs keep theirs.
     ///
     /// Example: `let was_there = segment.map_erase::<i32, i64, _>(&name, 2)?`.
     ///
     /// # Errors
     ///
-    /// `ReadOnly` where the segment is open for reading, and else `NotFound` where no object has the key, `WrongKind`
-    /// where it is of another kind. Nothing changes.
+    /// `ReadOnly` if the segment is open for reading. Otherwise `NotFound` if no object has the key, `WrongKind` if it
+    /// is of another kind. Nothing changes.
     pub fn map_erase<K: Scalar, V: Scalar, O: ObjectRef>(
         &mut self,
         key: &O,
@@ -224,7 +223,7 @@ impl Segment {
         Ok(SegMap::<K, V>::at(place).erase(&mut self.heap, at, &mut Steps::new()))
     }
 
-    /// Where the map of a key stands, a map of the types.
+    /// Returns where the map of a key stands, a map of the types.
     fn find_map<K: Scalar, V: Scalar, O: ObjectRef>(&self, key: &O) -> Result<Place, Refusal>
         requires { O.stands key.now self.now }
         ensures { AnswersWith self.now (λ d. container_at d (O.key key.now) (MapOf K.kind V.kind)) result }

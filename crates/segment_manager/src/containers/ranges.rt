@@ -19,8 +19,8 @@ impl Segment {
     ///
     /// # Errors
     ///
-    /// `ReadOnly` where the segment is open for reading, and else `NotFound` where no object has the key, `WrongKind`
-    /// where it is of another kind, `OutOfRange` where it has not so many elements there. Nothing changes.
+    /// `ReadOnly` if the segment is open for reading. Otherwise `NotFound` if no object has the key, `WrongKind` if it
+    /// is of another kind, `OutOfRange` if it has not so many elements there. Nothing changes.
     pub fn write_range<T: Scalar, O: ObjectRef>(
         &mut self,
         key: &O,
@@ -44,7 +44,7 @@ impl Segment {
         }
     }
 
-    /// The same of a vector that was located, in a segment that may be changed.
+    /// Writes the values of a row to a vector that was located, in a segment that may be changed.
     fn write_in_vector<T: Scalar>(
         &mut self,
         object: &Object,
@@ -63,7 +63,7 @@ impl Segment {
         SegVec::<T>::at(place).overwrite(&mut self.heap, first, values)
     }
 
-    /// The same of an object of another kind, of which no other byte changes.
+    /// Writes the values of a row to an object of another kind, of which no other byte changes.
     fn write_in_array<T: Scalar>(
         &mut self,
         object: &Object,
@@ -95,15 +95,15 @@ impl Segment {
         Ok(())
     }
 
-    /// Puts the values of a row behind the last element of the vector of a key, a vector of the type. Where there are
-    /// not places for all of them, it gets twice as many as before, and at least 4, and as many as are needed.
+    /// Puts the values of a row after the last element of the vector of a key, a vector of the type. If there are not
+    /// places for all of them, it gets twice as many as before, and at least 4, and as many as are needed.
     ///
     /// Example: `segment.vec_extend(&name, &[6i64, 7])?`.
     ///
     /// # Errors
     ///
-    /// `ReadOnly` where the segment is open for reading, and else `NotFound` where no object has the key, `WrongKind`
-    /// where it is of another kind, `NoSpace` where its storage cannot be regrown. Nothing changes.
+    /// `ReadOnly` if the segment is open for reading. Otherwise `NotFound` if no object has the key, `WrongKind` if it
+    /// is of another kind, `NoSpace` if its storage cannot be regrown. Nothing changes.
     pub fn vec_extend<T: Scalar, O: ObjectRef>(
         &mut self,
         key: &O,
@@ -122,7 +122,7 @@ impl Segment {
     }
 }
 
-/// Whether so many elements have `count` from `first` on.
+/// Tells whether so many elements have `count` from `first` on.
 fn has_range(len: u64, first: u64, count: u64) -> bool
     ensures { result ≡ nat_le (first + count) len }
 {

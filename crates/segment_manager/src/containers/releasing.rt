@@ -42,7 +42,7 @@ fn release_pairs(heap: &mut Heap, place: Place, keys: ScalarKind, values: Scalar
     by_kind!(keys, released)
 }
 
-/// The same of a map whose keys are of a type.
+/// Gives back the blocks of the pairs of a map whose keys are of a type.
 fn release_pairs_of<K: Scalar>(heap: &mut Heap, place: Place, values: ScalarKind)
     requires { HasPairs K.kind values heap.old.bytes place }
     ensures { ReleasesPairs K.kind values heap.old heap.new place }
@@ -55,7 +55,7 @@ fn release_pairs_of<K: Scalar>(heap: &mut Heap, place: Place, values: ScalarKind
     by_kind!(values, released)
 }
 
-/// The same of a map of two types.
+/// Gives back the blocks of the pairs of a map of two types.
 fn release_map<K: Scalar, V: Scalar>(heap: &mut Heap, place: Place)
     requires { HasPairs K.kind V.kind heap.old.bytes place }
     ensures { ReleasesPairs K.kind V.kind heap.old heap.new place }

@@ -15,19 +15,20 @@ use crate::segment::Segment;
 use seg_types::{Kind, Refusal, Scalar};
 use seg_vector::SegTexts;
 
-/// Where the number of elements or pairs stands in a container, a vector, string or map, and behind it that of places.
+/// Where the number of elements or pairs stands in a container, a vector, string or map, and after it that of places.
 const LEN: u64 = 8;
 
 const CAPACITY: u64 = 16;
 
 impl Segment {
-    /// How many elements the vector or string of a key has, and how many places; or how many pairs its map has, and 0.
+    /// Returns how many elements the vector or string of a key has, and how many places; or how many pairs its map has,
+    /// and 0.
     ///
     /// Example: `let (count, places) = segment.measure(&name)?`.
     ///
     /// # Errors
     ///
-    /// `NotFound` where no object has the key, `WrongKind` where it is no container.
+    /// `NotFound` if no object has the key, `WrongKind` if it is no container.
     pub fn measure<O: ObjectRef>(&self, key: &O) -> Result<(u64, u64), Refusal>
         requires { O.stands key.now self.now }
         ensures { AnswersWith self.now (λ d. sizes_at d (O.key key.now)) result }
@@ -39,7 +40,7 @@ impl Segment {
         }
     }
 
-    /// The same of a container of a kind.
+    /// Counts the elements and the places of a container of a kind.
     fn measure_kind<O: ObjectRef>(&self, key: &O, kind: Kind) -> Result<(u64, u64), Refusal>
         requires target { O.stands key.now self.now }
         requires container { has_sizes kind ≡ true }
@@ -53,14 +54,14 @@ impl Segment {
         }
     }
 
-    /// Gives the vector or string of a key places for `n` elements, where it has fewer.
+    /// Gives the vector or string of a key places for `n` elements, if it has fewer.
     ///
     /// Example: `segment.reserve(&name, 1000)?`.
     ///
     /// # Errors
     ///
-    /// `ReadOnly` where the segment is open for reading, and else `NotFound` where no object has the key, `WrongKind`
-    /// where it has no storage, `NoSpace` where its storage cannot be regrown. Nothing changes.
+    /// `ReadOnly` if the segment is open for reading. Otherwise `NotFound` if no object has the key, `WrongKind` if it
+    /// has no storage, `NoSpace` if its storage cannot be regrown. Nothing changes.
     #[inline(never)]
     pub fn reserve<O: ObjectRef>(&mut self, key: &O, n: u64) -> Result<(), Refusal>
         requires { O.stands key.now self.old }
@@ -77,8 +78,8 @@ impl Segment {
     ///
     /// # Errors
     ///
-    /// `ReadOnly` where the segment is open for reading, and else `NotFound` where no object has the key, `WrongKind`
-    /// where it has no storage. Nothing changes.
+    /// `ReadOnly` if the segment is open for reading. Otherwise `NotFound` if no object has the key, `WrongKind` if it
+    /// has no storage. Nothing changes.
     #[inline(never)]
     pub fn shrink<O: ObjectRef>(&mut self, key: &O) -> Result<(), Refusal>
         requires { O.stands key.now self.old }
@@ -94,8 +95,8 @@ impl Segment {
     ///
     /// # Errors
     ///
-    /// `ReadOnly` where the segment is open for reading, and else `NotFound` where no object has the key, `WrongKind`
-    /// where it has no storage. Nothing changes.
+    /// `ReadOnly` if the segment is open for reading. Otherwise `NotFound` if no object has the key, `WrongKind` if it
+    /// has no storage. Nothing changes.
     #[inline(never)]
     pub fn clear<O: ObjectRef>(&mut self, key: &O) -> Result<(), Refusal>
         requires { O.stands key.now self.old }
@@ -130,13 +131,13 @@ impl Segment {
         }
     }
 
-    /// How many elements the array of a key has, one scalar or an array of a type.
+    /// Returns how many elements the array of a key has, one scalar or an array of a type.
     ///
     /// Example: `let count = segment.array_len::<u8, _>(&name)?`.
     ///
     /// # Errors
     ///
-    /// `NotFound` where no object has the key, `WrongKind` where it is of another kind.
+    /// `NotFound` if no object has the key, `WrongKind` if it is of another kind.
     pub fn array_len<T: Scalar, O: ObjectRef>(&self, key: &O) -> Result<u64, Refusal>
         requires { O.stands key.now self.now }
         ensures { AnswersWith self.now (λ d. array_length_at d (O.key key.now) T.kind) result }
@@ -148,13 +149,13 @@ impl Segment {
         Ok(u64::from(object.count))
     }
 
-    /// How many elements the vector of a key has, a vector of the type.
+    /// Returns how many elements the vector of a key has, a vector of the type.
     ///
     /// Example: `let count = segment.vec_len::<i64, _>(&name)?`.
     ///
     /// # Errors
     ///
-    /// `NotFound` where no object has the key, `WrongKind` where it is of another kind.
+    /// `NotFound` if no object has the key, `WrongKind` if it is of another kind.
     pub fn vec_len<T: Scalar, O: ObjectRef>(&self, key: &O) -> Result<u64, Refusal>
         requires { O.stands key.now self.now }
         ensures { AnswersWith self.now (λ d. length_at_kind d (O.key key.now) (VectorOf T.kind)) result }
@@ -162,13 +163,13 @@ impl Segment {
         Ok(self.measure_kind(key, Kind::Vector(T::kind()))?.0)
     }
 
-    /// How many texts the vector of strings of a key has.
+    /// Returns how many texts the vector of strings of a key has.
     ///
     /// Example: `let count = segment.texts_len(&name)?`.
     ///
     /// # Errors
     ///
-    /// `NotFound` where no object has the key, `WrongKind` where it is of another kind.
+    /// `NotFound` if no object has the key, `WrongKind` if it is of another kind.
     pub fn texts_len<O: ObjectRef>(&self, key: &O) -> Result<u64, Refusal>
         requires { O.stands key.now self.now }
         ensures { AnswersWith self.now (λ d. length_at_kind d (O.key key.now) StringsKind) result }
@@ -176,13 +177,13 @@ impl Segment {
         Ok(self.measure_kind(key, Kind::Strings)?.0)
     }
 
-    /// How many pairs the map of a key has, a map of the types.
+    /// Returns how many pairs the map of a key has, a map of the types.
     ///
     /// Example: `let count = segment.map_len::<i32, i64, _>(&name)?`.
     ///
     /// # Errors
     ///
-    /// `NotFound` where no object has the key, `WrongKind` where it is of another kind.
+    /// `NotFound` if no object has the key, `WrongKind` if it is of another kind.
     pub fn map_len<K: Scalar, V: Scalar, O: ObjectRef>(&self, key: &O) -> Result<u64, Refusal>
         requires { O.stands key.now self.now }
         ensures { AnswersWith self.now (λ d. length_at_kind d (O.key key.now) (MapOf K.kind V.kind)) result }

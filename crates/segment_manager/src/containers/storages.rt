@@ -11,7 +11,7 @@ use seg_vector::{Place, SegTexts, reserve, shrink_storage, truncate};
 /// What is done with the storage of a container.
 #[derive(Clone, Copy)]
 pub(crate) enum Change {
-    /// It gets places for so many elements, where it has fewer.
+    /// The container gets places for so many elements, if it has fewer.
     Reserve(u64),
     /// Its places that have no element are given back.
     Shrink,
@@ -19,7 +19,7 @@ pub(crate) enum Change {
     Clear,
 }
 
-/// The bytes of an element of a vector of scalars, or of a string.
+/// Returns the bytes of an element of a vector of scalars, or of a string.
 pub(crate) fn element_len(kind: Kind) -> u64
     ensures { result ≡ each_of kind }
 {
@@ -43,7 +43,7 @@ pub(crate) fn change_texts(heap: &mut Heap, texts: SegTexts, change: Change) -> 
     Ok(())
 }
 
-/// The same of elements of `each` bytes.
+/// Changes the storage of a container of elements of `each` bytes.
 #[inline(always)]
 pub(crate) fn change_elements(
     heap: &mut Heap,

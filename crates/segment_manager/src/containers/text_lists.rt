@@ -17,14 +17,13 @@ use seg_types::{Kind, Refusal};
 use seg_vector::SegTexts;
 
 impl Segment {
-    /// The bytes of the text at `index` in the vector of strings of a key, lent.
+    /// Returns the bytes of the text at `index` in the vector of strings of a key, lent.
     ///
     /// Example: `let text = segment.texts_get(&name, 0)?`.
     ///
     /// # Errors
     ///
-    /// `NotFound` where no object has the key, `WrongKind` where it is of another kind, `OutOfRange` where it has no
-    /// text there.
+    /// `NotFound` if no object has the key, `WrongKind` if it is of another kind, `OutOfRange` if it has no text there.
     pub fn texts_get<O: ObjectRef>(&self, key: &O, index: u64) -> Result<&[u8], Refusal>
         requires { O.stands key.now self.now }
         ensures { AnswersQueryOfKind self.now (O.key key.now) StringsKind
@@ -41,9 +40,8 @@ impl Segment {
     ///
     /// # Errors
     ///
-    /// `ReadOnly` where the segment is open for reading, and else `NotFound` where no object has the key, `WrongKind`
-    /// where it is of another kind, `OutOfRange` where it has no text there, `NoSpace` where the text has no fit.
-    /// Nothing changes.
+    /// `ReadOnly` if the segment is open for reading. Otherwise `NotFound` if no object has the key, `WrongKind` if it
+    /// is of another kind, `OutOfRange` if it has no text there, `NoSpace` if the text has no fit. Nothing changes.
     pub fn texts_set<O: ObjectRef>(
         &mut self,
         key: &O,
@@ -59,16 +57,16 @@ impl Segment {
         SegTexts { place }.set(&mut self.heap, index, text)
     }
 
-    /// Puts bytes behind the last text of the vector of strings of a key. A full vector gets twice its places first,
-    /// and at least 4.
+    /// Puts bytes after the last text of the vector of strings of a key. A full vector gets twice its places first, and
+    /// at least 4.
     ///
     /// Example: `segment.texts_push(&name, b"plums")?`.
     ///
     /// # Errors
     ///
-    /// `ReadOnly` where the segment is open for reading, and else `NotFound` where no object has the key, `WrongKind`
-    /// where it is of another kind, and nothing changes; `NoSpace` where it is full and its array cannot be regrown, or
-    /// the text has no fit: all objects and blocks are as they were. Bytes of gaps may differ where an array was had.
+    /// `ReadOnly` if the segment is open for reading. Otherwise `NotFound` if no object has the key, `WrongKind` if it
+    /// is of another kind, and nothing changes; `NoSpace` if it is full and its array cannot be regrown, or the text
+    /// has no fit: all objects and blocks are as they were. Bytes of gaps may differ where an array was had.
     pub fn texts_push<O: ObjectRef>(&mut self, key: &O, text: &[u8]) -> Result<(), Refusal>
         requires { O.stands key.now self.old }
         ensures step { TakesStepOfKind self.old self.new (O.key key.now) StringsKind
@@ -87,9 +85,9 @@ impl Segment {
     ///
     /// # Errors
     ///
-    /// `ReadOnly` where the segment is open for reading, and else `NotFound` where no object has the key, `WrongKind`
-    /// where it is of another kind, and nothing changes; `NoSpace` where the array or a text has no fit: all objects
-    /// and blocks are as they were. Bytes of gaps may differ where an array was had.
+    /// `ReadOnly` if the segment is open for reading. Otherwise `NotFound` if no object has the key, `WrongKind` if it
+    /// is of another kind, and nothing changes; `NoSpace` if the array or a text has no fit: all objects and blocks are
+    /// as they were. Bytes of gaps may differ where an array was had.
     pub fn texts_assign<O: ObjectRef>(&mut self, key: &O, texts: &[&[u8]]) -> Result<(), Refusal>
         requires { O.stands key.now self.old }
         ensures step { TakesStepOfKind self.old self.new (O.key key.now) StringsKind
@@ -108,8 +106,8 @@ impl Segment {
     ///
     /// # Errors
     ///
-    /// `ReadOnly` where the segment is open for reading, and else `NotFound` where no object has the key, `WrongKind`
-    /// where it is of another kind, `OutOfRange` where it is empty. Nothing changes.
+    /// `ReadOnly` if the segment is open for reading. Otherwise `NotFound` if no object has the key, `WrongKind` if it
+    /// is of another kind, `OutOfRange` if it is empty. Nothing changes.
     pub fn texts_pop<O: ObjectRef>(&mut self, key: &O) -> Result<(), Refusal>
         requires { O.stands key.now self.old }
         ensures step { LeadsOnOfKind self.old self.new (O.key key.now) StringsKind (Pop (O.key key.now))
@@ -127,10 +125,10 @@ impl Segment {
     ///
     /// # Errors
     ///
-    /// `ReadOnly` where the segment is open for reading, and else `NotFound` where no object has the key, `WrongKind`
-    /// where it is of another kind, `OutOfRange` where there are not so many others, and nothing changes; `NoSpace`
-    /// where it is full and its array cannot be regrown, or the text has no fit: all objects and blocks are as they
-    /// were. Bytes of gaps may differ where an array was had.
+    /// `ReadOnly` if the segment is open for reading. Otherwise `NotFound` if no object has the key, `WrongKind` if it
+    /// is of another kind, `OutOfRange` if there are not so many others, and nothing changes; `NoSpace` if it is full
+    /// and its array cannot be regrown, or the text has no fit: all objects and blocks are as they were. Bytes of gaps
+    /// may differ where an array was had.
     pub fn texts_insert<O: ObjectRef>(
         &mut self,
         key: &O,
@@ -147,15 +145,15 @@ impl Segment {
         SegTexts { place }.insert(&mut self.heap, index, text)
     }
 
-    /// Leaves out the text at `index` in the vector of strings of a key, and gives back its block. Those behind it move
+    /// Leaves out the text at `index` in the vector of strings of a key, and gives back its block. Those after it move
     /// down, and the places stay.
     ///
     /// Example: `segment.texts_erase(&name, 0)?`.
     ///
     /// # Errors
     ///
-    /// `ReadOnly` where the segment is open for reading, and else `NotFound` where no object has the key, `WrongKind`
-    /// where it is of another kind, `OutOfRange` where it has no text there. Nothing changes.
+    /// `ReadOnly` if the segment is open for reading. Otherwise `NotFound` if no object has the key, `WrongKind` if it
+    /// is of another kind, `OutOfRange` if it has no text there. Nothing changes.
     pub fn texts_erase<O: ObjectRef>(&mut self, key: &O, index: u64) -> Result<(), Refusal>
         requires { O.stands key.now self.old }
         ensures step { TakesStepOfKind self.old self.new (O.key key.now) StringsKind

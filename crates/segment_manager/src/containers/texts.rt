@@ -13,13 +13,13 @@ use seg_types::{Kind, Refusal};
 use seg_vector::SegString;
 
 impl Segment {
-    /// The bytes of the string of a key.
+    /// Returns the bytes of the string of a key.
     ///
     /// Example: `let bytes = segment.string_bytes(&name)?`.
     ///
     /// # Errors
     ///
-    /// `NotFound` where no object has the key, `WrongKind` where it is no string.
+    /// `NotFound` if no object has the key, `WrongKind` if it is no string.
     pub fn string_bytes<O: ObjectRef>(&self, key: &O) -> Result<&[u8], Refusal>
         requires { O.stands key.now self.now }
         ensures { MatchResult result (λ bytes. AnswersWith self.now (λ d. bytes_at d (O.key key.now)) (Ok bytes.now))
@@ -35,8 +35,8 @@ impl Segment {
     ///
     /// # Errors
     ///
-    /// `ReadOnly` where the segment is open for reading, and else `NotFound` where no object has the key, `WrongKind`
-    /// where it is no string, `OutOfRange` where it has no byte there. Nothing changes.
+    /// `ReadOnly` if the segment is open for reading. Otherwise `NotFound` if no object has the key, `WrongKind` if it
+    /// is no string, `OutOfRange` if it has no byte there. Nothing changes.
     pub fn string_set<O: ObjectRef>(&mut self, key: &O, index: u64, byte: u8) -> Result<(), Refusal>
         requires { O.stands key.now self.old }
         ensures step { TakesStepOfKind self.old self.new (O.key key.now) StringKind
@@ -48,15 +48,15 @@ impl Segment {
         SegString { place }.set(&mut self.heap, index, byte)
     }
 
-    /// Puts bytes behind those of the string of a key. Where they do not fit, it gets twice its places first, at least
+    /// Puts bytes after those of the string of a key. Where they do not fit, it gets twice its places first, at least
     /// 16, and as many as are needed.
     ///
     /// Example: `segment.string_append(&name, b"-black")?`.
     ///
     /// # Errors
     ///
-    /// `ReadOnly` where the segment is open for reading, and else `NotFound` where no object has the key, `WrongKind`
-    /// where it is no string, `NoSpace` where its storage cannot be regrown. Nothing changes.
+    /// `ReadOnly` if the segment is open for reading. Otherwise `NotFound` if no object has the key, `WrongKind` if it
+    /// is no string, `NoSpace` if its storage cannot be regrown. Nothing changes.
     pub fn string_append<O: ObjectRef>(&mut self, key: &O, bytes: &[u8]) -> Result<(), Refusal>
         requires { O.stands key.now self.old }
         ensures step { TakesStepOfKind self.old self.new (O.key key.now) StringKind
@@ -74,8 +74,8 @@ impl Segment {
     ///
     /// # Errors
     ///
-    /// `ReadOnly` where the segment is open for reading, and else `NotFound` where no object has the key, `WrongKind`
-    /// where it is no string, `NoSpace` where its storage cannot be regrown. Nothing changes.
+    /// `ReadOnly` if the segment is open for reading. Otherwise `NotFound` if no object has the key, `WrongKind` if it
+    /// is no string, `NoSpace` if its storage cannot be regrown. Nothing changes.
     pub fn string_assign<O: ObjectRef>(&mut self, key: &O, bytes: &[u8]) -> Result<(), Refusal>
         requires { O.stands key.now self.old }
         ensures step { TakesStepOfKind self.old self.new (O.key key.now) StringKind

@@ -13,14 +13,14 @@ use seg_types::{Kind, Refusal, Scalar};
 use seg_vector::SegVec;
 
 impl Segment {
-    /// The element at `index` in the vector of a key, a vector of the type.
+    /// Returns the element at `index` in the vector of a key, a vector of the type.
     ///
     /// Example: `let number: i64 = segment.vec_get(&name, 0)?`.
     ///
     /// # Errors
     ///
-    /// `NotFound` where no object has the key, `WrongKind` where it is of another kind, `OutOfRange` where it has no
-    /// element there.
+    /// `NotFound` if no object has the key, `WrongKind` if it is of another kind, `OutOfRange` if it has no element
+    /// there.
     pub fn vec_get<T: Scalar, O: ObjectRef>(&self, key: &O, index: u64) -> Result<T, Refusal>
         requires { O.stands key.now self.now }
         ensures { AnswersQueryOfKind self.now (O.key key.now) (VectorOf T.kind)
@@ -36,8 +36,8 @@ impl Segment {
     ///
     /// # Errors
     ///
-    /// `ReadOnly` where the segment is open for reading, and else `NotFound` where no object has the key, `WrongKind`
-    /// where it is of another kind, `OutOfRange` where it has no element there. Nothing changes.
+    /// `ReadOnly` if the segment is open for reading. Otherwise `NotFound` if no object has the key, `WrongKind` if it
+    /// is of another kind, `OutOfRange` if it has no element there. Nothing changes.
     pub fn vec_set<T: Scalar, O: ObjectRef>(
         &mut self,
         key: &O,
@@ -55,15 +55,15 @@ impl Segment {
         SegVec::<T>::at(place).set(&mut self.heap, index, value)
     }
 
-    /// Puts a value behind the last element of the vector of a key, a vector of the type. A full vector gets twice its
+    /// Puts a value after the last element of the vector of a key, a vector of the type. A full vector gets twice its
     /// places first, and at least 4.
     ///
     /// Example: `segment.vec_push(&name, 4i64)?`.
     ///
     /// # Errors
     ///
-    /// `ReadOnly` where the segment is open for reading, and else `NotFound` where no object has the key, `WrongKind`
-    /// where it is of another kind, `NoSpace` where it is full and its storage cannot be regrown. Nothing changes.
+    /// `ReadOnly` if the segment is open for reading. Otherwise `NotFound` if no object has the key, `WrongKind` if it
+    /// is of another kind, `NoSpace` if it is full and its storage cannot be regrown. Nothing changes.
     pub fn vec_push<T: Scalar, O: ObjectRef>(&mut self, key: &O, value: T) -> Result<(), Refusal>
         requires { O.stands key.now self.old }
         ensures step { TakesStepOfKind self.old self.new (O.key key.now) (VectorOf T.kind)
@@ -83,8 +83,8 @@ impl Segment {
     ///
     /// # Errors
     ///
-    /// `ReadOnly` where the segment is open for reading, and else `NotFound` where no object has the key, `WrongKind`
-    /// where it is of another kind, `NoSpace` where its storage cannot be regrown. Nothing changes.
+    /// `ReadOnly` if the segment is open for reading. Otherwise `NotFound` if no object has the key, `WrongKind` if it
+    /// is of another kind, `NoSpace` if its storage cannot be regrown. Nothing changes.
     pub fn vec_assign<T: Scalar, O: ObjectRef>(
         &mut self,
         key: &O,
@@ -107,8 +107,8 @@ impl Segment {
     ///
     /// # Errors
     ///
-    /// `ReadOnly` where the segment is open for reading, and else `NotFound` where no object has the key, `WrongKind`
-    /// where it is of another kind, `OutOfRange` where it is empty. Nothing changes.
+    /// `ReadOnly` if the segment is open for reading. Otherwise `NotFound` if no object has the key, `WrongKind` if it
+    /// is of another kind, `OutOfRange` if it is empty. Nothing changes.
     pub fn vec_pop<T: Scalar, O: ObjectRef>(&mut self, key: &O) -> Result<T, Refusal>
         requires { O.stands key.now self.old }
         ensures step { TakesStepOfKind self.old self.new (O.key key.now) (VectorOf T.kind)
@@ -127,9 +127,9 @@ impl Segment {
     ///
     /// # Errors
     ///
-    /// `ReadOnly` where the segment is open for reading, and else `NotFound` where no object has the key, `WrongKind`
-    /// where it is of another kind, `OutOfRange` where there are not so many others, `NoSpace` where it is full and its
-    /// storage cannot be regrown. Nothing changes.
+    /// `ReadOnly` if the segment is open for reading. Otherwise `NotFound` if no object has the key, `WrongKind` if it
+    /// is of another kind, `OutOfRange` if there are not so many others, `NoSpace` if it is full and its storage cannot
+    /// be regrown. Nothing changes.
     pub fn vec_insert<T: Scalar, O: ObjectRef>(
         &mut self,
         key: &O,
@@ -147,15 +147,15 @@ impl Segment {
         SegVec::<T>::at(place).insert(&mut self.heap, index, value)
     }
 
-    /// Leaves out the element at `index` in the vector of a key, a vector of the type. Those behind it move down, and
+    /// Leaves out the element at `index` in the vector of a key, a vector of the type. Those after it move down, and
     /// the places stay.
     ///
     /// Example: `segment.vec_erase::<i64, _>(&name, 0)?`.
     ///
     /// # Errors
     ///
-    /// `ReadOnly` where the segment is open for reading, and else `NotFound` where no object has the key, `WrongKind`
-    /// where it is of another kind, `OutOfRange` where it has no element there. Nothing changes.
+    /// `ReadOnly` if the segment is open for reading. Otherwise `NotFound` if no object has the key, `WrongKind` if it
+    /// is of another kind, `OutOfRange` if it has no element there. Nothing changes.
     pub fn vec_erase<T: Scalar, O: ObjectRef>(&mut self, key: &O, index: u64) -> Result<(), Refusal>
         requires { O.stands key.now self.old }
         ensures step { TakesStepOfKind self.old self.new (O.key key.now) (VectorOf T.kind)

@@ -11,7 +11,7 @@ use crate::segment::Segment;
 use seg_types::{Refusal, Scalar, ScalarKind, ScalarValue, by_kind, by_value};
 
 impl Segment {
-    /// The pair with the least key that is above a bound, or not below it, of the map of a key, a map with keys of the
+    /// Returns the pair with the least key above a bound, or not below it, of the map of a key. The map has keys of the
     /// kind of the bound and values of a kind. It is inlined, so which of the two costs no test.
     #[inline(always)]
     fn pair_of_kinds<O: ObjectRef>(
@@ -34,7 +34,7 @@ impl Segment {
         })
     }
 
-    /// The same of keys of a type.
+    /// Returns the pair with the least key above a bound, or not below it, for keys of a type.
     #[inline(always)]
     fn pair_by_key<K: Scalar, O: ObjectRef>(
         &self,
@@ -61,7 +61,7 @@ impl Segment {
     }
 }
 
-/// The least value of a kind.
+/// Returns the least value of a kind.
 fn least(kind: ScalarKind) -> ScalarValue
     ensures kind { kind_of_scalar result ≡ kind }
     ensures value { value_of_scalar result ≡ lowest kind }
@@ -77,7 +77,7 @@ fn least(kind: ScalarKind) -> ScalarValue
     by_kind!(kind, least)
 }
 
-/// The pair with the least key of the map of a key, a map of the two kinds, or `None` where the map is empty.
+/// Returns the pair with the least key of the map of a key, a map of the two kinds, or `None` if the map is empty.
 ///
 /// Example: `let first = first_pair(&segment, &key, ScalarKind::I32, ScalarKind::I64)`.
 ///
@@ -102,9 +102,9 @@ pub fn first_pair<O: ObjectRef>(
     }
 }
 
-/// The pair with the least key above `after` of the map of a key, a map with keys of the kind of `after` and values of
-/// a kind, or `None` where no key is above. So all pairs are read in rising order, each in a walk from the root of the
-/// tree.
+/// Returns the pair with the least key above `after` of the map of a key, or `None` if no key is above. The map has
+/// keys of the kind of `after` and values of a kind. So all pairs are read in rising order, each in a walk from the
+/// root of the tree.
 ///
 /// Example: `let next = next_pair(&segment, &key, ScalarValue::I32(2), ScalarKind::I64)`.
 ///

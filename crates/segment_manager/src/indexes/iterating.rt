@@ -103,7 +103,8 @@ impl<'a> Iterator for Names<'a> {
 }
 
 impl Segment {
-    /// The names of the objects that have one, in the order of their bytes. A name is bytes, as `Name::new` takes them.
+    /// Returns the names of the objects that have one, in the order of their bytes. A name is bytes, as `Name::new`
+    /// takes them.
     ///
     /// Example: `for name in segment.names()`.
     pub fn names(&self) -> Names<'_>
@@ -114,7 +115,7 @@ impl Segment {
         }
     }
 
-    /// The objects with names, in the order of the bytes of their names.
+    /// Returns the objects with names, in the order of the bytes of their names.
     ///
     /// Example: `for said in segment.named_instances()`.
     pub fn named_instances(&self) -> Instances<'_>
@@ -127,7 +128,7 @@ impl Segment {
         }
     }
 
-    /// The unique objects, in the order of the codes of their kinds.
+    /// Returns the unique objects, in the order of the codes of their kinds.
     ///
     /// Example: `for said in segment.unique_instances()`.
     pub fn unique_instances(&self) -> Instances<'_>
@@ -140,7 +141,7 @@ impl Segment {
         }
     }
 
-    /// How many objects an index has.
+    /// Returns how many objects an index has.
     fn count_of(&self, index: Index) -> u64
         ensures word { result ≡ entry_count self.now.cut (place_of index) }
         ensures count { AnswersWith self.now (λ d. length (objects_of index d)) result }

@@ -1,4 +1,4 @@
-//! The names from a text on: where the first of them stands, and those behind it.
+//! The names from a text on: where the first of them stands, and those after it.
 ghost use Rattle.std.specs.Prelude.{◌≡◌};
 ghost use Rattle.seg_index.specs.declared.index.Index.TheVariants.{Named};
 ghost use Rattle.segment_manager.specs.indexes.NamesFrom.{IsFirstFrom};
@@ -9,8 +9,8 @@ use raw_region::Steps;
 use seg_index::{Entry, Index, Lookup};
 
 impl Segment {
-    /// How many names stand before the text, which may be any bytes: the place of the first that does not. It is one
-    /// look-up in the index of names.
+    /// Returns how many names stand before the text, which may be any bytes: the place of the first that does not. It
+    /// is one look-up in the index of names.
     ///
     /// Example: `let at = segment.named_place(b"prices/")`.
     pub fn named_place(&self, text: &[u8]) -> u64
@@ -22,7 +22,7 @@ impl Segment {
         }
     }
 
-    /// The objects whose names do not stand before the text, in the order of the bytes of their names.
+    /// Returns the objects whose names do not stand before the text, in the order of the bytes of their names.
     ///
     /// Example: `for said in segment.named_instances_from(b"prices/")`.
     pub fn named_instances_from(&self, text: &[u8]) -> Instances<'_>
@@ -37,7 +37,7 @@ impl Segment {
         }
     }
 
-    /// The names that do not stand before the text, in the order of their bytes.
+    /// Returns the names that do not stand before the text, in the order of their bytes.
     ///
     /// Example: `for name in segment.names_from(b"prices/")`.
     pub fn names_from(&self, text: &[u8]) -> Names<'_>

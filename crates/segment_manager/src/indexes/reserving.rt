@@ -11,15 +11,14 @@ use seg_index::Index;
 use seg_types::Refusal;
 
 impl Segment {
-    /// Gives the index of names places for `n` objects, where it has less: in a new block of exactly so many, and the
-    /// old one is given back.
+    /// Gives the index of names places for `n` objects, if it has less: in a new block of exactly so many, and the old
+    /// one is given back.
     ///
     /// Example: `segment.reserve_named(1000)?`.
     ///
     /// # Errors
     ///
-    /// `ReadOnly` where the segment is open for reading, and else `NoSpace` where no gap is long enough. Nothing
-    /// changes.
+    /// `ReadOnly` if the segment is open for reading. Otherwise `NoSpace` if no gap is long enough. Nothing changes.
     pub fn reserve_named(&mut self, n: u64) -> Result<(), Refusal>
         ensures step { TakesStep self.old self.new (ReserveNamed n) (done_answer result) }
         ensures refused { OnErr result (self.new ≡ self.old) }
@@ -28,14 +27,13 @@ impl Segment {
         self.reserve_index(Index::Named, n)
     }
 
-    /// The same for the index of kinds.
+    /// Gives the index of kinds places for `n` objects, if it has fewer.
     ///
     /// Example: `segment.reserve_unique(8)?`.
     ///
     /// # Errors
     ///
-    /// `ReadOnly` where the segment is open for reading, and else `NoSpace` where no gap is long enough. Nothing
-    /// changes.
+    /// `ReadOnly` if the segment is open for reading. Otherwise `NoSpace` if no gap is long enough. Nothing changes.
     pub fn reserve_unique(&mut self, n: u64) -> Result<(), Refusal>
         ensures step { TakesStep self.old self.new (ReserveUnique n) (done_answer result) }
         ensures refused { OnErr result (self.new ≡ self.old) }
@@ -44,7 +42,7 @@ impl Segment {
         self.reserve_index(Index::Unique, n)
     }
 
-    /// The same for either.
+    /// Gives an index places for `n` objects, if it has fewer.
     fn reserve_index(&mut self, index: Index, n: u64) -> Result<(), Refusal>
         ensures step { TakesStep self.old self.new (reserve_of index n) (done_answer result) }
         ensures refused { OnErr result (self.new ≡ self.old) }
@@ -60,13 +58,13 @@ impl Segment {
     }
 
     /// Makes the capacity of each index the number of its entries, that of names first. An index without entries gives
-    /// its block back, and else the block is shortened where it stands.
+    /// its block back, and otherwise the block is shortened where it stands.
     ///
     /// Example: `segment.shrink_indexes()?`.
     ///
     /// # Errors
     ///
-    /// `ReadOnly` where the segment is open for reading. Nothing changes.
+    /// `ReadOnly` if the segment is open for reading. Nothing changes.
     pub fn shrink_indexes(&mut self) -> Result<(), Refusal>
         ensures step { TakesStep self.old self.new ShrinkIndexes (done_answer result) }
         ensures refused { OnErr result (self.new ≡ self.old) }

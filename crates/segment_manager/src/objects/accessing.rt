@@ -17,14 +17,14 @@ use seg_types::{Refusal, Scalar, ScalarKind, ScalarValue, by_kind, by_value};
 use seg_vector::Place;
 
 impl Segment {
-    /// The element at `index` in the object of a key, an object of scalars of the type.
+    /// Returns the element at `index` in the object of a key, an object of scalars of the type.
     ///
     /// Example: `let width: i64 = segment.get(&name, 0)?`.
     ///
     /// # Errors
     ///
-    /// `NotFound` where no object has the key, `WrongKind` where it is of another kind, `OutOfRange` where it has no
-    /// element there.
+    /// `NotFound` if no object has the key, `WrongKind` if it is of another kind, `OutOfRange` if it has no element
+    /// there.
     pub fn get<T: Scalar, O: ObjectRef>(&self, key: &O, index: u64) -> Result<T, Refusal>
         requires { O.stands key.now self.now }
         ensures { AnswersQueryOfKind self.now (O.key key.now) (ScalarOf T.kind) (Get (O.key key.now) index)
@@ -36,7 +36,7 @@ impl Segment {
         )
     }
 
-    /// The same of a kind.
+    /// Returns the element at `index` in the object of a key, an object of scalars of a kind.
     pub(crate) fn get_value<O: ObjectRef>(
         &self,
         key: &O,
@@ -62,8 +62,8 @@ impl Segment {
     ///
     /// # Errors
     ///
-    /// `ReadOnly` where the segment is open for reading, and else `NotFound` where no object has the key, `WrongKind`
-    /// where it is of another kind, `OutOfRange` where it has no element there. Nothing changes.
+    /// `ReadOnly` if the segment is open for reading. Otherwise `NotFound` if no object has the key, `WrongKind` if it
+    /// is of another kind, `OutOfRange` if it has no element there. Nothing changes.
     pub fn set<T: Scalar, O: ObjectRef>(
         &mut self,
         key: &O,
@@ -87,7 +87,7 @@ impl Segment {
         Ok(())
     }
 
-    /// The same for a value of a kind. Errors: as of `set`.
+    /// Makes a value of a kind the element at `index` in the object of a key. Errors: as of `set`.
     ///
     /// Example: `segment.set_value(&name, 0, ScalarValue::I64(640))?`.
     pub fn set_value<O: ObjectRef>(
@@ -106,7 +106,7 @@ impl Segment {
         by_value!(value, it => self.set(key, index, it))
     }
 
-    /// Where the element at `index` stands in the object of a key, an object of scalars of a kind.
+    /// Returns where the element at `index` stands in the object of a key, an object of scalars of a kind.
     fn find_element<O: ObjectRef>(
         &self,
         key: &O,

@@ -27,16 +27,16 @@ pub trait ConstructKey {
     // Whether it may have it.
     ghost suits: { Self → AnyKind → Type 0 };
 
-    /// The key of a new object of a kind.
+    /// Returns the key of a new object of a kind.
     fn key_for(&self, kind: Kind) -> NewKey<'_>
         requires { suits self.now kind }
         ensures key { new_key_seen result ≡ key self.now kind }
         ensures kind { IsOfKind (new_key_seen result) kind };
 }
 
-/// Under which entry of an index an object is looked up, and made where there is none.
+/// Under which entry of an index an object is looked up, and made if there is none.
 pub trait FindOrConstructKey: ConstructKey {
-    /// The entry of an object of a kind.
+    /// Returns the entry of an object of a kind.
     fn entry_for(&self, kind: Kind) -> IndexKey<'_>
         requires { Self.suits self.now kind }
         ensures key { index_key_seen result ≡ Self.key self.now kind }

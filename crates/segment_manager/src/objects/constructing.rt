@@ -17,7 +17,7 @@ use seg_types::{Handle, Refusal, Scalar, ScalarValue, by_value};
 use seg_vector::Place;
 
 impl Segment {
-    /// Makes an object of `count` times a value, from 1 to 1048576, and answers its handle. A key that is a kind is the
+    /// Makes an object of `count` times a value, from 1 to 1048576, and returns its handle. A key that is a kind is the
     /// value's.
     ///
     /// Example: `let handle = segment.construct(&name, 1, 640i64)?`.
@@ -30,8 +30,8 @@ impl Segment {
     ///
     /// # Errors
     ///
-    /// `ReadOnly` where the segment is open for reading, else `Exists` where an object has the key: nothing changes.
-    /// Else `NoSpace` where no gap is long enough: what the segment holds does not change, and the bytes of gaps may.
+    /// `ReadOnly` if the segment is open for reading. Otherwise `Exists` if an object has the key: nothing changes.
+    /// Otherwise `NoSpace` if no gap is long enough: what the segment holds does not change, and the bytes of gaps may.
     pub fn construct<T: Scalar, D: ConstructKey>(
         &mut self,
         key: &D,
@@ -48,14 +48,14 @@ impl Segment {
         self.construct_under(key, &NewNumbers { count, value })
     }
 
-    /// Makes an array of `count` times a value, and answers its handle.
+    /// Makes an array of `count` times a value, and returns its handle.
     ///
     /// Example: `let handle = segment.construct_array(&name, count, 0u8)?`.
     ///
     /// # Conditions and errors
     ///
-    /// `ReadOnly` where the segment is open for reading, and else `OutOfRange` where `count` is 0 or above 1048576:
-    /// nothing changes. Else as of `construct`, but for the count.
+    /// `ReadOnly` if the segment is open for reading. Otherwise `OutOfRange` if `count` is 0 or above 1048576: nothing
+    /// changes. Otherwise as of `construct`, but for the count.
     pub fn construct_array<T: Scalar, D: ConstructKey>(
         &mut self,
         key: &D,
@@ -75,7 +75,8 @@ impl Segment {
         self.construct(key, count, value)
     }
 
-    /// The same for a value of a kind. Conditions and errors: as of `construct`.
+    /// Makes an array of `count` times a value of a kind, and returns its handle. Conditions and errors: as of
+    /// `construct`.
     ///
     /// Example: `segment.construct_value(&name, 1, ScalarValue::I64(640))?`.
     pub fn construct_value<D: ConstructKey>(
@@ -94,7 +95,7 @@ impl Segment {
         by_value!(value, it => self.construct(key, count, it))
     }
 
-    /// Why no object is made of a count that is out of range.
+    /// Returns why no object is made of a count that is out of range.
     pub(crate) fn refusal_of_count(&self) -> Refusal
         ensures { result ≡ refusal_of_count self.now }
     {
@@ -105,7 +106,7 @@ impl Segment {
         }
     }
 
-    /// The same of what fills an object.
+    /// Makes an object of what fills it, and returns its handle.
     #[inline(always)]
     pub(crate) fn construct_under<F: ObjectInit, D: ConstructKey>(
         &mut self,

@@ -20,7 +20,7 @@ use best_fit::Heap;
 use seg_types::{Handle, Kind, NewKey, Refusal, Scalar, ScalarKind, ScalarValue};
 
 impl Segment {
-    /// Makes an object of the next `count` items, and answers its handle. Items are taken only where each block that is
+    /// Makes an object of the next `count` items, and returns its handle. Items are taken only where each block that is
     /// needed was found.
     ///
     /// Example: `segment.construct_it(&name, 5, &mut primes)?`.
@@ -31,9 +31,9 @@ impl Segment {
     ///
     /// # Errors
     ///
-    /// `ReadOnly` where the segment is open for reading, else `OutOfRange` where `count` is 0 or above 1048576, else
-    /// `Exists` where an object has the key, and else `NoSpace` where no gap is long enough; then no item is taken.
-    /// `OutOfRange` where fewer items come. What the segment holds does not change.
+    /// `ReadOnly` if the segment is open for reading. Otherwise `OutOfRange` if `count` is 0 or above 1048576.
+    /// Otherwise `Exists` if an object has the key. Otherwise `NoSpace` if no gap is long enough; then no item is
+    /// taken. `OutOfRange` if fewer items come. What the segment holds does not change.
     pub fn construct_it<T: Scalar, I: Iterator<Item = T>, D: ConstructKey>(
         &mut self,
         key: &D,
@@ -54,7 +54,7 @@ impl Segment {
         self.construct_items::<OfType, T, I>(&key, T::kind(), count, items)
     }
 
-    /// The same of values of a kind.
+    /// Makes an object of the next `count` values of a kind, and returns its handle.
     ///
     /// Example: `segment.construct_values(&name, ScalarKind::I64, 5, &mut values)?`.
     ///
@@ -82,7 +82,7 @@ impl Segment {
         self.construct_items::<OfKind, ScalarValue, I>(&key, kind, count, items)
     }
 
-    /// The same of numbers of a kind, under a key that suits them.
+    /// Makes an object of the next `count` numbers of a kind, under a key that suits them.
     pub(crate) fn construct_items<S: Spelling<A>, A, I: Iterator<Item = A>>(
         &mut self,
         key: &NewKey,
@@ -143,7 +143,7 @@ pub(crate) trait Spelling<A> {
         ensures bytes { to.new ≡ spelling_of (kind item) (whole item) };
 }
 
-/// As values of their type.
+/// The values are of their type.
 pub(crate) struct OfType;
 
 impl<T: Scalar> Spelling<T> for OfType {
@@ -156,7 +156,7 @@ impl<T: Scalar> Spelling<T> for OfType {
     }
 }
 
-/// As values of a kind that is learnt when the program runs.
+/// The values are of a kind that is known only when the program runs.
 pub(crate) struct OfKind;
 
 impl Spelling<ScalarValue> for OfKind {
@@ -169,8 +169,8 @@ impl Spelling<ScalarValue> for OfKind {
     }
 }
 
-/// Takes items until there are `count` of them, and writes each behind the one before it, from `at` on in the block of
-/// a handle: `OutOfRange` where fewer come.
+/// Takes items until there are `count` of them, and writes each after the one before it, from `at` on in the block of a
+/// handle: `OutOfRange` if fewer come.
 fn fill_items<S: Spelling<A>, A, I: Iterator<Item = A>>(
     heap: &mut Heap,
     handle: u64,
@@ -192,7 +192,7 @@ fn fill_items<S: Spelling<A>, A, I: Iterator<Item = A>>(
     Ok(())
 }
 
-/// Takes an item of a kind and writes it at `at` in the block of a handle: `OutOfRange` where none comes.
+/// Takes an item of a kind and writes it at `at` in the block of a handle: `OutOfRange` if none comes.
 fn write_item<S: Spelling<A>, A, I: Iterator<Item = A>>(
     heap: &mut Heap,
     handle: u64,

@@ -33,7 +33,7 @@ impl Segment {
     ///
     /// # Errors
     ///
-    /// `ReadOnly` where the segment is open for reading. Nothing changes.
+    /// `ReadOnly` if the segment is open for reading. Nothing changes.
     pub fn destroy(&mut self, key: &IndexKey) -> Result<bool, Refusal>
         ensures step { TakesStep self.old self.new (Destroy (index_key_seen key.now)) (truth_answer result) }
         ensures refused { OnErr result (self.new ≡ self.old) }
@@ -58,7 +58,7 @@ impl Segment {
     ///
     /// # Errors
     ///
-    /// `ReadOnly` where the segment is open for reading, and else `NotFound` where no object has the handle. Nothing
+    /// `ReadOnly` if the segment is open for reading. Otherwise `NotFound` if no object has the handle. Nothing
     /// changes.
     pub fn destroy_ptr(&mut self, handle: Handle) -> Result<(), Refusal>
         ensures step { TakesStep self.old self.new (DestroyPtr handle) (gone_answer result) }
@@ -78,7 +78,7 @@ impl Segment {
         Ok(())
     }
 
-    /// Where the entry of the object of a handle stands, or nothing where it has no key.
+    /// Returns where the entry of the object of a handle stands, or nothing if it has no key.
     fn listed(&self, handle: Handle) -> Option<Listed>
         requires { AnswersWith self.now (λ d. is_object_at d handle) true }
         ensures { IsListed self.now handle result }
@@ -93,7 +93,7 @@ impl Segment {
         }
     }
 
-    /// Where an entry of an index stands that an object has.
+    /// Returns where an entry of an index stands that an object has.
     fn listed_under(&self, index: Index, entry: Entry<'_>) -> Option<Listed>
         requires { index_of entry ≡ index }
         ensures { (handle : ℕ) → HasEntries self.now index entry.entry handle → IsListed self.now handle result }

@@ -1,4 +1,4 @@
-//! The elements of an object of scalars: each is the bytes that spell it, one after another behind the head and the
+//! The elements of an object of scalars: each is the bytes that spell it, one after another after the head and the
 //! name.
 ghost use Rattle.std.specs.Prelude.{◌≡◌, ◌+◌, ◌*◌, IsTrue, length};
 ghost use Rattle.raw_region.specs.{Format.current, Memory.HasBytesAt, Memory.bytes_of, Memory.read};
@@ -20,7 +20,7 @@ pub(crate) fn write_elements(heap: &mut Heap, handle: u64, at: u64, count: u32, 
     }
 }
 
-/// The `size` bytes at `at` in the block of a handle.
+/// Returns the `size` bytes at `at` in the block of a handle.
 pub(crate) fn element(heap: &Heap, handle: u64, at: u64, size: u64) -> &[u8]
     requires heap { IsHeap current heap.now.bytes }
     requires room { IsTrue (has_room (live_of heap.now.bytes) handle (at + size)) }

@@ -17,14 +17,14 @@ use seg_index::{Entry, Index, Lookup};
 use seg_types::{Handle, IndexKey, Key, Kind, Refusal, Scalar};
 
 impl Segment {
-    /// The handle of the object of a key, and how many elements it has (1 where it is a container), or nothing where no
-    /// object has the key.
+    /// Returns the handle of the object of a key, and how many elements it has (1 if it is a container), or nothing if
+    /// no object has the key.
     ///
     /// Example: `let found = segment.find_kind(&Key::Name(name), Kind::String)?`.
     ///
     /// # Errors
     ///
-    /// `WrongKind` where the object is of another kind.
+    /// `WrongKind` if the object is of another kind.
     pub fn find_kind(&self, key: &Key, kind: Kind) -> Result<Option<(Handle, u32)>, Refusal>
         ensures { AnswersQuery self.now (Find (key_seen key.now) kind) (found_answer result) }
     {
@@ -35,21 +35,21 @@ impl Segment {
         Ok(Some(found))
     }
 
-    /// The handle of the scalars of a key, one or an array of a type, and how many they are, or nothing where no object
-    /// has the key.
+    /// Returns the handle of the scalars of a key, one or an array of a type, and how many they are, or nothing if no
+    /// object has the key.
     ///
     /// Example: `if let Some((handle, count)) = segment.find::<i64>(&Key::Name(name))?`.
     ///
     /// # Errors
     ///
-    /// `WrongKind` where the object is of another kind.
+    /// `WrongKind` if the object is of another kind.
     pub fn find<T: Scalar>(&self, key: &Key) -> Result<Option<(Handle, u32)>, Refusal>
         ensures { AnswersQuery self.now (Find (key_seen key.now) (ScalarOf T.kind)) (found_answer result) }
     {
         self.find_kind(key, Kind::Scalar(T::kind()))
     }
 
-    /// The number of objects with names.
+    /// Returns the number of objects with names.
     ///
     /// Example: `let count = segment.num_named()`.
     pub fn num_named(&self) -> u64
@@ -58,7 +58,7 @@ impl Segment {
         Index::Named.len(&self.heap)
     }
 
-    /// The number of kinds with a unique object.
+    /// Returns the number of kinds with a unique object.
     ///
     /// Example: `let count = segment.num_unique()`.
     pub fn num_unique(&self) -> u64
@@ -67,7 +67,7 @@ impl Segment {
         Index::Unique.len(&self.heap)
     }
 
-    /// The handle of the object that a key means, or nothing where no object has the key.
+    /// Returns the handle of the object that a key means, or nothing if no object has the key.
     pub(crate) fn handle_of(&self, key: &Key) -> Option<Handle>
         ensures { AnswersWith self.now (λ d. handle_at d (key_seen key.now)) result }
     {
@@ -79,7 +79,7 @@ impl Segment {
         }
     }
 
-    /// The handle of the object under an entry of an index, or nothing where there is none.
+    /// Returns the handle of the object under an entry of an index, or nothing if there is none.
     fn look_up(&self, index: Index, entry: Entry<'_>) -> Option<Handle>
         requires { index_of entry ≡ index }
         ensures { (key : AnyKey) → Seeks index entry.entry key → AnswersWith self.now (λ d. handle_at d key) result }
@@ -91,7 +91,7 @@ impl Segment {
     }
 }
 
-/// The index that has the entry of a key, the entry, and the name of the object that it leads to.
+/// Returns the index that has the entry of a key, the entry, and the name of the object that it leads to.
 #[inline(always)]
 pub(crate) fn entry_of<'a>(key: &IndexKey<'a>) -> (Index, Entry<'a>, &'a [u8])
     ensures search { Seeks result.0 result.1 (index_key_seen key.now) }
@@ -107,8 +107,8 @@ pub(crate) fn entry_of<'a>(key: &IndexKey<'a>) -> (Index, Entry<'a>, &'a [u8])
     }
 }
 
-/// The handle of the object with a name that has `i` others before it, in the order of the bytes of their names. There
-/// are more than `i` of them.
+/// Returns the handle of the object with a name that has `i` others before it, in the order of the bytes of their
+/// names. There are more than `i` of them.
 ///
 /// Example: `let handle = named_at(&segment, 0)`.
 ///
@@ -122,8 +122,8 @@ pub fn named_at(segment: &Segment, i: u64) -> Handle
     Index::Named.at(&segment.heap, i)
 }
 
-/// The handle of the unique object that has `i` others before it, in the order of the codes of their kinds. There are
-/// more than `i` of them.
+/// Returns the handle of the unique object that has `i` others before it, in the order of the codes of their kinds.
+/// There are more than `i` of them.
 ///
 /// Example: `let handle = unique_at(&segment, 0)`.
 ///

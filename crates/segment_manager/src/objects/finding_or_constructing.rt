@@ -1,4 +1,4 @@
-//! Objects found, or constructed where there are none, whatever they hold; those of one number, so many times.
+//! Objects found, or constructed if there are none, whatever they hold; those of one number, so many times.
 ghost use Rattle.std.specs.Prelude.{◌≡◌, ◌≤◌, true};
 ghost use Rattle.seg_types.specs.{declared.kinds.Kind.TheVariants.Scalar as ScalarOf, Names.Key as AnyKey};
 ghost use Rattle.seg_types.specs.Values.{kind_of_scalar, value_of_scalar};
@@ -22,9 +22,9 @@ use seg_index::{Entry, Index, Lookup};
 use seg_types::{Handle, Kind, Refusal, Scalar, ScalarValue, by_value};
 
 impl Segment {
-    /// The handle of the scalars of a key, and how many they are. Where no object has the key one is made, of `count`
-    /// times a value, from 1 to 1048576. An object that is found stays as it is, however many scalars it has. A key
-    /// that is a kind is the value's.
+    /// Returns the handle of the scalars of a key, and how many they are. If no object has the key one is made, of
+    /// `count` times a value, from 1 to 1048576. An object that is found stays as it is, however many scalars it has. A
+    /// key that is a kind is the value's.
     ///
     /// Example: `let (handle, count) = segment.find_or_construct(&name, 1, 640i64)?`.
     ///
@@ -36,8 +36,8 @@ impl Segment {
     ///
     /// # Errors
     ///
-    /// `ReadOnly` where the segment is open for reading, else `WrongKind` where the object is of another kind: nothing
-    /// changes. Else `NoSpace` where none is there and no gap is long enough: what the segment holds does not change,
+    /// `ReadOnly` if the segment is open for reading. Otherwise `WrongKind` if the object is of another kind: nothing
+    /// changes. Otherwise `NoSpace` if none is there and no gap is long enough: what the segment holds does not change,
     /// and the bytes of gaps may.
     pub fn find_or_construct<T: Scalar, D: FindOrConstructKey>(
         &mut self,
@@ -56,14 +56,15 @@ impl Segment {
         self.find_or_construct_under(key, &NewNumbers { count, value })
     }
 
-    /// The same where the count is known only when the program runs.
+    /// Returns the handle of the scalars of a key and their number, or makes an array whose count is known only when
+    /// the program runs.
     ///
     /// Example: `let (handle, count) = segment.find_or_construct_array(&name, count, 0u8)?`.
     ///
     /// # Conditions and errors
     ///
-    /// `ReadOnly` where the segment is open for reading, and else `OutOfRange` where `count` is 0 or above 1048576:
-    /// nothing changes. Else as of `find_or_construct`, but for the count.
+    /// `ReadOnly` if the segment is open for reading. Otherwise `OutOfRange` if `count` is 0 or above 1048576: nothing
+    /// changes. Otherwise as of `find_or_construct`, but for the count.
     pub fn find_or_construct_array<T: Scalar, D: FindOrConstructKey>(
         &mut self,
         key: &D,
@@ -84,7 +85,8 @@ impl Segment {
         self.find_or_construct(key, count, value)
     }
 
-    /// The same for a value of a kind. Conditions and errors: as of `find_or_construct`.
+    /// Returns the handle of the scalars of a key and their number, or makes an array of a value of a kind. Conditions
+    /// and errors: as of `find_or_construct`.
     ///
     /// Example: `segment.find_or_construct_value(&name, 1, ScalarValue::I64(640))?`.
     pub fn find_or_construct_value<D: FindOrConstructKey>(
@@ -105,7 +107,7 @@ impl Segment {
         by_value!(value, it => self.find_or_construct(key, count, it))
     }
 
-    /// The same of what fills an object.
+    /// Returns the handle of the object of a key and its count, or makes an object of what fills it.
     #[inline(always)]
     pub(crate) fn find_or_construct_under<F: ObjectInit, D: FindOrConstructKey>(
         &mut self,
@@ -129,7 +131,8 @@ impl Segment {
     }
 }
 
-/// The same under an entry of an index, on the heap of a segment that may be changed.
+/// Returns the handle of the object of an entry of an index and its count, or makes it, on the heap of a segment that
+/// may be changed.
 fn find_or_construct_entered<F: ObjectInit>(
     heap: &mut Heap,
     index: Index,
@@ -152,7 +155,7 @@ fn find_or_construct_entered<F: ObjectInit>(
     counted(build(heap, begun, filling), shape.count)
 }
 
-/// A handle with the count of its object.
+/// Returns a handle with the count of its object.
 #[inline(always)]
 pub(crate) fn counted(made: Result<Handle, Refusal>, count: u32) -> Result<(Handle, u32), Refusal>
     ensures { result ≡ with_count count made }
@@ -161,8 +164,8 @@ pub(crate) fn counted(made: Result<Handle, Refusal>, count: u32) -> Result<(Hand
     Ok((handle, count))
 }
 
-/// The handle of an object and how many elements it has (1 where it is a container): `WrongKind` where it is of another
-/// kind.
+/// Returns the handle of an object and how many elements it has (1 if it is a container): `WrongKind` if it is of
+/// another kind.
 pub(crate) fn found_of(heap: &Heap, handle: u64, kind: Kind) -> Result<(Handle, u32), Refusal>
     requires { HasObject heap.now.bytes handle }
     ensures { (o : Object) → IsObjectInBlock heap.now.bytes handle o → result ≡ pair_of_kind o kind }

@@ -19,14 +19,15 @@ use seg_index::{Entry, Index, Lookup};
 use seg_types::{Handle, Kind, Refusal, Scalar};
 
 impl Segment {
-    /// The handle of the scalars of a key, and how many they are. Where no object has the key one is made of the next
-    /// `count` items. An object that is found stays as it is, however many scalars it has, and no item is taken then.
+    /// Returns the handle of the scalars of a key, and how many they are. If no object has the key one is made of the
+    /// next `count` items. An object that is found stays as it is, however many scalars it has, and no item is taken
+    /// then.
     ///
     /// Example: `let (handle, count) = segment.find_or_construct_it(&name, 5, &mut primes)?`.
     ///
     /// # Conditions and errors
     ///
-    /// As of `construct_it`, with `WrongKind` in the place of `Exists`, where the object is of another kind.
+    /// As of `construct_it`, with `WrongKind` in the place of `Exists`, if the object is of another kind.
     pub fn find_or_construct_it<T: Scalar, I: Iterator<Item = T>, D: FindOrConstructKey>(
         &mut self,
         key: &D,
@@ -52,7 +53,8 @@ impl Segment {
     }
 }
 
-/// The same under an entry of an index, which is looked up once.
+/// Returns the handle of the object of an entry of an index, which is looked up once, or makes one of the next `count`
+/// items.
 fn find_or_take<T: Scalar, I: Iterator<Item = T>>(
     heap: &mut Heap,
     index: Index,

@@ -15,14 +15,14 @@ use seg_types::{Class, Kind};
 #[derive(Clone, Copy, Debug, PartialEq, Eq)]
 pub(crate) struct Head {
     pub(crate) kind: Kind,
-    /// How many elements an object of scalars has, and else 1.
+    /// How many elements an object of scalars has, and otherwise 1.
     pub(crate) count: u32,
     /// The bytes of the name.
     pub(crate) name_len: u8,
     pub(crate) class: Class,
 }
 
-/// The head of the object of a handle.
+/// Returns the head of the object of a handle.
 pub(crate) fn read_head(heap: &Heap, handle: u64) -> Head
     requires { HasObject heap.now.bytes handle }
     ensures { (o : Object) → IsObjectInBlock heap.now.bytes handle o → IsHeadOf o result }
@@ -38,7 +38,7 @@ pub(crate) fn read_head(heap: &Heap, handle: u64) -> Head
     }
 }
 
-/// The name of the object of a handle.
+/// Returns the name of the object of a handle.
 pub(crate) fn read_name(heap: &Heap, handle: u64) -> &[u8]
     requires heap { IsHeap current heap.now.bytes }
     requires object { HasObject heap.now.bytes handle }
@@ -70,7 +70,7 @@ pub(crate) fn write_head(
     write_name(heap, handle, name);
 }
 
-/// Writes a name behind the two words of a head, with zeros up to a multiple of 8 bytes.
+/// Writes a name after the two words of a head, with zeros up to a multiple of 8 bytes.
 fn write_name(heap: &mut Heap, handle: u64, name: &[u8])
     requires room { IsTrue (has_room (live_of heap.old.bytes) handle (head_len + padded (length name.now))) }
     requires max_len { length name.now ≤ 255 }
@@ -83,14 +83,14 @@ fn write_name(heap: &mut Heap, handle: u64, name: &[u8])
     heap.write(handle, HEAD_LEN + len, zeros);
 }
 
-/// The kind of a code, or a string where no kind has it.
+/// Returns the kind of a code, or a string if no kind has it.
 fn kind_of_code(code: u32) -> Kind
     ensures { (k : KindOf) → code ≡ code_of k → result ≡ k }
 {
     Kind::from_code(code).unwrap_or(Kind::String)
 }
 
-/// The number that names a class in an image.
+/// Returns the number that names a class in an image.
 fn code_of_class(class: Class) -> u32
     ensures { result ≡ class_code class }
 {
@@ -101,7 +101,7 @@ fn code_of_class(class: Class) -> u32
     }
 }
 
-/// The class that a number names. Only those three have one.
+/// Returns the class that a number names. Only those three have one.
 fn class_of_code(code: u32) -> Class
     ensures { (c : ClassOf) → code ≡ class_code c → result ≡ c }
 {

@@ -27,20 +27,20 @@ pub struct Instance<'a> {
     pub name: &'a [u8],
     /// Its kind.
     pub kind: Kind,
-    /// How many elements it has, and 1 where it is a container.
+    /// How many elements it has, and 1 if it is a container.
     pub count: u32,
     /// Its handle.
     pub handle: Handle,
 }
 
 impl Segment {
-    /// What the object of a key says of itself.
+    /// Returns what the object of a key says of itself.
     ///
     /// Example: `let said = segment.instance(&name)?`.
     ///
     /// # Errors
     ///
-    /// `NotFound` where no object has the key.
+    /// `NotFound` if no object has the key.
     pub fn instance<O: ObjectRef>(&self, key: &O) -> Result<Instance<'_>, Refusal>
         requires { O.stands key.now self.now }
         ensures { MatchResult result (λ said. SaysOf self.now (O.key key.now) said)
@@ -52,7 +52,7 @@ impl Segment {
         }
     }
 
-    /// The same of an index.
+    /// Returns what the object of an entry of an index says of itself.
     pub(crate) fn entered(&self, index: Index, i: u64) -> Instance<'_>
         requires { IsBelow self.now (λ d. length (objects_of index d)) i }
         ensures { SaysAt self.now (objects_of index) i result }
@@ -61,8 +61,8 @@ impl Segment {
         read_instance(&self.heap, handle)
     }
 
-    /// Whether an object of the segment has the handle. It is looked for among all blocks, from the nearest way-point
-    /// on, since it may come from outside.
+    /// Tells whether an object of the segment has the handle. It is looked for among all blocks, from the nearest
+    /// way-point on, since it may come from outside.
     ///
     /// Example: `if segment.belongs(handle)`.
     pub fn is_object_handle(&self, handle: Handle) -> bool
@@ -71,26 +71,26 @@ impl Segment {
         self.heap.is_live(handle) && self.heap.role(handle) == Role::Object
     }
 
-    /// How many elements the object of a handle has: as many as it was made with, and 1 where it is a container.
+    /// Returns how many elements the object of a handle has: as many as it was made with, and 1 if it is a container.
     ///
     /// Example: `let count = segment.length_of(handle)?`.
     ///
     /// # Errors
     ///
-    /// `NotFound` where no object has the handle.
+    /// `NotFound` if no object has the handle.
     pub fn length_of(&self, handle: Handle) -> Result<u64, Refusal>
         ensures { AnswersWith self.now (λ d. told_at d (ByHandle handle) (λ (o : Object). count_of o.value)) result }
     {
         self.instance_length(&Key::Handle(handle))
     }
 
-    /// The kind of the object of a key.
+    /// Returns the kind of the object of a key.
     ///
     /// Example: `let kind = segment.kind_of(&key)?`.
     ///
     /// # Errors
     ///
-    /// `NotFound` where no object has the key.
+    /// `NotFound` if no object has the key.
     pub fn kind_of(&self, key: &Key) -> Result<Kind, Refusal>
         ensures { AnswersWith self.now (λ d. kind_at d (key_seen key.now)) result }
     {
@@ -100,13 +100,14 @@ impl Segment {
         }
     }
 
-    /// The name of the object of a key, or nothing where it has none: only objects that are found by name have one.
+    /// Returns the name of the object of a key, or nothing if it has none: only objects that are found by name have
+    /// one.
     ///
     /// Example: `if let Some(bytes) = segment.instance_name(&key)?`.
     ///
     /// # Errors
     ///
-    /// `NotFound` where no object has the key.
+    /// `NotFound` if no object has the key.
     pub fn instance_name(&self, key: &Key) -> Result<Option<&[u8]>, Refusal>
         ensures { MatchResult result (λ name. AnswersWith self.now (λ d. told_at d (key_seen key.now) own_name)
             (Ok (option_map (λ bytes. bytes.now) name)))
@@ -121,13 +122,13 @@ impl Segment {
         }
     }
 
-    /// How many elements the object of a key has: as many as it was made with, and 1 where it is a container.
+    /// Returns how many elements the object of a key has: as many as it was made with, and 1 if it is a container.
     ///
     /// Example: `let count = segment.instance_length(&key)?`.
     ///
     /// # Errors
     ///
-    /// `NotFound` where no object has the key.
+    /// `NotFound` if no object has the key.
     pub fn instance_length(&self, key: &Key) -> Result<u64, Refusal>
         ensures { AnswersWith self.now (λ d. told_at d (key_seen key.now) (λ (o : Object). count_of o.value)) result }
     {
@@ -137,13 +138,13 @@ impl Segment {
         }
     }
 
-    /// How the object of a key is found again.
+    /// Returns how the object of a key is found again.
     ///
     /// Example: `let class = segment.instance_class(&key)?`.
     ///
     /// # Errors
     ///
-    /// `NotFound` where no object has the key.
+    /// `NotFound` if no object has the key.
     pub fn instance_class(&self, key: &Key) -> Result<Class, Refusal>
         ensures { AnswersWith self.now (λ d. told_at d (key_seen key.now) (λ (o : Object). o.class)) result }
     {
@@ -154,7 +155,7 @@ impl Segment {
     }
 }
 
-/// What the object at a handle says of itself.
+/// Returns what the object at a handle says of itself.
 fn read_instance(heap: &Heap, handle: Handle) -> Instance<'_>
     requires heap { IsHeap current heap.now.bytes }
     requires object { HasObject heap.now.bytes handle }
@@ -170,7 +171,7 @@ fn read_instance(heap: &Heap, handle: Handle) -> Instance<'_>
     }
 }
 
-/// What the object of a handle says of itself. Nothing is looked up.
+/// Returns what the object of a handle says of itself. Nothing is looked up.
 ///
 /// Example: `let said = instance_here(&segment, handle)`.
 ///
@@ -184,8 +185,8 @@ pub fn instance_here(segment: &Segment, handle: Handle) -> Instance<'_>
     read_instance(&segment.heap, handle)
 }
 
-/// What the object says of itself whose name has `i` others before it, in the order of their bytes. There are more than
-/// `i` of them.
+/// Returns what the object says of itself whose name has `i` others before it, in the order of their bytes. There are
+/// more than `i` of them.
 ///
 /// Example: `let said = named_instance(&segment, 0)`.
 ///
@@ -199,8 +200,8 @@ pub fn named_instance(segment: &Segment, i: u64) -> Instance<'_>
     segment.entered(Index::Named, i)
 }
 
-/// What the unique object says of itself whose kind has `i` others before it, in the order of their codes. There are
-/// more than `i` of them.
+/// Returns what the unique object says of itself whose kind has `i` others before it, in the order of their codes.
+/// There are more than `i` of them.
 ///
 /// Example: `let said = unique_instance(&segment, 0)`.
 ///

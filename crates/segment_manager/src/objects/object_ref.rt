@@ -20,21 +20,21 @@ pub struct Object {
     pub handle: Handle,
     /// Its kind.
     pub kind: Kind,
-    /// The bytes of its name, behind which its value begins.
+    /// The bytes of its name, after which its value begins.
     pub(crate) name_len: u8,
-    /// How many elements it has, and 1 where it is a container.
+    /// How many elements it has, and 1 if it is a container.
     pub count: u32,
 }
 
 impl Object {
-    /// Where its value begins, from its handle on.
+    /// Returns where its value begins, from its handle on.
     pub(crate) fn value_at(self) -> u64
         ensures { result ≡ value_offset self }
     {
         value_at(u64::from(self.name_len))
     }
 
-    /// Where its container stands: `WrongKind` where it is of another kind.
+    /// Returns where its container stands: `WrongKind` if it is of another kind.
     #[inline(always)]
     pub(crate) fn container(self, kind: Kind) -> Result<Place, Refusal>
         ensures { result ≡ container_in self kind }
@@ -50,8 +50,8 @@ impl Object {
         })
     }
 
-    /// Where its element of an index stands: `WrongKind` where it has no scalars of the kind, `OutOfRange` where it has
-    /// no such element.
+    /// Returns where its element of an index stands: `WrongKind` if it has no scalars of the kind, `OutOfRange` if it
+    /// has no such element.
     #[inline(always)]
     pub(crate) fn element(self, kind: ScalarKind, index: u64) -> Result<Place, Refusal>
         ensures { result ≡ element_in self kind index }
@@ -82,7 +82,7 @@ pub trait ObjectRef {
     // Whether it may be used in a segment.
     ghost stands: { Self → SegmentState → Type 0 };
 
-    /// The object in a segment, or nothing where it has no such object.
+    /// Returns the object in a segment, or nothing if it has no such object.
     fn find(&self, segment: &Segment) -> Option<Object>
         requires { stands self.now segment.now }
         ensures { AnswersWith segment.now (λ d. located_at d (key self.now)) result };
@@ -122,7 +122,7 @@ impl ObjectRef for Object {
 }
 
 impl Segment {
-    /// The object of a key, or nothing where no object has the key.
+    /// Returns the object of a key, or nothing if no object has the key.
     pub(crate) fn object_of(&self, key: &Key) -> Option<Object>
         ensures { AnswersWith self.now (λ d. located_at d (key_seen key.now)) result }
     {
@@ -133,7 +133,7 @@ impl Segment {
     }
 }
 
-/// What the head of the object at a handle says.
+/// Returns what the head of the object at a handle says.
 fn read_object(heap: &Heap, handle: Handle) -> Object
     requires { HasObject heap.now.bytes handle }
     ensures handle { result.handle ≡ handle }
@@ -148,13 +148,13 @@ fn read_object(heap: &Heap, handle: Handle) -> Object
     }
 }
 
-/// The object of a key as it stands in the segment. Calls that take it look nothing up.
+/// Returns the object of a key as it stands in the segment. Calls that take it look nothing up.
 ///
 /// Example: `let object = locate(&segment, &name)?`.
 ///
 /// # Errors
 ///
-/// `NotFound` where no object has the key.
+/// `NotFound` if no object has the key.
 pub fn locate<O: ObjectRef>(segment: &Segment, key: &O) -> Result<Object, Refusal>
     requires { O.stands key.now segment.now }
     ensures { MatchResult result (IsLocated segment.now (O.key key.now)) (IsMissing segment.now (O.key key.now)) }
@@ -165,7 +165,7 @@ pub fn locate<O: ObjectRef>(segment: &Segment, key: &O) -> Result<Object, Refusa
     }
 }
 
-/// The object of a handle as it stands in the segment. Nothing is looked up.
+/// Returns the object of a handle as it stands in the segment. Nothing is looked up.
 ///
 /// Example: `let object = object_here(&segment, handle)`.
 ///

@@ -34,12 +34,12 @@ pub(crate) struct PendingObject {
     pub(crate) handle: u64,
     /// Where its elements go, from the handle on.
     pub(crate) at: u64,
-    /// Its entry, or nothing where it has no key.
+    /// Its entry, or nothing if it has no key.
     pub(crate) entry: Option<PendingEntry>,
 }
 
-/// Takes the blocks of an object of a shape into use, and writes its head. Else it is `Exists` where an object has the
-/// key, or `NoSpace`, and what the heap holds does not change.
+/// Takes the blocks of an object of a shape into use, and writes its head. Otherwise it is `Exists` if an object has
+/// the key, or `NoSpace`, and what the heap holds does not change.
 pub(crate) fn begin_object(
     heap: &mut Heap,
     key: &NewKey,
@@ -62,7 +62,7 @@ pub(crate) fn begin_object(
     }
 }
 
-/// The same under an entry of an index.
+/// Takes the blocks of an object under an entry of an index into use, and writes its head.
 fn begin_entered(
     heap: &mut Heap,
     index: Index,
@@ -82,7 +82,8 @@ fn begin_entered(
     }
 }
 
-/// The same where no object has the key, whose entry would get a place of the index.
+/// Takes the blocks of an object into use that no key has yet, whose entry gets a place of the index, and writes its
+/// head.
 pub(crate) fn begin_at(
     heap: &mut Heap,
     index: Index,
@@ -110,7 +111,7 @@ pub(crate) fn begin_at(
     Ok(PendingObject { handle, at, entry })
 }
 
-/// The same without a key.
+/// Takes the block of an object without a key into use, and writes its head.
 fn begin_alone(heap: &mut Heap, shape: ObjectShape) -> Result<PendingObject, Refusal>
     requires { shape.len < 2 ^ 40 }
     ensures { BeginsObject heap.old heap.new NoKey shape.kind shape.count shape.len result }
@@ -126,7 +127,7 @@ fn begin_alone(heap: &mut Heap, shape: ObjectShape) -> Result<PendingObject, Ref
     })
 }
 
-/// The class of the objects that an index has entries of.
+/// Returns the class of the objects that an index has entries of.
 pub(crate) fn class_of(index: Index) -> Class
     ensures { result ≡ class_of_index index }
 {
@@ -136,8 +137,8 @@ pub(crate) fn class_of(index: Index) -> Class
     }
 }
 
-/// Has the entry of an object lead to it where it was filled, and answers its handle. Else all that was taken for it is
-/// given back.
+/// Has the entry of an object lead to it where it was filled, and returns its handle. Otherwise all that was taken for
+/// it is given back.
 #[inline(always)]
 pub(crate) fn finish_object(
     heap: &mut Heap,

@@ -47,7 +47,7 @@ impl<'a> Iterator for Objects<'a> {
     }
 }
 
-/// The next block of an object among the blocks and gaps that are left, or nothing where there is no more.
+/// Returns the next block of an object among the blocks and gaps that are left, or nothing if there is no more.
 fn next_own(tiles: &mut Tiles<'_>) -> Option<TileInfo>
     ensures { GoesOnOwn tiles.old result tiles.new }
 {
@@ -60,7 +60,7 @@ fn next_own(tiles: &mut Tiles<'_>) -> Option<TileInfo>
 }
 
 impl Segment {
-    /// All objects by their offsets, those without a key too.
+    /// Returns all objects by their offsets, those without a key too.
     ///
     /// Example: `for said in segment.objects()`.
     pub fn objects(&self) -> Objects<'_>

@@ -66,6 +66,7 @@ pub record SaysFirstNames (old mid : WriterHistory) (prefix : List ℕ) (most le
   pub bytes : mid.bytes ≡ old.bytes ++ said
   pub rest : said ++ listed prefix left (drop at xs) ≡ listed prefix most xs
 
+-- the names listed so far begin with the prefix, and none is left out
 pub record ListsFirstNames (b : List ℕ) (old mid : WriterHistory) (prefix : List ℕ) (most left at : ℕ) : Type 0 where
   pub told : (d : Directory) → DenotesCurrent b d → SaysFirstNames old mid prefix most left at (names_of d)
   pub failures : mid.failures ≡ old.failures

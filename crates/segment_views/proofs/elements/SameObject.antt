@@ -37,6 +37,7 @@ module _ {old new : SegmentState} {o : Object} {key : Key} where
     segment = (_, m.denotes is.segment.0 is.segment.1);
   }
 
+  -- the object of a view stays if a range of it is written
   pub stays_written : {k : ScalarKind} {first : ℕ} {zs : List ℤ} {answer : Answer}
       → WritesRange old new key k first zs answer → IsOpen o old → IsOpen o new
   stays_written {k} {first} {zs} {answer} m is = record {

@@ -1,4 +1,5 @@
--- The fields that name the blocks of a directory: each block but the objects' own has one, and no two have the same.
+-- The fields that name the blocks of a directory are those that count in the image (`CountedClaims.claimed-counted`),
+-- and no two of them lead to one block (`DisjointBlocks`).
 pub mod Fields
 pub mod CountedClaims
 pub mod CountedFields

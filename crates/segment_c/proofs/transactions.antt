@@ -1,4 +1,4 @@
--- Rooms of regions, and codes of a segment that grows, moves or is not opened.
+-- Codes of a segment that grows or moves (`Resize.grown_code`) or is not opened, and the rooms of regions.
 pub mod Rooms
 pub mod Resize
 pub mod Images

@@ -1,4 +1,4 @@
--- What goes out of a view: places of elements, neighbours of a key, counts.
+-- What goes out to C: the places of elements (`Places.has-view`), neighbours of a key, counts.
 pub mod Places
 pub mod Neighbours
 pub mod Push

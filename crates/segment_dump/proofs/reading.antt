@@ -1,4 +1,4 @@
--- Reading a dump: its first lines, the lines of objects and elements, and its notes, part by part.
+-- Reading a dump part by part: its front (`FrontLines.front-some`), objects, elements, pieces, and the notes behind it.
 pub mod FrontLines
 pub mod FrontSteps
 pub mod FrontFaults

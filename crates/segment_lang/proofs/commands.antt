@@ -1,4 +1,4 @@
 -- Command words and what stands behind them (`Words`).
 pub mod Words
 pub mod Forms
-pub mod Kinds
+pub mod KindTables

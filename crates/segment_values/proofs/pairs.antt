@@ -1,3 +1,3 @@
--- Pairs of a map under its key.
+-- Pairs of a map: a key that it lacks (`Absent.erases-absent`), and all pairs one after another.
 pub mod Absent
 pub mod Walk

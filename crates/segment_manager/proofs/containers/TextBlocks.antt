@@ -4,7 +4,7 @@ use Rattle.segment_manager.proofs.Common.{◌≡◌, sym, ap, subst, ◌∙◌, 
 use Rattle.segment_manager.proofs.Common.{option_to_list, AllByRecursion, Extent, handle, BackingArray, SameSpread}
 use Rattle.segment_manager.proofs.Common.{middle-first, AreDistinct, text_blocks, OwnedText, Object, Texts}
 use Rattle.segment_manager.proofs.{Common.value_extents, objects.Exchanged.Exchange, objects.Rewritten.with_value}
-use Rattle.seg_vector.proofs.texts.Blocks.{blocks-three}
+use Rattle.seg_vector.proofs.Laws.{blocks-three}
 use Rattle.best_fit.proofs.Laws.{spread-behind}
 use Rattle.segment_manager.proofs.directory.ExtentOrder.{Differs, IsFresh, Rising, all_of-inserted, inserted}
 use Rattle.segment_manager.proofs.directory.ExtentOrder.{rising-insert}

@@ -93,7 +93,7 @@ module _ {format : ℕ} (d : Directory) (is : IsDirectory format d) (h : ℕ) (q
 
   -- elements that are written over
   module _ (key : Key) (first : ℕ) (zs : List ℤ) where
-    over : Value → Value
+    abbrev over : Value → Value
     over v = with_items v (replaced_range (numbers_in v) first zs)
 
     over-kind : (v : Value) → kind_of (over v) ≡ kind_of v

@@ -1,6 +1,6 @@
 use Rattle.std.proofs.Common.{◌∙◌, map, refl, rules}
 use Rattle.segment_lang.specs.declared.kinds.TheConstants.{KINDS}
-use Rattle.segment_lang.proofs.commands.Kinds.{kind_in_table}
+use Rattle.segment_lang.proofs.commands.KindTables.{kind_in_table}
 use Rattle.segment_lang.proofs.kinds.kind_named.Goals as goal
 
 pub returns : goal.returns

@@ -9,6 +9,7 @@ use Rattle.segment_dump.proofs.Common.{ReadsPiece, content_need, first_content, 
 use Rattle.segment_dump.proofs.Common.{IsBuildableContent, StandsFilling, head_of, ValueContent, String}
 use Rattle.segment_dump.proofs.Common.{count_of_content, kind_of_content, ReadsLine, block_room, content_text, piece_of}
 use Rattle.segment_dump.proofs.{texts.Options.never-ok, texts.Options.ok-same, filling.Addition.string-of}
+use Rattle.segment_dump.proofs.texts.Options.{no-ok, ok-is}
 use Rattle.segment_dump.proofs.{filling.Addition.was-done, texts.Elements.piece_front}
 use Rattle.segment_dump.proofs.{Common.pieces_in, Common.text_lines, reading.Pieces.piece-bytes}
 use Rattle.segment_dump.proofs.{reading.Pieces.piece-line}
@@ -138,17 +139,17 @@ module _ (old mid : SegmentState) (h room : ℕ) (text rest words : List ℕ) (l
       }
 
   -- no storage: the string is not filled
-  pub string-refused : {E F : Type 0} (new : SegmentState) (rest' : List ℕ) (why : Refusal)
-      (result : Result (Unit {0}) F) → ReadsLength {E = E} text rest (Ok (words, len)) → called ≡ Err why
+  pub string-refused : {E F : Type 0} {new : SegmentState} {rest' : List ℕ} {why : Refusal}
+      {result : Result (Unit {0}) F} → ReadsLength {E = E} text rest (Ok (words, len)) → called ≡ Err why
       → FillsNew old new h kinds.String 1 text rest' room result
-  string-refused new rest' why result r e =
+  string-refused r e =
       record { fills = λ p f c b. let ok : called ≡ Ok tt = was-done called (placed r p f b).was in absurd (cc) }
 
-  first-appended : {E F : Type 0} (new : SegmentState) (r' : Result (Unit {0}) F)
+  first-appended : {E F : Type 0} {new : SegmentState} {r' : Result (Unit {0}) F}
       → ReadsLength {E = E} text rest (Ok (words, len)) → AppendsPiece mid new h words r'
       → (p : FillState) (f : IsFillable p kinds.String room) (b : IsEmptyObject old text p h) → (r' ≡ Ok tt)
       × ((bs : List ℕ) × (p.content ≡ String bs) × (len ≡ length bs) × IsByteList bs × StringAt new rest p h 1 bs)
-  first-appended {E} {F} new r' r a p f b =
+  first-appended {new = new} r a p f b =
       let g = placed r p f b in
       let bs = g.bytes in
       let one = a.appends p.site p.done p.class p.name [] g.table p.more 0 (piece_of bs 0) g.stands
@@ -171,64 +172,56 @@ module _ (old mid : SegmentState) (h room : ℕ) (text rest words : List ℕ) (l
       )
 
   -- the first piece was not appended: the string is not filled
-  pub string-no_piece : {E F : Type 0} (new : SegmentState) (rest' : List ℕ) (e : F) (result : Result (Unit {0}) F)
+  pub string-no_piece : {E F : Type 0} {new : SegmentState} {rest' : List ℕ} {e : F} {result : Result (Unit {0}) F}
       → ReadsLength {E = E} text rest (Ok (words, len)) → AppendsPiece mid new h words (Err e)
       → FillsNew old new h kinds.String 1 text rest' room result
-  string-no_piece {E} {F} new rest' e result r a =
-      record {
-        fills = λ p f c b. absurd
-            (never-ok {X = Unit {0}} {E = F} e tt (first-appended {E = E} {F = F} new (Err e) r a p f b).0);
-      }
+  string-no_piece r a = record { fills = λ p f c b. absurd (no-ok (first-appended r a p f b).0) }
 
   -- the first piece is appended
-  pub string-start : {E F : Type 0} (new : SegmentState) (u : Unit {0})
+  pub string-start : {E F : Type 0} {new : SegmentState} {u : Unit {0}}
       → ReadsLength {E = E} text rest (Ok (words, len)) → AppendsPiece {E = F} mid new h words (Ok u)
       → InString old new h text rest room len 0
-  string-start {E} {F} new u r a = record { at = λ p f b. (first-appended {E = E} {F = F} new (Ok u) r a p f b).1 }
+  string-start r a = record { at = λ p f b. (first-appended r a p f b).1 }
 
 -- no length: the string is not filled
-pub string-no_first : {E F : Type 0} (old new : SegmentState) (h room : ℕ) (text rest rest' : List ℕ) (e : E)
-    (result : Result (Unit {0}) F) → ReadsLength text rest (Err e)
+pub string-no_first : {E F : Type 0} {old new : SegmentState} {h room : ℕ} {text rest rest' : List ℕ} {e : E}
+    {result : Result (Unit {0}) F} → ReadsLength text rest (Err e)
     → FillsNew old new h kinds.String 1 text rest' room result
-string-no_first old new h room text rest rest' e result r = record {
-  fills = λ p f c b. let g = begun old text p h room f b
-      in absurd (never-ok e (piece_front g.bytes 0, length g.bytes) (r.reads g.bytes p.after g.counted g.lines).0);
+string-no_first {old = old} {h = h} {room} {text} r = record {
+  fills = λ p f c b. let g = begun old text p h room f b in
+      absurd (no-ok (r.reads g.bytes p.after g.counted g.lines).0);
 }
 
 -- one piece more
-module _ (old now : SegmentState) (h room : ℕ) (text rest : List ℕ) (len counter : ℕ)
+module _ {old now : SegmentState} {h room : ℕ} {text rest : List ℕ} {len counter : ℕ}
     (i : InString old now h text rest room len counter) (l : counter < (len - 1) / 1000) where
-  line-there : {E : Type 0} (rest' : List ℕ) (r : Result (List ℕ) E) → ReadsLine rest rest' r
+  line-there : {E : Type 0} {rest' : List ℕ} {r : Result (List ℕ) E} → ReadsLine rest rest' r
       → (p : FillState) (f : IsFillable p kinds.String room) (b : IsEmptyObject old text p h)
       → (r ≡ Ok (piece_front (i.at p f b).0 (suc counter)))
       × PiecesLeft (i.at p f b).0 p.after (suc (suc counter)) rest'
-  line-there rest' r k p f b = let q = i.at p f b
+  line-there {rest' = rest'} {r} k p f b = let q = i.at p f b
       in piece-line q.0 p.after (suc counter) rest rest' r (omega (arith, l, q.2)) q.4.left k
 
   -- no line: the string is not filled
-  pub string-no_line : {E F : Type 0} (new : SegmentState) (rest' final : List ℕ) (e : E) (result : Result (Unit {0}) F)
-      → ReadsLine rest rest' (Err e) → FillsNew old new h kinds.String 1 text final room result
-  string-no_line new rest' final e result k =
-      record {
-        fills = λ p f c b. absurd
-            (never-ok e (piece_front (i.at p f b).0 (suc counter)) (line-there rest' (Err e) k p f b).0);
-      }
+  pub string-no_line : {E F : Type 0} {new : SegmentState} {rest' final : List ℕ} {e : E}
+      {result : Result (Unit {0}) F} → ReadsLine rest rest' (Err e)
+      → FillsNew old new h kinds.String 1 text final room result
+  string-no_line k = record { fills = λ p f c b. absurd (no-ok (line-there k p f b).0) }
 
-  more-appended : {E F : Type 0} (new : SegmentState) (rest' words : List ℕ) (r : Result (Unit {0}) F)
+  more-appended : {E F : Type 0} {new : SegmentState} {rest' words : List ℕ} {r : Result (Unit {0}) F}
       → ReadsLine {E = E} rest rest' (Ok words) → AppendsPiece now new h words r
       → (p : FillState) (f : IsFillable p kinds.String room) (b : IsEmptyObject old text p h)
       → (r ≡ Ok tt) × StringAt new rest' p h (suc (suc counter)) (i.at p f b).0
-  more-appended {E} {F} new rest' words r k a p f b =
+  more-appended {E} {new = new} k a p f b =
       let q = i.at p f b in
       let bs = q.0 in
       let n = suc counter in
       let at = q.4 in
-      let read = line-there {E = E} rest' (Ok words) k p f b in
-      let is : words ≡ piece_front bs n = ok-same {E = E} words (piece_front bs n) read.0 in
+      let read = line-there k p f b in
       let fits : length (front_bytes bs n ++ piece_of bs n) ≤ at.table.capacity =
       omega (arith, ap length (front-more bs n), front-few bs (suc n), at.places) in
       let one = a.appends p.site p.done p.class p.name (front_bytes bs n) at.table p.more n (piece_of bs n)
-      at.stands (piece-bytes bs n q.3) is fits in (
+      at.stands (piece-bytes bs n q.3) (ok-is {E = E} read.0) fits in (
         one.0,
         record {
           table = at.table;
@@ -241,37 +234,27 @@ module _ (old now : SegmentState) (h room : ℕ) (text rest : List ℕ) (len cou
       )
 
   -- a piece that was not appended: the string is not filled
-  pub string-no_more : {E F : Type 0} (new : SegmentState) (rest' words final : List ℕ) (e : F)
-      (result : Result (Unit {0}) F) → ReadsLine {E = E} rest rest' (Ok words)
+  pub string-no_more : {E F : Type 0} {new : SegmentState} {rest' words final : List ℕ} {e : F}
+      {result : Result (Unit {0}) F} → ReadsLine {E = E} rest rest' (Ok words)
       → AppendsPiece now new h words (Err e) → FillsNew old new h kinds.String 1 text final room result
-  string-no_more {E} {F} new rest' words final e result k a =
-      record {
-        fills = λ p f c b. absurd
-            (never-ok {X = Unit {0}} {E = F} e tt (more-appended {E = E} {F = F} new rest' words (Err e) k a p f b).0);
-      }
+  string-no_more k a = record { fills = λ p f c b. absurd (no-ok (more-appended k a p f b).0) }
 
   -- one piece more is appended
-  pub string-more : {E F : Type 0} (new : SegmentState) (rest' words : List ℕ) (u : Unit {0})
+  pub string-more : {E F : Type 0} {new : SegmentState} {rest' words : List ℕ} {u : Unit {0}}
       → ReadsLine {E = E} rest rest' (Ok words) → AppendsPiece {E = F} now new h words (Ok u)
       → InString old new h text rest' room len (counter + 1)
-  string-more {E} {F} new rest' words u k a = record {
+  string-more {new = new} {rest'} k a = record {
     at = λ p f b.
         let q = i.at p f b in
-        let next : suc (suc counter) ≡ suc (counter + 1) = omega arith in (
-          q.0,
-          q.1,
-          q.2,
-          q.3,
-          subst (λ n.
-              StringAt new rest' p h n q.0) next (more-appended {E = E} {F = F} new rest' words (Ok u) k a p f b).1,
-        );
+        let next : suc (suc counter) ≡ suc (counter + 1) = omega arith in
+        (q.0, q.1, q.2, q.3, subst (λ n. StringAt new rest' p h n q.0) next (more-appended k a p f b).1);
   }
 
 -- all pieces are appended
-pub string-end : {F : Type 0} (old now : SegmentState) (h room : ℕ) (text rest : List ℕ) (len counter : ℕ)
+pub string-end : {F : Type 0} {old now : SegmentState} {h room : ℕ} {text rest : List ℕ} {len counter : ℕ}
     → InString old now h text rest room len counter → (len - 1) / 1000 ≤ counter
     → FillsNew {E = F} old now h kinds.String 1 text rest room (Ok tt)
-string-end {F} old now h room text rest len counter i l = record {
+string-end {now = now} {h} {rest = rest} {len} {counter} i l = record {
   fills = λ p f c b.
       let q = i.at p f b in
       let bs = q.0 in

@@ -6,33 +6,31 @@ use Rattle.segment_dump.proofs.Common.{IsShortLine, ReadsEnd, ReadsLine, ReadsTh
 use Rattle.segment_dump.specs.Succeeding.{AreNumbers, IsNumber, ReadsLead, entries_line, entries_said, size_line}
 use Rattle.segment_dump.specs.Succeeding.{size_said, version_line, version_said}
 use Rattle.segment_dump.proofs.texts.Elements.{no_end-both, word-no_end, no_end-test}
-use Rattle.segment_dump.proofs.{texts.Options.never-ok, texts.Options.ok-same, texts.Lines.decimal-short}
+use Rattle.segment_dump.proofs.{texts.Options.no-ok, texts.Options.ok-is, texts.Lines.decimal-short}
 use Rattle.segment_dump.proofs.texts.Words.{decimal-word, bare-test}
 use Rattle.segment_dump.proofs.reading.NextWords.{bare-long, blank-next, decimal-number, number-next}
 
 -- ---- the first word
 
-module _ {E : Type 0} (word text left : List ℕ) where
+module _ {E : Type 0} {word text left : List ℕ} where
   -- no line: no lead is read
-  pub lead-none : (e : E) (result : Result (List ℕ) E) → ReadsLine text left (Err e) → ReadsLead word text left result
-  lead-none e result h = record { reads = λ line tail a n s w t. absurd (never-ok e line (h.reads line a n s t).0) }
+  pub lead-none : {e : E} {result : Result (List ℕ) E} → ReadsLine text left (Err e) → ReadsLead word text left result
+  lead-none h = record { reads = λ line tail a n s w t. absurd (no-ok (h.reads line a n s t).0) }
 
   -- another word: no lead is read
-  pub lead-other : (words last : List ℕ) (e : E) (result : Result (List ℕ) E)
+  pub lead-other : {words last : List ℕ} {e : E} {result : Result (List ℕ) E}
       → ReadsLine {E = E} text left (Ok words) → ReadsThis word words last (Err e) → ReadsLead word text left result
-  lead-other words last e result h f = record {
-    reads = λ line tail a n s w t.
-        let q = h.reads line a n s t in
-        absurd (never-ok {X = Unit {0}} e tt (f.reads tail (ap next_word (ok-same {E = E} words line q.0) ∙ w)).0);
+  lead-other h f = record {
+    reads = λ line tail a n s w t. let q = h.reads line a n s t in
+        absurd (no-ok (f.reads tail (ap next_word (ok-is {E = E} q.0) ∙ w)).0);
   }
 
   -- the word that was wanted: the lead is read
-  pub lead-some : (words last : List ℕ) → ReadsLine {E = E} text left (Ok words)
+  pub lead-some : {words last : List ℕ} → ReadsLine {E = E} text left (Ok words)
       → ReadsThis {E = E} word words last (Ok tt) → ReadsLead {E = E} word text left (Ok last)
-  lead-some words last h f = record {
-    reads = λ line tail a n s w t.
-        let q = h.reads line a n s t in
-        (ap Ok (f.reads tail (ap next_word (ok-same {E = E} words line q.0) ∙ w)).1, q.1);
+  lead-some h f = record {
+    reads = λ line tail a n s w t. let q = h.reads line a n s t in
+        (ap Ok (f.reads tail (ap next_word (ok-is {E = E} q.0) ∙ w)).1, q.1);
   }
 
 -- ---- segment dump 1
@@ -47,56 +45,47 @@ dump-next = blank-next (codes "dump 1")
 one-next : next_word (codes " 1") ≡ Some (Bare (codes "1"), [])
 one-next = blank-next (codes "1") ∙ bare-long (codes "1") [] (omega arith) (bare-test (codes "1") refl) refl
 
-module _ {E : Type 0} (text left : List ℕ) where
-  abbrev Version : Result (Unit {0}) E → Type 0
-  Version = Takes version_said Any text left
-
-  abbrev Lead : Result (List ℕ) E → Type 0
-  Lead = ReadsLead (codes "segment") text left
-
-  version-lead : (r : Result (List ℕ) E) → Lead r → (a : List ℕ) → text ≡ version_said tt ++ a
-      → (r ≡ Ok (codes " dump 1")) × (left ≡ a)
-  version-lead r h a t = h.reads version_line (codes " dump 1") a (no_end-test version_line refl) (omega arith)
+module _ {E : Type 0} {text left : List ℕ} where
+  version-lead : {r : Result (List ℕ) E} → ReadsLead (codes "segment") text left r → (a : List ℕ)
+      → text ≡ version_said tt ++ a → (r ≡ Ok (codes " dump 1")) × (left ≡ a)
+  version-lead h a t = h.reads version_line (codes " dump 1") a (no_end-test version_line refl) (omega arith)
       version-next t
 
   -- no lead: no version is read
-  pub version-none : (e : E) (result : Result (Unit {0}) E) → Lead (Err e) → Version result
-  version-none e result h = record {
-    takes = λ u a g t.
-        absurd (never-ok e (codes " dump 1") (version-lead (Err e) h a t).0);
-  }
+  pub version-none : {e : E} {result : Result (Unit {0}) E} → ReadsLead (codes "segment") text left (Err e)
+      → Takes version_said Any text left result
+  version-none h = record { takes = λ u a g t. absurd (no-ok (version-lead h a t).0) }
 
   -- no word `dump`: no version is read
-  pub version-no_dump : (words last : List ℕ) (e : E) (result : Result (Unit {0}) E) → Lead (Ok words)
-      → ReadsThis (codes "dump") words last (Err e) → Version result
-  version-no_dump words last e result h f = record {
+  pub version-no_dump : {words last : List ℕ} {e : E} {result : Result (Unit {0}) E}
+      → ReadsLead {E = E} (codes "segment") text left (Ok words) → ReadsThis (codes "dump") words last (Err e)
+      → Takes version_said Any text left result
+  version-no_dump h f = record {
     takes = λ u a g t.
-        let q = version-lead (Ok words) h a t in
-        absurd (never-ok {X = Unit {0}} e tt
-        (f.reads (codes " 1") (ap next_word (ok-same {E = E} words (codes " dump 1") q.0) ∙ dump-next)).0);
+        absurd (no-ok (f.reads (codes " 1") (ap next_word (ok-is {E = E} (version-lead h a t).0) ∙ dump-next)).0);
   }
 
-  version-dump : (words mid : List ℕ) → Lead (Ok words) → ReadsThis {E = E} (codes "dump") words mid (Ok tt)
-      → (a : List ℕ) → text ≡ version_said tt ++ a → (mid ≡ codes " 1") × (left ≡ a)
-  version-dump words mid h f a t =
-      let q = version-lead (Ok words) h a t in
-      ((f.reads (codes " 1") (ap next_word (ok-same {E = E} words (codes " dump 1") q.0) ∙ dump-next)).1, q.1)
+  version-dump : {words mid : List ℕ} → ReadsLead {E = E} (codes "segment") text left (Ok words)
+      → ReadsThis {E = E} (codes "dump") words mid (Ok tt) → (a : List ℕ) → text ≡ version_said tt ++ a
+      → (mid ≡ codes " 1") × (left ≡ a)
+  version-dump h f a t =
+      let q = version-lead h a t in
+      ((f.reads (codes " 1") (ap next_word (ok-is {E = E} q.0) ∙ dump-next)).1, q.1)
 
   -- another version: none is read
-  pub version-no_one : (words mid last : List ℕ) (e : E) (result : Result (Unit {0}) E) → Lead (Ok words)
-      → ReadsThis {E = E} (codes "dump") words mid (Ok tt) → ReadsThis (codes "1") mid last (Err e) → Version result
-  version-no_one words mid last e result h f g = record {
-    takes = λ u a k t. absurd (never-ok {X =
-        Unit {0}} e tt (g.reads [] (ap next_word (version-dump words mid h f a t).0 ∙ one-next)).0);
+  pub version-no_one : {words mid last : List ℕ} {e : E} {result : Result (Unit {0}) E}
+      → ReadsLead {E = E} (codes "segment") text left (Ok words) → ReadsThis {E = E} (codes "dump") words mid (Ok tt)
+      → ReadsThis (codes "1") mid last (Err e) → Takes version_said Any text left result
+  version-no_one h f g = record {
+    takes = λ u a k t. absurd (no-ok (g.reads [] (ap next_word (version-dump h f a t).0 ∙ one-next)).0);
   }
 
   -- the version is read
-  pub version-some : (words mid last : List ℕ) (result : Result (Unit {0}) E) → Lead (Ok words)
-      → ReadsThis {E = E} (codes "dump") words mid (Ok tt) → ReadsThis {E = E} (codes "1") mid last (Ok tt)
-      → ReadsEnd last result → Version result
-  version-some words mid last result h f g k = record {
-    takes = λ u a z t.
-        let q = version-dump words mid h f a t in
+  pub version-some : {words mid last : List ℕ} {result : Result (Unit {0}) E}
+      → ReadsLead {E = E} (codes "segment") text left (Ok words) → ReadsThis {E = E} (codes "dump") words mid (Ok tt)
+      → ReadsThis {E = E} (codes "1") mid last (Ok tt) → ReadsEnd last result → Takes version_said Any text left result
+  version-some h f g k = record {
+    takes = λ u a z t. let q = version-dump h f a t in
         (k.reads (g.reads [] (ap next_word q.0 ∙ one-next)).1, q.1);
   }
 
@@ -120,54 +109,42 @@ size-no_end n = no_end-both (codes "size ") (decimal n) (no_end-test (codes "siz
 size-short : (n : ℕ) → IsShortLine (size_line n)
 size-short n = omega (arith, decimal-short n)
 
-module _ {E : Type 0} (law : NumbersAreDecimals) (text left : List ℕ) where
-  abbrev Size : Result ℕ E → Type 0
-  Size = Takes size_said IsNumber text left
-
-  abbrev SizeLead : Result (List ℕ) E → Type 0
-  SizeLead = ReadsLead (codes "size") text left
-
-  size-lead : (r : Result (List ℕ) E) → SizeLead r → (n : ℕ) (a : List ℕ) → text ≡ size_said n ++ a
-      → (r ≡ Ok (0x20 ∷ decimal n)) × (left ≡ a)
-  size-lead r h n a t = h.reads (size_line n) (0x20 ∷ decimal n) a (size-no_end n) (size-short n) (size-next n) t
+module _ {E : Type 0} (law : NumbersAreDecimals) {text left : List ℕ} where
+  size-lead : {r : Result (List ℕ) E} → ReadsLead (codes "size") text left r → (n : ℕ) (a : List ℕ)
+      → text ≡ size_said n ++ a → (r ≡ Ok (0x20 ∷ decimal n)) × (left ≡ a)
+  size-lead h n a t = h.reads (size_line n) (0x20 ∷ decimal n) a (size-no_end n) (size-short n) (size-next n) t
 
   -- no lead: no size is read
-  pub size-none : (e : E) (result : Result ℕ E) → SizeLead (Err e) → Size result
-  size-none e result h = record {
-    takes = λ n a g t.
-        absurd (never-ok e (0x20 ∷ decimal n) (size-lead (Err e) h n a t).0);
-  }
+  pub size-none : {e : E} {result : Result ℕ E} → ReadsLead (codes "size") text left (Err e)
+      → Takes size_said IsNumber text left result
+  size-none h = record { takes = λ n a g t. absurd (no-ok (size-lead h n a t).0) }
 
-  size-number : (words last : List ℕ) (r : Result ℕ E) → SizeLead (Ok words) → ReadsWord number words last r
-      → (n : ℕ) (a : List ℕ) → n < 2 ^ 64 → text ≡ size_said n ++ a → (r ≡ Ok n) × (last ≡ []) × (left ≡ a)
-  size-number words last r h f n a l t =
-      let q = size-lead (Ok words) h n a t in
-      let u = f.reads (Bare (decimal n)) [] n (ap next_word (ok-same {E = E} words (0x20 ∷ decimal n) q.0) ∙
-      number-there n) (decimal-number law n l) in
+  size-number : {words last : List ℕ} {r : Result ℕ E} → ReadsLead {E = E} (codes "size") text left (Ok words)
+      → ReadsWord number words last r → (n : ℕ) (a : List ℕ) → n < 2 ^ 64 → text ≡ size_said n ++ a
+      → (r ≡ Ok n) × (last ≡ []) × (left ≡ a)
+  size-number h f n a l t =
+      let q = size-lead h n a t in
+      let u = f.reads (Bare (decimal n)) [] n (ap next_word (ok-is {E = E} q.0) ∙ number-there n)
+      (decimal-number law n l) in
       (u.0, u.1, q.1)
 
   -- no number: no size is read
-  pub size-no_number : (words last : List ℕ) (e : E) (result : Result ℕ E) → SizeLead (Ok words)
-      → ReadsWord number words last (Err e) → Size result
-  size-no_number words last e result h f =
-      record { takes = λ n a g t. absurd (never-ok e n (size-number words last (Err e) h f n a g t).0) }
+  pub size-no_number : {words last : List ℕ} {e : E} {result : Result ℕ E}
+      → ReadsLead {E = E} (codes "size") text left (Ok words) → ReadsWord number words last (Err e)
+      → Takes size_said IsNumber text left result
+  size-no_number h f = record { takes = λ n a g t. absurd (no-ok (size-number h f n a g t).0) }
 
   -- more behind the size: none is read
-  pub size-more : (words last : List ℕ) (m : ℕ) (e : E) (result : Result ℕ E) → SizeLead (Ok words)
-      → ReadsWord {E = E} number words last (Ok m) → ReadsEnd last (Err e) → Size result
-  size-more words last m e result h f k =
-      record {
-        takes = λ n a g t. absurd
-            (never-ok {X = Unit {0}} e tt (k.reads (size-number words last (Ok m) h f n a g t).1));
-      }
+  pub size-more : {words last : List ℕ} {m : ℕ} {e : E} {result : Result ℕ E}
+      → ReadsLead {E = E} (codes "size") text left (Ok words) → ReadsWord {E = E} number words last (Ok m)
+      → ReadsEnd last (Err e) → Takes size_said IsNumber text left result
+  size-more h f k = record { takes = λ n a g t. absurd (no-ok (k.reads (size-number h f n a g t).1)) }
 
   -- the size is read
-  pub size-some : (words last : List ℕ) (m : ℕ) → SizeLead (Ok words) → ReadsWord {E = E} number words last (Ok m)
-      → Size (Ok m)
-  size-some words last m h f = record {
-    takes = λ n a g t.
-        let q = size-number words last (Ok m) h f n a g t in
-        (ap Ok (ok-same {E = E} m n q.0), q.2);
+  pub size-some : {words last : List ℕ} {m : ℕ} → ReadsLead {E = E} (codes "size") text left (Ok words)
+      → ReadsWord {E = E} number words last (Ok m) → Takes {E = E} size_said IsNumber text left (Ok m)
+  size-some h f = record {
+    takes = λ n a g t. let q = size-number h f n a g t in (ap Ok (ok-is {E = E} q.0), q.2);
   }
 
 -- ---- indexes
@@ -188,72 +165,62 @@ entries-no_end p =
 entries-short : (p : ℕ × ℕ) → IsShortLine (entries_line p)
 entries-short p = omega (arith, decimal-short p.0, decimal-short p.1, length-append (decimal p.0) (0x20 ∷ decimal p.1))
 
-module _ {E : Type 0} (law : NumbersAreDecimals) (text left : List ℕ) where
-  abbrev Entries : Result (ℕ × ℕ) E → Type 0
-  Entries = Takes entries_said AreNumbers text left
-
-  abbrev EntriesLead : Result (List ℕ) E → Type 0
-  EntriesLead = ReadsLead (codes "indexes") text left
-
-  entries-lead : (r : Result (List ℕ) E) → EntriesLead r → (p : ℕ × ℕ) (a : List ℕ) → text ≡ entries_said p ++ a
-      → (r ≡ Ok (0x20 ∷ (decimal p.0 ++ 0x20 ∷ decimal p.1))) × (left ≡ a)
-  entries-lead r h p a t = h.reads (entries_line p) (0x20 ∷ (decimal p.0 ++ 0x20 ∷ decimal p.1)) a
+module _ {E : Type 0} (law : NumbersAreDecimals) {text left : List ℕ} where
+  entries-lead : {r : Result (List ℕ) E} → ReadsLead (codes "indexes") text left r → (p : ℕ × ℕ) (a : List ℕ)
+      → text ≡ entries_said p ++ a → (r ≡ Ok (0x20 ∷ (decimal p.0 ++ 0x20 ∷ decimal p.1))) × (left ≡ a)
+  entries-lead h p a t = h.reads (entries_line p) (0x20 ∷ (decimal p.0 ++ 0x20 ∷ decimal p.1)) a
       (entries-no_end p) (entries-short p) (entries-next p) t
 
   -- no lead: no numbers of entries are read
-  pub entries-none : (e : E) (result : Result (ℕ × ℕ) E) → EntriesLead (Err e) → Entries result
-  entries-none e result h = record {
-    takes = λ p a g t.
-        absurd (never-ok e (0x20 ∷ (decimal p.0 ++ 0x20 ∷ decimal p.1)) (entries-lead (Err e) h p a t).0);
-  }
+  pub entries-none : {e : E} {result : Result (ℕ × ℕ) E} → ReadsLead (codes "indexes") text left (Err e)
+      → Takes entries_said AreNumbers text left result
+  entries-none h = record { takes = λ p a g t. absurd (no-ok (entries-lead h p a t).0) }
 
-  entries-named : (words mid : List ℕ) (r : Result ℕ E) → EntriesLead (Ok words) → ReadsWord number words mid r
-      → (p : ℕ × ℕ) (a : List ℕ) → AreNumbers p → text ≡ entries_said p ++ a
+  entries-named : {words mid : List ℕ} {r : Result ℕ E} → ReadsLead {E = E} (codes "indexes") text left (Ok words)
+      → ReadsWord number words mid r → (p : ℕ × ℕ) (a : List ℕ) → AreNumbers p → text ≡ entries_said p ++ a
       → (r ≡ Ok p.0) × (mid ≡ 0x20 ∷ decimal p.1) × (left ≡ a)
-  entries-named words mid r h f p a l t =
-      let q = entries-lead (Ok words) h p a t in
-      let u = f.reads (Bare (decimal p.0)) (0x20 ∷ decimal p.1) p.0
-      (ap next_word (ok-same {E = E} words (0x20 ∷ (decimal p.0 ++ 0x20 ∷ decimal p.1)) q.0) ∙ number-before p.0
-      (decimal p.1)) (decimal-number law p.0 l.0) in
+  entries-named h f p a l t =
+      let q = entries-lead h p a t in
+      let u = f.reads (Bare (decimal p.0)) (0x20 ∷ decimal p.1) p.0 (ap next_word (ok-is {E = E} q.0)
+      ∙ number-before p.0 (decimal p.1)) (decimal-number law p.0 l.0) in
       (u.0, u.1, q.1)
 
   -- no first number: none are read
-  pub entries-no_named : (words mid : List ℕ) (e : E) (result : Result (ℕ × ℕ) E) → EntriesLead (Ok words)
-      → ReadsWord number words mid (Err e) → Entries result
-  entries-no_named words mid e result h f =
-      record { takes = λ p a g t. absurd (never-ok e p.0 (entries-named words mid (Err e) h f p a g t).0) }
+  pub entries-no_named : {words mid : List ℕ} {e : E} {result : Result (ℕ × ℕ) E}
+      → ReadsLead {E = E} (codes "indexes") text left (Ok words) → ReadsWord number words mid (Err e)
+      → Takes entries_said AreNumbers text left result
+  entries-no_named h f = record { takes = λ p a g t. absurd (no-ok (entries-named h f p a g t).0) }
 
-  entries-unique : (words mid last : List ℕ) (n : ℕ) (r : Result ℕ E) → EntriesLead (Ok words)
-      → ReadsWord {E = E} number words mid (Ok n) → ReadsWord number mid last r → (p : ℕ × ℕ) (a : List ℕ)
-      → AreNumbers p → text ≡ entries_said p ++ a → (n ≡ p.0) × (r ≡ Ok p.1) × (last ≡ []) × (left ≡ a)
-  entries-unique words mid last n r h f g p a l t =
-      let q = entries-named words mid (Ok n) h f p a l t in
+  entries-unique : {words mid last : List ℕ} {n : ℕ} {r : Result ℕ E}
+      → ReadsLead {E = E} (codes "indexes") text left (Ok words) → ReadsWord {E = E} number words mid (Ok n)
+      → ReadsWord number mid last r → (p : ℕ × ℕ) (a : List ℕ) → AreNumbers p → text ≡ entries_said p ++ a
+      → (n ≡ p.0) × (r ≡ Ok p.1) × (last ≡ []) × (left ≡ a)
+  entries-unique h f g p a l t =
+      let q = entries-named h f p a l t in
       let u = g.reads (Bare (decimal p.1)) [] p.1 (ap next_word q.1 ∙ number-there p.1) (decimal-number law p.1 l.1) in
-      (ok-same {E = E} n p.0 q.0, u.0, u.1, q.2)
+      (ok-is {E = E} q.0, u.0, u.1, q.2)
 
   -- no second number: none are read
-  pub entries-no_unique : (words mid last : List ℕ) (n : ℕ) (e : E) (result : Result (ℕ × ℕ) E) → EntriesLead (Ok words)
-      → ReadsWord {E = E} number words mid (Ok n) → ReadsWord number mid last (Err e) → Entries result
-  entries-no_unique words mid last n e result h f g =
-      record { takes = λ p a l t. absurd (never-ok e p.1 (entries-unique words mid last n (Err e) h f g p a l t).1) }
+  pub entries-no_unique : {words mid last : List ℕ} {n : ℕ} {e : E} {result : Result (ℕ × ℕ) E}
+      → ReadsLead {E = E} (codes "indexes") text left (Ok words) → ReadsWord {E = E} number words mid (Ok n)
+      → ReadsWord number mid last (Err e) → Takes entries_said AreNumbers text left result
+  entries-no_unique h f g = record { takes = λ p a l t. absurd (no-ok (entries-unique h f g p a l t).1) }
 
   -- more behind the numbers: none are read
-  pub entries-more : (words mid last : List ℕ) (n m : ℕ) (e : E) (result : Result (ℕ × ℕ) E)
-      → EntriesLead (Ok words) → ReadsWord {E = E} number words mid (Ok n)
-      → ReadsWord {E = E} number mid last (Ok m) → ReadsEnd last (Err e) → Entries result
-  entries-more words mid last n m e result h f g k =
-      record {
-        takes = λ p a l t. absurd
-            (never-ok {X = Unit {0}} e tt (k.reads (entries-unique words mid last n (Ok m) h f g p a l t).2));
-      }
+  pub entries-more : {words mid last : List ℕ} {n m : ℕ} {e : E} {result : Result (ℕ × ℕ) E}
+      → ReadsLead {E = E} (codes "indexes") text left (Ok words) → ReadsWord {E = E} number words mid (Ok n)
+      → ReadsWord {E = E} number mid last (Ok m) → ReadsEnd last (Err e)
+      → Takes entries_said AreNumbers text left result
+  entries-more h f g k = record { takes = λ p a l t. absurd (no-ok (k.reads (entries-unique h f g p a l t).2)) }
 
   -- the numbers of entries are read
-  pub entries-some : (words mid last : List ℕ) (n m : ℕ) → EntriesLead (Ok words)
-      → ReadsWord {E = E} number words mid (Ok n) → ReadsWord {E = E} number mid last (Ok m) → Entries (Ok (n, m))
-  entries-some words mid last n m h f g = record {
+  pub entries-some : {words mid last : List ℕ} {n m : ℕ} → ReadsLead {E = E} (codes "indexes") text left (Ok words)
+      → ReadsWord {E = E} number words mid (Ok n) → ReadsWord {E = E} number mid last (Ok m)
+      → Takes {E = E} entries_said AreNumbers text left (Ok (n, m))
+  entries-some h f g = record {
     takes = λ p a l t.
-        let q = entries-unique words mid last n (Ok m) h f g p a l t in
-        let same : m ≡ p.1 = ok-same {E = E} m p.1 q.1 in
+        let q = entries-unique h f g p a l t in
+        let same = ok-is {E = E} q.1 in
         ((λ i. Ok (q.0 i, same i)), q.3);
   }
 
@@ -268,54 +235,44 @@ front-lines : (f : Front) (a : List ℕ)
 front-lines f a = lines-apart version_line (0x0A ∷ []) (codes "size ") (decimal f.size) (codes "indexes ")
     (decimal f.named) (0x20 ∷ decimal f.unique) a
 
-module _ {E : Type 0} (text left : List ℕ) where
-  abbrev Version' : Result (Unit {0}) E → Type 0
-  Version' = Takes version_said Any text left
-
+module _ {E : Type 0} {text left : List ℕ} where
   -- no version: no front is read
-  pub front-version : (e : E) (result : Result Front E) (last : List ℕ) → Version' (Err e)
+  pub front-version : {e : E} {result : Result Front E} {last : List ℕ} → Takes version_said Any text left (Err e)
       → Takes fronted IsFront text last result
-  front-version e result last h =
-      record { takes = λ f a g t. absurd (never-ok {X = Unit {0}} e tt (h.takes tt _ tt (t ∙ front-lines f a)).0) }
+  front-version h = record { takes = λ f a g t. absurd (no-ok (h.takes tt _ tt (t ∙ front-lines f a)).0) }
 
-  front-left : Version' (Ok tt) → (f : Front) (a : List ℕ) → text ≡ fronted f ++ a
+  front-left : Takes {E = E} version_said Any text left (Ok tt) → (f : Front) (a : List ℕ) → text ≡ fronted f ++ a
       → left ≡ size_said f.size ++ (entries_said (f.named, f.unique) ++ a)
   front-left h f a t = (h.takes tt _ tt (t ∙ front-lines f a)).1
 
   -- no size: no front is read
-  pub front-size : (mid last : List ℕ) (e : E) (result : Result Front E) → Version' (Ok tt)
-      → Takes size_said IsNumber left mid (Err e) → Takes fronted IsFront text last result
-  front-size mid last e result h k =
-      record { takes = λ f a g t. absurd (never-ok e f.size (k.takes f.size _ g.size (front-left h f a t)).0) }
+  pub front-size : {mid last : List ℕ} {e : E} {result : Result Front E}
+      → Takes {E = E} version_said Any text left (Ok tt) → Takes size_said IsNumber left mid (Err e)
+      → Takes fronted IsFront text last result
+  front-size h k = record { takes = λ f a g t. absurd (no-ok (k.takes f.size _ g.size (front-left h f a t)).0) }
 
-  front-mid : (mid : List ℕ) (n : ℕ) → Version' (Ok tt) → Takes {E = E} size_said IsNumber left mid (Ok n)
-      → (f : Front) (a : List ℕ) → IsFront f → text ≡ fronted f ++ a
-      → (n ≡ f.size) × (mid ≡ entries_said (f.named, f.unique) ++ a)
-  front-mid mid n h k f a g t = let q = k.takes f.size _ g.size (front-left h f a t)
-      in (ok-same {E = E} n f.size q.0, q.1)
+  front-mid : {mid : List ℕ} {n : ℕ} → Takes {E = E} version_said Any text left (Ok tt)
+      → Takes {E = E} size_said IsNumber left mid (Ok n) → (f : Front) (a : List ℕ) → IsFront f
+      → text ≡ fronted f ++ a → (n ≡ f.size) × (mid ≡ entries_said (f.named, f.unique) ++ a)
+  front-mid h k f a g t = let q = k.takes f.size _ g.size (front-left h f a t) in (ok-is {E = E} q.0, q.1)
 
   -- no numbers of entries: no front is read
-  pub front-entries : (mid last : List ℕ) (n : ℕ) (e : E) (result : Result Front E) → Version' (Ok tt)
-      → Takes {E = E} size_said IsNumber left mid (Ok n) → Takes entries_said AreNumbers mid last (Err e)
-      → Takes fronted IsFront text last result
-  front-entries mid last n e result h k z = record {
-    takes = λ f a g t. absurd (never-ok e (
-      f.named,
-      f.unique,
-    ) (z.takes (f.named, f.unique) a (
-      omega (arith, g.named),
-      omega (arith, g.unique),
-    ) (front-mid mid n h k f a g t).1).0);
+  pub front-entries : {mid last : List ℕ} {n : ℕ} {e : E} {result : Result Front E}
+      → Takes {E = E} version_said Any text left (Ok tt) → Takes {E = E} size_said IsNumber left mid (Ok n)
+      → Takes entries_said AreNumbers mid last (Err e) → Takes fronted IsFront text last result
+  front-entries h k z = record {
+    takes = λ f a g t. absurd (no-ok (z.takes (f.named, f.unique) a
+        (omega (arith, g.named), omega (arith, g.unique)) (front-mid h k f a g t).1).0);
   }
 
   -- version, size and numbers: the front is read
-  pub front-all : (mid last : List ℕ) (n : ℕ) (p : ℕ × ℕ) → Version' (Ok tt)
+  pub front-all : {mid last : List ℕ} {n : ℕ} {p : ℕ × ℕ} → Takes {E = E} version_said Any text left (Ok tt)
       → Takes {E = E} size_said IsNumber left mid (Ok n) → Takes {E = E} entries_said AreNumbers mid last (Ok p)
       → Takes {E = E} fronted IsFront text last (Ok (record { size = n; named = p.0; unique = p.1 }))
-  front-all mid last n p h k z = record {
+  front-all h k z = record {
     takes = λ f a g t.
-        let q = front-mid mid n h k f a g t in
+        let q = front-mid h k f a g t in
         let r = z.takes (f.named, f.unique) a (omega (arith, g.named), omega (arith, g.unique)) q.1 in
-        let same : p ≡ (f.named, f.unique) = ok-same {E = E} p (f.named, f.unique) r.0 in
+        let same = ok-is {E = E} r.0 in
         ((λ i. Ok (record { size = q.0 i; named = (same i).0; unique = (same i).1 })), r.1);
   }

@@ -10,6 +10,14 @@ never-ok e x q = cc
 pub ok-same : {X E : Type 0} (x y : X) → ◌≡◌ {A = Result X E} (Ok x) (Ok y) → x ≡ y
 ok-same x y q = cc
 
+-- an error is no success, where both are known
+pub no-ok : {X E : Type 0} {e : E} {x : X} → ◌≡◌ {A = Result X E} (Err e) (Ok x) → ⊥
+no-ok q = cc
+
+-- equal successes have equal values, where both are known
+pub ok-is : {X E : Type 0} {x y : X} → ◌≡◌ {A = Result X E} (Ok x) (Ok y) → x ≡ y
+ok-is q = cc
+
 -- equal pairs that are there have equal parts
 pub some-pair : {A B : Type 0} (a b : A) (x y : B) → ◌≡◌ {A = Option (A × B)} (Some (a, x)) (Some (b, y))
     → (a ≡ b) × (x ≡ y)

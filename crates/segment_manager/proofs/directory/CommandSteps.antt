@@ -27,7 +27,7 @@ pub lands : {new : SegmentState} {next : Answer × Directory} {answer : Answer} 
 lands after n = record { after = after; is = n.is; stands = record { denotes = n.denotes } }
 
 -- a move from each directory that the bytes denote is a transition
-by_moves : {old new : SegmentState} {answer : Answer} {next : Directory → Answer × Directory}
+pub by_moves : {old new : SegmentState} {answer : Answer} {next : Directory → Answer × Directory}
     → KeepsModeAndPlace old new
     → ((d : Directory) → DenotesCurrent old.cut.bytes d → IsMove new answer (next d)) → Transitions old new answer next
 by_moves {new} s each = record {

@@ -11,9 +11,10 @@ use common.{pair_values, remove_pair, ◌++◌, ◌-◌, U8, Element, capacity_f
 use common.{remove, nat_abs, Value, Bytes, Pairs, Texts, Refuse, Reply, found, map_of, effect, int_lt, handle, List}
 use common.{Some, None, ◌==◌, ◌&&◌, take, Kind, Mode, live, bare, Need, Plan, with, step, plan, Done, Truth, replicate}
 use common.{WrongKind, OutOfRange, Anonymous, same_kind, with_place, with_entry, with_value, refusal_of, ReadOnly}
-use common.{ByHandle, OwnedText, Elements, Directory, object_at, class_of, found_at, cons_values, count_of}
+use common.{ScalarKind, Vector, ByHandle, OwnedText, Elements, Directory, object_at, class_of, found_at, cons_values}
+use common.{count_of}
 use Rattle.seg_types.specs.declared.kinds.Class.TheVariants.{Named, Unique}
-use Rattle.segment_manager.specs.{Answers.Absent, Answers.Found, objects.Located.located}
+use Rattle.segment_manager.specs.{Answers.Absent, Answers.Found, objects.Located.located, containers.Ranges.extend}
 use Rattle.segment_manager.specs.Step.{assign, push, pop, insert_at, erase, put, text_of}
 use Rattle.std.proofs.lemmas.List.{length-set}
 

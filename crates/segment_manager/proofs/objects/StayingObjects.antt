@@ -4,18 +4,18 @@ use common.{◌≡◌, sym, not, ◌∙◌, ℕ, None, List, [], ◌∷◌, find
 use common.{◌==◌, Bool, true, false, Option, Some, Extent, handle, Object, Answer, Refused, perform, Transitions}
 use common.{SegmentState, ap, is_some, LiveSet, resized, Refusal, NoSpace, ByHandle, Command, Directory, has_key}
 use common.{IsSegment, current, if◌then◌else◌, false≢true, replace_object, is_elementwise, step_of_kind, LeadsOnOfKind}
-use common.{option_map, IsDirectory, Denotes, Located, object_at, is_object_at, handle_at, same_Some}
+use common.{ℤ, ◌+◌, ◌≤◌, Ok, Err, length, take, drop, nat_le, leb-true, ScalarKind, Value, Numbers, OutOfRange}
+use common.{ReadOnly, WrongKind, changed, count_of, kind_of, is_read_only, with_items, option_map, IsDirectory, Denotes}
+use common.{Located, object_at, is_object_at, handle_at, same_Some}
 use Rattle.segment_manager.proofs.directory.Refusals.{IsAnother, Leaves, by_change, by_other, by_refusal, by_request}
-use Rattle.segment_manager.proofs.directory.Refusals.{by_same}
-use Rattle.segment_manager.proofs.directory.Refusals.{extended-leaves, plan-leaves, plan_of_kind-leaves}
+use Rattle.segment_manager.proofs.directory.Refusals.{by_same, extended-leaves, plan-leaves, plan_of_kind-leaves}
 use Rattle.segment_manager.proofs.containers.RangeCalls.{range_with, replaced-length, row_in}
 use Rattle.segment_manager.specs.containers.Ranges.{ExtendsVector, WritesRange, extended, is_row, range_at, range_in}
 use Rattle.segment_manager.specs.containers.Ranges.{replaced as replaced_range, with_range, written, written_if}
-use Rattle.segment_manager.specs.objects.ElementLists.{numbers_in}
+use Rattle.segment_manager.specs.{objects.ElementLists.numbers_in, Staying.KeepsObjects, Staying.ObjectsStay}
 use Rattle.segment_manager.proofs.{indexes.Bridge.by-handle, objects.Here.here, objects.Standings.alike}
 use Rattle.segment_manager.proofs.objects.KeyCalls.{handle-if, object-passes}
 use Rattle.segment_manager.specs.objects.Located.{located, located_at}
-use Rattle.segment_manager.specs.Staying.{KeepsObjects, ObjectsStay}
 use Rattle.std.specs.Bool.{then_some}
 
 -- ---- an object of another value

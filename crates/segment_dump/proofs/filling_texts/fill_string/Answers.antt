@@ -5,70 +5,47 @@ use Rattle.segment_dump.proofs.filling.Strings.{string-no_more}
 use Rattle.segment_dump.proofs.filling.Strings.{string-no_piece, string-refused, string-start}
 
 pub returns-in_err-words : goal.returns-in_err-words
-returns-in_err-words c = λ room.
-    string-no_first c.args.segment.now c.args.segment.now c.args.object.handle room c.args.lines.now
-    c.first_line.new.lines c.first_line.new.lines _ c.from_residual.result c.in_err-words.ensures
+returns-in_err-words c = λ room. string-no_first c.in_err-words.ensures
 
 pub returns-in-Err : goal.returns-in-Err
 returns-in-Err c = λ room. string-refused c.args.segment.now c.reserve.new.self c.args.object.handle room
     c.args.lines.now c.first_line.new.lines c.in_ok-words.words c.in_ok-words.len c.reserve.result
-    c.reserve.ensures.step c.reserve.new.self c.first_line.new.lines c.in-Err.why _ c.in_ok-words.ensures c.in-Err.is
+    c.reserve.ensures.step c.in_ok-words.ensures c.in-Err.is
 
 pub returns-in_err-append_piece : goal.returns-in_err-append_piece
 returns-in_err-append_piece c =
     λ room. string-no_piece c.args.segment.now c.reserve.new.self c.args.object.handle room c.args.lines.now
     c.first_line.new.lines c.in_ok-words.words c.in_ok-words.len c.reserve.result c.reserve.ensures.step
-    c.append_piece.new.segment c.first_line.new.lines _ c.from_residual-in_err-append_piece.result
     c.in_ok-words.ensures c.in_err-append_piece.ensures.append
 
 pub pieces-init : goal.pieces-init
 pieces-init c = (
   λ room. string-start c.args.segment.now c.reserve.new.self c.args.object.handle room
       c.args.lines.now c.first_line.new.lines c.in_ok-words.words c.in_ok-words.len c.reserve.result
-      c.reserve.ensures.step c.append_piece.new.segment c.in_ok-append_piece.field-0 c.in_ok-words.ensures
-      c.in_ok-append_piece.ensures.append,
+      c.reserve.ensures.step c.in_ok-words.ensures c.in_ok-append_piece.ensures.append,
   c.in_ok-append_piece.ensures.in_place,
 )
 
 pub returns-in_err-words-2 : goal.returns-in_err-words-2
-returns-in_err-words-2 c = λ room.
-    string-no_line c.args.segment.now c.pieces.segment c.args.object.handle room c.args.lines.now c.pieces.lines
-    c.in_ok-words.len c.pieces.counter (c.pieces.invariant.0 room) (omega (
-      arith,
-      c.pieces-test.true,
-      c.pieces_behind-end.ensures,
-    )) c.pieces.segment c.next_line.new.self c.next_line.new.self _ c.from_residual-in_err-words-2.result
-    c.in_err-words-2.ensures
+returns-in_err-words-2 c = λ room. string-no_line (c.pieces.invariant.0 room)
+    (omega (arith, c.pieces-test.true, c.pieces_behind-end.ensures)) c.in_err-words-2.ensures
 
 pub returns-in_err-append_piece-2 : goal.returns-in_err-append_piece-2
-returns-in_err-append_piece-2 c =
-    λ room. string-no_more c.args.segment.now c.pieces.segment c.args.object.handle room c.args.lines.now
-    c.pieces.lines c.in_ok-words.len c.pieces.counter (c.pieces.invariant.0 room) (omega (
-      arith,
-      c.pieces-test.true,
-      c.pieces_behind-end.ensures,
-    )) c.append_piece-in-pieces.new.segment c.next_line.new.self c.in_ok-words-2.words c.next_line.new.self _
-    c.from_residual-in_err-append_piece-2.result c.in_ok-words-2.ensures c.in_err-append_piece-2.ensures.append
+returns-in_err-append_piece-2 c = λ room. string-no_more (c.pieces.invariant.0 room)
+    (omega (arith, c.pieces-test.true, c.pieces_behind-end.ensures)) c.in_ok-words-2.ensures
+    c.in_err-append_piece-2.ensures.append
 
 pub pieces-preserved : goal.pieces-preserved
 pieces-preserved c = (
-  λ room. string-more c.args.segment.now c.pieces.segment c.args.object.handle room
-      c.args.lines.now c.pieces.lines c.in_ok-words.len c.pieces.counter (c.pieces.invariant.0 room) (omega (
-        arith,
-        c.pieces-test.true,
-        c.pieces_behind-end.ensures,
-      )) c.append_piece-in-pieces.new.segment c.next_line.new.self c.in_ok-words-2.words
-      c.in_ok-append_piece-2.field-0 c.in_ok-words-2.ensures c.in_ok-append_piece-2.ensures.append,
+  λ room. string-more (c.pieces.invariant.0 room)
+      (omega (arith, c.pieces-test.true, c.pieces_behind-end.ensures)) c.in_ok-words-2.ensures
+      c.in_ok-append_piece-2.ensures.append,
   c.in_ok-append_piece-2.ensures.in_place,
 )
 
 pub returns : goal.returns
-returns c = λ room. string-end c.args.segment.now c.pieces.segment c.args.object.handle room c.args.lines.now
-    c.pieces.lines c.in_ok-words.len c.pieces.counter (c.pieces.invariant.0 room) (omega (
-      arith,
-      c.pieces-test.false,
-      c.pieces_behind-end.ensures,
-    ))
+returns c = λ room. string-end (c.pieces.invariant.0 room)
+    (omega (arith, c.pieces-test.false, c.pieces_behind-end.ensures))
 
 pub reserve-requires : goal.reserve-requires
 reserve-requires c = c.requires.object

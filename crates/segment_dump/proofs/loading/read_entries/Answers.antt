@@ -3,29 +3,19 @@ use Rattle.segment_dump.proofs.reading.FrontSteps.{entries-some}
 use Rattle.segment_dump.proofs.loading.read_entries.Goals as goal
 
 pub returns-in_err-words : goal.returns-in_err-words
-returns-in_err-words c = entries-none c.numbers_are_decimals.ensures c.args.lines.now c.read_lead.new.lines _
-    c.from_residual.result c.in_err-words.ensures
+returns-in_err-words c = entries-none c.numbers_are_decimals.ensures c.in_err-words.ensures
 
 pub returns-in_err-named : goal.returns-in_err-named
-returns-in_err-named c = entries-no_named c.numbers_are_decimals.ensures c.args.lines.now c.read_lead.new.lines
-    c.in_ok-words.words c.next_number.new.self _ c.from_residual-in_err-named.result c.in_ok-words.ensures
-    c.in_err-named.ensures
+returns-in_err-named c = entries-no_named c.numbers_are_decimals.ensures c.in_ok-words.ensures c.in_err-named.ensures
 
 pub returns-in_err-unique : goal.returns-in_err-unique
-returns-in_err-unique c =
-    entries-no_unique c.numbers_are_decimals.ensures c.args.lines.now c.read_lead.new.lines c.in_ok-words.words
-    c.next_number.new.self c.next_number-2.new.self c.in_ok-named.named _ c.from_residual-in_err-unique.result
-    c.in_ok-words.ensures c.in_ok-named.ensures c.in_err-unique.ensures
+returns-in_err-unique c = entries-no_unique c.numbers_are_decimals.ensures c.in_ok-words.ensures c.in_ok-named.ensures
+    c.in_err-unique.ensures
 
 pub returns-in_err-finish : goal.returns-in_err-finish
-returns-in_err-finish c =
-    entries-more c.numbers_are_decimals.ensures c.args.lines.now c.read_lead.new.lines c.in_ok-words.words
-    c.next_number.new.self c.next_number-2.new.self c.in_ok-named.named c.in_ok-unique.unique _
-    c.from_residual-in_err-finish.result c.in_ok-words.ensures c.in_ok-named.ensures
+returns-in_err-finish c = entries-more c.numbers_are_decimals.ensures c.in_ok-words.ensures c.in_ok-named.ensures
     c.in_ok-unique.ensures c.in_err-finish.ensures
 
 pub returns : goal.returns
-returns c =
-    entries-some c.numbers_are_decimals.ensures c.args.lines.now c.read_lead.new.lines c.in_ok-words.words
-    c.next_number.new.self c.next_number-2.new.self c.in_ok-named.named c.in_ok-unique.unique c.in_ok-words.ensures
-    c.in_ok-named.ensures c.in_ok-unique.ensures
+returns c = entries-some c.numbers_are_decimals.ensures c.in_ok-words.ensures c.in_ok-named.ensures
+    c.in_ok-unique.ensures

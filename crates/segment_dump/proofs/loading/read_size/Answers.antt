@@ -2,20 +2,14 @@ use Rattle.segment_dump.proofs.reading.FrontSteps.{size-more, size-no_number, si
 use Rattle.segment_dump.proofs.loading.read_size.Goals as goal
 
 pub returns-in_err-words : goal.returns-in_err-words
-returns-in_err-words c = size-none c.numbers_are_decimals.ensures c.args.lines.now c.read_lead.new.lines _
-    c.from_residual.result c.in_err-words.ensures
+returns-in_err-words c = size-none c.numbers_are_decimals.ensures c.in_err-words.ensures
 
 pub returns-in_err-size : goal.returns-in_err-size
-returns-in_err-size c = size-no_number c.numbers_are_decimals.ensures c.args.lines.now c.read_lead.new.lines
-    c.in_ok-words.words c.next_number.new.self _ c.from_residual-in_err-size.result c.in_ok-words.ensures
-    c.in_err-size.ensures
+returns-in_err-size c = size-no_number c.numbers_are_decimals.ensures c.in_ok-words.ensures c.in_err-size.ensures
 
 pub returns-in_err-finish : goal.returns-in_err-finish
-returns-in_err-finish c =
-    size-more c.numbers_are_decimals.ensures c.args.lines.now c.read_lead.new.lines c.in_ok-words.words
-    c.next_number.new.self c.in_ok-size.size _ c.from_residual-in_err-finish.result c.in_ok-words.ensures
-    c.in_ok-size.ensures c.in_err-finish.ensures
+returns-in_err-finish c = size-more c.numbers_are_decimals.ensures c.in_ok-words.ensures c.in_ok-size.ensures
+    c.in_err-finish.ensures
 
 pub returns : goal.returns
-returns c = size-some c.numbers_are_decimals.ensures c.args.lines.now c.read_lead.new.lines c.in_ok-words.words
-    c.next_number.new.self c.in_ok-size.size c.in_ok-words.ensures c.in_ok-size.ensures
+returns c = size-some c.numbers_are_decimals.ensures c.in_ok-words.ensures c.in_ok-size.ensures

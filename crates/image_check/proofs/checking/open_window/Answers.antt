@@ -12,26 +12,26 @@ use Rattle.image_check.proofs.checking.open_window.Goals as goal
 
 pub version-format-requires : goal.version-format-requires
 version-format-requires c =
-    let least = HasFront-least c.requires.0 c.args.window c.requires.1.0 in omega arith
+    let least = HasFront-least c.requires.0 c.args.window c.requires.1 in omega arith
 
 pub pass_all-requires-clause-format : goal.pass_all-requires-clause-format
 pass_all-requires-clause-format c =
-    let same = HasFront-version c.requires.0 c.args.window c.version-format.result c.requires.1.0
+    let same = HasFront-version c.requires.0 c.args.window c.version-format.result c.requires.1
     c.version-format.ensures in
-    let few = c.requires.1.1 in
+    let few = c.requires.2 in
     omega arith
 
 pub pass_all-requires-clause-front : goal.pass_all-requires-clause-front
 pass_all-requires-clause-front c =
     subst (λ f. HasFront f c.args.window)
-    (sym (HasFront-version c.requires.0 c.args.window c.version-format.result c.requires.1.0 c.version-format.ensures))
-    c.requires.1.0
+    (sym (HasFront-version c.requires.0 c.args.window c.version-format.result c.requires.1 c.version-format.ensures))
+    c.requires.1
 
 pub into_segment-segment-requires-clause-format : goal.into_segment-segment-requires-clause-format
 into_segment-segment-requires-clause-format c =
-    let same = HasFront-version c.requires.0 c.args.window c.version-format.result c.requires.1.0
+    let same = HasFront-version c.requires.0 c.args.window c.version-format.result c.requires.1
     c.version-format.ensures in
-    let few = c.requires.1.1 in
+    let few = c.requires.2 in
     omega arith
 
 pub into_segment-segment-requires-clause-blocks : goal.into_segment-segment-requires-clause-blocks

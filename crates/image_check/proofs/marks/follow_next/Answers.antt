@@ -58,8 +58,8 @@ its-root : (format : ℕ) (b : List ℕ) (es : Blocks) (pending : Option ℕ) (w
 its-root format b es pending waiting k n e block root f g =
     g ∙ ap (λ x. root_in x n) f ∙ root-is format (bytes_of b) (tiles_in b) es pending waiting k n e
 
-pub mark-requires-in-Ok-clause-room : goal.mark-requires-in-Ok-clause-room
-mark-requires-in-Ok-clause-room g c =
+pub mark-requires-in-Ok-clause-no_overflow : goal.mark-requires-in-Ok-clause-no_overflow
+mark-requires-in-Ok-clause-no_overflow g c =
     let b = c.args.window.now.bytes in
     let o = c.args.owners.now in
     let k = its-turn g.format b o.blocks.entries o.pending o.waiting c.requires.1.0 c.args.node c.requires.1.1

@@ -20,6 +20,6 @@ pub load_checked-requires-then-is_ok-clause-aligned : goal.load_checked-requires
 load_checked-requires-then-is_ok-clause-aligned c = let whole =
     (is_place-PayloadBounds c.args.window.now c.args.node c.requires).whole in omega arith
 
-pub load_checked-requires-then-is_ok-clause-inside : goal.load_checked-requires-then-is_ok-clause-inside
-load_checked-requires-then-is_ok-clause-inside c = let high =
+pub load_checked-requires-then-is_ok-clause-in_bounds : goal.load_checked-requires-then-is_ok-clause-in_bounds
+load_checked-requires-then-is_ok-clause-in_bounds c = let high =
     (is_place-PayloadBounds c.args.window.now c.args.node c.requires).high in omega arith

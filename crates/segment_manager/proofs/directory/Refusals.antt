@@ -17,6 +17,7 @@ use Rattle.seg_types.specs.declared.kinds.Class.TheVariants.{Named, Unique}
 use Rattle.segment_manager.specs.{Answers.Absent, Answers.Found, objects.Located.located, containers.Ranges.extend}
 use Rattle.segment_manager.specs.Step.{assign, push, pop, insert_at, erase, put, text_of}
 use Rattle.std.proofs.lemmas.List.{length-set}
+use Rattle.seg_vector.specs.Vector.{capacity_for_more}
 
 -- the object of a key with another value, of which the same is said
 pub record IsAnother (d : Directory) (o : Object) : Type 0 where
